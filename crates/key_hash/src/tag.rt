@@ -1,0 +1,61 @@
+ghost use Rattle.std.specs.Prelude.{◌≡◌, ◌<◌, ◌+◌, ◌==◌, true, false, IfSome, IfNone, MatchOption, length};
+ghost use Rattle.std.specs.List.{position_or_len};
+ghost use Rattle.key_hash.specs.Tag.{hash_part, key_hash, slot_of, has_tag, tag_of, is_open, is_close};
+
+use crate::hash::fnv1a_32;
+use mc_types::Key;
+use memchr::memchr;
+
+// Where the first byte of this kind stands.
+fn first(byte: u8, bytes: &[u8]) -> Option<usize>
+    ensures { MatchOption result (position_or_len (λ b. b == byte) bytes.now ≡ length bytes.now) (λ at. (at < length bytes.now) × (position_or_len (λ b. b == byte) bytes.now ≡ at)) }
+{
+    memchr(byte, bytes)
+}
+
+// What stands between the first `{` and the first `}` after it, if anything does.
+fn tag(key: &[u8]) -> Option<&[u8]>
+    ensures some { IfSome result (λ t. (has_tag key.now ≡ true) × (t.now ≡ tag_of key.now)) }
+    ensures none { IfNone result (has_tag key.now ≡ false) }
+{
+    let open = first(b'{', key)?;
+    let behind = &key[open + 1..];
+    match first(b'}', behind) {
+        Some(close) if close > 0 => Some(&behind[..close]),
+        _ => None,
+    }
+}
+
+// The hash part of a text.
+fn part(key: &[u8]) -> &[u8]
+    ensures { result.now ≡ hash_part key.now }
+{
+    tag(key).unwrap_or(key)
+}
+
+/// The part of the key that is hashed: what stands between its first `{` and the first `}` after that, or the whole key
+/// where there is no such pair or nothing between. It takes no memory.
+///
+/// Source: twemproxy, `hash_tag: "{}"`.
+pub fn hash_part(key: &Key) -> &[u8]
+    ensures { result.now ≡ hash_part key.now }
+{
+    part(key.as_bytes())
+}
+
+/// The FNV-1a hash of the key's hash part. It takes no memory.
+pub fn key_hash(key: &Key) -> u32
+    ensures { result ≡ key_hash key.now }
+{
+    fnv1a_32(hash_part(key))
+}
+
+/// Which of n servers has the key: the hash of its hash part modulo n. It takes no memory.
+///
+/// Source: twemproxy, `distribution: modula`.
+pub fn slot(key: &Key, n: u32) -> u32
+    requires { 0 < n }
+    ensures { result ≡ slot_of n key.now }
+{
+    key_hash(key) % n
+}

@@ -1,0 +1,7 @@
+pub mod LineLemmas
+pub mod WordLemmas
+pub mod NumberLemmas
+pub mod ArithmeticLemmas
+pub mod Spaced
+pub mod ReadBack
+pub mod Stays

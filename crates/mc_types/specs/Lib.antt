@@ -1,0 +1,15 @@
+pub mod Padded
+pub mod KeyText
+pub mod Inverse
+pub mod Fault
+pub mod OpaqueText
+pub mod OpaqueInverse
+pub mod ErrorTexts
+pub mod Rank
+pub mod Shows
+pub mod Acknowledged
+pub mod Tokens
+pub mod Asks
+pub mod Fits
+pub mod Items
+pub mod Agree

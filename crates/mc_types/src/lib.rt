@@ -1,0 +1,21 @@
+//! What memcached's clients and servers say to each other: keys, asks and answers.
+#![tactic(auto)]
+
+pub mod answer;
+pub mod ask;
+pub mod body;
+pub mod call;
+pub mod error_text;
+pub mod key;
+pub mod token;
+
+pub use answer::{Answer, Code, Fields};
+pub use ask::{Ask, Dialect, Op};
+pub use body::Body;
+pub use call::{Origin, Outcome, ServerId};
+pub use error_text::{ErrorText, OwnText};
+pub use key::{Key, KeyFault};
+pub use token::{Opaque, Token, Tokens};
+
+#[cfg(test)]
+mod tests;
