@@ -1,26 +1,18 @@
-ghost use Rattle.std.specs.Prelude.{◌≡◌, ◌<◌, ◌+◌, ◌==◌, true, false, IfSome, IfNone, MatchOption, length};
-ghost use Rattle.std.specs.List.{position_or_len};
-ghost use Rattle.key_hash.specs.Tag.{hash_part, key_hash, slot_of, has_tag, tag_of, is_open, is_close};
+ghost use Rattle.std.specs.Prelude.{◌≡◌, ◌<◌, true, false, IfSome, IfNone};
+ghost use Rattle.key_hash.specs.Tag.{hash_part, key_hash, slot_of, has_tag, tag_of};
 
 use crate::hash::fnv1a_32;
+use mc_text::search::first_byte;
 use mc_types::Key;
-use memchr::memchr;
-
-// Where the first byte of this kind stands.
-fn first(byte: u8, bytes: &[u8]) -> Option<usize>
-    ensures { MatchOption result (position_or_len (λ b. b == byte) bytes.now ≡ length bytes.now) (λ at. (at < length bytes.now) × (position_or_len (λ b. b == byte) bytes.now ≡ at)) }
-{
-    memchr(byte, bytes)
-}
 
 // What stands between the first `{` and the first `}` after it, if anything does.
 fn tag(key: &[u8]) -> Option<&[u8]>
     ensures some { IfSome result (λ t. (has_tag key.now ≡ true) × (t.now ≡ tag_of key.now)) }
     ensures none { IfNone result (has_tag key.now ≡ false) }
 {
-    let open = first(b'{', key)?;
+    let open = first_byte(b'{', key)?;
     let behind = &key[open + 1..];
-    match first(b'}', behind) {
+    match first_byte(b'}', behind) {
         Some(close) if close > 0 => Some(&behind[..close]),
         _ => None,
     }

@@ -5,3 +5,4 @@ pub mod ArithmeticLemmas
 pub mod Spaced
 pub mod ReadBack
 pub mod Stays
+pub mod Firsts

@@ -6,6 +6,7 @@ pub mod ends;
 pub mod laws;
 pub mod number;
 pub mod reading;
+pub mod search;
 pub mod word;
 
 pub use ends::Line;

@@ -1,5 +1,5 @@
-use Rattle.key_hash.proofs.Firsts.{first_is}
-use Rattle.key_hash.proofs.tag.first.Goals as goal
+use Rattle.mc_text.proofs.Firsts.{first_is}
+use Rattle.mc_text.proofs.search.first_byte.Goals as goal
 
 pub returns : goal.returns
 returns c = first_is c.args.byte c.args.bytes.now c.memchr.result c.memchr.ensures

@@ -1,0 +1,17 @@
+pub mod Lists
+pub mod Counting
+pub mod Stamps
+pub mod Fresh
+pub mod Bridge
+pub mod Covered
+pub mod Example
+pub mod Finding
+pub mod LogRuns
+pub mod LogStale
+pub mod LogSteps
+pub mod LogCalls
+pub mod LogWorks
+pub mod LogTaking
+pub mod LogTally
+pub mod LogOutputs
+pub mod LogExample

@@ -1,0 +1,15 @@
+pub mod Life
+pub mod Run
+pub mod Fleet
+pub mod Cover
+pub mod Shown
+pub mod Single
+pub mod Freshness
+pub mod Marks
+pub mod Protocol
+pub mod Log
+pub mod Stream
+pub mod Stale
+pub mod Standing
+pub mod Taking
+pub mod LogLaws
