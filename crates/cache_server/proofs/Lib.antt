@@ -1,0 +1,7 @@
+pub mod SoundLemmas
+pub mod SweepLemmas
+pub mod TableLemmas
+pub mod PartLemmas
+pub mod ChangeLemmas
+pub mod RowLemmas
+pub mod CallLemmas

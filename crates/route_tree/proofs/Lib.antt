@@ -1,0 +1,10 @@
+pub mod Sizes
+pub mod Left
+pub mod Places
+pub mod Longest
+pub mod Parts
+pub mod Words
+pub mod Gets
+pub mod Going
+pub mod Showing
+pub mod Servers

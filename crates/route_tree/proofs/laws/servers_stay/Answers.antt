@@ -1,0 +1,5 @@
+use Rattle.route_tree.proofs.Servers as lemmas
+use Rattle.route_tree.proofs.laws.servers_stay.Goals as goal
+
+pub returns : goal.returns
+returns c = lemmas.servers_stay

@@ -1,0 +1,15 @@
+pub mod Operation
+pub mod Each
+pub mod Plan
+pub mod Route
+pub mod PlanCode
+pub mod RouteCode
+pub mod Form
+pub mod PlanFalls
+pub mod RouteFalls
+pub mod At
+pub mod Chosen
+pub mod Place
+pub mod Word
+pub mod WordLaws
+pub mod Servers

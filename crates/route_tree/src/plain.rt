@@ -1,0 +1,146 @@
+ghost use Rattle.std.specs.Prelude.{◌≡◌, IfOk};
+ghost use Rattle.route_tree.specs.Plan.{Plan, IsPlan};
+ghost use Rattle.route_tree.specs.Form.{plan_of_form};
+
+use mc_types::{Op, ServerId};
+use std::alloc::{AllocError, Global};
+use std::marker::Model;
+
+/// What is left of a tree for one key: no choice by key is left in it.
+///
+/// No list of children is empty, it is nested at most 32 levels deep, and it has at most 4,096 routes, each counted
+/// three times for every `cold` that it stands in.
+#[cycle(plain)]
+#[derive(Drop)]
+pub struct Plain {
+    form: PlainForm,
+}
+
+/// The form of a plain tree, and what it does with an ask of one key.
+///
+/// Source: mcgate's own, under mcrouter's names of routes.
+#[cycle(plain)]
+#[derive(Drop)]
+pub enum PlainForm {
+    /// One call of this server.
+    Server(ServerId),
+    /// No call; the reply of a server that holds nothing and keeps nothing.
+    Null,
+    /// No call; an error as the reply.
+    Error,
+    /// All children in order; the first reply of the greatest rank.
+    AllSync(Vec<Plain>),
+    /// The children in order up to the first reply that isn't an error of a server or a call.
+    Failover(Vec<Plain>),
+    /// A get: the children in order up to the first hit. Other operations: the first child alone.
+    MissFailover(Vec<Plain>),
+    /// A get that `cold` misses is asked of `warm`, and what `warm` has is added to `cold`, with this exptime. Other
+    /// operations: `cold` alone.
+    WarmUp {
+        cold: Box<Plain>,
+        warm: Box<Plain>,
+        exptime: u32,
+    },
+    /// The first policy of the operation, else the default.
+    ByOperation {
+        policies: Vec<(Op, Plain)>,
+        default: Box<Plain>,
+    },
+}
+
+impl Model for Plain {
+    ghost use Rattle.route_tree.specs.Plan.{Plan, IsPlan};
+    ghost use Rattle.route_tree.specs.PlanCode.{plan_code, plan_size};
+
+    ghost Value = { Plan };
+
+    ghost coded = { plan_code };
+
+    ghost use Rattle.route_tree.specs.Form.{plan_of_form};
+
+    ghost view = { λ a. plan_of_form a.form };
+
+    ghost invariant = { λ a. IsPlan (plan_of_form a.form) };
+
+    ghost size = { plan_size };
+
+    ghost use Rattle.route_tree.specs.PlanFalls.{plan_falls};
+
+    ghost size_decreases = { plan_falls };
+}
+
+impl Plain {
+    /// The plain tree of this form. It takes no memory.
+    pub fn new(form: PlainForm) -> Plain
+        requires { IsPlan (plan_of_form form) }
+        ensures { result ≡ plan_of_form form }
+    {
+        Plain { form }
+    }
+
+    /// The form.
+    pub fn form(&self) -> &PlainForm
+        ensures form { plan_of_form result.now ≡ self.now }
+        ensures plain { IsPlan self.now }
+    {
+        &self.form
+    }
+
+    /// The same plain tree once more. The only error is want of memory.
+    #[cycle(copies)]
+    pub fn copy(&self, alloc: Global) -> Result<Plain, AllocError>
+        ensures { IfOk result (λ plain. plain ≡ self.now) }
+    {
+        let form = match self.form() {
+            PlainForm::Server(server) => PlainForm::Server(*server),
+            PlainForm::Null => PlainForm::Null,
+            PlainForm::Error => PlainForm::Error,
+            PlainForm::AllSync(children) => PlainForm::AllSync(copy_all(alloc, children)?),
+            PlainForm::Failover(children) => PlainForm::Failover(copy_all(alloc, children)?),
+            PlainForm::MissFailover(children) => PlainForm::MissFailover(copy_all(
+                alloc, children,
+            )?),
+            PlainForm::WarmUp {
+                cold,
+                warm,
+                exptime,
+            } => {
+                let cold = Box::new(alloc, cold.copy(alloc)?)?;
+                let warm = Box::new(alloc, warm.copy(alloc)?)?;
+                PlainForm::WarmUp {
+                    cold,
+                    warm,
+                    exptime: *exptime,
+                }
+            }
+            PlainForm::ByOperation { policies, default } => {
+                let policies = copy_policies(alloc, policies)?;
+                let default = Box::new(alloc, default.copy(alloc)?)?;
+                PlainForm::ByOperation { policies, default }
+            }
+        };
+        Ok(Plain::new(form))
+    }
+}
+
+#[cycle(copies)]
+fn copy_all(alloc: Global, children: &[Plain]) -> Result<Vec<Plain>, AllocError>
+    ensures { IfOk result (λ copies. copies.items ≡ children.now) }
+{
+    let mut copies = Vec::new(alloc);
+    for child in children {
+        copies.push(child.copy(alloc)?)?;
+    }
+    Ok(copies)
+}
+
+#[cycle(copies)]
+fn copy_policies(alloc: Global, policies: &[(Op, Plain)]) -> Result<Vec<(Op, Plain)>, AllocError>
+    ensures { IfOk result (λ copies. copies.items ≡ policies.now) }
+{
+    let mut copies = Vec::new(alloc);
+    for (op, child) in policies {
+        copies.push((*op, child.copy(alloc)?))?;
+    }
+    Ok(copies)
+}

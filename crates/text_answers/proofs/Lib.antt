@@ -1,0 +1,9 @@
+pub mod Pieces
+pub mod EndLemmas
+pub mod LineLemmas
+pub mod ReadLemmas
+pub mod Reading
+pub mod FitLemmas
+pub mod WordBack
+pub mod HitBack
+pub mod ReadBack

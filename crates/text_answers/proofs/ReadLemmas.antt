@@ -1,0 +1,133 @@
+-- What follows the first line of an answer, and what the answer is then.
+use Rattle.std.proofs.Common.{◌≡◌, ℕ, ◌+◌, ◌-◌, ◌<◌, ◌≤◌, List, ◌++◌, length, take, drop, sym, ap, subst, ◌∙◌, arith, inl, inr}
+use Rattle.std.proofs.lemmas.List.{length-append, drop-append-le, drop_all}
+use Rattle.mc_text.specs.Line.{IsTooLong, TakesLine, without_cr}
+use Rattle.mc_text.proofs.Stays.{open_no_line, too_long_no_line, taken_only, taken_line, taken_text, taken_length, line_length, lines_are_determined, open_not_too_long, not_too_long}
+use Rattle.mc_text.proofs.WordLemmas.{rest_is}
+use Rattle.std.proofs.Math.Seq.{drop-append_seam}
+use Rattle.mc_types.specs.declared.ask.Ask.{Ask}
+use Rattle.mc_types.specs.declared.answer.Answer.{Answer}
+use Rattle.text_answers.specs.declared.said.Said.{Said}
+use Rattle.text_answers.specs.declared.said.Said.TheVariants.{Whole, Hit, Foreign}
+use Rattle.text_answers.specs.declared.said.HitLine.{HitLine}
+use Rattle.text_answers.specs.FirstLine.{said}
+use Rattle.text_answers.specs.Reading.{IsBlockEnd, IsCutEnd, IsCutBehind, IsCut, Follows, Spells, Reads, ReadsBehind, LiesWithin}
+use Rattle.text_answers.specs.declared.reader.AnswerRead.{AnswerRead}
+use Rattle.text_answers.specs.declared.reader.AnswerRead.TheVariants as reads
+use Rattle.text_answers.proofs.EndLemmas.{cut_no_end, line_not_open}
+
+-- the bytes behind a body of this length
+behind_body : (n : ℕ) (rest body behind : List ℕ) → length body ≡ n → rest ≡ body ++ behind → drop n rest ≡ behind
+behind_body n rest body behind len whole = ap (drop n) whole ∙ subst (λ (k : ℕ). drop k (body ++ behind) ≡ behind) len (drop-append_seam body behind)
+
+pub short_is_cut : (n : ℕ) (rest : List ℕ) → length rest < n → IsCutEnd (drop n rest)
+short_is_cut n rest lt = inl (drop_all n rest (omega arith))
+
+-- behind the data stands what is cut
+pub cut_no_follow : (said : Said) (rest : List ℕ) → IsCutBehind said rest → (answer : Answer) (used : ℕ) → ¬ Follows said rest answer used
+cut_no_follow (Hit hit) rest cut answer used f =
+    cut_no_end (drop hit.len rest) cut f.2 (subst (λ (t : List ℕ). IsBlockEnd t f.2) (sym (behind_body hit.len rest f.0 f.1 f.4 f.5)) f.6)
+cut_no_follow (Whole a) rest cut answer used f = cut
+cut_no_follow Foreign rest cut answer used f = cut
+
+pub cut_not_spelled : (ask : Ask) (bytes : List ℕ) → IsCut ask bytes → (answer : Answer) (used : ℕ) → ¬ Spells ask bytes answer used
+cut_not_spelled ask bytes (inl partial) answer used s = open_no_line bytes s.text s.rest partial s.line
+cut_not_spelled ask bytes (inr h) answer used s =
+    let same = lines_are_determined bytes h.0 s.text h.1 s.rest h.2 s.line in
+    let follows : Follows (said ask (without_cr h.0)) h.1 answer s.behind =
+    subst (λ (t : List ℕ). Follows (said ask (without_cr t)) h.1 answer s.behind) (sym same.0)
+    (subst (λ (r : List ℕ). Follows (said ask (without_cr s.text)) r answer s.behind) (sym same.1) s.follows) in
+    cut_no_follow (said ask (without_cr h.0)) h.1 h.3 answer s.behind follows
+
+-- where behind the data the end never comes, no hit does
+pub bad_hit : (hit : HitLine) (rest : List ℕ) → hit.len ≤ length rest → ((more : List ℕ) (used : ℕ) → ¬ IsBlockEnd (take (length rest - hit.len) (drop hit.len rest) ++ more) used)
+    → (more : List ℕ) (answer : Answer) (used : ℕ) → ¬ Follows (Hit hit) (rest ++ more) answer used
+bad_hit hit rest le never more answer used f =
+    let here : f.1 ≡ take (length rest - hit.len) (drop hit.len rest) ++ more =
+    sym (behind_body hit.len (rest ++ more) f.0 f.1 f.4 f.5) ∙ drop-append-le hit.len rest more le ∙ ap (λ (t : List ℕ). t ++ more) (sym (rest_is rest hit.len)) in
+    never more f.2 (subst (λ (t : List ℕ). IsBlockEnd t f.2) here f.6)
+
+pub not_cut_hit : (hit : HitLine) (rest : List ℕ) → (¬ IsCutEnd (take (length rest - hit.len) (drop hit.len rest))) → ¬ IsCutBehind (Hit hit) rest
+not_cut_hit hit rest not_cut cut = not_cut (subst IsCutEnd (sym (rest_is rest hit.len)) cut)
+
+-- the line that the code found, and what follows it
+pub answer_is : (ask : Ask) (bytes : List ℕ) (end used : ℕ) → TakesLine bytes end used → (answer : Answer) (behind : ℕ) → Follows (said ask (take end bytes)) (take (length bytes - used) (drop used bytes)) answer behind
+    → Spells ask bytes answer (used + behind)
+answer_is ask bytes end used t answer behind f = record {
+  text = take (used - 1) bytes;
+  rest = drop used bytes;
+  behind = behind;
+  line = taken_line bytes end used t;
+  follows = subst (λ (l : List ℕ). Follows (said ask l) (drop used bytes) answer behind) (sym (taken_text bytes end used t))
+      (subst (λ (r : List ℕ). Follows (said ask (take end bytes)) r answer behind) (rest_is bytes used) f);
+  used_is = omega (arith, taken_length bytes end used t);
+}
+
+pub cut_is : (ask : Ask) (bytes : List ℕ) (end used : ℕ) → TakesLine bytes end used → IsCutBehind (said ask (take end bytes)) (take (length bytes - used) (drop used bytes)) → IsCut ask bytes
+cut_is ask bytes end used t cut =
+    inr (
+      take (used - 1) bytes,
+      drop used bytes,
+      taken_line bytes end used t,
+      subst (λ (l : List ℕ). IsCutBehind (said ask l) (drop used bytes)) (sym (taken_text bytes end used t))
+          (subst (λ (r : List ℕ). IsCutBehind (said ask (take end bytes)) r) (rest_is bytes used) cut),
+    )
+
+pub foreign_is : (ask : Ask) (bytes : List ℕ) (end used : ℕ) → TakesLine bytes end used
+    → ((more : List ℕ) (answer : Answer) (behind : ℕ) → ¬ Follows (said ask (take end bytes)) (take (length bytes - used) (drop used bytes) ++ more) answer behind)
+    → (more : List ℕ) (answer : Answer) (u : ℕ) → ¬ Spells ask (bytes ++ more) answer u
+foreign_is ask bytes end used t never more answer u s =
+    let only = taken_only bytes more s.text s.rest end used t s.line in
+    let behind : s.rest ≡ take (length bytes - used) (drop used bytes) ++ more = only.2 ∙ ap (λ (r : List ℕ). r ++ more) (sym (rest_is bytes used)) in
+    never more answer s.behind (subst (λ (l : List ℕ). Follows (said ask l) (take (length bytes - used) (drop used bytes) ++ more) answer s.behind) only.0
+    (subst (λ (r : List ℕ). Follows (said ask (without_cr s.text)) r answer s.behind) behind s.follows))
+
+pub not_cut_is : (ask : Ask) (bytes : List ℕ) (end used : ℕ) → TakesLine bytes end used → (¬ IsCutBehind (said ask (take end bytes)) (take (length bytes - used) (drop used bytes))) → ¬ IsCut ask bytes
+not_cut_is ask bytes end used t not_cut (inl partial) = line_not_open bytes end used t partial
+not_cut_is ask bytes end used t not_cut (inr h) =
+    let same = lines_are_determined bytes h.0 (take (used - 1) bytes) h.1 (drop used bytes) h.2 (taken_line bytes end used t) in
+    not_cut (subst (λ (r : List ℕ). IsCutBehind (said ask (take end bytes)) r) (sym (rest_is bytes used))
+    (subst (λ (l : List ℕ). IsCutBehind (said ask l) (drop used bytes)) (ap without_cr same.0 ∙ taken_text bytes end used t)
+    (subst (λ (r : List ℕ). IsCutBehind (said ask (without_cr h.0)) r) same.1 h.3)))
+
+pub too_long_not_cut : (ask : Ask) (bytes : List ℕ) → IsTooLong bytes → ¬ IsCut ask bytes
+too_long_not_cut ask bytes long (inl partial) = open_not_too_long bytes partial long
+too_long_not_cut ask bytes long (inr h) = not_too_long bytes h.0 h.1 h.2 long
+
+pub too_long_is : (ask : Ask) (bytes : List ℕ) → IsTooLong bytes → (more : List ℕ) (answer : Answer) (used : ℕ) → ¬ Spells ask (bytes ++ more) answer used
+too_long_is ask bytes long more answer used s = too_long_no_line bytes more s.text s.rest long s.line
+
+-- an answer that begins behind the line takes the line's bytes too
+abbrev pub further : ℕ → AnswerRead → AnswerRead
+further used (reads.Answer answer behind) = reads.Answer answer (used + behind)
+further used reads.More = reads.More
+further used reads.Foreign = reads.Foreign
+
+go : (ask : Ask) (bytes : List ℕ) (end used : ℕ) → TakesLine bytes end used → (r : AnswerRead)
+    → ReadsBehind (said ask (take end bytes)) (take (length bytes - used) (drop used bytes)) r → Reads ask bytes (further used r)
+go ask bytes end used t (reads.Answer answer behind) h = answer_is ask bytes end used t answer behind h
+go ask bytes end used t reads.More h = let cut = cut_is ask bytes end used t h in (cut, cut_not_spelled ask bytes cut)
+go ask bytes end used t reads.Foreign h = (not_cut_is ask bytes end used t h.0, foreign_is ask bytes end used t h.1)
+
+pub read_is : (ask : Ask) (bytes : List ℕ) (end used : ℕ) → TakesLine bytes end used → (s : Said) → s ≡ said ask (take end bytes) → (r result : AnswerRead)
+    → ReadsBehind s (take (length bytes - used) (drop used bytes)) r → result ≡ further used r → Reads ask bytes result
+read_is ask bytes end used t s s-is r result h e =
+    subst (Reads ask bytes) (sym e) (go ask bytes end used t r (subst (λ (x : Said). ReadsBehind x (take (length bytes - used) (drop used bytes)) r) s-is h))
+
+-- an answer lies within the bytes that spell it
+end_within : (bytes : List ℕ) (used : ℕ) → IsBlockEnd bytes used → used ≤ length bytes
+end_within bytes used e = omega (arith, ap length e.whole, e.used_is, e.line.used_is, line_length e.behind e.line.text e.line.rest e.line.line)
+
+follows_within : (s : Said) (rest : List ℕ) (answer : Answer) (used : ℕ) → Follows s rest answer used → used ≤ length rest
+follows_within (Whole x) rest answer used f = omega (arith, f.1)
+follows_within (Hit hit) rest answer used f = omega (arith, f.4, f.7, ap length f.5, length-append f.0 f.1, end_within f.1 f.2 f.6)
+follows_within Foreign rest answer used f = absurd f
+
+pub spelled_within : (ask : Ask) (bytes : List ℕ) (answer : Answer) (used : ℕ) → Spells ask bytes answer used → used ≤ length bytes
+spelled_within ask bytes answer used s =
+    omega (arith, s.used_is, line_length bytes s.text s.rest s.line, follows_within (said ask (without_cr s.text)) s.rest answer s.behind s.follows)
+
+pub read_within : (ask : Ask) (bytes : List ℕ) (r : AnswerRead) → Reads ask bytes r → LiesWithin bytes r
+read_within ask bytes (reads.Answer answer used) h = spelled_within ask bytes answer used h
+read_within ask bytes reads.More h = tt
+read_within ask bytes reads.Foreign h = tt

@@ -1,0 +1,8 @@
+use Rattle.std.proofs.Common.{sym, subst}
+use Rattle.std.specs.Prelude.{IfOk}
+use Rattle.text_answers.specs.declared.said.Said.{Said}
+use Rattle.text_answers.specs.Reading.{ReadsBehind}
+use Rattle.text_answers.proofs.reader.behind.Goals as goal
+
+pub returns-in-Hit : goal.returns-in-Hit
+returns-in-Hit c = subst (λ (s : Said). IfOk c.hit_behind.result (ReadsBehind s c.args.rest.now)) (sym c.in-Hit.is) c.hit_behind.ensures

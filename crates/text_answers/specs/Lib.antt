@@ -1,0 +1,5 @@
+pub mod Spelling
+pub mod Table
+pub mod FirstLine
+pub mod Reading
+pub mod Laws

@@ -1,0 +1,59 @@
+ghost use Rattle.std.specs.Prelude.{◌≡◌, ◌↔◌, IsTrue, [], ◌∷◌, codes};
+ghost use Rattle.mc_text.specs.Word.{words};
+ghost use Rattle.text_answers.specs.Reading.{TellsEnd, TellsEndLine};
+
+use mc_text::word::next_word;
+use mc_text::{Line, line};
+
+/// What ends a block, at the front of some bytes.
+#[derive(Clone, Copy)]
+pub enum Ends {
+    /// It isn't whole yet.
+    Open,
+    /// It isn't there, whatever follows.
+    Bad,
+    /// It takes this many bytes.
+    Whole(usize),
+}
+
+fn is_end(text: &[u8]) -> bool
+    ensures { IsTrue result ↔ (words text.now ≡ codes "END" ∷ []) }
+{
+    match next_word(text, 0) {
+        None => false,
+        Some(word) => {
+            &text[word.start..word.end] == b"END".as_slice() && next_word(text, word.end).is_none()
+        }
+    }
+}
+
+fn end_line(bytes: &[u8]) -> Ends
+    ensures { TellsEndLine bytes.now result }
+{
+    match line(bytes) {
+        Line::More => Ends::Open,
+        Line::TooLong => Ends::Bad,
+        Line::At { end, used } => {
+            if is_end(&bytes[..end]) {
+                Ends::Whole(used)
+            } else {
+                Ends::Bad
+            }
+        }
+    }
+}
+
+/// How a hit ends behind its data: the end of the data block, and the line `END`.
+pub fn block_end(bytes: &[u8]) -> Ends
+    ensures { TellsEnd bytes.now result }
+{
+    match bytes {
+        [] | [b'\r'] => Ends::Open,
+        [b'\r', b'\n', behind @ ..] => match end_line(behind) {
+            Ends::Whole(used) => Ends::Whole(used + 2),
+            Ends::Open => Ends::Open,
+            Ends::Bad => Ends::Bad,
+        },
+        _ => Ends::Bad,
+    }
+}

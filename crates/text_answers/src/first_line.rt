@@ -1,0 +1,269 @@
+ghost use Rattle.std.specs.Prelude.{◌≡◌, ◌≤◌, ◌+◌, drop, length, position, IfOk};
+ghost use Rattle.std.specs.List.{after_first, list_all};
+ghost use Rattle.mc_text.specs.Number.{number_below};
+ghost use Rattle.mc_text.specs.Word.{words, is_space};
+ghost use Rattle.mc_types.specs.Asks.{data_limit};
+ghost use Rattle.mc_types.specs.Fits.{is_text_byte};
+ghost use Rattle.text_answers.specs.Table.{
+  looked_up,
+  of_store,
+  of_cas,
+  of_fetch,
+  of_delete,
+  of_touch,
+  of_count,
+  number_or,
+  word_answer,
+};
+ghost use Rattle.text_answers.specs.FirstLine.{
+  from_first_word,
+  error_text,
+  is_error_text,
+  cas_said,
+  hit_said,
+  is_fetch,
+  said,
+};
+
+use crate::said::{HitLine, Said};
+use mc_text::number::{number, small_number};
+use mc_text::word::next_word;
+use mc_types::{Answer, Ask, Body, ErrorText, Op};
+use std::alloc::{AllocError, Global};
+
+/// The most bytes of data in a hit.
+pub const DATA_LIMIT: u64 = 1_048_576;
+
+/// The most bytes in the text of an error line.
+pub const TEXT_LIMIT: usize = 1_024;
+
+fn of_store(word: &[u8]) -> Option<Answer>
+    ensures { result ≡ looked_up of_store word.now }
+{
+    if word == b"STORED".as_slice() {
+        Some(Answer::Stored)
+    } else if word == b"NOT_STORED".as_slice() {
+        Some(Answer::NotStored)
+    } else if word == b"ERROR".as_slice() {
+        Some(Answer::Error)
+    } else {
+        None
+    }
+}
+
+fn of_cas(word: &[u8]) -> Option<Answer>
+    ensures { result ≡ looked_up of_cas word.now }
+{
+    if word == b"STORED".as_slice() {
+        Some(Answer::Stored)
+    } else if word == b"EXISTS".as_slice() {
+        Some(Answer::Exists)
+    } else if word == b"NOT_FOUND".as_slice() {
+        Some(Answer::NotFound)
+    } else if word == b"ERROR".as_slice() {
+        Some(Answer::Error)
+    } else {
+        None
+    }
+}
+
+fn of_fetch(word: &[u8]) -> Option<Answer>
+    ensures { result ≡ looked_up of_fetch word.now }
+{
+    if word == b"END".as_slice() {
+        Some(Answer::Miss)
+    } else if word == b"ERROR".as_slice() {
+        Some(Answer::Error)
+    } else {
+        None
+    }
+}
+
+fn of_delete(word: &[u8]) -> Option<Answer>
+    ensures { result ≡ looked_up of_delete word.now }
+{
+    if word == b"DELETED".as_slice() {
+        Some(Answer::Deleted)
+    } else if word == b"NOT_FOUND".as_slice() {
+        Some(Answer::NotFound)
+    } else if word == b"ERROR".as_slice() {
+        Some(Answer::Error)
+    } else {
+        None
+    }
+}
+
+fn of_touch(word: &[u8]) -> Option<Answer>
+    ensures { result ≡ looked_up of_touch word.now }
+{
+    if word == b"TOUCHED".as_slice() {
+        Some(Answer::Touched)
+    } else if word == b"NOT_FOUND".as_slice() {
+        Some(Answer::NotFound)
+    } else if word == b"ERROR".as_slice() {
+        Some(Answer::Error)
+    } else {
+        None
+    }
+}
+
+fn of_count(word: &[u8]) -> Option<Answer>
+    ensures { result ≡ number_or word.now (looked_up of_count word.now) }
+{
+    if word == b"NOT_FOUND".as_slice() {
+        Some(Answer::NotFound)
+    } else if word == b"ERROR".as_slice() {
+        Some(Answer::Error)
+    } else {
+        Some(Answer::Number(number(word)?))
+    }
+}
+
+fn word_answer(op: Op, word: &[u8]) -> Option<Answer>
+    ensures { result ≡ word_answer op word.now }
+{
+    match op {
+        Op::Get | Op::Gat => of_fetch(word),
+        Op::Set | Op::Add | Op::Replace | Op::Append | Op::Prepend => of_store(word),
+        Op::Cas => of_cas(word),
+        Op::Delete => of_delete(word),
+        Op::Incr | Op::Decr => of_count(word),
+        Op::Touch => of_touch(word),
+    }
+}
+
+fn data_len(word: &[u8]) -> Option<usize>
+    ensures { result ≡ number_below (data_limit + 1) word.now }
+{
+    match number(word)? {
+        len if len <= DATA_LIMIT => Some(len as usize),
+        _ => None,
+    }
+}
+
+fn cas_behind(with_cas: bool, line: &[u8], at: usize) -> Option<Option<u64>>
+    requires { at ≤ length line.now }
+    ensures { result ≡ cas_said with_cas (words (drop at line.now)) }
+{
+    let Some(word) = next_word(line, at) else {
+        return if with_cas { None } else { Some(None) };
+    };
+    let cas = number(&line[word.start..word.end])?;
+    if next_word(line, word.end).is_some() {
+        return None;
+    }
+    Some(if with_cas { Some(cas) } else { None })
+}
+
+fn hit_line(ask: &Ask, line: &[u8], at: usize) -> Option<HitLine>
+    requires { at ≤ length line.now }
+    ensures { result ≡ hit_said ask.now.key ask.now.with_cas (words (drop at line.now)) }
+{
+    let name = next_word(line, at)?;
+    if &line[name.start..name.end] != ask.key.as_bytes() {
+        return None;
+    }
+    let flags_word = next_word(line, name.end)?;
+    let len_word = next_word(line, flags_word.end)?;
+    let flags = small_number(&line[flags_word.start..flags_word.end])?;
+    let len = data_len(&line[len_word.start..len_word.end])?;
+    let cas = cas_behind(ask.with_cas, line, len_word.end)?;
+    Some(HitLine { flags, len, cas })
+}
+
+// the line without the spaces before its first word
+fn from_first_word(line: &[u8]) -> &[u8]
+    ensures { result.now ≡ from_first_word line.now }
+{
+    let mut text = line;
+    while let [b' ', rest @ ..] = text {
+        text = rest;
+    }
+    text
+}
+
+fn first_space(text: &[u8]) -> Option<usize>
+    ensures { result ≡ position is_space text.now }
+{
+    text.iter().position(|b| *b == b' ')
+}
+
+// what stands behind the first space
+fn behind_space(text: &[u8]) -> &[u8]
+    ensures { result.now ≡ after_first is_space text.now }
+{
+    match first_space(text) {
+        Some(at) => &text[at + 1..],
+        None => b"".as_slice(),
+    }
+}
+
+fn is_text_byte(byte: u8) -> bool
+    ensures { result ≡ is_text_byte byte }
+{
+    matches!(byte, 32..=126 | 128..=255)
+}
+
+fn are_text_bytes(text: &[u8]) -> bool
+    ensures { result ≡ list_all is_text_byte text.now }
+{
+    text.iter().all(|byte| is_text_byte(*byte))
+}
+
+fn is_error_text(text: &[u8]) -> bool
+    ensures { result ≡ is_error_text text.now }
+{
+    text.len() <= TEXT_LIMIT && are_text_bytes(text)
+}
+
+fn error_text(alloc: Global, line: &[u8]) -> Result<Option<ErrorText>, AllocError>
+    ensures { IfOk result (λ text. text ≡ error_text line.now) }
+{
+    let text = behind_space(from_first_word(line));
+    if !is_error_text(text) {
+        return Ok(None);
+    }
+    Ok(Some(ErrorText::passed(Body::from_slice(alloc, text)?)))
+}
+
+fn is_fetch(op: Op) -> bool
+    ensures { result ≡ is_fetch op }
+{
+    matches!(op, Op::Get | Op::Gat)
+}
+
+/// What the first line of an answer says to a classic ask. The only error is want of memory, and only an error line
+/// takes any.
+pub fn said(alloc: Global, ask: &Ask, line: &[u8]) -> Result<Said, AllocError>
+    ensures { IfOk result (λ s. s ≡ said ask.now line.now) }
+{
+    let Some(first) = next_word(line, 0) else {
+        return Ok(Said::Foreign);
+    };
+    let word = &line[first.start..first.end];
+    if word == b"CLIENT_ERROR".as_slice() {
+        return Ok(match error_text(alloc, line)? {
+            Some(text) => Said::Whole(Answer::ClientError(text)),
+            None => Said::Foreign,
+        });
+    }
+    if word == b"SERVER_ERROR".as_slice() {
+        return Ok(match error_text(alloc, line)? {
+            Some(text) => Said::Whole(Answer::ServerError(text)),
+            None => Said::Foreign,
+        });
+    }
+    if word == b"VALUE".as_slice() && is_fetch(ask.op) {
+        return Ok(match hit_line(ask, line, first.end) {
+            Some(hit) => Said::Hit(hit),
+            None => Said::Foreign,
+        });
+    }
+    if next_word(line, first.end).is_some() {
+        return Ok(Said::Foreign);
+    }
+    Ok(match word_answer(ask.op, word) {
+        Some(answer) => Said::Whole(answer),
+        None => Said::Foreign,
+    })
+}

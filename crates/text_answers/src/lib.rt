@@ -1,0 +1,15 @@
+//! Answers of memcached's classic text protocol: how they are written, and how they are read.
+#![tactic(auto)]
+
+mod block_end;
+mod first_line;
+pub mod laws;
+pub mod reader;
+mod said;
+pub mod writer;
+
+pub use reader::{AnswerRead, read_answer};
+pub use writer::{write_answer, write_end, write_value};
+
+#[cfg(test)]
+mod tests;

@@ -1,0 +1,82 @@
+ghost use Rattle.std.specs.Prelude.{◌≡◌, length, IfOk};
+ghost use Rattle.text_answers.specs.Reading.{Reads, ReadsBehind, LiesWithin};
+ghost use Rattle.text_answers.specs.FirstLine.{said};
+
+use crate::block_end::{Ends, block_end};
+use crate::first_line::said;
+use crate::said::{HitLine, Said};
+use mc_text::{Line, line};
+use mc_types::{Answer, Ask, Body};
+use std::alloc::{AllocError, Global};
+
+/// What was read of an answer.
+#[derive(Drop)]
+pub enum AnswerRead {
+    /// The answer isn't whole yet.
+    More,
+    /// The answer, and how many bytes spell it.
+    Answer(Answer, usize),
+    /// No answer begins so, whatever follows.
+    Foreign,
+}
+
+fn hit_behind(alloc: Global, hit: HitLine, rest: &[u8]) -> Result<AnswerRead, AllocError>
+    ensures { IfOk result (ReadsBehind (Said.Hit hit) rest.now) }
+{
+    if rest.len() < hit.len {
+        return Ok(AnswerRead::More);
+    }
+    match block_end(&rest[hit.len..]) {
+        Ends::Open => Ok(AnswerRead::More),
+        Ends::Bad => Ok(AnswerRead::Foreign),
+        Ends::Whole(used) => {
+            let answer = Answer::Hit {
+                flags: hit.flags,
+                body: Body::from_slice(alloc, &rest[..hit.len])?,
+                cas: hit.cas,
+            };
+            Ok(AnswerRead::Answer(answer, hit.len + used))
+        }
+    }
+}
+
+fn behind(alloc: Global, said: Said, rest: &[u8]) -> Result<AnswerRead, AllocError>
+    ensures { IfOk result (ReadsBehind said rest.now) }
+{
+    match said {
+        Said::Whole(answer) => Ok(AnswerRead::Answer(answer, 0)),
+        Said::Hit(hit) => hit_behind(alloc, hit, rest),
+        Said::Foreign => Ok(AnswerRead::Foreign),
+    }
+}
+
+/// Reads the answer to a classic ask at the front of the bytes that a server sent.
+///
+/// A line ends at `\n`, and one `\r` before that is no part of it; words are parted by one or more spaces. Which answers
+/// are taken for which ask is a table over the operation. The key of a `VALUE` line has to be the one that was asked, a
+/// cas number stands on it where the ask wants one, and is dropped where not. The text of an error line is what stands
+/// behind its word and one space, at most 1,024 bytes, none of them a control character.
+///
+/// [`AnswerRead::Foreign`] comes where no answer begins so, whatever follows: another answer than the table has, a second
+/// `VALUE`, more than 1,048,576 bytes of data, a line of more than 65,535 bytes. The only error is want of memory; the
+/// data of a hit are copied once, and only when the answer is whole.
+///
+/// Source: memcached's protocol.txt, what is said of the answers of each command; the limits and what is foreign are
+/// mcgate's own.
+pub fn read_answer(alloc: Global, ask: &Ask, bytes: &[u8]) -> Result<AnswerRead, AllocError>
+    ensures reads { IfOk result (Reads ask.now bytes.now) }
+    ensures within { IfOk result (LiesWithin bytes.now) }
+{
+    match line(bytes) {
+        Line::More => Ok(AnswerRead::More),
+        Line::TooLong => Ok(AnswerRead::Foreign),
+        Line::At { end, used } => {
+            let said = said(alloc, ask, &bytes[..end])?;
+            Ok(match behind(alloc, said, &bytes[used..])? {
+                AnswerRead::Answer(answer, more) => AnswerRead::Answer(answer, used + more),
+                AnswerRead::More => AnswerRead::More,
+                AnswerRead::Foreign => AnswerRead::Foreign,
+            })
+        }
+    }
+}
