@@ -1,0 +1,47 @@
+use Rattle.std.proofs.Common.{◌≡◌, refl, sym, ap, ◌∙◌, subst, ◌≤◌, length}
+use Rattle.text_requests.specs.declared.command.Read.{Read}
+use Rattle.text_requests.specs.declared.command.Read.TheVariants as reads
+use Rattle.text_requests.specs.Message.{Refusal}
+use Rattle.text_requests.specs.Stream.{Place}
+use Rattle.text_requests.proofs.StreamLemmas.{used_within}
+use Rattle.text_codec.specs.Held.{held_at}
+use Rattle.fleet_run.proofs.Messages.{refused_done, long_line_done, read_front, request_is_some, refused_is_some, long_is_some, more_stuck, served_more}
+use Rattle.fleet_run.proofs.serve.serve.Goals as goal
+
+pub returns-in-More : goal.returns-in-More
+returns-in-More c = record { advances = c.loop-connection.invariant; stuck = more_stuck c.loop-connection.connection.stream c.in-More.ensures }
+
+pub loop-connection-preserved-in-Continue-1 : goal.loop-connection-preserved-in-Continue-1
+loop-connection-preserved-in-Continue-1 c =
+    let x = c.loop-connection.connection in
+    let front = read_front x.stream reads.TooLong c.in-TooLong.ensures long_is_some in
+    served_more c.args.connection.now x c.refuse_long_line.new.self c.args.pool.now c.loop-connection.pool c.loop-connection.pool c.args.fleet.now c.loop-connection.fleet c.loop-connection.fleet c.loop-connection.invariant
+    (long_line_done x c.refuse_long_line.new.self c.loop-connection.pool c.loop-connection.fleet front.0 front.1 front.2 c.in_ok-refuse_long_line-in-TooLong.ensures)
+
+pub refuse-requires : goal.refuse-requires
+refuse-requires c =
+    let x = c.loop-connection.connection in
+    let front = read_front x.stream _ c.in-Refused.ensures (refused_is_some c.in-Refused.why c.in-Refused.used c.in-Refused.skip) in
+    subst (λ (p : Place). c.in-Refused.used ≤ length (held_at p)) (sym front.1) (used_within front.0 (Refusal c.in-Refused.why c.in-Refused.skip) c.in-Refused.used front.2)
+
+pub loop-connection-smaller-in-Continue-branch-2 : goal.loop-connection-smaller-in-Continue-branch-2
+loop-connection-smaller-in-Continue-branch-2 c =
+    let x = c.loop-connection.connection in
+    let front = read_front x.stream _ c.in-Refused.ensures (refused_is_some c.in-Refused.why c.in-Refused.used c.in-Refused.skip) in
+    (refused_done x c.refuse.new.self c.loop-connection.pool c.loop-connection.fleet front.0 c.in-Refused.why c.in-Refused.used c.in-Refused.skip front.1 front.2 (c.in_ok-refuse-in-Refused.ensures front.0 front.1)).shorter
+
+pub loop-connection-preserved-in-Continue-branch-2 : goal.loop-connection-preserved-in-Continue-branch-2
+loop-connection-preserved-in-Continue-branch-2 c =
+    let x = c.loop-connection.connection in
+    let front = read_front x.stream _ c.in-Refused.ensures (refused_is_some c.in-Refused.why c.in-Refused.used c.in-Refused.skip) in
+    served_more c.args.connection.now x c.refuse.new.self c.args.pool.now c.loop-connection.pool c.loop-connection.pool c.args.fleet.now c.loop-connection.fleet c.loop-connection.fleet c.loop-connection.invariant
+    (refused_done x c.refuse.new.self c.loop-connection.pool c.loop-connection.fleet front.0 c.in-Refused.why c.in-Refused.used c.in-Refused.skip front.1 front.2 (c.in_ok-refuse-in-Refused.ensures front.0 front.1))
+
+pub serve_request-requires-clause-front : goal.serve_request-requires-clause-front
+serve_request-requires-clause-front c =
+    let front = read_front c.loop-connection.connection.stream _ c.in-Request.ensures (request_is_some c.in-Request.request) in
+    record { held = front.0; place = front.1; read = front.2 }
+
+pub loop-connection-preserved : goal.loop-connection-preserved
+loop-connection-preserved c =
+    served_more c.args.connection.now c.loop-connection.connection c.serve_request.new.connection c.args.pool.now c.loop-connection.pool c.serve_request.new.pool c.args.fleet.now c.loop-connection.fleet c.serve_request.new.fleet c.loop-connection.invariant c.in_ok-serve_request-in-Request.ensures

@@ -1,0 +1,14 @@
+use Rattle.std.proofs.Common.{◌≡◌, ◌+◌, sym, ap, ◌∙◌, arith, nat_eq}
+use Rattle.fleet_run.proofs.Advancing.{serves_ask, used_held}
+use Rattle.fleet_run.proofs.serve.serve_ask.Goals as goal
+
+pub overflow_add-last : goal.overflow_add-last
+overflow_add-last c = omega (arith, c.asks-count.ensures c.requires.at.held c.requires.at.read, c.requires.at.there)
+
+pub show-shown-requires : goal.show-shown-requires
+show-shown-requires c = used_held c.args.connection.now c.requires.at.held c.args.request.now c.requires.at.place c.requires.at.read
+
+pub returns-in-Ok : goal.returns-in-Ok
+returns-in-Ok c =
+    serves_ask c.args.connection.now c.show-shown.new.connection c.args.pool.now c.command.new.pool c.args.fleet.now c.command.new.fleet c.args.request.now c.args.index c.args.ask.now c.in_ok-reply.reply c.quiet.result _ c.in-Ok.ended
+    c.requires.at c.requires.ask.well_formed c.in_ok-reply.ensures (c.quiet.ensures c.requires.at.held) (ap (λ n. nat_eq (c.args.index + 1) n) (c.asks-count.ensures c.requires.at.held c.requires.at.read)) c.in-Ok.ensures

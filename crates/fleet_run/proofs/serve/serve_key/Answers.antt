@@ -1,0 +1,21 @@
+use Rattle.std.proofs.Common.{◌≡◌, subst, Option, Some}
+use Rattle.std.specs.Prelude.{IfSome}
+use Rattle.std.proofs.lemmas.Result.{IfOk-weaker}
+use Rattle.mc_types.specs.declared.ask.Ask.{Ask}
+use Rattle.text_requests.specs.Asks.{IsClassicAsk}
+use Rattle.fleet_run.proofs.Advancing.{ask_at, way_on}
+use Rattle.fleet_run.proofs.serve.serve_key.Goals as goal
+
+pub serve_ask-served-requires-clause-at : goal.serve_ask-served-requires-clause-at
+serve_ask-served-requires-clause-at c = ask_at c.args.connection.now c.args.request.now c.args.asks.now c.args.index c.held.result.now _ c.in-Some.ask c.requires.way c.held.ensures c.in-Some.is c.in_ok-ask.ensures.value
+
+pub serve_ask-served-requires-clause-ask : goal.serve_ask-served-requires-clause-ask
+serve_ask-served-requires-clause-ask c = subst (λ (o : Option Ask). IfSome o IsClassicAsk) c.in-Some.is c.in_ok-ask.ensures.ask
+
+pub returns : goal.returns
+returns c =
+    IfOk-weaker c.serve_ask-served.result _ _ (λ ended served. record {
+      served = served;
+      way = way_on c.args.connection.now c.serve_ask-served.new.connection c.args.request.now c.args.asks.now c.next.new.self c.args.index c.held.result.now _ c.in-Some.ask c.args.pool.now c.serve_ask-served.new.pool c.args.fleet.now c.serve_ask-served.new.fleet ended
+          c.requires.way c.held.ensures c.in-Some.is c.in_ok-ask.ensures.request c.in_ok-ask.ensures.taken c.in_ok-ask.ensures.walk served;
+    }) c.serve_ask-served.ensures

@@ -1,0 +1,29 @@
+-- What a script's events and a transcript's entries are in a log. Source: mcgate's own.
+use Rattle.std.specs.Prelude.{List, map}
+use Rattle.memory_fleet.specs.declared.event.Loss.{Loss as Lost}
+use Rattle.memory_fleet.specs.declared.event.Loss.TheVariants as losses
+use Rattle.fleet_run.specs.declared.script.Event.{Event}
+use Rattle.fleet_run.specs.declared.script.Event.TheVariants as events
+use Rattle.fleet_run.specs.declared.script.Output.{Output}
+use Rattle.fleet_run.specs.declared.script.Transcript.{Transcript}
+pub use Rattle.mc_runs.specs.Log.{Manner, Before, After, Loss, Lose, Restart, Scripted, Piece, Fail, Hold, At, Now, Moment, Shown}
+pub use Rattle.memory_fleet.specs.Fleets.{manner_of}
+
+-- what is lost
+abbrev pub loss_of : Lost → Loss
+loss_of (losses.Item server key) = Lose server key
+loss_of (losses.Restart server) = Restart server
+
+-- what an event says
+abbrev pub scripted_of : Event → Scripted
+scripted_of (events.Piece client bytes) = Piece client bytes.items
+scripted_of (events.Hold server key content) = Hold server key content.items
+scripted_of (events.Fail turn manner) = Fail turn (manner_of manner)
+scripted_of (events.Now loss) = Now (loss_of loss)
+scripted_of (events.Moment moment) = Moment moment
+
+abbrev pub shown_by : Output → Shown
+shown_by output = record { client = output.client; bytes = output.bytes.items }
+
+abbrev pub transcript_of : Transcript → List Shown
+transcript_of transcript = map shown_by transcript.shown.items

@@ -1,0 +1,123 @@
+-- One client before a pool: how the whole stands where it is one of many. Source: mcgate's own.
+use Rattle.std.specs.Prelude.{◌≡◌, ◌≢◌, ℕ, ◌+◌, ◌<◌, ◌≤◌, Bool, true, false, List, [], ◌∷◌, ◌++◌, length, drop, Option, Some, None, if◌then◌else◌, nat_eq, slice_get, ◌||◌}
+use Rattle.key_hash.specs.Tag.{slot_of}
+use Rattle.mc_types.specs.declared.ask.Ask.{Ask}
+use Rattle.mc_types.specs.declared.answer.Answer.{Answer}
+use Rattle.mc_runs.specs.Run.{Words, Call}
+use Rattle.mc_runs.specs.Single.{server_words, reply_of}
+use Rattle.mc_runs.specs.Protocol.{IsStuck}
+use Rattle.mc_runs.specs.Log.{Point}
+use Rattle.mc_runs.specs.Standing.{Standing, Works}
+use Rattle.text_requests.specs.declared.command.Skip.TheVariants.{Nothing}
+use Rattle.text_requests.specs.declared.command.Request.{Request}
+use Rattle.text_requests.specs.declared.request.Asks.{Asks}
+use Rattle.text_requests.specs.Message.{IsReadFrom, message_in}
+use Rattle.text_requests.specs.Asks.{asks_of, IsWalk}
+use Rattle.text_requests.specs.Stream.{Place, Stands}
+use Rattle.text_codec.specs.Classic.{classic}
+use Rattle.connections.specs.declared.connection.Connection.{Connection}
+use Rattle.text_codec.specs.Replies.{is_failure, shown_text}
+use Rattle.connections.specs.Steps.{output_of, held_len, GoesTo}
+use Rattle.memory_fleet.specs.declared.fleet.MemoryFleet.{MemoryFleet}
+use Rattle.memory_fleet.specs.declared.event.Made.{Made}
+use Rattle.memory_fleet.specs.Fleets.{holds_of, turn_of, named_of, count_of, FleetCalls}
+use Rattle.fleet_run.specs.declared.pool.Pool.{Pool}
+
+-- the words of a pool's commands: one call, of the server at the key's slot
+abbrev pub pool_words : ℕ → Words
+pool_words n = server_words (slot_of n)
+
+-- how far the client was served: this key of the message at its front is next
+abbrev pub point_at : Connection → ℕ → Point classic
+point_at x i = record { place = x.stream; index = i }
+
+-- clients and servers, where this client is at its place among others
+abbrev pub placed : Standing classic → ℕ → Connection → ℕ → Pool → MemoryFleet → Standing classic
+placed base c x i pool fleet =
+    record {
+      point = λ d. if nat_eq c d then point_at x i else base.point d;
+      output = λ d. if nat_eq c d then output_of x else base.output d;
+      number = pool.number;
+      holds = holds_of fleet;
+      turn = turn_of fleet;
+      named = named_of fleet;
+    }
+
+-- what was done for the client is more of every log, whoever the others are
+pub record Advances (old : Connection) (i : ℕ) (pool : Pool) (fleet : MemoryFleet) (new : Connection) (j : ℕ) (pool' : Pool) (fleet' : MemoryFleet) : Type 0 where
+  pub works : (base : Standing classic) (c : ℕ) → Works (pool_words pool.servers) (placed base c old i pool fleet) c (placed base c new j pool' fleet')
+  pub servers : pool'.servers ≡ pool.servers
+  pub count : count_of fleet' ≡ count_of fleet
+
+-- each server of the pool is there
+abbrev pub IsServed : Pool → MemoryFleet → Type 0
+IsServed pool fleet = pool.servers ≡ count_of fleet
+
+-- the request stands at the client's front
+pub record IsFront (x : Connection) (request : Request) : Type 0 where
+  pub held : List ℕ
+  pub place : x.stream ≡ Stands Nothing held
+  pub read : IsReadFrom held request
+
+-- a walk over its asks that has come to the i-th one, which is there
+pub record IsOnWay (x : Connection) (request : Request) (asks : Asks) (i : ℕ) : Type 0 where
+  pub held : List ℕ
+  pub place : x.stream ≡ Stands Nothing held
+  pub read : IsReadFrom held request
+  pub walk : IsWalk held asks
+  pub request_is : asks.request ≡ request
+  pub taken : asks.taken ≡ i
+  pub there : i < length (asks_of (message_in held request))
+
+-- where a connection stands behind a key: the message is done, or it stands where it stood
+abbrev pub place_behind : Bool → Connection → List ℕ → Place
+place_behind true old rest = Stands Nothing rest
+place_behind false old rest = old.stream
+
+-- which key is next behind a reply
+abbrev pub next_index : Bool → ℕ → ℕ
+next_index true i = 0
+next_index false i = i + 1
+
+-- this reply was shown: whether the message is done with it, and what the client's output goes on by
+pub record Shows (old : Connection) (used : ℕ) (quiet last : Bool) (ask : Ask) (reply : Answer) (ended : Bool) (new : Connection) : Type 0 where
+  pub ended_is : ended ≡ (is_failure reply || last)
+  pub goes : (held : List ℕ) → old.stream ≡ Stands Nothing held → GoesTo old (place_behind ended old (drop used held)) (shown_text quiet last ask reply) new
+
+-- the i-th ask of the request at the front
+pub record IsAskAt (x : Connection) (request : Request) (i : ℕ) (ask : Ask) : Type 0 where
+  pub held : List ℕ
+  pub place : x.stream ≡ Stands Nothing held
+  pub read : IsReadFrom held request
+  pub at : slice_get (asks_of (message_in held request)) i ≡ Some ask
+  pub there : i < length (asks_of (message_in held request))
+
+-- its command was done
+pub record ServesAsk (old : Connection) (request : Request) (i : ℕ) (pool : Pool) (fleet : MemoryFleet) (ended : Bool) (new : Connection) (pool' : Pool) (fleet' : MemoryFleet) : Type 0 where
+  pub advances : Advances old i pool fleet new (next_index ended i) pool' fleet'
+  pub place : (held : List ℕ) → old.stream ≡ Stands Nothing held → new.stream ≡ place_behind ended old (drop request.used held)
+  -- where the message isn't done, another key is there
+  pub more : ended ≡ false → (held : List ℕ) → old.stream ≡ Stands Nothing held → IsReadFrom held request → i + 1 < length (asks_of (message_in held request))
+
+-- the walk's next command was done
+pub record ServesKey (old : Connection) (request : Request) (i : ℕ) (pool : Pool) (fleet : MemoryFleet) (ended : Bool) (new : Connection) (asks' : Asks) (pool' : Pool) (fleet' : MemoryFleet) : Type 0 where
+  pub served : ServesAsk old request i pool fleet ended new pool' fleet'
+  pub way : ended ≡ false → IsOnWay new request asks' (i + 1)
+
+-- a command of this ask had this reply: one call of the server at the key's slot, under the next number
+pub record Asked (pool : Pool) (fleet : MemoryFleet) (ask : Ask) (reply : Answer) (pool' : Pool) (fleet' : MemoryFleet) : Type 0 where
+  pub made : Made
+  pub call : FleetCalls (pool.number + 1) fleet (slot_of pool.servers ask.key) ask made fleet'
+  pub reply_is : reply ≡ reply_of made.outcome
+  pub number : pool'.number ≡ pool.number + 1
+  pub servers : pool'.servers ≡ pool.servers
+
+-- a message at the front was done: fewer bytes are held
+pub record ServesRequest (old : Connection) (pool : Pool) (fleet : MemoryFleet) (new : Connection) (pool' : Pool) (fleet' : MemoryFleet) : Type 0 where
+  pub advances : Advances old 0 pool fleet new 0 pool' fleet'
+  pub shorter : held_len new < held_len old
+
+-- all that was complete was done
+pub record ServesAll (old : Connection) (pool : Pool) (fleet : MemoryFleet) (new : Connection) (pool' : Pool) (fleet' : MemoryFleet) : Type 0 where
+  pub advances : Advances old 0 pool fleet new 0 pool' fleet'
+  pub stuck : IsStuck classic new.stream

@@ -1,0 +1,58 @@
+use mc_types::{Key, ServerId};
+use memory_fleet::{Loss, Manner};
+
+/// One event of a script.
+#[derive(Drop)]
+pub enum Event {
+    /// These bytes come from a client, 0 to 63. All that is complete is served, and the new output is handed out.
+    Piece(u8, Vec<u8>),
+    /// The server holds these data under the key before the run: flags 0, no expiry, stamp 0.
+    Hold(ServerId, Key, Vec<u8>),
+    /// The call of this turn, counted from here and from 1, fails. Of two that name one call, the later counts.
+    Fail(u32, Manner),
+    /// Something is lost now.
+    Now(Loss),
+    /// The time from now on, in seconds; 0 at first.
+    Moment(i64),
+}
+
+/// What clients send and what befalls servers, in order.
+#[derive(Drop)]
+pub struct Script {
+    pub events: Vec<Event>,
+}
+
+/// New output of a client.
+#[derive(Drop)]
+pub struct Output {
+    pub client: u8,
+    pub bytes: Vec<u8>,
+}
+
+/// What was handed out: after each piece, the client's new output, where there is any.
+#[derive(Drop)]
+pub struct Transcript {
+    pub shown: Vec<Output>,
+}
+
+/// What a script did.
+#[derive(Clone, Copy)]
+pub struct Report {
+    /// The client commands, each on one key.
+    pub commands: u64,
+    /// The server calls.
+    pub calls: u64,
+    /// The commands that showed an item whose stamp is at most the number of an earlier acknowledged delete of its key.
+    pub stale: u64,
+}
+
+/// Why a script was not run to its end.
+#[derive(Clone, Copy)]
+pub enum DriveFault {
+    /// The event of this place, counted from 0, can't be: found before anything happens.
+    BadEvent(usize),
+    /// Memory was refused: the transcript holds what was handed out before.
+    NoMemory,
+    /// The last command or call number, 2^64 - 1, was given out: the transcript holds what was handed out before.
+    Spent,
+}

@@ -1,0 +1,162 @@
+// What one client sent is served, message by message and key by key.
+
+ghost use Rattle.std.specs.Prelude.{◌≡◌, ◌+◌, ◌<◌, ◌≤◌, length, IfOk, OnOk};
+ghost use Rattle.text_requests.specs.Asks.{IsClassicAsk};
+ghost use Rattle.mc_runs.specs.Single.{reply_of};
+ghost use Rattle.mc_runs.specs.Protocol.{IsStuck};
+ghost use Rattle.text_codec.specs.Classic.{classic};
+ghost use Rattle.text_codec.specs.Held.{held_at};
+ghost use Rattle.connections.specs.Steps.{held_len};
+ghost use Rattle.fleet_run.specs.Serving.{IsServed, IsFront, IsOnWay, IsAskAt, Asked, Shows, ServesAsk, ServesKey, ServesRequest, ServesAll};
+
+use crate::pool::Pool;
+use connections::Connection;
+use key_hash::slot;
+use mc_types::{Answer, Ask, ErrorText, Outcome, OwnText, ServerId};
+use memory_fleet::{FleetFault, MemoryFleet};
+use std::alloc::{AllocError, Global};
+use text_codec::{Asks, Read, Request, ends_message};
+
+// What the client is answered.
+fn reply_to(outcome: Outcome) -> Answer
+    ensures { result ≡ reply_of outcome }
+{
+    match outcome {
+        Outcome::Answered(answer) => answer,
+        Outcome::Failed => Answer::ServerError(ErrorText::own(OwnText::CallFailed)),
+    }
+}
+
+// A drop that is a call keeps the proof of a caller short.
+fn drop_answer(_answer: Answer) {}
+
+fn drop_ask(_ask: Ask) {}
+
+// The next command: one call, of the server at its key's slot.
+fn command(pool: &mut Pool, fleet: &mut MemoryFleet, ask: &Ask) -> Result<Answer, FleetFault>
+    requires served { IsServed pool.old fleet.old }
+    requires ask { IsClassicAsk ask.now }
+    ensures { IfOk result (λ reply. Asked pool.old fleet.old ask.now reply pool.new fleet.new) }
+{
+    if pool.number == u64::MAX {
+        return Err(FleetFault::Spent);
+    }
+    let number = pool.number + 1;
+    let server = ServerId::new(slot(&ask.key, pool.servers));
+    let made = fleet.call(number, server, ask)?;
+    pool.number = number;
+    Ok(reply_to(made.outcome))
+}
+
+// Shows a reply: whether the message is done with it.
+fn show(
+    connection: &mut Connection,
+    used: usize,
+    quiet: bool,
+    last: bool,
+    ask: &Ask,
+    reply: &Answer,
+) -> Result<bool, AllocError>
+    requires { used ≤ length (held_at connection.old.stream) }
+    ensures { IfOk result (λ ended. Shows connection.old used quiet last ask.now reply.now ended connection.new) }
+{
+    if ends_message(last, reply) {
+        connection.show_last(quiet, last, ask, reply, used)?;
+        Ok(true)
+    } else {
+        connection.show_part(quiet, ask, reply)?;
+        Ok(false)
+    }
+}
+
+// The command of one ask of the request at the front: whether the request is done with its reply.
+fn serve_ask(
+    connection: &mut Connection,
+    request: &Request,
+    index: usize,
+    ask: &Ask,
+    pool: &mut Pool,
+    fleet: &mut MemoryFleet,
+) -> Result<bool, FleetFault>
+    requires served { IsServed pool.old fleet.old }
+    requires at { IsAskAt connection.old request.now index ask.now }
+    requires ask { IsClassicAsk ask.now }
+    ensures { IfOk result (λ ended. ServesAsk connection.old request.now index pool.old fleet.old ended connection.new pool.new fleet.new) }
+{
+    let count = request.asks();
+    let last = index + 1 == count;
+    let reply = command(pool, fleet, ask)?;
+    let shown = show(connection, request.used, request.quiet(), last, ask, &reply);
+    drop_answer(reply);
+    match shown {
+        Ok(ended) => Ok(ended),
+        Err(_) => Err(FleetFault::NoMemory),
+    }
+}
+
+// The next key of the request at the front: whether the request is done with its reply.
+fn serve_key(
+    alloc: Global,
+    connection: &mut Connection,
+    request: &Request,
+    index: usize,
+    asks: &mut Asks,
+    pool: &mut Pool,
+    fleet: &mut MemoryFleet,
+) -> Result<bool, FleetFault>
+    requires served { IsServed pool.old fleet.old }
+    requires way { IsOnWay connection.old request.now asks.old index }
+    ensures { IfOk result (λ ended. ServesKey connection.old request.now index pool.old fleet.old ended connection.new asks.new pool.new fleet.new) }
+{
+    let Some(ask) = asks.next(alloc, connection.stream.held())? else {
+        unreachable!();
+    };
+    let served = serve_ask(connection, request, index, &ask, pool, fleet);
+    drop_ask(ask);
+    served
+}
+
+// A request at the front: its keys in order, up to an error.
+fn serve_request(
+    alloc: Global,
+    connection: &mut Connection,
+    request: &Request,
+    pool: &mut Pool,
+    fleet: &mut MemoryFleet,
+) -> Result<(), FleetFault>
+    requires served { IsServed pool.old fleet.old }
+    requires front { IsFront connection.old request.now }
+    ensures { OnOk result (ServesRequest connection.old pool.old fleet.old connection.new pool.new fleet.new) }
+{
+    let count = request.asks();
+    if count == 0 {
+        connection.answer_own(request.own(), request.used)?;
+        return Ok(());
+    }
+    let mut asks = request.walk();
+    let mut index = 0;
+    while !serve_key(alloc, connection, request, index, &mut asks, pool, fleet)? {
+        index += 1;
+    }
+    Ok(())
+}
+
+/// All that is complete of what the client sent.
+pub fn serve(
+    alloc: Global,
+    connection: &mut Connection,
+    pool: &mut Pool,
+    fleet: &mut MemoryFleet,
+) -> Result<(), FleetFault>
+    requires { IsServed pool.old fleet.old }
+    ensures { OnOk result (ServesAll connection.old pool.old fleet.old connection.new pool.new fleet.new) }
+{
+    loop {
+        match connection.stream.read() {
+            Read::More => return Ok(()),
+            Read::TooLong => connection.refuse_long_line()?,
+            Read::Refused { why, used, skip } => connection.refuse(why, used, skip)?,
+            Read::Request(request) => serve_request(alloc, connection, &request, pool, fleet)?,
+        }
+    }
+}

@@ -1,0 +1,59 @@
+ghost use Rattle.std.specs.Prelude.{IfSome, string_bytes};
+ghost use Rattle.mcgate.specs.Input.{ReadsInput, IsFailure};
+
+use std::alloc::Global;
+use std::io;
+use std::io::{ErrorKind, Read};
+
+/// The most bytes that an input may have.
+pub const INPUT_LIMIT: usize = 16_777_216;
+
+/// Why an input was not taken.
+#[derive(Clone, Copy)]
+pub enum InputFault {
+    /// It has more than [`INPUT_LIMIT`] bytes.
+    TooLarge,
+    /// It is no UTF-8.
+    NotUtf8,
+    /// Memory was refused.
+    NoMemory,
+    /// It can't be read.
+    Device,
+}
+
+/// What an error of a device means to the program: want of memory, or a device that failed.
+pub fn fault_of(error: &io::Error) -> InputFault
+    ensures { IsFailure result }
+{
+    match error.kind() {
+        ErrorKind::OutOfMemory => InputFault::NoMemory,
+        _ => InputFault::Device,
+    }
+}
+
+fn text_of(bytes: Vec<u8>) -> Result<String, InputFault>
+    ensures { ReadsInput (λ text. string_bytes text) INPUT_LIMIT bytes.items result }
+{
+    if bytes.len() > INPUT_LIMIT {
+        return Err(InputFault::TooLarge);
+    }
+    match String::from_utf8(bytes) {
+        Ok(text) => Ok(text),
+        Err(_) => Err(InputFault::NotUtf8),
+    }
+}
+
+/// All that a reader has left, as text.
+///
+/// [`InputFault::TooLarge`] comes where that is more than [`INPUT_LIMIT`] bytes, and [`InputFault::NotUtf8`] where it is not and is
+/// no UTF-8. The limit is mcgate's own.
+pub fn read_input<R: Read + Drop>(alloc: Global, reader: R) -> Result<String, InputFault>
+    ensures { IfSome (R.remaining reader) (λ bytes. ReadsInput (λ text. string_bytes text) INPUT_LIMIT bytes result) }
+{
+    let mut bytes = Vec::new(alloc);
+    let mut limited = reader.take(INPUT_LIMIT as u64 + 1);
+    match limited.read_to_end(&mut bytes) {
+        Ok(_) => text_of(bytes),
+        Err(error) => Err(fault_of(&error)),
+    }
+}

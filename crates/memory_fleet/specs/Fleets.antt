@@ -1,0 +1,181 @@
+-- What servers in memory hold, and what a call, a failure and a loss change. Source: mcgate's own.
+use Rattle.std.specs.Prelude.{◌≡◌, ℕ, zero, suc, ◌+◌, ◌-◌, ◌^◌, ℤ, pos, List, [], ◌∷◌, length, slice_get, replicate, nat_abs, Option, Some, None, option_map, if◌then◌else◌, nat_eq, bytes_eq}
+use Rattle.std.specs.Ordering.{nat_cmp}
+use Rattle.std.specs.BTreeMap.{get}
+use Rattle.mc_types.specs.declared.ask.Ask.{Ask}
+use Rattle.mc_types.specs.declared.call.Origin.TheVariants.{Client}
+use Rattle.mc_types.specs.declared.call.Outcome.{Outcome}
+use Rattle.mc_types.specs.declared.call.Outcome.TheVariants.{Answered, Failed}
+use Rattle.mc_types.specs.Items.{Item}
+use Rattle.mc_runs.specs.Run.{Event, Loses, Restarts}
+use Rattle.mc_runs.specs.Fleet.{after_event, after_losses, AreLosses, MakesCall}
+use Rattle.mc_runs.specs.Log as log
+use Rattle.mc_runs.specs.Log.{EndsAs}
+use Rattle.mc_runs.specs.Single.{FitsOutcome}
+use Rattle.cache_server.specs.Contents.{Contents, empty, at_moment, losing, storing, opening, restarted}
+use Rattle.cache_server.specs.Held as cache
+use Rattle.memory_fleet.specs.declared.event.FleetFault.{FleetFault}
+use Rattle.memory_fleet.specs.declared.event.FleetFault.TheVariants.{NoMemory, Spent}
+use Rattle.memory_fleet.specs.declared.event.Manner.{Manner}
+use Rattle.memory_fleet.specs.declared.event.Manner.TheVariants.{Before, After}
+use Rattle.memory_fleet.specs.declared.event.Loss.{Loss}
+use Rattle.memory_fleet.specs.declared.event.Loss.TheVariants as losses
+use Rattle.memory_fleet.specs.declared.event.Made.{Made}
+use Rattle.memory_fleet.specs.declared.fleet.MemoryFleet.{MemoryFleet}
+
+-- how a call fails, as the log of a run has it
+abbrev pub manner_of : Manner → log.Manner
+manner_of Before = log.Before
+manner_of After = log.After
+
+-- a loss, as an event of a run
+abbrev pub loss_of : Loss → Event
+loss_of (losses.Item server key) = Loses server key
+loss_of (losses.Restart server) = Restarts server
+
+-- the server of a loss
+abbrev pub server_of : Loss → ℕ
+server_of (losses.Item server key) = server
+server_of (losses.Restart server) = server
+
+-- what the cache at a place holds of a key
+abbrev pub held_at : List Contents → ℕ → List ℕ → Option Item
+held_at [] s k = None
+held_at (c ∷ caches) zero k = cache.holds c k
+held_at (c ∷ caches) (suc s) k = held_at caches s k
+
+-- what a server holds of a key
+abbrev pub holds_of : MemoryFleet → ℕ → List ℕ → Option Item
+holds_of fleet s k = held_at fleet.caches.items s k
+
+-- how many servers there are
+abbrev pub count_of : MemoryFleet → ℕ
+count_of fleet = length fleet.caches.items
+
+-- how many calls were made
+abbrev pub turn_of : MemoryFleet → ℕ
+turn_of fleet = fleet.turn
+
+-- the time now, in seconds
+abbrev pub moment_of : MemoryFleet → ℤ
+moment_of fleet = fleet.moment
+
+-- how the call of this number is to fail, where it is named
+abbrev pub named_of : MemoryFleet → ℕ → Option log.Manner
+named_of fleet t = option_map manner_of (get nat_cmp fleet.failures t)
+
+-- calls are numbered up to here
+abbrev pub last_turn : ℕ
+last_turn = 2 ^ 64 - 1
+
+-- how many items each server holds at most
+abbrev pub capacity : ℕ
+capacity = 1024
+
+-- no call was made or named, and nothing is held
+pub record IsNewFleet (servers : ℕ) (fleet : MemoryFleet) : Type 0 where
+  pub count : count_of fleet ≡ servers
+  pub holds : (s : ℕ) (k : List ℕ) → holds_of fleet s k ≡ None
+  pub turn : turn_of fleet ≡ 0
+  pub named : (t : ℕ) → named_of fleet t ≡ None
+  pub moment : moment_of fleet ≡ pos 0
+  pub caches : fleet.caches.items ≡ replicate servers (empty capacity)
+
+-- the same is held, named and counted
+pub record IsSame (old new : MemoryFleet) : Type 0 where
+  pub holds : (s : ℕ) (k : List ℕ) → holds_of new s k ≡ holds_of old s k
+  pub turn_is : turn_of new ≡ turn_of old
+  pub named_is : (t : ℕ) → named_of new t ≡ named_of old t
+  pub count_is : count_of new ≡ count_of old
+  pub moment_is : moment_of new ≡ moment_of old
+  pub caches_are : new.caches.items ≡ old.caches.items
+
+-- an answer comes with the stamp of the item that was found, where there was one
+abbrev pub IsStamp : Outcome → Option Item → Option ℕ → Type 0
+IsStamp (Answered answer) before stamp = stamp ≡ option_map (λ item. item.stamp) before
+IsStamp Failed before stamp = stamp ≡ None
+
+-- one call of the client command of this number, by the law of calls; it ends as it was named
+pub record FleetCalls (number : ℕ) (old : MemoryFleet) (server : ℕ) (ask : Ask) (made : Made) (new : MemoryFleet) : Type 0 where
+  -- what the server held of the key at the call, after the losses
+  pub before : Option Item
+  pub call : MakesCall number (record { holds = holds_of old; found = [] }) (record { server = server; ask = ask; origin = Client; outcome = made.outcome }) (record { holds = holds_of new; found = before ∷ [] })
+  pub as_named : EndsAs (named_of old (turn_of old + 1)) call.end
+  pub fits : FitsOutcome ask made.outcome
+  pub stamp_is : IsStamp made.outcome before made.stamp
+  pub turn_is : turn_of new ≡ turn_of old + 1
+  pub named_is : (t : ℕ) → named_of new t ≡ named_of old t
+  pub count_is : count_of new ≡ count_of old
+  pub moment_is : moment_of new ≡ moment_of old
+
+-- some keys may be lost; no call is counted
+pub record LosesAtMost (old new : MemoryFleet) : Type 0 where
+  pub lost : List Event
+  pub losses : AreLosses lost
+  pub holds : (s : ℕ) (k : List ℕ) → holds_of new s k ≡ after_losses lost (holds_of old) s k
+  pub turn_is : turn_of new ≡ turn_of old
+  pub named_is : (t : ℕ) → named_of new t ≡ named_of old t
+  pub count_is : count_of new ≡ count_of old
+  pub moment_is : moment_of new ≡ moment_of old
+
+-- the call of this turn from here is to fail
+pub record FailsFrom (old : MemoryFleet) (turn : ℕ) (manner : log.Manner) (new : MemoryFleet) : Type 0 where
+  pub named : (t : ℕ) → named_of new t ≡ (if nat_eq (turn_of old + turn) t then Some manner else named_of old t)
+  pub holds : (s : ℕ) (k : List ℕ) → holds_of new s k ≡ holds_of old s k
+  pub turn_is : turn_of new ≡ turn_of old
+  pub count_is : count_of new ≡ count_of old
+  pub moment_is : moment_of new ≡ moment_of old
+  pub caches_are : new.caches.items ≡ old.caches.items
+
+-- the cache of this server is changed so, and the others stay
+abbrev pub IsChanged : MemoryFleet → ℕ → (Contents → Contents) → MemoryFleet → Type 0
+IsChanged old server change new = (s : ℕ) → slice_get new.caches.items s ≡ option_map (λ c. if nat_eq server s then change c else c) (slice_get old.caches.items s)
+
+-- a call that was stopped: by want of memory, where what has expired at the server is gone, or before anything was done
+abbrev pub Stops : FleetFault → MemoryFleet → ℕ → MemoryFleet → Type 0
+Stops NoMemory old server new = IsChanged old server (at_moment (nat_abs (moment_of old))) new
+Stops Spent old server new = new.caches.items ≡ old.caches.items
+
+-- what a loss leaves of the cache of its server
+abbrev pub left_of : Event → Contents → Contents
+left_of (Loses server key) c = losing c key
+left_of (Restarts server) c = restarted c
+left_of _ c = c
+
+-- the server of a loss
+abbrev pub place_of : Event → ℕ
+place_of (Loses server key) = server
+place_of (Restarts server) = server
+place_of _ = 0
+
+-- an item that is there from the start: without flags, with stamp 0
+abbrev pub opening_item : List ℕ → Item
+opening_item body = record { content = body; flags = 0; stamp = 0 }
+
+-- one server holds these data of the key; what they push out there is lost
+pub record HoldsFrom (old : MemoryFleet) (server : ℕ) (key body : List ℕ) (new : MemoryFleet) : Type 0 where
+  pub pushed : List (List ℕ)
+  pub cache_is : IsChanged old server (λ c. storing c key (opening body)) new
+  pub holds : (s : ℕ) (k : List ℕ) → holds_of new s k ≡ (if nat_eq server s then (if bytes_eq key k then Some (opening_item body) else cache.without pushed (holds_of old s) k) else holds_of old s k)
+  pub turn_is : turn_of new ≡ turn_of old
+  pub named_is : (t : ℕ) → named_of new t ≡ named_of old t
+  pub count_is : count_of new ≡ count_of old
+  pub moment_is : moment_of new ≡ moment_of old
+
+-- this is lost, and nothing else changes
+pub record IsLost (old : MemoryFleet) (loss : Event) (new : MemoryFleet) : Type 0 where
+  pub holds : (s : ℕ) (k : List ℕ) → holds_of new s k ≡ after_event loss (holds_of old) s k
+  pub cache_is : IsChanged old (place_of loss) (left_of loss) new
+  pub turn_is : turn_of new ≡ turn_of old
+  pub named_is : (t : ℕ) → named_of new t ≡ named_of old t
+  pub count_is : count_of new ≡ count_of old
+  pub moment_is : moment_of new ≡ moment_of old
+
+-- this is the time, and nothing else changes
+pub record IsMoment (old : MemoryFleet) (moment : ℤ) (new : MemoryFleet) : Type 0 where
+  pub moment_is : moment_of new ≡ moment
+  pub holds : (s : ℕ) (k : List ℕ) → holds_of new s k ≡ holds_of old s k
+  pub turn_is : turn_of new ≡ turn_of old
+  pub named_is : (t : ℕ) → named_of new t ≡ named_of old t
+  pub count_is : count_of new ≡ count_of old
+  pub caches_are : new.caches.items ≡ old.caches.items

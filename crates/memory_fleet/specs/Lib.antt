@@ -1,0 +1,2 @@
+pub mod Fleets
+pub mod Serves

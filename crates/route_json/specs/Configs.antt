@@ -1,0 +1,46 @@
+-- What a configuration means: the tree and the servers that a JSON value stands for, or its first fault.
+-- Source: mcgate's own, under mcrouter's names of routes.
+use Rattle.std.specs.Prelude.{ℕ, List, [], codes, Option, Some, None, Result, Ok, Err}
+use Rattle.serde_json.specs.Data.{Data, null, boolean, number, string, array, object, Members}
+use Rattle.serde_json.specs.Find.{get}
+use Rattle.route_tree.specs.Route.{Route}
+use Rattle.route_json.specs.declared.fields.Holder.TheVariants as holders
+use Rattle.route_json.specs.Fault.{Fault, NotJson}
+use Rattle.route_json.specs.Fields.{only, value_or, object_or}
+use Rattle.route_json.specs.Pools.{Pools, pools_in}
+use Rattle.route_json.specs.Reading.{Reading, ◌>>=◌, then_read, give, fail, pure, members}
+use Rattle.route_json.specs.Routes.{route}
+use Rattle.route_json.specs.Servers.{Addresses}
+
+-- what a reading gave, without what is known after it
+abbrev pub result_of : {S A : Type 0} → Result (A × S) Fault → Result A Fault
+result_of (Ok x) = Ok x.0
+result_of (Err e) = Err e
+
+-- the route of the whole tree: 32 levels, counted from 0, of weight 1
+abbrev pub tree_of : Pools → Data → Result Route Fault
+tree_of pools d = result_of (route pools 32 1 (codes "route") d 0)
+
+-- the tree of an object, and the servers after these
+abbrev pub object_after : Data → Reading Addresses Route
+object_after d = do
+  _ ← pure (only holders.Config d)
+  _ ← pure (value_or (codes "pools") (get (codes "pools") d))
+  root ← pure (value_or (codes "route") (get (codes "route") d))
+  ms ← pure (object_or (codes "pools") (get (codes "pools") d))
+  pools ← pools_in ms
+  pure (tree_of pools root)
+
+-- the tree of a value, and the servers after these
+abbrev pub config_after : Data → Reading Addresses Route
+config_after (object ms) = object_after (object ms)
+config_after _ = fail NotJson
+
+-- the tree and the servers that a value means, or its first fault
+abbrev pub config_of : Data → Result (Route × Addresses) Fault
+config_of d = config_after d []
+
+-- the same for a text, which may be no JSON
+abbrev pub read_or : Option Data → Result (Route × Addresses) Fault
+read_or None = Err NotJson
+read_or (Some d) = config_of d

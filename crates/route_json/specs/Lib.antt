@@ -1,0 +1,12 @@
+pub mod Escapes
+pub mod Fault
+pub mod Printed
+pub mod Reading
+pub mod Fields
+pub mod Addresses
+pub mod Servers
+pub mod Pools
+pub mod Routes
+pub mod Configs
+pub mod Fits
+pub mod Configuration

@@ -1,0 +1,169 @@
+ghost use Rattle.std.specs.Prelude.{◌≡◌, Some, ◌++◌, codes, string_bytes, IfSome};
+ghost use Rattle.route_json.specs.Fault.{BadField, BadAddress, EmptyPool, TooManyServers, UnknownType, NoPool, BadPrefix, fault_of};
+ghost use Rattle.route_json.specs.Printed.{fault_line};
+
+use crate::escape::Escaped;
+use std::alloc::{AllocError, AllocFailed, Global};
+use std::error::Error;
+use std::fmt;
+use std::fmt::Display;
+
+/// The first fault of a configuration. `Display` writes what mcgate prints of it behind `config: `.
+///
+/// Source: mcgate's own.
+#[derive(Debug, Drop)]
+pub enum ConfigFault {
+    /// The text is no JSON, or no object.
+    NotJson,
+    /// A field that is missing, of the wrong kind, out of range or not known, or the name of no operation.
+    BadField(String),
+    /// A server's text is no address.
+    BadAddress(String),
+    /// The pool has no servers.
+    EmptyPool(String),
+    /// The pool has more than 1,024 servers, or with it there are more than 4,294,967,295 in all.
+    TooManyServers(String),
+    /// A route is nested more than 32 deep.
+    TooDeep,
+    /// There are more than 4,096 routes, each counted three times for every `cold` that it stands in.
+    TooManyNodes,
+    /// There is no route of this name.
+    UnknownType(String),
+    /// There is no pool of this name.
+    NoPool(String),
+    /// A list of children is empty.
+    EmptyChildren,
+    /// A policy's name is no prefix of a key.
+    BadPrefix(String),
+    /// Memory was refused.
+    NoMemory,
+}
+
+impl From<AllocError> for ConfigFault {
+    ghost use Rattle.std.specs.Prelude.{◌≡◌};
+    ghost use Rattle.route_json.specs.declared.fault.ConfigFault.TheVariants.{NoMemory};
+
+    ghost from_gives = { λ _ e. e ≡ NoMemory };
+
+    fn from(_error: AllocError) -> ConfigFault {
+        ConfigFault::NoMemory
+    }
+}
+
+impl<T: Drop> From<AllocFailed<T>> for ConfigFault {
+    ghost use Rattle.std.specs.Prelude.{◌≡◌};
+    ghost use Rattle.route_json.specs.declared.fault.ConfigFault.TheVariants.{NoMemory};
+
+    ghost from_gives = { λ _ e. e ≡ NoMemory };
+
+    fn from(_error: AllocFailed<T>) -> ConfigFault {
+        ConfigFault::NoMemory
+    }
+}
+
+impl Display for ConfigFault {
+    ghost output = { λ e. Some (fault_line e) };
+
+    fn fmt<W: fmt::Write>(&self, f: &mut fmt::Formatter<W>) -> fmt::Result {
+        match self {
+            ConfigFault::NotJson => f.write_str("not JSON"),
+            ConfigFault::BadField(name) => {
+                f.write_str("bad field ")?;
+                Escaped(name.as_str()).fmt(f)
+            }
+            ConfigFault::BadAddress(text) => {
+                f.write_str("bad address ")?;
+                Escaped(text.as_str()).fmt(f)
+            }
+            ConfigFault::EmptyPool(name) => {
+                f.write_str("empty pool ")?;
+                Escaped(name.as_str()).fmt(f)
+            }
+            ConfigFault::TooManyServers(name) => {
+                f.write_str("too many servers in ")?;
+                Escaped(name.as_str()).fmt(f)
+            }
+            ConfigFault::TooDeep => f.write_str("too deep"),
+            ConfigFault::TooManyNodes => f.write_str("too many routes"),
+            ConfigFault::UnknownType(name) => {
+                f.write_str("unknown route ")?;
+                Escaped(name.as_str()).fmt(f)
+            }
+            ConfigFault::NoPool(name) => {
+                f.write_str("no pool ")?;
+                Escaped(name.as_str()).fmt(f)
+            }
+            ConfigFault::EmptyChildren => f.write_str("no children"),
+            ConfigFault::BadPrefix(text) => {
+                f.write_str("bad prefix ")?;
+                Escaped(text.as_str()).fmt(f)
+            }
+            ConfigFault::NoMemory => f.write_str("out of memory"),
+        }
+    }
+}
+
+impl Error for ConfigFault {}
+
+pub fn bad_field(alloc: Global, name: &str) -> ConfigFault
+    ensures { IfSome (fault_of result) (λ f. f ≡ BadField name.now) }
+{
+    match String::from_str(alloc, name) {
+        Ok(name) => ConfigFault::BadField(name),
+        Err(_) => ConfigFault::NoMemory,
+    }
+}
+
+pub fn bad_address(alloc: Global, text: &str) -> ConfigFault
+    ensures { IfSome (fault_of result) (λ f. f ≡ BadAddress text.now) }
+{
+    match String::from_str(alloc, text) {
+        Ok(text) => ConfigFault::BadAddress(text),
+        Err(_) => ConfigFault::NoMemory,
+    }
+}
+
+pub fn empty_pool(alloc: Global, name: &str) -> ConfigFault
+    ensures { IfSome (fault_of result) (λ f. f ≡ EmptyPool name.now) }
+{
+    match String::from_str(alloc, name) {
+        Ok(name) => ConfigFault::EmptyPool(name),
+        Err(_) => ConfigFault::NoMemory,
+    }
+}
+
+pub fn too_many_servers(alloc: Global, name: &str) -> ConfigFault
+    ensures { IfSome (fault_of result) (λ f. f ≡ TooManyServers name.now) }
+{
+    match String::from_str(alloc, name) {
+        Ok(name) => ConfigFault::TooManyServers(name),
+        Err(_) => ConfigFault::NoMemory,
+    }
+}
+
+pub fn unknown_type(alloc: Global, name: &str) -> ConfigFault
+    ensures { IfSome (fault_of result) (λ f. f ≡ UnknownType name.now) }
+{
+    match String::from_str(alloc, name) {
+        Ok(name) => ConfigFault::UnknownType(name),
+        Err(_) => ConfigFault::NoMemory,
+    }
+}
+
+pub fn no_pool(alloc: Global, name: &str) -> ConfigFault
+    ensures { IfSome (fault_of result) (λ f. f ≡ NoPool name.now) }
+{
+    match String::from_str(alloc, name) {
+        Ok(name) => ConfigFault::NoPool(name),
+        Err(_) => ConfigFault::NoMemory,
+    }
+}
+
+pub fn bad_prefix(alloc: Global, text: &str) -> ConfigFault
+    ensures { IfSome (fault_of result) (λ f. f ≡ BadPrefix text.now) }
+{
+    match String::from_str(alloc, text) {
+        Ok(text) => ConfigFault::BadPrefix(text),
+        Err(_) => ConfigFault::NoMemory,
+    }
+}

@@ -1,0 +1,14 @@
+-- What is left of a text behind its first line. Source: mcgate's own.
+use Rattle.std.specs.Prelude.{ℕ, ◌+◌, List, [], length, Option, Some, None}
+use denote.Ref.{Bor}
+use Rattle.script_text.specs.Lines.{lines_of}
+
+-- the lines behind a line end; none where there was no line end
+abbrev pub lines_behind : Option (Bor (List ℕ)) → List (List ℕ)
+lines_behind None = []
+lines_behind (Some text) = lines_of text.now
+
+-- how much is left
+abbrev pub size_behind : Option (Bor (List ℕ)) → ℕ
+size_behind None = 0
+size_behind (Some text) = length text.now + 1

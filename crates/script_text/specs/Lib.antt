@@ -1,0 +1,10 @@
+pub mod Escapes
+pub mod Reads
+pub mod Lines
+pub mod Events
+pub mod Seen
+pub mod Behind
+pub mod Script
+pub mod Read
+pub mod Printed
+pub mod Laws

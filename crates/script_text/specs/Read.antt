@@ -1,0 +1,19 @@
+-- What the reader's own types stand for.
+use Rattle.std.specs.Prelude.{◌≡◌, ℕ, List, map}
+use Rattle.fleet_run.specs.Scripted.{scripted_of}
+use Rattle.script_text.specs.Script.{Meaning, Nothing, Unreadable, Says, Numbered, numbered, first_unreadable}
+use Rattle.script_text.specs.declared.meaning.Meaning as read
+use Rattle.script_text.specs.declared.meaning.Meaning.TheVariants as m
+use Rattle.script_text.specs.declared.meaning.Reading.{Reading}
+
+-- what a line was read as
+abbrev pub meaning_of : read.Meaning → Meaning
+meaning_of m.Nothing = Nothing
+meaning_of (m.Says event) = Says (scripted_of event)
+meaning_of m.Unreadable = Unreadable
+
+-- what was read of the further lines, of which the first has number 2
+pub record ReadsLines (lines : List (List ℕ)) (r : Reading) : Type 0 where
+  pub events : map scripted_of r.events.items ≡ map (λ (x : Numbered). x.event) (numbered 2 lines)
+  pub numbers : r.lines.items ≡ map (λ (x : Numbered). x.line) (numbered 2 lines)
+  pub unreadable : r.unreadable ≡ first_unreadable 2 lines

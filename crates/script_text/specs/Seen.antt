@@ -1,0 +1,7 @@
+-- What is seen of the program's own types.
+use Rattle.script_text.specs.declared.words.Parts as words
+use Rattle.script_text.specs.Lines.{Parts}
+
+-- the two parts of a text that was cut
+abbrev pub parts_seen : words.Parts → Parts
+parts_seen p = record { word = p.word.now; rest = p.rest.now }

@@ -1,0 +1,157 @@
+ghost use Rattle.std.specs.Prelude.{◌≡◌, ◌^◌, Some};
+ghost use Rattle.fleet_run.specs.Scripted.{manner_of, scripted_of};
+ghost use Rattle.script_text.specs.Reads.{Reads};
+ghost use Rattle.script_text.specs.Events.{client_said, server_said, turn_said, key_said, manner_said, piece_said, hold_said, fail_said, lose_said, restart_said, moment_said, said_behind, event_said};
+
+use crate::escapes::unescape;
+use crate::fault::LineFault;
+use crate::words::{cut, number_under};
+use fleet_run::{Event, Loss, Manner};
+use mc_types::{Key, ServerId};
+use std::alloc::Global;
+
+fn read_client(word: &[u8]) -> Result<u8, LineFault>
+    ensures { Reads (λ c. c) (client_said word.now) result }
+{
+    match number_under(64, word) {
+        Some(client) => Ok(client as u8),
+        None => Err(LineFault::Unreadable),
+    }
+}
+
+fn read_server(word: &[u8]) -> Result<ServerId, LineFault>
+    ensures { Reads (λ s. s) (server_said word.now) result }
+{
+    match number_under(1 << 32, word) {
+        Some(server) => Ok(ServerId::new(server as u32)),
+        None => Err(LineFault::Unreadable),
+    }
+}
+
+fn read_turn(word: &[u8]) -> Result<u32, LineFault>
+    ensures { Reads (λ t. t) (turn_said word.now) result }
+{
+    match number_under(1 << 32, word) {
+        Some(0) | None => Err(LineFault::Unreadable),
+        Some(turn) => Ok(turn as u32),
+    }
+}
+
+fn read_key(alloc: Global, text: &[u8]) -> Result<Key, LineFault>
+    ensures { Reads (λ k. k) (key_said text.now) result }
+{
+    let bytes = unescape(alloc, text)?;
+    match Key::read(bytes.as_slice()) {
+        Ok(key) => Ok(key),
+        Err(_) => Err(LineFault::Unreadable),
+    }
+}
+
+fn read_manner(word: &[u8]) -> Result<Manner, LineFault>
+    ensures { Reads manner_of (manner_said word.now) result }
+{
+    if word == b"before".as_slice() {
+        Ok(Manner::Before)
+    } else if word == b"after".as_slice() {
+        Ok(Manner::After)
+    } else {
+        Err(LineFault::Unreadable)
+    }
+}
+
+fn read_piece(alloc: Global, text: &[u8]) -> Result<Event, LineFault>
+    ensures { Reads scripted_of (piece_said text.now) result }
+{
+    let Some(parts) = cut(text) else {
+        return Err(LineFault::Unreadable);
+    };
+    let client = read_client(parts.word)?;
+    let bytes = unescape(alloc, parts.rest)?;
+    Ok(Event::Piece(client, bytes))
+}
+
+fn read_hold(alloc: Global, text: &[u8]) -> Result<Event, LineFault>
+    ensures { Reads scripted_of (hold_said text.now) result }
+{
+    let Some(parts) = cut(text) else {
+        return Err(LineFault::Unreadable);
+    };
+    let server = read_server(parts.word)?;
+    let Some(held) = cut(parts.rest) else {
+        return Err(LineFault::Unreadable);
+    };
+    let key = read_key(alloc, held.word)?;
+    let content = unescape(alloc, held.rest)?;
+    Ok(Event::Hold(server, key, content))
+}
+
+fn read_fail(text: &[u8]) -> Result<Event, LineFault>
+    ensures { Reads scripted_of (fail_said text.now) result }
+{
+    let Some(parts) = cut(text) else {
+        return Err(LineFault::Unreadable);
+    };
+    let turn = read_turn(parts.word)?;
+    let manner = read_manner(parts.rest)?;
+    Ok(Event::Fail(turn, manner))
+}
+
+fn read_lose(alloc: Global, text: &[u8]) -> Result<Event, LineFault>
+    ensures { Reads scripted_of (lose_said text.now) result }
+{
+    let Some(parts) = cut(text) else {
+        return Err(LineFault::Unreadable);
+    };
+    let server = read_server(parts.word)?;
+    let key = read_key(alloc, parts.rest)?;
+    Ok(Event::Now(Loss::Item(server, key)))
+}
+
+fn read_restart(text: &[u8]) -> Result<Event, LineFault>
+    ensures { Reads scripted_of (restart_said text.now) result }
+{
+    let server = read_server(text)?;
+    Ok(Event::Now(Loss::Restart(server)))
+}
+
+fn read_moment(text: &[u8]) -> Result<Event, LineFault>
+    ensures { Reads scripted_of (moment_said text.now) result }
+{
+    match number_under(1 << 63, text) {
+        Some(moment) => Ok(Event::Moment(moment as i64)),
+        None => Err(LineFault::Unreadable),
+    }
+}
+
+fn read_behind(alloc: Global, word: &[u8], text: &[u8]) -> Result<Event, LineFault>
+    ensures { Reads scripted_of (said_behind word.now text.now) result }
+{
+    if word == b">".as_slice() {
+        read_piece(alloc, text)
+    } else if word == b"hold".as_slice() {
+        read_hold(alloc, text)
+    } else if word == b"fail".as_slice() {
+        read_fail(text)
+    } else if word == b"lose".as_slice() {
+        read_lose(alloc, text)
+    } else if word == b"restart".as_slice() {
+        read_restart(text)
+    } else if word == b"moment".as_slice() {
+        read_moment(text)
+    } else {
+        Err(LineFault::Unreadable)
+    }
+}
+
+/// The event that a line of a script says.
+///
+/// [`LineFault::Unreadable`] comes exactly where it says none, and otherwise want of memory is the only error. That such an event
+/// can be (that its server is there, say) is not asked here. The lines are mcgate's own.
+pub fn read_event(alloc: Global, line: &[u8]) -> Result<Event, LineFault>
+    ensures { Reads scripted_of (event_said line.now) result }
+{
+    match cut(line) {
+        Some(parts) => read_behind(alloc, parts.word, parts.rest),
+        None => Err(LineFault::Unreadable),
+    }
+}

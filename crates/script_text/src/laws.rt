@@ -1,0 +1,6 @@
+ghost use Rattle.script_text.specs.Laws.{EscapesAreReadBack};
+
+/// Bytes that were written in the escapes of a line are read back as those bytes.
+pub fn escapes_are_read_back()
+    ensures { EscapesAreReadBack }
+{}

@@ -1,0 +1,15 @@
+//! Scripts as text: what their lines say, and the lines that a run prints.
+#![tactic(auto)]
+
+pub mod escapes;
+pub mod event;
+pub mod fault;
+pub mod front;
+pub mod laws;
+pub mod meaning;
+pub mod pool;
+pub mod printer;
+pub mod reader;
+#[cfg(test)]
+mod tests;
+pub mod words;

@@ -1,0 +1,41 @@
+ghost use Rattle.std.specs.Prelude.{◌≡◌, ◌^◌, option_map, position, IfSome, ◌<◌};
+ghost use Rattle.mc_text.specs.Number.{number_below};
+ghost use Rattle.mc_text.specs.Word.{is_space};
+ghost use Rattle.script_text.specs.Lines.{cut};
+ghost use Rattle.script_text.specs.Seen.{parts_seen};
+
+use mc_text::number::number;
+
+/// A word, and what stands behind the one space that ends it.
+#[derive(Clone, Copy)]
+pub struct Parts<'a> {
+    pub word: &'a [u8],
+    pub rest: &'a [u8],
+}
+
+fn first_space(text: &[u8]) -> Option<usize>
+    ensures { result ≡ position is_space text.now }
+{
+    text.iter().position(|b| *b == b' ')
+}
+
+/// The text, cut at its first space; `None` where it has none.
+pub fn cut(text: &[u8]) -> Option<Parts<'_>>
+    ensures { option_map parts_seen result ≡ cut text.now }
+{
+    match first_space(text) {
+        Some(at) => Some(Parts {
+            word: &text[..at],
+            rest: &text[at + 1..],
+        }),
+        None => None,
+    }
+}
+
+/// The number of 1 to 20 digits that a word writes, where it is below the limit.
+pub fn number_under(limit: u64, word: &[u8]) -> Option<u64>
+    ensures { result ≡ number_below limit word.now }
+{
+    let value = number(word)?;
+    if value < limit { Some(value) } else { None }
+}

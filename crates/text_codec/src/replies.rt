@@ -1,0 +1,113 @@
+ghost use Rattle.std.specs.Prelude.{◌≡◌, ◌++◌, ◌||◌, [], take, length, OnOk, OnErr, if◌then◌else◌};
+ghost use Rattle.text_answers.specs.Spelling.{value_of, end_text};
+ghost use Rattle.text_codec.specs.Replies.{is_fetch, is_failure, part_text, shown_text, own_answer, refusal_text, long_line_text};
+
+use bytes::BytesMut;
+use mc_types::{Answer, Ask, Op};
+use std::alloc::AllocError;
+use text_answers::{write_answer, write_end, write_value};
+use text_requests::{Own, Why};
+
+fn is_fetch(op: Op) -> bool
+    ensures { result ≡ is_fetch op }
+{
+    match op {
+        Op::Get | Op::Gat => true,
+        _ => false,
+    }
+}
+
+fn is_failure(reply: &Answer) -> bool
+    ensures { result ≡ is_failure reply.now }
+{
+    reply.rank() >= 3
+}
+
+/// Whether a message is done with this reply: that of its last key, or an error line, behind which no key is asked.
+pub fn ends_message(last: bool, reply: &Answer) -> bool
+    ensures { result ≡ (is_failure reply.now || last) }
+{
+    is_failure(reply) || last
+}
+
+fn put_fetched(last: bool, ask: &Ask, reply: &Answer, out: &mut BytesMut) -> Result<(), AllocError>
+    ensures ok { OnOk result (out.new.items ≡ out.old.items ++ value_of ask.now reply.now ++ (if last then end_text else [])) }
+    ensures err { OnErr result (take (length out.old.items) out.new.items ≡ out.old.items) }
+{
+    write_value(ask, reply, out)?;
+    if last { write_end(out) } else { Ok(()) }
+}
+
+/// Appends what the reply to one key of a message shows: of a get its value, and `END` behind the last key; an error
+/// line stands in place of `END`; of the other operations the answer. Nothing is appended where the client wants no
+/// answer.
+///
+/// The only error is want of memory, which leaves the buffer as it was.
+///
+/// Source: memcached's protocol.txt; that an error ends the reply to several keys is mcgate's own.
+pub fn write_part(
+    quiet: bool,
+    last: bool,
+    ask: &Ask,
+    reply: &Answer,
+    out: &mut BytesMut,
+) -> Result<(), AllocError>
+    ensures ok { OnOk result (out.new.items ≡ out.old.items ++ shown_text quiet last ask.now reply.now) }
+    ensures err { OnErr result (out.new.items ≡ out.old.items) }
+{
+    if quiet {
+        return Ok(());
+    }
+    if !is_fetch(ask.op) || is_failure(reply) {
+        return write_answer(ask, reply, out);
+    }
+    let len = out.len();
+    let written = put_fetched(last, ask, reply, out);
+    if written.is_err() {
+        out.truncate(len);
+    }
+    written
+}
+
+/// Appends what mcgate itself answers: its version, and nothing to `quit`. The only error is want of memory, which
+/// leaves the buffer as it was.
+pub fn write_own(own: Own, out: &mut BytesMut) -> Result<(), AllocError>
+    ensures ok { OnOk result (out.new.items ≡ out.old.items ++ own_answer own) }
+    ensures err { OnErr result (out.new.items ≡ out.old.items) }
+{
+    match own {
+        Own::Version => out.extend_from_slice(b"VERSION mcgate-1\r\n"),
+        Own::Quit => Ok(()),
+    }
+}
+
+fn put_refusal(why: Why, out: &mut BytesMut) -> Result<(), AllocError>
+    ensures ok { OnOk result (out.new.items ≡ out.old.items ++ refusal_text why) }
+    ensures err { OnErr result (take (length out.old.items) out.new.items ≡ out.old.items) }
+{
+    out.extend_from_slice(why.line())?;
+    out.extend_from_slice(b"\r\n")
+}
+
+/// Appends the line that a refused message is answered. The only error is want of memory, which leaves the buffer as
+/// it was.
+pub fn write_refusal(why: Why, out: &mut BytesMut) -> Result<(), AllocError>
+    ensures ok { OnOk result (out.new.items ≡ out.old.items ++ refusal_text why) }
+    ensures err { OnErr result (out.new.items ≡ out.old.items) }
+{
+    let len = out.len();
+    let written = put_refusal(why, out);
+    if written.is_err() {
+        out.truncate(len);
+    }
+    written
+}
+
+/// Appends what a line without an end in its first 65,536 bytes is answered. The only error is want of memory, which
+/// leaves the buffer as it was.
+pub fn write_long_line(out: &mut BytesMut) -> Result<(), AllocError>
+    ensures ok { OnOk result (out.new.items ≡ out.old.items ++ long_line_text) }
+    ensures err { OnErr result (out.new.items ≡ out.old.items) }
+{
+    out.extend_from_slice(b"CLIENT_ERROR line too long\r\n")
+}

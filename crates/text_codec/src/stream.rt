@@ -1,0 +1,151 @@
+ghost use Rattle.std.specs.Prelude.{◌≡◌, ◌≤◌, ℕ, List, [], drop, length, OnOk, OnErr};
+ghost use Rattle.text_requests.specs.declared.command.Skip.TheVariants.{Nothing};
+ghost use Rattle.text_requests.specs.Stream.{Stands, Closed, skipped, extended};
+ghost use Rattle.text_codec.specs.Held.{held_at, HoldsNone, IsReadAt};
+
+use bytes::BytesMut;
+use mc_text::search::first_byte;
+use std::alloc::{AllocError, Global};
+use std::marker::Model;
+use text_requests::{Read, Skip, read_request};
+
+/// The bytes of one client that were not yet done: what isn't a whole message stays until more comes.
+#[derive(Drop)]
+pub struct TextStream {
+    held: BytesMut,
+    skip: Skip,
+    closed: bool,
+}
+
+impl Model for TextStream {
+    ghost use Rattle.text_requests.specs.Stream.{Place};
+    ghost use Rattle.text_codec.specs.Held.{place_in, HoldsNone};
+
+    ghost Value = { Place };
+
+    ghost view = { λ s. place_in s.closed s.skip s.held.items };
+
+    ghost invariant = { λ s. HoldsNone s.skip s.held.items };
+}
+
+/// What is still passed over, and how many bytes of the piece were.
+#[derive(Clone, Copy)]
+struct PassedOver {
+    skip: Skip,
+    count: usize,
+}
+
+fn passed(skip: Skip, count: usize) -> PassedOver
+    ensures { result ≡ record { skip = skip; count = count } }
+{
+    PassedOver { skip, count }
+}
+
+// Passes over what it can of a piece.
+fn pass_over(skip: Skip, piece: &[u8]) -> PassedOver
+    ensures place { skipped skip piece.now ≡ Stands result.skip (drop result.count piece.now) }
+    ensures within { result.count ≤ length piece.now }
+    ensures held { HoldsNone result.skip (drop result.count piece.now) }
+{
+    match skip {
+        Skip::Nothing => passed(Skip::Nothing, 0),
+        Skip::Bytes(n) => {
+            let len = piece.len() as u64;
+            if len < n {
+                passed(Skip::Bytes(n - len), piece.len())
+            } else {
+                passed(Skip::Nothing, n as usize)
+            }
+        }
+        Skip::ThroughNewline => match first_byte(b'\n', piece) {
+            Some(at) => passed(Skip::Nothing, at + 1),
+            None => passed(Skip::ThroughNewline, piece.len()),
+        },
+    }
+}
+
+impl TextStream {
+    /// The stream of a client that said nothing yet. It takes no memory.
+    pub fn new(alloc: Global) -> TextStream
+        ensures { result ≡ Stands Nothing [] }
+    {
+        TextStream {
+            held: BytesMut::new(alloc),
+            skip: Skip::Nothing,
+            closed: false,
+        }
+    }
+
+    /// Whether nothing is read any more: behind `quit`, or a line that was too long.
+    pub fn is_closed(&self) -> bool {
+        self.closed
+    }
+
+    /// The bytes that are held.
+    pub fn held(&self) -> &[u8]
+        ensures { result.now ≡ held_at self.now }
+    {
+        if self.closed {
+            return b"".as_slice();
+        }
+        self.held.as_slice()
+    }
+
+    /// A piece came. The only error is want of memory, which leaves the stream as it was.
+    pub fn feed(&mut self, piece: &[u8]) -> Result<(), AllocError>
+        ensures ok { OnOk result (self.new ≡ extended self.old piece.now) }
+        ensures err { OnErr result (self.new ≡ self.old) }
+    {
+        if self.closed {
+            return Ok(());
+        }
+        let passed = pass_over(self.skip, piece);
+        self.held.extend_from_slice(&piece[passed.count..])?;
+        self.skip = passed.skip;
+        Ok(())
+    }
+
+    /// The message at the front, if a whole one is held: `Read::More` also where bytes are still to be passed over, and
+    /// where the stream is closed. It takes no memory.
+    pub fn read(&self) -> Read
+        ensures { IsReadAt self.now result }
+    {
+        if self.closed {
+            return Read::More;
+        }
+        match self.skip {
+            Skip::Nothing => read_request(self.held.as_slice()),
+            Skip::Bytes(_) | Skip::ThroughNewline => Read::More,
+        }
+    }
+
+    /// A request of so many bytes is done.
+    pub fn pass_request(&mut self, used: usize)
+        requires { used ≤ length (held_at self.old) }
+        ensures { (held : List ℕ) → self.old ≡ Stands Nothing held → self.new ≡ Stands Nothing (drop used held) }
+    {
+        if !self.closed {
+            self.held.advance(used);
+        }
+    }
+
+    /// A refused message of so many bytes is done, and what `skip` says is passed over behind them.
+    pub fn pass_refused(&mut self, used: usize, skip: Skip)
+        requires { used ≤ length (held_at self.old) }
+        ensures { (held : List ℕ) → self.old ≡ Stands Nothing held → self.new ≡ skipped skip (drop used held) }
+    {
+        if self.closed {
+            return;
+        }
+        let passed = pass_over(skip, &self.held.as_slice()[used..]);
+        self.held.advance(used + passed.count);
+        self.skip = passed.skip;
+    }
+
+    /// Nothing is read any more.
+    pub fn close(&mut self)
+        ensures { self.new ≡ Closed }
+    {
+        self.closed = true;
+    }
+}

@@ -1,0 +1,10 @@
+pub mod WordTable
+pub mod Front
+pub mod StreamLemmas
+pub mod Sound
+pub mod AskLemmas
+pub mod WalkLemmas
+pub mod WriteLemmas
+pub mod OrderBack
+pub mod Back
+pub mod OneAsk

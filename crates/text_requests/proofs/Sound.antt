@@ -1,0 +1,215 @@
+-- What a line that is served asks, is in its ranges.
+use Rattle.std.proofs.Common.{◌≡◌, ℕ, zero, suc, ◌+◌, ◌^◌, ◌<◌, ◌≤◌, Bool, true, false, eqb, leb, ltb, ◌&&◌, List, [], ◌∷◌, length, drop, get_or, Option, Some, None, Result, Ok, Err, refl, subst, arith, inl, inr}
+use Rattle.std.specs.Prelude.{ℤ, pos, neg_ℤ, IfSome, ok_or}
+use Rattle.std.specs.List.{AllByRecursion, list_all}
+use Rattle.std.specs.Option.{option_map}
+use Rattle.std.specs.Str.Parse.{digits_value}
+use Rattle.std.proofs.lemmas.Bool.{cases_Bool, leb-true, ltb-true}
+use Rattle.std.proofs.lemmas.Int.{ints}
+use Rattle.mc_text.specs.Number.{is_number, number_below, signed_number}
+use Rattle.mc_types.specs.KeyText.{IsKey, is_key_byte}
+use Rattle.mc_types.specs.Asks.{IsExptime, data_limit}
+use Rattle.text_requests.specs.declared.command.Why.{Why}
+use Rattle.text_requests.specs.declared.command.Why.TheVariants.{BadKey, BadNumber, TooLarge}
+use Rattle.text_requests.specs.declared.command.Verb.{Verb}
+use Rattle.text_requests.specs.declared.command.Verb.TheVariants as verbs
+use Rattle.text_requests.specs.declared.command.StoreKind.{StoreKind}
+use Rattle.text_requests.specs.declared.command.Own.{Own}
+use Rattle.text_requests.specs.CommandWords.{Word, verb_of}
+use Rattle.text_requests.specs.Order.{Order, Storing, Retrieval, Storage, Swapping, Deletion, Touching, Counting, OfItself, ◌>>=◌, is_key, key_of, keys_of, small_of, wide_of, exptime_of, noreply_of, delete_tail_of, getting, getting_and_touching, retrieval, storing_of, fitting, storage, swapping, deletion, touching, counting, of_itself, ordered_by, order_of}
+use Rattle.text_requests.proofs.WordTable.{both}
+
+pub record IsSoundStoring (s : Storing) : Type 0 where
+  pub key : IsKey s.key
+  pub flags : s.flags < 2 ^ 32
+  pub exptime : IsExptime s.exptime
+
+-- the keys are keys, and each number is in its range
+abbrev pub IsSound : Order → Type 0
+IsSound (Retrieval exptime with_cas keys) = AllByRecursion IsKey keys × IfSome exptime IsExptime
+IsSound (Storage kind stored quiet) = IsSoundStoring stored × (stored.length ≤ data_limit)
+IsSound (Swapping stored cas quiet) = IsSoundStoring stored × (stored.length ≤ data_limit) × (cas < 2 ^ 64)
+IsSound (Deletion key quiet) = IsKey key
+IsSound (Touching key exptime quiet) = IsKey key × IsExptime exptime
+IsSound (Counting up key delta quiet) = IsKey key × (delta < 2 ^ 64)
+IsSound (OfItself own) = Unit {0}
+
+-- the first test was passed, and so were the others
+passed : {A : Type 0} → (r : Result A Why) (f : A → Result Order Why) (o : Order) → r >>= f ≡ Ok o → (x : A) × (r ≡ Ok x) × (f x ≡ Ok o)
+passed (Ok x) f o e = (x, refl, e)
+passed (Err why) f o e = absurd cc
+
+passed_store : {A : Type 0} → (r : Result A Why) (f : A → Result Storing Why) (o : Storing) → r >>= f ≡ Ok o → (x : A) × (r ≡ Ok x) × (f x ≡ Ok o)
+passed_store (Ok x) f o e = (x, refl, e)
+passed_store (Err why) f o e = absurd cc
+
+is_ok : {A : Type 0} → (x y : A) → ◌≡◌ {A = Result A Why} (Ok x) (Ok y) → x ≡ y
+is_ok x y e = cc
+
+pub key_is : (w : Word) → is_key w ≡ true → IsKey w
+key_is w e =
+    let a = both (leb 1 (length w) && leb (length w) 250) (list_all is_key_byte w) e in
+    let b = both (leb 1 (length w)) (leb (length w) 250) a.0 in
+    record { some = leb-true 1 (length w) b.0; short = leb-true (length w) 250 b.1; bytes = a.1 }
+
+keys_are : (ws : List Word) → list_all is_key ws ≡ true → AllByRecursion IsKey ws
+keys_are [] e = tt
+keys_are (w ∷ ws) e = let a = both (is_key w) (list_all is_key ws) e in (key_is w a.0, keys_are ws a.1)
+
+a_key : (w k : Word) → key_of w ≡ Ok k → IsKey k
+a_key w k e = elim (cases_Bool (is_key w)) [
+  | inl same ↦ let f : ◌≡◌ {A = Result Word Why} (Ok w) (Ok k) = rw same at e in subst IsKey (is_ok w k f) (key_is w same)
+  | inr other ↦ let f : ◌≡◌ {A = Result Word Why} (Err BadKey) (Ok k) = rw other at e in absurd cc
+]
+
+some_keys : (ws ks : List Word) → keys_of ws ≡ Ok ks → AllByRecursion IsKey ks
+some_keys [] ks e = absurd cc
+some_keys (w ∷ ws) ks e = elim (cases_Bool (list_all is_key (w ∷ ws))) [
+  | inl same ↦ let f : ◌≡◌ {A = Result (List Word) Why} (Ok (w ∷ ws)) (Ok ks) = rw same at e in subst (AllByRecursion IsKey) (is_ok (w ∷ ws) ks f) (keys_are (w ∷ ws) same)
+  | inr other ↦ let f : ◌≡◌ {A = Result (List Word) Why} (Err BadKey) (Ok ks) = rw other at e in absurd cc
+]
+
+below_limit : (limit n : ℕ) (w : Word) → number_below limit w ≡ Some n → n < limit
+below_limit limit n w e = elim (cases_Bool (is_number w && ltb (digits_value 10 w) limit)) [
+  | inl same ↦
+      let f : Some (digits_value 10 w) ≡ Some n = rw same at e in
+      let lt = ltb-true (digits_value 10 w) limit (both (is_number w) (ltb (digits_value 10 w) limit) same).1 in
+      let value : digits_value 10 w ≡ n = cc in omega (arith, lt)
+  | inr other ↦ let f : None ≡ Some n = rw other at e in absurd cc
+]
+
+from_ok_or : {A : Type 0} → (o : Option A) (x : A) → ok_or {E = Why} o BadNumber ≡ Ok x → o ≡ Some x
+from_ok_or None x e = absurd cc
+from_ok_or (Some y) x e = cc
+
+a_small : (w : Word) (n : ℕ) → small_of w ≡ Ok n → n < 2 ^ 32
+a_small w n e = below_limit (2 ^ 32) n w (from_ok_or (number_below (2 ^ 32) w) n e)
+
+a_wide : (w : Word) (n : ℕ) → wide_of w ≡ Ok n → n < 2 ^ 64
+a_wide w n e = below_limit (2 ^ 64) n w (from_ok_or (number_below (2 ^ 64) w) n e)
+
+down : (n : ℕ) → n < 2 ^ 63 + 1 → IsExptime (neg_ℤ (pos n))
+down zero lt = (omega (arith, ints), omega (arith, ints))
+down (suc n) lt = (omega (arith, ints), omega (arith, ints))
+
+up : (n : ℕ) → n < 2 ^ 63 → IsExptime (pos n)
+up n lt = (omega (arith, ints), omega (arith, ints))
+
+below_zero : (o : Option ℕ) (z : ℤ) → ((n : ℕ) → o ≡ Some n → n < 2 ^ 63 + 1) → option_map (λ n. neg_ℤ (pos n)) o ≡ Some z → IsExptime z
+below_zero None z h e = absurd cc
+below_zero (Some n) z h e = let same : neg_ℤ (pos n) ≡ z = cc in subst IsExptime same (down n (h n refl))
+
+not_below_zero : (o : Option ℕ) (z : ℤ) → ((n : ℕ) → o ≡ Some n → n < 2 ^ 63) → option_map pos o ≡ Some z → IsExptime z
+not_below_zero None z h e = absurd cc
+not_below_zero (Some n) z h e = let same : pos n ≡ z = cc in subst IsExptime same (up n (h n refl))
+
+signed : (w : Word) (z : ℤ) → signed_number w ≡ Some z → IsExptime z
+signed w z e = elim (cases_Bool (eqb (get_or w 0 0) 45)) [
+  | inl same ↦ let f : option_map (λ n. neg_ℤ (pos n)) (number_below (2 ^ 63 + 1) (drop 1 w)) ≡ Some z = rw same at e in
+      below_zero (number_below (2 ^ 63 + 1) (drop 1 w)) z (λ n h. below_limit (2 ^ 63 + 1) n (drop 1 w) h) f
+  | inr other ↦ let f : option_map pos (number_below (2 ^ 63) w) ≡ Some z = rw other at e in
+      not_below_zero (number_below (2 ^ 63) w) z (λ n h. below_limit (2 ^ 63) n w h) f
+]
+
+an_exptime : (w : Word) (z : ℤ) → exptime_of w ≡ Ok z → IsExptime z
+an_exptime w z e = signed w z (from_ok_or (signed_number w) z e)
+
+storing : (k f e n : Word) (s : Storing) → storing_of k f e n ≡ Ok s → IsSoundStoring s
+storing k f e n s h =
+    let a = passed_store (key_of k) _ s h in
+    let b = passed_store (small_of f) _ s a.2 in
+    let c = passed_store (exptime_of e) _ s b.2 in
+    let d = passed_store (small_of n) _ s c.2 in
+    let r : Storing = record { key = a.0; flags = b.0; exptime = c.0; length = d.0 } in
+    let same : r ≡ s = is_ok r s d.2 in
+    subst IsSoundStoring same (record { key = a_key k a.0 a.1; flags = a_small f b.0 b.1; exptime = an_exptime e c.0 c.1 })
+
+fits : (n : ℕ) (o p : Order) → fitting n o ≡ Ok p → (n ≤ data_limit) × (o ≡ p)
+fits n o p e = elim (cases_Bool (leb n data_limit)) [
+  | inl same ↦ let f : ◌≡◌ {A = Result Order Why} (Ok o) (Ok p) = rw same at e in (leb-true n data_limit same, is_ok o p f)
+  | inr other ↦ let f : ◌≡◌ {A = Result Order Why} (Err TooLarge) (Ok p) = rw other at e in absurd cc
+]
+
+by_storage : (kind : StoreKind) (ws : List Word) (o : Order) → storage kind ws ≡ Ok o → IsSound o
+by_storage kind [] o h = absurd cc
+by_storage kind (k ∷ []) o h = absurd cc
+by_storage kind (k ∷ f ∷ []) o h = absurd cc
+by_storage kind (k ∷ f ∷ e ∷ []) o h = absurd cc
+by_storage kind (k ∷ f ∷ e ∷ n ∷ more) o h =
+    let a = passed (noreply_of more) _ o h in
+    let b = passed (storing_of k f e n) _ o a.2 in
+    let c = fits b.0.length (Storage kind b.0 a.0) o b.2 in
+    subst IsSound c.1 (storing k f e n b.0 b.1, c.0)
+
+by_swapping : (ws : List Word) (o : Order) → swapping ws ≡ Ok o → IsSound o
+by_swapping [] o h = absurd cc
+by_swapping (k ∷ []) o h = absurd cc
+by_swapping (k ∷ f ∷ []) o h = absurd cc
+by_swapping (k ∷ f ∷ e ∷ []) o h = absurd cc
+by_swapping (k ∷ f ∷ e ∷ n ∷ []) o h = absurd cc
+by_swapping (k ∷ f ∷ e ∷ n ∷ c ∷ more) o h =
+    let a = passed (noreply_of more) _ o h in
+    let b = passed (storing_of k f e n) _ o a.2 in
+    let w = passed (wide_of c) _ o b.2 in
+    let d = fits b.0.length (Swapping b.0 w.0 a.0) o w.2 in
+    subst IsSound d.1 (storing k f e n b.0 b.1, d.0, a_wide c w.0 w.1)
+
+by_deletion : (ws : List Word) (o : Order) → deletion ws ≡ Ok o → IsSound o
+by_deletion [] o h = absurd cc
+by_deletion (k ∷ more) o h =
+    let a = passed (delete_tail_of more) _ o h in
+    let b = passed (key_of k) _ o a.2 in
+    subst IsSound (is_ok (Deletion b.0 a.0) o b.2) (a_key k b.0 b.1)
+
+by_touching : (ws : List Word) (o : Order) → touching ws ≡ Ok o → IsSound o
+by_touching [] o h = absurd cc
+by_touching (k ∷ []) o h = absurd cc
+by_touching (k ∷ e ∷ more) o h =
+    let a = passed (noreply_of more) _ o h in
+    let b = passed (key_of k) _ o a.2 in
+    let c = passed (exptime_of e) _ o b.2 in
+    subst IsSound (is_ok (Touching b.0 c.0 a.0) o c.2) (a_key k b.0 b.1, an_exptime e c.0 c.1)
+
+by_counting : (up : Bool) (ws : List Word) (o : Order) → counting up ws ≡ Ok o → IsSound o
+by_counting up [] o h = absurd cc
+by_counting up (k ∷ []) o h = absurd cc
+by_counting up (k ∷ d ∷ more) o h =
+    let a = passed (noreply_of more) _ o h in
+    let b = passed (key_of k) _ o a.2 in
+    let c = passed (wide_of d) _ o b.2 in
+    subst IsSound (is_ok (Counting up b.0 c.0 a.0) o c.2) (a_key k b.0 b.1, a_wide d c.0 c.1)
+
+by_getting : (with_cas : Bool) (ws : List Word) (o : Order) → getting with_cas ws ≡ Ok o → IsSound o
+by_getting with_cas ws o h =
+    let a = passed (keys_of ws) _ o h in
+    subst IsSound (is_ok (Retrieval None with_cas a.0) o a.2) (some_keys ws a.0 a.1, tt)
+
+by_getting_and_touching : (with_cas : Bool) (ws : List Word) (o : Order) → getting_and_touching with_cas ws ≡ Ok o → IsSound o
+by_getting_and_touching with_cas [] o h = absurd cc
+by_getting_and_touching with_cas (e ∷ ws) o h =
+    let a = passed (keys_of ws) _ o h in
+    let b = passed (exptime_of e) _ o a.2 in
+    subst IsSound (is_ok (Retrieval (Some b.0) with_cas a.0) o b.2) (some_keys ws a.0 a.1, an_exptime e b.0 b.1)
+
+by_retrieval : (touching with_cas : Bool) (ws : List Word) (o : Order) → retrieval touching with_cas ws ≡ Ok o → IsSound o
+by_retrieval true with_cas ws o h = by_getting_and_touching with_cas ws o h
+by_retrieval false with_cas ws o h = by_getting with_cas ws o h
+
+by_itself : (own : Own) (ws : List Word) (o : Order) → of_itself own ws ≡ Ok o → IsSound o
+by_itself own [] o h = subst IsSound (is_ok (OfItself own) o h) tt
+by_itself own (w ∷ ws) o h = absurd cc
+
+by_verb : (v : Option Verb) (ws : List Word) (o : Order) → ordered_by v ws ≡ Ok o → IsSound o
+by_verb None ws o h = absurd cc
+by_verb (Some (verbs.Store kind)) ws o h = by_storage kind ws o h
+by_verb (Some verbs.Cas) ws o h = by_swapping ws o h
+by_verb (Some (verbs.Retrieve touching with_cas)) ws o h = by_retrieval touching with_cas ws o h
+by_verb (Some verbs.Delete) ws o h = by_deletion ws o h
+by_verb (Some verbs.Touch) ws o h = by_touching ws o h
+by_verb (Some (verbs.Count up)) ws o h = by_counting up ws o h
+by_verb (Some (verbs.Own own)) ws o h = by_itself own ws o h
+
+-- what a line asks is in its ranges
+pub sound : (ws : List Word) (o : Order) → order_of ws ≡ Ok o → IsSound o
+sound [] o h = absurd cc
+sound (w ∷ ws) o h = by_verb (verb_of w) ws o h

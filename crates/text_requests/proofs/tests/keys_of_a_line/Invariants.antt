@@ -1,0 +1,5 @@
+use Rattle.text_requests.specs.Asks.{IsWalk}
+use Rattle.text_requests.proofs.tests.keys_of_a_line.Given as goal
+
+abbrev pub invariant-loop-key : goal.invariant-loop-key
+invariant-loop-key g l = IsWalk l.bytes l.walk

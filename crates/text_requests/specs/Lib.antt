@@ -1,0 +1,10 @@
+pub mod CommandWords
+pub mod Refusals
+pub mod Order
+pub mod Places
+pub mod Message
+pub mod Asks
+pub mod Stream
+pub mod Laws
+pub mod Spelling
+pub mod ReadBack

@@ -1,0 +1,66 @@
+-- What the spans of a command stand for in the bytes that were read.
+use Rattle.std.specs.Prelude.{◌≡◌, ℕ, ◌≤◌, List, ◌∷◌, length, drop, Result, Ok, Err}
+use Rattle.mc_text.specs.Word.{words, text_at}
+use Rattle.mc_text.specs.declared.word.Span.{Span}
+use Rattle.text_requests.specs.declared.command.Command.{Command}
+use Rattle.text_requests.specs.declared.command.Command.TheVariants as commands
+use Rattle.text_requests.specs.declared.command.Keys.{Keys}
+use Rattle.text_requests.specs.declared.command.Stored.{Stored}
+use Rattle.text_requests.specs.declared.command.Why.{Why}
+use Rattle.text_requests.specs.declared.stores.StoreWords.{StoreWords}
+use Rattle.text_requests.specs.Order.{Order, Storing, Retrieval, Storage, Swapping, Deletion, Touching, Counting, OfItself}
+
+-- the keys that stand there
+abbrev pub keys_in : List ℕ → Keys → List (List ℕ)
+keys_in text keys = words (text_at text keys.span)
+
+-- the head of a store that stands there
+abbrev pub storing_in : List ℕ → Stored → Storing
+storing_in text s = record { key = text_at text s.key; flags = s.flags; exptime = s.exptime; length = s.length }
+
+-- the order that a command with its spans is
+abbrev pub order_in : List ℕ → Command → Order
+order_in text (commands.Retrieval exptime with_cas keys) = Retrieval exptime with_cas (keys_in text keys)
+order_in text (commands.Storage kind stored quiet) = Storage kind (storing_in text stored) quiet
+order_in text (commands.Swapping stored cas quiet) = Swapping (storing_in text stored) cas quiet
+order_in text (commands.Deletion key quiet) = Deletion (text_at text key) quiet
+order_in text (commands.Touching key exptime quiet) = Touching (text_at text key) exptime quiet
+order_in text (commands.Counting up key delta quiet) = Counting up (text_at text key) delta quiet
+order_in text (commands.Own own) = OfItself own
+
+-- the span lies in so many bytes
+pub record IsIn (n : ℕ) (s : Span) : Type 0 where
+  pub ordered : s.start ≤ s.end
+  pub within : s.end ≤ n
+
+-- the span lies in the text, and the count is that of its words
+pub record AreIn (text : List ℕ) (keys : Keys) : Type 0 where
+  pub span : IsIn (length text) keys.span
+  pub count : keys.count ≡ length (keys_in text keys)
+
+-- each span of the command lies in the text
+abbrev pub LiesIn : List ℕ → Command → Type 0
+LiesIn text (commands.Retrieval exptime with_cas keys) = AreIn text keys
+LiesIn text (commands.Storage kind stored quiet) = IsIn (length text) stored.key
+LiesIn text (commands.Swapping stored cas quiet) = IsIn (length text) stored.key
+LiesIn text (commands.Deletion key quiet) = IsIn (length text) key
+LiesIn text (commands.Touching key exptime quiet) = IsIn (length text) key
+LiesIn text (commands.Counting up key delta quiet) = IsIn (length text) key
+LiesIn text (commands.Own own) = Unit {0}
+
+-- the four spans lie in so many bytes
+pub record AreSpans (n : ℕ) (s : StoreWords) : Type 0 where
+  pub key : IsIn n s.key
+  pub flags : IsIn n s.flags
+  pub exptime : IsIn n s.exptime
+  pub length : IsIn n s.length
+
+-- the first four words from a place on
+pub record AreStoreWords (line : List ℕ) (at : ℕ) (s : StoreWords) : Type 0 where
+  pub spans : AreSpans (length line) s
+  pub words_are : words (drop at line) ≡ text_at line s.key ∷ text_at line s.flags ∷ text_at line s.exptime ∷ text_at line s.length ∷ words (drop s.length.end line)
+
+-- what was returned, seen by view, is what the words say
+abbrev pub Gives : {X Y : Type 0} → (X → Y) → Result X Why → Result Y Why → Type 0
+Gives view (Ok x) read = read ≡ Ok (view x)
+Gives view (Err e) read = read ≡ Err e

@@ -1,0 +1,158 @@
+use mc_text::word::Span;
+
+/// What a request asks of mcgate itself.
+#[derive(Clone, Copy, PartialEq, Eq)]
+pub enum Own {
+    /// The name and version.
+    Version,
+    /// To be closed.
+    Quit,
+}
+
+/// The stores without a cas number, each named as its command word.
+#[derive(Clone, Copy)]
+pub enum StoreKind {
+    Set,
+    Add,
+    Replace,
+    Append,
+    Prepend,
+}
+
+/// What a command word means.
+///
+/// Source: memcached's protocol.txt, "Commands".
+#[derive(Clone, Copy)]
+pub enum Verb {
+    Store(StoreKind),
+    Cas,
+    /// `get`, with the cas number `gets`; touching `gat` and `gats`.
+    Retrieve { touching: bool, with_cas: bool },
+    Delete,
+    Touch,
+    /// `incr` up, `decr` down.
+    Count { up: bool },
+    Own(Own),
+}
+
+/// Why a line is refused. The tests are made in this order, and the first that fails decides.
+#[derive(Clone, Copy, PartialEq, Eq)]
+pub enum Why {
+    /// No command is spelled so: its word, the number of its words, or another word where `noreply` or `0` may stand.
+    Unknown,
+    /// A key isn't 1 to 250 bytes, or has a control character or the byte 127 in it.
+    BadKey,
+    /// A number isn't 1 to 20 digits, or out of its range.
+    BadNumber,
+    /// The data would be longer than 1,048,576 bytes.
+    TooLarge,
+    /// The data aren't followed by `\r\n`.
+    BadChunk,
+}
+
+/// What is passed over behind the bytes that a refused message used.
+#[derive(Clone, Copy, PartialEq, Eq)]
+pub enum Skip {
+    Nothing,
+    /// So many bytes: at most 4,294,967,297.
+    Bytes(u64),
+    /// All bytes through the next `\n`.
+    ThroughNewline,
+}
+
+/// The key and the numbers that each store has.
+#[derive(Clone, Copy)]
+pub struct Stored {
+    pub key: Span,
+    pub flags: u32,
+    /// As the protocol writes it: 0 never expires, up to 2,592,000 are seconds from now, more is a Unix moment, a
+    /// negative one has expired already.
+    pub exptime: i64,
+    /// How many bytes of data follow the line.
+    pub length: u32,
+}
+
+/// One key or more, as they stand on the line: one span, with the spaces around them.
+#[derive(Clone, Copy)]
+pub struct Keys {
+    pub span: Span,
+    /// How many keys there are.
+    pub count: usize,
+}
+
+/// What a line asks, by the places of its keys. `quiet` says that `noreply` stands on it.
+#[derive(Clone, Copy)]
+pub enum Command {
+    /// `get` and `gets`, with an exptime `gat` and `gats`.
+    Retrieval {
+        exptime: Option<i64>,
+        with_cas: bool,
+        keys: Keys,
+    },
+    /// `set`, `add`, `replace`, `append` and `prepend`.
+    Storage {
+        kind: StoreKind,
+        stored: Stored,
+        quiet: bool,
+    },
+    /// `cas`.
+    Swapping {
+        stored: Stored,
+        cas: u64,
+        quiet: bool,
+    },
+    /// `delete`.
+    Deletion {
+        key: Span,
+        quiet: bool,
+    },
+    /// `touch`.
+    Touching {
+        key: Span,
+        exptime: i64,
+        quiet: bool,
+    },
+    /// `incr` and `decr`.
+    Counting {
+        up: bool,
+        key: Span,
+        delta: u64,
+        quiet: bool,
+    },
+    /// `version` and `quit`.
+    Own(Own),
+}
+
+/// A request that is served: what its line asks, and where its data block stands in the bytes that were read.
+#[derive(Clone, Copy)]
+pub struct Request {
+    pub command: Command,
+    /// The data, without the `\r\n` behind them; empty where none follow.
+    pub block: Span,
+    /// How many bytes the request takes, its data block included.
+    pub used: usize,
+}
+
+/// What the bytes of a client begin with.
+#[derive(Clone, Copy)]
+pub enum Read {
+    /// Less than a whole message.
+    More,
+    /// A line without an end in the first 65,536 bytes.
+    TooLong,
+    /// A message that is served.
+    Request(Request),
+    /// A message that is refused: it takes `used` bytes, and what `skip` says is passed over behind them.
+    Refused { why: Why, used: usize, skip: Skip },
+}
+
+/// How a data block ends, by the bytes behind it.
+#[derive(Clone, Copy)]
+pub enum End {
+    /// The bytes that decide haven't come.
+    Open,
+    /// With `\r\n`.
+    Good,
+    /// With another byte.
+    Bad,
+}

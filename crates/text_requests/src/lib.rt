@@ -1,0 +1,23 @@
+//! The classic requests of memcached's text protocol: how they are read from a client's bytes, and written to a server.
+#![tactic(auto)]
+
+pub mod command;
+pub mod keyed;
+pub mod laws;
+pub mod line_words;
+pub mod parts;
+pub mod reader;
+pub mod refusal;
+pub mod request;
+pub mod retrieval;
+pub mod stores;
+pub mod verbs;
+pub mod writer;
+
+pub use command::{Own, Read, Request, Skip, Why};
+pub use reader::read_request;
+pub use request::Asks;
+pub use writer::write_ask;
+
+#[cfg(test)]
+mod tests;

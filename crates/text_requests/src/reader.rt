@@ -1,0 +1,98 @@
+ghost use Rattle.std.specs.Prelude.{◌≡◌, ◌≤◌, ◌-◌, ◌<◌, ◌+◌, take, drop, length, Some};
+ghost use Rattle.mc_text.specs.Line.{TakesLine};
+ghost use Rattle.text_requests.specs.Places.{LiesIn, order_in};
+ghost use Rattle.text_requests.specs.Message.{Reads, IsMeant, meaning, end_of, with_rest, command_block_len};
+
+use crate::command::{Command, End, Read, Request, Skip, Why};
+use crate::line_words::{command, skip};
+use mc_text::ends::Line;
+use mc_text::reading::line;
+use mc_text::word::Span;
+
+// how a data block ends, behind its data
+fn block_end(after: &[u8]) -> End
+    ensures { result ≡ end_of after.now }
+{
+    match after {
+        [] | [b'\r'] => End::Open,
+        [b'\r', b'\n', ..] => End::Good,
+        _ => End::Bad,
+    }
+}
+
+fn with_block(bytes: &[u8], used: usize, command: Command, len: usize) -> Read
+    requires used { used ≤ length bytes.now }
+    requires within { LiesIn bytes.now command }
+    ensures { IsMeant bytes.now result (with_rest (order_in bytes.now command) used (drop used bytes.now) (Some len)) }
+{
+    let rest = &bytes[used..];
+    if rest.len() <= len {
+        return Read::More;
+    }
+    let end = used + len;
+    match block_end(&rest[len..]) {
+        End::Open => Read::More,
+        End::Good => Read::Request(Request {
+            command,
+            block: Span { start: used, end },
+            used: end + 2,
+        }),
+        End::Bad => Read::Refused {
+            why: Why::BadChunk,
+            used: end,
+            skip: Skip::ThroughNewline,
+        },
+    }
+}
+
+fn block_len(command: &Command) -> Option<usize>
+    ensures { result ≡ command_block_len command.now }
+{
+    match command {
+        Command::Storage { stored, .. } => Some(stored.length as usize),
+        Command::Swapping { stored, .. } => Some(stored.length as usize),
+        _ => None,
+    }
+}
+
+fn behind_line(bytes: &[u8], end: usize, used: usize) -> Read
+    requires { TakesLine bytes.now end used }
+    ensures { IsMeant bytes.now result (meaning (take (used - 1) bytes.now) (drop used bytes.now)) }
+{
+    let text = &bytes[..end];
+    match command(text) {
+        Err(why) => Read::Refused {
+            why,
+            used,
+            skip: skip(text),
+        },
+        Ok(command) => match block_len(&command) {
+            Some(len) => with_block(bytes, used, command, len),
+            None => Read::Request(Request {
+                command,
+                block: Span {
+                    start: used,
+                    end: used,
+                },
+                used,
+            }),
+        },
+    }
+}
+
+/// The message that the bytes begin with. It takes no memory, and time linear in its line: no data are looked at.
+///
+/// A line ends at `\n`, and one `\r` before it is dropped; its words are parted by spaces. `get`, `gets`, `gat`, `gats`,
+/// `set`, `add`, `replace`, `append`, `prepend`, `cas`, `delete`, `touch`, `incr`, `decr`, `version` and `quit` are
+/// served; every other first word is unknown, also those of the meta commands.
+///
+/// Source: memcached's protocol.txt.
+pub fn read_request(bytes: &[u8]) -> Read
+    ensures { Reads bytes.now result }
+{
+    match line(bytes) {
+        Line::More => Read::More,
+        Line::TooLong => Read::TooLong,
+        Line::At { end, used } => behind_line(bytes, end, used),
+    }
+}

@@ -1,0 +1,84 @@
+ghost use Rattle.std.specs.Prelude.{◌≡◌, ◌≤◌, ◌<◌, length, drop, IfOk, MatchOption, true, false};
+ghost use Rattle.std.specs.List.{list_all};
+ghost use Rattle.mc_text.specs.Word.{words};
+ghost use Rattle.text_requests.specs.Order.{is_key, keys_of, getting, getting_and_touching, retrieval};
+ghost use Rattle.text_requests.specs.Places.{AreIn, Gives, LiesIn, keys_in, order_in};
+
+use crate::command::{Command, Keys, Why};
+use crate::parts::{exptime, is_key, word};
+use mc_text::word::{Span, next_word};
+
+// how many words there are, if each is a key
+fn count_keys(line: &[u8], at: usize) -> Option<usize>
+    requires { at ≤ length line.now }
+    ensures { MatchOption result (list_all is_key (words (drop at line.now)) ≡ false)
+        (λ count. (list_all is_key (words (drop at line.now)) ≡ true) × (count ≡ length (words (drop at line.now)))) }
+{
+    let mut from = at;
+    let mut count = 0;
+    while let Some(word) = next_word(line, from) {
+        if !is_key(&line[word.start..word.end]) {
+            return None;
+        }
+        from = word.end;
+        count += 1;
+    }
+    Some(count)
+}
+
+fn keys(line: &[u8], at: usize) -> Result<Keys, Why>
+    requires { at ≤ length line.now }
+    ensures keys { Gives (keys_in line.now) result (keys_of (words (drop at line.now))) }
+    ensures within { IfOk result (AreIn line.now) }
+{
+    let _first = word(line, at)?;
+    let count = count_keys(line, at).ok_or(Why::BadKey)?;
+    Ok(Keys {
+        span: Span {
+            start: at,
+            end: line.len(),
+        },
+        count,
+    })
+}
+
+fn getting(line: &[u8], at: usize, with_cas: bool) -> Result<Command, Why>
+    requires { at ≤ length line.now }
+    ensures order { Gives (order_in line.now) result (getting with_cas (words (drop at line.now))) }
+    ensures within { IfOk result (LiesIn line.now) }
+{
+    let keys = keys(line, at)?;
+    Ok(Command::Retrieval {
+        exptime: None,
+        with_cas,
+        keys,
+    })
+}
+
+fn getting_and_touching(line: &[u8], at: usize, with_cas: bool) -> Result<Command, Why>
+    requires { at ≤ length line.now }
+    ensures order { Gives (order_in line.now) result (getting_and_touching with_cas (words (drop at line.now))) }
+    ensures within { IfOk result (LiesIn line.now) }
+{
+    let first = word(line, at)?;
+    let keys = keys(line, first.end)?;
+    let exptime = exptime(line, first)?;
+    Ok(Command::Retrieval {
+        exptime: Some(exptime),
+        with_cas,
+        keys,
+    })
+}
+
+/// What `get`, `gets`, `gat` and `gats` ask.
+pub fn retrieval(line: &[u8], at: usize, touching: bool, with_cas: bool) -> Result<Command, Why>
+    requires { at ≤ length line.now }
+    ensures order { Gives (order_in line.now) result (retrieval touching with_cas (words (drop at line.now))) }
+    ensures within { IfOk result (LiesIn line.now) }
+{
+    if touching {
+        getting_and_touching(line, at, with_cas)
+    } else {
+        getting(line, at, with_cas)
+    }
+}

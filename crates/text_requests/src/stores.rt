@@ -1,0 +1,89 @@
+ghost use Rattle.std.specs.Prelude.{◌≡◌, ◌≤◌, ◌<◌, length, drop, IfOk, MatchResult};
+ghost use Rattle.mc_text.specs.Word.{words, text_at};
+ghost use Rattle.text_requests.specs.Order.{storage, storing_of, swapping};
+ghost use Rattle.text_requests.specs.Places.{AreSpans, AreStoreWords, Gives, LiesIn, order_in, storing_in};
+
+use crate::command::{Command, StoreKind, Stored, Why};
+use crate::parts::{exptime, key, noreply, small, wide, word};
+use mc_text::word::Span;
+
+/// The most bytes of a data block.
+pub const DATA_LIMIT: u32 = 1_048_576;
+
+/// The words that each store has, in order.
+#[derive(Clone, Copy)]
+pub struct StoreWords {
+    key: Span,
+    flags: Span,
+    exptime: Span,
+    length: Span,
+}
+
+fn store_words(line: &[u8], at: usize) -> Result<StoreWords, Why>
+    requires { at ≤ length line.now }
+    ensures { MatchResult result (AreStoreWords line.now at) (λ e. (e ≡ Why.Unknown) × (length (words (drop at line.now)) < 4)) }
+{
+    let key = word(line, at)?;
+    let flags = word(line, key.end)?;
+    let exptime = word(line, flags.end)?;
+    let length = word(line, exptime.end)?;
+    Ok(StoreWords {
+        key,
+        flags,
+        exptime,
+        length,
+    })
+}
+
+fn stored_in(line: &[u8], found: StoreWords) -> Result<Stored, Why>
+    requires { AreSpans (length line.now) found }
+    ensures value { Gives (storing_in line.now) result (storing_of (text_at line.now found.key) (text_at line.now found.flags) (text_at line.now found.exptime) (text_at line.now found.length)) }
+    ensures same { IfOk result (λ s. s.key ≡ found.key) }
+{
+    let key = key(line, found.key)?;
+    let flags = small(line, found.flags)?;
+    let exptime = exptime(line, found.exptime)?;
+    let length = small(line, found.length)?;
+    Ok(Stored {
+        key,
+        flags,
+        exptime,
+        length,
+    })
+}
+
+/// What `set`, `add`, `replace`, `append` and `prepend` ask.
+pub fn storage(line: &[u8], at: usize, kind: StoreKind) -> Result<Command, Why>
+    requires { at ≤ length line.now }
+    ensures order { Gives (order_in line.now) result (storage kind (words (drop at line.now))) }
+    ensures within { IfOk result (LiesIn line.now) }
+{
+    let found = store_words(line, at)?;
+    let quiet = noreply(line, found.length.end)?;
+    let stored = stored_in(line, found)?;
+    if stored.length > DATA_LIMIT {
+        return Err(Why::TooLarge);
+    }
+    Ok(Command::Storage {
+        kind,
+        stored,
+        quiet,
+    })
+}
+
+/// What `cas` asks.
+pub fn swapping(line: &[u8], at: usize) -> Result<Command, Why>
+    requires { at ≤ length line.now }
+    ensures order { Gives (order_in line.now) result (swapping (words (drop at line.now))) }
+    ensures within { IfOk result (LiesIn line.now) }
+{
+    let found = store_words(line, at)?;
+    let cas = word(line, found.length.end)?;
+    let quiet = noreply(line, cas.end)?;
+    let stored = stored_in(line, found)?;
+    let cas = wide(line, cas)?;
+    if stored.length > DATA_LIMIT {
+        return Err(Why::TooLarge);
+    }
+    Ok(Command::Swapping { stored, cas, quiet })
+}

@@ -1,0 +1,104 @@
+ghost use Rattle.std.specs.Prelude.{◌≡◌};
+ghost use Rattle.text_requests.specs.CommandWords.{verb_of, found_in, of_three, of_four, of_five, of_six, of_seven};
+
+use crate::command::{Own, StoreKind, Verb};
+
+fn three(word: &[u8]) -> Option<Verb>
+    ensures { result ≡ found_in of_three word.now }
+{
+    if word == b"get".as_slice() {
+        Some(Verb::Retrieve {
+            touching: false,
+            with_cas: false,
+        })
+    } else if word == b"set".as_slice() {
+        Some(Verb::Store(StoreKind::Set))
+    } else if word == b"add".as_slice() {
+        Some(Verb::Store(StoreKind::Add))
+    } else if word == b"cas".as_slice() {
+        Some(Verb::Cas)
+    } else if word == b"gat".as_slice() {
+        Some(Verb::Retrieve {
+            touching: true,
+            with_cas: false,
+        })
+    } else {
+        None
+    }
+}
+
+fn four(word: &[u8]) -> Option<Verb>
+    ensures { result ≡ found_in of_four word.now }
+{
+    if word == b"gets".as_slice() {
+        Some(Verb::Retrieve {
+            touching: false,
+            with_cas: true,
+        })
+    } else if word == b"gats".as_slice() {
+        Some(Verb::Retrieve {
+            touching: true,
+            with_cas: true,
+        })
+    } else if word == b"incr".as_slice() {
+        Some(Verb::Count { up: true })
+    } else if word == b"decr".as_slice() {
+        Some(Verb::Count { up: false })
+    } else if word == b"quit".as_slice() {
+        Some(Verb::Own(Own::Quit))
+    } else {
+        None
+    }
+}
+
+fn five(word: &[u8]) -> Option<Verb>
+    ensures { result ≡ found_in of_five word.now }
+{
+    if word == b"touch".as_slice() {
+        Some(Verb::Touch)
+    } else {
+        None
+    }
+}
+
+fn six(word: &[u8]) -> Option<Verb>
+    ensures { result ≡ found_in of_six word.now }
+{
+    if word == b"delete".as_slice() {
+        Some(Verb::Delete)
+    } else if word == b"append".as_slice() {
+        Some(Verb::Store(StoreKind::Append))
+    } else {
+        None
+    }
+}
+
+fn seven(word: &[u8]) -> Option<Verb>
+    ensures { result ≡ found_in of_seven word.now }
+{
+    if word == b"replace".as_slice() {
+        Some(Verb::Store(StoreKind::Replace))
+    } else if word == b"prepend".as_slice() {
+        Some(Verb::Store(StoreKind::Prepend))
+    } else if word == b"version".as_slice() {
+        Some(Verb::Own(Own::Version))
+    } else {
+        None
+    }
+}
+
+/// What a command word means: the words are lower case.
+///
+/// Source: memcached's protocol.txt, "Commands"; the meta commands aren't among them.
+pub fn verb(word: &[u8]) -> Option<Verb>
+    ensures { result ≡ verb_of word.now }
+{
+    match word.len() {
+        3 => three(word),
+        4 => four(word),
+        5 => five(word),
+        6 => six(word),
+        7 => seven(word),
+        _ => None,
+    }
+}
