@@ -1,6 +1,8 @@
 //! The program: reads its words and its input, runs, and ends with an exit status.
 #![tactic(auto)]
 
+#[cfg(test)]
+mod examples;
 mod input;
 mod replay;
 #[cfg(test)]

@@ -1,0 +1,197 @@
+//! Scripts with known transcripts: what clients of memcached see, and what failures, losses and time do to it.
+use crate::replay::{DONE, run_replay};
+use std::alloc::{AllocError, Global};
+use std::test::Fail;
+
+/// Whether a script runs, and prints exactly these lines.
+fn prints(alloc: Global, script: &str, lines: &str) -> bool {
+    let mut out = Vec::new(alloc);
+    run_replay(alloc, false, script, &mut out) == DONE && out.as_slice() == lines.as_bytes()
+}
+
+/// A script of a pool of one server, in which client 0 sends two pieces.
+fn two_pieces(alloc: Global, first: &str, second: &str) -> Result<String, AllocError> {
+    let mut script = String::from_str(alloc, "pool 1\n> 0 ")?;
+    script.push_str(first)?;
+    script.push_str("\n> 0 ")?;
+    script.push_str(second)?;
+    Ok(script)
+}
+
+/// A script in which client 0 sends so many letters between two texts.
+fn letters(alloc: Global, head: &str, count: usize, tail: &str) -> Result<String, AllocError> {
+    let mut script = String::from_str(alloc, "pool 1\n> 0 ")?;
+    script.push_str(head)?;
+    for _ in 0..count {
+        script.push('k')?;
+    }
+    script.push_str(tail)?;
+    Ok(script)
+}
+
+#[test]
+fn first_path(rt: HostRuntime) {
+    let script =
+        "pool 1\n> 0 set a 5 0 3\\r\\nxyz\\r\\n\n> 0 get a\\r\\n\n> 0 delete a\\r\\n\n> 0 get a\\r\\n\n";
+    let lines =
+        "< 0 STORED\\r\\n\n< 0 VALUE a 5 3\\r\\nxyz\\r\\nEND\\r\\n\n< 0 DELETED\\r\\n\n< 0 END\\r\\n\ndone 4 commands 4 calls 0 stale\n";
+    assert!(rt; prints(rt.alloc(), script, lines));
+}
+
+#[test]
+fn empty_script(rt: HostRuntime) {
+    assert!(rt; prints(rt.alloc(), "pool 1\n", "done 0 commands 0 calls 0 stale\n"));
+}
+
+#[test]
+fn hash_tags_and_a_restart(rt: HostRuntime) {
+    let script =
+        "pool 2\n> 0 set a 0 0 1\\r\\n1\\r\\nset b 0 0 1\\r\\n2\\r\\nset x{a}y 0 0 1\\r\\n3\\r\\n\nrestart 0\n> 0 get a b x{a}y\\r\\n\n";
+    let lines =
+        "< 0 STORED\\r\\nSTORED\\r\\nSTORED\\r\\n\n< 0 VALUE b 0 1\\r\\n2\\r\\nEND\\r\\n\ndone 6 commands 6 calls 0 stale\n";
+    assert!(rt; prints(rt.alloc(), script, lines));
+}
+
+#[test]
+fn key_lengths(rt: HostRuntime) -> Result<(), Fail> {
+    let longest = letters(rt.alloc(), "get ", 250, "\\r\\n")?;
+    assert!(rt;
+        prints(
+            rt.alloc(),
+            longest.as_str(),
+            "< 0 END\\r\\n\ndone 1 commands 1 calls 0 stale\n"
+        )
+    );
+    let longer = letters(rt.alloc(), "get ", 251, "\\r\\n")?;
+    assert!(rt;
+        prints(
+            rt.alloc(),
+            longer.as_str(),
+            "< 0 CLIENT_ERROR bad key\\r\\n\ndone 0 commands 0 calls 0 stale\n"
+        )
+    );
+    Ok(())
+}
+
+#[test]
+fn a_set_cut_anywhere(rt: HostRuntime) -> Result<(), Fail> {
+    let cuts = [
+        ("s", "et a 5 0 3\\r\\nxyz\\r\\n"),
+        ("se", "t a 5 0 3\\r\\nxyz\\r\\n"),
+        ("set", " a 5 0 3\\r\\nxyz\\r\\n"),
+        ("set ", "a 5 0 3\\r\\nxyz\\r\\n"),
+        ("set a", " 5 0 3\\r\\nxyz\\r\\n"),
+        ("set a ", "5 0 3\\r\\nxyz\\r\\n"),
+        ("set a 5", " 0 3\\r\\nxyz\\r\\n"),
+        ("set a 5 ", "0 3\\r\\nxyz\\r\\n"),
+        ("set a 5 0", " 3\\r\\nxyz\\r\\n"),
+        ("set a 5 0 ", "3\\r\\nxyz\\r\\n"),
+        ("set a 5 0 3", "\\r\\nxyz\\r\\n"),
+        ("set a 5 0 3\\r", "\\nxyz\\r\\n"),
+        ("set a 5 0 3\\r\\n", "xyz\\r\\n"),
+        ("set a 5 0 3\\r\\nx", "yz\\r\\n"),
+        ("set a 5 0 3\\r\\nxy", "z\\r\\n"),
+        ("set a 5 0 3\\r\\nxyz", "\\r\\n"),
+        ("set a 5 0 3\\r\\nxyz\\r", "\\n"),
+    ];
+    for (first, second) in cuts {
+        let script = two_pieces(rt.alloc(), first, second)?;
+        assert!(rt;
+            prints(
+                rt.alloc(),
+                script.as_str(),
+                "< 0 STORED\\r\\n\ndone 1 commands 1 calls 0 stale\n"
+            )
+        );
+    }
+    assert!(rt;
+        prints(
+            rt.alloc(),
+            "pool 1\n> 0 set a 0 0 3\\r\\nxy",
+            "done 0 commands 0 calls 0 stale\n"
+        )
+    );
+    Ok(())
+}
+
+#[test]
+fn largest_data(rt: HostRuntime) -> Result<(), Fail> {
+    let largest = letters(rt.alloc(), "set a 0 0 1048576\\r\\n", 1_048_576, "\\r\\n")?;
+    assert!(rt;
+        prints(
+            rt.alloc(),
+            largest.as_str(),
+            "< 0 STORED\\r\\n\ndone 1 commands 1 calls 0 stale\n"
+        )
+    );
+    let larger = letters(
+        rt.alloc(),
+        "set a 0 0 1048577\\r\\n",
+        1_048_577,
+        "\\r\\nget a\\r\\n",
+    )?;
+    assert!(rt;
+        prints(
+            rt.alloc(),
+            larger.as_str(),
+            "< 0 SERVER_ERROR object too large for cache\\r\\nEND\\r\\n\ndone 1 commands 1 calls 0 stale\n"
+        )
+    );
+    Ok(())
+}
+
+#[test]
+fn bad_data_chunk(rt: HostRuntime) {
+    let script = "pool 1\n> 0 set a 0 0 1\\r\\nxyz\\r\\nget a\\r\\n\n";
+    let lines = "< 0 CLIENT_ERROR bad data chunk\\r\\nEND\\r\\n\ndone 1 commands 1 calls 0 stale\n";
+    assert!(rt; prints(rt.alloc(), script, lines));
+}
+
+#[test]
+fn failed_but_applied(rt: HostRuntime) {
+    let script = "pool 1\nfail 1 after\n> 0 set a 0 0 1\\r\\n1\\r\\n\n> 0 get a\\r\\n\n";
+    let lines =
+        "< 0 SERVER_ERROR call failed\\r\\n\n< 0 VALUE a 0 1\\r\\n1\\r\\nEND\\r\\n\ndone 2 commands 2 calls 0 stale\n";
+    assert!(rt; prints(rt.alloc(), script, lines));
+}
+
+#[test]
+fn failed_before_it_was_applied(rt: HostRuntime) {
+    let script = "pool 1\nfail 1 before\n> 0 get a b\\r\\n\n";
+    let lines = "< 0 SERVER_ERROR call failed\\r\\n\ndone 1 commands 1 calls 0 stale\n";
+    assert!(rt; prints(rt.alloc(), script, lines));
+}
+
+#[test]
+fn arithmetic_and_a_restart(rt: HostRuntime) {
+    let script =
+        "pool 1\n> 0 set n 0 0 20\\r\\n18446744073709551615\\r\\n\n> 0 incr n 1\\r\\n\n> 0 append n 0 0 1\\r\\n5\\r\\n\n> 0 get n\\r\\n\nrestart 0\n> 0 incr n 1\\r\\n\n";
+    let lines =
+        "< 0 STORED\\r\\n\n< 0 0\\r\\n\n< 0 STORED\\r\\n\n< 0 VALUE n 0 2\\r\\n05\\r\\nEND\\r\\n\n< 0 NOT_FOUND\\r\\n\ndone 5 commands 5 calls 0 stale\n";
+    assert!(rt; prints(rt.alloc(), script, lines));
+}
+
+#[test]
+fn unknown_words_and_noreply(rt: HostRuntime) {
+    let script =
+        "pool 1\n> 0 \\r\\nfoo\\r\\nget\\r\\ndelete a 0\\r\\n\n> 0 set a 0 0 1 noreply\\r\\n1\\r\\ngets a\\r\\n\n";
+    let lines =
+        "< 0 ERROR\\r\\nERROR\\r\\nERROR\\r\\nNOT_FOUND\\r\\n\n< 0 VALUE a 0 1 1\\r\\n1\\r\\nEND\\r\\n\ndone 3 commands 3 calls 0 stale\n";
+    assert!(rt; prints(rt.alloc(), script, lines));
+}
+
+#[test]
+fn expiry_by_the_moment(rt: HostRuntime) {
+    let script =
+        "pool 1\n> 0 set a 0 10 1\\r\\n1\\r\\n\nmoment 9\n> 0 get a\\r\\n\nmoment 10\n> 0 get a\\r\\n\n";
+    let lines =
+        "< 0 STORED\\r\\n\n< 0 VALUE a 0 1\\r\\n1\\r\\nEND\\r\\n\n< 0 END\\r\\n\ndone 3 commands 3 calls 0 stale\n";
+    assert!(rt; prints(rt.alloc(), script, lines));
+}
+
+#[test]
+fn two_clients_interleaved(rt: HostRuntime) {
+    let script = "pool 1\n> 0 set a 0 0 1\\r\\n\n> 1 get a\\r\\n\n> 0 1\\r\\n\n";
+    let lines = "< 1 END\\r\\n\n< 0 STORED\\r\\n\ndone 2 commands 2 calls 0 stale\n";
+    assert!(rt; prints(rt.alloc(), script, lines));
+}
