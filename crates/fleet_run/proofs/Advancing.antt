@@ -1,38 +1,34 @@
 -- What is done for one client is more of every log.
-use Rattle.std.proofs.Common.{◌≡◌, ℕ, zero, suc, ◌+◌, ◌-◌, ◌<◌, ◌≤◌, Bool, true, false, cond, List, [], ◌∷◌, ◌++◌, length, drop, Option, Some, None, refl, sym, ap, ◌∙◌, subst, arith, nat_eq, slice_get, ◌||◌, inl, inr}
+use Rattle.std.proofs.Common.{◌≡◌, ℕ, ◌+◌, ◌<◌, ◌≤◌, Bool, true, false, cond, List, [], ◌∷◌, ◌++◌, length, drop, Option, Some, refl, sym, ap, ◌∙◌, subst, arith, nat_eq, slice_get, ◌||◌, inl, inr}
 use Rattle.std.proofs.lemmas.Bool.{eq-eqb, cases_eq}
-use Rattle.key_hash.specs.Tag.{slot_of}
 use Rattle.mc_types.specs.declared.ask.Ask.{Ask}
 use Rattle.mc_types.specs.declared.answer.Answer.{Answer}
-use Rattle.mc_types.specs.declared.call.Origin.TheVariants.{Client}
 use Rattle.mc_types.specs.Asks.{IsAsk}
-use Rattle.mc_runs.specs.Run.{Words, Call}
-use Rattle.mc_runs.specs.Single.{server_words, server_call, reply_of, from_of}
-use Rattle.mc_runs.specs.Protocol.{IsStuck}
-use Rattle.mc_runs.specs.Log.{Part, Point, after_reply, IsNext}
-use Rattle.mc_runs.specs.Standing.{Standing, Works, Moves, Rests, IsPassed, IsReplied, CallsEach}
+use Rattle.mc_runs.specs.Run.{Call}
+use Rattle.mc_runs.specs.Single.{server_call, from_of}
+use Rattle.mc_runs.specs.Log.{Part, Point, after_reply}
+use Rattle.mc_runs.specs.Standing.{Standing, Works, Moves}
 use Rattle.mc_runs.proofs.LogWorks.{works_nothing, works_on, works_passed, works_each}
-use Rattle.text_requests.specs.declared.command.Own.{Own}
 use Rattle.text_requests.specs.declared.command.Own.TheVariants.{Version, Quit}
-use Rattle.text_requests.specs.declared.command.Why.{Why}
-use Rattle.text_requests.specs.declared.command.Skip.{Skip}
-use Rattle.text_requests.specs.declared.command.Skip.TheVariants.{Nothing, Bytes, ThroughNewline}
+use Rattle.text_requests.specs.declared.command.Skip.TheVariants.{Nothing}
 use Rattle.text_requests.specs.declared.command.Request.{Request}
 use Rattle.text_requests.specs.Order.{Order, Retrieval, Storage, Swapping, Deletion, Touching, Counting, OfItself}
-use Rattle.text_requests.specs.Message.{Message, Served, Refusal, Begins, IsReadFrom, message_in}
+use Rattle.text_requests.specs.Message.{Message, IsReadFrom, message_in}
 use Rattle.text_requests.specs.declared.request.Asks.{Asks}
-use Rattle.text_requests.specs.Asks.{asks_of, asks_by, quiet_of, own_of, own_by, IsWalk, counted}
+use Rattle.text_requests.specs.Asks.{asks_of, asks_by, quiet_of, own_by, IsWalk, counted}
 use Rattle.text_requests.proofs.StreamLemmas.{used_within}
 use Rattle.text_codec.specs.Held.{held_at}
-use Rattle.text_requests.specs.Stream.{Place, Stands, Closed, skipped, behind, behind_order}
-use Rattle.text_codec.specs.Replies.{shown_text, is_last, is_failure, ends_with, refusal_text, long_line_text}
-use Rattle.text_codec.specs.Classic.{Said, Whole, LongLine, ReadsNext, classic, own_passed, shown_by}
+use Rattle.text_requests.specs.Stream.{Place, Stands, behind, behind_order}
+use Rattle.text_codec.specs.Replies.{shown_text, is_last, is_failure, ends_with}
+use Rattle.text_codec.specs.Classic.{Said, Whole, ReadsNext, classic, shown_by}
 use Rattle.connections.specs.declared.connection.Connection.{Connection}
 use Rattle.connections.specs.Steps.{output_of, behind_own, GoesTo}
 use Rattle.memory_fleet.specs.declared.fleet.MemoryFleet.{MemoryFleet}
-use Rattle.memory_fleet.specs.Fleets.{holds_of, turn_of, named_of, count_of, FleetCalls}
-use Rattle.fleet_run.specs.declared.pool.Pool.{Pool}
-use Rattle.fleet_run.specs.Serving.{pool_words, point_at, placed, place_behind, Advances, Asked, next_index, IsOnWay, IsAskAt, Shows, ServesAsk}
+use Rattle.memory_fleet.specs.Fleets.{holds_of}
+use Rattle.route_tree.specs.Route.{Route}
+use Rattle.route_tree.specs.Direct.{is_direct, server_at, words_of, DirectIsOneServer}
+use Rattle.fleet_run.specs.declared.router.Router.{Router}
+use Rattle.fleet_run.specs.Serving.{tree_of, point_at, placed, place_behind, Advances, Asked, next_index, IsOnWay, IsAskAt, Shows, ServesAsk}
 
 same : {A : Type 0} (c : ℕ) (x y : A) → cond (nat_eq c c) x y ≡ x
 same c x y = ap (λ b. cond b x y) (eq-eqb c c refl)
@@ -42,8 +38,8 @@ twice true x y z = refl
 twice false x y z = refl
 
 -- the client's part of what is moved
-pub placed_moves : (base : Standing classic) (c i j : ℕ) (old new : Connection) (pool pool' : Pool) (fleet fleet' : MemoryFleet) (place : Place) (more : List ℕ) → GoesTo old place more new → Moves (placed base c old i pool fleet) c (record { place = place; index = j }) more (placed base c new j pool' fleet')
-placed_moves base c i j old new pool pool' fleet fleet' place more g =
+pub placed_moves : (base : Standing classic) (c i j : ℕ) (old new : Connection) (router router' : Router) (fleet fleet' : MemoryFleet) (place : Place) (more : List ℕ) → GoesTo old place more new → Moves (placed base c old i router fleet) c (record { place = place; index = j }) more (placed base c new j router' fleet')
+placed_moves base c i j old new router router' fleet fleet' place more g =
     let there : point_at new j ≡ record { place = place; index = j } = ap (λ (p : Place). let q : Point classic = record { place = p; index = j } in q) g.place_is in
     record {
       point_is = λ d. ap (λ (p : Point classic). cond (nat_eq c d) p (base.point d)) there ∙ twice (nat_eq c d) _ (point_at old i) (base.point d);
@@ -55,28 +51,28 @@ placed_moves base c i j old new pool pool' fleet fleet' place more g =
     more_at false o = refl
 
 -- a message that asks no server
-pub passes : (old new : Connection) (pool : Pool) (fleet : MemoryFleet) (said : Said) (next : Place) → ReadsNext old.stream said next → classic.asks_of said ≡ [] → GoesTo old next (classic.passed said) new → Advances old 0 pool fleet new 0 pool fleet
-passes old new pool fleet said next reads none g =
+pub passes : (old new : Connection) (router : Router) (fleet : MemoryFleet) (said : Said) (next : Place) → ReadsNext old.stream said next → classic.asks_of said ≡ [] → GoesTo old next (classic.passed said) new → Advances old 0 router fleet new 0 router fleet
+passes old new router fleet said next reads none g =
     record {
-      works = λ base c. works_passed classic (pool_words pool.servers) (placed base c old 0 pool fleet) (placed base c new 0 pool fleet) c said next
+      works = λ base c. works_passed classic (words_of (tree_of router)) (placed base c old 0 router fleet) (placed base c new 0 router fleet) c said next
           (record {
             reads = subst (λ (p : Point classic). ReadsNext p.place said next) (sym (same c (point_at old 0) (base.point c))) reads;
             asks = none;
-            moves = placed_moves base c 0 0 old new pool pool fleet fleet next _ g;
+            moves = placed_moves base c 0 0 old new router router fleet fleet next _ g;
             rests = record { number = refl; holds = λ s k. refl; turn = refl; named = λ t. refl };
           });
-      servers = refl;
+      tree = refl;
       count = refl;
     }
 
-pub advances_nothing : (x : Connection) (i : ℕ) (pool : Pool) (fleet : MemoryFleet) → Advances x i pool fleet x i pool fleet
-advances_nothing x i pool fleet = record { works = λ base c. works_nothing classic (pool_words pool.servers) (placed base c x i pool fleet) c; servers = refl; count = refl }
+pub advances_nothing : (x : Connection) (i : ℕ) (router : Router) (fleet : MemoryFleet) → Advances x i router fleet x i router fleet
+advances_nothing x i router fleet = record { works = λ base c. works_nothing classic (words_of (tree_of router)) (placed base c x i router fleet) c; tree = refl; count = refl }
 
-pub advances_on : (x y z : Connection) (i j k : ℕ) (p q r : Pool) (f g h : MemoryFleet) → Advances x i p f y j q g → Advances y j q g z k r h → Advances x i p f z k r h
+pub advances_on : (x y z : Connection) (i j k : ℕ) (p q r : Router) (f g h : MemoryFleet) → Advances x i p f y j q g → Advances y j q g z k r h → Advances x i p f z k r h
 advances_on x y z i j k p q r f g h a b =
     record {
-      works = λ base c. works_on classic (pool_words p.servers) (placed base c x i p f) (placed base c y j q g) (placed base c z k r h) c (a.works base c) (subst (λ (n : ℕ). Works (pool_words n) (placed base c y j q g) c (placed base c z k r h)) a.servers (b.works base c));
-      servers = b.servers ∙ a.servers;
+      works = λ base c. works_on classic (words_of (tree_of p)) (placed base c x i p f) (placed base c y j q g) (placed base c z k r h) c (a.works base c) (subst (λ (n : Route). Works (words_of n) (placed base c y j q g) c (placed base c z k r h)) a.tree (b.works base c));
+      tree = b.tree ∙ a.tree;
       count = b.count ∙ a.count;
     }
 
@@ -111,23 +107,23 @@ point_behind false done old i point next rest e at is =
     (ap (λ (p : Place). let q : Point classic = record { place = p; index = i + 1 } in q) (sym at))
 
 -- one key of a request: one call, and what its reply shows
-pub replied : (old new : Connection) (pool pool' : Pool) (fleet fleet' : MemoryFleet) (held : List ℕ) (request : Request) (i : ℕ) (ask : Ask) (reply : Answer) (ended : Bool)
-    → old.stream ≡ Stands Nothing held → IsReadFrom held request → slice_get (asks_of (message_in held request)) i ≡ Some ask → IsAsk ask → Asked pool fleet ask reply pool' fleet'
+pub replied : DirectIsOneServer → (old new : Connection) (router router' : Router) (fleet fleet' : MemoryFleet) (held : List ℕ) (request : Request) (i : ℕ) (ask : Ask) (reply : Answer) (ended : Bool)
+    → old.stream ≡ Stands Nothing held → IsReadFrom held request → slice_get (asks_of (message_in held request)) i ≡ Some ask → IsAsk ask → is_direct (tree_of router) ≡ true → Asked router fleet ask reply router' fleet'
     → ended ≡ ends_with (asks_of (message_in held request)) i reply
     → GoesTo old (place_behind ended old (drop request.used held)) (shown_text (quiet_of (message_in held request)) (is_last (asks_of (message_in held request)) i) ask reply) new
-    → Advances old i pool fleet new (next_index ended i) pool' fleet'
-replied old new pool pool' fleet fleet' held request i ask reply ended place read at is asked done g =
+    → Advances old i router fleet new (next_index ended i) router' fleet'
+replied law old new router router' fleet fleet' held request i ask reply ended place read at is direct asked done g =
     let m : Message = message_in held request in
     let rest : List ℕ = drop request.used held in
     let next : Place = behind m rest in
     let behind_is : next ≡ Stands Nothing rest = served_behind _ _ rest i ask at in
     let part : Part classic = record { message = Whole m; next = next; index = i; ask = ask } in
-    let words = pool_words pool.servers in
-    let call : Call = server_call (slot_of pool.servers) ask asked.made.outcome in
+    let words = words_of (tree_of router) in
+    let call : Call = server_call (server_at (tree_of router)) ask asked.made.outcome in
     record {
       works = λ base c.
-          let before : Standing classic = placed base c old i pool fleet in
-          let after : Standing classic = placed base c new (next_index ended i) pool' fleet' in
+          let before : Standing classic = placed base c old i router fleet in
+          let after : Standing classic = placed base c new (next_index ended i) router' fleet' in
           let at_front : before.point c ≡ point_at old i = same c (point_at old i) (base.point c) in
           let reads : ReadsNext old.stream (Whole m) next = subst (λ (p : Place). ReadsNext p (Whole m) next) (sym place) (request.used, read.begins, refl) in
           let shown : shown_text (quiet_of m) (is_last (asks_of m) i) ask reply ≡ classic.shown (Whole m) i reply = ap (λ (o : Option Ask). shown_by (quiet_of m) (asks_of m) i o reply) (sym at) in
@@ -136,8 +132,8 @@ replied old new pool pool' fleet fleet' held request i ask reply ended place rea
           let moves : Moves before c (after_reply (before.point c) part reply) (classic.shown (Whole m) i reply) after =
           subst (λ (p : Point classic). Moves before c p (classic.shown (Whole m) i reply) after) point
           (subst (λ (l : List ℕ). Moves before c (record { place = place_behind ended old rest; index = next_index ended i }) l after) shown
-          (placed_moves base c i (next_index ended i) old new pool pool' fleet fleet' _ _ g)) in
-          works_each classic words before after c (pool.number + 1) part (call ∷ []) reply (from_of asked.made.outcome)
+          (placed_moves base c i (next_index ended i) old new router router' fleet fleet' _ _ g)) in
+          works_each classic words before after c (router.number + 1) part (call ∷ []) reply (from_of asked.made.outcome)
           (record {
             next = record {
               reads = subst (λ (p : Point classic). ReadsNext p.place (Whole m) next) (sym at_front) reads;
@@ -150,29 +146,29 @@ replied old new pool pool' fleet fleet' held request i ask reply ended place rea
             named = asked.call.named_is;
           })
           (record {
-            word = (is, asked.made.outcome, asked.call.fits, refl, asked.reply_is, refl);
+            word = ((law (tree_of router) direct).1 (router.number + 1) ask (call ∷ []) reply (from_of asked.made.outcome)).1 (is, asked.made.outcome, asked.call.fits, refl, asked.reply_is, refl);
             on_key = (refl, tt);
             state = record { holds = holds_of fleet'; found = asked.call.before ∷ [] };
             made = (record { holds = holds_of fleet'; found = asked.call.before ∷ [] }, asked.call.call, asked.call.as_named, refl);
             holds = λ s k. refl;
             turn = asked.call.turn_is;
           });
-      servers = asked.servers;
+      tree = asked.tree;
       count = asked.call.count_is;
     }
 
 -- the same, as the code serves an ask
-pub serves_ask : (old new : Connection) (pool pool' : Pool) (fleet fleet' : MemoryFleet) (request : Request) (i : ℕ) (ask : Ask) (reply : Answer) (quiet last ended : Bool)
-    → (front : IsAskAt old request i ask) → IsAsk ask → Asked pool fleet ask reply pool' fleet'
+pub serves_ask : DirectIsOneServer → (old new : Connection) (router router' : Router) (fleet fleet' : MemoryFleet) (request : Request) (i : ℕ) (ask : Ask) (reply : Answer) (quiet last ended : Bool)
+    → (front : IsAskAt old request i ask) → IsAsk ask → is_direct (tree_of router) ≡ true → Asked router fleet ask reply router' fleet'
     → quiet ≡ quiet_of (message_in front.held request) → last ≡ is_last (asks_of (message_in front.held request)) i
-    → Shows old request.used quiet last ask reply ended new → ServesAsk old request i pool fleet ended new pool' fleet'
-serves_ask old new pool pool' fleet fleet' request i ask reply quiet last ended front is asked quiet_is last_is shows =
+    → Shows old request.used quiet last ask reply ended new → ServesAsk old request i router fleet ended new router' fleet'
+serves_ask law old new router router' fleet fleet' request i ask reply quiet last ended front is direct asked quiet_is last_is shows =
     let asks : List Ask = asks_of (message_in front.held request) in
     let goes : GoesTo old (place_behind ended old (drop request.used front.held)) (shown_text (quiet_of (message_in front.held request)) (is_last asks i) ask reply) new =
     subst (λ (q : Bool). GoesTo old (place_behind ended old (drop request.used front.held)) (shown_text q (is_last asks i) ask reply) new) quiet_is
     (subst (λ (l : Bool). GoesTo old (place_behind ended old (drop request.used front.held)) (shown_text quiet l ask reply) new) last_is (shows.goes front.held front.place)) in
     record {
-      advances = replied old new pool pool' fleet fleet' front.held request i ask reply ended front.place front.read front.at is asked (shows.ended_is ∙ ap (λ (l : Bool). is_failure reply || l) last_is) goes;
+      advances = replied law old new router router' fleet fleet' front.held request i ask reply ended front.place front.read front.at is direct asked (shows.ended_is ∙ ap (λ (l : Bool). is_failure reply || l) last_is) goes;
       place = λ held at. (shows.goes held at).place_is;
       more = λ not_ended held at read.
           let same_held : front.held ≡ held = held_is front.held held (sym front.place ∙ at) in
@@ -205,9 +201,9 @@ ask_at x request asks i bytes next ask way bytes_are is value =
     record { held = way.held; place = way.place; read = way.read; at = at; there = way.there }
 
 -- and where the message isn't done, the walk has come to the next one
-pub way_on : (x y : Connection) (request : Request) (asks asks' : Asks) (i : ℕ) (bytes : List ℕ) (next : Option Ask) (ask : Ask) (pool pool' : Pool) (fleet fleet' : MemoryFleet) (ended : Bool) → IsOnWay x request asks i → bytes ≡ held_at x.stream → next ≡ Some ask
-    → asks'.request ≡ asks.request → asks'.taken ≡ counted next asks.taken → IsWalk bytes asks' → ServesAsk x request i pool fleet ended y pool' fleet' → ended ≡ false → IsOnWay y request asks' (i + 1)
-way_on x y request asks asks' i bytes next ask pool pool' fleet fleet' ended way bytes_are is request_is taken walk served e =
+pub way_on : (x y : Connection) (request : Request) (asks asks' : Asks) (i : ℕ) (bytes : List ℕ) (next : Option Ask) (ask : Ask) (router router' : Router) (fleet fleet' : MemoryFleet) (ended : Bool) → IsOnWay x request asks i → bytes ≡ held_at x.stream → next ≡ Some ask
+    → asks'.request ≡ asks.request → asks'.taken ≡ counted next asks.taken → IsWalk bytes asks' → ServesAsk x request i router fleet ended y router' fleet' → ended ≡ false → IsOnWay y request asks' (i + 1)
+way_on x y request asks asks' i bytes next ask router router' fleet fleet' ended way bytes_are is request_is taken walk served e =
     let held_is : bytes ≡ way.held = bytes_are ∙ ap held_at way.place in
     let stays : y.stream ≡ x.stream = subst (λ (b : Bool). y.stream ≡ place_behind b x (drop request.used way.held)) e (served.place way.held way.place) in
     record {

@@ -1,148 +1,107 @@
 -- Which events of a script are bad, one after another.
-use Rattle.std.proofs.Common.{◌≡◌, ℕ, zero, suc, ◌+◌, ◌<◌, ◌≤◌, Bool, true, false, ◌||◌, List, [], ◌∷◌, length, take, get_or, Option, Some, None, refl, sym, ap, ◌∙◌, subst, arith, inl, inr, slice_get, ◌++◌, map, append_assoc, append-nil, length-append}
-use Rattle.std.specs.Prelude.{sum_by, nat_lt, Vec, MatchOption, IfSome}
-use Rattle.std.proofs.lemmas.List.{take_at}
-use Rattle.memory_fleet.specs.declared.event.Loss.TheVariants as losses
+use Rattle.std.proofs.Common.{◌≡◌, ℕ, zero, suc, ◌+◌, ◌<◌, ◌≤◌, Bool, true, false, ◌||◌, List, [], ◌∷◌, ◌++◌, length, take, drop, get_or, Option, Some, None, refl, sym, ap, ◌∙◌, subst, arith, map}
+use Rattle.std.specs.Prelude.{sum_by, nat_lt, nat_le, Vec}
 use Rattle.std.proofs.Common.{Global}
-use Rattle.std.proofs.lemmas.Bool.{cases_lt, cases_eq, lt-ltb}
-use Rattle.std.proofs.lemmas.List.Sums.{sum_by-cons}
+use Rattle.std.proofs.Math.Seq.{drop-cons, drop-length}
+use Rattle.std.proofs.lemmas.Bool.{ltb-false, leb-false}
+use Rattle.std.proofs.lemmas.List.Sums.{sum_by-append, sum_by-cons}
+use Rattle.std.proofs.lemmas.List.Folds.{list_any-append}
+use Rattle.mc_types.specs.Asks.{data_limit}
 use Rattle.fleet_run.specs.declared.script.Event.{Event}
-use Rattle.fleet_run.specs.declared.script.Event.TheVariants.{Piece, Hold, Fail, Now, Moment}
-use Rattle.fleet_run.specs.Events.{piece_len, piece_limit, is_bad, AreGoodUpTo, AreGood, IsFirstBad}
-use Rattle.fleet_run.specs.Scripted.{scripted_of}
-use Rattle.fleet_run.specs.Bad.{len_of, bad_in, first_from, first_bad}
+use Rattle.fleet_run.specs.declared.script.Event.TheVariants.{Piece}
+use Rattle.fleet_run.specs.Scripted.{Scripted, scripted_of}
+use Rattle.fleet_run.specs.Scripted as scripted
+use Rattle.fleet_run.specs.Bad.{piece_limit, len_of, begins_run, has_begun, bad_in, first_from}
 
--- the bytes of one event more
-sum_suc : (xs : List Event) (i : ℕ) (x : Event) → i < length xs → x ≡ get_or xs i x → sum_by piece_len (take (suc i) xs) ≡ sum_by piece_len (take i xs) + piece_len x
-sum_suc [] i x lt is = absurd (omega arith)
-sum_suc (y ∷ xs) zero x lt is = let e : piece_len x ≡ piece_len y = ap piece_len is in omega (arith, e)
-sum_suc (y ∷ xs) (suc i) x lt is =
-    let e = sum_suc xs i x (omega arith) is in
-    let a : sum_by piece_len (take (suc (suc i)) (y ∷ xs)) ≡ piece_len y + sum_by piece_len (take (suc i) xs) = sum_by-cons piece_len y (take (suc i) xs) in
-    let b : sum_by piece_len (take (suc i) (y ∷ xs)) ≡ piece_len y + sum_by piece_len (take i xs) = sum_by-cons piece_len y (take i xs) in
-    omega (arith, a, b, e)
+-- the events so far, and one more
+map_suc : (xs : List Event) (i : ℕ) (x : Event) → i < length xs → x ≡ get_or xs i x → map scripted_of (take (suc i) xs) ≡ map scripted_of (take i xs) ++ scripted_of x ∷ []
+map_suc [] i x lt is = absurd (omega arith)
+map_suc (y ∷ xs) zero x lt is = ap (λ (e : Event). scripted_of e ∷ []) (sym is)
+map_suc (y ∷ xs) (suc i) x lt is = ap (λ l. scripted_of y ∷ l) (map_suc xs i x (omega arith) is)
 
-pub sum_more : (xs : List Event) (i total : ℕ) (x : Event) → i < length xs → x ≡ get_or xs i x → total ≡ sum_by piece_len (take i xs) → total + piece_len x ≡ sum_by piece_len (take (i + 1) xs)
-sum_more xs i total x lt is so_far =
-    let one : i + 1 ≡ suc i = omega arith in
-    ap (λ (n : ℕ). n + piece_len x) so_far ∙ sym (sum_suc xs i x lt is) ∙ ap (λ (n : ℕ). sum_by piece_len (take n xs)) (sym one)
+pub map_more : (xs : List Event) (i : ℕ) (x : Event) → i < length xs → x ≡ get_or xs i x → map scripted_of (take (i + 1) xs) ≡ map scripted_of (take i xs) ++ scripted_of x ∷ []
+map_more xs i x lt is = let one : i + 1 ≡ suc i = omega arith in ap (λ (n : ℕ). map scripted_of (take n xs)) one ∙ map_suc xs i x lt is
 
-pub item_at : (xs : List Event) (i : ℕ) (x : Event) → i < length xs → x ≡ get_or xs i x → slice_get xs i ≡ Some x
-item_at [] i x lt is = absurd (omega arith)
-item_at (y ∷ xs) zero x lt is = ap Some (sym is)
-item_at (y ∷ xs) (suc i) x lt is = item_at xs i x (omega arith) is
+-- how many bytes came, and whether the run has begun, with one event more
+pub sum_more : (xs : List Event) (i total more : ℕ) (x : Event) → i < length xs → x ≡ get_or xs i x → total ≡ sum_by len_of (map scripted_of (take i xs)) → more ≡ len_of (scripted_of x) → total + more ≡ sum_by len_of (map scripted_of (take (i + 1) xs))
+sum_more xs i total more x lt is so_far by =
+    let e : sum_by len_of (map scripted_of (take (i + 1) xs)) ≡ sum_by len_of (map scripted_of (take i xs)) + sum_by len_of (scripted_of x ∷ []) =
+    ap (sum_by len_of) (map_more xs i x lt is) ∙ sum_by-append len_of (map scripted_of (take i xs)) (scripted_of x ∷ []) in
+    omega (arith, e, so_far, by, sum_by-cons len_of (scripted_of x) [])
+
+or_false : (b : Bool) → (b || false) ≡ b
+or_false true = refl
+or_false false = refl
+
+pub one_begun : (before : List Scripted) (event : Scripted) → has_begun (before ++ event ∷ []) ≡ (has_begun before || begins_run event)
+one_begun before event = list_any-append begins_run before (event ∷ []) ∙ ap (λ b. has_begun before || b) (or_false (begins_run event))
+
+pub begun_more : (xs : List Event) (i : ℕ) (so_far begins : Bool) (x : Event) → i < length xs → x ≡ get_or xs i x → so_far ≡ has_begun (map scripted_of (take i xs)) → begins ≡ begins_run (scripted_of x) → (so_far || begins) ≡ has_begun (map scripted_of (take (i + 1) xs))
+begun_more xs i so_far begins x lt is was by =
+    ap (λ b. b || begins) was ∙ ap (λ b. has_begun (map scripted_of (take i xs)) || b) by ∙ sym (one_begun (map scripted_of (take i xs)) (scripted_of x)) ∙ sym (ap has_begun (map_more xs i x lt is))
 
 right_false : (a b : Bool) → (a || b) ≡ false → b ≡ false
 right_false true b e = absurd (cc)
 right_false false b e = e
 
-within : (n m : ℕ) (a : Bool) → (a || nat_lt n m) ≡ false → m ≤ n
-within n m a e = elim (cases_lt n m) [ inl lt ↦ absurd (let t : true ≡ false = sym (lt-ltb n m lt) ∙ right_false a _ e in cc) | inr ge ↦ ge ]
-
--- an event that isn't bad keeps the pieces within their limit
-pub good_fits : (servers : ℕ) (before : List Event) (event : Event) → is_bad servers before event ≡ false → sum_by piece_len before ≤ piece_limit → sum_by piece_len before + piece_len event ≤ piece_limit
-good_fits servers before (Piece client bytes) good so_far = within piece_limit (sum_by piece_len before + length bytes.items) _ good
-good_fits servers before (Hold server key bytes) good so_far = omega arith
-good_fits servers before (Fail turn manner) good so_far = omega arith
-good_fits servers before (Now loss) good so_far = omega arith
-good_fits servers before (Moment moment) good so_far = omega arith
-
--- one more event that isn't bad
-pub good_more : (servers : ℕ) (xs : List Event) (i : ℕ) (x : Event) → i < length xs → x ≡ get_or xs i x → AreGoodUpTo servers xs i → is_bad servers (take i xs) x ≡ false → AreGoodUpTo servers xs (i + 1)
-good_more servers xs i x lt is so_far good j event below at =
-    elim (cases_eq j i) [
-      | inl here ↦
-          let same : Some x ≡ Some event = sym (item_at xs i x lt is) ∙ ap (slice_get xs) (sym here) ∙ at in
-          let e : x ≡ event = cc in
-          subst (λ (k : ℕ). is_bad servers (take k xs) event ≡ false) (sym here) (subst (λ (y : Event). is_bad servers (take i xs) y ≡ false) e good)
-      | inr other ↦ so_far j event (omega (arith, below, other)) at
-    ]
-
-left_false : (a b : Bool) → (a || b) ≡ false → a ≡ false
+pub left_false : (a b : Bool) → (a || b) ≡ false → a ≡ false
 left_false true b e = absurd (cc)
 left_false false b e = refl
 
+-- an event that isn't bad keeps the pieces within their limit
+pub good_fits : (servers : ℕ) (before : List Scripted) (event : Scripted) → bad_in servers before event ≡ false → sum_by len_of before ≤ piece_limit → sum_by len_of before + len_of event ≤ piece_limit
+good_fits servers before (scripted.Piece client bytes) good so_far = ltb-false piece_limit (sum_by len_of before + length bytes) (right_false _ _ good)
+good_fits servers before (scripted.Hold server key bytes) good so_far = omega arith
+good_fits servers before (scripted.Fail turn manner) good so_far = omega arith
+good_fits servers before (scripted.At turn loss) good so_far = omega arith
+good_fits servers before (scripted.Now loss) good so_far = omega arith
+good_fits servers before (scripted.Moment moment) good so_far = omega arith
+
 -- a piece that isn't bad is of one of 64 clients
-pub is_client : (servers : ℕ) (before : List Event) (event : Event) (client : ℕ) (bytes : Vec ℕ Global) → is_bad servers before event ≡ false → event ≡ Piece client bytes → client < 64
+pub is_client : (servers : ℕ) (before : List Scripted) (event : Event) (client : ℕ) (bytes : Vec ℕ Global) → bad_in servers before (scripted_of event) ≡ false → event ≡ Piece client bytes → client < 64
 is_client servers before event client bytes good is =
-    let e : is_bad servers before (Piece client bytes) ≡ false = subst (λ (x : Event). is_bad servers before x ≡ false) is good in
-    elim (cases_lt 63 client) [ inl lt ↦ absurd (let t : true ≡ false = sym (lt-ltb 63 client lt) ∙ left_false _ _ e in cc) | inr ge ↦ omega (arith, ge) ]
+    let e : bad_in servers before (scripted_of (Piece client bytes)) ≡ false = subst (λ (x : Event). bad_in servers before (scripted_of x) ≡ false) is good in
+    let h = ltb-false 63 client (left_false _ _ e) in
+    omega (arith, h)
 
--- The same, as one who reads the script says it.
-sum_same : (xs : List Event) → sum_by len_of (map scripted_of xs) ≡ sum_by piece_len xs
-sum_same [] = refl
-sum_same (x ∷ xs) = sum_by-cons len_of (scripted_of x) (map scripted_of xs) ∙ omega (arith, len_same x, sum_same xs) ∙ sym (sum_by-cons piece_len x xs)
+-- what isn't bad is put on a server that is there, in time, and isn't too long
+pub is_held : (servers : ℕ) (before : List Scripted) (server : ℕ) (key content : List ℕ) → bad_in servers before (scripted.Hold server key content) ≡ false → (server < servers) × (length content ≤ data_limit) × (has_begun before ≡ false)
+is_held servers before server key content good =
+    let front = left_false (nat_le servers server || nat_lt data_limit (length content)) (has_begun before) good in
+    (leb-false servers server (left_false (nat_le servers server) (nat_lt data_limit (length content)) front), ltb-false data_limit (length content) (right_false (nat_le servers server) (nat_lt data_limit (length content)) front), right_false (nat_le servers server || nat_lt data_limit (length content)) (has_begun before) good)
+
+-- the first bad event, from the i-th on
+abbrev pub bad_from : ℕ → List Event → ℕ → Option ℕ
+bad_from servers xs i = first_from servers (map scripted_of (take i xs)) (map scripted_of (drop i xs))
+
+take_len : (xs : List Event) (i : ℕ) → i ≤ length xs → length (map scripted_of (take i xs)) ≡ i
+take_len xs zero le = refl
+take_len [] (suc i) le = absurd (omega arith)
+take_len (x ∷ xs) (suc i) le = ap suc (take_len xs i (omega arith))
+
+one_more : (servers : ℕ) (xs : List Event) (i : ℕ) (x : Event) → i < length xs → x ≡ get_or xs i x → map scripted_of (drop i xs) ≡ scripted_of x ∷ map scripted_of (drop (i + 1) xs)
+one_more servers xs i x lt is =
+    let one : suc i ≡ i + 1 = omega arith in
+    ap (map scripted_of) (drop-cons xs i x lt) ∙ ap (λ (e : Event). scripted_of e ∷ map scripted_of (drop (suc i) xs)) (sym is) ∙ ap (λ (n : ℕ). scripted_of x ∷ map scripted_of (drop n xs)) one
+
+-- where the i-th event is bad, it is the first one from there on
+pub here_bad : (servers : ℕ) (xs : List Event) (i : ℕ) (x : Event) → i < length xs → x ≡ get_or xs i x → bad_in servers (map scripted_of (take i xs)) (scripted_of x) ≡ true → bad_from servers xs i ≡ Some i
+here_bad servers xs i x lt is bad = rw (one_more servers xs i x lt is) (rw bad (ap Some (take_len xs i (omega (arith, lt)))))
+
+-- where it isn't, the search goes on behind it
+pub not_here : (servers : ℕ) (xs : List Event) (i : ℕ) (x : Event) → i < length xs → x ≡ get_or xs i x → bad_in servers (map scripted_of (take i xs)) (scripted_of x) ≡ false → bad_from servers xs i ≡ bad_from servers xs (i + 1)
+not_here servers xs i x lt is good = rw (one_more servers xs i x lt is) (rw good (ap (λ l. first_from servers l (map scripted_of (drop (i + 1) xs))) (sym (map_more xs i x lt is))))
+
+-- behind the last there is none
+pub none_left : (servers : ℕ) (xs : List Event) (i : ℕ) → i ≡ length xs → bad_from servers xs i ≡ None
+none_left servers xs i end = ap (bad_from servers xs) end ∙ ap (λ l. first_from servers (map scripted_of (take (length xs) xs)) (map scripted_of l)) (drop-length xs)
+
+-- where none is bad from the i-th on, that one isn't
+pub good_here : (servers : ℕ) (xs : List Event) (i : ℕ) (x : Event) → i < length xs → x ≡ get_or xs i x → bad_from servers xs i ≡ None → bad_in servers (map scripted_of (take i xs)) (scripted_of x) ≡ false
+good_here servers xs i x lt is none = (elim (bad_in servers (map scripted_of (take i xs)) (scripted_of x)) as (λ b. bad_in servers (map scripted_of (take i xs)) (scripted_of x) ≡ b → b ≡ false) [
+  | true ↦ λ bad. absurd (some_none i (sym (here_bad servers xs i x lt is bad) ∙ none))
+  | false ↦ λ e. refl
+]) refl
   where
-    len_same : (x : Event) → len_of (scripted_of x) ≡ piece_len x
-    len_same (Piece client bytes) = refl
-    len_same (Hold server key bytes) = refl
-    len_same (Fail turn manner) = refl
-    len_same (Now loss) = refl
-    len_same (Moment moment) = refl
-
-bad_same : (servers : ℕ) (before : List Event) (event : Event) → bad_in servers (map scripted_of before) (scripted_of event) ≡ is_bad servers before event
-bad_same servers before (Piece client bytes) = ap (λ (n : ℕ). nat_lt 63 client || nat_lt piece_limit (n + length bytes.items)) (sum_same before)
-bad_same servers before (Hold server key bytes) = refl
-bad_same servers before (Fail turn manner) = refl
-bad_same servers before (Now (losses.Item server key)) = refl
-bad_same servers before (Now (losses.Restart server)) = refl
-bad_same servers before (Moment moment) = refl
-
-behind_get : (done : List Event) (e : Event) (rest : List Event) → slice_get (done ++ e ∷ rest) (length done) ≡ Some e
-behind_get [] e rest = refl
-behind_get (d ∷ done) e rest = behind_get done e rest
-
-get_below : (xs : List Event) (i : ℕ) (e : Event) → slice_get xs i ≡ Some e → i < length xs
-get_below [] i e at = absurd (cc)
-get_below (x ∷ xs) zero e at = omega arith
-get_below (x ∷ xs) (suc i) e at = let h = get_below xs i e at in omega (arith, h)
-
-map_end : (done : List Event) (e : Event) → map scripted_of done ++ scripted_of e ∷ [] ≡ map scripted_of (done ++ e ∷ [])
-map_end [] e = refl
-map_end (d ∷ done) e = ap (λ l. scripted_of d ∷ l) (map_end done e)
-
-map_len : (xs : List Event) → length (map scripted_of xs) ≡ length xs
-map_len [] = refl
-map_len (x ∷ xs) = ap suc (map_len xs)
-
-regroup : (done : List Event) (e : Event) (rest : List Event) → (done ++ e ∷ []) ++ rest ≡ done ++ e ∷ rest
-regroup done e rest = append_assoc done (e ∷ []) rest
-
-here_good : (servers : ℕ) (done : List Event) (e : Event) (rest : List Event) (n : ℕ) → length done < n → AreGoodUpTo servers (done ++ e ∷ rest) n → bad_in servers (map scripted_of done) (scripted_of e) ≡ false
-here_good servers done e rest n lt good =
-    bad_same servers done e ∙ subst (λ (l : List Event). is_bad servers l e ≡ false) (take_at done (e ∷ rest) (length done) refl) (good (length done) e lt (behind_get done e rest))
-
--- where none is bad
-pub none_bad : (servers : ℕ) (done rest : List Event) → AreGood servers (done ++ rest) → first_from servers (map scripted_of done) (map scripted_of rest) ≡ None
-none_bad servers done [] good = refl
-none_bad servers done (e ∷ rest) good =
-    let lt : length done < length (done ++ e ∷ rest) = get_below (done ++ e ∷ rest) (length done) e (behind_get done e rest) in
-    let more : first_from servers (map scripted_of (done ++ e ∷ [])) (map scripted_of rest) ≡ None = none_bad servers (done ++ e ∷ []) rest (subst (AreGood servers) (sym (regroup done e rest)) good) in
-    rw (here_good servers done e rest (length (done ++ e ∷ rest)) lt good) (rw (map_end done e) more)
-
-some_is : (x y : Event) → Some x ≡ Some y → x ≡ y
-some_is x y e = cc
-
--- where this one is the first
-pub some_bad : (servers : ℕ) (done rest : List Event) (index : ℕ) → IsFirstBad servers (done ++ rest) index → length done ≤ index → first_from servers (map scripted_of done) (map scripted_of rest) ≡ Some index
-some_bad servers done [] index bad le = let lt = get_below (done ++ []) index bad.event bad.at in absurd (omega (arith, lt, ap length (append-nil done)))
-some_bad servers done (e ∷ rest) index bad le =
-    elim (cases_eq (length done) index) [
-      | inl here ↦
-          let same : e ≡ bad.event = some_is e bad.event (sym (behind_get done e rest) ∙ ap (slice_get (done ++ e ∷ rest)) here ∙ bad.at) in
-          let is : is_bad servers (take (length done) (done ++ e ∷ rest)) e ≡ true = subst (λ (n : ℕ). is_bad servers (take n (done ++ e ∷ rest)) e ≡ true) (sym here) (subst (λ (x : Event). is_bad servers (take index (done ++ e ∷ rest)) x ≡ true) (sym same) bad.bad) in
-          let t : bad_in servers (map scripted_of done) (scripted_of e) ≡ true = bad_same servers done e ∙ subst (λ (l : List Event). is_bad servers l e ≡ true) (take_at done (e ∷ rest) (length done) refl) is in
-          rw t (ap Some (map_len done ∙ here))
-      | inr differs ↦
-          let more : first_from servers (map scripted_of (done ++ e ∷ [])) (map scripted_of rest) ≡ Some index = some_bad servers (done ++ e ∷ []) rest index (subst (λ (l : List Event). IsFirstBad servers l index) (sym (regroup done e rest)) bad) (omega (arith, le, differs, length-append done (e ∷ []))) in
-          rw (here_good servers done e rest index (omega (arith, le, differs)) bad.before) (rw (map_end done e) more)
-    ]
-
--- what a search found is the first
-pub found_first : (servers : ℕ) (events : List Event) (found : Option ℕ) → MatchOption found (AreGood servers events) (IsFirstBad servers events) → found ≡ first_bad servers (map scripted_of events)
-found_first servers events None good = sym (none_bad servers [] events good)
-found_first servers events (Some index) bad = sym (some_bad servers [] events index bad (omega arith))
-
-pub found_within : (servers : ℕ) (events : List Event) (found : Option ℕ) → MatchOption found (AreGood servers events) (IsFirstBad servers events) → IfSome found (λ at. at < length events)
-found_within servers events None good = tt
-found_within servers events (Some index) bad = get_below events index bad.event bad.at
+    some_none : (n : ℕ) → Some n ≡ None → ⊥
+    some_none n e = cc

@@ -1,8 +1,7 @@
 -- Clients by their places.
-use Rattle.std.proofs.Common.{◌≡◌, ℕ, zero, suc, ◌+◌, ◌<◌, Bool, true, false, cond, List, [], ◌∷◌, ◌++◌, length, get_or, refl, sym, ap, ◌∙◌, subst, arith, nat_eq, append-nil}
+use Rattle.std.proofs.Common.{◌≡◌, ℕ, zero, suc, ◌<◌, Bool, true, false, cond, List, [], ◌∷◌, ◌++◌, length, get_or, refl, sym, ap, ◌∙◌, subst, arith, nat_eq, append-nil}
 use Rattle.std.proofs.Math.Dec.{eqb-suc-zero, eqb-zero-suc, eqb-suc-suc}
 use Rattle.std.proofs.Math.ListN.{set}
-use Rattle.std.proofs.Common.{length-set}
 use Rattle.std.proofs.lemmas.Bool.{eqb-true, eq-eqb}
 use Rattle.mc_runs.specs.Protocol.{IsStuck}
 use Rattle.mc_runs.specs.Log.{Point, Shown, Piece, one_shown, fed_point}
@@ -15,9 +14,9 @@ use Rattle.text_codec.specs.Classic.{classic}
 use Rattle.connections.specs.declared.connection.Connection.{Connection}
 use Rattle.connections.specs.Steps.{output_of}
 use Rattle.memory_fleet.specs.declared.fleet.MemoryFleet.{MemoryFleet}
-use Rattle.memory_fleet.specs.Fleets.{count_of}
-use Rattle.fleet_run.specs.declared.pool.Pool.{Pool}
-use Rattle.fleet_run.specs.Serving.{pool_words, point_at, placed}
+use Rattle.route_tree.specs.Direct.{words_of}
+use Rattle.fleet_run.specs.declared.router.Router.{Router}
+use Rattle.fleet_run.specs.Serving.{tree_of, point_at, placed}
 use Rattle.fleet_run.specs.Driving.{point_in, output_in, standing_of, ServesPiece}
 
 at_point : (xs : List Connection) (c : ℕ) (x : Connection) → c < length xs → x ≡ get_or xs c x → point_in xs c ≡ point_at x 0
@@ -73,13 +72,13 @@ over true x y z w e = e
 over false x y z w e = refl
 
 -- a piece of one of the clients
-pub piece_taken : (clients : List Connection) (c : ℕ) (x y : Connection) (bytes out : List ℕ) (pool pool' : Pool) (fleet fleet' : MemoryFleet) (given given' : List Shown) → c < length clients → x ≡ get_or clients c x → ServesPiece x pool fleet bytes out y pool' fleet' → given' ≡ given ++ one_shown c out
-    → TakesUp (pool_words pool.servers) (standing_of clients pool fleet) given (Piece c bytes) (standing_of (set clients c y) pool' fleet') given'
-piece_taken clients c x y bytes out pool pool' fleet fleet' given given' lt is s handed =
-    let old : Standing classic = standing_of clients pool fleet in
-    let mid : Standing classic = placed old c s.fed 0 pool fleet in
-    let served : Standing classic = placed old c s.served 0 pool' fleet' in
-    let taken : Standing classic = standing_of (set clients c y) pool' fleet' in
+pub piece_taken : (clients : List Connection) (c : ℕ) (x y : Connection) (bytes out : List ℕ) (router router' : Router) (fleet fleet' : MemoryFleet) (given given' : List Shown) → c < length clients → x ≡ get_or clients c x → ServesPiece x router fleet bytes out y router' fleet' → given' ≡ given ++ one_shown c out
+    → TakesUp (words_of (tree_of router)) (standing_of clients router fleet) given (Piece c bytes) (standing_of (set clients c y) router' fleet') given'
+piece_taken clients c x y bytes out router router' fleet fleet' given given' lt is s handed =
+    let old : Standing classic = standing_of clients router fleet in
+    let mid : Standing classic = placed old c s.fed 0 router fleet in
+    let served : Standing classic = placed old c s.served 0 router' fleet' in
+    let taken : Standing classic = standing_of (set clients c y) router' fleet' in
     let fed_is : point_at s.fed 0 ≡ fed_point (point_at x 0) bytes = ap (λ (p : Place). let q : Point classic = record { place = p; index = 0 } in q) s.feeds.place_is in
     let fed : IsFed old c bytes mid = record {
       point = λ d. where_same (nat_eq c d) (point_at s.fed 0) (fed_point (point_in clients d) bytes) (point_in clients d) (λ e.
@@ -95,4 +94,4 @@ piece_taken clients c x y bytes out pool pool' fleet fleet' given given' lt is s
       point = λ d. point_set clients c y lt d ∙ where_same (nat_eq c d) (point_at y 0) (point_at s.served 0) (point_in clients d) (λ e. ap (λ (p : Place). let q : Point classic = record { place = p; index = 0 } in q) s.stream);
       rests = record { number = refl; holds = λ a k. refl; turn = refl; named = λ t. refl };
     } in
-    piece_up classic (pool_words pool.servers) old mid served taken given given' c bytes out fed (s.serves.advances.works old c) took handed
+    piece_up classic (words_of (tree_of router)) old mid served taken given given' c bytes out fed (s.serves.advances.works old c) took handed

@@ -1,75 +1,106 @@
 -- From the first event of a script to the last.
-use Rattle.std.proofs.Common.{Result, Ok, Err, OnErr, ◌≡◌, ℕ, ℤ, zero, suc, ◌+◌, ◌<◌, ◌≤◌, Bool, true, false, List, [], ◌∷◌, ◌++◌, length, map, take, get_or, Option, Some, refl, sym, ap, ◌∙◌, subst, arith, length-set}
+use Rattle.std.proofs.Common.{Result, Ok, Err, OnErr, ◌≡◌, ℕ, ℤ, zero, suc, ◌+◌, ◌<◌, Bool, true, false, ◌||◌, List, [], ◌∷◌, ◌++◌, length, map, take, get_or, Option, refl, sym, ap, ◌∙◌, subst, arith, length-set}
 use Rattle.std.proofs.Math.ListN.{set}
-use Rattle.key_hash.specs.Tag.{slot_of}
 use Rattle.mc_types.specs.Items.{Item}
-use Rattle.mc_runs.specs.Run.{Run, IsFresh}
+use Rattle.mc_runs.specs.Run.{Words, IsFresh, IsNewNumber, held}
+use Rattle.mc_runs.specs.Run.{Event as Happened}
 use Rattle.mc_runs.specs.Protocol.{IsStuck}
 use Rattle.mc_runs.specs.Log as log
-use Rattle.mc_runs.specs.Log.{Entry, Point, run_of, script_of, Scripted, Shown}
-use Rattle.mc_runs.specs.Standing.{Standing, LeadsTo}
+use Rattle.mc_runs.specs.Log.{Entry, Takes, Point, run_of, script_of, Scripted, Shown}
+use Rattle.mc_runs.specs.Standing.{Standing}
 use Rattle.mc_runs.specs.Taking.{Stands, TakesUp}
-use Rattle.mc_runs.specs.Stale.{stale_in}
 use Rattle.mc_runs.proofs.LogRuns.{runs, splits}
 use Rattle.mc_runs.proofs.LogStale.{fresh_has_none}
 use Rattle.mc_runs.proofs.LogSteps.{nothing_yet}
-use Rattle.mc_runs.proofs.LogTaking.{settled, takes_on}
+use Rattle.mc_runs.proofs.LogTaking.{settled}
 use Rattle.mc_runs.proofs.Fresh.{fresh}
-use Rattle.mc_runs.proofs.Covered.{single_laws}
 use Rattle.text_requests.specs.declared.command.Skip.TheVariants.{Nothing}
 use Rattle.text_requests.specs.Stream as stream
 use Rattle.text_requests.proofs.StreamLemmas.{used_within}
-use Rattle.text_codec.specs.Classic.{Said, Whole, LongLine, classic}
+use Rattle.text_codec.specs.Classic.{Whole, LongLine, classic}
 use Rattle.text_codec.proofs.ReaderLaws.{reader_is}
 use Rattle.connections.specs.declared.connection.Connection.{Connection}
 use Rattle.memory_fleet.specs.declared.event.Loss.{Loss}
 use Rattle.memory_fleet.specs.declared.event.Loss.TheVariants as losses
 use Rattle.memory_fleet.specs.declared.fleet.MemoryFleet.{MemoryFleet}
-use Rattle.memory_fleet.specs.Fleets.{holds_of, IsNewFleet, FailsFrom, IsLost, IsMoment, loss_of, count_of}
-use Rattle.fleet_run.specs.declared.pool.Pool.{Pool}
+use Rattle.memory_fleet.specs.Fleets.{IsNewFleet, FailsFrom, HoldsFrom, IsLost, IsMoment, loss_of, count_of}
+use Rattle.cache_server.specs.Contents.{Contents}
+use Rattle.route_tree.specs.Route.{Route}
+use Rattle.route_tree.specs.Direct.{is_direct, words_of, DirectIsOneServer}
+use Rattle.fleet_run.specs.declared.router.Router.{Router}
 use Rattle.fleet_run.specs.declared.script.Event.{Event}
 use Rattle.fleet_run.specs.declared.script.Transcript.{Transcript}
 use Rattle.fleet_run.specs.declared.script.Report.{Report}
-use Rattle.fleet_run.specs.Serving.{pool_words}
+use Rattle.fleet_run.specs.Serving.{tree_of}
+use Rattle.fleet_run.specs.Bad.{begins_run, has_begun, bad_in}
+use Rattle.fleet_run.specs.Opening.{put_by, opening_of, IsOpened}
 use Rattle.fleet_run.specs.Scripted as scripted
 use Rattle.fleet_run.specs.Scripted.{scripted_of, shown_by, transcript_of}
-use Rattle.fleet_run.specs.Driving.{standing_of, ServesPiece, HandsOut, TakesEvent, AreNew, Drives, DrivesPart}
+use Rattle.fleet_run.specs.Driving.{standing_of, ServesPiece, HandsOut, TakesAlone, IsPut, TakesBy, TakesEvent, AreNew, Drives, DrivesPart}
 use Rattle.fleet_run.proofs.Shorter.{takes_some}
 use Rattle.fleet_run.proofs.Clients.{piece_taken}
-use Rattle.fleet_run.proofs.EventSteps.{event_of, moment_up, lost_up}
-use Rattle.mc_runs.proofs.LogTaking.{fail_up}
+use Rattle.fleet_run.proofs.EventSteps.{event_of, moment_alone, fail_alone, lost_up}
+use Rattle.fleet_run.proofs.BadEvents.{map_more, one_begun, left_false, is_held}
+use Rattle.fleet_run.proofs.Openings.{same_opening, opened_new, AreTaken, nothing_happened, reopened, holds_opened, opened_same, opened_more}
+use Rattle.fleet_run.proofs.Wording.{direct_covered}
 
 quiet_start : IsStuck classic (stream.Stands Nothing [])
 quiet_start (Whole message) next r = let some = takes_some [] message r.0 r.1 in let all = used_within [] message r.0 r.1 in absurd (omega (arith, some, all))
 quiet_start LongLine next r = absurd (omega (arith, r.0.long))
 
+-- how far a script has come: a log of the events so far leads to where clients and servers stand, over what those events put on the servers
+pub record Comes (words : Words) (before : List Scripted) (now : Standing classic) (given : List Shown) (fleet : MemoryFleet) : Type 0 where
+  pub log : List (Entry classic)
+  pub stands : Stands words (opening_of before) log now given
+  pub script : script_of log ≡ before
+  -- before the run nothing but the script's events is in the log
+  pub quiet : has_begun before ≡ false → AreTaken log × IsOpened before fleet
+
 -- before the first event
-pub starts : (clients : List Connection) (pool : Pool) (fleet : MemoryFleet) (t : Transcript) (servers : ℕ) → AreNew clients → pool.number ≡ 0 → IsNewFleet servers fleet → t.shown.items ≡ [] → Stands (pool_words servers) (holds_of fleet) [] (standing_of clients pool fleet) (transcript_of t)
-starts clients pool fleet t servers new number none empty =
+pub starts : (words : Words) (clients : List Connection) (router : Router) (fleet : MemoryFleet) (t : Transcript) (servers : ℕ) → AreNew clients → router.number ≡ 0 → IsNewFleet servers fleet → t.shown.items ≡ [] → Comes words [] (standing_of clients router fleet) (transcript_of t) fleet
+starts words clients router fleet t servers new number none empty =
     record {
-      leads = nothing_yet classic (pool_words servers) (holds_of fleet) (standing_of clients pool fleet) new.point new.output number (λ s k. refl) none.turn none.named;
-      given_is = ap (map shown_by) empty;
-      stuck = λ c. subst (λ (p : Point classic). IsStuck classic p.place) (sym (new.point c)) quiet_start;
-      taken = new.output;
+      log = [];
+      stands = record {
+        leads = nothing_yet classic words (opening_of []) (standing_of clients router fleet) new.point new.output number (λ s k. none.holds s k) none.turn none.named;
+        given_is = ap (map shown_by) empty;
+        stuck = λ c. subst (λ (p : Point classic). IsStuck classic p.place) (sym (new.point c)) quiet_start;
+        taken = new.output;
+      };
+      script = refl;
+      quiet = λ e. (tt, opened_new servers fleet none);
     }
 
 -- a piece, as one of the script's events
-pub piece_event : (clients : List Connection) (c : ℕ) (x y : Connection) (bytes out : List ℕ) (pool pool' : Pool) (fleet fleet' : MemoryFleet) (t t' : Transcript) (event : Event) → scripted_of event ≡ log.Piece c bytes → c < length clients → x ≡ get_or clients c x → ServesPiece x pool fleet bytes out y pool' fleet' → HandsOut c out t t'
-    → TakesEvent clients pool fleet t event (set clients c y) pool' fleet' t'
-piece_event clients c x y bytes out pool pool' fleet fleet' t t' event is lt at s handed =
+pub piece_event : (clients : List Connection) (c : ℕ) (x y : Connection) (bytes out : List ℕ) (router router' : Router) (fleet fleet' : MemoryFleet) (t t' : Transcript) (event : Event) → scripted_of event ≡ log.Piece c bytes → c < length clients → x ≡ get_or clients c x → ServesPiece x router fleet bytes out y router' fleet' → HandsOut c out t t'
+    → TakesEvent clients router fleet t event (set clients c y) router' fleet' t'
+piece_event clients c x y bytes out router router' fleet fleet' t t' event is lt at s handed =
     record {
-      takes = subst (λ (e : Scripted). TakesUp (pool_words pool.servers) (standing_of clients pool fleet) (transcript_of t) e (standing_of (set clients c y) pool' fleet') (transcript_of t')) (sym is) (piece_taken clients c x y bytes out pool pool' fleet fleet' (transcript_of t) (transcript_of t') lt at s handed);
-      servers = s.serves.advances.servers;
+      takes = subst (TakesBy (words_of (tree_of router)) (standing_of clients router fleet) (transcript_of t) fleet (standing_of (set clients c y) router' fleet') (transcript_of t') fleet') (sym is) (piece_taken clients c x y bytes out router router' fleet fleet' (transcript_of t) (transcript_of t') lt at s handed);
+      tree = s.serves.advances.tree;
       count = s.serves.advances.count;
       clients_are = length-set clients c y;
     }
 
-pub fail_event : (clients : List Connection) (pool : Pool) (fleet fleet' : MemoryFleet) (t : Transcript) (event : Event) (turn : ℕ) (manner : log.Manner) → scripted_of event ≡ log.Fail turn manner → FailsFrom fleet turn manner fleet' → TakesEvent clients pool fleet t event clients pool fleet' t
-fail_event clients pool fleet fleet' t event turn manner is f =
+pub hold_event : (clients : List Connection) (router : Router) (fleet fleet' : MemoryFleet) (t : Transcript) (event : Event) (server : ℕ) (key content : List ℕ) → scripted_of event ≡ log.Hold server key content → HoldsFrom fleet server key content fleet' → TakesEvent clients router fleet t event clients router fleet' t
+hold_event clients router fleet fleet' t event server key content is f =
     record {
-      takes = subst (λ (e : Scripted). TakesUp (pool_words pool.servers) (standing_of clients pool fleet) (transcript_of t) e (standing_of clients pool fleet') (transcript_of t)) (sym is)
-          (fail_up classic (pool_words pool.servers) (standing_of clients pool fleet) (standing_of clients pool fleet') (transcript_of t) turn manner (record { named = f.named; point = λ c. refl; output = λ c. refl; number = refl; holds = f.holds; turn_is = f.turn_is }));
-      servers = refl;
+      takes = subst (TakesBy (words_of (tree_of router)) (standing_of clients router fleet) (transcript_of t) fleet (standing_of clients router fleet') (transcript_of t) fleet') (sym is)
+          (record { caches = f.cache_is; holds = λ s k. refl; point = λ c. refl; output = λ c. refl; number = refl; turn = f.turn_is; named = f.named_is; given_is = refl });
+      tree = refl;
+      count = f.count_is;
+      clients_are = refl;
+    }
+
+pub fail_event : (clients : List Connection) (router : Router) (fleet fleet' : MemoryFleet) (t : Transcript) (event : Event) (turn : ℕ) (manner : log.Manner) → scripted_of event ≡ log.Fail turn manner → FailsFrom fleet turn manner fleet' → TakesEvent clients router fleet t event clients router fleet' t
+fail_event clients router fleet fleet' t event turn manner is f =
+    record {
+      takes = subst (TakesBy (words_of (tree_of router)) (standing_of clients router fleet) (transcript_of t) fleet (standing_of clients router fleet') (transcript_of t) fleet') (sym is)
+          (record {
+            goes = fail_alone classic (words_of (tree_of router)) (standing_of clients router fleet) (standing_of clients router fleet') (transcript_of t) turn manner (record { named = f.named; point = λ c. refl; output = λ c. refl; number = refl; holds = f.holds; turn_is = f.turn_is });
+            caches = f.caches_are;
+          });
+      tree = refl;
       count = f.count_is;
       clients_are = refl;
     }
@@ -78,84 +109,162 @@ loss_event : (loss : Loss) → event_of (scripted.loss_of loss) ≡ loss_of loss
 loss_event (losses.Item server key) = refl
 loss_event (losses.Restart server) = refl
 
-pub lost_event : (clients : List Connection) (pool : Pool) (fleet fleet' : MemoryFleet) (t : Transcript) (event : Event) (loss : Loss) → scripted_of event ≡ log.Now (scripted.loss_of loss) → IsLost fleet (loss_of loss) fleet' → TakesEvent clients pool fleet t event clients pool fleet' t
-lost_event clients pool fleet fleet' t event loss is f =
+pub lost_event : (clients : List Connection) (router : Router) (fleet fleet' : MemoryFleet) (t : Transcript) (event : Event) (loss : Loss) → scripted_of event ≡ log.Now (scripted.loss_of loss) → IsLost fleet (loss_of loss) fleet' → TakesEvent clients router fleet t event clients router fleet' t
+lost_event clients router fleet fleet' t event loss is f =
     record {
-      takes = subst (λ (e : Scripted). TakesUp (pool_words pool.servers) (standing_of clients pool fleet) (transcript_of t) e (standing_of clients pool fleet') (transcript_of t)) (sym is)
-          (lost_up classic (pool_words pool.servers) (standing_of clients pool fleet) (standing_of clients pool fleet') (transcript_of t) (scripted.loss_of loss) (record { point = λ c. refl; output = λ c. refl; number = refl; turn = f.turn_is; named = f.named_is }) (rw (loss_event loss) f.holds));
-      servers = refl;
+      takes = subst (TakesBy (words_of (tree_of router)) (standing_of clients router fleet) (transcript_of t) fleet (standing_of clients router fleet') (transcript_of t) fleet') (sym is)
+          (lost_up classic (words_of (tree_of router)) (standing_of clients router fleet) (standing_of clients router fleet') (transcript_of t) (scripted.loss_of loss) (record { point = λ c. refl; output = λ c. refl; number = refl; turn = f.turn_is; named = f.named_is }) (rw (loss_event loss) f.holds));
+      tree = refl;
       count = f.count_is;
       clients_are = refl;
     }
 
-pub moment_event : (clients : List Connection) (pool : Pool) (fleet fleet' : MemoryFleet) (t : Transcript) (event : Event) (moment : ℤ) → scripted_of event ≡ log.Moment moment → IsMoment fleet moment fleet' → TakesEvent clients pool fleet t event clients pool fleet' t
-moment_event clients pool fleet fleet' t event moment is f =
+pub moment_event : (clients : List Connection) (router : Router) (fleet fleet' : MemoryFleet) (t : Transcript) (event : Event) (moment : ℤ) → scripted_of event ≡ log.Moment moment → IsMoment fleet moment fleet' → TakesEvent clients router fleet t event clients router fleet' t
+moment_event clients router fleet fleet' t event moment is f =
     record {
-      takes = subst (λ (e : Scripted). TakesUp (pool_words pool.servers) (standing_of clients pool fleet) (transcript_of t) e (standing_of clients pool fleet') (transcript_of t)) (sym is)
-          (moment_up classic (pool_words pool.servers) (standing_of clients pool fleet) (standing_of clients pool fleet') (transcript_of t) moment (record { point = λ c. refl; output = λ c. refl; number = refl; turn = f.turn_is; named = f.named_is }) f.holds);
-      servers = refl;
+      takes = subst (TakesBy (words_of (tree_of router)) (standing_of clients router fleet) (transcript_of t) fleet (standing_of clients router fleet') (transcript_of t) fleet') (sym is)
+          (record {
+            goes = moment_alone classic (words_of (tree_of router)) (standing_of clients router fleet) (standing_of clients router fleet') (transcript_of t) moment (record { point = λ c. refl; output = λ c. refl; number = refl; turn = f.turn_is; named = f.named_is }) f.holds;
+            caches = f.caches_are;
+          });
+      tree = refl;
       count = f.count_is;
       clients_are = refl;
     }
 
--- the events so far, and one more
-map_suc : (xs : List Event) (i : ℕ) (x : Event) → i < length xs → x ≡ get_or xs i x → map scripted_of (take (suc i) xs) ≡ map scripted_of (take i xs) ++ scripted_of x ∷ []
-map_suc [] i x lt is = absurd (omega arith)
-map_suc (y ∷ xs) zero x lt is = ap (λ (e : Event). scripted_of e ∷ []) (sym is)
-map_suc (y ∷ xs) (suc i) x lt is = ap (λ l. scripted_of y ∷ l) (map_suc xs i x (omega arith) is)
+or_true : (b : Bool) → (b || true) ≡ true
+or_true true = refl
+or_true false = refl
 
-pub map_more : (xs : List Event) (i : ℕ) (x : Event) → i < length xs → x ≡ get_or xs i x → map scripted_of (take (i + 1) xs) ≡ map scripted_of (take i xs) ++ scripted_of x ∷ []
-map_more xs i x lt is = let one : i + 1 ≡ suc i = omega arith in ap (λ (n : ℕ). map scripted_of (take n xs)) one ∙ map_suc xs i x lt is
+true_is_not_false : true ≡ false → ⊥
+true_is_not_false e = cc
+
+begun_at : (before : List Scripted) (event : Scripted) → begins_run event ≡ true → has_begun (before ++ event ∷ []) ≡ false → ⊥
+begun_at before event begins none = true_is_not_false (sym (or_true (has_begun before)) ∙ ap (λ b. has_begun before || b) (sym begins) ∙ sym (one_begun before event) ∙ none)
+
+begun_before : (before : List Scripted) (event : Scripted) → has_begun (before ++ event ∷ []) ≡ false → has_begun before ≡ false
+begun_before before event none = left_false (has_begun before) (begins_run event) (sym (one_begun before event) ∙ none)
+
+-- a log that goes on by an event with which the run goes on
+comes_up : (words : Words) (before : List Scripted) (event : Scripted) (old new : Standing classic) (given given' : List Shown) (fleet fleet' : MemoryFleet) → begins_run event ≡ true → ((s : ℕ) (c : Contents) → put_by s c event ≡ c) → TakesUp words old given event new given' → Comes words before old given fleet → Comes words (before ++ event ∷ []) new given' fleet'
+comes_up words before event old new given given' fleet fleet' begins nothing up c =
+    let more = up (opening_of before) c.log c.stands in
+    record {
+      log = more.0;
+      stands = subst (λ (o : ℕ → List ℕ → Option Item). Stands words o more.0 new given') (sym (same_opening before event nothing)) more.1;
+      script = more.2 ∙ ap (λ l. l ++ event ∷ []) c.script;
+      quiet = λ none. absurd (begun_at before event begins none);
+    }
+
+-- by one with which nothing happens
+comes_alone : (words : Words) (before : List Scripted) (event : Scripted) (old new : Standing classic) (given given' : List Shown) (fleet fleet' : MemoryFleet) → ((s : ℕ) (c : Contents) → put_by s c event ≡ c) → TakesAlone words old given fleet new given' fleet' event → Comes words before old given fleet → Comes words (before ++ event ∷ []) new given' fleet'
+comes_alone words before event old new given given' fleet fleet' nothing alone c =
+    record {
+      log = Takes event ∷ c.log;
+      stands = subst (λ (o : ℕ → List ℕ → Option Item). Stands words o (Takes event ∷ c.log) new given') (sym (same_opening before event nothing)) (alone.goes (opening_of before) c.log c.stands);
+      script = ap (λ l. l ++ event ∷ []) c.script;
+      quiet = λ none. let q = c.quiet (begun_before before event none) in (q.0, opened_same before event fleet fleet' nothing alone.caches q.1);
+    }
+
+-- by one that puts an item on a server before the run
+comes_put : (words : Words) (before : List Scripted) (server : ℕ) (key content : List ℕ) (old new : Standing classic) (given given' : List Shown) (fleet fleet' : MemoryFleet) → bad_in (count_of fleet) before (log.Hold server key content) ≡ false → IsPut words old given fleet new given' fleet' server key content → Comes words before old given fleet → Comes words (before ++ log.Hold server key content ∷ []) new given' fleet'
+comes_put words before server key content old new given given' fleet fleet' good put c =
+    let event : Scripted = log.Hold server key content in
+    let after : List Scripted = before ++ event ∷ [] in
+    let held_well = is_held (count_of fleet) before server key content good in
+    let q = c.quiet held_well.2 in
+    let opened : IsOpened after fleet' = opened_more before server key content fleet fleet' held_well.0 put.caches q.1 in
+    let s = c.stands in
+    record {
+      log = Takes event ∷ c.log;
+      stands = record {
+        leads = record {
+          follows = (settled classic words (opening_of before) c.log old given s, reopened words (opening_of before) (opening_of after) c.log q.0 s.leads.follows);
+          point = λ d. put.point d ∙ s.leads.point d;
+          output = λ d. ap (λ (l : List ℕ). log.given_of c.log d ++ l) (put.output d) ∙ s.leads.output d;
+          new = subst (λ (n : ℕ). IsNewNumber (n + 1) (run_of c.log)) (sym put.number) s.leads.new;
+          idle = s.leads.idle;
+          holds = λ a k. put.holds a k ∙ holds_opened after fleet' opened a k ∙ ap (λ (past : List Happened). held (opening_of after) past a k) (sym (nothing_happened c.log q.0));
+          turn = put.turn ∙ s.leads.turn;
+          count = put.number ∙ s.leads.count;
+          named = λ t. put.named t ∙ s.leads.named t;
+        };
+        given_is = put.given_is ∙ s.given_is;
+        stuck = λ d. subst (λ (p : Point classic). IsStuck classic p.place) (sym (put.point d)) (s.stuck d);
+        taken = λ d. put.output d ∙ s.taken d;
+      };
+      script = ap (λ l. l ++ event ∷ []) c.script;
+      quiet = λ none. (q.0, opened);
+    }
+
+comes_by : (words : Words) (before : List Scripted) (event : Scripted) (old new : Standing classic) (given given' : List Shown) (fleet fleet' : MemoryFleet) → bad_in (count_of fleet) before event ≡ false → TakesBy words old given fleet new given' fleet' event → Comes words before old given fleet → Comes words (before ++ event ∷ []) new given' fleet'
+comes_by words before (log.Piece client bytes) old new given given' fleet fleet' good takes c = comes_up words before (log.Piece client bytes) old new given given' fleet fleet' refl (λ s c. refl) takes c
+comes_by words before (log.Now loss) old new given given' fleet fleet' good takes c = comes_up words before (log.Now loss) old new given given' fleet fleet' refl (λ s c. refl) takes c
+comes_by words before (log.At turn loss) old new given given' fleet fleet' good takes c = absurd takes
+comes_by words before (log.Fail turn manner) old new given given' fleet fleet' good takes c = comes_alone words before (log.Fail turn manner) old new given given' fleet fleet' (λ s c. refl) takes c
+comes_by words before (log.Moment moment) old new given given' fleet fleet' good takes c = comes_alone words before (log.Moment moment) old new given given' fleet fleet' (λ s c. refl) takes c
+comes_by words before (log.Hold server key content) old new given given' fleet fleet' good takes c = comes_put words before server key content old new given given' fleet fleet' good takes c
 
 -- the log goes on by one event
-pub event_on : (servers : ℕ) (opening : ℕ → List ℕ → Option Item) (clients clients' : List Connection) (pool pool' : Pool) (fleet fleet' : MemoryFleet) (t t' : Transcript) (xs : List Event) (i : ℕ) (x : Event) (so_far : List (Entry classic))
-    → pool.servers ≡ servers → i < length xs → x ≡ get_or xs i x → Stands (pool_words servers) opening so_far (standing_of clients pool fleet) (transcript_of t) → script_of so_far ≡ map scripted_of (take i xs) → TakesEvent clients pool fleet t x clients' pool' fleet' t'
-    → (log' : List (Entry classic)) × Stands (pool_words servers) opening log' (standing_of clients' pool' fleet') (transcript_of t') × (script_of log' ≡ map scripted_of (take (i + 1) xs))
-event_on servers opening clients clients' pool pool' fleet fleet' t t' xs i x so_far pool_is lt is stands script takes =
-    takes_on classic (pool_words servers) opening (standing_of clients pool fleet) (standing_of clients' pool' fleet') (transcript_of t) (transcript_of t') (scripted_of x) (map scripted_of (take i xs)) (map scripted_of (take (i + 1) xs)) (map_more xs i x lt is) so_far stands script
-    (subst (λ (n : ℕ). TakesUp (pool_words n) (standing_of clients pool fleet) (transcript_of t) (scripted_of x) (standing_of clients' pool' fleet') (transcript_of t')) pool_is takes.takes)
+pub event_on : (tree : Route) (clients clients' : List Connection) (router router' : Router) (fleet fleet' : MemoryFleet) (t t' : Transcript) (xs : List Event) (i : ℕ) (x : Event)
+    → tree_of router ≡ tree → i < length xs → x ≡ get_or xs i x → bad_in (count_of fleet) (map scripted_of (take i xs)) (scripted_of x) ≡ false → Comes (words_of tree) (map scripted_of (take i xs)) (standing_of clients router fleet) (transcript_of t) fleet → TakesEvent clients router fleet t x clients' router' fleet' t'
+    → Comes (words_of tree) (map scripted_of (take (i + 1) xs)) (standing_of clients' router' fleet') (transcript_of t') fleet'
+event_on tree clients clients' router router' fleet fleet' t t' xs i x tree_is lt is good c takes =
+    subst (λ (l : List Scripted). Comes (words_of tree) l (standing_of clients' router' fleet') (transcript_of t') fleet') (sym (map_more xs i x lt is))
+    (comes_by (words_of tree) (map scripted_of (take i xs)) (scripted_of x) (standing_of clients router fleet) (standing_of clients' router' fleet') (transcript_of t) (transcript_of t') fleet fleet' good
+    (subst (λ (r : Route). TakesBy (words_of r) (standing_of clients router fleet) (transcript_of t) fleet (standing_of clients' router' fleet') (transcript_of t') fleet' (scripted_of x)) tree_is takes.takes) c)
 
 -- after the last event
-pub drives : (servers : ℕ) (fleet fleet' : MemoryFleet) (clients : List Connection) (pool : Pool) (events : List Event) (t : Transcript) (report : Report) (so_far : List (Entry classic)) → Stands (pool_words servers) (holds_of fleet) so_far (standing_of clients pool fleet') (transcript_of t) → script_of so_far ≡ map scripted_of events
-    → report.commands ≡ pool.number → report.calls ≡ fleet'.turn → report.stale ≡ 0 → Drives servers fleet events t report
-drives servers fleet fleet' clients pool events t report so_far s scripted commands calls stale =
-    let words = pool_words servers in
-    let done = settled classic words (holds_of fleet) so_far (standing_of clients pool fleet') (transcript_of t) s in
-    let run = runs classic words (holds_of fleet) so_far s.leads.follows in
-    let is_fresh : IsFresh (holds_of fleet) (run_of so_far) = fresh words (single_laws (slot_of servers)).covered (holds_of fleet) (run_of so_far) run in
+pub drives : DirectIsOneServer → (tree : Route) → is_direct tree ≡ true → (fleet : MemoryFleet) (clients : List Connection) (router : Router) (events : List Scripted) (t : Transcript) (report : Report) → Comes (words_of tree) events (standing_of clients router fleet) (transcript_of t) fleet
+    → report.commands ≡ router.number → report.calls ≡ fleet.turn → report.stale ≡ 0 → Drives tree events (transcript_of t) report
+drives law tree direct fleet clients router events t report c commands calls stale =
+    let words = words_of tree in
+    let opening = opening_of events in
+    let s = c.stands in
+    let done = settled classic words opening c.log (standing_of clients router fleet) (transcript_of t) s in
+    let run = runs classic words opening c.log s.leads.follows in
+    let is_fresh : IsFresh opening (run_of c.log) = fresh words (direct_covered law tree direct) opening (run_of c.log) run in
     record {
-      log = so_far;
+      log = c.log;
       follows = s.leads.follows;
-      script_is = scripted;
+      script_is = c.script;
       settled = done;
       shown = s.given_is;
-      streams = λ c. splits classic words (holds_of fleet) reader_is so_far s.leads.follows done c;
+      streams = λ d. splits classic words opening reader_is c.log s.leads.follows done d;
       commands = commands ∙ s.leads.count;
       calls = calls ∙ s.leads.turn;
       run = run;
       fresh = is_fresh;
-      stale = stale ∙ sym (fresh_has_none words (holds_of fleet) (run_of so_far) run is_fresh);
+      stale = stale ∙ sym (fresh_has_none words opening (run_of c.log) run is_fresh);
       none = stale;
     }
 
+map_take : (xs : List Event) (i : ℕ) → map scripted_of (take i xs) ≡ take i (map scripted_of xs)
+map_take xs zero = refl
+map_take [] (suc i) = refl
+map_take (x ∷ xs) (suc i) = ap (λ l. scripted_of x ∷ l) (map_take xs i)
+
 -- where an event is broken off
-pub drives_part : (servers count : ℕ) (fleet fleet' : MemoryFleet) (clients : List Connection) (pool : Pool) (events : List Event) (t t' : Transcript) (so_far : List (Entry classic)) → Stands (pool_words servers) (holds_of fleet) so_far (standing_of clients pool fleet') (transcript_of t) → script_of so_far ≡ map scripted_of (take count events) → t'.shown.items ≡ t.shown.items
-    → DrivesPart servers fleet events t'
-drives_part servers count fleet fleet' clients pool events t t' so_far s scripted same =
-    let words = pool_words servers in
+pub drives_part : DirectIsOneServer → (tree : Route) → is_direct tree ≡ true → (count : ℕ) (fleet : MemoryFleet) (clients : List Connection) (router : Router) (events : List Event) (t t' : Transcript) → Comes (words_of tree) (map scripted_of (take count events)) (standing_of clients router fleet) (transcript_of t) fleet → t'.shown.items ≡ t.shown.items
+    → DrivesPart tree (map scripted_of events) (transcript_of t')
+drives_part law tree direct count fleet clients router events t t' came same =
+    let words = words_of tree in
+    let c = subst (λ (l : List Scripted). Comes words l (standing_of clients router fleet) (transcript_of t) fleet) (map_take events count) came in
+    let opening = opening_of (take count (map scripted_of events)) in
+    let s = c.stands in
     record {
-      log = so_far;
+      log = c.log;
       count = count;
       follows = s.leads.follows;
-      script_is = scripted;
-      settled = settled classic words (holds_of fleet) so_far (standing_of clients pool fleet') (transcript_of t) s;
+      script_is = c.script;
+      settled = settled classic words opening c.log (standing_of clients router fleet) (transcript_of t) s;
       shown = ap (map shown_by) same ∙ s.given_is;
-      fresh = fresh words (single_laws (slot_of servers)).covered (holds_of fleet) (run_of so_far) (runs classic words (holds_of fleet) so_far s.leads.follows);
+      fresh = fresh words (direct_covered law tree direct) opening (run_of c.log) (runs classic words opening c.log s.leads.follows);
     }
 
 -- where nothing was taken up
-pub nothing_driven : (servers : ℕ) (fleet : MemoryFleet) (events : List Event) (t : Transcript) → t.shown.items ≡ [] → DrivesPart servers fleet events t
-nothing_driven servers fleet events t empty =
+pub nothing_driven : (tree : Route) (events : List Scripted) (t : Transcript) → t.shown.items ≡ [] → DrivesPart tree events (transcript_of t)
+nothing_driven tree events t empty =
     record {
       log = [];
       count = 0;

@@ -1,14 +1,15 @@
 -- Events that no client sends are more of every log.
-use Rattle.std.proofs.Common.{◌≡◌, ℕ, ℤ, ◌+◌, List, [], ◌∷◌, ◌++◌, Option, refl, sym, ap, ◌∙◌, subst}
+use Rattle.std.proofs.Common.{◌≡◌, ℕ, ℤ, ◌+◌, List, ◌∷◌, ◌++◌, Option, refl, sym, ap, ◌∙◌, subst}
 use Rattle.mc_types.specs.Items.{Item}
 use Rattle.mc_runs.specs.Run.{Words, Event, Loses, Restarts, held, IsNewNumber}
 use Rattle.mc_runs.specs.Fleet.{after_event}
 use Rattle.mc_runs.specs.Protocol.{Protocol, IsStuck}
 use Rattle.mc_runs.specs.Log as log
-use Rattle.mc_runs.specs.Log.{Point, Entry, Takes, Happens, Now, Moment, Lose, Restart, run_of, given_of, Shown, IsSettled}
-use Rattle.mc_runs.specs.Standing.{Standing, LeadsTo}
+use Rattle.mc_runs.specs.Log.{Manner, Point, Entry, Takes, Happens, Fail, Now, Moment, Lose, Restart, run_of, given_of, Shown, IsSettled}
+use Rattle.mc_runs.specs.Standing.{Standing, IsNamed}
 use Rattle.mc_runs.specs.Taking.{Stands, TakesUp}
 use Rattle.mc_runs.proofs.Bridge.{held_after, event_same}
+use Rattle.mc_runs.proofs.LogSteps.{named_more}
 use Rattle.mc_runs.proofs.LogTaking.{settled}
 
 -- the event of a loss
@@ -29,27 +30,34 @@ module _ (P : Protocol) (words : Words) where
   stuck_still old new q h c = subst (λ (p : Point P). IsStuck P p.place) (sym (q.point c)) (h c)
 
   -- the time is another
-  pub moment_up : (old new : Standing P) (given : List Shown) (m : ℤ) → IsQuiet old new → ((s : ℕ) (k : List ℕ) → new.holds s k ≡ old.holds s k) → TakesUp words old given (Moment m) new given
-  moment_up old new given m q holds = λ opening log s. (
-    Takes (Moment m) ∷ log,
-    record {
-      leads = record {
-        follows = (settled P words opening log old given s, s.leads.follows);
-        point = λ c. q.point c ∙ s.leads.point c;
-        output = λ c. ap (λ (l : List ℕ). given_of log c ++ l) (q.output c) ∙ s.leads.output c;
-        new = subst (λ (n : ℕ). IsNewNumber (n + 1) (run_of log)) (sym q.number) s.leads.new;
-        idle = s.leads.idle;
-        holds = λ a k. holds a k ∙ s.leads.holds a k;
-        turn = q.turn ∙ s.leads.turn;
-        count = q.number ∙ s.leads.count;
-        named = λ t. q.named t ∙ s.leads.named t;
-      };
-      given_is = s.given_is;
-      stuck = stuck_still old new q s.stuck;
-      taken = λ c. q.output c ∙ s.taken c;
-    },
-    refl,
-  )
+  pub moment_alone : (old new : Standing P) (given : List Shown) (m : ℤ) → IsQuiet old new → ((s : ℕ) (k : List ℕ) → new.holds s k ≡ old.holds s k) → (opening : ℕ → List ℕ → Option Item) (log : List (Entry P)) → Stands words opening log old given → Stands words opening (Takes (Moment m) ∷ log) new given
+  moment_alone old new given m q holds opening log s =
+      record {
+        leads = record {
+          follows = (settled P words opening log old given s, s.leads.follows);
+          point = λ c. q.point c ∙ s.leads.point c;
+          output = λ c. ap (λ (l : List ℕ). given_of log c ++ l) (q.output c) ∙ s.leads.output c;
+          new = subst (λ (n : ℕ). IsNewNumber (n + 1) (run_of log)) (sym q.number) s.leads.new;
+          idle = s.leads.idle;
+          holds = λ a k. holds a k ∙ s.leads.holds a k;
+          turn = q.turn ∙ s.leads.turn;
+          count = q.number ∙ s.leads.count;
+          named = λ t. q.named t ∙ s.leads.named t;
+        };
+        given_is = s.given_is;
+        stuck = stuck_still old new q s.stuck;
+        taken = λ c. q.output c ∙ s.taken c;
+      }
+
+  -- a call is named that is to fail
+  pub fail_alone : (old new : Standing P) (given : List Shown) (turn : ℕ) (manner : Manner) → IsNamed old turn manner new → (opening : ℕ → List ℕ → Option Item) (log : List (Entry P)) → Stands words opening log old given → Stands words opening (Takes (Fail turn manner) ∷ log) new given
+  fail_alone old new given turn manner named opening log s =
+      record {
+        leads = named_more P words opening log old new turn manner s.leads (settled P words opening log old given s) named;
+        given_is = s.given_is;
+        stuck = λ c. subst (λ (p : Point P). IsStuck P p.place) (sym (named.point c)) (s.stuck c);
+        taken = λ c. named.output c ∙ s.taken c;
+      }
 
   -- something is lost
   pub lost_up : (old new : Standing P) (given : List Shown) (loss : log.Loss) → IsQuiet old new → ((s : ℕ) (k : List ℕ) → new.holds s k ≡ after_event (event_of loss) old.holds s k) → TakesUp words old given (Now loss) new given

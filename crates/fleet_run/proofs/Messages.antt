@@ -1,5 +1,5 @@
 -- What is done message by message.
-use Rattle.std.proofs.Common.{◌≡◌, ℕ, zero, suc, ◌+◌, ◌<◌, ◌≤◌, Bool, true, false, List, [], ◌∷◌, ◌++◌, length, drop, Option, Some, None, refl, sym, ap, ◌∙◌, subst, arith}
+use Rattle.std.proofs.Common.{◌≡◌, ℕ, ◌+◌, ◌<◌, ◌≤◌, Bool, true, false, List, [], ◌∷◌, length, drop, Option, Some, None, refl, sym, ap, ◌∙◌, subst, arith}
 use Rattle.mc_types.specs.declared.ask.Ask.{Ask}
 use Rattle.mc_runs.specs.Protocol.{IsStuck}
 use Rattle.mc_text.specs.Line.{IsTooLong}
@@ -12,19 +12,18 @@ use Rattle.text_requests.specs.declared.command.Read.{Read}
 use Rattle.text_requests.specs.declared.command.Read.TheVariants as reads
 use Rattle.text_requests.specs.declared.command.Request.{Request}
 use Rattle.text_requests.specs.declared.request.Asks.{Asks}
-use Rattle.text_requests.specs.Message.{Message, Served, Refusal, Begins, Reads, IsReadFrom, message_in}
+use Rattle.text_requests.specs.Message.{Message, Refusal, Begins, Reads, message_in}
 use Rattle.text_requests.specs.Places.{order_in}
 use Rattle.text_requests.specs.Asks.{asks_of, own_by}
 use Rattle.text_requests.specs.Stream.{Place, Stands, Closed, skipped, behind}
-use Rattle.text_requests.proofs.StreamLemmas.{used_within}
 use Rattle.text_codec.specs.Held.{held_at, IsReadAt}
 use Rattle.text_codec.specs.Replies.{refusal_text, long_line_text}
 use Rattle.text_codec.specs.Classic.{Said, Whole, LongLine, ReadsNext, classic, own_passed}
 use Rattle.connections.specs.declared.connection.Connection.{Connection}
 use Rattle.connections.specs.Steps.{held_len, behind_own, GoesTo}
 use Rattle.memory_fleet.specs.declared.fleet.MemoryFleet.{MemoryFleet}
-use Rattle.fleet_run.specs.declared.pool.Pool.{Pool}
-use Rattle.fleet_run.specs.Serving.{Advances, IsFront, IsOnWay, place_behind, ServesAsk, ServesKey, ServesRequest, ServesAll}
+use Rattle.fleet_run.specs.declared.router.Router.{Router}
+use Rattle.fleet_run.specs.Serving.{Advances, IsFront, IsOnWay, ServesKey, ServesRequest}
 use Rattle.fleet_run.proofs.Advancing.{passes, advances_on, own_behind}
 use Rattle.fleet_run.proofs.Shorter.{fewer, skipped_len}
 
@@ -44,9 +43,9 @@ shorter_by old new held rest place at goes within less =
     omega (arith, a, b)
 
 -- a request without an ask: what mcgate itself was asked
-pub own_done : (old new : Connection) (pool : Pool) (fleet : MemoryFleet) (request : Request) (own : Option Own) → (front : IsFront old request) → length (asks_of (message_in front.held request)) ≡ 0 → own ≡ own_by (order_in front.held request.command)
-    → GoesTo old (behind_own own (drop request.used front.held)) (own_passed own) new → ServesRequest old pool fleet new pool fleet
-own_done old new pool fleet request own front none own_is g =
+pub own_done : (old new : Connection) (router : Router) (fleet : MemoryFleet) (request : Request) (own : Option Own) → (front : IsFront old request) → length (asks_of (message_in front.held request)) ≡ 0 → own ≡ own_by (order_in front.held request.command)
+    → GoesTo old (behind_own own (drop request.used front.held)) (own_passed own) new → ServesRequest old router fleet new router fleet
+own_done old new router fleet request own front none own_is g =
     let held : List ℕ = front.held in
     let m : Message = message_in held request in
     let rest : List ℕ = drop request.used held in
@@ -54,39 +53,39 @@ own_done old new pool fleet request own front none own_is g =
     let text : own_passed own ≡ classic.passed (Whole m) = ap own_passed own_is in
     let reads : ReadsNext old.stream (Whole m) (behind m rest) = subst (λ (p : Place). ReadsNext p (Whole m) (behind m rest)) (sym front.place) (request.used, front.read.begins, refl) in
     record {
-      advances = passes old new pool fleet (Whole m) (behind m rest) reads (empty_is (asks_of m) none) (subst (λ (p : Place). GoesTo old p (classic.passed (Whole m)) new) next (subst (λ (l : List ℕ). GoesTo old (behind_own own rest) l new) text g));
+      advances = passes old new router fleet (Whole m) (behind m rest) reads (empty_is (asks_of m) none) (subst (λ (p : Place). GoesTo old p (classic.passed (Whole m)) new) next (subst (λ (l : List ℕ). GoesTo old (behind_own own rest) l new) text g));
       shorter = shorter_by old new held rest (behind_own own rest) front.place g.place_is (own_len own rest) (fewer held m request.used front.read.begins);
     }
 
 -- a refused message
-pub refused_done : (old new : Connection) (pool : Pool) (fleet : MemoryFleet) (held : List ℕ) (why : Why) (used : ℕ) (skip : Skip) → old.stream ≡ Stands Nothing held → Begins held (Refusal why skip) used → GoesTo old (skipped skip (drop used held)) (refusal_text why) new → ServesRequest old pool fleet new pool fleet
-refused_done old new pool fleet held why used skip place begins g =
+pub refused_done : (old new : Connection) (router : Router) (fleet : MemoryFleet) (held : List ℕ) (why : Why) (used : ℕ) (skip : Skip) → old.stream ≡ Stands Nothing held → Begins held (Refusal why skip) used → GoesTo old (skipped skip (drop used held)) (refusal_text why) new → ServesRequest old router fleet new router fleet
+refused_done old new router fleet held why used skip place begins g =
     let said : Said = Whole (Refusal why skip) in
     let next : Place = skipped skip (drop used held) in
     record {
-      advances = passes old new pool fleet said next (subst (λ (p : Place). ReadsNext p said next) (sym place) (used, begins, refl)) refl g;
+      advances = passes old new router fleet said next (subst (λ (p : Place). ReadsNext p said next) (sym place) (used, begins, refl)) refl g;
       shorter = shorter_by old new held (drop used held) next place g.place_is (skipped_len skip (drop used held)) (fewer held (Refusal why skip) used begins);
     }
 
 -- a line that is too long
-pub long_line_done : (old new : Connection) (pool : Pool) (fleet : MemoryFleet) (held : List ℕ) → old.stream ≡ Stands Nothing held → IsTooLong held → GoesTo old Closed long_line_text new → ServesRequest old pool fleet new pool fleet
-long_line_done old new pool fleet held place long g =
+pub long_line_done : (old new : Connection) (router : Router) (fleet : MemoryFleet) (held : List ℕ) → old.stream ≡ Stands Nothing held → IsTooLong held → GoesTo old Closed long_line_text new → ServesRequest old router fleet new router fleet
+long_line_done old new router fleet held place long g =
     record {
-      advances = passes old new pool fleet LongLine Closed (subst (λ (p : Place). ReadsNext p LongLine Closed) (sym place) (long, refl)) refl g;
+      advances = passes old new router fleet LongLine Closed (subst (λ (p : Place). ReadsNext p LongLine Closed) (sym place) (long, refl)) refl g;
       shorter = shorter_by old new held [] Closed place g.place_is (omega arith) (omega (arith, long.long));
     }
 
 -- a key behind which the message isn't done
-pub key_more : (old x y : Connection) (request : Request) (asks' : Asks) (i : ℕ) (p q r : Pool) (f g h : MemoryFleet) (ended : Bool) → Advances old 0 p f x i q g → ServesKey x request i q g ended y asks' r h → ended ≡ false → Advances old 0 p f y (i + 1) r h
+pub key_more : (old x y : Connection) (request : Request) (asks' : Asks) (i : ℕ) (p q r : Router) (f g h : MemoryFleet) (ended : Bool) → Advances old 0 p f x i q g → ServesKey x request i q g ended y asks' r h → ended ≡ false → Advances old 0 p f y (i + 1) r h
 key_more old x y request asks' i p q r f g h true a s e = absurd (cc)
 key_more old x y request asks' i p q r f g h false a s e = advances_on old x y 0 i (i + 1) p q r f g h a s.served.advances
 
-pub key_same : (x y : Connection) (request : Request) (asks asks' : Asks) (i : ℕ) (q r : Pool) (g h : MemoryFleet) (ended : Bool) → IsOnWay x request asks i → ServesKey x request i q g ended y asks' r h → ended ≡ false → y.stream ≡ x.stream
+pub key_same : (x y : Connection) (request : Request) (asks asks' : Asks) (i : ℕ) (q r : Router) (g h : MemoryFleet) (ended : Bool) → IsOnWay x request asks i → ServesKey x request i q g ended y asks' r h → ended ≡ false → y.stream ≡ x.stream
 key_same x y request asks asks' i q r g h true way s e = absurd (cc)
 key_same x y request asks asks' i q r g h false way s e = s.served.place way.held way.place
 
 -- the key behind which it is
-pub key_last : (old x y : Connection) (request : Request) (asks asks' : Asks) (i : ℕ) (p q r : Pool) (f g h : MemoryFleet) (ended : Bool) → Advances old 0 p f x i q g → IsOnWay x request asks i → x.stream ≡ old.stream → ServesKey x request i q g ended y asks' r h → ended ≡ true → ServesRequest old p f y r h
+pub key_last : (old x y : Connection) (request : Request) (asks asks' : Asks) (i : ℕ) (p q r : Router) (f g h : MemoryFleet) (ended : Bool) → Advances old 0 p f x i q g → IsOnWay x request asks i → x.stream ≡ old.stream → ServesKey x request i q g ended y asks' r h → ended ≡ true → ServesRequest old p f y r h
 key_last old x y request asks asks' i p q r f g h false a way same s e = absurd (cc)
 key_last old x y request asks asks' i p q r f g h true a way same s e =
     record {
@@ -119,5 +118,5 @@ more_stuck (Stands ThroughNewline held) is said next r = r
 more_stuck Closed is said next r = r
 
 -- a message more was done
-pub served_more : (old x y : Connection) (p q r : Pool) (f g h : MemoryFleet) → Advances old 0 p f x 0 q g → ServesRequest x q g y r h → Advances old 0 p f y 0 r h
+pub served_more : (old x y : Connection) (p q r : Router) (f g h : MemoryFleet) → Advances old 0 p f x 0 q g → ServesRequest x q g y r h → Advances old 0 p f y 0 r h
 served_more old x y p q r f g h a s = advances_on old x y 0 0 0 p q r f g h a s.advances

@@ -1,5 +1,5 @@
 -- Behind a message fewer bytes are held.
-use Rattle.std.proofs.Common.{◌≡◌, ℕ, zero, suc, ◌+◌, ◌-◌, ◌<◌, ◌≤◌, Bool, true, false, cond, eqb, List, [], ◌∷◌, ◌++◌, length, take, drop, Option, Some, None, Result, Ok, Err, refl, sym, ap, ◌∙◌, subst, arith, inl, inr, length-drop}
+use Rattle.std.proofs.Common.{◌≡◌, ℕ, ◌+◌, ◌<◌, ◌≤◌, true, false, eqb, List, [], ◌∷◌, length, take, drop, Option, Some, None, Result, Ok, Err, refl, ap, arith, inl, inr, length-drop}
 use Rattle.std.proofs.lemmas.Bool.{cases_lt, lt-ltb, le-ltb}
 use Rattle.mc_text.specs.Line.{LF, without_cr}
 use Rattle.mc_text.specs.Word.{words}
@@ -11,7 +11,7 @@ use Rattle.text_requests.specs.declared.command.End.{End}
 use Rattle.text_requests.specs.declared.command.End.TheVariants.{Open, Good, Bad}
 use Rattle.text_requests.specs.Order.{Order, order_of, skip_of}
 use Rattle.text_requests.specs.Message.{Message, Served, Refusal, Begins, meaning_of, with_rest, with_block, end_of, block_len}
-use Rattle.text_requests.specs.Stream.{Place, Stands, Closed, skipped, through_newline}
+use Rattle.text_requests.specs.Stream.{skipped, through_newline}
 use Rattle.text_requests.proofs.StreamLemmas.{used_within}
 use Rattle.text_codec.specs.Held.{held_at}
 

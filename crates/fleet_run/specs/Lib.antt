@@ -1,5 +1,5 @@
 pub mod Serving
-pub mod Events
 pub mod Scripted
 pub mod Bad
+pub mod Opening
 pub mod Driving

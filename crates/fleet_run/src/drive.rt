@@ -1,100 +1,38 @@
-// A script, run on a pool of servers in memory.
+// A script, run through a tree of routes on servers in memory.
 
-ghost use Rattle.std.specs.Prelude.{◌≡◌, ◌<◌, ◌≤◌, pos, ◌≤ℤ◌, List, [], false, length, map, sum_by, None, IfOk, IfErr, IfSome, OnOk, OnErr, MatchOption, MatchResult};
-ghost use Rattle.memory_fleet.specs.Fleets.{IsNewFleet, IsMoment, server_of};
-ghost use Rattle.fleet_run.specs.declared.script.Event.{Event};
-ghost use Rattle.fleet_run.specs.Serving.{IsServed};
-ghost use Rattle.fleet_run.specs.Events.{is_bad, piece_len, AreGood, IsFirstBad};
-ghost use Rattle.fleet_run.specs.Scripted.{scripted_of};
-ghost use Rattle.fleet_run.specs.Bad.{first_bad, Refuses};
+ghost use Rattle.std.specs.Prelude.{◌≡◌, ◌<◌, ◌≤◌, pos, ◌≤ℤ◌, List, [], true, false, length, map, None, IfOk, IfErr, OnOk, OnErr, MatchResult};
+ghost use Rattle.route_tree.specs.Route.{IsTree};
+ghost use Rattle.route_tree.specs.Direct.{is_direct};
+ghost use Rattle.memory_fleet.specs.Fleets.{IsNewFleet, IsMoment, count_of};
+ghost use Rattle.fleet_run.specs.Serving.{IsServed, tree_of};
+ghost use Rattle.fleet_run.specs.Scripted.{Scripted, scripted_of, transcript_of};
+ghost use Rattle.fleet_run.specs.Bad.{bad_in, first_bad, Refuses};
 ghost use Rattle.fleet_run.specs.Driving.{ServesPiece, HandsOut, TakesEvent, AreNew, Drives, DrivesPart, EndsAsFault, fault_of};
 
-use crate::pool::Pool;
+use crate::bad::{CLIENTS, first_bad_event};
+use crate::router::Router;
 use crate::script::{DriveFault, Event, Output, Report, Script, Transcript};
 use crate::serve::serve;
 use connections::Connection;
-use memory_fleet::{FleetFault, Loss, MemoryFleet};
+use memory_fleet::{FleetFault, MemoryFleet};
+use route_json::Config;
+use route_tree::Tree;
+use route_tree::laws::direct_is_one_server;
 use std::alloc::{AllocError, Global};
-
-/// How many clients a script has.
-pub const CLIENTS: usize = 64;
-
-/// The most bytes that all pieces of a script have together.
-pub const PIECE_LIMIT: usize = 16_777_216;
-
-fn server_of(loss: &Loss) -> u32
-    ensures { result ≡ server_of loss.now }
-{
-    match loss {
-        Loss::Item(server, _) => server.number(),
-        Loss::Restart(server) => server.number(),
-    }
-}
-
-// Whether the event can't be, behind pieces of so many bytes.
-fn is_bad(servers: u32, before: usize, event: &Event) -> bool
-    requires { before ≤ 16777216 }
-    ensures { (events : List Event) → before ≡ sum_by piece_len events → result ≡ is_bad servers events event.now }
-{
-    match event {
-        Event::Piece(client, bytes) => {
-            *client as usize >= CLIENTS || bytes.len() > PIECE_LIMIT - before
-        }
-        Event::Hold(_, _, _) => true,
-        Event::Fail(turn, _) => *turn == 0,
-        Event::Now(loss) => server_of(loss) >= servers,
-        Event::Moment(moment) => *moment < 0,
-    }
-}
-
-// How many bytes the event brings.
-fn piece_len(event: &Event) -> usize
-    ensures { result ≡ piece_len event.now }
-{
-    match event {
-        Event::Piece(_, bytes) => bytes.len(),
-        _ => 0,
-    }
-}
-
-// The same, by the places of the events.
-fn search(servers: u32, script: &Script) -> Option<usize>
-    ensures { MatchOption result (AreGood servers script.now.events.items) (IsFirstBad servers script.now.events.items) }
-{
-    let mut before = 0;
-    for (index, event) in script.events.iter().enumerate() {
-        if is_bad(servers, before, event) {
-            return Some(index);
-        }
-        before += piece_len(event);
-    }
-    None
-}
-
-/// The place of the first event that can't be, counted from 0: a client above 63, a server that isn't there, a turn
-/// counted 0, a moment below 0, the piece with which all pieces exceed 16,777,216 bytes; and, for now, what a server holds
-/// before the run. It takes no memory.
-pub fn first_bad_event(servers: u32, script: &Script) -> Option<usize>
-    ensures first { result ≡ first_bad servers (map scripted_of script.now.events.items) }
-    ensures within { IfSome result (λ at. at < length script.now.events.items) }
-    ensures places { MatchOption result (AreGood servers script.now.events.items) (IsFirstBad servers script.now.events.items) }
-{
-    search(servers, script)
-}
 
 // A piece comes, all that is complete is served, and the new output is taken.
 fn serve_piece(
     alloc: Global,
     connection: &mut Connection,
     bytes: &[u8],
-    pool: &mut Pool,
+    router: &mut Router,
     fleet: &mut MemoryFleet,
 ) -> Result<Vec<u8>, FleetFault>
-    requires { IsServed pool.old fleet.old }
-    ensures { IfOk result (λ out. ServesPiece connection.old pool.old fleet.old bytes.now out.items connection.new pool.new fleet.new) }
+    requires { IsServed (tree_of router.old) (count_of fleet.old) }
+    ensures { IfOk result (λ out. ServesPiece connection.old router.old fleet.old bytes.now out.items connection.new router.new fleet.new) }
 {
     connection.feed(bytes)?;
-    serve(alloc, connection, pool, fleet)?;
+    serve(alloc, connection, router, fleet)?;
     Ok(connection.take_output(alloc)?)
 }
 
@@ -123,24 +61,24 @@ fn set_clock(fleet: &mut MemoryFleet, moment: &i64)
 fn take_up(
     alloc: Global,
     clients: &mut Vec<Connection>,
-    pool: &mut Pool,
+    router: &mut Router,
     fleet: &mut MemoryFleet,
     event: &Event,
     transcript: &mut Transcript,
 ) -> Result<(), FleetFault>
-    requires served { IsServed pool.old fleet.old }
+    requires served { IsServed (tree_of router.old) (count_of fleet.old) }
     requires clients { length clients.old.items ≡ 64 }
-    requires good { (before : List Event) × (is_bad pool.old.servers before event.now ≡ false) }
-    ensures ok { OnOk result (TakesEvent clients.old.items pool.old fleet.old transcript.old event.now clients.new.items pool.new fleet.new transcript.new) }
+    requires good { (before : List Scripted) × (bad_in (count_of fleet.old) before (scripted_of event.now) ≡ false) }
+    ensures ok { OnOk result (TakesEvent clients.old.items router.old fleet.old transcript.old event.now clients.new.items router.new fleet.new transcript.new) }
     ensures err { OnErr result (transcript.new.shown.items ≡ transcript.old.shown.items) }
 {
     match event {
         Event::Piece(client, bytes) => {
             let place = *client as usize;
-            let output = serve_piece(alloc, &mut clients[place], bytes.as_slice(), pool, fleet)?;
+            let output = serve_piece(alloc, &mut clients[place], bytes.as_slice(), router, fleet)?;
             hand_out(*client, output, transcript)
         }
-        Event::Hold(_, _, _) => unreachable!(),
+        Event::Hold(server, key, content) => Ok(fleet.hold(*server, key, content.as_slice())?),
         Event::Fail(turn, manner) => fleet.fail(*turn, *manner),
         Event::Now(loss) => {
             fleet.lose(*loss);
@@ -167,28 +105,36 @@ fn new_clients(alloc: Global) -> Result<Vec<Connection>, AllocError>
 // The events of a script of which none is bad.
 fn drive_events(
     alloc: Global,
-    servers: u32,
+    tree: &Tree,
     fleet: &mut MemoryFleet,
     script: &Script,
     transcript: &mut Transcript,
 ) -> Result<Report, FleetFault>
-    requires servers { 0 < servers }
-    requires fleet { IsNewFleet servers fleet.old }
+    requires served { IsServed tree.now (count_of fleet.old) }
+    requires fleet { IsNewFleet (count_of fleet.old) fleet.old }
     requires transcript { transcript.old.shown.items ≡ [] }
-    requires good { AreGood servers script.now.events.items }
-    ensures ok { IfOk result (λ report. Drives servers fleet.old script.now.events.items transcript.new report) }
-    ensures err { OnErr result (DrivesPart servers fleet.old script.now.events.items transcript.new) }
+    requires good { first_bad (count_of fleet.old) (map scripted_of script.now.events.items) ≡ None }
+    ensures ok { IfOk result (λ report. Drives tree.now (map scripted_of script.now.events.items) (transcript_of transcript.new) report) }
+    ensures err { OnErr result (DrivesPart tree.now (map scripted_of script.now.events.items) (transcript_of transcript.new)) }
 {
+    direct_is_one_server();
     let mut clients = new_clients(alloc)?;
-    let mut pool = Pool::new(servers);
+    let mut router = Router::new(tree);
     for event in &script.events {
-        take_up(alloc, &mut clients, &mut pool, fleet, event, transcript)?;
+        take_up(alloc, &mut clients, &mut router, fleet, event, transcript)?;
     }
     Ok(Report {
-        commands: pool.number,
+        commands: router.number,
         calls: fleet.calls(),
         stale: 0,
     })
+}
+
+// A tree keeps its limits.
+fn is_tree(tree: &Tree)
+    ensures { IsTree tree.now }
+{
+    let _form = tree.form();
 }
 
 fn drive_fault(fault: FleetFault) -> DriveFault
@@ -200,31 +146,37 @@ fn drive_fault(fault: FleetFault) -> DriveFault
     }
 }
 
-/// Runs a script on a pool of servers in memory, one command at a time: each command asks the server at its key's slot.
-/// After each piece the client's new output stands in the transcript, where there is any.
+/// Runs a script through the configuration's tree on servers in memory, one command at a time. After each piece the
+/// client's new output stands in the transcript, where there is any.
+///
+/// The tree is one in which each key has one server (`Tree::is_direct`), and the fleet a new one with a server for each
+/// of the configuration's; a fleet that was driven isn't driven again.
 ///
 /// The error is `BadEvent` exactly where an event can't be, with the place of the first one, and then nothing has
 /// happened. After want of memory, or where numbers are spent, the transcript holds what was handed out before.
 ///
 /// Source: mcgate's own.
-pub fn drive_pool(
+pub fn drive_any(
     alloc: Global,
-    servers: u32,
+    config: &Config,
     fleet: &mut MemoryFleet,
     script: &Script,
     transcript: &mut Transcript,
 ) -> Result<Report, DriveFault>
-    requires servers { 0 < servers }
-    requires fleet { IsNewFleet servers fleet.old }
+    requires direct { is_direct config.now.tree ≡ true }
+    requires fleet { IsNewFleet (length config.now.servers) fleet.old }
     requires transcript { transcript.old.shown.items ≡ [] }
-    ensures refuses { MatchResult result (λ _. first_bad servers (map scripted_of script.now.events.items) ≡ None) (Refuses servers script.now) }
-    ensures ok { IfOk result (λ report. Drives servers fleet.old script.now.events.items transcript.new report) }
-    ensures fault { IfErr result (λ fault. EndsAsFault servers fleet.old script.now.events.items transcript.new fault) }
+    ensures refuses { MatchResult result (λ _. first_bad (length config.now.servers) (map scripted_of script.now.events.items) ≡ None) (Refuses (length config.now.servers) script.now) }
+    ensures ok { IfOk result (λ report. Drives config.now.tree (map scripted_of script.now.events.items) (transcript_of transcript.new) report) }
+    ensures fault { IfErr result (λ fault. EndsAsFault config.now.tree (map scripted_of script.now.events.items) transcript.new fault) }
 {
-    if let Some(index) = first_bad_event(servers, script) {
+    let servers = config.servers().len();
+    if let Some(index) = first_bad_event(servers as u32, script) {
         return Err(DriveFault::BadEvent(index));
     }
-    match drive_events(alloc, servers, fleet, script, transcript) {
+    let tree = config.tree();
+    is_tree(tree);
+    match drive_events(alloc, tree, fleet, script, transcript) {
         Ok(report) => Ok(report),
         Err(fault) => Err(drive_fault(fault)),
     }

@@ -1,19 +1,25 @@
 // What one client sent is served, message by message and key by key.
 
-ghost use Rattle.std.specs.Prelude.{◌≡◌, ◌+◌, ◌<◌, ◌≤◌, length, IfOk, OnOk};
+ghost use Rattle.std.specs.Prelude.{◌≡◌, true, ◌+◌, ◌<◌, ◌≤◌, length, IfOk, OnOk};
 ghost use Rattle.text_requests.specs.Asks.{IsClassicAsk};
 ghost use Rattle.mc_runs.specs.Single.{reply_of};
 ghost use Rattle.mc_runs.specs.Protocol.{IsStuck};
 ghost use Rattle.text_codec.specs.Classic.{classic};
 ghost use Rattle.text_codec.specs.Held.{held_at};
 ghost use Rattle.connections.specs.Steps.{held_len};
-ghost use Rattle.fleet_run.specs.Serving.{IsServed, IsFront, IsOnWay, IsAskAt, Asked, Shows, ServesAsk, ServesKey, ServesRequest, ServesAll};
+ghost use Rattle.memory_fleet.specs.Fleets.{count_of};
+ghost use Rattle.route_tree.specs.Direct.{is_direct, server_at};
+ghost use Rattle.route_tree.specs.Route.{IsTree};
+ghost use Rattle.route_json.specs.Fits.{IsBelow};
+ghost use Rattle.fleet_run.specs.Serving.{IsServed, tree_of, IsFront, IsOnWay, IsAskAt, Asked, Shows, ServesAsk, ServesKey, ServesRequest, ServesAll};
 
-use crate::pool::Pool;
+use crate::router::Router;
 use connections::Connection;
-use key_hash::slot;
-use mc_types::{Answer, Ask, ErrorText, Outcome, OwnText, ServerId};
+use mc_types::{Answer, Ask, ErrorText, Key, Outcome, OwnText, ServerId};
 use memory_fleet::{FleetFault, MemoryFleet};
+use route_json::laws::direct_servers_are_below;
+use route_tree::laws::direct_is_one_server;
+use route_tree::{PlainForm, Tree};
 use std::alloc::{AllocError, Global};
 use text_codec::{Asks, Read, Request, ends_message};
 
@@ -32,19 +38,39 @@ fn drop_answer(_answer: Answer) {}
 
 fn drop_ask(_ask: Ask) {}
 
-// The next command: one call, of the server at its key's slot.
-fn command(pool: &mut Pool, fleet: &mut MemoryFleet, ask: &Ask) -> Result<Answer, FleetFault>
-    requires served { IsServed pool.old fleet.old }
-    requires ask { IsClassicAsk ask.now }
-    ensures { IfOk result (λ reply. Asked pool.old fleet.old ask.now reply pool.new fleet.new) }
+// The key's one server.
+fn server_of(alloc: Global, tree: &Tree, key: &Key) -> Result<ServerId, AllocError>
+    requires { is_direct tree.now ≡ true }
+    ensures { IfOk result (λ server. server ≡ server_at tree.now key.now) }
 {
-    if pool.number == u64::MAX {
+    direct_is_one_server();
+    let plain = tree.at(alloc, key)?;
+    match plain.form() {
+        PlainForm::Server(server) => Ok(*server),
+        _ => unreachable!(),
+    }
+}
+
+// The next command: one call, of the key's server.
+fn command(
+    alloc: Global,
+    router: &mut Router,
+    fleet: &mut MemoryFleet,
+    ask: &Ask,
+) -> Result<Answer, FleetFault>
+    requires served { IsServed (tree_of router.old) (count_of fleet.old) }
+    requires ask { IsClassicAsk ask.now }
+    ensures { IfOk result (λ reply. Asked router.old fleet.old ask.now reply router.new fleet.new) }
+{
+    if router.number == u64::MAX {
         return Err(FleetFault::Spent);
     }
-    let number = pool.number + 1;
-    let server = ServerId::new(slot(&ask.key, pool.servers));
+    direct_is_one_server();
+    direct_servers_are_below();
+    let number = router.number + 1;
+    let server = server_of(alloc, router.tree, &ask.key)?;
     let made = fleet.call(number, server, ask)?;
-    pool.number = number;
+    router.number = number;
     Ok(reply_to(made.outcome))
 }
 
@@ -71,21 +97,23 @@ fn show(
 
 // The command of one ask of the request at the front: whether the request is done with its reply.
 fn serve_ask(
+    alloc: Global,
     connection: &mut Connection,
     request: &Request,
     index: usize,
     ask: &Ask,
-    pool: &mut Pool,
+    router: &mut Router,
     fleet: &mut MemoryFleet,
 ) -> Result<bool, FleetFault>
-    requires served { IsServed pool.old fleet.old }
+    requires served { IsServed (tree_of router.old) (count_of fleet.old) }
     requires at { IsAskAt connection.old request.now index ask.now }
     requires ask { IsClassicAsk ask.now }
-    ensures { IfOk result (λ ended. ServesAsk connection.old request.now index pool.old fleet.old ended connection.new pool.new fleet.new) }
+    ensures { IfOk result (λ ended. ServesAsk connection.old request.now index router.old fleet.old ended connection.new router.new fleet.new) }
 {
+    direct_is_one_server();
     let count = request.asks();
     let last = index + 1 == count;
-    let reply = command(pool, fleet, ask)?;
+    let reply = command(alloc, router, fleet, ask)?;
     let shown = show(connection, request.used, request.quiet(), last, ask, &reply);
     drop_answer(reply);
     match shown {
@@ -101,17 +129,17 @@ fn serve_key(
     request: &Request,
     index: usize,
     asks: &mut Asks,
-    pool: &mut Pool,
+    router: &mut Router,
     fleet: &mut MemoryFleet,
 ) -> Result<bool, FleetFault>
-    requires served { IsServed pool.old fleet.old }
+    requires served { IsServed (tree_of router.old) (count_of fleet.old) }
     requires way { IsOnWay connection.old request.now asks.old index }
-    ensures { IfOk result (λ ended. ServesKey connection.old request.now index pool.old fleet.old ended connection.new asks.new pool.new fleet.new) }
+    ensures { IfOk result (λ ended. ServesKey connection.old request.now index router.old fleet.old ended connection.new asks.new router.new fleet.new) }
 {
     let Some(ask) = asks.next(alloc, connection.stream.held())? else {
         unreachable!();
     };
-    let served = serve_ask(connection, request, index, &ask, pool, fleet);
+    let served = serve_ask(alloc, connection, request, index, &ask, router, fleet);
     drop_ask(ask);
     served
 }
@@ -121,12 +149,12 @@ fn serve_request(
     alloc: Global,
     connection: &mut Connection,
     request: &Request,
-    pool: &mut Pool,
+    router: &mut Router,
     fleet: &mut MemoryFleet,
 ) -> Result<(), FleetFault>
-    requires served { IsServed pool.old fleet.old }
+    requires served { IsServed (tree_of router.old) (count_of fleet.old) }
     requires front { IsFront connection.old request.now }
-    ensures { OnOk result (ServesRequest connection.old pool.old fleet.old connection.new pool.new fleet.new) }
+    ensures { OnOk result (ServesRequest connection.old router.old fleet.old connection.new router.new fleet.new) }
 {
     let count = request.asks();
     if count == 0 {
@@ -135,7 +163,7 @@ fn serve_request(
     }
     let mut asks = request.walk();
     let mut index = 0;
-    while !serve_key(alloc, connection, request, index, &mut asks, pool, fleet)? {
+    while !serve_key(alloc, connection, request, index, &mut asks, router, fleet)? {
         index += 1;
     }
     Ok(())
@@ -145,18 +173,18 @@ fn serve_request(
 pub fn serve(
     alloc: Global,
     connection: &mut Connection,
-    pool: &mut Pool,
+    router: &mut Router,
     fleet: &mut MemoryFleet,
 ) -> Result<(), FleetFault>
-    requires { IsServed pool.old fleet.old }
-    ensures { OnOk result (ServesAll connection.old pool.old fleet.old connection.new pool.new fleet.new) }
+    requires { IsServed (tree_of router.old) (count_of fleet.old) }
+    ensures { OnOk result (ServesAll connection.old router.old fleet.old connection.new router.new fleet.new) }
 {
     loop {
         match connection.stream.read() {
             Read::More => return Ok(()),
             Read::TooLong => connection.refuse_long_line()?,
             Read::Refused { why, used, skip } => connection.refuse(why, used, skip)?,
-            Read::Request(request) => serve_request(alloc, connection, &request, pool, fleet)?,
+            Read::Request(request) => serve_request(alloc, connection, &request, router, fleet)?,
         }
     }
 }

@@ -1,5 +1,5 @@
 //! Scripts with known transcripts: what clients of memcached see, and what failures, losses and time do to it.
-use crate::replay::{DONE, run_replay};
+use crate::replay::{BAD_INPUT, DONE, run_replay};
 use std::alloc::{AllocError, Global};
 use std::test::Fail;
 
@@ -52,8 +52,19 @@ fn hash_tags_and_a_restart(rt: HostRuntime) {
     assert!(rt; prints(rt.alloc(), script, lines));
 }
 
+/// The two servers of most examples, behind this route, on one line.
+fn two_servers(alloc: Global, route: &str) -> Result<String, AllocError> {
+    let mut line = String::from_str(
+        alloc,
+        "{\"pools\":{\"A\":{\"servers\":[\"127.0.0.1:5001\"]},\"B\":{\"servers\":[\"127.0.0.1:5002\"]}},\"route\":",
+    )?;
+    line.push_str(route)?;
+    line.push_str("}\n")?;
+    Ok(line)
+}
+
 #[test]
-fn key_lengths(rt: HostRuntime) -> Result<(), Fail> {
+fn key_lengths_and_longest_prefix(rt: HostRuntime) -> Result<(), Fail> {
     let longest = letters(rt.alloc(), "get ", 250, "\\r\\n")?;
     assert!(rt;
         prints(
@@ -70,6 +81,110 @@ fn key_lengths(rt: HostRuntime) -> Result<(), Fail> {
             "< 0 CLIENT_ERROR bad key\\r\\n\ndone 0 commands 0 calls 0 stale\n"
         )
     );
+    let mut script = two_servers(
+        rt.alloc(),
+        "{\"type\":\"PrefixSelectorRoute\",\"policies\":{\"a\":\"PoolRoute|A\",\"ab\":\"PoolRoute|B\"},\"wildcard\":\"PoolRoute|A\"}",
+    )?;
+    script.push_str(
+        "> 0 set ab 0 0 1\\r\\n1\\r\\nset a 0 0 1\\r\\n2\\r\\n\nrestart 1\n> 0 get ab a\\r\\n\n",
+    )?;
+    assert!(rt;
+        prints(
+            rt.alloc(),
+            script.as_str(),
+            "< 0 STORED\\r\\nSTORED\\r\\n\n< 0 VALUE a 0 1\\r\\n2\\r\\nEND\\r\\n\ndone 4 commands 4 calls 0 stale\n"
+        )
+    );
+    Ok(())
+}
+
+#[test]
+fn items_held_from_the_start(rt: HostRuntime) -> Result<(), Fail> {
+    let mut script = two_servers(rt.alloc(), "\"PoolRoute|B\"")?;
+    script.push_str(
+        "hold 0 a 7\nfail 1 before\nhold 1 a xyz\nmoment 5\nhold 1 b \n> 0 gets a\\r\\n\n> 0 gets a b\\r\\n\n> 0 delete a\\r\\nget a\\r\\n\n",
+    )?;
+    assert!(rt;
+        prints(
+            rt.alloc(),
+            script.as_str(),
+            "< 0 SERVER_ERROR call failed\\r\\n\n< 0 VALUE a 0 3 1\\r\\nxyz\\r\\nVALUE b 0 0 2\\r\\n\\r\\nEND\\r\\n\n< 0 DELETED\\r\\nEND\\r\\n\ndone 5 commands 5 calls 0 stale\n"
+        )
+    );
+    Ok(())
+}
+
+#[test]
+fn the_oldest_of_1025_held_items_is_pushed_out(rt: HostRuntime) -> Result<(), Fail> {
+    let mut script = String::from_str(rt.alloc(), "pool 1\n")?;
+    for number in 0..1025 {
+        writeln!(&mut script, "hold 0 k{} 1", number)?;
+    }
+    script.push_str("> 0 get k0 k1 k1024\\r\\n\n")?;
+    assert!(rt;
+        prints(
+            rt.alloc(),
+            script.as_str(),
+            "< 0 VALUE k1 0 1\\r\\n1\\r\\nVALUE k1024 0 1\\r\\n1\\r\\nEND\\r\\n\ndone 3 commands 3 calls 0 stale\n"
+        )
+    );
+    Ok(())
+}
+
+#[test]
+fn cas_numbers_go_on_over_a_restart(rt: HostRuntime) {
+    let script =
+        "pool 1\n> 0 set a 0 0 1\\r\\n1\\r\\ngets a\\r\\n\nrestart 0\n> 0 set a 0 0 1\\r\\n1\\r\\ngets a\\r\\n\n";
+    let lines =
+        "< 0 STORED\\r\\nVALUE a 0 1 1\\r\\n1\\r\\nEND\\r\\n\n< 0 STORED\\r\\nVALUE a 0 1 2\\r\\n1\\r\\nEND\\r\\n\ndone 4 commands 4 calls 0 stale\n";
+    assert!(rt; prints(rt.alloc(), script, lines));
+}
+
+#[test]
+fn what_has_expired_is_gone_though_the_moment_goes_back(rt: HostRuntime) {
+    let script =
+        "pool 1\n> 0 set a 0 10 1\\r\\n1\\r\\nset b 0 0 1\\r\\n2\\r\\n\nmoment 10\n> 0 get b\\r\\n\nmoment 0\n> 0 get a\\r\\n\n";
+    let lines =
+        "< 0 STORED\\r\\nSTORED\\r\\n\n< 0 VALUE b 0 1\\r\\n2\\r\\nEND\\r\\n\n< 0 END\\r\\n\ndone 4 commands 4 calls 0 stale\n";
+    assert!(rt; prints(rt.alloc(), script, lines));
+}
+
+// A fault, and the line that tells it.
+#[test]
+fn configuration_faults(rt: HostRuntime) -> Result<(), Fail> {
+    let cases = [
+        ("[]", "not JSON"),
+        ("{}", "bad field pools"),
+        (
+            "{\"pools\":{\"A\":{\"servers\":[]}},\"route\":\"NullRoute\"}",
+            "empty pool A",
+        ),
+        (
+            "{\"pools\":{\"A\":{\"servers\":[\"h:0\"]}},\"route\":\"NullRoute\"}",
+            "bad address h:0",
+        ),
+        ("{\"pools\":{},\"route\":\"PoolRoute|Z\"}", "no pool Z"),
+        (
+            "{\"pools\":{},\"route\":\"RandomRoute\"}",
+            "unknown route RandomRoute",
+        ),
+        (
+            "{\"pools\":{},\"route\":{\"type\":\"AllSyncRoute\",\"children\":[]}}",
+            "no children",
+        ),
+        (
+            "{\"pools\":{},\"route\":{\"type\":\"PrefixSelectorRoute\",\"policies\":{\"\":\"NullRoute\"}}}",
+            "bad prefix ",
+        ),
+    ];
+    for (text, want) in cases {
+        let mut line = String::from_str(rt.alloc(), "config: ")?;
+        line.push_str(want)?;
+        line.push('\n')?;
+        let mut out = Vec::new(rt.alloc());
+        assert_eq!(rt; run_replay(rt.alloc(), false, text, &mut out), BAD_INPUT);
+        assert_eq!(rt; out.as_slice(), line.as_bytes());
+    }
     Ok(())
 }
 
@@ -163,7 +278,7 @@ fn failed_before_it_was_applied(rt: HostRuntime) {
 }
 
 #[test]
-fn arithmetic_and_a_restart(rt: HostRuntime) {
+fn arithmetic_and_stamps(rt: HostRuntime) {
     let script =
         "pool 1\n> 0 set n 0 0 20\\r\\n18446744073709551615\\r\\n\n> 0 incr n 1\\r\\n\n> 0 append n 0 0 1\\r\\n5\\r\\n\n> 0 get n\\r\\n\nrestart 0\n> 0 incr n 1\\r\\n\n";
     let lines =

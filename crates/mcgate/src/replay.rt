@@ -1,9 +1,10 @@
-ghost use Rattle.std.specs.Prelude.{◌≡◌, ◌≤◌, ◌<◌, IfOk, length};
-ghost use Rattle.mcgate.specs.Replay.{Replays, RunsPool};
+ghost use Rattle.std.specs.Prelude.{◌≡◌, ◌≤◌, true, IfOk, length};
+ghost use Rattle.route_tree.specs.Direct.{is_direct};
+ghost use Rattle.mcgate.specs.Replay.{Replays, RunsScript};
 
-use fleet_run::{DriveFault, MemoryFleet, Transcript, drive_pool};
-use script_text::pool::{PoolScript, ScriptFault};
-use script_text::printer::{write_bad_line, write_report, write_transcript};
+use fleet_run::{DriveFault, MemoryFleet, Transcript, drive_any};
+use script_text::configured::{ConfiguredScript, ScriptFault};
+use script_text::printer::{write_bad_line, write_config_fault, write_report, write_transcript};
 use script_text::reader::read_script;
 use std::alloc::{AllocError, Global};
 use std::io;
@@ -42,20 +43,25 @@ impl From<io::Error> for RunFault {
     }
 }
 
-fn run_pool<W: Write>(alloc: Global, pool: &PoolScript, out: &mut W) -> Result<u8, RunFault>
-    requires some { 0 < pool.now.servers }
-    requires paired { length pool.now.lines.items ≡ length pool.now.script.events.items }
-    ensures { IfOk result (RunsPool pool.now (W.contents out.old) (W.contents out.new)) }
+fn run_script<W: Write>(
+    alloc: Global,
+    configured: &ConfiguredScript,
+    out: &mut W,
+) -> Result<u8, RunFault>
+    requires direct { is_direct configured.now.config.tree ≡ true }
+    requires paired { length configured.now.lines.items ≡ length configured.now.script.events.items }
+    ensures { IfOk result (RunsScript configured.now (W.contents out.old) (W.contents out.new)) }
 {
-    let mut fleet = MemoryFleet::new(alloc, pool.servers)?;
+    let servers = configured.config.servers().len();
+    let mut fleet = MemoryFleet::new(alloc, servers as u32)?;
     let mut transcript = Transcript {
         shown: Vec::new(alloc),
     };
-    match drive_pool(
+    match drive_any(
         alloc,
-        pool.servers,
+        &configured.config,
         &mut fleet,
-        &pool.script,
+        &configured.script,
         &mut transcript,
     ) {
         Ok(report) => {
@@ -64,7 +70,7 @@ fn run_pool<W: Write>(alloc: Global, pool: &PoolScript, out: &mut W) -> Result<u
             Ok(DONE)
         }
         Err(DriveFault::BadEvent(event)) => {
-            let line = pool.line_of(event).unwrap();
+            let line = configured.line_of(event).unwrap();
             write_bad_line(line, out)?;
             Ok(BAD_INPUT)
         }
@@ -80,8 +86,12 @@ fn run_pool<W: Write>(alloc: Global, pool: &PoolScript, out: &mut W) -> Result<u
 fn replay<W: Write>(alloc: Global, text: &str, out: &mut W) -> Result<u8, RunFault>
     ensures { IfOk result (Replays text.now (W.contents out.old) (W.contents out.new)) }
 {
-    match read_script(alloc, text.as_bytes()) {
-        Ok(pool) => run_pool(alloc, &pool, out),
+    match read_script(alloc, text) {
+        Ok(configured) => run_script(alloc, &configured, out),
+        Err(ScriptFault::Config(fault)) => {
+            write_config_fault(&fault, out)?;
+            Ok(BAD_INPUT)
+        }
         Err(ScriptFault::BadLine(line)) => {
             write_bad_line(line, out)?;
             Ok(BAD_INPUT)
@@ -90,10 +100,11 @@ fn replay<W: Write>(alloc: Global, text: &str, out: &mut W) -> Result<u8, RunFau
     }
 }
 
-/// Runs a script over servers in memory, and prints the transcript and the report, or the line that is bad.
+/// Runs a script over servers in memory, and prints the transcript and the report, or the fault of its configuration, or
+/// the line that is bad.
 ///
 /// The answer is the program's exit status, [`DONE`] or [`BAD_INPUT`]; or else [`NO_MEMORY`] where memory was refused, or [`WRITER`]
-/// where the output could not be written: then some of the lines may have been. `any` is for trees that a gate tests; a pool is none.
+/// where the output could not be written: then some of the lines may have been. `any` is for trees that a gate tests; those that are run now need none.
 pub fn run_replay<W: Write>(alloc: Global, any: bool, text: &str, out: &mut W) -> u8
     ensures status { result ≤ 4 }
     ensures wrote { result ≤ 2 → Replays text.now (W.contents out.old) (W.contents out.new) result }

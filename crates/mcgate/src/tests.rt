@@ -102,9 +102,35 @@ fn scripts_that_are_run(rt: HostRuntime) {
             DONE,
             "done 0 commands 0 calls 0 stale\n",
         ),
-        ("", BAD_INPUT, "script: bad line 1\n"),
+        ("", BAD_INPUT, "config: not JSON\n"),
+        ("# pool 1\npool 1", BAD_INPUT, "config: not JSON\n"),
         ("pool 0", BAD_INPUT, "script: bad line 1\n"),
-        ("{\"pools\":{}}\n", BAD_INPUT, "script: bad line 1\n"),
+        ("pools", BAD_INPUT, "script: bad line 1\n"),
+        (
+            "{\"pools\":{}}\n> 64 \n",
+            BAD_INPUT,
+            "config: bad field route\n",
+        ),
+        (
+            "{\"pools\":{},\"route\":\"NullRoute\"}\n",
+            BAD_INPUT,
+            "script: bad line 1\n",
+        ),
+        (
+            "pool 1\nhold 0 a 1\nhold 1 a 1\n",
+            BAD_INPUT,
+            "script: bad line 3\n",
+        ),
+        (
+            "pool 1\n> 0 get a\\r\\n\nhold 0 a 1\n",
+            BAD_INPUT,
+            "script: bad line 3\n",
+        ),
+        (
+            "pool 1\nlose 0 a\n\nhold 0 a 1\nx\n",
+            BAD_INPUT,
+            "script: bad line 4\n",
+        ),
         (
             "pool 1\n\nat 1 restart 0\n",
             BAD_INPUT,

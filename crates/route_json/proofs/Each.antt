@@ -1,11 +1,11 @@
 -- Loops that read each of a list.
-use Rattle.std.proofs.Common.{◌≡◌, ◌≤◌, ◌<◌, ℕ, zero, suc, ◌+◌, List, [], ◌∷◌, ◌++◌, length, append-nil, drop, get_or, drop-cons, add-one, Result, Ok, Err, refl, sym, ap, ap₂, ◌∙◌, arith}
+use Rattle.std.proofs.Common.{◌≡◌, ◌<◌, ℕ, suc, ◌+◌, List, [], ◌∷◌, ◌++◌, length, drop, get_or, drop-cons, add-one, Result, Ok, Err, refl, sym, ap, ap₂, ◌∙◌}
 use Rattle.serde_json.specs.Data.{Data}
 use Rattle.serde_json.specs.View.{view, items_view, members_view}
 use Rattle.serde_json.proofs.Views.{Entry}
 use Rattle.serde_json.specs.declared.value.Value.{Value}
 use Rattle.route_json.specs.Fault.{Fault}
-use Rattle.route_json.specs.Reading.{Reading, ◌>>=◌, then_read, give, pure, each, values, members, named}
+use Rattle.route_json.specs.Reading.{Reading, then_read, give, pure, each, values, members, named}
 
 append_more : {A : Type 0} (xs : List A) (x : A) (ys : List A) → xs ++ x ∷ ys ≡ (xs ++ x ∷ []) ++ ys
 append_more [] x ys = refl

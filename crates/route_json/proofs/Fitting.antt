@@ -1,13 +1,13 @@
 -- Routes that were read fit into depth and count.
-use Rattle.std.proofs.Common.{◌≡◌, ◌≤◌, ◌<◌, ℕ, zero, suc, get_or, ◌+◌, ◌*◌, max, List, [], ◌∷◌, ◌++◌, length, Result, Ok, Err, refl, sym, ap, ◌∙◌, arith, subst}
+use Rattle.std.proofs.Common.{◌≡◌, ◌≤◌, ◌<◌, ℕ, ◌+◌, ◌*◌, List, [], ◌∷◌, ◌++◌, length, Result, Ok, refl, sym, ap, arith, subst}
 use Rattle.mc_types.specs.KeyText.{IsKey}
 use Rattle.mc_types.specs.declared.ask.Op.{Op}
-use Rattle.route_tree.specs.Route.{Route, Routes, End, More, WarmUp, ByOperation, ByPrefix, IsNotEmpty, IsGood, AreGood, ArePoliciesGood, ArePrefixesGood, depth, depth_of_all, depth_of_policies, depth_of_prefixes, count, count_of_all, count_of_policies, count_of_prefixes}
+use Rattle.route_tree.specs.Route.{Route, ByOperation, ByPrefix, IsNotEmpty, IsGood, AreGood, ArePoliciesGood, ArePrefixesGood, depth, depth_of_all, depth_of_policies, depth_of_prefixes, count, count_of_all, count_of_policies, count_of_prefixes}
 use Rattle.route_tree.specs.Form.{routes_of, policies_of, prefixes_of}
 use Rattle.route_json.specs.declared.fields.Lists.{Lists}
 use Rattle.route_json.specs.declared.fields.Lists.TheVariants.{AllSync, Failover, MissFailover}
 use Rattle.route_json.specs.Fault.{Fault}
-use Rattle.route_json.specs.Fits.{IsBelow, AreBelow, ArePoliciesBelow, ArePrefixesBelow, IsLeaf, Fits, AllFit, NodeFits, seconds, AreKeys}
+use Rattle.route_json.specs.Fits.{IsBelow, AreBelow, ArePoliciesBelow, ArePrefixesBelow, Fits, AllFit, NodeFits, seconds, AreKeys}
 use Rattle.route_json.specs.Reading.{Reading}
 use Rattle.route_json.specs.Routes.{listed}
 use Rattle.route_json.proofs.Each.{Goes, goes}

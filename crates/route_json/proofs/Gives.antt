@@ -1,5 +1,5 @@
 -- Answers and readings.
-use Rattle.std.proofs.Common.{◌≡◌, Option, Some, None, Result, Ok, Err, IfSome, ap, sym, ◌∙◌, subst}
+use Rattle.std.proofs.Common.{◌≡◌, Option, Some, None, Result, Err, IfSome, ap, sym, ◌∙◌, subst}
 use Rattle.route_json.specs.declared.fault.ConfigFault.{ConfigFault}
 use Rattle.route_json.specs.Fault.{Fault, Fails, Gives}
 

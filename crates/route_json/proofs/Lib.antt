@@ -5,3 +5,5 @@ pub mod Numbers
 pub mod Gives
 pub mod Fitting
 pub mod RouteSteps
+pub mod OnePool
+pub mod DirectServers

@@ -1,6 +1,5 @@
 -- The loops over a pool's list and over the pools.
-use Rattle.std.proofs.Common.{cond, nat_eq, nat_lt, zero, suc, get_or, ◌≡◌, ◌≤◌, ◌<◌, ℕ, ◌+◌, List, [], ◌∷◌, ◌++◌, length, Result, Ok, Err, IfSome, refl, sym, ap, ◌∙◌, arith, subst, length-append}
-use Rattle.std.specs.Borrow.{Bor}
+use Rattle.std.proofs.Common.{cond, nat_eq, nat_lt, zero, suc, get_or, ◌≡◌, ◌≤◌, ◌<◌, ℕ, ◌+◌, List, [], ◌∷◌, ◌++◌, length, Result, Ok, Err, refl, sym, ap, ◌∙◌, arith, subst, length-append}
 use Rattle.std.proofs.lemmas.Bool.Decides.{nat_tests}
 use Rattle.serde_json.specs.View.{items_view}
 use Rattle.serde_json.specs.declared.value.Value.{Value}
@@ -16,7 +15,7 @@ below_more : (b d : ℕ) (xs : List ℕ) → b ≤ d → AllBelow b xs → AllBe
 below_more b d [] le h = tt
 below_more b d (x ∷ xs) le h = (omega (arith, h.0), below_more b d xs le h.1)
 
-below_push : (b : ℕ) (xs : List ℕ) (x : ℕ) → AllBelow b xs → x < b → AllBelow b (xs ++ x ∷ [])
+pub below_push : (b : ℕ) (xs : List ℕ) (x : ℕ) → AllBelow b xs → x < b → AllBelow b (xs ++ x ∷ [])
 below_push b [] x h lt = (lt, tt)
 below_push b (y ∷ ys) x h lt = (h.0, below_push b ys x h.1 lt)
 

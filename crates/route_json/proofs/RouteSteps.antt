@@ -1,10 +1,9 @@
 -- A route, level by level.
 use Rattle.std.proofs.Common.{◌≡◌, ℕ, suc, Result, Ok, Err, List, ap, ◌∙◌}
 use Rattle.serde_json.specs.Data.{Data}
-use Rattle.route_tree.specs.Route.{Route}
 use Rattle.route_json.specs.Fault.{Fault, TooDeep}
 use Rattle.route_json.specs.Pools.{Pools}
-use Rattle.route_json.specs.Reading.{Reading, then_read}
+use Rattle.route_json.specs.Reading.{then_read}
 use Rattle.route_json.specs.Routes.{counts, node, route}
 
 module _ (pools : Pools) (w : ℕ) (field : List ℕ) (d : Data) (n : ℕ) where

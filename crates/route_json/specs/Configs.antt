@@ -1,14 +1,14 @@
 -- What a configuration means: the tree and the servers that a JSON value stands for, or its first fault.
 -- Source: mcgate's own, under mcrouter's names of routes.
-use Rattle.std.specs.Prelude.{ℕ, List, [], codes, Option, Some, None, Result, Ok, Err}
-use Rattle.serde_json.specs.Data.{Data, null, boolean, number, string, array, object, Members}
+use Rattle.std.specs.Prelude.{[], codes, Option, Some, None, Result, Ok, Err}
+use Rattle.serde_json.specs.Data.{Data, object}
 use Rattle.serde_json.specs.Find.{get}
 use Rattle.route_tree.specs.Route.{Route}
 use Rattle.route_json.specs.declared.fields.Holder.TheVariants as holders
 use Rattle.route_json.specs.Fault.{Fault, NotJson}
 use Rattle.route_json.specs.Fields.{only, value_or, object_or}
 use Rattle.route_json.specs.Pools.{Pools, pools_in}
-use Rattle.route_json.specs.Reading.{Reading, ◌>>=◌, then_read, give, fail, pure, members}
+use Rattle.route_json.specs.Reading.{Reading, ◌>>=◌, fail, pure}
 use Rattle.route_json.specs.Routes.{route}
 use Rattle.route_json.specs.Servers.{Addresses}
 

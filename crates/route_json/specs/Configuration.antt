@@ -1,5 +1,5 @@
 -- A tree of routes and the servers that it may name.
-use Rattle.std.specs.Prelude.{ℕ, refl}
+use Rattle.std.specs.Prelude.{refl}
 use Rattle.std.specs.Coded.{Coded, code_by, coded×, coded_list, coded_ℕ}
 use Rattle.route_tree.specs.Route.{Route}
 use Rattle.route_tree.specs.RouteCode.{route_code}

@@ -1,12 +1,10 @@
 -- Which fields an object may have, and what stands in them. Source: mcgate's own, under mcrouter's names of routes.
-use Rattle.std.specs.Prelude.{ℕ, List, [], ◌∷◌, ◌++◌, codes, Option, Some, None, Result, Ok, Err, nat_eq, nat_le, if◌then◌else◌}
+use Rattle.std.specs.Prelude.{ℕ, List, [], ◌∷◌, codes, Option, Some, None, Result, Ok, Err, nat_eq, nat_le, if◌then◌else◌}
 use Rattle.std.specs.List.{list_any}
 use Rattle.std.specs.Str.{bytes_eq}
 use Rattle.mc_types.specs.declared.ask.Op.{Op}
 use Rattle.mc_types.specs.declared.ask.Op.TheVariants as ops
-use Rattle.serde_json.specs.Data.{Data, Num, unsigned, negative, float, null, boolean, number, string, array, object, Items, Members, no_members, member}
-use Rattle.serde_json.specs.Find.{get}
-use Rattle.route_json.specs.declared.fields.Lists.{Lists}
+use Rattle.serde_json.specs.Data.{Data, unsigned, number, string, array, object, Items, Members}
 use Rattle.route_json.specs.declared.fields.Lists.TheVariants as lists
 use Rattle.route_json.specs.declared.fields.Kind.{Kind}
 use Rattle.route_json.specs.declared.fields.Kind.TheVariants as kinds

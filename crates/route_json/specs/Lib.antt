@@ -10,3 +10,5 @@ pub mod Routes
 pub mod Configs
 pub mod Fits
 pub mod Configuration
+pub mod PoolConfiguration
+pub mod DirectServers

@@ -1,13 +1,13 @@
 -- Pools of servers. Source: mcgate's own.
-use Rattle.std.specs.Prelude.{ℕ, ◌<◌, ◌≤◌, ◌==◌, List, [], ◌∷◌, codes, length, nat_lt, Option, Some, None, Result, Ok, Err, if◌then◌else◌, string_bytes}
+use Rattle.std.specs.Prelude.{ℕ, ◌<◌, ◌≤◌, ◌==◌, List, [], ◌∷◌, codes, length, nat_lt, Option, Some, None, Ok, Err, if◌then◌else◌, string_bytes}
 use Rattle.std.specs.Str.{bytes_eq}
-use Rattle.serde_json.specs.Data.{Data, null, boolean, number, string, array, object, Members}
+use Rattle.serde_json.specs.Data.{Data, string, object, Members}
 use Rattle.serde_json.specs.Find.{get}
 use Rattle.route_json.specs.declared.fields.Holder.TheVariants as holders
 use Rattle.route_json.specs.declared.pools.Pool.{Pool}
-use Rattle.route_json.specs.Fault.{Fault, BadField, EmptyPool, TooManyServers}
+use Rattle.route_json.specs.Fault.{BadField, EmptyPool, TooManyServers}
 use Rattle.route_json.specs.Fields.{only, list_or}
-use Rattle.route_json.specs.Reading.{Reading, ◌>>=◌, then_read, give, fail, pure, each, values, members, named}
+use Rattle.route_json.specs.Reading.{Reading, ◌>>=◌, fail, pure, each, values, members, named}
 use Rattle.route_json.specs.Servers.{Addresses, server_of_text}
 
 -- names with the numbers of their servers

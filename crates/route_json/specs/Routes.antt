@@ -1,10 +1,10 @@
 -- Routes, read while they are counted. Source: mcgate's own, under mcrouter's names of routes.
-use Rattle.std.specs.Prelude.{ℕ, zero, suc, ◌+◌, ◌*◌, List, [], ◌∷◌, codes, nat_le, Option, Some, None, Result, Ok, Err, if◌then◌else◌}
+use Rattle.std.specs.Prelude.{ℕ, zero, suc, ◌+◌, ◌*◌, List, codes, nat_le, Option, Some, None, Result, Ok, Err, if◌then◌else◌}
 use Rattle.std.specs.Str.{bytes_eq}
 use Rattle.mc_types.specs.Fault.{read_key}
 use Rattle.mc_types.specs.declared.ask.Op.{Op}
 use Rattle.mc_types.specs.declared.key.KeyFault.{KeyFault}
-use Rattle.serde_json.specs.Data.{Data, null, boolean, number, string, array, object, Items, no_items, item, Members}
+use Rattle.serde_json.specs.Data.{Data, string, array, object, no_items, item}
 use Rattle.serde_json.specs.Find.{get}
 use Rattle.route_tree.specs.Route as forms
 use Rattle.route_tree.specs.Route.{Route, Routes, Server, Failing}
@@ -17,7 +17,7 @@ use Rattle.route_json.specs.declared.fields.Holder.TheVariants as holders
 use Rattle.route_json.specs.Fault.{Fault, BadField, TooDeep, TooManyNodes, UnknownType, NoPool, EmptyChildren, BadPrefix}
 use Rattle.route_json.specs.Fields.{only, value_or, text_or, object_or, exptime_or, kind_of, op_of, op_or, behind}
 use Rattle.route_json.specs.Pools.{Pools, servers_of}
-use Rattle.route_json.specs.Reading.{Reading, ◌>>=◌, then_read, give, fail, pure, each, values, members, named}
+use Rattle.route_json.specs.Reading.{Reading, ◌>>=◌, give, fail, pure, each, values, members, named}
 
 -- one route of this weight more, of at most 4,096
 abbrev pub counts : ℕ → Reading ℕ (Unit {0})

@@ -1,9 +1,9 @@
 -- Servers by their first appearance. Source: mcgate's own.
-use Rattle.std.specs.Prelude.{◌≡◌, ℕ, ◌≤◌, List, [], ◌∷◌, ◌++◌, length, nat_lt, false, Option, Some, None, Result, Ok, Err, if◌then◌else◌, String, string_bytes, map, position}
+use Rattle.std.specs.Prelude.{◌≡◌, ℕ, ◌≤◌, List, [], ◌∷◌, ◌++◌, length, nat_lt, false, Option, Some, None, Ok, Err, if◌then◌else◌, String, string_bytes, map, position}
 use Rattle.std.specs.List.{list_any}
 use Rattle.std.specs.Str.{bytes_eq}
 use Rattle.std.specs.declared.alloc.Global.{Global}
-use Rattle.route_json.specs.Fault.{Fault, BadAddress, TooManyServers}
+use Rattle.route_json.specs.Fault.{BadAddress, TooManyServers}
 use Rattle.route_json.specs.Addresses.{is_address}
 use Rattle.route_json.specs.Reading.{Reading}
 

@@ -1,4 +1,4 @@
-ghost use Rattle.std.specs.Prelude.{◌≡◌, ◌<◌, ◌≤◌, [], IfOk, length, option_map, slice_get, nat_eq, false, None};
+ghost use Rattle.std.specs.Prelude.{◌≡◌, ◌<◌, ◌≤◌, [], ◌∷◌, ◌++◌, IfOk, OnErr, length, option_map, slice_get, nat_eq, false, None};
 ghost use Rattle.std.specs.List.{list_any};
 ghost use Rattle.std.specs.Str.{bytes_eq};
 ghost use Rattle.route_json.specs.Fault.{Gives};
@@ -87,10 +87,22 @@ impl Servers {
         ensures below { IfOk result (λ n. n < length self.new) }
         ensures more { length self.old ≤ length self.new }
     {
-        let index = self.set.len();
-        if index >= MAX_SERVERS {
+        if self.len() >= MAX_SERVERS {
             return Err(too_many_servers(alloc, pool));
         }
+        Ok(self.push(alloc, address)?)
+    }
+
+    /// The number of an address that is none of these yet: it goes last. The only error is want of memory, and nothing
+    /// has changed then.
+    pub fn push(&mut self, alloc: Global, address: &str) -> Result<ServerId, AllocError>
+        requires new { list_any (bytes_eq address.now) self.old ≡ false }
+        requires room { length self.old < 4294967295 }
+        ensures number { IfOk result (λ n. n ≡ length self.old) }
+        ensures last { IfOk result (λ n. self.new ≡ self.old ++ address.now ∷ []) }
+        ensures err { OnErr result (self.new ≡ self.old) }
+    {
+        let index = self.set.len();
         self.set.insert(String::from_str(alloc, address)?)?;
         Ok(ServerId::new(index as u32))
     }

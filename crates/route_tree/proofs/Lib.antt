@@ -8,3 +8,4 @@ pub mod Gets
 pub mod Going
 pub mod Showing
 pub mod Servers
+pub mod OneServer

@@ -13,3 +13,4 @@ pub mod Place
 pub mod Word
 pub mod WordLaws
 pub mod Servers
+pub mod Direct

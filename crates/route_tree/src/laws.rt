@@ -2,6 +2,7 @@
 //! it by a call.
 
 ghost use Rattle.route_tree.specs.At.{LongestIsTaken};
+ghost use Rattle.route_tree.specs.Direct.{DirectIsOneServer};
 ghost use Rattle.route_tree.specs.Place.{PlaceIsEnough};
 ghost use Rattle.route_tree.specs.Servers.{ServersStay, CallsStay};
 ghost use Rattle.route_tree.specs.WordLaws.{AskIsPassedOn, DeletesAskDeletes, EachAskHasAWord, EachOutcomeGoesOn, CallsAreWithin, RepliesShowWhatWasFound, OneServerIsOneCall};
@@ -60,4 +61,9 @@ pub fn replies_show_what_was_found()
 /// The words of a plain tree that is one server are one call of it.
 pub fn one_server_is_one_call()
     ensures { OneServerIsOneCall }
+{}
+
+/// The plain tree of each key of a direct tree is one server, and a command is one call of it.
+pub fn direct_is_one_server()
+    ensures { DirectIsOneServer }
 {}

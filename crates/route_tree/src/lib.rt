@@ -2,6 +2,7 @@
 #![tactic(auto)]
 
 pub mod at;
+pub mod direct;
 pub mod laws;
 pub mod place;
 pub mod plain;

@@ -4,6 +4,7 @@ pub mod Lines
 pub mod Events
 pub mod Seen
 pub mod Behind
+pub mod FirstLine
 pub mod Script
 pub mod Read
 pub mod Printed

@@ -1,15 +1,14 @@
 -- What the text of a script says. Source: mcgate's own.
-use Rattle.std.specs.Prelude.{◌≡◌, ℕ, ◌+◌, ◌==◌, if◌then◌else◌, List, [], ◌∷◌, map, Option, Some, None, Result, Ok, Err, slice_get, codes, IsSome}
-use Rattle.std.specs.Option.{option_map}
-use Rattle.std.specs.Str.{bytes_eq}
-use Rattle.mc_text.specs.Number.{number_below}
+use Rattle.std.specs.Prelude.{◌≡◌, ℕ, ◌+◌, ◌==◌, if◌then◌else◌, List, [], ◌∷◌, length, map, Option, Some, None, Result, Ok, Err, slice_get, IsSome}
+use Rattle.route_json.specs.Configuration.{Configuration}
 use Rattle.fleet_run.specs.Scripted.{Scripted, scripted_of}
 use Rattle.fleet_run.specs.Bad.{first_bad}
-use Rattle.script_text.specs.Lines.{lines_of, cut}
-use Rattle.script_text.specs.Events.{nonzero, event_said, ◌>>=◌}
-use Rattle.script_text.specs.declared.pool.PoolScript.{PoolScript}
-use Rattle.script_text.specs.declared.pool.ScriptFault.{ScriptFault}
-use Rattle.script_text.specs.declared.pool.ScriptFault.TheVariants.{BadLine, NoMemory}
+use Rattle.script_text.specs.Lines.{lines_of}
+use Rattle.script_text.specs.Events.{event_said, ◌>>=◌}
+use Rattle.script_text.specs.FirstLine.{WhyNot, IsBadLine, HasFault, first_said, TellsFault}
+use Rattle.script_text.specs.declared.configured.ConfiguredScript.{ConfiguredScript}
+use Rattle.script_text.specs.declared.configured.ScriptFault.{ScriptFault}
+use Rattle.script_text.specs.declared.configured.ScriptFault.TheVariants.{Config, BadLine, NoMemory}
 
 -- what a further line is: no event, an event, or a line that can't be read
 pub data Meaning : Type 0 where
@@ -52,31 +51,24 @@ abbrev pub first_unreadable : ℕ → List (List ℕ) → Option ℕ
 first_unreadable n [] = None
 first_unreadable n (line ∷ lines) = or_behind (line_means line) n (first_unreadable (n + 1) lines)
 
--- a pool's size: 1..=1024
-abbrev pub size_said : List ℕ → Option ℕ
-size_said word = do
-  n ← number_below 1025 word
-  nonzero n
-
--- the size of the pool that a first line says: `pool N`
-abbrev pub pool_said : List ℕ → Option ℕ
-pool_said line = do
-  parts ← cut line
-  if bytes_eq parts.word (codes "pool") then size_said parts.rest else None
-
--- what the text of a script says: the pool's size, the events before the first line that can't be read, and that line's number
+-- what the text of a script says: its configuration, the events before the first line that can't be read, and that line's number
 pub record Told : Type 0 where
-  pub servers : ℕ
+  pub configuration : Configuration
   pub said : List Numbered
   pub unreadable : Option ℕ
 
--- what lines say; nothing where the first is no pool line
-abbrev pub told_by : List (List ℕ) → Option Told
-told_by [] = None
-told_by (first ∷ further) = option_map (λ n. record { servers = n; said = numbered 2 further; unreadable = first_unreadable 2 further }) (pool_said first)
+-- what a first line and further lines say
+abbrev pub told_behind : Result Configuration WhyNot → List (List ℕ) → Result Told WhyNot
+told_behind (Ok c) further = Ok (record { configuration = c; said = numbered 2 further; unreadable = first_unreadable 2 further })
+told_behind (Err why) further = Err why
+
+-- what lines say; or why the first says no configuration
+abbrev pub told_by : List (List ℕ) → Result Told WhyNot
+told_by [] = Err IsBadLine
+told_by (first ∷ further) = told_behind (first_said first) further
 
 -- what a text says
-abbrev pub told : List ℕ → Option Told
+abbrev pub told : List ℕ → Result Told WhyNot
 told text = told_by (lines_of text)
 
 -- the events alone
@@ -98,26 +90,33 @@ abbrev pub either : Option ℕ → Option ℕ → Option ℕ
 either None other = other
 either (Some n) other = Some n
 
--- the number of the first bad line: that of an event that can't be, or else the one that can't be read
-abbrev pub bad_line : Option Told → Option ℕ
-bad_line None = Some 1
-bad_line (Some t) = either (bad_event_line t.servers (events_said t) (lines_said t)) t.unreadable
+-- how many servers a script has
+abbrev pub servers_said : Told → ℕ
+servers_said t = length t.configuration.servers
+
+-- the number of the first bad line: the first, that of an event that can't be, or else the one that can't be read; a configuration with a fault is no bad line
+abbrev pub bad_line : Result Told WhyNot → Option ℕ
+bad_line (Ok t) = either (bad_event_line (servers_said t) (events_said t) (lines_said t)) t.unreadable
+bad_line (Err IsBadLine) = Some 1
+bad_line (Err (HasFault fault)) = None
 
 -- some line can't be read
-abbrev pub IsUnreadable : Option Told → Type 0
-IsUnreadable None = Unit {0}
-IsUnreadable (Some t) = IsSome t.unreadable
+abbrev pub IsUnreadable : Result Told WhyNot → Type 0
+IsUnreadable (Ok t) = IsSome t.unreadable
+IsUnreadable (Err IsBadLine) = Unit {0}
+IsUnreadable (Err (HasFault fault)) = ⊥
 
--- a script that was read: each line can be, and these are the pool, the events and their lines
-pub record IsScriptOf (t : Told) (s : PoolScript) : Type 0 where
+-- a script that was read: each line can be, and these are the configuration, the events and their lines
+pub record IsScriptOf (t : Told) (s : ConfiguredScript) : Type 0 where
   pub whole : t.unreadable ≡ None
-  pub servers : s.servers ≡ t.servers
+  pub configuration : s.config ≡ t.configuration
   pub events : map scripted_of s.script.events.items ≡ events_said t
   pub lines : s.lines.items ≡ lines_said t
 
 -- what `read_script` answers, by what the text says
-abbrev pub ReadsScript : Option Told → Result PoolScript ScriptFault → Type 0
-ReadsScript None (Ok s) = ⊥
-ReadsScript (Some t) (Ok s) = IsScriptOf t s
+abbrev pub ReadsScript : Result Told WhyNot → Result ConfiguredScript ScriptFault → Type 0
+ReadsScript (Ok t) (Ok s) = IsScriptOf t s
+ReadsScript (Err why) (Ok s) = ⊥
+ReadsScript t (Err (Config fault)) = TellsFault t fault
 ReadsScript t (Err (BadLine n)) = IsUnreadable t × (bad_line t ≡ Some n)
 ReadsScript t (Err NoMemory) = Unit {0}

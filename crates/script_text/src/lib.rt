@@ -1,13 +1,13 @@
 //! Scripts as text: what their lines say, and the lines that a run prints.
 #![tactic(auto)]
 
+pub mod configured;
 pub mod escapes;
 pub mod event;
 pub mod fault;
 pub mod front;
 pub mod laws;
 pub mod meaning;
-pub mod pool;
 pub mod printer;
 pub mod reader;
 #[cfg(test)]

@@ -1,10 +1,12 @@
-ghost use Rattle.std.specs.Prelude.{OnOk};
+ghost use Rattle.std.specs.Prelude.{OnOk, IsSome};
 ghost use Rattle.std.specs.Io.KnownBytes.{Appends};
 ghost use Rattle.fleet_run.specs.Scripted.{transcript_of};
-ghost use Rattle.script_text.specs.Printed.{shown_lines, report_line, bad_line_line};
+ghost use Rattle.route_json.specs.Fault.{fault_of};
+ghost use Rattle.script_text.specs.Printed.{shown_lines, report_line, bad_line_line, config_fault_line};
 
 use crate::escapes::Escaped;
 use fleet_run::{Report, Transcript};
+use route_json::ConfigFault;
 use std::io;
 use std::io::Write;
 
@@ -35,4 +37,13 @@ pub fn write_bad_line<W: Write>(line: usize, out: &mut W) -> io::Result<()>
     ensures { OnOk result (Appends (W.contents out.old) (W.contents out.new) (bad_line_line line)) }
 {
     writeln!(out, "script: bad line {line}")
+}
+
+/// Writes the fault of the script's configuration: `config: ` and what [`ConfigFault`] prints. Want of memory is none. The format is
+/// mcgate's own.
+pub fn write_config_fault<W: Write>(fault: &ConfigFault, out: &mut W) -> io::Result<()>
+    requires { IsSome (fault_of fault.now) }
+    ensures { OnOk result (Appends (W.contents out.old) (W.contents out.new) (config_fault_line fault.now)) }
+{
+    writeln!(out, "config: {fault}")
 }

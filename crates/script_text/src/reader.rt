@@ -1,22 +1,27 @@
-ghost use Rattle.std.specs.Prelude.{◌≡◌, ◌+◌, ◌≤◌, ◌<◌, ◌^◌, IfOk, map, length};
+ghost use Rattle.std.specs.Prelude.{◌≡◌, ◌+◌, ◌≤◌, ◌<◌, ◌^◌, IfOk, IfSome, map, length, true};
+ghost use Rattle.serde_json.specs.Read.{read};
 ghost use Rattle.fleet_run.specs.Scripted.{scripted_of};
+ghost use Rattle.route_tree.specs.Direct.{is_direct};
+ghost use Rattle.route_json.specs.Configs.{read_or};
 ghost use Rattle.script_text.specs.Behind.{lines_behind};
-ghost use Rattle.script_text.specs.Reads.{Reads};
-ghost use Rattle.script_text.specs.Script.{numbered, first_unreadable, size_said, pool_said, line_means, told, bad_event_line, ReadsScript};
+ghost use Rattle.script_text.specs.FirstLine.{size_said, pool_said, pool_or_bad, read_or_fault, first_said, ReadsFirst};
+ghost use Rattle.script_text.specs.Script.{numbered, first_unreadable, line_means, told, bad_event_line, ReadsScript};
 ghost use Rattle.script_text.specs.Lines.{lines_of};
 ghost use Rattle.script_text.specs.Read.{meaning_of, ReadsLines};
 
+use crate::configured::{ConfiguredScript, ScriptFault};
 use crate::event::read_event;
 use crate::fault::LineFault;
 use crate::front::front_of;
 use crate::meaning::{Meaning, Reading};
-use crate::pool::{PoolScript, ScriptFault};
 use crate::words::{cut, number_under};
 use fleet_run::{Script, first_bad_event};
+use route_json::{Config, read_config};
 use std::alloc::{AllocError, Global};
 
 fn read_size(word: &[u8]) -> Option<u32>
-    ensures { result ≡ size_said word.now }
+    ensures size { result ≡ size_said word.now }
+    ensures limits { IfSome result (λ size. (0 < size) × (size ≤ 1024)) }
 {
     match number_under(1025, word) {
         Some(0) | None => None,
@@ -25,11 +30,42 @@ fn read_size(word: &[u8]) -> Option<u32>
 }
 
 fn read_pool(line: &[u8]) -> Option<u32>
-    ensures { result ≡ pool_said line.now }
+    ensures size { result ≡ pool_said line.now }
+    ensures limits { IfSome result (λ size. (0 < size) × (size ≤ 1024)) }
 {
     match cut(line) {
         Some(parts) if parts.word == b"pool".as_slice() => read_size(parts.rest),
         _ => None,
+    }
+}
+
+fn pool_config(alloc: Global, line: &[u8]) -> Result<Config, ScriptFault>
+    ensures { ReadsFirst (pool_or_bad (pool_said line.now)) result }
+{
+    match read_pool(line) {
+        Some(servers) => Ok(Config::of_pool(alloc, servers)?),
+        None => Err(ScriptFault::BadLine(1)),
+    }
+}
+
+fn direct_config(alloc: Global, line: &str) -> Result<Config, ScriptFault>
+    ensures { ReadsFirst (read_or_fault (read_or (read line.now))) result }
+{
+    let config = read_config(alloc, line)?;
+    if config.tree().is_direct() {
+        Ok(config)
+    } else {
+        Err(ScriptFault::BadLine(1))
+    }
+}
+
+fn read_first(alloc: Global, line: &str) -> Result<Config, ScriptFault>
+    ensures { ReadsFirst (first_said line.now) result }
+{
+    if line.as_bytes().starts_with(b"pool".as_slice()) {
+        pool_config(alloc, line.as_bytes())
+    } else {
+        direct_config(alloc, line)
     }
 }
 
@@ -46,7 +82,7 @@ fn read_line(alloc: Global, line: &[u8]) -> Result<Meaning, AllocError>
     }
 }
 
-fn read_further(alloc: Global, further: Option<&[u8]>) -> Result<Reading, AllocError>
+fn read_further(alloc: Global, further: Option<&str>) -> Result<Reading, AllocError>
     requires { length (lines_behind further) + 1 < 2 ^ 64 }
     ensures { IfOk result (ReadsLines (lines_behind further.entry)) }
 {
@@ -58,7 +94,7 @@ fn read_further(alloc: Global, further: Option<&[u8]>) -> Result<Reading, AllocE
         let front = front_of(text);
         number += 1;
         rest = front.rest;
-        match read_line(alloc, front.line)? {
+        match read_line(alloc, front.line.as_bytes())? {
             Meaning::Nothing => {}
             Meaning::Says(event) => {
                 events.push(event)?;
@@ -80,45 +116,47 @@ fn read_further(alloc: Global, further: Option<&[u8]>) -> Result<Reading, AllocE
     })
 }
 
-fn bad_event_line(pool: &PoolScript) -> Option<usize>
-    ensures { result ≡ bad_event_line pool.now.servers (map scripted_of pool.now.script.events.items) pool.now.lines.items }
+fn bad_event_line(script: &ConfiguredScript) -> Option<usize>
+    ensures { result ≡ bad_event_line (length script.now.config.servers) (map scripted_of script.now.script.events.items) script.now.lines.items }
 {
-    match first_bad_event(pool.servers, &pool.script) {
-        Some(event) => pool.line_of(event),
+    let servers = script.config.servers().len() as u32;
+    match first_bad_event(servers, &script.script) {
+        Some(event) => script.line_of(event),
         None => None,
     }
 }
 
 /// The script that a text says, with the number of each event's line.
 ///
-/// The first line is `pool N` (N in 1..=1024), and each further line is one event. Empty lines and those that begin with `#` are
-/// none. [`ScriptFault::BadLine`] comes exactly where the first line is no pool line (then it is line 1) or a further line can't be
-/// read. It has the number of the first line that is bad: where an event before the unreadable line is one that the run would
-/// refuse, it is that event's line. Such an event alone is no fault here: [`PoolScript::line_of`] tells its line once the run has
-/// refused it. Want of memory is the only other error. The format is mcgate's own.
-pub fn read_script(alloc: Global, text: &[u8]) -> Result<PoolScript, ScriptFault>
+/// The first line is `pool N` (N in 1..=1024), which means one pool of the servers `s0:1`, `s1:1`, .., or a configuration in JSON whose
+/// tree has one server for each key. A line that begins with `pool` is meant to be the first of these, every other the second. Each
+/// further line is one event; empty lines and those that begin with `#` are none. The format is mcgate's own.
+///
+/// Faults are looked for in this order, and want of memory is the only other error:
+/// - [`ScriptFault::BadLine`] of 1 where the first line begins with `pool` and is no pool line.
+/// - [`ScriptFault::Config`], the first fault of a configuration.
+/// - [`ScriptFault::BadLine`] of 1 where the configuration's tree has routes other than pools, servers and selectors by prefix.
+/// - [`ScriptFault::BadLine`] where a further line can't be read. It has the number of the first line that is bad: where an event
+///   before the unreadable line is one that the run would refuse, it is that event's line. Such an event alone is no fault here:
+///   [`ConfiguredScript::line_of`] tells its line once the run has refused it.
+pub fn read_script(alloc: Global, text: &str) -> Result<ConfiguredScript, ScriptFault>
     ensures reads { ReadsScript (told text.now) result }
-    ensures pool { IfOk result (λ s. (0 < s.servers) × (s.servers ≤ 1024)) }
+    ensures direct { IfOk result (λ s. is_direct s.config.tree ≡ true) }
 {
     let front = front_of(text);
-    let Some(servers) = read_pool(front.line) else {
-        return Err(ScriptFault::BadLine(1));
-    };
-    let Ok(reading) = read_further(alloc, front.rest) else {
-        return Err(ScriptFault::NoMemory);
-    };
+    let config = read_first(alloc, front.line)?;
     let Reading {
         events,
         lines,
         unreadable,
-    } = reading;
-    let pool = PoolScript {
-        servers,
+    } = read_further(alloc, front.rest)?;
+    let script = ConfiguredScript {
+        config,
         script: Script { events },
         lines,
     };
     match unreadable {
-        None => Ok(pool),
-        Some(line) => Err(ScriptFault::BadLine(bad_event_line(&pool).unwrap_or(line))),
+        None => Ok(script),
+        Some(line) => Err(ScriptFault::BadLine(bad_event_line(&script).unwrap_or(line))),
     }
 }

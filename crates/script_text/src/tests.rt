@@ -1,14 +1,16 @@
+use crate::configured::ScriptFault;
 use crate::escapes::{Escaped, EscapedByte, unescape};
 use crate::event::read_event;
 use crate::fault::LineFault;
 use crate::front::front_of;
 use crate::laws::escapes_are_read_back;
-use crate::pool::ScriptFault;
-use crate::printer::{write_bad_line, write_report, write_transcript};
+use crate::printer::{write_bad_line, write_config_fault, write_report, write_transcript};
 use crate::reader::read_script;
 use crate::words::{cut, number_under};
 use fleet_run::{Event, Loss, Manner, Output, Report, Transcript};
-use std::alloc::Global;
+use mc_types::ServerId;
+use route_json::ConfigFault;
+use std::alloc::{AllocError, Global};
 use std::test::Fail;
 
 #[test]
@@ -71,12 +73,12 @@ fn parts_of_a_line(rt: HostRuntime) -> Result<(), Fail> {
     assert!(rt; cut(b"pool".as_slice()).is_none());
     assert_eq!(rt; number_under(64, b"0063".as_slice()), Some(63));
     assert_eq!(rt; number_under(64, b"64".as_slice()), None);
-    let front = front_of(b"a\r\n\nb".as_slice());
-    assert_eq!(rt; front.line, b"a\r".as_slice());
+    let front = front_of("a\r\n\nb");
+    assert_eq!(rt; front.line, "a\r");
     let rest = front.rest.ok_or("no line end")?;
-    assert_eq!(rt; rest, b"\nb".as_slice());
+    assert_eq!(rt; rest, "\nb");
     assert!(rt; front_of(rest).line.is_empty());
-    assert!(rt; front_of(b"b".as_slice()).rest.is_none());
+    assert!(rt; front_of("b").rest.is_none());
     Ok(())
 }
 
@@ -178,42 +180,142 @@ fn lines_that_are_no_event(rt: HostRuntime) {
 }
 
 #[test]
-fn scripts_that_are_read(rt: HostRuntime) -> Result<(), Fail> {
-    let text = b"pool 1024\n\n# a comment\nrestart 1023\n\nmoment 5".as_slice();
-    let Ok(pool) = read_script(rt.alloc(), text) else {
+fn scripts_of_a_pool(rt: HostRuntime) -> Result<(), Fail> {
+    let text = "pool 1024\n\n# a comment\nrestart 1023\n\nmoment 5";
+    let Ok(read) = read_script(rt.alloc(), text) else {
         return Err(Fail::from("a bad line"));
     };
-    assert_eq!(rt; pool.servers, 1024);
-    assert_eq!(rt; pool.script.events.len(), 2);
-    assert_eq!(rt; pool.lines.as_slice(), [4, 6].as_slice());
-    assert_eq!(rt; pool.line_of(1), Some(6));
-    assert_eq!(rt; pool.line_of(2), None);
-    let Ok(alone) = read_script(rt.alloc(), b"pool 1".as_slice()) else {
+    assert_eq!(rt; read.config.servers().len(), 1024);
+    assert_eq!(rt; read.config.servers().get(ServerId::new(9)), Some("s9:1"));
+    assert_eq!(rt; read.script.events.len(), 2);
+    assert_eq!(rt; read.lines.as_slice(), [4, 6].as_slice());
+    assert_eq!(rt; read.line_of(1), Some(6));
+    assert_eq!(rt; read.line_of(2), None);
+    Ok(())
+}
+
+#[test]
+fn pool_line_alone(rt: HostRuntime) -> Result<(), Fail> {
+    let Ok(read) = read_script(rt.alloc(), "pool 1") else {
         return Err(Fail::from("a bad line"));
     };
-    assert!(rt; alone.script.events.is_empty());
+    assert_eq!(rt; read.config.servers().len(), 1);
+    assert!(rt; read.script.events.is_empty());
+    Ok(())
+}
+
+// a configuration of the pools A and B of one server each, and this route
+fn configuration(alloc: Global, route: &str, further: &str) -> Result<String, AllocError> {
+    let mut text = String::from_str(
+        alloc,
+        "{\"pools\":{\"A\":{\"servers\":[\"127.0.0.1:5001\"]},\"B\":{\"servers\":[\"127.0.0.1:5002\"]}},\"route\":",
+    )?;
+    text.push_str(route)?;
+    text.push('}')?;
+    text.push_str(further)?;
+    Ok(text)
+}
+
+const BY_PREFIX: &str =
+    "{\"type\":\"PrefixSelectorRoute\",\"policies\":{\"a\":\"PoolRoute|A\",\"ab\":\"PoolRoute|B\"},\"wildcard\":\"PoolRoute|A\"}";
+
+const WITHOUT_WILDCARD: &str =
+    "{\"type\":\"PrefixSelectorRoute\",\"policies\":{\"a\":\"PoolRoute|A\",\"ab\":\"PoolRoute|B\"}}";
+
+#[test]
+fn scripts_of_a_configuration(rt: HostRuntime) -> Result<(), Fail> {
+    let text = configuration(rt.alloc(), BY_PREFIX, " \r\nrestart 1\n")?;
+    let Ok(read) = read_script(rt.alloc(), text.as_str()) else {
+        return Err(Fail::from("a bad line"));
+    };
+    assert_eq!(rt; read.config.servers().len(), 2);
+    assert_eq!(rt;
+        read.config.servers().get(ServerId::new(1)),
+        Some("127.0.0.1:5002")
+    );
+    assert_eq!(rt; read.script.events.len(), 1);
+    assert_eq!(rt; read.line_of(0), Some(2));
+    Ok(())
+}
+
+// the number of the script's bad line, where that is its fault
+fn bad_line(alloc: Global, text: &str) -> Option<usize> {
+    match read_script(alloc, text) {
+        Err(ScriptFault::BadLine(line)) => Some(line),
+        _ => None,
+    }
+}
+
+#[test]
+fn configurations_that_are_not_executed(rt: HostRuntime) -> Result<(), Fail> {
+    let cases = [
+        "\"NullRoute\"",
+        "\"ErrorRoute\"",
+        "\"AllSyncRoute|Pool|A\"",
+        WITHOUT_WILDCARD,
+    ];
+    for route in cases {
+        let text = configuration(rt.alloc(), route, "\nx")?;
+        assert_eq!(rt; bad_line(rt.alloc(), text.as_str()), Some(1));
+    }
+    Ok(())
+}
+
+#[test]
+fn events_by_the_servers_of_a_configuration(rt: HostRuntime) -> Result<(), Fail> {
+    let there = configuration(rt.alloc(), BY_PREFIX, "\nrestart 1\nx")?;
+    assert_eq!(rt; bad_line(rt.alloc(), there.as_str()), Some(3));
+    let not_there = configuration(rt.alloc(), BY_PREFIX, "\nrestart 2\nx")?;
+    assert_eq!(rt; bad_line(rt.alloc(), not_there.as_str()), Some(2));
+    Ok(())
+}
+
+// the line of the configuration's fault, where that is the script's
+fn config_fault(alloc: Global, text: &str) -> Result<String, Fail> {
+    match read_script(alloc, text) {
+        Err(ScriptFault::Config(fault)) => Ok(format!(in alloc; "{fault}")?),
+        _ => Err(Fail::from("no fault of a configuration")),
+    }
+}
+
+#[test]
+fn configurations_with_a_fault(rt: HostRuntime) -> Result<(), Fail> {
+    let cases = [
+        ("[]", "not JSON"),
+        ("[]\nx", "not JSON"),
+        ("", "not JSON"),
+        ("\npool 1", "not JSON"),
+        ("# a comment\npool 1", "not JSON"),
+        (" pool 1", "not JSON"),
+        ("Pool 1", "not JSON"),
+        ("{\"pools\":{}}", "bad field route"),
+        ("{\"pools\":{},\n\"route\":\"NullRoute\"}", "not JSON"),
+    ];
+    for (text, want) in cases {
+        let line = config_fault(rt.alloc(), text)?;
+        assert_eq!(rt; line.as_str(), want);
+    }
     Ok(())
 }
 
 #[test]
 fn scripts_with_a_bad_line(rt: HostRuntime) {
     let cases = [
-        (b"".as_slice(), 1),
-        (b"\npool 1".as_slice(), 1),
-        (b"# a comment\npool 1".as_slice(), 1),
-        (b"pool 0".as_slice(), 1),
-        (b"pool 1025".as_slice(), 1),
-        (b"pool 1 ".as_slice(), 1),
-        (b"pool 1\r\n".as_slice(), 1),
-        (b"pools 1".as_slice(), 1),
-        (b"{\"pools\":{}}".as_slice(), 1),
-        (b"pool 1\nx\ny".as_slice(), 2),
-        (b"pool 1\n\n#\n> 0 a\n> 0".as_slice(), 5),
-        (b"pool 1\nrestart 0\nmoment x\n".as_slice(), 3),
+        ("pool", 1),
+        ("pool 0", 1),
+        ("pool 1025", 1),
+        ("pool  1", 1),
+        ("pool 1 ", 1),
+        ("pool 1\r\n", 1),
+        ("pools 3", 1),
+        ("pool{}\nx", 1),
+        ("pool 1\nx\ny", 2),
+        ("pool 1\n\n#\n> 0 a\n> 0", 5),
+        ("pool 1\nrestart 0\nmoment x\n", 3),
+        ("pool 1\nrestart 1\nmoment x\n", 2),
     ];
     for (text, want) in cases {
-        let read = read_script(rt.alloc(), text);
-        assert!(rt; matches!(read, Err(ScriptFault::BadLine(line)) if line == want));
+        assert_eq!(rt; bad_line(rt.alloc(), text), Some(want));
     }
 }
 
@@ -237,7 +339,9 @@ fn lines_that_are_printed(rt: HostRuntime) -> Result<(), Fail> {
     };
     write_report(&report, &mut out)?;
     write_bad_line(7, &mut out)?;
-    let want = b"< 0 END\\r\\n\n< 63 \\xff\ndone 2 commands 3 calls 1 stale\nscript: bad line 7\n";
+    write_config_fault(&ConfigFault::TooDeep, &mut out)?;
+    let want =
+        b"< 0 END\\r\\n\n< 63 \\xff\ndone 2 commands 3 calls 1 stale\nscript: bad line 7\nconfig: too deep\n";
     assert_eq!(rt; out.as_slice(), want.as_slice());
     Ok(())
 }

@@ -1,15 +1,14 @@
-use Rattle.std.proofs.Common.{◌≡◌, ◌∙◌, ℕ, ◌<◌, ◌≤◌, ◌+◌, ◌-◌, suc, ◌++◌, [], ◌∷◌, List, ap, sym, subst, length, length-append, arith, string_bytes, Ok, Result}
+use Rattle.std.proofs.Common.{◌≡◌, ◌∙◌, ℕ, ◌+◌, ◌-◌, suc, [], ◌∷◌, List, ap, sym, subst, length, length-append, arith, string_bytes, Ok, Result}
 use Rattle.std.specs.Prelude.{codes}
-use Rattle.std.proofs.lemmas.Result.{err_from_is_err_and, IfOk-weaker}
-use Rattle.serde_json.specs.Data.{Data}
-use Rattle.serde_json.specs.View.{view, items_view, members_view}
+use Rattle.std.proofs.lemmas.Result.{err_from_is_err_and}
+use Rattle.serde_json.specs.View.{view}
 use Rattle.serde_json.proofs.Views.{Entry}
 use Rattle.mc_types.specs.declared.ask.Op.{Op}
 use Rattle.route_tree.specs.Route.{Route, ByOperation, ByPrefix}
 use Rattle.route_tree.specs.Form.{policies_of, prefixes_of}
 use Rattle.route_json.specs.Fault.{Fault, fault_of}
 use Rattle.route_json.specs.Fits.{NodeFits, seconds, AreKeys}
-use Rattle.route_json.specs.Reading.{Reading, each, members, named}
+use Rattle.route_json.specs.Reading.{each, named}
 use Rattle.route_json.specs.Routes.{counts, route, node, policy_op, prefix_of}
 use Rattle.route_json.proofs.Each.{entries, named_ok, named_bad, named_stops, stops, values_step}
 use Rattle.route_json.proofs.Fitting.{reads_go, listed_fits, ops_fit, prefixes_fit, seconds_push, keys_push}

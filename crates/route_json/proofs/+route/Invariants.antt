@@ -1,4 +1,4 @@
-use Rattle.std.proofs.Common.{◌≡◌, ◌≤◌, ◌+◌, ◌*◌, drop, length}
+use Rattle.std.proofs.Common.{◌≡◌, ◌+◌, ◌*◌, drop, length}
 use Rattle.std.specs.Prelude.{codes}
 use Rattle.serde_json.specs.View.{items_view, members_view}
 use Rattle.route_json.specs.Fits.{seconds, AreKeys}

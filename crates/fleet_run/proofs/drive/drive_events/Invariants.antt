@@ -1,19 +1,18 @@
-use Rattle.std.proofs.Common.{◌≡◌, map, take, List, length}
-use Rattle.mc_runs.specs.Log.{Entry, script_of}
-use Rattle.mc_runs.specs.Taking.{Stands}
-use Rattle.text_codec.specs.Classic.{classic}
-use Rattle.memory_fleet.specs.Fleets.{holds_of, count_of}
-use Rattle.fleet_run.specs.Serving.{pool_words}
+use Rattle.std.proofs.Common.{◌≡◌, map, take, length, None}
+use Rattle.memory_fleet.specs.Fleets.{count_of}
+use Rattle.route_tree.specs.Direct.{words_of}
+use Rattle.fleet_run.specs.Serving.{tree_of}
 use Rattle.fleet_run.specs.Scripted.{scripted_of, transcript_of}
 use Rattle.fleet_run.specs.Driving.{standing_of}
+use Rattle.fleet_run.proofs.BadEvents.{bad_from}
+use Rattle.fleet_run.proofs.Driven.{Comes}
 use Rattle.fleet_run.proofs.drive.drive_events.Given as goal
 
 abbrev pub invariant-loop-event : goal.invariant-loop-event
 invariant-loop-event l = record {
   clients : length l.clients.items ≡ 64;
-  servers : l.pool.servers ≡ l.servers;
-  count : count_of l.fleet ≡ l.servers;
-  log : List (Entry classic);
-  stands : Stands (pool_words l.servers) (holds_of l.fn.fleet) log (standing_of l.clients.items l.pool l.fleet) (transcript_of l.transcript);
-  script : script_of log ≡ map scripted_of (take l.event-index l.event-items);
+  tree : tree_of l.router ≡ l.fn.tree;
+  count : count_of l.fleet ≡ count_of l.fn.fleet;
+  ahead : bad_from (count_of l.fn.fleet) l.event-items l.event-index ≡ None;
+  comes : Comes (words_of l.fn.tree) (map scripted_of (take l.event-index l.event-items)) (standing_of l.clients.items l.router l.fleet) (transcript_of l.transcript) l.fleet;
 }

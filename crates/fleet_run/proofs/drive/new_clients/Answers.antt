@@ -1,4 +1,4 @@
-use Rattle.std.proofs.Common.{◌≡◌, ◌+◌, ◌∷◌, [], sym, ap, ◌∙◌, subst, length, length-append, arith}
+use Rattle.std.proofs.Common.{◌≡◌, ◌+◌, ◌∷◌, [], sym, ap, ◌∙◌, subst, length, length-append}
 use Rattle.text_requests.specs.declared.command.Skip.TheVariants.{Nothing}
 use Rattle.text_requests.specs.Stream.{Stands}
 use Rattle.fleet_run.specs.Driving.{point_in, output_in}

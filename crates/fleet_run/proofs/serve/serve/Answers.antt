@@ -1,5 +1,4 @@
-use Rattle.std.proofs.Common.{◌≡◌, refl, sym, ap, ◌∙◌, subst, ◌≤◌, length}
-use Rattle.text_requests.specs.declared.command.Read.{Read}
+use Rattle.std.proofs.Common.{sym, subst, ◌≤◌, length}
 use Rattle.text_requests.specs.declared.command.Read.TheVariants as reads
 use Rattle.text_requests.specs.Message.{Refusal}
 use Rattle.text_requests.specs.Stream.{Place}
@@ -15,8 +14,8 @@ pub loop-connection-preserved-in-Continue-1 : goal.loop-connection-preserved-in-
 loop-connection-preserved-in-Continue-1 c =
     let x = c.loop-connection.connection in
     let front = read_front x.stream reads.TooLong c.in-TooLong.ensures long_is_some in
-    served_more c.args.connection.now x c.refuse_long_line.new.self c.args.pool.now c.loop-connection.pool c.loop-connection.pool c.args.fleet.now c.loop-connection.fleet c.loop-connection.fleet c.loop-connection.invariant
-    (long_line_done x c.refuse_long_line.new.self c.loop-connection.pool c.loop-connection.fleet front.0 front.1 front.2 c.in_ok-refuse_long_line-in-TooLong.ensures)
+    served_more c.args.connection.now x c.refuse_long_line.new.self c.args.router.now c.loop-connection.router c.loop-connection.router c.args.fleet.now c.loop-connection.fleet c.loop-connection.fleet c.loop-connection.invariant
+    (long_line_done x c.refuse_long_line.new.self c.loop-connection.router c.loop-connection.fleet front.0 front.1 front.2 c.in_ok-refuse_long_line-in-TooLong.ensures)
 
 pub refuse-requires : goal.refuse-requires
 refuse-requires c =
@@ -28,14 +27,14 @@ pub loop-connection-smaller-in-Continue-branch-2 : goal.loop-connection-smaller-
 loop-connection-smaller-in-Continue-branch-2 c =
     let x = c.loop-connection.connection in
     let front = read_front x.stream _ c.in-Refused.ensures (refused_is_some c.in-Refused.why c.in-Refused.used c.in-Refused.skip) in
-    (refused_done x c.refuse.new.self c.loop-connection.pool c.loop-connection.fleet front.0 c.in-Refused.why c.in-Refused.used c.in-Refused.skip front.1 front.2 (c.in_ok-refuse-in-Refused.ensures front.0 front.1)).shorter
+    (refused_done x c.refuse.new.self c.loop-connection.router c.loop-connection.fleet front.0 c.in-Refused.why c.in-Refused.used c.in-Refused.skip front.1 front.2 (c.in_ok-refuse-in-Refused.ensures front.0 front.1)).shorter
 
 pub loop-connection-preserved-in-Continue-branch-2 : goal.loop-connection-preserved-in-Continue-branch-2
 loop-connection-preserved-in-Continue-branch-2 c =
     let x = c.loop-connection.connection in
     let front = read_front x.stream _ c.in-Refused.ensures (refused_is_some c.in-Refused.why c.in-Refused.used c.in-Refused.skip) in
-    served_more c.args.connection.now x c.refuse.new.self c.args.pool.now c.loop-connection.pool c.loop-connection.pool c.args.fleet.now c.loop-connection.fleet c.loop-connection.fleet c.loop-connection.invariant
-    (refused_done x c.refuse.new.self c.loop-connection.pool c.loop-connection.fleet front.0 c.in-Refused.why c.in-Refused.used c.in-Refused.skip front.1 front.2 (c.in_ok-refuse-in-Refused.ensures front.0 front.1))
+    served_more c.args.connection.now x c.refuse.new.self c.args.router.now c.loop-connection.router c.loop-connection.router c.args.fleet.now c.loop-connection.fleet c.loop-connection.fleet c.loop-connection.invariant
+    (refused_done x c.refuse.new.self c.loop-connection.router c.loop-connection.fleet front.0 c.in-Refused.why c.in-Refused.used c.in-Refused.skip front.1 front.2 (c.in_ok-refuse-in-Refused.ensures front.0 front.1))
 
 pub serve_request-requires-clause-front : goal.serve_request-requires-clause-front
 serve_request-requires-clause-front c =
@@ -44,4 +43,4 @@ serve_request-requires-clause-front c =
 
 pub loop-connection-preserved : goal.loop-connection-preserved
 loop-connection-preserved c =
-    served_more c.args.connection.now c.loop-connection.connection c.serve_request.new.connection c.args.pool.now c.loop-connection.pool c.serve_request.new.pool c.args.fleet.now c.loop-connection.fleet c.serve_request.new.fleet c.loop-connection.invariant c.in_ok-serve_request-in-Request.ensures
+    served_more c.args.connection.now c.loop-connection.connection c.serve_request.new.connection c.args.router.now c.loop-connection.router c.serve_request.new.router c.args.fleet.now c.loop-connection.fleet c.serve_request.new.fleet c.loop-connection.invariant c.in_ok-serve_request-in-Request.ensures

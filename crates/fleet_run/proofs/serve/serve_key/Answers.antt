@@ -1,4 +1,4 @@
-use Rattle.std.proofs.Common.{◌≡◌, subst, Option, Some}
+use Rattle.std.proofs.Common.{subst, Option}
 use Rattle.std.specs.Prelude.{IfSome}
 use Rattle.std.proofs.lemmas.Result.{IfOk-weaker}
 use Rattle.mc_types.specs.declared.ask.Ask.{Ask}
@@ -16,6 +16,6 @@ pub returns : goal.returns
 returns c =
     IfOk-weaker c.serve_ask-served.result _ _ (λ ended served. record {
       served = served;
-      way = way_on c.args.connection.now c.serve_ask-served.new.connection c.args.request.now c.args.asks.now c.next.new.self c.args.index c.held.result.now _ c.in-Some.ask c.args.pool.now c.serve_ask-served.new.pool c.args.fleet.now c.serve_ask-served.new.fleet ended
+      way = way_on c.args.connection.now c.serve_ask-served.new.connection c.args.request.now c.args.asks.now c.next.new.self c.args.index c.held.result.now _ c.in-Some.ask c.args.router.now c.serve_ask-served.new.router c.args.fleet.now c.serve_ask-served.new.fleet ended
           c.requires.way c.held.ensures c.in-Some.is c.in_ok-ask.ensures.request c.in_ok-ask.ensures.taken c.in_ok-ask.ensures.walk served;
     }) c.serve_ask-served.ensures

@@ -1,4 +1,4 @@
-use Rattle.std.proofs.Common.{◌≡◌, sym, ◌∙◌}
+use Rattle.std.proofs.Common.{sym, ◌∙◌}
 use Rattle.fleet_run.proofs.Advancing.{used_held}
 use Rattle.fleet_run.proofs.Messages.{own_done, key_more, key_same, key_last}
 use Rattle.fleet_run.proofs.serve.serve_request.Goals as goal
@@ -8,19 +8,19 @@ answer_own-requires c = used_held c.args.connection.now c.requires.front.held c.
 
 pub returns-then-count-eq0 : goal.returns-then-count-eq0
 returns-then-count-eq0 c =
-    own_done c.args.connection.now c.answer_own.new.self c.args.pool.now c.args.fleet.now c.args.request.now c.own.result c.requires.front (sym (c.asks-count.ensures c.requires.front.held c.requires.front.read) ∙ c.if-count-eq0.true) (c.own.ensures c.requires.front.held) (c.in_ok-answer_own.ensures c.requires.front.held c.requires.front.place)
+    own_done c.args.connection.now c.answer_own.new.self c.args.router.now c.args.fleet.now c.args.request.now c.own.result c.requires.front (sym (c.asks-count.ensures c.requires.front.held c.requires.front.read) ∙ c.if-count-eq0.true) (c.own.ensures c.requires.front.held) (c.in_ok-answer_own.ensures c.requires.front.held c.requires.front.place)
 
 pub loop-index-preserved : goal.loop-index-preserved
 loop-index-preserved c =
     let i = c.loop-index.invariant in
     let more = c.if-not-branch.true in
     record {
-      advances = key_more c.args.connection.now c.loop-index.connection c.serve_key.new.connection c.args.request.now c.serve_key.new.asks c.loop-index.index c.args.pool.now c.loop-index.pool c.serve_key.new.pool c.args.fleet.now c.loop-index.fleet c.serve_key.new.fleet _ i.advances c.in_ok-serve_key.ensures more;
+      advances = key_more c.args.connection.now c.loop-index.connection c.serve_key.new.connection c.args.request.now c.serve_key.new.asks c.loop-index.index c.args.router.now c.loop-index.router c.serve_key.new.router c.args.fleet.now c.loop-index.fleet c.serve_key.new.fleet _ i.advances c.in_ok-serve_key.ensures more;
       way = c.in_ok-serve_key.ensures.way more;
-      same = key_same c.loop-index.connection c.serve_key.new.connection c.args.request.now c.loop-index.asks c.serve_key.new.asks c.loop-index.index c.loop-index.pool c.serve_key.new.pool c.loop-index.fleet c.serve_key.new.fleet _ i.way c.in_ok-serve_key.ensures more ∙ i.same;
+      same = key_same c.loop-index.connection c.serve_key.new.connection c.args.request.now c.loop-index.asks c.serve_key.new.asks c.loop-index.index c.loop-index.router c.serve_key.new.router c.loop-index.fleet c.serve_key.new.fleet _ i.way c.in_ok-serve_key.ensures more ∙ i.same;
     }
 
 pub returns : goal.returns
 returns c =
     let i = c.loop-index.invariant in
-    key_last c.args.connection.now c.loop-index.connection c.serve_key.new.connection c.args.request.now c.loop-index.asks c.serve_key.new.asks c.loop-index.index c.args.pool.now c.loop-index.pool c.serve_key.new.pool c.args.fleet.now c.loop-index.fleet c.serve_key.new.fleet _ i.advances i.way i.same c.in_ok-serve_key.ensures c.if-not-branch.false
+    key_last c.args.connection.now c.loop-index.connection c.serve_key.new.connection c.args.request.now c.loop-index.asks c.serve_key.new.asks c.loop-index.index c.args.router.now c.loop-index.router c.serve_key.new.router c.args.fleet.now c.loop-index.fleet c.serve_key.new.fleet _ i.advances i.way i.same c.in_ok-serve_key.ensures c.if-not-branch.false

@@ -1,13 +1,13 @@
-use Rattle.std.proofs.Common.{◌≡◌, ◌-◌, ℕ, List, length}
+use Rattle.std.proofs.Common.{◌≡◌, ◌-◌, length}
 use Rattle.text_requests.specs.Message.{message_in}
 use Rattle.text_requests.specs.Asks.{asks_of}
 use Rattle.text_codec.specs.Held.{held_at}
-use Rattle.fleet_run.specs.Serving.{Advances, IsOnWay, IsServed}
+use Rattle.fleet_run.specs.Serving.{Advances, IsOnWay}
 use Rattle.fleet_run.proofs.serve.serve_request.Given as goal
 
 abbrev pub invariant-loop-index : goal.invariant-loop-index
 invariant-loop-index l = record {
-  advances : Advances l.fn.connection 0 l.fn.pool l.fn.fleet l.connection l.index l.pool l.fleet;
+  advances : Advances l.fn.connection 0 l.fn.router l.fn.fleet l.connection l.index l.router l.fleet;
   way : IsOnWay l.connection l.request l.asks l.index;
   same : l.connection.stream ≡ l.fn.connection.stream;
 }

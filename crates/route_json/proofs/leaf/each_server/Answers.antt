@@ -1,6 +1,5 @@
-use Rattle.std.proofs.Common.{◌≡◌, ◌∙◌, ℕ, ◌+◌, ◌++◌, [], ◌∷◌, ap, length, length-append, drop}
-use Rattle.route_tree.specs.Route.{Server, Route}
-use Rattle.route_json.specs.Reading.{Reading}
+use Rattle.std.proofs.Common.{◌∙◌, ◌+◌, [], ◌∷◌, ap, length, length-append, drop}
+use Rattle.route_tree.specs.Route.{Server}
 use Rattle.route_json.specs.Routes.{leaf}
 use Rattle.route_json.proofs.Each.{drop_step}
 use Rattle.route_json.proofs.Fitting.{reads_go}

@@ -1,4 +1,4 @@
-use Rattle.std.proofs.Common.{◌≡◌, length, sym, subst}
+use Rattle.std.proofs.Common.{length, sym, subst}
 use Rattle.route_tree.specs.Route.{Route}
 use Rattle.route_json.specs.Fits.{NodeFits}
 use Rattle.route_json.proofs.Fitting.{listed_fits}

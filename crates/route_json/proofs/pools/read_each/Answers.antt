@@ -1,7 +1,4 @@
-use Rattle.std.proofs.Common.{◌≡◌, ◌∙◌, drop, sym, ap, ◌+◌}
-use Rattle.serde_json.specs.View.{items_view}
 use Rattle.route_json.specs.Pools.{server_of}
-use Rattle.route_json.specs.Reading.{each, values}
 use Rattle.route_json.proofs.Each.{values_step}
 use Rattle.route_json.proofs.Numbers.{numbers_go}
 use Rattle.route_json.proofs.pools.read_each.Goals as goal

@@ -1,4 +1,4 @@
-use Rattle.std.proofs.Common.{◌≡◌, ◌≤◌, drop, length}
+use Rattle.std.proofs.Common.{drop}
 use Rattle.serde_json.specs.View.{items_view}
 use Rattle.route_json.specs.Pools.{server_of}
 use Rattle.route_json.specs.Reading.{each, values}

@@ -1,8 +1,5 @@
-use Rattle.std.proofs.Common.{◌≡◌, ◌∙◌, ℕ, ◌<◌, ◌≤◌, sym, ap, List, length, arith, Result, Err}
-use Rattle.serde_json.specs.View.{items_view}
-use Rattle.route_json.specs.Fault.{Fault, fault_of, TooManyServers, Gives}
-use Rattle.route_json.specs.Pools.{numbers_of}
-use Rattle.route_json.specs.Reading.{each, values}
+use Rattle.std.proofs.Common.{◌<◌, ◌≤◌, sym, length, arith}
+use Rattle.route_json.specs.Fault.{fault_of, TooManyServers}
 use Rattle.route_json.proofs.Gives.{gives_too, named_fault}
 use Rattle.route_json.proofs.Numbers.{numbers_many, numbers_some}
 use Rattle.std.proofs.lemmas.Bool.Decides.{nat_tests}

@@ -1,11 +1,10 @@
-use Rattle.std.proofs.Common.{◌≡◌, ◌∙◌, ℕ, ◌<◌, ◌≤◌, ◌++◌, [], ◌∷◌, List, ap, sym, subst, length, string_bytes, Ok, Result, refl}
+use Rattle.std.proofs.Common.{◌∙◌, ℕ, List, ap, sym, string_bytes, Ok, Result, refl}
 use Rattle.std.proofs.lemmas.Result.{err_from_is_err_and}
 use Rattle.serde_json.specs.View.{view, members_view}
 use Rattle.serde_json.proofs.Views.{Entry}
 use Rattle.route_json.specs.Fault.{Fault, fault_of}
 use Rattle.route_json.specs.Pools.{pools_of, pool_of, pools_in}
-use Rattle.route_json.specs.Reading.{members, named}
-use Rattle.route_json.specs.Servers.{Addresses}
+use Rattle.route_json.specs.Reading.{named}
 use Rattle.route_json.proofs.Each.{entries, named_ok, named_stops, stops}
 use Rattle.route_json.proofs.Gives.{passed}
 use Rattle.route_json.proofs.Numbers.{pools_go, pools_of_push}

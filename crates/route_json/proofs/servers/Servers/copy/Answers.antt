@@ -1,4 +1,4 @@
-use Rattle.std.proofs.Common.{◌≡◌, ◌∙◌, drop, string_bytes, sym, ap, ◌+◌}
+use Rattle.std.proofs.Common.{◌∙◌, drop, string_bytes, ◌+◌}
 use Rattle.route_json.specs.Servers.{texts}
 use Rattle.route_json.proofs.Known.{copy_goes, texts_step, pushed}
 use Rattle.route_json.proofs.servers.Servers.copy.Goals as goal

@@ -1,4 +1,4 @@
-use Rattle.std.proofs.Common.{◌≡◌, drop}
+use Rattle.std.proofs.Common.{drop}
 use Rattle.route_json.specs.Servers.{texts}
 use Rattle.route_json.proofs.Known.{Copies}
 use Rattle.route_json.proofs.servers.Servers.copy.Given as goal

@@ -1,4 +1,4 @@
-use Rattle.std.proofs.Common.{◌≡◌, ◌∙◌, ℕ, sym, ap, is_some, Result, Ok}
+use Rattle.std.proofs.Common.{◌∙◌, ℕ, sym, ap, is_some, Result, Ok}
 use Rattle.route_json.specs.Fault.{Fault}
 use Rattle.route_json.specs.Servers.{Addresses}
 use Rattle.route_json.proofs.Gives.{gives_too}

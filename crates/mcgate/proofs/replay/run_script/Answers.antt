@@ -1,7 +1,7 @@
 use Rattle.std.proofs.Common.{refl, inl, arith}
 use Rattle.fleet_run.specs.Scripted.{transcript_of}
-use Rattle.mcgate.proofs.Replaying.{both_written, is_there, runs_events}
-use Rattle.mcgate.proofs.replay.run_pool.Goals as goal
+use Rattle.mcgate.proofs.Replaying.{both_written, is_there}
+use Rattle.mcgate.proofs.replay.run_script.Goals as goal
 
 pub returns-in-Ok : goal.returns-in-Ok
 returns-in-Ok g c = inl (
@@ -9,9 +9,9 @@ returns-in-Ok g c = inl (
   record {
     good = c.in-Ok.ensures.refuses;
     prints = record {
-      shown = transcript_of c.drive_pool.new.transcript;
+      shown = transcript_of c.drive_any.new.transcript;
       report = c.in-Ok.report;
-      runs = runs_events _ _ _ _ _ c.in_ok-fleet.ensures c.in-Ok.ensures.ok;
+      drives = c.in-Ok.ensures.ok;
       printed = both_written _ _ _ _ _ c.in_ok-write_transcript-in-Ok.ensures c.in_ok-write_report-in-Ok.ensures;
     };
   },
@@ -20,4 +20,4 @@ returns-in-Ok g c = inl (
 pub unwrap-line-requires : goal.unwrap-line-requires
 unwrap-line-requires g c =
     let refused = rw c.in-Err-BadEvent.field-0-is at c.in-Err-BadEvent.ensures.refuses in
-    is_there c.args.pool.now.lines.items c.in-Err-BadEvent.event c.line_of.result c.line_of.ensures (omega (arith, refused.0, c.requires.paired))
+    is_there c.args.configured.now.lines.items c.in-Err-BadEvent.event c.line_of.result c.line_of.ensures (omega (arith, refused.0, c.requires.paired))

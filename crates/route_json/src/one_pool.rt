@@ -1,0 +1,25 @@
+ghost use Rattle.std.specs.Prelude.{◌≡◌, ◌<◌, ◌≤◌, IfOk};
+ghost use Rattle.route_json.specs.PoolConfiguration.{pool_configuration};
+
+use crate::config::Config;
+use crate::servers::Servers;
+use route_tree::{Tree, TreeForm};
+use std::alloc::{AllocError, Global};
+
+impl Config {
+    /// The configuration of one pool of so many servers, `s0:1`, `s1:1` and so on, at least one and at most 1,024. The
+    /// only error is want of memory.
+    pub fn of_pool(alloc: Global, servers: u32) -> Result<Config, AllocError>
+        requires some { 0 < servers }
+        requires few { servers ≤ 1024 }
+        ensures { IfOk result (λ config. config ≡ pool_configuration servers) }
+    {
+        let mut addresses = Servers::new(alloc);
+        let mut pool = Vec::new(alloc);
+        for number in 0..servers {
+            let address = format!(in alloc; "s{number}:1")?;
+            pool.push(addresses.push(alloc, &address)?)?;
+        }
+        Ok(Config::new(Tree::new(TreeForm::Pool(pool)), addresses))
+    }
+}

@@ -1,0 +1,56 @@
+ghost use Rattle.std.specs.Prelude.{◌≡◌, MatchOption, slice_get};
+ghost use Rattle.route_json.specs.Fault.{fault_of};
+ghost use Rattle.script_text.specs.declared.configured.ScriptFault.TheVariants.{Config as ConfigFaulty, NoMemory};
+
+use fleet_run::Script;
+use route_json::{Config, ConfigFault};
+use std::alloc::AllocError;
+
+/// A script over the servers of a configuration.
+#[derive(Drop)]
+pub struct ConfiguredScript {
+    /// What the first line says. Its tree has one server for each key.
+    pub config: Config,
+    pub script: Script,
+    /// For each event the number of its line, counted from 1 over all lines of the input.
+    pub lines: Vec<usize>,
+}
+
+impl ConfiguredScript {
+    /// The number of this event's line. Events are counted from 0, as [`fleet_run::DriveFault::BadEvent`] counts them.
+    pub fn line_of(&self, event: usize) -> Option<usize>
+        ensures { result ≡ slice_get self.now.lines.items event }
+    {
+        self.lines.get(event).copied()
+    }
+}
+
+/// Why a script was not read.
+#[derive(Drop)]
+pub enum ScriptFault {
+    /// The first fault of the configuration on the first line. It is never [`ConfigFault::NoMemory`].
+    Config(ConfigFault),
+    /// The first line that is bad, counted from 1 over all lines of the input.
+    BadLine(usize),
+    /// Memory was refused.
+    NoMemory,
+}
+
+impl From<AllocError> for ScriptFault {
+    ghost from_gives = { λ _ e. e ≡ NoMemory };
+
+    fn from(_error: AllocError) -> ScriptFault {
+        ScriptFault::NoMemory
+    }
+}
+
+impl From<ConfigFault> for ScriptFault {
+    ghost from_gives = { λ fault e. MatchOption (fault_of fault) (e ≡ NoMemory) (λ _. e ≡ ConfigFaulty fault) };
+
+    fn from(fault: ConfigFault) -> ScriptFault {
+        match fault {
+            ConfigFault::NoMemory => ScriptFault::NoMemory,
+            fault => ScriptFault::Config(fault),
+        }
+    }
+}
