@@ -27,6 +27,7 @@ use Rattle.memory_fleet.specs.declared.fleet.MemoryFleet.{MemoryFleet}
 use Rattle.memory_fleet.specs.Fleets.{holds_of}
 use Rattle.route_tree.specs.Route.{Route}
 use Rattle.route_tree.specs.Direct.{is_direct, server_at, words_of, DirectIsOneServer}
+use Rattle.connections.proofs.Fronts.{served_behind}
 use Rattle.fleet_run.specs.declared.router.Router.{Router}
 use Rattle.fleet_run.specs.Serving.{tree_of, point_at, placed, place_behind, Advances, Asked, next_index, IsOnWay, IsAskAt, Shows, ServesAsk}
 
@@ -75,27 +76,6 @@ advances_on x y z i j k p q r f g h a b =
       tree = b.tree ∙ a.tree;
       count = b.count ∙ a.count;
     }
-
--- a request with an ask is no `quit`: behind it the stream goes on
-served_behind : (order : Order) (block rest : List ℕ) (i : ℕ) (ask : Ask) → slice_get (asks_by order block) i ≡ Some ask → behind_order order rest ≡ Stands Nothing rest
-served_behind (OfItself own) block rest i ask e = absurd (cc)
-served_behind (Retrieval exptime with_cas keys) block rest i ask e = refl
-served_behind (Storage kind stored quiet) block rest i ask e = refl
-served_behind (Swapping stored cas quiet) block rest i ask e = refl
-served_behind (Deletion key quiet) block rest i ask e = refl
-served_behind (Touching key exptime quiet) block rest i ask e = refl
-served_behind (Counting up key delta quiet) block rest i ask e = refl
-
--- behind what mcgate itself was asked
-pub own_behind : (order : Order) (rest : List ℕ) → behind_order order rest ≡ behind_own (own_by order) rest
-own_behind (OfItself Version) rest = refl
-own_behind (OfItself Quit) rest = refl
-own_behind (Retrieval exptime with_cas keys) rest = refl
-own_behind (Storage kind stored quiet) rest = refl
-own_behind (Swapping stored cas quiet) rest = refl
-own_behind (Deletion key quiet) rest = refl
-own_behind (Touching key exptime quiet) rest = refl
-own_behind (Counting up key delta quiet) rest = refl
 
 point_behind : (ended done : Bool) (old : Connection) (i : ℕ) (point : Point classic) (next : Place) (rest : List ℕ) → ended ≡ done → point.place ≡ old.stream → next ≡ Stands Nothing rest
     → ◌≡◌ {A = Point classic} (record { place = place_behind ended old rest; index = next_index ended i }) (cond {A = Point classic} done (record { place = next; index = 0 }) (record { place = point.place; index = i + 1 }))

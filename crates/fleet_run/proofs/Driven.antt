@@ -37,7 +37,7 @@ use Rattle.fleet_run.specs.Opening.{put_by, opening_of, IsOpened}
 use Rattle.fleet_run.specs.Scripted as scripted
 use Rattle.fleet_run.specs.Scripted.{scripted_of, shown_by, transcript_of}
 use Rattle.fleet_run.specs.Driving.{standing_of, ServesPiece, HandsOut, TakesAlone, IsPut, TakesBy, TakesEvent, AreNew, Drives, DrivesPart}
-use Rattle.fleet_run.proofs.Shorter.{takes_some}
+use Rattle.connections.proofs.Shorter.{takes_some}
 use Rattle.fleet_run.proofs.Clients.{piece_taken}
 use Rattle.fleet_run.proofs.EventSteps.{event_of, moment_alone, fail_alone, lost_up}
 use Rattle.fleet_run.proofs.BadEvents.{map_more, one_begun, left_false, is_held}

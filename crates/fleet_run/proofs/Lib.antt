@@ -1,4 +1,3 @@
-pub mod Shorter
 pub mod Wording
 pub mod Advancing
 pub mod Messages

@@ -24,23 +24,9 @@ use Rattle.connections.specs.Steps.{held_len, behind_own, GoesTo}
 use Rattle.memory_fleet.specs.declared.fleet.MemoryFleet.{MemoryFleet}
 use Rattle.fleet_run.specs.declared.router.Router.{Router}
 use Rattle.fleet_run.specs.Serving.{Advances, IsFront, IsOnWay, ServesKey, ServesRequest}
-use Rattle.fleet_run.proofs.Advancing.{passes, advances_on, own_behind}
-use Rattle.fleet_run.proofs.Shorter.{fewer, skipped_len}
-
-empty_is : (asks : List Ask) → length asks ≡ 0 → asks ≡ []
-empty_is [] e = refl
-empty_is (ask ∷ asks) e = absurd (omega arith)
-
-own_len : (own : Option Own) (rest : List ℕ) → length (held_at (behind_own own rest)) ≤ length rest
-own_len None rest = omega arith
-own_len (Some Version) rest = omega arith
-own_len (Some Quit) rest = omega arith
-
-shorter_by : (old new : Connection) (held rest : List ℕ) (place : Place) → old.stream ≡ Stands Nothing held → new.stream ≡ place → length (held_at place) ≤ length rest → length rest < length held → held_len new < held_len old
-shorter_by old new held rest place at goes within less =
-    let a : held_len new ≡ length (held_at place) = ap (λ (p : Place). length (held_at p)) goes in
-    let b : held_len old ≡ length held = ap (λ (p : Place). length (held_at p)) at in
-    omega (arith, a, b)
+use Rattle.connections.proofs.Shorter.{fewer, skipped_len}
+use Rattle.connections.proofs.Fronts.{empty_is, own_len, own_behind, shorter_by}
+use Rattle.fleet_run.proofs.Advancing.{passes, advances_on}
 
 -- a request without an ask: what mcgate itself was asked
 pub own_done : (old new : Connection) (router : Router) (fleet : MemoryFleet) (request : Request) (own : Option Own) → (front : IsFront old request) → length (asks_of (message_in front.held request)) ≡ 0 → own ≡ own_by (order_in front.held request.command)
@@ -92,30 +78,6 @@ key_last old x y request asks asks' i p q r f g h true a way same s e =
       advances = advances_on old x y 0 i 0 p q r f g h a s.served.advances;
       shorter = shorter_by old y way.held (drop request.used way.held) (Stands Nothing (drop request.used way.held)) (sym same ∙ way.place) (s.served.place way.held way.place) (omega arith) (fewer way.held (message_in way.held request) request.used way.read.begins);
     }
-
--- where something is read, the stream stands before it
-pub read_front : (place : Place) (read : Read) → IsReadAt place read → (read ≡ reads.More → ⊥) → (held : List ℕ) × (place ≡ Stands Nothing held) × Reads held read
-read_front (Stands Nothing held) read is some = (held, refl, is)
-read_front (Stands (Bytes n) held) read is some = absurd (some is)
-read_front (Stands ThroughNewline held) read is some = absurd (some is)
-read_front Closed read is some = absurd (some is)
-
-pub request_is_some : (request : Request) → reads.Request request ≡ reads.More → ⊥
-request_is_some request e = cc
-
-pub refused_is_some : (why : Why) (used : ℕ) (skip : Skip) → reads.Refused why used skip ≡ reads.More → ⊥
-refused_is_some why used skip e = cc
-
-pub long_is_some : reads.TooLong ≡ reads.More → ⊥
-long_is_some e = cc
-
--- where nothing is read, no message is there
-pub more_stuck : (place : Place) → IsReadAt place reads.More → IsStuck classic place
-more_stuck (Stands Nothing held) is (Whole message) next r = is.1 message r.0 r.1
-more_stuck (Stands Nothing held) is LongLine next r = is.0 r.0
-more_stuck (Stands (Bytes n) held) is said next r = r
-more_stuck (Stands ThroughNewline held) is said next r = r
-more_stuck Closed is said next r = r
 
 -- a message more was done
 pub served_more : (old x y : Connection) (p q r : Router) (f g h : MemoryFleet) → Advances old 0 p f x 0 q g → ServesRequest x q g y r h → Advances old 0 p f y 0 r h

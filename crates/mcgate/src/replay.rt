@@ -52,8 +52,7 @@ fn run_script<W: Write>(
     requires paired { length configured.now.lines.items ≡ length configured.now.script.events.items }
     ensures { IfOk result (RunsScript configured.now (W.contents out.old) (W.contents out.new)) }
 {
-    let servers = configured.config.servers().len();
-    let mut fleet = MemoryFleet::new(alloc, servers as u32)?;
+    let mut fleet = MemoryFleet::new(alloc, configured.server_count())?;
     let mut transcript = Transcript {
         shown: Vec::new(alloc),
     };

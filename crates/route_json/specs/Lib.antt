@@ -1,9 +1,7 @@
-pub mod Escapes
 pub mod Fault
 pub mod Printed
 pub mod Reading
 pub mod Fields
-pub mod Addresses
 pub mod Servers
 pub mod Pools
 pub mod Routes

@@ -3,7 +3,7 @@ use Rattle.std.specs.Prelude.{ℕ, ◌<◌, ◌≤◌, ◌==◌, List, [], ◌�
 use Rattle.std.specs.Str.{bytes_eq}
 use Rattle.serde_json.specs.Data.{Data, string, object, Members}
 use Rattle.serde_json.specs.Find.{get}
-use Rattle.route_json.specs.declared.fields.Holder.TheVariants as holders
+use Rattle.route_names.specs.declared.holders.Holder.TheVariants as holders
 use Rattle.route_json.specs.declared.pools.Pool.{Pool}
 use Rattle.route_json.specs.Fault.{BadField, EmptyPool, TooManyServers}
 use Rattle.route_json.specs.Fields.{only, list_or}

@@ -9,13 +9,14 @@ use Rattle.serde_json.specs.Find.{get}
 use Rattle.route_tree.specs.Route as forms
 use Rattle.route_tree.specs.Route.{Route, Routes, Server, Failing}
 use Rattle.route_tree.specs.Form.{routes_of, policies_of, prefixes_of}
-use Rattle.route_json.specs.declared.fields.Lists.{Lists}
-use Rattle.route_json.specs.declared.fields.Lists.TheVariants as lists
-use Rattle.route_json.specs.declared.fields.Kind.{Kind}
-use Rattle.route_json.specs.declared.fields.Kind.TheVariants as kinds
-use Rattle.route_json.specs.declared.fields.Holder.TheVariants as holders
+use Rattle.route_names.specs.declared.kinds.Lists.{Lists}
+use Rattle.route_names.specs.declared.kinds.Lists.TheVariants as lists
+use Rattle.route_names.specs.declared.kinds.Kind.{Kind}
+use Rattle.route_names.specs.declared.kinds.Kind.TheVariants as kinds
+use Rattle.route_names.specs.declared.holders.Holder.TheVariants as holders
+use Rattle.route_names.specs.Names.{kind_of, op_of, behind}
 use Rattle.route_json.specs.Fault.{Fault, BadField, TooDeep, TooManyNodes, UnknownType, NoPool, EmptyChildren, BadPrefix}
-use Rattle.route_json.specs.Fields.{only, value_or, text_or, object_or, exptime_or, kind_of, op_of, op_or, behind}
+use Rattle.route_json.specs.Fields.{only, value_or, text_or, object_or, exptime_or, op_or}
 use Rattle.route_json.specs.Pools.{Pools, servers_of}
 use Rattle.route_json.specs.Reading.{Reading, ◌>>=◌, give, fail, pure, each, values, members, named}
 

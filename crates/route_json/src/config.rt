@@ -6,12 +6,13 @@ ghost use Rattle.route_json.specs.Fault.{Gives};
 ghost use Rattle.route_json.specs.Fits.{IsBelow};
 
 use crate::fault::ConfigFault;
-use crate::fields::{Holder, object_field, only, value_field};
+use crate::fields::{object_field, only, value_field};
 use crate::pools::Pools;
 use crate::route::route;
-use crate::servers::Servers;
+use route_names::Holder;
 use route_tree::Tree;
 use serde_json::Value;
+use server_addresses::Servers;
 use std::alloc::{AllocError, Global};
 use std::marker::Model;
 

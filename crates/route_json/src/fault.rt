@@ -2,7 +2,7 @@ ghost use Rattle.std.specs.Prelude.{◌≡◌, Some, ◌++◌, codes, string_byt
 ghost use Rattle.route_json.specs.Fault.{BadField, BadAddress, EmptyPool, TooManyServers, UnknownType, NoPool, BadPrefix, fault_of};
 ghost use Rattle.route_json.specs.Printed.{fault_line};
 
-use crate::escape::Escaped;
+use byte_escapes::Escaped;
 use std::alloc::{AllocError, AllocFailed, Global};
 use std::error::Error;
 use std::fmt;
@@ -69,34 +69,34 @@ impl Display for ConfigFault {
             ConfigFault::NotJson => f.write_str("not JSON"),
             ConfigFault::BadField(name) => {
                 f.write_str("bad field ")?;
-                Escaped(name.as_str()).fmt(f)
+                Escaped(name.as_bytes()).fmt(f)
             }
             ConfigFault::BadAddress(text) => {
                 f.write_str("bad address ")?;
-                Escaped(text.as_str()).fmt(f)
+                Escaped(text.as_bytes()).fmt(f)
             }
             ConfigFault::EmptyPool(name) => {
                 f.write_str("empty pool ")?;
-                Escaped(name.as_str()).fmt(f)
+                Escaped(name.as_bytes()).fmt(f)
             }
             ConfigFault::TooManyServers(name) => {
                 f.write_str("too many servers in ")?;
-                Escaped(name.as_str()).fmt(f)
+                Escaped(name.as_bytes()).fmt(f)
             }
             ConfigFault::TooDeep => f.write_str("too deep"),
             ConfigFault::TooManyNodes => f.write_str("too many routes"),
             ConfigFault::UnknownType(name) => {
                 f.write_str("unknown route ")?;
-                Escaped(name.as_str()).fmt(f)
+                Escaped(name.as_bytes()).fmt(f)
             }
             ConfigFault::NoPool(name) => {
                 f.write_str("no pool ")?;
-                Escaped(name.as_str()).fmt(f)
+                Escaped(name.as_bytes()).fmt(f)
             }
             ConfigFault::EmptyChildren => f.write_str("no children"),
             ConfigFault::BadPrefix(text) => {
                 f.write_str("bad prefix ")?;
-                Escaped(text.as_str()).fmt(f)
+                Escaped(text.as_bytes()).fmt(f)
             }
             ConfigFault::NoMemory => f.write_str("out of memory"),
         }

@@ -1,73 +1,19 @@
-// Fields of JSON objects, and the names that stand in them.
+// Fields of JSON objects.
 
-ghost use Rattle.std.specs.Prelude.{◌≡◌, codes, option_map};
-ghost use Rattle.std.specs.Str.{bytes_eq};
-ghost use Rattle.std.specs.List.{list_any};
+ghost use Rattle.std.specs.Prelude.{codes};
 ghost use Rattle.serde_json.specs.Find.{get};
 ghost use Rattle.serde_json.specs.View.{view, items_view, members_view};
 ghost use Rattle.route_json.specs.Fault.{Gives};
-ghost use Rattle.route_json.specs.Fields.{fields_of, own_fields, only_members, only, value_or, text_or, list_or, object_or, exptime_or, kind_of, op_of, behind};
+ghost use Rattle.route_json.specs.Fields.{only_members, only, value_or, text_or, list_or, object_or, exptime_or};
 ghost use Rattle.route_json.specs.Reading.{members};
 
 use crate::fault::{ConfigFault, bad_field};
-use mc_types::Op;
+use route_names::{Holder, is_field};
 use serde_json::{Map, Value};
 use std::alloc::Global;
 
 /// The greatest exptime of a route, as memcached's clients write it in 31 bits.
 const MAX_EXPTIME: u64 = 2147483647;
-
-/// The routes that have a list of children.
-#[derive(Clone, Copy)]
-pub enum Lists {
-    AllSync,
-    Failover,
-    MissFailover,
-}
-
-/// The kinds of routes.
-#[derive(Clone, Copy)]
-pub enum Kind {
-    Pool,
-    List(Lists),
-    WarmUp,
-    ByOperation,
-    ByPrefix,
-    Null,
-    Error,
-}
-
-/// The kinds of objects in a configuration.
-#[derive(Clone, Copy)]
-pub enum Holder {
-    Config,
-    Pool,
-    Route(Kind),
-}
-
-/// Whether an object of this kind may have this field.
-pub fn is_field(holder: Holder, name: &str) -> bool
-    ensures { result ≡ list_any (bytes_eq name.now) (fields_of holder) }
-{
-    match holder {
-        Holder::Config => name == "pools" || name == "route",
-        Holder::Pool => name == "servers",
-        Holder::Route(kind) => name == "type" || is_route_field(kind, name),
-    }
-}
-
-fn is_route_field(kind: Kind, name: &str) -> bool
-    ensures { result ≡ list_any (bytes_eq name.now) (own_fields kind) }
-{
-    match kind {
-        Kind::Pool => name == "pool",
-        Kind::List(_) => name == "children",
-        Kind::WarmUp => name == "cold" || name == "warm" || name == "exptime",
-        Kind::ByOperation => name == "operation_policies" || name == "default_policy",
-        Kind::ByPrefix => name == "policies" || name == "wildcard",
-        Kind::Null | Kind::Error => false,
-    }
-}
 
 /// Each member of an object is a field of its kind; `BadField` names the first that isn't.
 pub fn only(alloc: Global, holder: Holder, value: &Value) -> Result<(), ConfigFault>
@@ -154,50 +100,4 @@ pub fn exptime_field(alloc: Global, value: &Value) -> Result<u32, ConfigFault>
             _ => Err(bad_field(alloc, "exptime")),
         },
     }
-}
-
-/// The kind of a type.
-pub fn kind_of(text: &str) -> Option<Kind>
-    ensures { result ≡ kind_of text.now }
-{
-    match text {
-        "PoolRoute" => Some(Kind::Pool),
-        "AllSyncRoute" => Some(Kind::List(Lists::AllSync)),
-        "FailoverRoute" => Some(Kind::List(Lists::Failover)),
-        "MissFailoverRoute" => Some(Kind::List(Lists::MissFailover)),
-        "WarmUpRoute" => Some(Kind::WarmUp),
-        "OperationSelectorRoute" => Some(Kind::ByOperation),
-        "PrefixSelectorRoute" => Some(Kind::ByPrefix),
-        "NullRoute" => Some(Kind::Null),
-        "ErrorRoute" => Some(Kind::Error),
-        _ => None,
-    }
-}
-
-/// The operation of this name.
-pub fn op_of(text: &str) -> Option<Op>
-    ensures { result ≡ op_of text.now }
-{
-    match text {
-        "get" => Some(Op::Get),
-        "gat" => Some(Op::Gat),
-        "set" => Some(Op::Set),
-        "add" => Some(Op::Add),
-        "replace" => Some(Op::Replace),
-        "append" => Some(Op::Append),
-        "prepend" => Some(Op::Prepend),
-        "cas" => Some(Op::Cas),
-        "delete" => Some(Op::Delete),
-        "incr" => Some(Op::Incr),
-        "decr" => Some(Op::Decr),
-        "touch" => Some(Op::Touch),
-        _ => None,
-    }
-}
-
-/// What stands behind this front.
-pub fn behind<'a>(front: &str, text: &'a str) -> Option<&'a str>
-    ensures { option_map (λ s. s.now) result ≡ behind front.now text.now }
-{
-    text.strip_prefix(front)
 }

@@ -5,16 +5,16 @@ ghost use Rattle.mc_types.specs.KeyText.{IsKey};
 ghost use Rattle.route_tree.specs.Route.{Failing, Server};
 ghost use Rattle.route_tree.specs.Form.{route_of_form, routes_of};
 ghost use Rattle.route_json.specs.Fault.{Gives};
-ghost use Rattle.route_json.specs.Fields.{kind_of, behind};
+ghost use Rattle.route_names.specs.Names.{kind_of, behind};
 ghost use Rattle.route_json.specs.Fits.{IsLeaf, Fits, AllFit, NodeFits};
 ghost use Rattle.route_json.specs.Pools.{AllBelow, servers_of};
 ghost use Rattle.route_json.specs.Reading.{each};
 ghost use Rattle.route_json.specs.Routes.{counts, leaf, kind_or, policy_op, prefix_of, listed, known_pool, pool_route, server_routes, short_list, short, text_children};
 
 use crate::fault::{ConfigFault, bad_field, bad_prefix, no_pool, unknown_type};
-use crate::fields::{Kind, Lists, behind, kind_of, op_of};
 use crate::pools::Pools;
 use mc_types::{Key, Op, ServerId};
+use route_names::{Kind, Lists, behind, kind_of, op_of};
 use route_tree::{Tree, TreeForm};
 use std::alloc::Global;
 

@@ -2,13 +2,13 @@ ghost use Rattle.std.specs.Prelude.{◌≡◌, ◌<◌, ◌≤◌, IfOk};
 ghost use Rattle.route_json.specs.PoolConfiguration.{pool_configuration};
 
 use crate::config::Config;
-use crate::servers::Servers;
 use route_tree::{Tree, TreeForm};
+use server_addresses::Servers;
 use std::alloc::{AllocError, Global};
 
 impl Config {
-    /// The configuration of one pool of so many servers, `s0:1`, `s1:1` and so on, at least one and at most 1,024. The
-    /// only error is want of memory.
+    /// The configuration of one pool of so many servers, at least one and at most 1,024: its addresses are `s0:1`, `s1:1`
+    /// and so on. So a script's line `pool N` is meant. The only error is want of memory.
     pub fn of_pool(alloc: Global, servers: u32) -> Result<Config, AllocError>
         requires some { 0 < servers }
         requires few { servers ≤ 1024 }

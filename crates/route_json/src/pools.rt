@@ -5,10 +5,12 @@ ghost use Rattle.route_json.specs.Pools.{pools_of, AllBelow, ArePools, servers_o
 ghost use Rattle.route_json.specs.Reading.{each, values};
 
 use crate::fault::{ConfigFault, bad_field, empty_pool, too_many_servers};
-use crate::fields::{Holder, list_field, only};
-use crate::servers::Servers;
+use crate::fields::{list_field, only};
+use crate::numbering::number_text;
 use mc_types::ServerId;
+use route_names::Holder;
 use serde_json::{Map, Value};
+use server_addresses::Servers;
 use std::alloc::Global;
 use std::marker::Model;
 
@@ -181,7 +183,7 @@ fn read_server(
     ensures more { length servers.old ≤ length servers.new }
 {
     match value {
-        Value::String(text) => servers.number_text(alloc, name, text.as_str()),
+        Value::String(text) => number_text(alloc, servers, name, text.as_str()),
         _ => Err(bad_field(alloc, "servers")),
     }
 }

@@ -10,10 +10,11 @@ ghost use Rattle.route_json.specs.Reading.{each, values};
 ghost use Rattle.route_json.specs.Routes.{children_of, warm_up, fields, typed, node, route};
 
 use crate::fault::{ConfigFault, bad_field};
-use crate::fields::{Holder, Kind, exptime_field, only, text_field, value_field};
+use crate::fields::{exptime_field, only, text_field, value_field};
 use crate::leaf::{count, known_kind, listed, pool_route, short, text_children};
 use crate::pools::Pools;
 use crate::selector::{by_operation, by_prefix};
+use route_names::{Holder, Kind};
 use route_tree::{Tree, TreeForm};
 use serde_json::Value;
 use std::alloc::Global;

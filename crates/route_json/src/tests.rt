@@ -11,8 +11,13 @@ fn texts() -> &'static str {
 {} => bad field pools
 {"pools":5} => bad field route
 {"pools":5,"route":5} => bad field pools
+{"pools":{},"route":5,"route":"NullRoute"} => accepted
 {"pools":{"A":5},"route":5} => bad field A
 {"pools":{"A":{"x":1}},"route":5} => bad field x
+{"pools":{"A":{"servers":[],"x":1}},"route":5} => bad field x
+{"pools":{"A":{}},"route":5} => bad field servers
+{"pools":{"B":5,"A":{"servers":[]}},"route":5} => empty pool A
+{"pools":{"B":5,"A":{"servers":["h:0"]}},"route":5} => bad address h:0
 {"b\n\u00e9":1,"a\\":2} => bad field a\\
 {"b\n\u00e9":1} => bad field b\n\xc3\xa9"#
 }
@@ -21,13 +26,8 @@ fn texts() -> &'static str {
 fn server_lists() -> &'static str {
     r#"[] => empty pool A
 ["h:0"] => bad address h:0
-["h:65535"] => accepted
-["h:65536"] => bad address h:65536
-["h:00001"] => accepted
-["h:000001"] => bad address h:000001
-[":11"] => bad address :11
-["::1"] => accepted
 ["h 1:1"] => bad address h 1:1
+["h:1","h:1"] => accepted
 ["a:1",5,"h:0"] => bad field servers
 ["h:0",5] => bad address h:0
 5 => bad field servers"#
@@ -37,26 +37,36 @@ fn server_lists() -> &'static str {
 fn routes() -> &'static str {
     r#""PoolRoute|Z" => no pool Z
 "RandomRoute" => unknown route RandomRoute
+"PoolRoute|A|B" => no pool A|B
 {"type":"AllSyncRoute","children":[]} => no children
 {"type":"PrefixSelectorRoute","policies":{"":"NullRoute"}} => bad prefix 
 {"type":"PrefixSelectorRoute","policies":{"a b":5}} => bad prefix a b
 {"type":"PrefixSelectorRoute","policies":{"a":5,"b ":5}} => bad field a
 {"type":"PrefixSelectorRoute"} => bad field policies
+{"type":"PrefixSelectorRoute","policies":{},"wildcard":5} => bad field wildcard
+{"type":"PrefixSelectorRoute","policies":{"a":"X"},"wildcard":5} => unknown route X
 {"type":"OperationSelectorRoute","operation_policies":{"read":5}} => bad field read
 {"type":"OperationSelectorRoute","operation_policies":{"get":"X"}} => unknown route X
+{"type":"OperationSelectorRoute","operation_policies":{"set":5,"get":"X"}} => unknown route X
+{"type":"OperationSelectorRoute","operation_policies":{"set":"X"},"default_policy":5} => unknown route X
 {"type":"PoolRoute|A"} => unknown route PoolRoute|A
 {"type":"RandomRoute","x":1} => unknown route RandomRoute
 {"x":1} => bad field type
 {"type":"PoolRoute","x":1} => bad field x
 {"type":"PoolRoute"} => bad field pool
+{"type":"PoolRoute","pool":5} => bad field pool
+{"type":"PoolRoute","pool":"Z"} => no pool Z
 {"type":"NullRoute","pool":"A"} => bad field pool
 {"type":"FailoverRoute","children":"A"} => bad field children
 {"type":"FailoverRoute","children":"Pool|Z"} => no pool Z
-{"type":"FailoverRoute","children":[5]} => bad field children
+{"type":"FailoverRoute","children":[5,"X"]} => bad field children
+{"type":"FailoverRoute","children":["X",5]} => unknown route X
 "FailoverRoute|Pool|" => no pool 
 "FailoverRoute|A" => unknown route FailoverRoute|A
 {"type":"WarmUpRoute","warm":5} => bad field cold
+{"type":"WarmUpRoute","cold":"X"} => unknown route X
 {"type":"WarmUpRoute","cold":"NullRoute","exptime":-1} => bad field warm
+{"type":"WarmUpRoute","cold":"NullRoute","warm":"X","exptime":-1} => unknown route X
 {"type":"WarmUpRoute","cold":"NullRoute","warm":"NullRoute","exptime":2147483647} => accepted
 {"type":"WarmUpRoute","cold":"NullRoute","warm":"NullRoute","exptime":2147483648} => bad field exptime
 {"type":"WarmUpRoute","cold":"NullRoute","warm":"NullRoute","exptime":-0} => bad field exptime
@@ -221,6 +231,8 @@ fn configuration_faults(rt: HostRuntime) -> Result<(), Fail> {
         let (text, want) = parts(line);
         assert_eq!(rt; printed(rt.alloc(), text)?.as_str(), want, "at {text}");
     }
+    let none = ConfigFault::NoMemory.to_string(rt.alloc())?;
+    assert_eq!(rt; none.as_str(), "out of memory");
     Ok(())
 }
 
@@ -287,6 +299,27 @@ fn depth_and_count(rt: HostRuntime) -> Result<(), Fail> {
     Ok(())
 }
 
+// So many null routes, and behind them routes nested as deep as may be, whose inmost value is no route.
+fn wide_and_deep(alloc: Global, nulls: u32) -> Result<String, Fail> {
+    let list = r#"{"type":"AllSyncRoute","children":["#;
+    let null = times(alloc, r#""NullRoute","#, nulls)?;
+    let deep = nested(alloc, list, "5", "]}", 31)?;
+    let children = between(alloc, null.as_str(), deep.as_str(), "]}")?;
+    between(alloc, list, children.as_str(), "")
+}
+
+// The inmost value would be number 4,097 and at depth 33; with one null route more that number comes a level before.
+#[test]
+fn depth_before_count(rt: HostRuntime) -> Result<(), Fail> {
+    let alloc = rt.alloc();
+    for (nulls, want) in [(4064, "too deep"), (4065, "too many routes")] {
+        let route = wide_and_deep(alloc, nulls)?;
+        let text = with_route(alloc, route.as_str())?;
+        assert_eq!(rt; printed(alloc, text.as_str())?.as_str(), want, "at {nulls}");
+    }
+    Ok(())
+}
+
 #[test]
 fn lengths(rt: HostRuntime) -> Result<(), Fail> {
     let alloc = rt.alloc();
@@ -297,9 +330,18 @@ fn lengths(rt: HostRuntime) -> Result<(), Fail> {
         let text = with_route(alloc, route.as_str())?;
         assert_eq!(rt; printed(alloc, text.as_str())?.as_str(), want, "at {count}");
     }
-    for (count, want) in [(1023, "accepted"), (1024, "too many servers in A")] {
+    let more = times(alloc, r#","NullRoute""#, 4094)?;
+    let list = r#"{"type":"AllSyncRoute","children":["NullRoute""#;
+    let route = between(alloc, list, more.as_str(), ",5]}")?;
+    let text = with_route(alloc, route.as_str())?;
+    assert_eq!(rt; printed(alloc, text.as_str())?.as_str(), "too many routes");
+    for (count, first, want) in [
+        (1023, r#"["h:1""#, "accepted"),
+        (1023, r#"["h:0""#, "bad address h:0"),
+        (1024, r#"["h:0""#, "too many servers in A"),
+    ] {
         let more = times(alloc, r#","h:1""#, count)?;
-        let list = between(alloc, r#"["h:1""#, more.as_str(), "]")?;
+        let list = between(alloc, first, more.as_str(), "]")?;
         let text = with_servers(alloc, list.as_str())?;
         assert_eq!(rt; printed(alloc, text.as_str())?.as_str(), want, "at {count}");
     }
@@ -337,5 +379,17 @@ fn servers_by_first_appearance(rt: HostRuntime) -> Result<(), Fail> {
         assert_eq!(rt; servers.get(ServerId::new(number)), Some(want));
     }
     assert_eq!(rt; servers.get(ServerId::new(3)), None);
+    Ok(())
+}
+
+#[test]
+fn one_pool(rt: HostRuntime) -> Result<(), Fail> {
+    let alloc = rt.alloc();
+    let config = Config::of_pool(alloc, 3)?;
+    assert_eq!(rt; shown(alloc, &config)?.as_str(), "Pool s0:1 s1:1 s2:1");
+    let config = Config::of_pool(alloc, 1024)?;
+    let servers = config.servers();
+    assert_eq!(rt; servers.len(), 1024);
+    assert_eq!(rt; servers.get(ServerId::new(1023)), Some("s1023:1"));
     Ok(())
 }

@@ -15,13 +15,7 @@ impl Tree {
         match self.form() {
             TreeForm::Pool(_) | TreeForm::Server(_) => true,
             TreeForm::ByPrefix { policies, wildcard } => are_direct(policies, wildcard),
-            TreeForm::Null
-            | TreeForm::Error
-            | TreeForm::AllSync(_)
-            | TreeForm::Failover(_)
-            | TreeForm::MissFailover(_)
-            | TreeForm::WarmUp { .. }
-            | TreeForm::ByOperation { .. } => false,
+            _ => false,
         }
     }
 }

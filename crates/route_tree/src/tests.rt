@@ -119,3 +119,34 @@ fn slots_of_pools(rt: HostRuntime) -> Result<(), Fail> {
     }
     Ok(())
 }
+
+// Keys that begin with the prefix go to server 0, the others to no server.
+fn null_for_others(alloc: Global, prefix: Key) -> Result<Tree, AllocError>
+    requires { IsKey prefix }
+{
+    let policies = vec![in alloc; (prefix, leaf(0))]?;
+    let wildcard = Box::new(alloc, Tree::new(TreeForm::Null))?;
+    Ok(Tree::new(TreeForm::ByPrefix { policies, wildcard }))
+}
+
+// Keys that begin with the prefix go to no server, the others to server 0.
+fn null_for_prefix(alloc: Global, prefix: Key) -> Result<Tree, AllocError>
+    requires { IsKey prefix }
+{
+    let policies = vec![in alloc; (prefix, Tree::new(TreeForm::Null))]?;
+    let wildcard = Box::new(alloc, leaf(0))?;
+    Ok(Tree::new(TreeForm::ByPrefix { policies, wildcard }))
+}
+
+#[test]
+fn direct_trees(rt: HostRuntime) -> Result<(), Fail> {
+    let alloc = rt.alloc();
+    let a = key_of(b"a").ok_or("a is a key")?;
+    let ab = key_of(b"ab").ok_or("ab is a key")?;
+    assert!(rt; leaf(7).is_direct());
+    assert!(rt; by_prefix(alloc, a, ab)?.is_direct());
+    assert!(rt; !null_for_others(alloc, a)?.is_direct());
+    assert!(rt; !null_for_prefix(alloc, a)?.is_direct());
+    assert!(rt; !two_pools(alloc)?.is_direct());
+    Ok(())
+}

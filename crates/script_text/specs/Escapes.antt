@@ -1,23 +1,7 @@
 -- How bytes are spelled in a line of text. Source: mcgate's own.
-use Rattle.std.specs.Prelude.{ℕ, ◌+◌, ◌-◌, ◌*◌, ◌/◌, ◌%◌, ◌==◌, ◌&&◌, List, [], ◌∷◌, nat_lt, nat_le, if◌then◌else◌, flat_map, Option, Some, None}
+use Rattle.std.specs.Prelude.{ℕ, ◌+◌, ◌-◌, ◌*◌, ◌==◌, ◌&&◌, List, [], ◌∷◌, nat_le, if◌then◌else◌, Option, Some, None}
 use Rattle.std.specs.Option.{option_map}
-
--- a hexadecimal digit, in lower case
-abbrev pub hex_digit : ℕ → ℕ
-hex_digit d = if nat_lt d 10 then 48 + d else 87 + d
-
--- how a byte is written: \r, \n, \\, a byte of 32..=126 as it is, and any other as \xhh
-abbrev pub escape : ℕ → List ℕ
-escape b =
-    if b == 13 then 92 ∷ 114 ∷ []
-    else if b == 10 then 92 ∷ 110 ∷ []
-    else if b == 92 then 92 ∷ 92 ∷ []
-    else if nat_lt 31 b && nat_lt b 127 then b ∷ []
-    else 92 ∷ 120 ∷ hex_digit (b / 16) ∷ hex_digit (b % 16) ∷ []
-
--- how bytes are written
-abbrev pub escaped : List ℕ → List ℕ
-escaped = flat_map escape
+pub use Rattle.byte_escapes.specs.Escapes.{escape, escaped}
 
 -- the value of a hexadecimal digit, in either case of letters
 abbrev pub hex_value : ℕ → Option ℕ

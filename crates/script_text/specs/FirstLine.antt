@@ -17,9 +17,9 @@ use Rattle.script_text.specs.Events.{nonzero, ◌>>=◌}
 use Rattle.script_text.specs.declared.configured.ScriptFault.{ScriptFault}
 use Rattle.script_text.specs.declared.configured.ScriptFault.TheVariants as faults
 
--- why no configuration is said: the line is bad, or it is a configuration with this fault
+-- why a first line says no configuration: it is a bad line, or the configuration has this fault
 pub data WhyNot : Type 0 where
-  IsBadLine : WhyNot
+  BadFirstLine : WhyNot
   HasFault : Fault → WhyNot
 
 -- a pool's size: 1..=1024
@@ -35,17 +35,17 @@ pool_said line = do
   if bytes_eq parts.word (codes "pool") then size_said parts.rest else None
 
 -- a line that begins with `pool` is meant to say a pool, and every other line a configuration
-abbrev pub is_of_pool : List ℕ → Bool
-is_of_pool line = starts_with nat_eq line (codes "pool")
+abbrev pub begins_with_pool : List ℕ → Bool
+begins_with_pool line = starts_with nat_eq line (codes "pool")
 
 -- the configuration of a pool of this size
 abbrev pub pool_or_bad : Option ℕ → Result Configuration WhyNot
-pool_or_bad None = Err IsBadLine
+pool_or_bad None = Err BadFirstLine
 pool_or_bad (Some size) = Ok (pool_configuration size)
 
 -- a tree and its servers, where the tree has one server for each key
 abbrev pub direct_or_bad : Route → Addresses → Result Configuration WhyNot
-direct_or_bad tree servers = if is_direct tree then Ok (record { tree = tree; servers = servers }) else Err IsBadLine
+direct_or_bad tree servers = if is_direct tree then Ok (record { tree = tree; servers = servers }) else Err BadFirstLine
 
 -- the configuration that was read, or its fault
 abbrev pub read_or_fault : Result (Route × Addresses) Fault → Result Configuration WhyNot
@@ -54,7 +54,7 @@ read_or_fault (Err fault) = Err (HasFault fault)
 
 -- the configuration that a first line says, or why not
 abbrev pub first_said : List ℕ → Result Configuration WhyNot
-first_said line = if is_of_pool line then pool_or_bad (pool_said line) else read_or_fault (read_or (read line))
+first_said line = if begins_with_pool line then pool_or_bad (pool_said line) else read_or_fault (read_or (read line))
 
 -- the fault that is told is the configuration's, and not want of memory
 pub record TellsFault {A : Type 0} (said : Result A WhyNot) (told : ConfigFault) : Type 0 where
@@ -66,5 +66,5 @@ pub record TellsFault {A : Type 0} (said : Result A WhyNot) (told : ConfigFault)
 abbrev pub ReadsFirst : Result Configuration WhyNot → Result Configuration ScriptFault → Type 0
 ReadsFirst said (Ok config) = said ≡ Ok config
 ReadsFirst said (Err (faults.Config fault)) = TellsFault said fault
-ReadsFirst said (Err (faults.BadLine n)) = (said ≡ Err IsBadLine) × (n ≡ 1)
+ReadsFirst said (Err (faults.BadLine n)) = (said ≡ Err BadFirstLine) × (n ≡ 1)
 ReadsFirst said (Err faults.NoMemory) = Unit {0}

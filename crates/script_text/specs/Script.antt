@@ -5,7 +5,7 @@ use Rattle.fleet_run.specs.Scripted.{Scripted, scripted_of}
 use Rattle.fleet_run.specs.Bad.{first_bad}
 use Rattle.script_text.specs.Lines.{lines_of}
 use Rattle.script_text.specs.Events.{event_said, ◌>>=◌}
-use Rattle.script_text.specs.FirstLine.{WhyNot, IsBadLine, HasFault, first_said, TellsFault}
+use Rattle.script_text.specs.FirstLine.{WhyNot, BadFirstLine, HasFault, first_said, TellsFault}
 use Rattle.script_text.specs.declared.configured.ConfiguredScript.{ConfiguredScript}
 use Rattle.script_text.specs.declared.configured.ScriptFault.{ScriptFault}
 use Rattle.script_text.specs.declared.configured.ScriptFault.TheVariants.{Config, BadLine, NoMemory}
@@ -64,7 +64,7 @@ told_behind (Err why) further = Err why
 
 -- what lines say; or why the first says no configuration
 abbrev pub told_by : List (List ℕ) → Result Told WhyNot
-told_by [] = Err IsBadLine
+told_by [] = Err BadFirstLine
 told_by (first ∷ further) = told_behind (first_said first) further
 
 -- what a text says
@@ -97,13 +97,13 @@ servers_said t = length t.configuration.servers
 -- the number of the first bad line: the first, that of an event that can't be, or else the one that can't be read; a configuration with a fault is no bad line
 abbrev pub bad_line : Result Told WhyNot → Option ℕ
 bad_line (Ok t) = either (bad_event_line (servers_said t) (events_said t) (lines_said t)) t.unreadable
-bad_line (Err IsBadLine) = Some 1
+bad_line (Err BadFirstLine) = Some 1
 bad_line (Err (HasFault fault)) = None
 
 -- some line can't be read
 abbrev pub IsUnreadable : Result Told WhyNot → Type 0
 IsUnreadable (Ok t) = IsSome t.unreadable
-IsUnreadable (Err IsBadLine) = Unit {0}
+IsUnreadable (Err BadFirstLine) = Unit {0}
 IsUnreadable (Err (HasFault fault)) = ⊥
 
 -- a script that was read: each line can be, and these are the configuration, the events and their lines

@@ -1,4 +1,4 @@
-ghost use Rattle.std.specs.Prelude.{◌≡◌, MatchOption, slice_get};
+ghost use Rattle.std.specs.Prelude.{◌≡◌, MatchOption, length, slice_get};
 ghost use Rattle.route_json.specs.Fault.{fault_of};
 ghost use Rattle.script_text.specs.declared.configured.ScriptFault.TheVariants.{Config as ConfigFaulty, NoMemory};
 
@@ -17,6 +17,13 @@ pub struct ConfiguredScript {
 }
 
 impl ConfiguredScript {
+    /// How many servers the configuration has.
+    pub fn server_count(&self) -> u32
+        ensures { result ≡ length self.now.config.servers }
+    {
+        self.config.servers().len() as u32
+    }
+
     /// The number of this event's line. Events are counted from 0, as [`fleet_run::DriveFault::BadEvent`] counts them.
     pub fn line_of(&self, event: usize) -> Option<usize>
         ensures { result ≡ slice_get self.now.lines.items event }

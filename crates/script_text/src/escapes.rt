@@ -1,11 +1,9 @@
 ghost use Rattle.std.specs.Prelude.{◌≡◌, ◌<◌, ◌≤◌, Some, None, length, drop, IfSome, MatchOption};
-ghost use Rattle.script_text.specs.Escapes.{hex_digit, hex_value, hex_byte, letter_value, escape, escaped, unescaped, onto};
+ghost use Rattle.script_text.specs.Escapes.{hex_value, hex_byte, letter_value, unescaped, onto};
 ghost use Rattle.script_text.specs.Reads.{Reads};
 
 use crate::fault::LineFault;
 use std::alloc::Global;
-use std::fmt;
-use std::fmt::Display;
 
 fn hex_value(letter: u8) -> Option<u8>
     ensures value { result ≡ hex_value letter }
@@ -86,57 +84,4 @@ pub fn unescape(alloc: Global, text: &[u8]) -> Result<Vec<u8>, LineFault>
         at += spelled.len;
     }
     Ok(bytes)
-}
-
-fn digit(value: u8) -> u8
-    requires { value < 16 }
-    ensures digit { result ≡ hex_digit value }
-    ensures ascii { result < 128 }
-{
-    if value < 10 {
-        b'0' + value
-    } else {
-        b'a' - 10 + value
-    }
-}
-
-/// A byte, printed in the escapes of a line.
-#[derive(Drop)]
-pub struct EscapedByte(pub u8);
-
-impl Display for EscapedByte {
-    ghost output = { λ b. Some (escape b.0) };
-
-    fn fmt<W: fmt::Write>(&self, f: &mut fmt::Formatter<W>) -> fmt::Result {
-        let byte = self.0;
-        if byte == 13 {
-            f.write_str("\\r")
-        } else if byte == 10 {
-            f.write_str("\\n")
-        } else if byte == 92 {
-            f.write_str("\\\\")
-        } else if 31 < byte && byte < 127 {
-            f.write_char(byte as char)
-        } else {
-            f.write_str("\\x")?;
-            f.write_char(digit(byte / 16) as char)?;
-            f.write_char(digit(byte % 16) as char)
-        }
-    }
-}
-
-/// Bytes, printed in the escapes of a line: `\r`, `\n`, `\\`, bytes of 32..=126 as they are, and any other as `\xhh` with two
-/// lower case digits. They are mcgate's own.
-#[derive(Drop)]
-pub struct Escaped<'a>(pub &'a [u8]);
-
-impl Display for Escaped<'_> {
-    ghost output = { λ t. Some (escaped t.0.now) };
-
-    fn fmt<W: fmt::Write>(&self, f: &mut fmt::Formatter<W>) -> fmt::Result {
-        for byte in self.0 {
-            EscapedByte(*byte).fmt(f)?;
-        }
-        Ok(())
-    }
 }

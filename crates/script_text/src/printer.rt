@@ -4,7 +4,7 @@ ghost use Rattle.fleet_run.specs.Scripted.{transcript_of};
 ghost use Rattle.route_json.specs.Fault.{fault_of};
 ghost use Rattle.script_text.specs.Printed.{shown_lines, report_line, bad_line_line, config_fault_line};
 
-use crate::escapes::Escaped;
+use byte_escapes::Escaped;
 use fleet_run::{Report, Transcript};
 use route_json::ConfigFault;
 use std::io;

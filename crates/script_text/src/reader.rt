@@ -119,8 +119,7 @@ fn read_further(alloc: Global, further: Option<&str>) -> Result<Reading, AllocEr
 fn bad_event_line(script: &ConfiguredScript) -> Option<usize>
     ensures { result ≡ bad_event_line (length script.now.config.servers) (map scripted_of script.now.script.events.items) script.now.lines.items }
 {
-    let servers = script.config.servers().len() as u32;
-    match first_bad_event(servers, &script.script) {
+    match first_bad_event(script.server_count(), &script.script) {
         Some(event) => script.line_of(event),
         None => None,
     }

@@ -1,5 +1,5 @@
 use crate::configured::ScriptFault;
-use crate::escapes::{Escaped, EscapedByte, unescape};
+use crate::escapes::unescape;
 use crate::event::read_event;
 use crate::fault::LineFault;
 use crate::front::front_of;
@@ -15,6 +15,7 @@ use std::test::Fail;
 
 #[test]
 fn escapes_that_are_read(rt: HostRuntime) -> Result<(), Fail> {
+    escapes_are_read_back();
     let cases = [
         (b"".as_slice(), b"".as_slice()),
         (b"a b".as_slice(), b"a b".as_slice()),
@@ -52,17 +53,6 @@ fn escapes_that_are_none(rt: HostRuntime) {
         let read = unescape(rt.alloc(), text);
         assert!(rt; matches!(read, Err(LineFault::Unreadable)));
     }
-}
-
-#[test]
-fn escapes_that_are_written(rt: HostRuntime) -> Result<(), Fail> {
-    let bytes = b"a~ \r\n\\\t\x00\x7f\xe9\xff".as_slice();
-    let text = format!(in rt.alloc(); "{}", Escaped(bytes))?;
-    assert_eq!(rt; text.as_str(), "a~ \\r\\n\\\\\\x09\\x00\\x7f\\xe9\\xff");
-    let one = format!(in rt.alloc(); "{}", EscapedByte(31))?;
-    assert_eq!(rt; one.as_str(), "\\x1f");
-    escapes_are_read_back();
-    Ok(())
 }
 
 #[test]
@@ -185,7 +175,7 @@ fn scripts_of_a_pool(rt: HostRuntime) -> Result<(), Fail> {
     let Ok(read) = read_script(rt.alloc(), text) else {
         return Err(Fail::from("a bad line"));
     };
-    assert_eq!(rt; read.config.servers().len(), 1024);
+    assert_eq!(rt; read.server_count(), 1024);
     assert_eq!(rt; read.config.servers().get(ServerId::new(9)), Some("s9:1"));
     assert_eq!(rt; read.script.events.len(), 2);
     assert_eq!(rt; read.lines.as_slice(), [4, 6].as_slice());
@@ -199,7 +189,7 @@ fn pool_line_alone(rt: HostRuntime) -> Result<(), Fail> {
     let Ok(read) = read_script(rt.alloc(), "pool 1") else {
         return Err(Fail::from("a bad line"));
     };
-    assert_eq!(rt; read.config.servers().len(), 1);
+    assert_eq!(rt; read.server_count(), 1);
     assert!(rt; read.script.events.is_empty());
     Ok(())
 }
@@ -228,6 +218,7 @@ fn scripts_of_a_configuration(rt: HostRuntime) -> Result<(), Fail> {
     let Ok(read) = read_script(rt.alloc(), text.as_str()) else {
         return Err(Fail::from("a bad line"));
     };
+    assert_eq!(rt; read.server_count(), 2);
     assert_eq!(rt; read.config.servers().len(), 2);
     assert_eq!(rt;
         read.config.servers().get(ServerId::new(1)),

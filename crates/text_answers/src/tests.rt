@@ -38,6 +38,7 @@ fn answers_in_any_cut(rt: HostRuntime) -> Result<(), Fail> {
     let cases = [
         (Op::Set, false, b"STORED\r\n".as_slice()),
         (Op::Append, false, b"NOT_STORED\r\n".as_slice()),
+        (Op::Cas, false, b"STORED\r\n".as_slice()),
         (Op::Cas, false, b"EXISTS\r\n".as_slice()),
         (Op::Cas, false, b"NOT_FOUND\r\n".as_slice()),
         (Op::Get, false, b"END\r\n".as_slice()),
@@ -48,7 +49,9 @@ fn answers_in_any_cut(rt: HostRuntime) -> Result<(), Fail> {
         ),
         (Op::Gat, true, b"VALUE k 0 0 7\r\n\r\nEND\r\n".as_slice()),
         (Op::Delete, false, b"DELETED\r\n".as_slice()),
+        (Op::Delete, false, b"NOT_FOUND\r\n".as_slice()),
         (Op::Touch, false, b"TOUCHED\r\n".as_slice()),
+        (Op::Touch, false, b"NOT_FOUND\r\n".as_slice()),
         (Op::Incr, false, b"18446744073709551615\r\n".as_slice()),
         (Op::Decr, false, b"NOT_FOUND\r\n".as_slice()),
         (Op::Get, false, b"ERROR\r\n".as_slice()),

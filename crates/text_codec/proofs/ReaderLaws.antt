@@ -1,10 +1,8 @@
 -- What a client's bytes say doesn't depend on the pieces that they come in.
-use Rattle.std.proofs.Common.{◌≡◌, ℕ, ◌+◌, ◌≤◌, List, [], ◌++◌, length, drop, refl, sym, ap, ◌∙◌, subst, append_assoc, append-nil}
+use Rattle.std.proofs.Common.{◌≡◌, ℕ, List, [], ◌++◌, drop, refl, sym, ap, ◌∙◌, append_assoc}
 use Rattle.std.proofs.lemmas.List.{drop-append-le}
-use Rattle.mc_text.specs.Line.{IsTooLong}
 use Rattle.mc_text.proofs.Stays.{too_long_stays}
 use Rattle.text_requests.specs.declared.command.Skip.TheVariants.{Nothing, Bytes, ThroughNewline}
-use Rattle.text_requests.specs.Message.{Message, Begins}
 use Rattle.text_requests.specs.Stream.{Place, Stands, Closed, extended, behind, skipped}
 use Rattle.text_requests.proofs.StreamLemmas.{begins_still, one_message, used_within, skipped-append, behind-append, too_long_begins_nothing}
 use Rattle.text_codec.specs.Classic.{Said, Whole, LongLine, ReadsNext, ClassicIsReader}

@@ -1,9 +1,9 @@
 -- What stands behind the next line end.
-use Rattle.std.proofs.Common.{◌≡◌, ℕ, zero, suc, ◌+◌, ◌<◌, ◌≤◌, Bool, true, false, cond, eqb, List, [], ◌∷◌, length, drop, refl, sym, ap, ◌∙◌, arith}
+use Rattle.std.proofs.Common.{◌≡◌, ℕ, suc, ◌+◌, ◌<◌, true, false, eqb, List, [], ◌∷◌, length, drop, refl, sym, ap, ◌∙◌, arith}
 use Rattle.std.specs.List.{position_or_len}
 use Rattle.std.specs.Prelude.{◌==◌}
 use Rattle.text_requests.specs.declared.command.Skip.TheVariants.{Nothing, ThroughNewline}
-use Rattle.text_requests.specs.Stream.{Place, Stands, through_newline}
+use Rattle.text_requests.specs.Stream.{Stands, through_newline}
 
 abbrev line_end : List ℕ → ℕ
 line_end bytes = position_or_len (λ b. b == 10) bytes

@@ -5,11 +5,9 @@ use Rattle.mc_types.specs.declared.ask.Ask.{Ask}
 use Rattle.mc_types.specs.declared.answer.Answer.{Answer}
 use Rattle.mc_runs.specs.Protocol.{Protocol, IsReader}
 use Rattle.text_requests.specs.declared.command.Own.{Own}
-use Rattle.text_requests.specs.declared.command.Skip.{Skip}
 use Rattle.text_requests.specs.declared.command.Skip.TheVariants.{Nothing, Bytes, ThroughNewline}
 use Rattle.text_requests.specs.Message.{Message, Served, Refusal, Begins}
 use Rattle.text_requests.specs.Asks.{asks_of, quiet_of, own_by}
-use Rattle.text_requests.specs.Order.{Order}
 use Rattle.text_requests.specs.Stream.{Place, Stands, Closed, extended, behind}
 use Rattle.text_codec.specs.Replies.{shown_text, is_last, ends_with, own_answer, refusal_text, long_line_text}
 

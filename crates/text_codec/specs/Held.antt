@@ -1,5 +1,5 @@
 -- What a stream holds. Source: mcgate's own.
-use Rattle.std.specs.Prelude.{◌≡◌, ◌≢◌, ℕ, Bool, true, false, List, [], length, ◌≤◌}
+use Rattle.std.specs.Prelude.{◌≡◌, ℕ, Bool, true, false, List, []}
 use Rattle.text_requests.specs.declared.command.Skip.{Skip}
 use Rattle.text_requests.specs.declared.command.Skip.TheVariants.{Nothing, Bytes, ThroughNewline}
 use Rattle.text_requests.specs.declared.command.Read.{Read}

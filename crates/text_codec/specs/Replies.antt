@@ -1,5 +1,5 @@
 -- What a client is shown for its messages. Source: memcached's protocol.txt, "Retrieval command" and the answers of each command; that an error ends the reply to several keys, and mcgate's own lines, are mcgate's own.
-use Rattle.std.specs.Prelude.{ℕ, ◌+◌, Bool, true, false, not, ◌&&◌, ◌||◌, List, [], ◌∷◌, ◌++◌, Option, Some, None, length, nat_le, ◌==◌, if◌then◌else◌, slice_get, codes}
+use Rattle.std.specs.Prelude.{ℕ, ◌+◌, Bool, true, false, not, ◌&&◌, ◌||◌, List, [], ◌++◌, length, nat_le, ◌==◌, if◌then◌else◌, codes}
 use Rattle.mc_types.specs.Rank.{rank_of}
 use Rattle.mc_types.specs.declared.ask.Op.{Op}
 use Rattle.mc_types.specs.declared.ask.Op.TheVariants.{Get, Gat, Set, Add, Replace, Append, Prepend, Cas, Delete, Incr, Decr, Touch}
@@ -9,8 +9,6 @@ use Rattle.text_requests.specs.declared.command.Own.{Own}
 use Rattle.text_requests.specs.declared.command.Own.TheVariants.{Version, Quit}
 use Rattle.text_requests.specs.declared.command.Why.{Why}
 use Rattle.text_requests.specs.Refusals.{refusal_line}
-use Rattle.text_requests.specs.Message.{Message, Served, Refusal}
-use Rattle.text_requests.specs.Asks.{asks_of, quiet_of, own_of}
 use Rattle.text_answers.specs.Spelling.{spelling_of, value_of, end_text}
 
 abbrev pub is_fetch : Op → Bool

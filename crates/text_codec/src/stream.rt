@@ -1,4 +1,4 @@
-ghost use Rattle.std.specs.Prelude.{◌≡◌, ◌≤◌, ℕ, List, [], drop, length, OnOk, OnErr};
+ghost use Rattle.std.specs.Prelude.{◌≡◌, ◌≤◌, ◌↔◌, IsTrue, ℕ, List, [], drop, length, OnOk, OnErr};
 ghost use Rattle.text_requests.specs.declared.command.Skip.TheVariants.{Nothing};
 ghost use Rattle.text_requests.specs.Stream.{Stands, Closed, skipped, extended};
 ghost use Rattle.text_codec.specs.Held.{held_at, HoldsNone, IsReadAt};
@@ -77,7 +77,9 @@ impl TextStream {
     }
 
     /// Whether nothing is read any more: behind `quit`, or a line that was too long.
-    pub fn is_closed(&self) -> bool {
+    pub fn is_closed(&self) -> bool
+        ensures { IsTrue result ↔ (self.now ≡ Closed) }
+    {
         self.closed
     }
 
@@ -122,7 +124,8 @@ impl TextStream {
     /// A request of so many bytes is done.
     pub fn pass_request(&mut self, used: usize)
         requires { used ≤ length (held_at self.old) }
-        ensures { (held : List ℕ) → self.old ≡ Stands Nothing held → self.new ≡ Stands Nothing (drop used held) }
+        ensures passed { (held : List ℕ) → self.old ≡ Stands Nothing held → self.new ≡ Stands Nothing (drop used held) }
+        ensures closed { self.old ≡ Closed → self.new ≡ Closed }
     {
         if !self.closed {
             self.held.advance(used);
@@ -132,7 +135,8 @@ impl TextStream {
     /// A refused message of so many bytes is done, and what `skip` says is passed over behind them.
     pub fn pass_refused(&mut self, used: usize, skip: Skip)
         requires { used ≤ length (held_at self.old) }
-        ensures { (held : List ℕ) → self.old ≡ Stands Nothing held → self.new ≡ skipped skip (drop used held) }
+        ensures passed { (held : List ℕ) → self.old ≡ Stands Nothing held → self.new ≡ skipped skip (drop used held) }
+        ensures closed { self.old ≡ Closed → self.new ≡ Closed }
     {
         if self.closed {
             return;

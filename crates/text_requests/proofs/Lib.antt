@@ -1,5 +1,7 @@
 pub mod WordTable
 pub mod Front
+pub mod GroupLemmas
+pub mod KeyLemmas
 pub mod StreamLemmas
 pub mod Sound
 pub mod AskLemmas

@@ -2,6 +2,7 @@ pub mod CommandWords
 pub mod Refusals
 pub mod Order
 pub mod Places
+pub mod KeysOfLine
 pub mod Message
 pub mod Asks
 pub mod Stream

@@ -64,10 +64,11 @@ pub enum Skip {
 #[derive(Clone, Copy)]
 pub struct Stored {
     pub key: Span,
-    pub flags: u32,
     /// As the protocol writes it: 0 never expires, up to 2,592,000 are seconds from now, more is a Unix moment, a
     /// negative one has expired already.
     pub exptime: i64,
+    // The two short numbers stand together, so that no word of a command is half empty: copying such a one is slow.
+    pub flags: u32,
     /// How many bytes of data follow the line.
     pub length: u32,
 }

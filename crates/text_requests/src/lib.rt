@@ -2,9 +2,11 @@
 #![tactic(auto)]
 
 pub mod command;
+pub mod key_bytes;
 pub mod keyed;
 pub mod laws;
 pub mod line_words;
+pub mod next_key;
 pub mod parts;
 pub mod reader;
 pub mod refusal;

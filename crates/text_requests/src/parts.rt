@@ -1,19 +1,12 @@
 ghost use Rattle.std.specs.Prelude.{◌≡◌, ◌≤◌, ◌<◌, [], length, drop, IfOk, MatchResult};
-ghost use Rattle.std.specs.List.{list_all};
 ghost use Rattle.mc_text.specs.Word.{words, text_at, IsNextWord};
-ghost use Rattle.mc_types.specs.KeyText.{is_key_byte};
 ghost use Rattle.text_requests.specs.Order.{is_key, noreply_of, delete_tail_of, key_of, small_of, wide_of, exptime_of};
 ghost use Rattle.text_requests.specs.Places.{Gives, IsIn};
 
 use crate::command::Why;
+use crate::key_bytes::are_key_bytes;
 use mc_text::number::{number, signed, small_number};
 use mc_text::word::{Span, next_word};
-
-fn are_key_bytes(word: &[u8]) -> bool
-    ensures { result ≡ list_all is_key_byte word.now }
-{
-    word.iter().all(|b| !(*b < 33 || *b == 127))
-}
 
 /// Whether a word is a key.
 pub fn is_key(word: &[u8]) -> bool

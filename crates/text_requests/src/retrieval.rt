@@ -5,8 +5,9 @@ ghost use Rattle.text_requests.specs.Order.{is_key, keys_of, getting, getting_an
 ghost use Rattle.text_requests.specs.Places.{AreIn, Gives, LiesIn, keys_in, order_in};
 
 use crate::command::{Command, Keys, Why};
-use crate::parts::{exptime, is_key, word};
-use mc_text::word::{Span, next_word};
+use crate::next_key::{NextKey, next_key};
+use crate::parts::{exptime, word};
+use mc_text::word::Span;
 
 // how many words there are, if each is a key
 fn count_keys(line: &[u8], at: usize) -> Option<usize>
@@ -16,14 +17,16 @@ fn count_keys(line: &[u8], at: usize) -> Option<usize>
 {
     let mut from = at;
     let mut count = 0;
-    while let Some(word) = next_word(line, from) {
-        if !is_key(&line[word.start..word.end]) {
-            return None;
+    loop {
+        match next_key(line, from) {
+            NextKey::Nothing => return Some(count),
+            NextKey::Key(key) => {
+                from = key.end;
+                count += 1;
+            }
+            NextKey::Other => return None,
         }
-        from = word.end;
-        count += 1;
     }
-    Some(count)
 }
 
 fn keys(line: &[u8], at: usize) -> Result<Keys, Why>
@@ -31,8 +34,10 @@ fn keys(line: &[u8], at: usize) -> Result<Keys, Why>
     ensures keys { Gives (keys_in line.now) result (keys_of (words (drop at line.now))) }
     ensures within { IfOk result (AreIn line.now) }
 {
-    let _first = word(line, at)?;
     let count = count_keys(line, at).ok_or(Why::BadKey)?;
+    if count == 0 {
+        return Err(Why::Unknown);
+    }
     Ok(Keys {
         span: Span {
             start: at,

@@ -4,7 +4,8 @@ use Rattle.text_requests.specs.Message.{Refusal}
 use Rattle.text_requests.specs.Stream.{Place}
 use Rattle.text_requests.proofs.StreamLemmas.{used_within}
 use Rattle.text_codec.specs.Held.{held_at}
-use Rattle.fleet_run.proofs.Messages.{refused_done, long_line_done, read_front, request_is_some, refused_is_some, long_is_some, more_stuck, served_more}
+use Rattle.connections.proofs.Fronts.{read_front, request_is_some, refused_is_some, long_is_some, more_stuck}
+use Rattle.fleet_run.proofs.Messages.{refused_done, long_line_done, served_more}
 use Rattle.fleet_run.proofs.serve.serve.Goals as goal
 
 pub returns-in-More : goal.returns-in-More

@@ -4,13 +4,13 @@ use Rattle.mc_text.specs.Word.{words}
 use Rattle.text_requests.specs.Order.{is_key}
 use Rattle.text_requests.proofs.retrieval.count_keys.Given as goal
 
-abbrev pub invariant-loop-word : goal.invariant-loop-word
-invariant-loop-word l = record {
+abbrev pub invariant-loop-key : goal.invariant-loop-key
+invariant-loop-key l = record {
   inside : l.from ≤ length l.line;
   few : l.count ≤ l.from;
   keys : list_all is_key (words (drop l.from l.line)) ≡ list_all is_key (words (drop l.at l.line));
   counted : l.count + length (words (drop l.from l.line)) ≡ length (words (drop l.at l.line));
 }
 
-abbrev pub decreases-loop-word : goal.decreases-loop-word
-decreases-loop-word l = length l.line - l.from
+abbrev pub decreases-loop-key : goal.decreases-loop-key
+decreases-loop-key l = length l.line - l.from

@@ -1,0 +1,9 @@
+//! The escapes in which mcgate prints bytes: in transcripts, and in the faults of configurations.
+#![tactic(auto)]
+
+pub mod printing;
+
+pub use printing::{Escaped, EscapedByte};
+
+#[cfg(test)]
+mod tests;

@@ -1,0 +1,50 @@
+-- Which messages close a stream.
+use Rattle.std.proofs.Common.{◌≡◌, ℕ, ◌-◌, Bool, true, false, cond, eqb, List, [], ◌∷◌, length, drop, refl, sym, ◌∙◌, ◌↔◌}
+use Rattle.mc_text.specs.Line.{LF}
+use Rattle.text_requests.specs.declared.command.Own.TheVariants.{Version, Quit}
+use Rattle.text_requests.specs.declared.command.Skip.{Skip}
+use Rattle.text_requests.specs.declared.command.Skip.TheVariants.{Nothing, Bytes, ThroughNewline}
+use Rattle.text_requests.specs.Order.{Order, Retrieval, Storage, Swapping, Deletion, Touching, Counting, OfItself}
+use Rattle.text_requests.specs.Message.{Served, Refusal}
+use Rattle.text_requests.specs.Stream.{Stands, Closed, skipped, through_newline, behind_order}
+use Rattle.text_codec.specs.Classic.{Whole, LongLine}
+use Rattle.cache_connection.specs.Laws.{ClosesBehindLast}
+
+stands : (skip : Skip) (held : List ℕ) → Stands skip held ≡ Closed → ⊥
+stands skip held e = cc
+
+through_stands : (bytes : List ℕ) → through_newline bytes ≡ Closed → ⊥
+through_stands [] e = stands ThroughNewline [] e
+through_stands (b ∷ bytes) e = (elim (eqb b LF) as (λ t. cond t (Stands Nothing bytes) (through_newline bytes) ≡ Closed → ⊥) [
+  | true ↦ λ h. stands Nothing bytes h
+  | false ↦ λ h. through_stands bytes h
+]) e
+
+passing_stands : (b : Bool) (n : ℕ) (bytes : List ℕ) → cond b (Stands (Bytes (n - length bytes)) []) (Stands Nothing (drop n bytes)) ≡ Closed → ⊥
+passing_stands true n bytes e = stands (Bytes (n - length bytes)) [] e
+passing_stands false n bytes e = stands Nothing (drop n bytes) e
+
+skipped_stands : (skip : Skip) (bytes : List ℕ) → skipped skip bytes ≡ Closed → ⊥
+skipped_stands Nothing bytes e = stands Nothing bytes e
+skipped_stands (Bytes n) bytes e = passing_stands _ n bytes e
+skipped_stands ThroughNewline bytes e = through_stands bytes e
+
+order_closes : (order : Order) (rest : List ℕ) → (behind_order order rest ≡ Closed) ↔ (order ≡ OfItself Quit)
+order_closes (OfItself Quit) rest = (λ e. refl, λ e. refl)
+order_closes (OfItself Version) rest = (λ e. absurd (stands Nothing rest e), λ e. absurd (cc))
+order_closes (Retrieval exptime with_cas keys) rest = (λ e. absurd (stands Nothing rest e), λ e. absurd (cc))
+order_closes (Storage kind stored quiet) rest = (λ e. absurd (stands Nothing rest e), λ e. absurd (cc))
+order_closes (Swapping stored cas quiet) rest = (λ e. absurd (stands Nothing rest e), λ e. absurd (cc))
+order_closes (Deletion key quiet) rest = (λ e. absurd (stands Nothing rest e), λ e. absurd (cc))
+order_closes (Touching key exptime quiet) rest = (λ e. absurd (stands Nothing rest e), λ e. absurd (cc))
+order_closes (Counting up key delta quiet) rest = (λ e. absurd (stands Nothing rest e), λ e. absurd (cc))
+
+pub closes : ClosesBehindLast
+closes (Stands Nothing held) next (Whole (Served order block)) r =
+    let is = order_closes order (drop r.0 held) in
+    (λ e. is.0 (sym r.2 ∙ e), λ e. r.2 ∙ is.1 e)
+closes (Stands Nothing held) next (Whole (Refusal why skip)) r = (λ e. skipped_stands skip (drop r.0 held) (sym r.2 ∙ e), λ e. absurd e)
+closes (Stands Nothing held) next LongLine r = (λ e. tt, λ e. r.1)
+closes (Stands (Bytes n) held) next said r = absurd r
+closes (Stands ThroughNewline held) next said r = absurd r
+closes Closed next said r = absurd r

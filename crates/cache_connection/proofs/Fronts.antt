@@ -1,0 +1,96 @@
+-- What is served message by message.
+use Rattle.std.proofs.Common.{◌≡◌, ℕ, ℤ, ◌<◌, ◌≤◌, List, [], ◌∷◌, ◌++◌, length, drop, Option, Some, None, inl, refl, sym, ap, ◌∙◌, subst, arith, append_assoc}
+use Rattle.mc_types.specs.declared.ask.Ask.{Ask}
+use Rattle.mc_text.specs.Line.{IsTooLong}
+use Rattle.mc_runs.specs.Protocol.{IsStuck}
+use Rattle.mc_runs.specs.Stream.{Done}
+use Rattle.text_requests.specs.declared.command.Own.{Own}
+use Rattle.text_requests.specs.declared.command.Own.TheVariants.{Version, Quit}
+use Rattle.text_requests.specs.declared.command.Why.{Why}
+use Rattle.text_requests.specs.declared.command.Skip.{Skip}
+use Rattle.text_requests.specs.declared.command.Skip.TheVariants.{Nothing, Bytes, ThroughNewline}
+use Rattle.text_requests.specs.declared.command.Read.{Read}
+use Rattle.text_requests.specs.declared.command.Read.TheVariants as reads
+use Rattle.text_requests.specs.declared.command.Request.{Request}
+use Rattle.text_requests.specs.Order.{Order, Retrieval, Storage, Swapping, Deletion, Touching, Counting, OfItself}
+use Rattle.text_requests.specs.Message.{Message, Refusal, Begins, Reads, IsReadFrom}
+use Rattle.text_requests.specs.Places.{order_in}
+use Rattle.text_requests.specs.Asks.{asks_of, own_of, own_by}
+use Rattle.text_requests.specs.Stream.{Place, Stands, Closed, skipped, behind, behind_order}
+use Rattle.text_codec.specs.Held.{held_at, IsReadAt}
+use Rattle.text_codec.specs.Replies.{refusal_text, long_line_text}
+use Rattle.text_codec.specs.Classic.{Said, Whole, LongLine, ReadsNext, classic, own_passed, asks_in, passed_text}
+use Rattle.connections.specs.declared.connection.Connection.{Connection}
+use Rattle.connections.specs.Steps.{output_of, held_len, behind_own, GoesTo}
+use Rattle.cache_server.specs.Contents.{Contents}
+use Rattle.cache_connection.specs.Serving.{BreaksOff}
+use Rattle.cache_connection.specs.Steps.{message_at, IsFront, GoesOn, ServesFront}
+use Rattle.connections.proofs.Shorter.{fewer, skipped_len}
+use Rattle.connections.proofs.Fronts.{empty_is, own_len, own_behind, shorter_by, read_front, request_is_some}
+use Rattle.cache_connection.proofs.Joined.{serves_one, serves_behind}
+use Rattle.cache_connection.proofs.Keys.{reads_front}
+
+-- a message that asks no server
+passes : (moment : ℤ) (old new : Connection) (c : Contents) (said : Said) (next : Place) → ReadsNext old.stream said next → asks_in said ≡ [] → GoesTo old next (passed_text said) new → held_len new < held_len old → ServesFront moment old c new c
+passes moment old new c said next reads none g shorter =
+    let done : Done classic = record { message = said; replies = [] } in
+    record {
+      goes = record {
+        text = passed_text said;
+        serves = serves_one moment old.stream new.stream c c done (subst (ReadsNext old.stream said) (sym g.place_is) reads) none refl;
+        output_is = g.output_is;
+      };
+      shorter = shorter;
+    }
+
+-- and one that is broken off before any ask
+pub breaks_first : (moment : ℤ) (place next : Place) (c : Contents) (said : Said) → ReadsNext place said next → BreaksOff moment place c c
+breaks_first moment place next c said reads = record { said = said; next = next; reads = reads; answers = []; left = c; answered = refl; new_is = inl refl }
+
+-- a request without an ask: what mcgate itself was asked
+pub own_done : (moment : ℤ) (old new : Connection) (c : Contents) (request : Request) (own : Option Own) → IsFront old request → length (asks_of (message_at old request)) ≡ 0 → own ≡ own_of (message_at old request)
+    → GoesTo old (behind_own own (drop request.used (held_at old.stream))) (own_passed own) new → ServesFront moment old c new c
+own_done moment old new c request own front none own_is g =
+    let held : List ℕ = held_at old.stream in
+    let m : Message = message_at old request in
+    let rest : List ℕ = drop request.used held in
+    let next : behind_own own rest ≡ behind m rest = ap (λ (o : Option Own). behind_own o rest) own_is ∙ sym (own_behind (order_in held request.command) rest) in
+    let text : own_passed own ≡ passed_text (Whole m) = ap own_passed own_is in
+    passes moment old new c (Whole m) (behind m rest) (reads_front old request front) (empty_is (asks_of m) none)
+    (subst (λ (p : Place). GoesTo old p (passed_text (Whole m)) new) next (subst (λ (l : List ℕ). GoesTo old (behind_own own rest) l new) text g))
+    (shorter_by old new held rest (behind_own own rest) front.place g.place_is (own_len own rest) (fewer held m request.used front.read.begins))
+
+refused_reads : (place : Place) (held : List ℕ) (why : Why) (used : ℕ) (skip : Skip) → place ≡ Stands Nothing held → Begins held (Refusal why skip) used → ReadsNext place (Whole (Refusal why skip)) (skipped skip (drop used held))
+refused_reads place held why used skip at begins = subst (λ (p : Place). ReadsNext p (Whole (Refusal why skip)) (skipped skip (drop used held))) (sym at) (used, begins, refl)
+
+-- a refused message
+pub refused_done : (moment : ℤ) (old new : Connection) (c : Contents) (held : List ℕ) (why : Why) (used : ℕ) (skip : Skip) → old.stream ≡ Stands Nothing held → Begins held (Refusal why skip) used → GoesTo old (skipped skip (drop used held)) (refusal_text why) new → ServesFront moment old c new c
+refused_done moment old new c held why used skip place begins g =
+    let next : Place = skipped skip (drop used held) in
+    passes moment old new c (Whole (Refusal why skip)) next (refused_reads old.stream held why used skip place begins) refl g
+    (shorter_by old new held (drop used held) next place g.place_is (skipped_len skip (drop used held)) (fewer held (Refusal why skip) used begins))
+
+-- a line that is too long
+pub long_line_done : (moment : ℤ) (old new : Connection) (c : Contents) (held : List ℕ) → old.stream ≡ Stands Nothing held → IsTooLong held → GoesTo old Closed long_line_text new → ServesFront moment old c new c
+long_line_done moment old new c held place long g =
+    passes moment old new c LongLine Closed (subst (λ (p : Place). ReadsNext p LongLine Closed) (sym place) (long, refl)) refl g
+    (shorter_by old new held [] Closed place g.place_is (omega arith) (omega (arith, long.long)))
+
+-- a request that was read stands at the front
+pub front_is : (x : Connection) (request : Request) → IsReadAt x.stream (reads.Request request) → IsFront x request
+front_is x request is =
+    let f = read_front x.stream (reads.Request request) is (request_is_some request) in
+    let held : f.0 ≡ held_at x.stream = sym (ap held_at f.1) in
+    record {
+      place = f.1 ∙ ap (λ (l : List ℕ). Stands Nothing l) held;
+      read = subst (λ (l : List ℕ). IsReadFrom l request) held f.2;
+    }
+
+-- a message more was served
+pub goes_more : (moment : ℤ) (old x y : Connection) (c d e : Contents) → GoesOn moment old c x d → ServesFront moment x d y e → GoesOn moment old c y e
+goes_more moment old x y c d e a b =
+    record {
+      text = a.text ++ b.goes.text;
+      serves = serves_behind moment old.stream x.stream y.stream c d e a.text b.goes.text a.serves b.goes.serves;
+      output_is = b.goes.output_is ∙ ap (λ (l : List ℕ). l ++ b.goes.text) a.output_is ∙ append_assoc (output_of old) a.text b.goes.text;
+    }

@@ -1,0 +1,100 @@
+-- How far a connection was served, within a message and between messages. Source: mcgate's own.
+use Rattle.std.specs.Prelude.{◌≡◌, ℕ, ℤ, nat_abs, ◌+◌, ◌<◌, Bool, true, false, ◌⊎◌, ◌||◌, List, ◌++◌, length, drop, Some, slice_get}
+use Rattle.mc_types.specs.declared.ask.Ask.{Ask}
+use Rattle.mc_types.specs.declared.answer.Answer.{Answer}
+use Rattle.mc_runs.specs.Protocol.{IsStuck}
+use Rattle.mc_runs.specs.Stream.{written_from, NoneEnds}
+use Rattle.text_requests.specs.declared.command.Skip.TheVariants.{Nothing}
+use Rattle.text_requests.specs.declared.command.Request.{Request}
+use Rattle.text_requests.specs.declared.request.Asks.{Asks}
+use Rattle.text_requests.specs.Message.{Message, IsReadFrom, message_in}
+use Rattle.text_requests.specs.Asks.{asks_of, IsWalk}
+use Rattle.text_requests.specs.Stream.{Place, Stands}
+use Rattle.text_codec.specs.Held.{held_at}
+use Rattle.text_codec.specs.Replies.{is_failure, shown_text}
+use Rattle.text_codec.specs.Classic.{Whole, classic, shown_of, ends_at}
+use Rattle.connections.specs.declared.connection.Connection.{Connection}
+use Rattle.connections.specs.Steps.{output_of, held_len, GoesTo}
+use Rattle.cache_server.specs.Contents.{Contents, at_moment}
+use Rattle.cache_connection.specs.Serving.{AnswersAsk, AnswersEach, ServesTo}
+
+-- the message that a request is
+abbrev pub message_at : Connection → Request → Message
+message_at x request = message_in (held_at x.stream) request
+
+-- the request stands at the connection's front
+pub record IsFront (x : Connection) (request : Request) : Type 0 where
+  pub place : x.stream ≡ Stands Nothing (held_at x.stream)
+  pub read : IsReadFrom (held_at x.stream) request
+
+-- a walk over its asks that has come to the i-th one, which is there
+pub record IsOnWay (x : Connection) (request : Request) (asks : Asks) (i : ℕ) : Type 0 where
+  pub front : IsFront x request
+  pub walk : IsWalk (held_at x.stream) asks
+  pub request_is : asks.request ≡ request
+  pub taken : asks.taken ≡ i
+  pub there : i < length (asks_of (message_at x request))
+
+-- the i-th ask of the request at the front
+pub record IsAskAt (x : Connection) (request : Request) (i : ℕ) (ask : Ask) : Type 0 where
+  pub front : IsFront x request
+  pub at : slice_get (asks_of (message_at x request)) i ≡ Some ask
+  pub there : i < length (asks_of (message_at x request))
+
+-- where a connection stands behind a reply: the message is done, or it stands where it stood
+abbrev pub place_behind : Bool → Connection → List ℕ → Place
+place_behind true old rest = Stands Nothing rest
+place_behind false old rest = old.stream
+
+-- this reply was shown: whether the message is done with it, and what the output goes on by
+pub record Shows (old : Connection) (used : ℕ) (quiet last : Bool) (ask : Ask) (reply : Answer) (ended : Bool) (new : Connection) : Type 0 where
+  pub ended_is : ended ≡ (is_failure reply || last)
+  pub goes : (held : List ℕ) → old.stream ≡ Stands Nothing held → GoesTo old (place_behind ended old (drop used held)) (shown_text quiet last ask reply) new
+
+-- the i-th ask of the message at the front was answered, and the reply shown
+pub record ServesAsk (moment : ℤ) (old : Connection) (request : Request) (i : ℕ) (ask : Ask) (contents : Contents) (ended : Bool) (new : Connection) (contents' : Contents) : Type 0 where
+  pub reply : Answer
+  pub answered : AnswersAsk moment ask contents reply contents'
+  pub ended_is : ended ≡ ends_at (Whole (message_at old request)) i reply
+  pub goes : GoesTo old (place_behind ended old (drop request.used (held_at old.stream))) (shown_of (Whole (message_at old request)) i reply) new
+
+-- want of memory at an ask: what has expired is gone, or else it was answered, and the reply not shown
+abbrev pub StopsAtAsk : ℤ → Ask → Contents → Contents → Type 0
+StopsAtAsk moment ask old new = ((reply : Answer) × AnswersAsk moment ask old reply new) ⊎ (new ≡ at_moment (nat_abs moment) old)
+
+-- the walk's next ask was served
+pub record ServesKey (moment : ℤ) (old : Connection) (request : Request) (i : ℕ) (contents : Contents) (ended : Bool) (new : Connection) (asks' : Asks) (contents' : Contents) : Type 0 where
+  pub ask : Ask
+  pub at : IsAskAt old request i ask
+  pub served : ServesAsk moment old request i ask contents ended new contents'
+  pub way : ended ≡ false → IsOnWay new request asks' (i + 1)
+
+-- want of memory at the walk's next ask, or before it
+abbrev pub StopsAtKey : ℤ → Connection → Request → ℕ → Contents → Contents → Type 0
+StopsAtKey moment x request i old new =
+    (new ≡ old) ⊎ ((ask : Ask) × (slice_get (asks_of (message_at x request)) i ≡ Some ask) × StopsAtAsk moment ask old new)
+
+-- the first i asks of the message at the front were answered and shown, and none of the replies ended it
+pub record HasBegun (moment : ℤ) (old : Connection) (request : Request) (contents : Contents) (i : ℕ) (new : Connection) (contents' : Contents) : Type 0 where
+  pub replies : List Answer
+  pub count : length replies ≡ i
+  pub answered : AnswersEach moment (asks_of (message_at old request)) contents replies contents'
+  pub none : NoneEnds classic (Whole (message_at old request)) 0 replies
+  pub output_is : output_of new ≡ output_of old ++ written_from classic (Whole (message_at old request)) 0 replies
+  pub stays : new.stream ≡ old.stream
+
+-- messages were served, and their text shown
+pub record GoesOn (moment : ℤ) (old : Connection) (contents : Contents) (new : Connection) (contents' : Contents) : Type 0 where
+  pub text : List ℕ
+  pub serves : ServesTo moment old.stream contents text new.stream contents'
+  pub output_is : output_of new ≡ output_of old ++ text
+
+-- the message at the front was served: fewer bytes are held
+pub record ServesFront (moment : ℤ) (old : Connection) (contents : Contents) (new : Connection) (contents' : Contents) : Type 0 where
+  pub goes : GoesOn moment old contents new contents'
+  pub shorter : held_len new < held_len old
+
+-- all that was complete was served
+pub record ServesAll (moment : ℤ) (old : Connection) (contents : Contents) (new : Connection) (contents' : Contents) : Type 0 where
+  pub goes : GoesOn moment old contents new contents'
+  pub stuck : IsStuck classic new.stream

@@ -1,0 +1,14 @@
+//! One connection of a memcached cache server: what a client sends, in any pieces, is answered by a cache.
+#![tactic(auto)]
+
+pub mod laws;
+mod moment;
+mod reply;
+mod serve;
+pub mod served;
+
+pub use cache_server::Cache;
+pub use served::Served;
+
+#[cfg(test)]
+mod tests;

@@ -1,0 +1,26 @@
+use crate::mix::small_mix;
+use crate::passes::{exchanges_of, read_answers, read_asks, write_answers, write_asks};
+use bytes::BytesMut;
+use std::io;
+
+/// Reads and writes the small mix once, and prints what was counted.
+pub fn print_counts<R: AllocGlobal + Print>(rt: &R) -> io::Result<()> {
+    let alloc = rt.alloc();
+    let bytes = small_mix(alloc)?;
+    let counts = read_asks(alloc, bytes.as_slice())?;
+    let exchanges = exchanges_of(alloc, bytes.as_slice())?;
+    let mut asks = BytesMut::new(alloc);
+    write_asks(exchanges.as_slice(), &mut asks)?;
+    let mut answers = BytesMut::new(alloc);
+    write_answers(exchanges.as_slice(), &mut answers)?;
+    let read = read_answers(alloc, exchanges.as_slice(), answers.as_slice())?;
+    println!(rt; "messages {}", counts.messages)?;
+    println!(rt; "refused {}", counts.refused)?;
+    println!(rt; "own {}", counts.own)?;
+    println!(rt; "quiet {}", counts.quiet)?;
+    println!(rt; "asks {}", counts.asks)?;
+    println!(rt; "bytes of requests {}", bytes.len())?;
+    println!(rt; "bytes of asks {}", asks.len())?;
+    println!(rt; "bytes of answers {}", answers.len())?;
+    println!(rt; "answers read {read}")
+}

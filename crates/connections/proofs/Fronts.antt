@@ -1,0 +1,83 @@
+-- What stands at the front of a connection's stream, and where it stands behind it.
+use Rattle.std.proofs.Common.{◌≡◌, ℕ, ◌<◌, ◌≤◌, List, [], ◌∷◌, length, Option, Some, None, refl, ap, arith, slice_get}
+use Rattle.mc_types.specs.declared.ask.Ask.{Ask}
+use Rattle.mc_runs.specs.Protocol.{IsStuck}
+use Rattle.text_requests.specs.declared.command.Own.{Own}
+use Rattle.text_requests.specs.declared.command.Own.TheVariants.{Version, Quit}
+use Rattle.text_requests.specs.declared.command.Why.{Why}
+use Rattle.text_requests.specs.declared.command.Skip.{Skip}
+use Rattle.text_requests.specs.declared.command.Skip.TheVariants.{Nothing, Bytes, ThroughNewline}
+use Rattle.text_requests.specs.declared.command.Read.{Read}
+use Rattle.text_requests.specs.declared.command.Read.TheVariants as reads
+use Rattle.text_requests.specs.declared.command.Request.{Request}
+use Rattle.text_requests.specs.Order.{Order, Retrieval, Storage, Swapping, Deletion, Touching, Counting, OfItself}
+use Rattle.text_requests.specs.Message.{Message, Reads}
+use Rattle.text_requests.specs.Asks.{asks_by, own_by}
+use Rattle.text_requests.specs.Stream.{Place, Stands, Closed, behind_order}
+use Rattle.text_codec.specs.Held.{held_at, IsReadAt}
+use Rattle.text_codec.specs.Classic.{Whole, LongLine, classic}
+use Rattle.connections.specs.declared.connection.Connection.{Connection}
+use Rattle.connections.specs.Steps.{held_len, behind_own}
+
+-- nothing is in a list of length 0
+pub empty_is : (asks : List Ask) → length asks ≡ 0 → asks ≡ []
+empty_is [] e = refl
+empty_is (ask ∷ asks) e = absurd (omega arith)
+
+-- behind what mcgate itself was asked no more is held
+pub own_len : (own : Option Own) (rest : List ℕ) → length (held_at (behind_own own rest)) ≤ length rest
+own_len None rest = omega arith
+own_len (Some Version) rest = omega arith
+own_len (Some Quit) rest = omega arith
+
+-- fewer bytes are held behind a message
+pub shorter_by : (old new : Connection) (held rest : List ℕ) (place : Place) → old.stream ≡ Stands Nothing held → new.stream ≡ place → length (held_at place) ≤ length rest → length rest < length held → held_len new < held_len old
+shorter_by old new held rest place at goes within less =
+    let a : held_len new ≡ length (held_at place) = ap (λ (p : Place). length (held_at p)) goes in
+    let b : held_len old ≡ length held = ap (λ (p : Place). length (held_at p)) at in
+    omega (arith, a, b)
+
+-- a request with an ask is no `quit`: behind it the stream goes on
+pub served_behind : (order : Order) (block rest : List ℕ) (i : ℕ) (ask : Ask) → slice_get (asks_by order block) i ≡ Some ask → behind_order order rest ≡ Stands Nothing rest
+served_behind (OfItself own) block rest i ask e = absurd (cc)
+served_behind (Retrieval exptime with_cas keys) block rest i ask e = refl
+served_behind (Storage kind stored quiet) block rest i ask e = refl
+served_behind (Swapping stored cas quiet) block rest i ask e = refl
+served_behind (Deletion key quiet) block rest i ask e = refl
+served_behind (Touching key exptime quiet) block rest i ask e = refl
+served_behind (Counting up key delta quiet) block rest i ask e = refl
+
+-- behind what mcgate itself was asked
+pub own_behind : (order : Order) (rest : List ℕ) → behind_order order rest ≡ behind_own (own_by order) rest
+own_behind (OfItself Version) rest = refl
+own_behind (OfItself Quit) rest = refl
+own_behind (Retrieval exptime with_cas keys) rest = refl
+own_behind (Storage kind stored quiet) rest = refl
+own_behind (Swapping stored cas quiet) rest = refl
+own_behind (Deletion key quiet) rest = refl
+own_behind (Touching key exptime quiet) rest = refl
+own_behind (Counting up key delta quiet) rest = refl
+
+-- where something is read, the stream stands before it
+pub read_front : (place : Place) (read : Read) → IsReadAt place read → (read ≡ reads.More → ⊥) → (held : List ℕ) × (place ≡ Stands Nothing held) × Reads held read
+read_front (Stands Nothing held) read is some = (held, refl, is)
+read_front (Stands (Bytes n) held) read is some = absurd (some is)
+read_front (Stands ThroughNewline held) read is some = absurd (some is)
+read_front Closed read is some = absurd (some is)
+
+pub request_is_some : (request : Request) → reads.Request request ≡ reads.More → ⊥
+request_is_some request e = cc
+
+pub refused_is_some : (why : Why) (used : ℕ) (skip : Skip) → reads.Refused why used skip ≡ reads.More → ⊥
+refused_is_some why used skip e = cc
+
+pub long_is_some : reads.TooLong ≡ reads.More → ⊥
+long_is_some e = cc
+
+-- where nothing is read, no message is there
+pub more_stuck : (place : Place) → IsReadAt place reads.More → IsStuck classic place
+more_stuck (Stands Nothing held) is (Whole message) next r = is.1 message r.0 r.1
+more_stuck (Stands Nothing held) is LongLine next r = is.0 r.0
+more_stuck (Stands (Bytes n) held) is said next r = r
+more_stuck (Stands ThroughNewline held) is said next r = r
+more_stuck Closed is said next r = r

@@ -1,0 +1,49 @@
+// Numbers of the servers that a configuration names.
+
+ghost use Rattle.std.specs.Prelude.{◌≡◌, ◌<◌, ◌≤◌, IfOk, length};
+ghost use Rattle.route_json.specs.Fault.{Gives};
+ghost use Rattle.route_json.specs.Servers.{numbered, server_of_text};
+
+use crate::fault::{ConfigFault, bad_address, too_many_servers};
+use mc_types::ServerId;
+use server_addresses::servers::MAX_SERVERS;
+use server_addresses::{Servers, is_address};
+use std::alloc::Global;
+
+/// The number of a server's text in the list of this pool: a new address goes last. `BadAddress` where the text is none,
+/// and `TooManyServers` where there is no room for it.
+pub fn number_text(
+    alloc: Global,
+    servers: &mut Servers,
+    pool: &str,
+    text: &str,
+) -> Result<ServerId, ConfigFault>
+    ensures gives { Gives (λ n. (n, servers.new)) result (server_of_text pool.now text.now servers.old) }
+    ensures below { IfOk result (λ n. n < length servers.new) }
+    ensures more { length servers.old ≤ length servers.new }
+{
+    if is_address(text.as_bytes()) {
+        number(alloc, servers, pool, text)
+    } else {
+        Err(bad_address(alloc, text))
+    }
+}
+
+fn number(
+    alloc: Global,
+    servers: &mut Servers,
+    pool: &str,
+    address: &str,
+) -> Result<ServerId, ConfigFault>
+    ensures gives { Gives (λ n. (n, servers.new)) result (numbered pool.now address.now servers.old) }
+    ensures below { IfOk result (λ n. n < length servers.new) }
+    ensures more { length servers.old ≤ length servers.new }
+{
+    if let Some(server) = servers.find(address) {
+        return Ok(server);
+    }
+    if servers.len() >= MAX_SERVERS {
+        return Err(too_many_servers(alloc, pool));
+    }
+    Ok(servers.push(alloc, address)?)
+}

@@ -1,0 +1,13 @@
+//! The names in configurations: of routes, of the fields of each, and of operations.
+#![tactic(auto)]
+
+pub mod holders;
+pub mod kinds;
+pub mod words;
+
+pub use holders::{Holder, is_field};
+pub use kinds::{Kind, Lists, kind_of};
+pub use words::{behind, op_of};
+
+#[cfg(test)]
+mod tests;

@@ -1,0 +1,34 @@
+// Names of operations, and the fronts of short texts.
+
+ghost use Rattle.std.specs.Prelude.{◌≡◌, option_map};
+ghost use Rattle.route_names.specs.Names.{op_of, behind};
+
+use mc_types::Op;
+
+/// The operation of this name.
+pub fn op_of(text: &str) -> Option<Op>
+    ensures { result ≡ op_of text.now }
+{
+    match text {
+        "get" => Some(Op::Get),
+        "gat" => Some(Op::Gat),
+        "set" => Some(Op::Set),
+        "add" => Some(Op::Add),
+        "replace" => Some(Op::Replace),
+        "append" => Some(Op::Append),
+        "prepend" => Some(Op::Prepend),
+        "cas" => Some(Op::Cas),
+        "delete" => Some(Op::Delete),
+        "incr" => Some(Op::Incr),
+        "decr" => Some(Op::Decr),
+        "touch" => Some(Op::Touch),
+        _ => None,
+    }
+}
+
+/// What stands behind this front.
+pub fn behind<'a>(front: &str, text: &'a str) -> Option<&'a str>
+    ensures { option_map (λ s. s.now) result ≡ behind front.now text.now }
+{
+    text.strip_prefix(front)
+}

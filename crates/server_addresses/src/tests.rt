@@ -1,0 +1,68 @@
+use super::*;
+use mc_types::ServerId;
+use std::alloc::Global;
+use std::test::Fail;
+
+// Texts, and whether each is an address.
+#[test]
+fn addresses(rt: HostRuntime) {
+    let cases = [
+        ("h:1", true),
+        ("h:0", false),
+        ("h:65535", true),
+        ("h:65536", false),
+        ("h:00001", true),
+        ("h:000001", false),
+        ("h:", false),
+        ("h:a", false),
+        (":11", false),
+        ("::1", true),
+        ("h", false),
+        ("h 1:1", false),
+        ("h\u{7f}:1", false),
+        ("é:1", false),
+    ];
+    for (text, is_one) in cases {
+        assert_eq!(rt; is_address(text.as_bytes()), is_one, "at {text}");
+    }
+}
+
+// A host of so many letters and a port of one digit.
+fn long_address(alloc: Global, letters: u32) -> Result<String, Fail> {
+    let mut text = String::new(alloc);
+    for _ in 0..letters {
+        text.push_str("h")?;
+    }
+    text.push_str(":1")?;
+    Ok(text)
+}
+
+#[test]
+fn lengths_of_addresses(rt: HostRuntime) -> Result<(), Fail> {
+    let alloc = rt.alloc();
+    assert!(rt; is_address(long_address(alloc, 253)?.as_bytes()));
+    assert!(rt; !is_address(long_address(alloc, 254)?.as_bytes()));
+    Ok(())
+}
+
+// The two addresses, numbered in this order.
+fn two(alloc: Global) -> Result<Servers, Fail> {
+    let mut servers = Servers::new(alloc);
+    servers.push(alloc, "b:1")?;
+    servers.push(alloc, "a:1")?;
+    Ok(servers)
+}
+
+#[test]
+fn numbers_of_servers(rt: HostRuntime) -> Result<(), Fail> {
+    let alloc = rt.alloc();
+    assert!(rt; Servers::new(alloc).is_empty());
+    let servers = two(alloc)?.copy(alloc)?;
+    assert_eq!(rt; servers.len(), 2);
+    assert_eq!(rt; servers.get(ServerId::new(0)), Some("b:1"));
+    assert_eq!(rt; servers.get(ServerId::new(1)), Some("a:1"));
+    assert_eq!(rt; servers.get(ServerId::new(2)), None);
+    assert_eq!(rt; servers.find("a:1").map(|server| server.number()), Some(1));
+    assert_eq!(rt; servers.find("c:1").map(|server| server.number()), None);
+    Ok(())
+}

@@ -1,0 +1,116 @@
+-- A key is read in one go: its bytes end where its word does.
+use Rattle.std.proofs.Common.{◌≡◌, ◌≢◌, ℕ, suc, ◌+◌, ◌-◌, ◌≤◌, Bool, true, false, eqb, ◌&&◌, List, [], ◌∷◌, length, take, drop, refl, sym, ap, ◌∙◌, arith}
+use Rattle.std.specs.Prelude.{nat_le}
+use Rattle.std.specs.List.{position_or_len, list_all}
+use Rattle.std.proofs.lemmas.Bool.{le-leb, eqb-true, and_parts}
+use Rattle.std.proofs.lemmas.List.{length-take, length-drop}
+use Rattle.std.proofs.lemmas.List.Sums.{prefix_len-le-length}
+use Rattle.mc_text.specs.Word.{is_space, is_no_space, text_at, IsNextWord}
+use Rattle.mc_text.specs.declared.word.Span.{Span}
+use Rattle.mc_text.proofs.WordLemmas.{next_is}
+use Rattle.mc_types.specs.KeyText.{is_bad_byte, is_key_byte}
+use Rattle.text_requests.specs.declared.next_key.NextKey.TheVariants.{Key, Other}
+use Rattle.text_requests.specs.KeysOfLine.{ends_word, IsNextKey}
+use Rattle.text_requests.specs.Order.{is_key}
+
+one_plus : (n : ℕ) → 1 + n ≡ suc n
+one_plus n = omega arith
+
+-- no key has a space in it
+good_no_space : (b : ℕ) → is_bad_byte b ≡ false → is_space b ≡ false
+good_no_space b e = (elim (eqb b 32) as (λ t. eqb b 32 ≡ t → eqb b 32 ≡ false) [
+  | true ↦ λ h. let is : b ≡ 32 = eqb-true b 32 h in let f : true ≡ false = rw is at e in absurd cc
+  | false ↦ λ h. h
+]) refl
+
+abbrev pub key_end : List ℕ → ℕ
+key_end text = position_or_len is_bad_byte text
+
+abbrev word_end : List ℕ → ℕ
+word_end text = position_or_len is_space text
+
+-- before a space, or the end, the key's bytes are the word
+ends_same : (text : List ℕ) → ends_word (drop (key_end text) text) ≡ true → word_end text ≡ key_end text
+ends_same [] e = refl
+ends_same (b ∷ text) e = (elim (is_bad_byte b) as (λ t. is_bad_byte b ≡ t → word_end (b ∷ text) ≡ key_end (b ∷ text)) [
+  | true ↦ λ h. let s : is_space b ≡ true = simp h at e in simp (h, s)
+  | false ↦ λ h. let more : ends_word (drop (key_end text) text) ≡ true = simp (h, one_plus) at e in simp (h, good_no_space b h, one_plus) (ap (λ (k : ℕ). suc k) (ends_same text more))
+]) refl
+
+-- these are bytes of a key
+bytes_good : (text : List ℕ) → list_all is_key_byte (take (key_end text) text) ≡ true
+bytes_good [] = refl
+bytes_good (b ∷ text) = (elim (is_bad_byte b) as (λ t. is_bad_byte b ≡ t → list_all is_key_byte (take (key_end (b ∷ text)) (b ∷ text)) ≡ true) [
+  | true ↦ λ h. simp h
+  | false ↦ λ h. simp (h, one_plus) (bytes_good text)
+]) refl
+
+-- before another byte, the word goes on with one that no key has
+byte_bad : (text : List ℕ) → ends_word (drop (key_end text) text) ≡ false → list_all is_key_byte (take (word_end text) text) ≡ false
+byte_bad [] e = absurd cc
+byte_bad (b ∷ text) e = (elim (is_bad_byte b) as (λ t. is_bad_byte b ≡ t → list_all is_key_byte (take (word_end (b ∷ text)) (b ∷ text)) ≡ false) [
+  | true ↦ λ h. let s : is_space b ≡ false = simp h at e in simp (h, s, one_plus)
+  | false ↦ λ h. let more : ends_word (drop (key_end text) text) ≡ false = simp (h, one_plus) at e in simp (h, good_no_space b h, one_plus) (byte_bad text more)
+]) refl
+
+last_false : (a b c : Bool) → c ≡ false → (a && b && c) ≡ false
+last_false true true c e = e
+last_false true false c e = refl
+last_false false b c e = refl
+
+middle_false : (a b c : Bool) → b ≡ false → (a && b && c) ≡ false
+middle_false true true c e = absurd cc
+middle_false true false c e = refl
+middle_false false b c e = refl
+
+first_false : (a b : Bool) → (a && b) ≡ false → b ≡ true → a ≡ false
+first_false true b e h = absurd (let f : true ≡ false = sym h ∙ e in cc)
+first_false false b e h = refl
+
+-- the text of a word is its bytes
+word_text : (line : List ℕ) (start m : ℕ) → text_at line (record { start = start; end = start + m }) ≡ take m (drop start line)
+word_text line start m = let e : start + m - start ≡ m = omega arith in ap (λ (k : ℕ). take k (drop start line)) e
+
+module _ (line : List ℕ) (at n : ℕ) (n-is : n ≡ position_or_len is_no_space (drop at line)) (inside : at + n ≤ length line) (some : at + n ≢ length line) where
+  abbrev rest : List ℕ
+  rest = drop (at + n) line
+
+  abbrev span : ℕ → Span
+  span m = record { start = at + n; end = at + n + m }
+
+  next_word : (m : ℕ) → m ≡ word_end rest → IsNextWord line at (span m)
+  next_word m m-is =
+      let le : word_end rest ≤ length rest = prefix_len-le-length _ rest in
+      next_is line at n m n-is inside some m-is (omega (arith, length-drop (at + n) line))
+
+  -- what is left is no longer than a key, and its bytes are a word
+  pub key_is : (len : ℕ) → len ≡ key_end rest → (nat_le len 250 && ends_word (drop len rest)) ≡ true → IsNextKey line at (Key (span len))
+  key_is len len-is e =
+      let parts = and_parts (nat_le len 250) (ends_word (drop len rest)) e in
+      let same : word_end rest ≡ len = ends_same rest (ap (λ (k : ℕ). ends_word (drop k rest)) (sym len-is) ∙ parts.1) ∙ sym len-is in
+      let word = next_word len (sym same) in
+      let le : key_end rest ≤ length rest = prefix_len-le-length _ rest in
+      let long : length (take len rest) ≡ len = omega (arith, length-take len rest) in
+      let good : list_all is_key_byte (take len rest) ≡ true = ap (λ (k : ℕ). list_all is_key_byte (take k rest)) len-is ∙ bytes_good rest in
+      let some : 1 ≤ len = omega (arith, word.filled) in
+      let key : is_key (take len rest) ≡ true = rw (long, le-leb 1 len some, parts.0, good) refl in
+      (word, ap is_key (word_text line (at + n) len) ∙ key)
+
+  no_key : (m : ℕ) → m ≡ word_end rest → is_key (take m rest) ≡ false → IsNextKey line at Other
+  no_key m m-is e = (span m, next_word m m-is, ap is_key (word_text line (at + n) m) ∙ e)
+
+  other_by : (len : ℕ) (ends : Bool) → len ≡ key_end rest → ends_word (drop len rest) ≡ ends → (nat_le len 250 && ends_word (drop len rest)) ≡ false → IsNextKey line at Other
+  other_by len true len-is is e =
+      let same : word_end rest ≡ len = ends_same rest (ap (λ (k : ℕ). ends_word (drop k rest)) (sym len-is) ∙ is) ∙ sym len-is in
+      let le : key_end rest ≤ length rest = prefix_len-le-length _ rest in
+      let exact : length (take len rest) ≡ len = omega (arith, length-take len rest) in
+      let long : nat_le (length (take len rest)) 250 ≡ false = ap (λ (k : ℕ). nat_le k 250) exact ∙ first_false (nat_le len 250) (ends_word (drop len rest)) e is in
+      no_key len (sym same) (middle_false (nat_le 1 (length (take len rest))) (nat_le (length (take len rest)) 250) (list_all is_key_byte (take len rest)) long)
+  other_by len false len-is is e =
+      let m = word_end rest in
+      let bad : list_all is_key_byte (take m rest) ≡ false = byte_bad rest (ap (λ (k : ℕ). ends_word (drop k rest)) (sym len-is) ∙ is) in
+      no_key m refl (last_false (nat_le 1 (length (take m rest))) (nat_le (length (take m rest)) 250) (list_all is_key_byte (take m rest)) bad)
+
+  -- what is left is longer than a key, or its bytes aren't a word
+  pub other_is : (len : ℕ) → len ≡ key_end rest → (nat_le len 250 && ends_word (drop len rest)) ≡ false → IsNextKey line at Other
+  other_is len len-is e = other_by len (ends_word (drop len rest)) len-is refl e
