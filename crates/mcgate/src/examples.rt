@@ -310,3 +310,34 @@ fn two_clients_interleaved(rt: HostRuntime) {
     let lines = "< 1 END\\r\\n\n< 0 STORED\\r\\n\ndone 2 commands 2 calls 0 stale\n";
     assert!(rt; prints(rt.alloc(), script, lines));
 }
+
+// The configurations that README shows. Those with routes that aren't executed yet are read all the same: their fault
+// would be told first.
+#[test]
+fn usual_set_ups(rt: HostRuntime) {
+    let done = (DONE, "done 0 commands 0 calls 0 stale\n");
+    let not_yet = (BAD_INPUT, "script: bad line 1\n");
+    let cases = [
+        (
+            "{\"pools\": {\"A\": {\"servers\": [\"10.0.0.1:11211\", \"10.0.0.2:11211\"]}}, \"route\": \"PoolRoute|A\"}",
+            done,
+        ),
+        (
+            "{\"pools\": {\"A\": {\"servers\": [\"10.0.0.1:11211\"]}, \"B\": {\"servers\": [\"10.0.0.2:11211\"]}}, \"route\": {\"type\": \"OperationSelectorRoute\", \"default_policy\": {\"type\": \"FailoverRoute\", \"children\": [\"PoolRoute|A\", \"PoolRoute|B\"]}, \"operation_policies\": {\"delete\": {\"type\": \"AllSyncRoute\", \"children\": [\"PoolRoute|A\", \"PoolRoute|B\"]}}}}",
+            not_yet,
+        ),
+        (
+            "{\"pools\": {\"cold\": {\"servers\": [\"10.0.0.3:11211\"]}, \"warm\": {\"servers\": [\"10.0.0.1:11211\"]}}, \"route\": {\"type\": \"OperationSelectorRoute\", \"default_policy\": {\"type\": \"WarmUpRoute\", \"cold\": \"PoolRoute|cold\", \"warm\": \"PoolRoute|warm\", \"exptime\": 3600}, \"operation_policies\": {\"delete\": {\"type\": \"AllSyncRoute\", \"children\": [\"PoolRoute|cold\", \"PoolRoute|warm\"]}}}}",
+            not_yet,
+        ),
+        (
+            "{\"pools\": {\"sessions\": {\"servers\": [\"10.0.1.1:11211\"]}, \"rest\": {\"servers\": [\"10.0.2.1:11211\", \"10.0.2.2:11211\"]}}, \"route\": {\"type\": \"PrefixSelectorRoute\", \"policies\": {\"session:\": \"PoolRoute|sessions\"}, \"wildcard\": \"PoolRoute|rest\"}}",
+            done,
+        ),
+    ];
+    for (text, (status, line)) in cases {
+        let mut out = Vec::new(rt.alloc());
+        assert_eq!(rt; run_replay(rt.alloc(), false, text, &mut out), status);
+        assert_eq!(rt; out.as_slice(), line.as_bytes());
+    }
+}
