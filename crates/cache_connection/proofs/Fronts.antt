@@ -1,22 +1,17 @@
 -- What is served message by message.
-use Rattle.std.proofs.Common.{◌≡◌, ℕ, ℤ, ◌<◌, ◌≤◌, List, [], ◌∷◌, ◌++◌, length, drop, Option, Some, None, inl, refl, sym, ap, ◌∙◌, subst, arith, append_assoc}
-use Rattle.mc_types.specs.declared.ask.Ask.{Ask}
+use Rattle.std.proofs.Common.{◌≡◌, ℕ, ℤ, ◌<◌, List, [], ◌++◌, length, drop, Option, inl, refl, sym, ap, ◌∙◌, subst, arith, append_assoc}
 use Rattle.mc_text.specs.Line.{IsTooLong}
-use Rattle.mc_runs.specs.Protocol.{IsStuck}
 use Rattle.mc_runs.specs.Stream.{Done}
 use Rattle.text_requests.specs.declared.command.Own.{Own}
-use Rattle.text_requests.specs.declared.command.Own.TheVariants.{Version, Quit}
 use Rattle.text_requests.specs.declared.command.Why.{Why}
 use Rattle.text_requests.specs.declared.command.Skip.{Skip}
-use Rattle.text_requests.specs.declared.command.Skip.TheVariants.{Nothing, Bytes, ThroughNewline}
-use Rattle.text_requests.specs.declared.command.Read.{Read}
+use Rattle.text_requests.specs.declared.command.Skip.TheVariants.{Nothing}
 use Rattle.text_requests.specs.declared.command.Read.TheVariants as reads
 use Rattle.text_requests.specs.declared.command.Request.{Request}
-use Rattle.text_requests.specs.Order.{Order, Retrieval, Storage, Swapping, Deletion, Touching, Counting, OfItself}
-use Rattle.text_requests.specs.Message.{Message, Refusal, Begins, Reads, IsReadFrom}
+use Rattle.text_requests.specs.Message.{Message, Refusal, Begins, IsReadFrom}
 use Rattle.text_requests.specs.Places.{order_in}
-use Rattle.text_requests.specs.Asks.{asks_of, own_of, own_by}
-use Rattle.text_requests.specs.Stream.{Place, Stands, Closed, skipped, behind, behind_order}
+use Rattle.text_requests.specs.Asks.{asks_of, own_of}
+use Rattle.text_requests.specs.Stream.{Place, Stands, Closed, skipped, behind}
 use Rattle.text_codec.specs.Held.{held_at, IsReadAt}
 use Rattle.text_codec.specs.Replies.{refusal_text, long_line_text}
 use Rattle.text_codec.specs.Classic.{Said, Whole, LongLine, ReadsNext, classic, own_passed, asks_in, passed_text}

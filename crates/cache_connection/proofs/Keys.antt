@@ -6,11 +6,10 @@ use Rattle.mc_types.specs.declared.answer.Answer.{Answer}
 use Rattle.mc_runs.specs.Stream.{Done, written, written_from, NoneEnds, LastEnds, IsWhole}
 use Rattle.text_requests.specs.declared.command.Skip.TheVariants.{Nothing}
 use Rattle.text_requests.specs.declared.command.Request.{Request}
-use Rattle.text_requests.specs.Order.{Order, Retrieval, Storage, Swapping, Deletion, Touching, Counting, OfItself}
 use Rattle.text_requests.specs.Message.{Message, IsReadFrom, message_in}
 use Rattle.text_requests.specs.declared.request.Asks.{Asks}
-use Rattle.text_requests.specs.Asks.{asks_of, asks_by, quiet_of, IsWalk, counted}
-use Rattle.text_requests.specs.Stream.{Place, Stands, behind, behind_order}
+use Rattle.text_requests.specs.Asks.{asks_of, quiet_of, IsWalk, counted}
+use Rattle.text_requests.specs.Stream.{Place, Stands, behind}
 use Rattle.text_requests.proofs.StreamLemmas.{used_within}
 use Rattle.text_codec.specs.Held.{held_at}
 use Rattle.text_codec.specs.Replies.{is_failure, is_last, shown_text}
@@ -19,7 +18,8 @@ use Rattle.connections.specs.declared.connection.Connection.{Connection}
 use Rattle.connections.specs.Steps.{output_of, held_len, GoesTo}
 use Rattle.cache_server.specs.Contents.{Contents}
 use Rattle.cache_connection.specs.Serving.{AnswersAsk, AnswersEach, BreaksOff}
-use Rattle.cache_connection.specs.Steps.{message_at, IsFront, IsOnWay, IsAskAt, place_behind, Shows, ServesAsk, ServesKey, StopsAtKey, HasBegun, ServesFront}
+use Rattle.connections.specs.Steps.{place_behind, Shows}
+use Rattle.cache_connection.specs.Steps.{message_at, IsFront, IsOnWay, IsAskAt, ServesAsk, ServesKey, StopsAtKey, HasBegun, ServesFront}
 use Rattle.connections.proofs.Shorter.{fewer}
 use Rattle.connections.proofs.Fronts.{served_behind}
 use Rattle.cache_connection.proofs.Joined.{serves_one}

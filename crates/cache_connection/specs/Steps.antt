@@ -1,5 +1,5 @@
 -- How far a connection was served, within a message and between messages. Source: mcgate's own.
-use Rattle.std.specs.Prelude.{◌≡◌, ℕ, ℤ, nat_abs, ◌+◌, ◌<◌, Bool, true, false, ◌⊎◌, ◌||◌, List, ◌++◌, length, drop, Some, slice_get}
+use Rattle.std.specs.Prelude.{◌≡◌, ℕ, ℤ, nat_abs, ◌+◌, ◌<◌, Bool, false, ◌⊎◌, List, ◌++◌, length, drop, Some, slice_get}
 use Rattle.mc_types.specs.declared.ask.Ask.{Ask}
 use Rattle.mc_types.specs.declared.answer.Answer.{Answer}
 use Rattle.mc_runs.specs.Protocol.{IsStuck}
@@ -9,12 +9,11 @@ use Rattle.text_requests.specs.declared.command.Request.{Request}
 use Rattle.text_requests.specs.declared.request.Asks.{Asks}
 use Rattle.text_requests.specs.Message.{Message, IsReadFrom, message_in}
 use Rattle.text_requests.specs.Asks.{asks_of, IsWalk}
-use Rattle.text_requests.specs.Stream.{Place, Stands}
+use Rattle.text_requests.specs.Stream.{Stands}
 use Rattle.text_codec.specs.Held.{held_at}
-use Rattle.text_codec.specs.Replies.{is_failure, shown_text}
 use Rattle.text_codec.specs.Classic.{Whole, classic, shown_of, ends_at}
 use Rattle.connections.specs.declared.connection.Connection.{Connection}
-use Rattle.connections.specs.Steps.{output_of, held_len, GoesTo}
+use Rattle.connections.specs.Steps.{output_of, held_len, place_behind, GoesTo}
 use Rattle.cache_server.specs.Contents.{Contents, at_moment}
 use Rattle.cache_connection.specs.Serving.{AnswersAsk, AnswersEach, ServesTo}
 
@@ -40,16 +39,6 @@ pub record IsAskAt (x : Connection) (request : Request) (i : ℕ) (ask : Ask) : 
   pub front : IsFront x request
   pub at : slice_get (asks_of (message_at x request)) i ≡ Some ask
   pub there : i < length (asks_of (message_at x request))
-
--- where a connection stands behind a reply: the message is done, or it stands where it stood
-abbrev pub place_behind : Bool → Connection → List ℕ → Place
-place_behind true old rest = Stands Nothing rest
-place_behind false old rest = old.stream
-
--- this reply was shown: whether the message is done with it, and what the output goes on by
-pub record Shows (old : Connection) (used : ℕ) (quiet last : Bool) (ask : Ask) (reply : Answer) (ended : Bool) (new : Connection) : Type 0 where
-  pub ended_is : ended ≡ (is_failure reply || last)
-  pub goes : (held : List ℕ) → old.stream ≡ Stands Nothing held → GoesTo old (place_behind ended old (drop used held)) (shown_text quiet last ask reply) new
 
 -- the i-th ask of the message at the front was answered, and the reply shown
 pub record ServesAsk (moment : ℤ) (old : Connection) (request : Request) (i : ℕ) (ask : Ask) (contents : Contents) (ended : Bool) (new : Connection) (contents' : Contents) : Type 0 where

@@ -2,9 +2,8 @@
 
 ghost use Rattle.std.specs.Prelude.{◌≡◌, ◌+◌, ◌<◌, ◌≤◌, length, IfOk, OnOk, OnErr};
 ghost use Rattle.text_requests.specs.Asks.{IsClassicAsk};
-ghost use Rattle.text_codec.specs.Held.{held_at};
 ghost use Rattle.cache_connection.specs.Serving.{BreaksOff, Stops};
-ghost use Rattle.cache_connection.specs.Steps.{IsFront, IsOnWay, IsAskAt, Shows, ServesAsk, StopsAtAsk, ServesKey, StopsAtKey, ServesFront, ServesAll};
+ghost use Rattle.cache_connection.specs.Steps.{IsFront, IsOnWay, IsAskAt, ServesAsk, StopsAtAsk, ServesKey, StopsAtKey, ServesFront, ServesAll};
 
 use crate::moment::Moment;
 use crate::reply::reply_to;
@@ -12,33 +11,12 @@ use cache_server::Cache;
 use connections::Connection;
 use mc_types::{Answer, Ask};
 use std::alloc::{AllocError, Global};
-use text_codec::{Asks, Read, Request, ends_message};
+use text_codec::{Asks, Read, Request};
 
 // A drop that is a call keeps the proof of a caller short.
 fn drop_answer(_answer: Answer) {}
 
 fn drop_ask(_ask: Ask) {}
-
-// Shows a reply: whether the message is done with it.
-fn show(
-    connection: &mut Connection,
-    used: usize,
-    quiet: bool,
-    last: bool,
-    ask: &Ask,
-    reply: &Answer,
-) -> Result<bool, AllocError>
-    requires { used ≤ length (held_at connection.old.stream) }
-    ensures { IfOk result (λ ended. Shows connection.old used quiet last ask.now reply.now ended connection.new) }
-{
-    if ends_message(last, reply) {
-        connection.show_last(quiet, last, ask, reply, used)?;
-        Ok(true)
-    } else {
-        connection.show_part(quiet, ask, reply)?;
-        Ok(false)
-    }
-}
 
 // One ask of the request at the front: whether the request is done with its reply.
 fn serve_ask(
@@ -57,7 +35,7 @@ fn serve_ask(
     let count = request.asks();
     let last = index + 1 == count;
     let reply = reply_to(cache, moment, ask)?;
-    let shown = show(connection, request.used, request.quiet(), last, ask, &reply);
+    let shown = connection.show(request.quiet(), last, ask, &reply, request.used);
     drop_answer(reply);
     shown
 }

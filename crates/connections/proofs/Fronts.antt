@@ -11,7 +11,7 @@ use Rattle.text_requests.specs.declared.command.Read.{Read}
 use Rattle.text_requests.specs.declared.command.Read.TheVariants as reads
 use Rattle.text_requests.specs.declared.command.Request.{Request}
 use Rattle.text_requests.specs.Order.{Order, Retrieval, Storage, Swapping, Deletion, Touching, Counting, OfItself}
-use Rattle.text_requests.specs.Message.{Message, Reads}
+use Rattle.text_requests.specs.Message.{Reads}
 use Rattle.text_requests.specs.Asks.{asks_by, own_by}
 use Rattle.text_requests.specs.Stream.{Place, Stands, Closed, behind_order}
 use Rattle.text_codec.specs.Held.{held_at, IsReadAt}

@@ -1,10 +1,13 @@
 -- What a step of a connection changes. Source: mcgate's own.
-use Rattle.std.specs.Prelude.{◌≡◌, ℕ, List, ◌++◌, Option, Some, None, length}
+use Rattle.std.specs.Prelude.{◌≡◌, ℕ, Bool, true, false, ◌||◌, List, ◌++◌, drop, Option, Some, None, length}
 use Rattle.text_requests.specs.declared.command.Skip.TheVariants.{Nothing}
 use Rattle.text_requests.specs.declared.command.Own.{Own}
 use Rattle.text_requests.specs.declared.command.Own.TheVariants.{Version, Quit}
 use Rattle.text_requests.specs.Stream.{Place, Stands, Closed}
+use Rattle.mc_types.specs.declared.ask.Ask.{Ask}
+use Rattle.mc_types.specs.declared.answer.Answer.{Answer}
 use Rattle.text_codec.specs.Held.{held_at}
+use Rattle.text_codec.specs.Replies.{is_failure, shown_text}
 use Rattle.connections.specs.declared.connection.Connection.{Connection}
 
 -- what the client was not given yet
@@ -21,6 +24,16 @@ abbrev pub behind_own : Option Own → List ℕ → Place
 behind_own None rest = Stands Nothing rest
 behind_own (Some Version) rest = Stands Nothing rest
 behind_own (Some Quit) rest = Closed
+
+-- where it stands behind a reply, with these bytes behind the message: the message is done, or it stands where it stood
+abbrev pub place_behind : Bool → Connection → List ℕ → Place
+place_behind true old rest = Stands Nothing rest
+place_behind false old rest = old.stream
+
+-- this reply was shown: whether the message is done with it, and what the output goes on by
+pub record Shows (old : Connection) (used : ℕ) (quiet last : Bool) (ask : Ask) (reply : Answer) (ended : Bool) (new : Connection) : Type 0 where
+  pub ended_is : ended ≡ (is_failure reply || last)
+  pub goes : (held : List ℕ) → old.stream ≡ Stands Nothing held → GoesTo old (place_behind ended old (drop used held)) (shown_text quiet last ask reply) new
 
 -- how many bytes are held
 abbrev pub held_len : Connection → ℕ

@@ -4,13 +4,13 @@ ghost use Rattle.text_requests.specs.Stream.{Stands, Closed, skipped, extended};
 ghost use Rattle.text_codec.specs.Held.{held_at};
 ghost use Rattle.text_codec.specs.Replies.{refusal_text, long_line_text, shown_text};
 ghost use Rattle.text_codec.specs.Classic.{own_passed};
-ghost use Rattle.connections.specs.Steps.{output_of, behind_own, GoesTo};
+ghost use Rattle.connections.specs.Steps.{output_of, behind_own, GoesTo, Shows};
 
 use bytes::BytesMut;
 use mc_types::{Answer, Ask};
 use std::alloc::{AllocError, Global};
 use text_codec::{
-    Own, Skip, TextStream, Why, write_long_line, write_own, write_part, write_refusal,
+    Own, Skip, TextStream, Why, ends_message, write_long_line, write_own, write_part, write_refusal,
 };
 
 /// One client: the bytes that it sent and that were not done yet, and the output that it was not given yet.
@@ -74,15 +74,15 @@ impl Connection {
         Ok(())
     }
 
-    /// The reply to a key of a message is shown, and another key is next.
-    pub fn show_part(&mut self, quiet: bool, ask: &Ask, reply: &Answer) -> Result<(), AllocError>
+    // The reply to a key of a message is shown, and another key is next.
+    fn show_part(&mut self, quiet: bool, ask: &Ask, reply: &Answer) -> Result<(), AllocError>
         ensures { OnOk result (GoesTo self.old self.old.stream (shown_text quiet false ask.now reply.now) self.new) }
     {
         write_part(quiet, false, ask, reply, &mut self.output)
     }
 
-    /// The reply that ends a message is shown, and the message is done.
-    pub fn show_last(
+    // The reply that ends a message is shown, and the message is done.
+    fn show_last(
         &mut self,
         quiet: bool,
         last: bool,
@@ -96,6 +96,28 @@ impl Connection {
         write_part(quiet, last, ask, reply, &mut self.output)?;
         self.stream.pass_request(used);
         Ok(())
+    }
+
+    /// The reply to a key of the message at the front, of so many bytes, is shown: whether the message is done with it,
+    /// as with that of its last key, or with an error line. The only error is want of memory.
+    pub fn show(
+        &mut self,
+        quiet: bool,
+        last: bool,
+        ask: &Ask,
+        reply: &Answer,
+        used: usize,
+    ) -> Result<bool, AllocError>
+        requires { used ≤ length (held_at self.old.stream) }
+        ensures { IfOk result (λ ended. Shows self.old used quiet last ask.now reply.now ended self.new) }
+    {
+        if ends_message(last, reply) {
+            self.show_last(quiet, last, ask, reply, used)?;
+            Ok(true)
+        } else {
+            self.show_part(quiet, ask, reply)?;
+            Ok(false)
+        }
     }
 
     /// The output so far, a copy, which is then empty. The only error is want of memory, which leaves the output as it

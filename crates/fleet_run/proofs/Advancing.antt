@@ -9,27 +9,26 @@ use Rattle.mc_runs.specs.Single.{server_call, from_of}
 use Rattle.mc_runs.specs.Log.{Part, Point, after_reply}
 use Rattle.mc_runs.specs.Standing.{Standing, Works, Moves}
 use Rattle.mc_runs.proofs.LogWorks.{works_nothing, works_on, works_passed, works_each}
-use Rattle.text_requests.specs.declared.command.Own.TheVariants.{Version, Quit}
 use Rattle.text_requests.specs.declared.command.Skip.TheVariants.{Nothing}
 use Rattle.text_requests.specs.declared.command.Request.{Request}
-use Rattle.text_requests.specs.Order.{Order, Retrieval, Storage, Swapping, Deletion, Touching, Counting, OfItself}
 use Rattle.text_requests.specs.Message.{Message, IsReadFrom, message_in}
 use Rattle.text_requests.specs.declared.request.Asks.{Asks}
-use Rattle.text_requests.specs.Asks.{asks_of, asks_by, quiet_of, own_by, IsWalk, counted}
+use Rattle.text_requests.specs.Asks.{asks_of, quiet_of, IsWalk, counted}
 use Rattle.text_requests.proofs.StreamLemmas.{used_within}
 use Rattle.text_codec.specs.Held.{held_at}
-use Rattle.text_requests.specs.Stream.{Place, Stands, behind, behind_order}
+use Rattle.text_requests.specs.Stream.{Place, Stands, behind}
 use Rattle.text_codec.specs.Replies.{shown_text, is_last, is_failure, ends_with}
 use Rattle.text_codec.specs.Classic.{Said, Whole, ReadsNext, classic, shown_by}
 use Rattle.connections.specs.declared.connection.Connection.{Connection}
-use Rattle.connections.specs.Steps.{output_of, behind_own, GoesTo}
+use Rattle.connections.specs.Steps.{output_of, GoesTo}
 use Rattle.memory_fleet.specs.declared.fleet.MemoryFleet.{MemoryFleet}
 use Rattle.memory_fleet.specs.Fleets.{holds_of}
 use Rattle.route_tree.specs.Route.{Route}
 use Rattle.route_tree.specs.Direct.{is_direct, server_at, words_of, DirectIsOneServer}
 use Rattle.connections.proofs.Fronts.{served_behind}
 use Rattle.fleet_run.specs.declared.router.Router.{Router}
-use Rattle.fleet_run.specs.Serving.{tree_of, point_at, placed, place_behind, Advances, Asked, next_index, IsOnWay, IsAskAt, Shows, ServesAsk}
+use Rattle.connections.specs.Steps.{place_behind, Shows}
+use Rattle.fleet_run.specs.Serving.{tree_of, point_at, placed, Advances, Asked, next_index, IsOnWay, IsAskAt, ServesAsk}
 
 same : {A : Type 0} (c : ℕ) (x y : A) → cond (nat_eq c c) x y ≡ x
 same c x y = ap (λ b. cond b x y) (eq-eqb c c refl)

@@ -1,26 +1,20 @@
 -- What is done message by message.
-use Rattle.std.proofs.Common.{◌≡◌, ℕ, ◌+◌, ◌<◌, ◌≤◌, Bool, true, false, List, [], ◌∷◌, length, drop, Option, Some, None, refl, sym, ap, ◌∙◌, subst, arith}
-use Rattle.mc_types.specs.declared.ask.Ask.{Ask}
-use Rattle.mc_runs.specs.Protocol.{IsStuck}
+use Rattle.std.proofs.Common.{◌≡◌, ℕ, ◌+◌, Bool, true, false, List, [], length, drop, Option, refl, sym, ap, ◌∙◌, subst, arith}
 use Rattle.mc_text.specs.Line.{IsTooLong}
 use Rattle.text_requests.specs.declared.command.Own.{Own}
-use Rattle.text_requests.specs.declared.command.Own.TheVariants.{Version, Quit}
 use Rattle.text_requests.specs.declared.command.Why.{Why}
 use Rattle.text_requests.specs.declared.command.Skip.{Skip}
-use Rattle.text_requests.specs.declared.command.Skip.TheVariants.{Nothing, Bytes, ThroughNewline}
-use Rattle.text_requests.specs.declared.command.Read.{Read}
-use Rattle.text_requests.specs.declared.command.Read.TheVariants as reads
+use Rattle.text_requests.specs.declared.command.Skip.TheVariants.{Nothing}
 use Rattle.text_requests.specs.declared.command.Request.{Request}
 use Rattle.text_requests.specs.declared.request.Asks.{Asks}
-use Rattle.text_requests.specs.Message.{Message, Refusal, Begins, Reads, message_in}
+use Rattle.text_requests.specs.Message.{Message, Refusal, Begins, message_in}
 use Rattle.text_requests.specs.Places.{order_in}
 use Rattle.text_requests.specs.Asks.{asks_of, own_by}
 use Rattle.text_requests.specs.Stream.{Place, Stands, Closed, skipped, behind}
-use Rattle.text_codec.specs.Held.{held_at, IsReadAt}
 use Rattle.text_codec.specs.Replies.{refusal_text, long_line_text}
 use Rattle.text_codec.specs.Classic.{Said, Whole, LongLine, ReadsNext, classic, own_passed}
 use Rattle.connections.specs.declared.connection.Connection.{Connection}
-use Rattle.connections.specs.Steps.{held_len, behind_own, GoesTo}
+use Rattle.connections.specs.Steps.{behind_own, GoesTo}
 use Rattle.memory_fleet.specs.declared.fleet.MemoryFleet.{MemoryFleet}
 use Rattle.fleet_run.specs.declared.router.Router.{Router}
 use Rattle.fleet_run.specs.Serving.{Advances, IsFront, IsOnWay, ServesKey, ServesRequest}

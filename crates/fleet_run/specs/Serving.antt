@@ -1,5 +1,5 @@
 -- One client before a router: how the whole stands where it is one of many. Source: mcgate's own.
-use Rattle.std.specs.Prelude.{◌≡◌, ℕ, ◌+◌, ◌<◌, Bool, true, false, List, length, drop, Some, if◌then◌else◌, nat_eq, slice_get, ◌||◌}
+use Rattle.std.specs.Prelude.{◌≡◌, ℕ, ◌+◌, ◌<◌, Bool, true, false, List, length, drop, Some, if◌then◌else◌, nat_eq, slice_get}
 use Rattle.mc_types.specs.declared.ask.Ask.{Ask}
 use Rattle.mc_types.specs.declared.answer.Answer.{Answer}
 use Rattle.mc_runs.specs.Single.{reply_of}
@@ -11,11 +11,10 @@ use Rattle.text_requests.specs.declared.command.Request.{Request}
 use Rattle.text_requests.specs.declared.request.Asks.{Asks}
 use Rattle.text_requests.specs.Message.{IsReadFrom, message_in}
 use Rattle.text_requests.specs.Asks.{asks_of, IsWalk}
-use Rattle.text_requests.specs.Stream.{Place, Stands}
+use Rattle.text_requests.specs.Stream.{Stands}
 use Rattle.text_codec.specs.Classic.{classic}
 use Rattle.connections.specs.declared.connection.Connection.{Connection}
-use Rattle.text_codec.specs.Replies.{is_failure, shown_text}
-use Rattle.connections.specs.Steps.{output_of, held_len, GoesTo}
+use Rattle.connections.specs.Steps.{output_of, held_len, place_behind}
 use Rattle.memory_fleet.specs.declared.fleet.MemoryFleet.{MemoryFleet}
 use Rattle.memory_fleet.specs.declared.event.Made.{Made}
 use Rattle.memory_fleet.specs.Fleets.{holds_of, turn_of, named_of, count_of, FleetCalls}
@@ -72,20 +71,10 @@ pub record IsOnWay (x : Connection) (request : Request) (asks : Asks) (i : ℕ) 
   pub taken : asks.taken ≡ i
   pub there : i < length (asks_of (message_in held request))
 
--- where a connection stands behind a key: the message is done, or it stands where it stood
-abbrev pub place_behind : Bool → Connection → List ℕ → Place
-place_behind true old rest = Stands Nothing rest
-place_behind false old rest = old.stream
-
 -- which key is next behind a reply
 abbrev pub next_index : Bool → ℕ → ℕ
 next_index true i = 0
 next_index false i = i + 1
-
--- this reply was shown: whether the message is done with it, and what the client's output goes on by
-pub record Shows (old : Connection) (used : ℕ) (quiet last : Bool) (ask : Ask) (reply : Answer) (ended : Bool) (new : Connection) : Type 0 where
-  pub ended_is : ended ≡ (is_failure reply || last)
-  pub goes : (held : List ℕ) → old.stream ≡ Stands Nothing held → GoesTo old (place_behind ended old (drop used held)) (shown_text quiet last ask reply) new
 
 -- the i-th ask of the request at the front
 pub record IsAskAt (x : Connection) (request : Request) (i : ℕ) (ask : Ask) : Type 0 where

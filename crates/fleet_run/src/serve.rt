@@ -5,13 +5,12 @@ ghost use Rattle.text_requests.specs.Asks.{IsClassicAsk};
 ghost use Rattle.mc_runs.specs.Single.{reply_of};
 ghost use Rattle.mc_runs.specs.Protocol.{IsStuck};
 ghost use Rattle.text_codec.specs.Classic.{classic};
-ghost use Rattle.text_codec.specs.Held.{held_at};
 ghost use Rattle.connections.specs.Steps.{held_len};
 ghost use Rattle.memory_fleet.specs.Fleets.{count_of};
 ghost use Rattle.route_tree.specs.Direct.{is_direct, server_at};
 ghost use Rattle.route_tree.specs.Route.{IsTree};
 ghost use Rattle.route_json.specs.Fits.{IsBelow};
-ghost use Rattle.fleet_run.specs.Serving.{IsServed, tree_of, IsFront, IsOnWay, IsAskAt, Asked, Shows, ServesAsk, ServesKey, ServesRequest, ServesAll};
+ghost use Rattle.fleet_run.specs.Serving.{IsServed, tree_of, IsFront, IsOnWay, IsAskAt, Asked, ServesAsk, ServesKey, ServesRequest, ServesAll};
 
 use crate::router::Router;
 use connections::Connection;
@@ -21,7 +20,7 @@ use route_json::laws::direct_servers_are_below;
 use route_tree::laws::direct_is_one_server;
 use route_tree::{PlainForm, Tree};
 use std::alloc::{AllocError, Global};
-use text_codec::{Asks, Read, Request, ends_message};
+use text_codec::{Asks, Read, Request};
 
 // What the client is answered.
 fn reply_to(outcome: Outcome) -> Answer
@@ -74,27 +73,6 @@ fn command(
     Ok(reply_to(made.outcome))
 }
 
-// Shows a reply: whether the message is done with it.
-fn show(
-    connection: &mut Connection,
-    used: usize,
-    quiet: bool,
-    last: bool,
-    ask: &Ask,
-    reply: &Answer,
-) -> Result<bool, AllocError>
-    requires { used ≤ length (held_at connection.old.stream) }
-    ensures { IfOk result (λ ended. Shows connection.old used quiet last ask.now reply.now ended connection.new) }
-{
-    if ends_message(last, reply) {
-        connection.show_last(quiet, last, ask, reply, used)?;
-        Ok(true)
-    } else {
-        connection.show_part(quiet, ask, reply)?;
-        Ok(false)
-    }
-}
-
 // The command of one ask of the request at the front: whether the request is done with its reply.
 fn serve_ask(
     alloc: Global,
@@ -114,7 +92,7 @@ fn serve_ask(
     let count = request.asks();
     let last = index + 1 == count;
     let reply = command(alloc, router, fleet, ask)?;
-    let shown = show(connection, request.used, request.quiet(), last, ask, &reply);
+    let shown = connection.show(request.quiet(), last, ask, &reply, request.used);
     drop_answer(reply);
     match shown {
         Ok(ended) => Ok(ended),

@@ -11,5 +11,5 @@ returns-clause-ok c =
     let x = c.args.connection.now in
     let front = c.requires.at.front in
     IfOk-weaker c.show-shown.result _ _ (λ ended shows.
-    serves_ask c.args.moment.seconds x c.show-shown.new.connection c.args.request.now c.args.index c.args.ask.now c.args.cache.now c.reply_to.new.cache c.in_ok-reply.reply c.quiet.result _ ended
+    serves_ask c.args.moment.seconds x c.show-shown.new.self c.args.request.now c.args.index c.args.ask.now c.args.cache.now c.reply_to.new.cache c.in_ok-reply.reply c.quiet.result _ ended
     c.requires.at c.in_ok-reply.ensures.ok (c.quiet.ensures _) (ap (λ n. nat_eq (c.args.index + 1) n) (c.asks-count.ensures _ front.read)) shows) c.show-shown.ensures
