@@ -10,8 +10,10 @@ use crate::kinds::Kind;
 /// The kinds of objects in a configuration.
 #[derive(Clone, Copy)]
 pub enum Holder {
+    /// The whole configuration.
     Config,
     Pool,
+    /// A route of this kind.
     Route(Kind),
 }
 

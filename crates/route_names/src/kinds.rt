@@ -11,9 +11,10 @@ pub enum Lists {
     MissFailover,
 }
 
-/// The kinds of routes.
+/// The kinds of routes, under mcrouter's names.
 #[derive(Clone, Copy)]
 pub enum Kind {
+    /// One of a pool's servers, by the key's slot.
     Pool,
     List(Lists),
     WarmUp,
@@ -23,7 +24,7 @@ pub enum Kind {
     Error,
 }
 
-/// The kind of the route of this type.
+/// The kind of the routes of this `type`; `None` where no route has this name.
 pub fn kind_of(text: &str) -> Option<Kind>
     ensures { result ≡ kind_of text.now }
 {

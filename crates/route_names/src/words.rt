@@ -5,7 +5,7 @@ ghost use Rattle.route_names.specs.Names.{op_of, behind};
 
 use mc_types::Op;
 
-/// The operation of this name.
+/// The operation of this name, as the classic dialect spells it; `None` where there is none.
 pub fn op_of(text: &str) -> Option<Op>
     ensures { result ≡ op_of text.now }
 {
@@ -26,7 +26,7 @@ pub fn op_of(text: &str) -> Option<Op>
     }
 }
 
-/// What stands behind this front.
+/// What stands behind this front; `None` where the text begins otherwise.
 pub fn behind<'a>(front: &str, text: &'a str) -> Option<&'a str>
     ensures { option_map (λ s. s.now) result ≡ behind front.now text.now }
 {
