@@ -63,10 +63,11 @@ passes old new router fleet said next reads none g =
           });
       tree = refl;
       count = refl;
+      counted = λ e. e;
     }
 
 pub advances_nothing : (x : Connection) (i : ℕ) (router : Router) (fleet : MemoryFleet) → Advances x i router fleet x i router fleet
-advances_nothing x i router fleet = record { works = λ base c. works_nothing classic (words_of (tree_of router)) (placed base c x i router fleet) c; tree = refl; count = refl }
+advances_nothing x i router fleet = record { works = λ base c. works_nothing classic (words_of (tree_of router)) (placed base c x i router fleet) c; tree = refl; count = refl; counted = λ e. e }
 
 pub advances_on : (x y z : Connection) (i j k : ℕ) (p q r : Router) (f g h : MemoryFleet) → Advances x i p f y j q g → Advances y j q g z k r h → Advances x i p f z k r h
 advances_on x y z i j k p q r f g h a b =
@@ -74,6 +75,7 @@ advances_on x y z i j k p q r f g h a b =
       works = λ base c. works_on classic (words_of (tree_of p)) (placed base c x i p f) (placed base c y j q g) (placed base c z k r h) c (a.works base c) (subst (λ (n : Route). Works (words_of n) (placed base c y j q g) c (placed base c z k r h)) a.tree (b.works base c));
       tree = b.tree ∙ a.tree;
       count = b.count ∙ a.count;
+      counted = λ e. b.counted (a.counted e);
     }
 
 point_behind : (ended done : Bool) (old : Connection) (i : ℕ) (point : Point classic) (next : Place) (rest : List ℕ) → ended ≡ done → point.place ≡ old.stream → next ≡ Stands Nothing rest
@@ -134,6 +136,7 @@ replied law old new router router' fleet fleet' held request i ask reply ended p
           });
       tree = asked.tree;
       count = asked.call.count_is;
+      counted = λ e. asked.number ∙ ap (λ n. n + 1) e ∙ sym asked.call.turn_is;
     }
 
 -- the same, as the code serves an ask

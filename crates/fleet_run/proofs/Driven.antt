@@ -79,6 +79,7 @@ piece_event clients c x y bytes out router router' fleet fleet' t t' event is lt
       takes = subst (TakesBy (words_of (tree_of router)) (standing_of clients router fleet) (transcript_of t) fleet (standing_of (set clients c y) router' fleet') (transcript_of t') fleet') (sym is) (piece_taken clients c x y bytes out router router' fleet fleet' (transcript_of t) (transcript_of t') lt at s handed);
       tree = s.serves.advances.tree;
       count = s.serves.advances.count;
+      counted = s.serves.advances.counted;
       clients_are = length-set clients c y;
     }
 
@@ -89,6 +90,7 @@ hold_event clients router fleet fleet' t event server key content is f =
           (record { caches = f.cache_is; holds = λ s k. refl; point = λ c. refl; output = λ c. refl; number = refl; turn = f.turn_is; named = f.named_is; given_is = refl });
       tree = refl;
       count = f.count_is;
+      counted = λ e. e ∙ sym f.turn_is;
       clients_are = refl;
     }
 
@@ -102,6 +104,7 @@ fail_event clients router fleet fleet' t event turn manner is f =
           });
       tree = refl;
       count = f.count_is;
+      counted = λ e. e ∙ sym f.turn_is;
       clients_are = refl;
     }
 
@@ -116,6 +119,7 @@ lost_event clients router fleet fleet' t event loss is f =
           (lost_up classic (words_of (tree_of router)) (standing_of clients router fleet) (standing_of clients router fleet') (transcript_of t) (scripted.loss_of loss) (record { point = λ c. refl; output = λ c. refl; number = refl; turn = f.turn_is; named = f.named_is }) (rw (loss_event loss) f.holds));
       tree = refl;
       count = f.count_is;
+      counted = λ e. e ∙ sym f.turn_is;
       clients_are = refl;
     }
 
@@ -129,6 +133,7 @@ moment_event clients router fleet fleet' t event moment is f =
           });
       tree = refl;
       count = f.count_is;
+      counted = λ e. e ∙ sym f.turn_is;
       clients_are = refl;
     }
 

@@ -1,5 +1,5 @@
 -- What a script does. Source: mcgate's own.
-use Rattle.std.specs.Prelude.{◌≡◌, ℕ, zero, suc, List, [], ◌∷◌, ◌++◌, length, take, Option}
+use Rattle.std.specs.Prelude.{◌≡◌, ℕ, zero, suc, List, [], ◌∷◌, ◌++◌, length, take, Option, ◌<◌, ◌+◌, ◌^◌}
 use Rattle.mc_types.specs.Items.{Item}
 use Rattle.mc_runs.specs.Run.{Words, Run, IsFresh}
 use Rattle.mc_runs.specs.Protocol.{Splits}
@@ -16,7 +16,7 @@ use Rattle.text_codec.specs.Classic.{classic}
 use Rattle.connections.specs.declared.connection.Connection.{Connection}
 use Rattle.connections.specs.Steps.{output_of, GoesTo}
 use Rattle.memory_fleet.specs.declared.fleet.MemoryFleet.{MemoryFleet}
-use Rattle.memory_fleet.specs.Fleets.{holds_of, turn_of, named_of, count_of, IsChanged}
+use Rattle.memory_fleet.specs.Fleets.{holds_of, turn_of, named_of, count_of, last_turn, IsChanged}
 use Rattle.cache_server.specs.Contents.{storing, opening}
 use Rattle.memory_fleet.specs.declared.event.FleetFault.{FleetFault}
 use Rattle.memory_fleet.specs.declared.event.FleetFault.TheVariants as fleet_faults
@@ -101,6 +101,12 @@ abbrev pub fault_of : FleetFault → DriveFault
 fault_of fleet_faults.NoMemory = NoMemory
 fault_of fleet_faults.Spent = Spent
 
+-- numbers are spent only where none of the next 2^32 calls can be numbered
+abbrev pub IsSpent : DriveFault → MemoryFleet → Type 0
+IsSpent (BadEvent index) fleet = Unit {0}
+IsSpent NoMemory fleet = Unit {0}
+IsSpent Spent fleet = last_turn < turn_of fleet + 2 ^ 32
+
 -- these bytes were handed out
 abbrev pub HandsOut : ℕ → List ℕ → Transcript → Transcript → Type 0
 HandsOut client bytes old new = transcript_of new ≡ transcript_of old ++ log.one_shown client bytes
@@ -136,6 +142,7 @@ pub record TakesEvent (clients : List Connection) (router : Router) (fleet : Mem
   pub takes : TakesBy (words_of (tree_of router)) (standing_of clients router fleet) (transcript_of transcript) fleet (standing_of clients' router' fleet') (transcript_of transcript') fleet' (scripted_of event)
   pub tree : tree_of router' ≡ tree_of router
   pub count : count_of fleet' ≡ count_of fleet
+  pub counted : router.number ≡ turn_of fleet → router'.number ≡ turn_of fleet'
   pub clients_are : length clients' ≡ length clients
 
 -- 64 clients that said nothing

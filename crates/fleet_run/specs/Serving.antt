@@ -1,5 +1,5 @@
 -- One client before a router: how the whole stands where it is one of many. Source: mcgate's own.
-use Rattle.std.specs.Prelude.{◌≡◌, ℕ, ◌+◌, ◌<◌, Bool, true, false, List, length, drop, Some, if◌then◌else◌, nat_eq, slice_get}
+use Rattle.std.specs.Prelude.{◌≡◌, ℕ, ◌+◌, ◌^◌, ◌<◌, Bool, true, false, List, length, drop, Some, if◌then◌else◌, nat_eq, slice_get}
 use Rattle.mc_types.specs.declared.ask.Ask.{Ask}
 use Rattle.mc_types.specs.declared.answer.Answer.{Answer}
 use Rattle.mc_runs.specs.Single.{reply_of}
@@ -17,7 +17,9 @@ use Rattle.connections.specs.declared.connection.Connection.{Connection}
 use Rattle.connections.specs.Steps.{output_of, held_len, place_behind}
 use Rattle.memory_fleet.specs.declared.fleet.MemoryFleet.{MemoryFleet}
 use Rattle.memory_fleet.specs.declared.event.Made.{Made}
-use Rattle.memory_fleet.specs.Fleets.{holds_of, turn_of, named_of, count_of, FleetCalls}
+use Rattle.memory_fleet.specs.Fleets.{holds_of, turn_of, named_of, count_of, last_turn, FleetCalls}
+use Rattle.memory_fleet.specs.declared.event.FleetFault.{FleetFault}
+use Rattle.memory_fleet.specs.declared.event.FleetFault.TheVariants.{NoMemory, Spent}
 use Rattle.route_tree.specs.Route.{Route, IsTree}
 use Rattle.route_tree.specs.Direct.{is_direct, server_at, words_of}
 use Rattle.route_json.specs.Fits.{IsBelow}
@@ -48,6 +50,13 @@ pub record Advances (old : Connection) (i : ℕ) (router : Router) (fleet : Memo
   pub works : (base : Standing classic) (c : ℕ) → Works (words_of (tree_of router)) (placed base c old i router fleet) c (placed base c new j router' fleet')
   pub tree : tree_of router' ≡ tree_of router
   pub count : count_of fleet' ≡ count_of fleet
+  -- each command made one call
+  pub counted : router.number ≡ turn_of fleet → router'.number ≡ turn_of fleet'
+
+-- where numbers are spent, none of the next 2^32 calls can be numbered
+abbrev pub SpentBy : FleetFault → MemoryFleet → Type 0
+SpentBy NoMemory fleet = Unit {0}
+SpentBy Spent fleet = last_turn < turn_of fleet + 2 ^ 32
 
 -- each key has one server, which is there
 pub record IsServed (tree : Route) (count : ℕ) : Type 0 where

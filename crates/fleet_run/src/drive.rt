@@ -3,11 +3,12 @@
 ghost use Rattle.std.specs.Prelude.{◌≡◌, ◌<◌, ◌≤◌, pos, ◌≤ℤ◌, List, [], true, false, length, map, None, IfOk, IfErr, OnOk, OnErr, MatchResult};
 ghost use Rattle.route_tree.specs.Route.{IsTree};
 ghost use Rattle.route_tree.specs.Direct.{is_direct};
-ghost use Rattle.memory_fleet.specs.Fleets.{IsNewFleet, IsMoment, count_of};
-ghost use Rattle.fleet_run.specs.Serving.{IsServed, tree_of};
+ghost use Rattle.memory_fleet.specs.Fleets.{IsNewFleet, IsMoment, count_of, turn_of};
+ghost use Rattle.memory_fleet.specs.declared.event.FleetFault.TheVariants.{NoMemory};
+ghost use Rattle.fleet_run.specs.Serving.{IsServed, SpentBy, tree_of};
 ghost use Rattle.fleet_run.specs.Scripted.{Scripted, scripted_of, transcript_of};
 ghost use Rattle.fleet_run.specs.Bad.{bad_in, first_bad, Refuses};
-ghost use Rattle.fleet_run.specs.Driving.{ServesPiece, HandsOut, TakesEvent, AreNew, Drives, DrivesPart, EndsAsFault, fault_of};
+ghost use Rattle.fleet_run.specs.Driving.{ServesPiece, HandsOut, TakesEvent, AreNew, Drives, DrivesPart, EndsAsFault, IsSpent, fault_of};
 
 use crate::bad::{CLIENTS, first_bad_event};
 use crate::router::Router;
@@ -28,8 +29,10 @@ fn serve_piece(
     router: &mut Router,
     fleet: &mut MemoryFleet,
 ) -> Result<Vec<u8>, FleetFault>
-    requires { IsServed (tree_of router.old) (count_of fleet.old) }
-    ensures { IfOk result (λ out. ServesPiece connection.old router.old fleet.old bytes.now out.items connection.new router.new fleet.new) }
+    requires served { IsServed (tree_of router.old) (count_of fleet.old) }
+    requires counted { router.old.number ≡ turn_of fleet.old }
+    ensures spent { IfErr result (λ fault. SpentBy fault fleet.new) }
+    ensures ok { IfOk result (λ out. ServesPiece connection.old router.old fleet.old bytes.now out.items connection.new router.new fleet.new) }
 {
     connection.feed(bytes)?;
     serve(alloc, connection, router, fleet)?;
@@ -40,6 +43,7 @@ fn serve_piece(
 fn hand_out(client: u8, bytes: Vec<u8>, transcript: &mut Transcript) -> Result<(), FleetFault>
     ensures ok { OnOk result (HandsOut client bytes.items transcript.old transcript.new) }
     ensures err { OnErr result (transcript.new.shown.items ≡ transcript.old.shown.items) }
+    ensures fault { IfErr result (λ fault. fault ≡ NoMemory) }
 {
     if bytes.is_empty() {
         return Ok(());
@@ -67,10 +71,12 @@ fn take_up(
     transcript: &mut Transcript,
 ) -> Result<(), FleetFault>
     requires served { IsServed (tree_of router.old) (count_of fleet.old) }
+    requires counted { router.old.number ≡ turn_of fleet.old }
     requires clients { length clients.old.items ≡ 64 }
     requires good { (before : List Scripted) × (bad_in (count_of fleet.old) before (scripted_of event.now) ≡ false) }
     ensures ok { OnOk result (TakesEvent clients.old.items router.old fleet.old transcript.old event.now clients.new.items router.new fleet.new transcript.new) }
     ensures err { OnErr result (transcript.new.shown.items ≡ transcript.old.shown.items) }
+    ensures spent { IfErr result (λ fault. SpentBy fault fleet.new) }
 {
     match event {
         Event::Piece(client, bytes) => {
@@ -116,6 +122,7 @@ fn drive_events(
     requires good { first_bad (count_of fleet.old) (map scripted_of script.now.events.items) ≡ None }
     ensures ok { IfOk result (λ report. Drives tree.now (map scripted_of script.now.events.items) (transcript_of transcript.new) report) }
     ensures err { OnErr result (DrivesPart tree.now (map scripted_of script.now.events.items) (transcript_of transcript.new)) }
+    ensures spent { IfErr result (λ fault. SpentBy fault fleet.new) }
 {
     direct_is_one_server();
     let mut clients = new_clients(alloc)?;
@@ -153,7 +160,8 @@ fn drive_fault(fault: FleetFault) -> DriveFault
 /// of the configuration's; a fleet that was driven isn't driven again.
 ///
 /// The error is `BadEvent` exactly where an event can't be, with the place of the first one, and then nothing has
-/// happened. After want of memory, or where numbers are spent, the transcript holds what was handed out before.
+/// happened. After want of memory the transcript holds what was handed out before, and after `Spent` too, which comes only
+/// where none of the next 2^32 calls could be numbered.
 ///
 /// Source: mcgate's own.
 pub fn drive_any(
@@ -169,6 +177,7 @@ pub fn drive_any(
     ensures refuses { MatchResult result (λ _. first_bad (length config.now.servers) (map scripted_of script.now.events.items) ≡ None) (Refuses (length config.now.servers) script.now) }
     ensures ok { IfOk result (λ report. Drives config.now.tree (map scripted_of script.now.events.items) (transcript_of transcript.new) report) }
     ensures fault { IfErr result (λ fault. EndsAsFault config.now.tree (map scripted_of script.now.events.items) transcript.new fault) }
+    ensures spent { IfErr result (λ fault. IsSpent fault fleet.new) }
 {
     let servers = config.servers().len();
     if let Some(index) = first_bad_event(servers as u32, script) {

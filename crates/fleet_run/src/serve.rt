@@ -1,16 +1,16 @@
 // What one client sent is served, message by message and key by key.
 
-ghost use Rattle.std.specs.Prelude.{◌≡◌, true, ◌+◌, ◌<◌, ◌≤◌, length, IfOk, OnOk};
+ghost use Rattle.std.specs.Prelude.{◌≡◌, true, ◌+◌, ◌<◌, ◌≤◌, length, IfOk, IfErr, OnOk};
 ghost use Rattle.text_requests.specs.Asks.{IsClassicAsk};
 ghost use Rattle.mc_runs.specs.Single.{reply_of};
 ghost use Rattle.mc_runs.specs.Protocol.{IsStuck};
 ghost use Rattle.text_codec.specs.Classic.{classic};
 ghost use Rattle.connections.specs.Steps.{held_len};
-ghost use Rattle.memory_fleet.specs.Fleets.{count_of};
+ghost use Rattle.memory_fleet.specs.Fleets.{count_of, turn_of};
 ghost use Rattle.route_tree.specs.Direct.{is_direct, server_at};
 ghost use Rattle.route_tree.specs.Route.{IsTree};
 ghost use Rattle.route_json.specs.Fits.{IsBelow};
-ghost use Rattle.fleet_run.specs.Serving.{IsServed, tree_of, IsFront, IsOnWay, IsAskAt, Asked, ServesAsk, ServesKey, ServesRequest, ServesAll};
+ghost use Rattle.fleet_run.specs.Serving.{IsServed, SpentBy, tree_of, IsFront, IsOnWay, IsAskAt, Asked, ServesAsk, ServesKey, ServesRequest, ServesAll};
 
 use crate::router::Router;
 use connections::Connection;
@@ -58,8 +58,10 @@ fn command(
     ask: &Ask,
 ) -> Result<Answer, FleetFault>
     requires served { IsServed (tree_of router.old) (count_of fleet.old) }
+    requires counted { router.old.number ≡ turn_of fleet.old }
     requires ask { IsClassicAsk ask.now }
-    ensures { IfOk result (λ reply. Asked router.old fleet.old ask.now reply router.new fleet.new) }
+    ensures ok { IfOk result (λ reply. Asked router.old fleet.old ask.now reply router.new fleet.new) }
+    ensures spent { IfErr result (λ fault. SpentBy fault fleet.new) }
 {
     if router.number == u64::MAX {
         return Err(FleetFault::Spent);
@@ -84,9 +86,11 @@ fn serve_ask(
     fleet: &mut MemoryFleet,
 ) -> Result<bool, FleetFault>
     requires served { IsServed (tree_of router.old) (count_of fleet.old) }
+    requires counted { router.old.number ≡ turn_of fleet.old }
     requires at { IsAskAt connection.old request.now index ask.now }
     requires ask { IsClassicAsk ask.now }
-    ensures { IfOk result (λ ended. ServesAsk connection.old request.now index router.old fleet.old ended connection.new router.new fleet.new) }
+    ensures ok { IfOk result (λ ended. ServesAsk connection.old request.now index router.old fleet.old ended connection.new router.new fleet.new) }
+    ensures spent { IfErr result (λ fault. SpentBy fault fleet.new) }
 {
     direct_is_one_server();
     let count = request.asks();
@@ -111,8 +115,10 @@ fn serve_key(
     fleet: &mut MemoryFleet,
 ) -> Result<bool, FleetFault>
     requires served { IsServed (tree_of router.old) (count_of fleet.old) }
+    requires counted { router.old.number ≡ turn_of fleet.old }
     requires way { IsOnWay connection.old request.now asks.old index }
-    ensures { IfOk result (λ ended. ServesKey connection.old request.now index router.old fleet.old ended connection.new asks.new router.new fleet.new) }
+    ensures ok { IfOk result (λ ended. ServesKey connection.old request.now index router.old fleet.old ended connection.new asks.new router.new fleet.new) }
+    ensures spent { IfErr result (λ fault. SpentBy fault fleet.new) }
 {
     let Some(ask) = asks.next(alloc, connection.stream.held())? else {
         unreachable!();
@@ -131,8 +137,10 @@ fn serve_request(
     fleet: &mut MemoryFleet,
 ) -> Result<(), FleetFault>
     requires served { IsServed (tree_of router.old) (count_of fleet.old) }
+    requires counted { router.old.number ≡ turn_of fleet.old }
     requires front { IsFront connection.old request.now }
-    ensures { OnOk result (ServesRequest connection.old router.old fleet.old connection.new router.new fleet.new) }
+    ensures ok { OnOk result (ServesRequest connection.old router.old fleet.old connection.new router.new fleet.new) }
+    ensures spent { IfErr result (λ fault. SpentBy fault fleet.new) }
 {
     let count = request.asks();
     if count == 0 {
@@ -154,8 +162,10 @@ pub fn serve(
     router: &mut Router,
     fleet: &mut MemoryFleet,
 ) -> Result<(), FleetFault>
-    requires { IsServed (tree_of router.old) (count_of fleet.old) }
-    ensures { OnOk result (ServesAll connection.old router.old fleet.old connection.new router.new fleet.new) }
+    requires served { IsServed (tree_of router.old) (count_of fleet.old) }
+    requires counted { router.old.number ≡ turn_of fleet.old }
+    ensures ok { OnOk result (ServesAll connection.old router.old fleet.old connection.new router.new fleet.new) }
+    ensures spent { IfErr result (λ fault. SpentBy fault fleet.new) }
 {
     loop {
         match connection.stream.read() {

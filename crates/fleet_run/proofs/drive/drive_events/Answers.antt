@@ -19,6 +19,7 @@ loop-event-init c =
       clients = c.in_ok-clients.ensures.count;
       tree = c.new-router.ensures.tree;
       count = refl;
+      counted = c.new-router.ensures.number ∙ sym c.requires.fleet.turn;
       ahead = ap (λ (l : List Event). first_bad (count_of c.args.fleet.now) (map scripted_of l)) c.deref-event-items.ensures.value ∙ c.requires.good;
       comes = starts (words_of c.args.tree.now) c.in_ok-clients.clients.items c.new-router.result c.args.fleet.now c.args.transcript.now (count_of c.args.fleet.now) c.in_ok-clients.ensures c.new-router.ensures.number c.requires.fleet c.requires.transcript;
     }
@@ -45,6 +46,7 @@ loop-event-preserved c =
       clients = t.clients_are ∙ v.clients;
       tree = t.tree ∙ v.tree;
       count = t.count ∙ v.count;
+      counted = t.counted v.counted;
       ahead = sym (not_here (count_of c.args.fleet.now) xs i x lt c.event-item.is good) ∙ v.ahead;
       comes = event_on c.args.tree.now c.loop-event.clients.items c.take_up.new.clients.items c.loop-event.router c.take_up.new.router c.loop-event.fleet c.take_up.new.fleet c.loop-event.transcript c.take_up.new.transcript xs i x v.tree lt c.event-item.is
           (subst (λ (n : ℕ). bad_in n (map scripted_of (take i xs)) (scripted_of x) ≡ false) (sym v.count) good) v.comes t;

@@ -10,7 +10,7 @@ use Rattle.fleet_run.proofs.drive.take_up.Goals as goal
 pub returns-in_ok-output-in-Piece-clause-ok : goal.returns-in_ok-output-in-Piece-clause-ok
 returns-in_ok-output-in-Piece-clause-ok c =
     on_ok_weaker c.hand_out.result (λ h. piece_event c.args.clients.now.items c.in-Piece.client c.index_mut.result.now c.serve_piece.new.connection c.as_slice.result.now c.in_ok-output-in-Piece.output.items c.args.router.now c.serve_piece.new.router c.args.fleet.now c.serve_piece.new.fleet c.args.transcript.now c.hand_out.new.transcript c.args.event.now
-    (ap scripted_of c.in-Piece.is ∙ ap (Piece c.in-Piece.client) (sym c.as_slice.ensures.value)) (omega (arith, is_client (count_of c.args.fleet.now) c.requires.good.0 c.args.event.now c.in-Piece.client c.in-Piece.bytes c.requires.good.1 c.in-Piece.is, c.requires.clients)) c.index_mut.ensures.value c.in_ok-output-in-Piece.ensures h) c.hand_out.ensures.ok
+    (ap scripted_of c.in-Piece.is ∙ ap (Piece c.in-Piece.client) (sym c.as_slice.ensures.value)) (omega (arith, is_client (count_of c.args.fleet.now) c.requires.good.0 c.args.event.now c.in-Piece.client c.in-Piece.bytes c.requires.good.1 c.in-Piece.is, c.requires.clients)) c.index_mut.ensures.value c.in_ok-output-in-Piece.ensures.ok h) c.hand_out.ensures.ok
 
 pub returns-in-Now-clause-ok : goal.returns-in-Now-clause-ok
 returns-in-Now-clause-ok c = lost_event c.args.clients.now.items c.args.router.now c.args.fleet.now c.lose.new.self c.args.transcript.now c.args.event.now c.in-Now.loss (ap scripted_of c.in-Now.is) c.lose.ensures

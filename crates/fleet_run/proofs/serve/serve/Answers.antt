@@ -8,8 +8,8 @@ use Rattle.connections.proofs.Fronts.{read_front, request_is_some, refused_is_so
 use Rattle.fleet_run.proofs.Messages.{refused_done, long_line_done, served_more}
 use Rattle.fleet_run.proofs.serve.serve.Goals as goal
 
-pub returns-in-More : goal.returns-in-More
-returns-in-More c = record { advances = c.loop-connection.invariant; stuck = more_stuck c.loop-connection.connection.stream c.in-More.ensures }
+pub returns-in-More-clause-ok : goal.returns-in-More-clause-ok
+returns-in-More-clause-ok c = record { advances = c.loop-connection.invariant; stuck = more_stuck c.loop-connection.connection.stream c.in-More.ensures }
 
 pub loop-connection-preserved-in-Continue-1 : goal.loop-connection-preserved-in-Continue-1
 loop-connection-preserved-in-Continue-1 c =
@@ -44,4 +44,4 @@ serve_request-requires-clause-front c =
 
 pub loop-connection-preserved : goal.loop-connection-preserved
 loop-connection-preserved c =
-    served_more c.args.connection.now c.loop-connection.connection c.serve_request.new.connection c.args.router.now c.loop-connection.router c.serve_request.new.router c.args.fleet.now c.loop-connection.fleet c.serve_request.new.fleet c.loop-connection.invariant c.in_ok-serve_request-in-Request.ensures
+    served_more c.args.connection.now c.loop-connection.connection c.serve_request.new.connection c.args.router.now c.loop-connection.router c.serve_request.new.router c.args.fleet.now c.loop-connection.fleet c.serve_request.new.fleet c.loop-connection.invariant c.in_ok-serve_request-in-Request.ensures.ok

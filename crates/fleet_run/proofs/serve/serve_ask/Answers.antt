@@ -8,7 +8,7 @@ overflow_add-last c = omega (arith, c.asks-count.ensures c.requires.at.held c.re
 pub show-shown-requires : goal.show-shown-requires
 show-shown-requires c = used_held c.args.connection.now c.requires.at.held c.args.request.now c.requires.at.place c.requires.at.read
 
-pub returns-in-Ok : goal.returns-in-Ok
-returns-in-Ok c =
+pub returns-in-Ok-clause-ok : goal.returns-in-Ok-clause-ok
+returns-in-Ok-clause-ok c =
     serves_ask c.direct_is_one_server.ensures c.args.connection.now c.show-shown.new.self c.args.router.now c.command.new.router c.args.fleet.now c.command.new.fleet c.args.request.now c.args.index c.args.ask.now c.in_ok-reply.reply c.quiet.result _ c.in-Ok.ended
-    c.requires.at c.requires.ask.well_formed c.requires.served.direct c.in_ok-reply.ensures (c.quiet.ensures c.requires.at.held) (ap (λ n. nat_eq (c.args.index + 1) n) (c.asks-count.ensures c.requires.at.held c.requires.at.read)) c.in-Ok.ensures
+    c.requires.at c.requires.ask.well_formed c.requires.served.direct c.in_ok-reply.ensures.ok (c.quiet.ensures c.requires.at.held) (ap (λ n. nat_eq (c.args.index + 1) n) (c.asks-count.ensures c.requires.at.held c.requires.at.read)) c.in-Ok.ensures

@@ -12,10 +12,10 @@ serve_ask-served-requires-clause-at c = ask_at c.args.connection.now c.args.requ
 pub serve_ask-served-requires-clause-ask : goal.serve_ask-served-requires-clause-ask
 serve_ask-served-requires-clause-ask c = subst (λ (o : Option Ask). IfSome o IsClassicAsk) c.in-Some.is c.in_ok-ask.ensures.ask
 
-pub returns : goal.returns
-returns c =
+pub returns-clause-ok : goal.returns-clause-ok
+returns-clause-ok c =
     IfOk-weaker c.serve_ask-served.result _ _ (λ ended served. record {
       served = served;
       way = way_on c.args.connection.now c.serve_ask-served.new.connection c.args.request.now c.args.asks.now c.next.new.self c.args.index c.held.result.now _ c.in-Some.ask c.args.router.now c.serve_ask-served.new.router c.args.fleet.now c.serve_ask-served.new.fleet ended
           c.requires.way c.held.ensures c.in-Some.is c.in_ok-ask.ensures.request c.in_ok-ask.ensures.taken c.in_ok-ask.ensures.walk served;
-    }) c.serve_ask-served.ensures
+    }) c.serve_ask-served.ensures.ok

@@ -6,8 +6,8 @@ use Rattle.fleet_run.proofs.serve.serve_request.Goals as goal
 pub answer_own-requires : goal.answer_own-requires
 answer_own-requires c = used_held c.args.connection.now c.requires.front.held c.args.request.now c.requires.front.place c.requires.front.read
 
-pub returns-then-count-eq0 : goal.returns-then-count-eq0
-returns-then-count-eq0 c =
+pub returns-then-count-eq0-clause-ok : goal.returns-then-count-eq0-clause-ok
+returns-then-count-eq0-clause-ok c =
     own_done c.args.connection.now c.answer_own.new.self c.args.router.now c.args.fleet.now c.args.request.now c.own.result c.requires.front (sym (c.asks-count.ensures c.requires.front.held c.requires.front.read) ∙ c.if-count-eq0.true) (c.own.ensures c.requires.front.held) (c.in_ok-answer_own.ensures c.requires.front.held c.requires.front.place)
 
 pub loop-index-preserved : goal.loop-index-preserved
@@ -15,12 +15,12 @@ loop-index-preserved c =
     let i = c.loop-index.invariant in
     let more = c.if-not-branch.true in
     record {
-      advances = key_more c.args.connection.now c.loop-index.connection c.serve_key.new.connection c.args.request.now c.serve_key.new.asks c.loop-index.index c.args.router.now c.loop-index.router c.serve_key.new.router c.args.fleet.now c.loop-index.fleet c.serve_key.new.fleet _ i.advances c.in_ok-serve_key.ensures more;
-      way = c.in_ok-serve_key.ensures.way more;
-      same = key_same c.loop-index.connection c.serve_key.new.connection c.args.request.now c.loop-index.asks c.serve_key.new.asks c.loop-index.index c.loop-index.router c.serve_key.new.router c.loop-index.fleet c.serve_key.new.fleet _ i.way c.in_ok-serve_key.ensures more ∙ i.same;
+      advances = key_more c.args.connection.now c.loop-index.connection c.serve_key.new.connection c.args.request.now c.serve_key.new.asks c.loop-index.index c.args.router.now c.loop-index.router c.serve_key.new.router c.args.fleet.now c.loop-index.fleet c.serve_key.new.fleet _ i.advances c.in_ok-serve_key.ensures.ok more;
+      way = c.in_ok-serve_key.ensures.ok.way more;
+      same = key_same c.loop-index.connection c.serve_key.new.connection c.args.request.now c.loop-index.asks c.serve_key.new.asks c.loop-index.index c.loop-index.router c.serve_key.new.router c.loop-index.fleet c.serve_key.new.fleet _ i.way c.in_ok-serve_key.ensures.ok more ∙ i.same;
     }
 
-pub returns : goal.returns
-returns c =
+pub returns-clause-ok : goal.returns-clause-ok
+returns-clause-ok c =
     let i = c.loop-index.invariant in
-    key_last c.args.connection.now c.loop-index.connection c.serve_key.new.connection c.args.request.now c.loop-index.asks c.serve_key.new.asks c.loop-index.index c.args.router.now c.loop-index.router c.serve_key.new.router c.args.fleet.now c.loop-index.fleet c.serve_key.new.fleet _ i.advances i.way i.same c.in_ok-serve_key.ensures c.if-not-branch.false
+    key_last c.args.connection.now c.loop-index.connection c.serve_key.new.connection c.args.request.now c.loop-index.asks c.serve_key.new.asks c.loop-index.index c.args.router.now c.loop-index.router c.serve_key.new.router c.args.fleet.now c.loop-index.fleet c.serve_key.new.fleet _ i.advances i.way i.same c.in_ok-serve_key.ensures.ok c.if-not-branch.false
