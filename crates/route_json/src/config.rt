@@ -65,12 +65,12 @@ impl Config {
         &self.servers
     }
 
-    /// The same configuration once more. The only error is want of memory.
+    /// The same configuration once more, its tree shared. The only error: memory was refused.
     pub fn copy(&self, alloc: Global) -> Result<Config, AllocError>
         ensures { IfOk result (λ config. config ≡ self.now) }
     {
         Ok(Config {
-            tree: self.tree.copy(alloc)?,
+            tree: self.tree.copy()?,
             servers: self.servers.copy(alloc)?,
         })
     }

@@ -36,7 +36,12 @@ pub fn count(nodes: &mut u32, weight: u32) -> Result<(), ConfigFault>
 }
 
 /// A default error route, below a route with this many levels left.
-pub fn error_leaf(nodes: &mut u32, levels: u32, weight: u32) -> Result<Tree, ConfigFault>
+pub fn error_leaf(
+    alloc: Global,
+    nodes: &mut u32,
+    levels: u32,
+    weight: u32,
+) -> Result<Tree, ConfigFault>
     requires counted { nodes.old ≤ 4096 }
     requires weighs { 0 < weight }
     ensures gives { Gives (λ t. (t, nodes.new)) result (leaf levels weight Failing nodes.old) }
@@ -47,7 +52,7 @@ pub fn error_leaf(nodes: &mut u32, levels: u32, weight: u32) -> Result<Tree, Con
         return Err(ConfigFault::TooDeep);
     }
     count(nodes, weight)?;
-    Ok(Tree::new(TreeForm::Error))
+    Ok(Tree::new(alloc, TreeForm::Error)?)
 }
 
 /// The kind of a type; `UnknownType` where there is none.
@@ -175,7 +180,7 @@ fn server_leaf(
         return Err(ConfigFault::TooDeep);
     }
     count(nodes, weight)?;
-    Ok(Tree::new(TreeForm::Server(server)))
+    Ok(Tree::new(alloc, TreeForm::Server(server))?)
 }
 
 /// The route of a short text; `UnknownType` where there is none of this name.

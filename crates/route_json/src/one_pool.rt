@@ -20,6 +20,7 @@ impl Config {
             let address = format!(in alloc; "s{number}:1")?;
             pool.push(addresses.push(alloc, &address)?)?;
         }
-        Ok(Config::new(Tree::new(TreeForm::Pool(pool)), addresses))
+        let tree = Tree::new(alloc, TreeForm::Pool(pool))?;
+        Ok(Config::new(tree, addresses))
     }
 }

@@ -46,7 +46,7 @@ pub fn route(
     }
     count(nodes, weight)?;
     let form = node(alloc, pools, nodes, levels - 1, weight, field, value)?;
-    Ok(Tree::new(form))
+    Ok(Tree::new(alloc, form)?)
 }
 
 // What stands below a route that is counted.

@@ -90,7 +90,7 @@ fn default_route(
 {
     match value.get(name) {
         Some(child) => route(alloc, pools, nodes, levels, weight, name, child),
-        None => error_leaf(nodes, levels, weight),
+        None => error_leaf(alloc, nodes, levels, weight),
     }
 }
 
