@@ -8,6 +8,7 @@ pub mod gap;
 pub mod gate;
 pub mod judging;
 pub mod laws;
+mod numbers;
 mod pairs;
 pub mod reloading;
 mod rows;
@@ -19,3 +20,6 @@ pub use gap::{Gap, Reason, Refused};
 pub use gate::check;
 pub use judging::judge;
 pub use reloading::ReloadFault;
+
+#[cfg(test)]
+mod tests;
