@@ -48,7 +48,7 @@ valid_where_covered tree m class rows is p residue lt covers =
     let row : row_at rows residue ≡ run_at [] rows.runs.items (residue % k) = ap (λ (n : ℕ). run_at [] rows.runs.items (residue % n)) p.0.0 in
     subst (λ (x : Plan). IsValidRow x (row_at rows residue)) (sym plain) (subst (λ (x : List ℕ). IsValidRow (left_of (residue % k) text tree) x) (sym row) (p.1 (residue % k) below (subst (λ (x : Plan). Covers x x) plain covers)))
 
-each_valid : (tree : Route) (m : ℕ) (cs : List Class) (rs : List ClassRows) → Each (IsClass (tree ∷ [])) cs → EachClass (AreProposed tree m) cs rs → EachClass (AreValidWhereCovered tree m) cs rs
+pub each_valid : (tree : Route) (m : ℕ) (cs : List Class) (rs : List ClassRows) → Each (IsClass (tree ∷ [])) cs → EachClass (AreProposed tree m) cs rs → EachClass (AreValidWhereCovered tree m) cs rs
 each_valid tree m [] [] are h = tt
 each_valid tree m [] (r ∷ rs) are h = h
 each_valid tree m (c ∷ cs) [] are h = h
