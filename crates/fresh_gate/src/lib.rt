@@ -4,6 +4,7 @@
 
 pub mod accepted;
 mod classes;
+mod finding;
 pub mod gap;
 pub mod gate;
 pub mod judging;
@@ -11,7 +12,6 @@ pub mod laws;
 mod numbers;
 mod pairs;
 pub mod reloading;
-mod rows;
 mod shapes;
 mod validity;
 
