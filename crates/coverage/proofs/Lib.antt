@@ -19,3 +19,5 @@ pub mod RowTests
 pub mod Answering
 pub mod Proposals
 pub mod RunLists
+pub mod SameStanding
+pub mod TakenPools
