@@ -11,7 +11,7 @@ ghost use Rattle.route_json.specs.Pools.{AreWeighted, IsPool, servers_of};
 ghost use Rattle.route_json.specs.Reading.{each};
 ghost use Rattle.route_json.specs.Routes.{counts, leaf, kind_or, policy_op, prefix_of, listed, known_pool, pool_route, server_routes, short_list, short, text_children};
 
-use crate::fault::{ConfigFault, bad_field, bad_prefix, no_pool, unknown_type};
+use crate::fault::ConfigFault;
 use crate::pools::{Pools, WeightedServer, slots_of};
 use mc_types::{Key, Op, ServerId};
 use route_names::{Kind, Lists, behind, kind_of, op_of};
@@ -61,7 +61,7 @@ pub fn known_kind(alloc: Global, name: &str) -> Result<Kind, ConfigFault>
 {
     match kind_of(name) {
         Some(kind) => Ok(kind),
-        None => Err(unknown_type(alloc, name)),
+        None => Err(ConfigFault::UnknownType(String::from_str(alloc, name)?)),
     }
 }
 
@@ -71,7 +71,7 @@ pub fn policy_op(alloc: Global, name: &str) -> Result<Op, ConfigFault>
 {
     match op_of(name) {
         Some(op) => Ok(op),
-        None => Err(bad_field(alloc, name)),
+        None => Err(ConfigFault::BadField(String::from_str(alloc, name)?)),
     }
 }
 
@@ -82,7 +82,7 @@ pub fn policy_prefix(alloc: Global, name: &str) -> Result<Key, ConfigFault>
 {
     match Key::read(name.as_bytes()) {
         Ok(key) => Ok(key),
-        Err(_) => Err(bad_prefix(alloc, name)),
+        Err(_) => Err(ConfigFault::BadPrefix(String::from_str(alloc, name)?)),
     }
 }
 
@@ -107,7 +107,7 @@ fn known_pool<'a>(
 {
     match pools.servers_of(name) {
         Some(servers) => Ok(servers),
-        None => Err(no_pool(alloc, name)),
+        None => Err(ConfigFault::NoPool(String::from_str(alloc, name)?)),
     }
 }
 
@@ -224,7 +224,7 @@ pub fn short(
             name,
         );
     }
-    Err(unknown_type(alloc, text))
+    Err(ConfigFault::UnknownType(String::from_str(alloc, text)?))
 }
 
 fn short_list(
@@ -264,6 +264,6 @@ pub fn text_children(
 {
     match behind("Pool|", text) {
         Some(name) => server_routes(alloc, pools, nodes, levels, weight, name),
-        None => Err(bad_field(alloc, "children")),
+        None => Err(ConfigFault::BadField(String::from_str(alloc, "children")?)),
     }
 }

@@ -9,7 +9,7 @@ ghost use Rattle.route_json.specs.Fits.{Fits, AllFit, NodeFits};
 ghost use Rattle.route_json.specs.Reading.{each, values};
 ghost use Rattle.route_json.specs.Routes.{children_of, warm_up, fields, typed, node, route};
 
-use crate::fault::{ConfigFault, bad_field};
+use crate::fault::ConfigFault;
 use crate::fields::{exptime_field, only, text_field, value_field};
 use crate::leaf::{count, known_kind, listed, pool_route, short, text_children};
 use crate::pools::Pools;
@@ -71,7 +71,7 @@ fn node(
     match value {
         Value::String(text) => short(alloc, pools, nodes, levels, weight, text.as_str()),
         Value::Object(_) => typed(alloc, pools, nodes, levels, weight, value),
-        _ => Err(bad_field(alloc, field)),
+        _ => Err(ConfigFault::BadField(String::from_str(alloc, field)?)),
     }
 }
 
@@ -189,7 +189,7 @@ fn children(
         Some(Value::String(text)) => {
             text_children(alloc, pools, nodes, levels, weight, text.as_str())
         }
-        _ => Err(bad_field(alloc, "children")),
+        _ => Err(ConfigFault::BadField(String::from_str(alloc, "children")?)),
     }
 }
 
