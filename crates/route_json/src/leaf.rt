@@ -160,12 +160,13 @@ fn each_server(
 {
     let mut trees = Vec::new(alloc);
     for server in servers {
-        trees.push(server_leaf(nodes, levels, weight, *server)?)?;
+        trees.push(server_leaf(alloc, nodes, levels, weight, *server)?)?;
     }
     Ok(trees)
 }
 
 fn server_leaf(
+    alloc: Global,
     nodes: &mut u32,
     levels: u32,
     weight: u32,
