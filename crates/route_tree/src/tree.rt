@@ -10,7 +10,7 @@ use std::rc::Rc;
 
 /// A tree of routes. It is shared: a copy of it or of a child takes no memory, and the parts live as long as any copy.
 ///
-/// No list of children and no pool is empty, a pool has at most 1,024 servers, it is nested at most 32 levels deep, and
+/// No list of children and no pool is empty, a pool has at most 2,048 slots, it is nested at most 32 levels deep, and
 /// it has at most 4,096 routes, each counted three times for every `cold` that it stands in.
 #[cycle(tree)]
 #[derive(Drop)]
@@ -24,7 +24,7 @@ pub struct Tree {
 #[cycle(tree)]
 #[derive(Drop)]
 pub enum TreeForm {
-    /// Of these servers the one whose place is the slot of the key.
+    /// The slots of a pool, each with its server: a key asks the server at its slot.
     Pool(Vec<ServerId>),
     /// This server, whatever the key.
     Server(ServerId),

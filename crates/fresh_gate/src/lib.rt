@@ -1,0 +1,21 @@
+//! The freshness gate: it accepts configurations of which every run is fresh, by a certificate that a small checker
+//! tests, and tells why others are refused.
+#![tactic(auto)]
+
+pub mod accepted;
+mod classes;
+pub mod gap;
+pub mod gate;
+pub mod judging;
+pub mod laws;
+mod pairs;
+pub mod reloading;
+mod rows;
+mod shapes;
+mod validity;
+
+pub use accepted::Accepted;
+pub use gap::{Gap, Reason, Refused};
+pub use gate::check;
+pub use judging::judge;
+pub use reloading::ReloadFault;
