@@ -159,12 +159,13 @@ fn each_server(
 {
     let mut trees = Vec::new(alloc);
     for server in servers {
-        trees.push(server_leaf(nodes, levels, weight, server.server)?)?;
+        trees.push(server_leaf(alloc, nodes, levels, weight, server.server)?)?;
     }
     Ok(trees)
 }
 
 fn server_leaf(
+    alloc: Global,
     nodes: &mut u32,
     levels: u32,
     weight: u32,

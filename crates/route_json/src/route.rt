@@ -46,7 +46,8 @@ pub fn route(
     }
     count(nodes, weight)?;
     let form = node(alloc, pools, nodes, levels - 1, weight, field, value)?;
-    Ok(Tree::new(alloc, form)?)
+    let tree = Tree::new(alloc, form)?;
+    Ok(tree)
 }
 
 // What stands below a route that is counted.

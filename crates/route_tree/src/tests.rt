@@ -143,7 +143,7 @@ fn direct_trees(rt: HostRuntime) -> Result<(), Fail> {
     let alloc = rt.alloc();
     let a = key_of(b"a").ok_or("a is a key")?;
     let ab = key_of(b"ab").ok_or("ab is a key")?;
-    assert!(rt; leaf(7).is_direct());
+    assert!(rt; leaf(alloc, 7)?.is_direct());
     assert!(rt; by_prefix(alloc, a, ab)?.is_direct());
     assert!(rt; !null_for_others(alloc, a)?.is_direct());
     assert!(rt; !null_for_prefix(alloc, a)?.is_direct());

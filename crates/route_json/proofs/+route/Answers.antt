@@ -39,7 +39,7 @@ route::route-returns-clause-gives t c =
     let is : c.args.levels ≡ suc (c.args.levels - 1) = omega arith in
     route_counted c.args.pools.now.0 c.args.weight c.args.field.now (view c.args.value.now) c.args.nodes.now c.args.levels (c.args.levels - 1) c.count.new.nodes is c.in_ok-count.ensures.gives
     ∙ c.in_ok-form.ensures.gives
-    ∙ ap (λ (r : Route). let y : Result (Route × ℕ) Fault = Ok (r, c.node.new.nodes) in y) (sym c.new.ensures)
+    ∙ ap (λ (r : Route). let y : Result (Route × ℕ) Fault = Ok (r, c.node.new.nodes) in y) (sym c.in_ok-tree.ensures)
 
 -- ---- children
 
