@@ -1,4 +1,4 @@
-// Fields of JSON objects.
+//! Fields of JSON objects.
 
 ghost use Rattle.std.specs.Prelude.{codes};
 ghost use Rattle.serde_json.specs.Find.{get};
