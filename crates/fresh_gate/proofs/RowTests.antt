@@ -10,7 +10,7 @@ use Rattle.coverage.specs.declared.deleting.Deleting.TheVariants as kinds
 use Rattle.coverage.specs.Taking.{Clears}
 use Rattle.coverage.specs.Computed.{cleared}
 use Rattle.coverage.specs.Valid.{IsValidRow, IsRising}
-use Rattle.coverage.proofs.Tests.{both, both_split, either_left, either_right, either_split, bool_is}
+use Rattle.coverage.proofs.Choices.{both, both_split, either_left, either_right, either_split, bool_is}
 use Rattle.coverage.proofs.Keeping.{cleared_is_exact}
 use Rattle.coverage.proofs.Finding.{taken_is_exact}
 use Rattle.coverage.specs.Rows.{is_taken}
