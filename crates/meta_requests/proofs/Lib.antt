@@ -1,2 +1,6 @@
 pub mod SeenLemmas
 pub mod Front
+pub mod TokenLemmas
+pub mod WriteLemmas
+pub mod ServedLemmas
+pub mod Sound

@@ -3,9 +3,15 @@
 
 pub mod command;
 pub mod flags;
+pub mod laws;
 pub mod line_words;
 pub mod reader;
 pub mod request;
 pub mod values;
 pub mod verbs;
 pub mod writer;
+
+pub use command::{Command, Kind, Read, Request, Verb};
+pub use reader::{read_behind, read_request};
+pub use request_parts::{Own, Skip, Why};
+pub use writer::write_ask;

@@ -10,7 +10,7 @@ ghost use Rattle.meta_requests.specs.Asks.{asks_of, quiet_of, own_of, get_op, st
 
 use crate::command::{Command, Flags, Kind, Request, Values};
 use mc_text::word::{Span, next_word};
-use mc_types::{Ask, Body, Dialect, Key, Opaque, Op, Token, Tokens};
+use mc_types::{Ask, Body, Dialect, Key, Op, Opaque, Token, Tokens};
 use request_parts::Own;
 use request_parts::parts::key_at;
 use std::alloc::{AllocError, Global};
@@ -168,7 +168,10 @@ impl Request {
         let _first = i;
         match self.command {
             Command::Keyed {
-                key, flags, kind, ..
+                key,
+                flags,
+                kind,
+                ..
             } => {
                 let body = Body::from_slice(alloc, &bytes[self.block.start..self.block.end])?;
                 let tokens = tokens(alloc, bytes, flags.span)?;

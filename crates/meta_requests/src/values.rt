@@ -5,7 +5,7 @@ ghost use Rattle.meta_requests.specs.Flags.{letters_of, is_served, store_mode, c
 
 use crate::command::{Kind, Values};
 use mc_text::number::{number, signed, small_number};
-use mc_types::{Opaque, Op};
+use mc_types::{Op, Opaque};
 
 fn letters(kind: Kind) -> &'static [u8]
     ensures { result.now ≡ letters_of kind }

@@ -5,7 +5,7 @@ ghost use Rattle.mc_text.specs.Spelling.{line_of};
 ghost use Rattle.request_parts.specs.Tests.{block_text};
 ghost use Rattle.mc_types.specs.Asks.{IsAsk};
 ghost use Rattle.mc_types.specs.declared.ask.Dialect.TheVariants.{Meta};
-ghost use Rattle.meta_requests.specs.Spelling.{led, kind_of, kind_word, mode_letter, mode_word, token_word, token_words, cas_words, exptime_words, value_words, length_words, block_by, spelling_of};
+ghost use Rattle.meta_requests.specs.Spelling.{led, kind_of, kind_word, mode_letter, mode_word, token_word, token_words, cas_words, exptime_words, value_words, length_words, block_by, flag_words, line_words, spelling_of};
 
 use crate::command::Kind;
 use bytes::BytesMut;
@@ -155,17 +155,32 @@ fn put_block(out: &mut BytesMut, kind: Kind, body: &[u8]) -> Result<(), AllocErr
     }
 }
 
+// the words behind the command word
+fn put_words(out: &mut BytesMut, kind: Kind, ask: &Ask) -> Result<(), AllocError>
+    ensures ok { OnOk result (out.new.items ≡ out.old.items ++ led (ask.now.key ∷ length_words kind ask.now ++ flag_words kind ask.now)) }
+    ensures err { OnErr result (take (length out.old.items) out.new.items ≡ out.old.items) }
+{
+    put_word(out, b"", ask.key.as_bytes())?;
+    put_length(out, kind, ask)?;
+    put_tokens(out, ask.tokens.as_slice())?;
+    put_values(out, kind, ask)
+}
+
+fn put_line(out: &mut BytesMut, kind: Kind, ask: &Ask) -> Result<(), AllocError>
+    ensures ok { OnOk result (out.new.items ≡ out.old.items ++ line_of (line_words kind ask.now)) }
+    ensures err { OnErr result (take (length out.old.items) out.new.items ≡ out.old.items) }
+{
+    out.extend_from_slice(kind_word(kind))?;
+    put_words(out, kind, ask)?;
+    out.extend_from_slice(b"\r\n")
+}
+
 fn put_ask(out: &mut BytesMut, ask: &Ask) -> Result<(), AllocError>
     ensures ok { OnOk result (out.new.items ≡ out.old.items ++ spelling_of ask.now) }
     ensures err { OnErr result (take (length out.old.items) out.new.items ≡ out.old.items) }
 {
     let kind = kind_of(ask.op);
-    out.extend_from_slice(kind_word(kind))?;
-    put_word(out, b"", ask.key.as_bytes())?;
-    put_length(out, kind, ask)?;
-    put_tokens(out, ask.tokens.as_slice())?;
-    put_values(out, kind, ask)?;
-    out.extend_from_slice(b"\r\n")?;
+    put_line(out, kind, ask)?;
     put_block(out, kind, ask.body.as_slice())
 }
 
