@@ -4,3 +4,5 @@ pub mod TokenLemmas
 pub mod WriteLemmas
 pub mod ServedLemmas
 pub mod Sound
+pub mod FlagsBack
+pub mod ValuesBack

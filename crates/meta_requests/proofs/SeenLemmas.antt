@@ -51,7 +51,7 @@ else_else : {A : Type 0} (a b c : Option A) → or_else (or_else a b) c ≡ or_e
 else_else (Some x) b c = refl
 else_else None b c = refl
 
-else_none : {A : Type 0} (a : Option A) → or_else a None ≡ a
+pub else_none : {A : Type 0} (a : Option A) → or_else a None ≡ a
 else_none (Some x) = refl
 else_none None = refl
 
