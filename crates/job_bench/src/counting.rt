@@ -31,7 +31,12 @@ pub fn calls_of(alloc: Global, tree: &Tree, key: Key, rounds: u64) -> Result<u64
     Ok(fleet.calls)
 }
 
-fn print_calls<R: AllocGlobal + Print>(rt: &R, name: &str, tree: &Tree, key: Key) -> io::Result<()> {
+fn print_calls<R: AllocGlobal + Print>(
+    rt: &R,
+    name: &str,
+    tree: &Tree,
+    key: Key,
+) -> io::Result<()> {
     let calls = calls_of(rt.alloc(), tree, key, 1)?;
     println!(rt; "{name}: 4 commands, {calls} calls")
 }

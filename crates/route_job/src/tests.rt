@@ -3,6 +3,7 @@
 //! the number of the call whose data it carries.
 
 ghost use Rattle.std.specs.Prelude.{◌≡◌, [], ◌∷◌, IfOk};
+ghost use Rattle.mc_types.specs.Fits.{Fits, IsAnswer, FitsFetch, FitsStore, FitsCas, FitsDelete};
 ghost use Rattle.mc_runs.specs.Single.{FitsOutcome};
 ghost use Rattle.route_tree.specs.Route as route;
 
@@ -28,8 +29,11 @@ fn ask_of(alloc: Global, op: Op, with_cas: bool) -> Result<Ask, Fail> {
     })
 }
 
-// What the letter means for a get: a hit of one byte, or a miss.
-fn fetched(alloc: Global, with_cas: bool, letter: u8) -> Result<Answer, Fail> {
+// What the letter means for a get: a miss (`m`), or a hit of that byte.
+fn fetched(alloc: Global, with_cas: bool, letter: u8) -> Result<Answer, Fail>
+    ensures fits { IfOk result (FitsFetch with_cas) }
+    ensures ranges { IfOk result IsAnswer }
+{
     if letter == b'm' {
         return Ok(Answer::Miss);
     }
@@ -40,46 +44,73 @@ fn fetched(alloc: Global, with_cas: bool, letter: u8) -> Result<Answer, Fail> {
     })
 }
 
-// The outcome that the letter means for this classic ask: `f` the call failed, `e` an error line, else for a get a miss
-// (`m`) or a hit of that byte, for a store `s` stored or not, for a cas `x` another value or no item, for a delete `d`
-// deleted or no item.
+// For a store: stored (`s`) or not.
+fn stored(letter: u8) -> Answer
+    ensures fits { FitsStore result }
+    ensures ranges { IsAnswer result }
+{
+    if letter == b's' {
+        Answer::Stored
+    } else {
+        Answer::NotStored
+    }
+}
+
+// For a cas: another value (`x`) or no item.
+fn compared(letter: u8) -> Answer
+    ensures fits { FitsCas result }
+    ensures ranges { IsAnswer result }
+{
+    if letter == b'x' {
+        Answer::Exists
+    } else {
+        Answer::NotFound
+    }
+}
+
+// For a delete: deleted (`d`) or no item.
+fn deleted(letter: u8) -> Answer
+    ensures fits { FitsDelete result }
+    ensures ranges { IsAnswer result }
+{
+    if letter == b'd' {
+        Answer::Deleted
+    } else {
+        Answer::NotFound
+    }
+}
+
+// The answer that the letter means for this classic ask; `e` is an error line.
+fn answer_of(alloc: Global, ask: &Ask, letter: u8) -> Result<Answer, Fail>
+    ensures { IfOk result (Fits ask.now) }
+{
+    if letter == b'e' {
+        return Ok(Answer::Error);
+    }
+    match ask.dialect {
+        Dialect::Meta => Err(Fail::from("a meta ask")),
+        Dialect::Classic => match ask.op {
+            Op::Get => {
+                let answer = fetched(alloc, ask.with_cas, letter)?;
+                Ok(answer)
+            }
+            Op::Set => Ok(stored(letter)),
+            Op::Add => Ok(stored(letter)),
+            Op::Cas => Ok(compared(letter)),
+            Op::Delete => Ok(deleted(letter)),
+            _ => Err(Fail::from("another operation")),
+        },
+    }
+}
+
+// The outcome that the letter means; `f` is a call that failed.
 fn outcome_of(alloc: Global, ask: &Ask, letter: u8) -> Result<Outcome, Fail>
     ensures { IfOk result (FitsOutcome ask.now) }
 {
     if letter == b'f' {
         return Ok(Outcome::Failed);
     }
-    if letter == b'e' {
-        return Ok(Outcome::Answered(Answer::Error));
-    }
-    let Dialect::Classic = ask.dialect else {
-        return Err(Fail::from("a meta ask"));
-    };
-    let answer = match ask.op {
-        Op::Get => fetched(alloc, ask.with_cas, letter)?,
-        Op::Set | Op::Add => {
-            if letter == b's' {
-                Answer::Stored
-            } else {
-                Answer::NotStored
-            }
-        }
-        Op::Cas => {
-            if letter == b'x' {
-                Answer::Exists
-            } else {
-                Answer::NotFound
-            }
-        }
-        Op::Delete => {
-            if letter == b'd' {
-                Answer::Deleted
-            } else {
-                Answer::NotFound
-            }
-        }
-        _ => return Err(Fail::from("another operation")),
-    };
+    let answer = answer_of(alloc, ask, letter)?;
     Ok(Outcome::Answered(answer))
 }
 
@@ -314,5 +345,36 @@ fn an_operation_has_its_own_routes(rt: HostRuntime) -> Result<(), Fail> {
     let tree = by_operation(rt.alloc())?;
     tells!(rt, tree, Op::Delete, b"dn", "1d 2d = not found");
     tells!(rt, tree, Op::Get, b"h", "5g = hit of 0");
+    Ok(())
+}
+
+// The server that is called next, if one is.
+fn next_server(job: &Job) -> Option<ServerId> {
+    match job.next() {
+        Step::Call { server, .. } => Some(server),
+        Step::Done(_) => None,
+    }
+}
+
+// The next call fails.
+fn fail_next(alloc: Global, job: &mut Job) -> Result<(), Fail> {
+    match job.next() {
+        Step::Call { .. } => {}
+        Step::Done(_) => return Err(Fail::from("done too early")),
+    }
+    job.take(alloc, Outcome::Failed)?;
+    Ok(())
+}
+
+// The tree takes two requests for memory, and the command none: with the third request refused it still passes.
+#[test]
+fn a_command_of_a_pool_takes_no_memory(rt: HostRuntime) -> Result<(), Fail> {
+    let alloc = rt.alloc();
+    let pool = vec![in alloc; ServerId::new(5), ServerId::new(6)]?;
+    let tree = Tree::new(alloc, TreeForm::Pool(pool))?;
+    let mut job = Job::new(alloc, &tree, ask_of(alloc, Op::Get, false)?)?;
+    assert!(rt; next_server(&job) == Some(ServerId::new(5)));
+    fail_next(alloc, &mut job)?;
+    assert!(rt; next_server(&job).is_none());
     Ok(())
 }
