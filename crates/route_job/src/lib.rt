@@ -13,3 +13,6 @@ pub mod walk;
 pub use done::Done;
 pub use fleet::{Fleet, execute};
 pub use job::{Job, Step};
+
+#[cfg(test)]
+mod tests;
