@@ -3,6 +3,7 @@
 ghost use Rattle.std.specs.Prelude.{◌≡◌, ◌<◌, ◌≤◌, ℕ, List, [], ◌∷◌, IfOk, IfSome, length};
 ghost use Rattle.mc_types.specs.KeyText.{IsKey};
 ghost use Rattle.route_tree.specs.Route as route;
+ghost use Rattle.route_tree.specs.Route.{IsGood, depth, count};
 ghost use Rattle.coverage.specs.Tables.{IsTable};
 
 use crate::{
@@ -30,7 +31,7 @@ fn pool(alloc: Global, from: u32, count: u32) -> Result<Tree, AllocError>
     for number in 0..count {
         servers.push(ServerId::new(from + number))?;
     }
-    Ok(Tree::new(TreeForm::Pool(servers)))
+    Tree::new(alloc, TreeForm::Pool(servers))
 }
 
 // The places of the tree.
@@ -83,21 +84,9 @@ fn modulus_at(table: &PlaceTable, class: usize) -> Option<u32> {
 
 // Deletes go to a pool of three, servers 0 to 2, all else to one of two, 0 and 1.
 fn two_and_three(alloc: Global) -> Result<Tree, AllocError> {
-    let policies = vec![in alloc;
-        (
-            Op::Delete,
-            Tree::new(TreeForm::Pool(vec![in alloc;
-                ServerId::new(0),
-                ServerId::new(1),
-                ServerId::new(2)
-            ]?))
-        ),
-    ]?;
-    let default = Box::new(
-        alloc,
-        Tree::new(TreeForm::Pool(vec![in alloc; ServerId::new(0), ServerId::new(1)]?)),
-    )?;
-    Ok(Tree::new(TreeForm::ByOperation { policies, default }))
+    let policies = vec![in alloc; (Op::Delete, pool(alloc, 0, 3)?)]?;
+    let default = Box::new(alloc, pool(alloc, 0, 2)?)?;
+    Tree::new(alloc, TreeForm::ByOperation { policies, default })
 }
 
 fn plain_at(alloc: Global, tree: &Tree, residue: u32) -> Result<Plain, AllocError> {
@@ -146,21 +135,9 @@ fn runs_of_two_and_three(rt: HostRuntime) -> Result<(), Fail> {
 fn by_prefix_d(alloc: Global, d: Key) -> Result<Tree, AllocError>
     requires { IsKey d }
 {
-    let policies = vec![in alloc;
-        (
-            d,
-            Tree::new(TreeForm::Pool(vec![in alloc;
-                ServerId::new(0),
-                ServerId::new(1),
-                ServerId::new(2)
-            ]?))
-        ),
-    ]?;
-    let wildcard = Box::new(
-        alloc,
-        Tree::new(TreeForm::Pool(vec![in alloc; ServerId::new(0), ServerId::new(1)]?)),
-    )?;
-    Ok(Tree::new(TreeForm::ByPrefix { policies, wildcard }))
+    let policies = vec![in alloc; (d, pool(alloc, 0, 3)?)]?;
+    let wildcard = Box::new(alloc, pool(alloc, 0, 2)?)?;
+    Tree::new(alloc, TreeForm::ByPrefix { policies, wildcard })
 }
 
 // Twelve places in two classes, whose own moduli are 2 and 3.
@@ -192,7 +169,7 @@ fn both_pools(alloc: Global, first: u32, second: u32) -> Result<Tree, AllocError
     requires few_second { second ≤ 1024 }
 {
     let children = vec![in alloc; pool(alloc, 0, first)?, pool(alloc, first, second)?]?;
-    Ok(Tree::new(TreeForm::AllSync(children)))
+    Tree::new(alloc, TreeForm::AllSync(children))
 }
 
 // 1,023 times 1,024 is too large. 512 and 512 have 512 places; of two hits the first is the reply, so each row has one server.
@@ -217,10 +194,10 @@ fn too_many_places(rt: HostRuntime) -> Result<(), Fail> {
     Ok(())
 }
 
-fn leaf(number: u32) -> Tree
-    ensures { result ≡ route.Server number }
+fn leaf(alloc: Global, number: u32) -> Result<Tree, AllocError>
+    ensures { IfOk result (λ tree. tree ≡ route.Server number) }
 {
-    Tree::new(TreeForm::Server(ServerId::new(number)))
+    Tree::new(alloc, TreeForm::Server(ServerId::new(number)))
 }
 
 // Keys that begin `a` go to server 0, those that begin `ab` to 1, the others to 0.
@@ -228,9 +205,9 @@ fn by_prefixes(alloc: Global, a: Key, ab: Key) -> Result<Tree, AllocError>
     requires a { IsKey a }
     requires ab { IsKey ab }
 {
-    let policies = vec![in alloc; (ab, leaf(1)), (a, leaf(0))]?;
-    let wildcard = Box::new(alloc, leaf(0))?;
-    Ok(Tree::new(TreeForm::ByPrefix { policies, wildcard }))
+    let policies = vec![in alloc; (ab, leaf(alloc, 1)?), (a, leaf(alloc, 0)?)]?;
+    let wildcard = Box::new(alloc, leaf(alloc, 0)?)?;
+    Tree::new(alloc, TreeForm::ByPrefix { policies, wildcard })
 }
 
 // The length of the prefix of the key's place, and that of the row's; 0 where there is none.
@@ -266,17 +243,30 @@ fn key_lengths_and_longest_prefix(rt: HostRuntime) -> Result<(), Fail> {
     Ok(())
 }
 
+// A get that the cold side misses is asked of the warm one.
+fn warm_up(alloc: Global, cold: Tree, warm: Tree) -> Result<Tree, AllocError>
+    requires cold { IsGood cold × (depth cold ≤ 2) × (count cold ≤ 8) }
+    requires warm { IsGood warm × (depth warm ≤ 2) × (count warm ≤ 8) }
+    ensures { IfOk result (λ tree. tree ≡ route.WarmUp cold warm 0) }
+{
+    let cold = Box::new(alloc, cold)?;
+    let warm = Box::new(alloc, warm)?;
+    let exptime = 0;
+    Tree::new(
+        alloc,
+        TreeForm::WarmUp {
+            cold,
+            warm,
+            exptime,
+        },
+    )
+}
+
 // A get goes to both children, server 0 and a cold 1 with a warm 2; all else to the first of the copies' children.
 fn warm_second(alloc: Global) -> Result<Tree, AllocError> {
-    let cold = Box::new(alloc, leaf(1))?;
-    let warm = Box::new(alloc, leaf(2))?;
-    let copying = Tree::new(TreeForm::WarmUp {
-        cold,
-        warm,
-        exptime: 0,
-    });
-    let children = vec![in alloc; leaf(0), copying]?;
-    Ok(Tree::new(TreeForm::AllSync(children)))
+    let copying = warm_up(alloc, leaf(alloc, 1)?, leaf(alloc, 2)?)?;
+    let children = vec![in alloc; leaf(alloc, 0)?, copying]?;
+    Tree::new(alloc, TreeForm::AllSync(children))
 }
 
 // A warm side that isn't the first child is no reply, but its item is copied to the cold one: server 2 is taken, 1 isn't.
@@ -297,20 +287,13 @@ fn warm_side_of_a_later_child(rt: HostRuntime) -> Result<(), Fail> {
 
 // As before, but the cold side's add asks no server.
 fn no_add(alloc: Global) -> Result<Tree, AllocError> {
-    let policies = vec![in alloc; (Op::Add, Tree::new(TreeForm::Null))]?;
-    let default = Box::new(alloc, leaf(1))?;
-    let cold = Box::new(
-        alloc,
-        Tree::new(TreeForm::ByOperation { policies, default }),
-    )?;
-    let warm = Box::new(alloc, leaf(2))?;
-    let copying = Tree::new(TreeForm::WarmUp {
-        cold,
-        warm,
-        exptime: 0,
-    });
-    let children = vec![in alloc; leaf(0), copying]?;
-    Ok(Tree::new(TreeForm::AllSync(children)))
+    let null = Tree::new(alloc, TreeForm::Null)?;
+    let policies = vec![in alloc; (Op::Add, null)]?;
+    let default = Box::new(alloc, leaf(alloc, 1)?)?;
+    let cold = Tree::new(alloc, TreeForm::ByOperation { policies, default })?;
+    let copying = warm_up(alloc, cold, leaf(alloc, 2)?)?;
+    let children = vec![in alloc; leaf(alloc, 0)?, copying]?;
+    Tree::new(alloc, TreeForm::AllSync(children))
 }
 
 // Where the cold side's add asks no server, nothing is copied: server 2 isn't taken.
