@@ -3,16 +3,19 @@ use Rattle.std.proofs.Common.{◌≡◌, ℕ, ◌+◌, ◌<◌, ◌≤◌, true,
 use Rattle.std.proofs.lemmas.Bool.{cases_lt, lt-ltb, le-ltb}
 use Rattle.mc_text.specs.Line.{LF, without_cr}
 use Rattle.mc_text.specs.Word.{words}
-use Rattle.text_requests.specs.declared.command.Why.{Why}
-use Rattle.text_requests.specs.declared.command.Why.TheVariants.{BadChunk}
-use Rattle.text_requests.specs.declared.command.Skip.{Skip}
-use Rattle.text_requests.specs.declared.command.Skip.TheVariants.{Nothing, Bytes, ThroughNewline}
-use Rattle.text_requests.specs.declared.command.End.{End}
-use Rattle.text_requests.specs.declared.command.End.TheVariants.{Open, Good, Bad}
+use Rattle.request_parts.specs.declared.refusal.Why.{Why}
+use Rattle.request_parts.specs.declared.refusal.Why.TheVariants.{BadChunk}
+use Rattle.request_parts.specs.declared.skip.Skip.{Skip}
+use Rattle.request_parts.specs.declared.skip.Skip.TheVariants.{Nothing, Bytes, ThroughNewline}
+use Rattle.request_parts.specs.declared.block.End.{End}
+use Rattle.request_parts.specs.declared.block.End.TheVariants.{Open, Good, Bad}
 use Rattle.text_requests.specs.Order.{Order, order_of, skip_of}
-use Rattle.text_requests.specs.Message.{Message, Served, Refusal, Begins, meaning_of, with_rest, with_block, end_of, block_len}
-use Rattle.text_requests.specs.Stream.{skipped, through_newline}
-use Rattle.text_requests.proofs.StreamLemmas.{used_within}
+use Rattle.text_requests.specs.Message.{Message, Begins, meaning_of}
+use Rattle.request_parts.specs.Message.{Served, Refusal, with_rest, with_block, end_of}
+use Rattle.text_requests.specs.Grammar.{block_len}
+use Rattle.request_parts.specs.Stream.{skipped, through_newline}
+use Rattle.request_parts.proofs.Streams.{used_within}
+use Rattle.text_requests.specs.Grammar.{classic_grammar}
 use Rattle.text_codec.specs.Held.{held_at}
 
 second : (a b : Message × ℕ) → Some a ≡ Some b → a.1 ≡ b.1
@@ -37,7 +40,7 @@ takes_some bytes message used b = by_line (order_of (words (without_cr b.text)))
 
 -- so fewer are left
 pub fewer : (held : List ℕ) (message : Message) (used : ℕ) → Begins held message used → length (drop used held) < length held
-fewer held message used b = omega (arith, takes_some held message used b, used_within held message used b, length-drop used held)
+fewer held message used b = omega (arith, takes_some held message used b, used_within classic_grammar held message used b, length-drop used held)
 
 through_len : (bytes : List ℕ) → length (held_at (through_newline bytes)) ≤ length bytes
 through_len [] = omega arith

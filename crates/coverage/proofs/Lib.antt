@@ -1,5 +1,5 @@
 pub mod Covering
-pub mod Tests
+pub mod Choices
 pub mod Failing
 pub mod Low
 pub mod Keeping

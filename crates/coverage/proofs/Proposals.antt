@@ -6,7 +6,7 @@ use Rattle.route_tree.specs.Plan.{IsGood}
 use Rattle.route_tree.proofs.Parts.{each_weaker}
 use Rattle.coverage.specs.Texts.{one_more}
 use Rattle.coverage.specs.Valid.{IsRising}
-use Rattle.coverage.proofs.Tests.{bool_is, either_left, either_right, either_split}
+use Rattle.coverage.proofs.Choices.{bool_is, either_left, either_right, either_split}
 use Rattle.coverage.proofs.Finding.{taken_is_exact}
 use Rattle.coverage.specs.Rows.{is_taken, number_in, put_number, with_number, IsRowOf}
 use Rattle.coverage.specs.Pools.{has, server_at, servers_at, taken_pools}
@@ -59,11 +59,11 @@ now_in (x ∷ xs) s = by_place (IsIn s) x xs s (λ _. inl refl) (λ e. inl e) (�
 
 -- ---- membership
 
-has_in : (xs : List ℕ) (s : ℕ) → has xs s ≡ true → IsIn s xs
+pub has_in : (xs : List ℕ) (s : ℕ) → has xs s ≡ true → IsIn s xs
 has_in [] s h = absurd (cc)
 has_in (x ∷ xs) s h = ⊎_elim (λ a. inl (sym (eqb-true x s a))) (λ b. inr (has_in xs s b)) (either_split (nat_eq x s) (has xs s) h)
 
-in_has : (xs : List ℕ) (s : ℕ) → IsIn s xs → has xs s ≡ true
+pub in_has : (xs : List ℕ) (s : ℕ) → IsIn s xs → has xs s ≡ true
 in_has [] s h = absurd h
 in_has (x ∷ xs) s (inl e) = either_left (nat_eq x s) _ (eq-eqb x s (sym e))
 in_has (x ∷ xs) s (inr h) = either_right (nat_eq x s) _ (in_has xs s h)

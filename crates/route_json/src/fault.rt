@@ -1,5 +1,5 @@
 ghost use Rattle.std.specs.Prelude.{◌≡◌, Some, ◌++◌, codes, string_bytes, IfSome};
-ghost use Rattle.route_json.specs.Fault.{BadField, BadAddress, EmptyPool, TooManyServers, UnknownType, NoPool, BadPrefix, fault_of};
+ghost use Rattle.route_json.specs.Fault.{BadField, BadAddress, EmptyPool, TooManyServers, TooManySlots, UnknownType, NoPool, BadPrefix, fault_of};
 ghost use Rattle.route_json.specs.Printed.{fault_line};
 
 use byte_escapes::Escaped;
@@ -23,6 +23,8 @@ pub enum ConfigFault {
     EmptyPool(String),
     /// The pool has more than 1,024 servers, or with it there are more than 4,294,967,295 in all.
     TooManyServers(String),
+    /// The servers of the pool have more than 2,048 slots in all.
+    TooManySlots(String),
     /// A route is nested more than 32 deep.
     TooDeep,
     /// There are more than 4,096 routes, each counted three times for every `cold` that it stands in.
@@ -83,6 +85,10 @@ impl Display for ConfigFault {
                 f.write_str("too many servers in ")?;
                 Escaped(name.as_bytes()).fmt(f)
             }
+            ConfigFault::TooManySlots(name) => {
+                f.write_str("too many slots in ")?;
+                Escaped(name.as_bytes()).fmt(f)
+            }
             ConfigFault::TooDeep => f.write_str("too deep"),
             ConfigFault::TooManyNodes => f.write_str("too many routes"),
             ConfigFault::UnknownType(name) => {
@@ -137,6 +143,15 @@ pub fn too_many_servers(alloc: Global, name: &str) -> ConfigFault
 {
     match String::from_str(alloc, name) {
         Ok(name) => ConfigFault::TooManyServers(name),
+        Err(_) => ConfigFault::NoMemory,
+    }
+}
+
+pub fn too_many_slots(alloc: Global, name: &str) -> ConfigFault
+    ensures { IfSome (fault_of result) (λ f. f ≡ TooManySlots name.now) }
+{
+    match String::from_str(alloc, name) {
+        Ok(name) => ConfigFault::TooManySlots(name),
         Err(_) => ConfigFault::NoMemory,
     }
 }

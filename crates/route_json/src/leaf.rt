@@ -1,4 +1,4 @@
-// Routes that hold no other value: pools, their servers, short texts, defaults.
+//! Routes that hold no other value: pools, their servers, short texts, defaults.
 
 ghost use Rattle.std.specs.Prelude.{◌≡◌, ℕ, ◌+◌, ◌<◌, ◌≤◌, IfOk, codes, length};
 ghost use Rattle.mc_types.specs.KeyText.{IsKey};
@@ -7,12 +7,12 @@ ghost use Rattle.route_tree.specs.Form.{route_of_form, routes_of};
 ghost use Rattle.route_json.specs.Fault.{Gives};
 ghost use Rattle.route_names.specs.Names.{kind_of, behind};
 ghost use Rattle.route_json.specs.Fits.{IsLeaf, Fits, AllFit, NodeFits};
-ghost use Rattle.route_json.specs.Pools.{AllBelow, servers_of};
+ghost use Rattle.route_json.specs.Pools.{AreWeighted, IsPool, servers_of};
 ghost use Rattle.route_json.specs.Reading.{each};
 ghost use Rattle.route_json.specs.Routes.{counts, leaf, kind_or, policy_op, prefix_of, listed, known_pool, pool_route, server_routes, short_list, short, text_children};
 
 use crate::fault::{ConfigFault, bad_field, bad_prefix, no_pool, unknown_type};
-use crate::pools::Pools;
+use crate::pools::{Pools, WeightedServer, slots_of};
 use mc_types::{Key, Op, ServerId};
 use route_names::{Kind, Lists, behind, kind_of, op_of};
 use route_tree::{Tree, TreeForm};
@@ -96,10 +96,9 @@ fn known_pool<'a>(
     alloc: Global,
     pools: &'a Pools,
     name: &str,
-) -> Result<&'a [ServerId], ConfigFault>
+) -> Result<&'a [WeightedServer], ConfigFault>
     ensures gives { Gives (λ s. s.now) result (known_pool name.now (servers_of name.now pools.now.0)) }
-    ensures sized { IfOk result (λ s. (0 < length s.now) × (length s.now ≤ 1024)) }
-    ensures below { IfOk result (λ s. AllBelow (length pools.now.1) s.now) }
+    ensures good { IfOk result (λ s. IsPool (length pools.now.1) s.now) }
 {
     match pools.servers_of(name) {
         Some(servers) => Ok(servers),
@@ -107,16 +106,16 @@ fn known_pool<'a>(
     }
 }
 
-/// The route by slots over a pool; `NoPool` where there is none of this name.
+/// The route over a pool's slots; `NoPool` where there is none of this name.
 pub fn pool_route(alloc: Global, pools: &Pools, name: &str) -> Result<TreeForm, ConfigFault>
     ensures gives { (n : ℕ) → Gives (λ f. (route_of_form f, n)) result (pool_route pools.now.0 name.now n) }
     ensures leaf { IfOk result (λ f. IsLeaf (length pools.now.1) (route_of_form f)) }
 {
     let servers = known_pool(alloc, pools, name)?;
-    Ok(TreeForm::Pool(servers.to_vec(alloc)?))
+    Ok(TreeForm::Pool(slots_of(alloc, servers)?))
 }
 
-/// One child for each server of a pool; `NoPool` where there is none of this name.
+/// One child for each text of a pool, whatever its weight; `NoPool` where there is none of this name.
 pub fn server_routes(
     alloc: Global,
     pools: &Pools,
@@ -142,20 +141,20 @@ fn each_server(
     nodes: &mut u32,
     levels: u32,
     weight: u32,
-    servers: &[ServerId],
+    servers: &[WeightedServer],
 ) -> Result<Vec<Tree>, ConfigFault>
     requires counted { nodes.old ≤ 4096 }
     requires weighs { 0 < weight }
     requires some { 0 < length servers.now }
-    requires below { AllBelow (length pools.now.1) servers.now }
-    ensures gives { Gives (λ v. (v.items, nodes.new)) result (each (λ s. leaf levels weight (Server s)) servers.now nodes.old) }
+    requires weighted { AreWeighted (length pools.now.1) servers.now }
+    ensures gives { Gives (λ v. (v.items, nodes.new)) result (each (λ s. leaf levels weight (Server s.server)) servers.now nodes.old) }
     ensures counted { nodes.new ≤ 4096 }
     ensures fits { IfOk result (λ v. AllFit (length pools.now.1) levels weight nodes.old v.items nodes.new) }
     ensures some { IfOk result (λ v. 0 < length v.items) }
 {
     let mut trees = Vec::new(alloc);
     for server in servers {
-        trees.push(server_leaf(nodes, levels, weight, *server)?)?;
+        trees.push(server_leaf(nodes, levels, weight, server.server)?)?;
     }
     Ok(trees)
 }

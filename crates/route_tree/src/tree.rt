@@ -8,7 +8,7 @@ use std::marker::Model;
 
 /// A tree of routes.
 ///
-/// No list of children and no pool is empty, a pool has at most 1,024 servers, it is nested at most 32 levels deep, and
+/// No list of children and no pool is empty, a pool has at most 2,048 slots, it is nested at most 32 levels deep, and
 /// it has at most 4,096 routes, each counted three times for every `cold` that it stands in.
 #[cycle(tree)]
 #[derive(Drop)]
@@ -22,7 +22,7 @@ pub struct Tree {
 #[cycle(tree)]
 #[derive(Drop)]
 pub enum TreeForm {
-    /// Of these servers the one whose place is the slot of the key.
+    /// The slots of a pool, each with its server: a key asks the server at its slot.
     Pool(Vec<ServerId>),
     /// This server, whatever the key.
     Server(ServerId),
