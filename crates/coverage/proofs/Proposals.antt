@@ -1,5 +1,6 @@
 -- The servers that are taken make a valid row where the place has no gap.
 use Rattle.std.proofs.Common.{◌≡◌, zero, suc, ◌+◌, length, take, get_or, ℕ, ◌<◌, ◌≤◌, Bool, true, false, cond, ◌||◌, List, [], ◌∷◌, ◌++◌, nat_eq, nat_lt, Option, Some, None, ◌⊎◌, inl, inr, ⊎_elim, refl, sym, ap, ◌∙◌, subst, arith}
+use Rattle.std.specs.Prelude.{slice_index_or}
 use Rattle.std.proofs.lemmas.Bool.{eqb-true, eq-eqb, leb-true}
 use Rattle.route_tree.specs.Each.{Each, IsIn}
 use Rattle.route_tree.specs.Plan.{IsGood}
@@ -57,6 +58,25 @@ now_in : (xs : List ℕ) (s : ℕ) → IsIn s (with_number xs s)
 now_in [] s = inl refl
 now_in (x ∷ xs) s = by_place (IsIn s) x xs s (λ _. inl refl) (λ e. inl e) (λ _. inr (now_in xs s))
 
+-- ---- at the end
+
+pub below_last : (xs : List ℕ) (n s last : ℕ) → IsRising xs → n + 1 ≡ length xs → last ≡ slice_index_or xs n last → last < s → Each (λ y. y < s) xs
+below_last [] n s last h e is lt = absurd (omega (arith, e))
+below_last (x ∷ []) zero s last h e is lt = (omega (arith, is, lt), tt)
+below_last (x ∷ []) (suc n) s last h e is lt = absurd (omega (arith, e))
+below_last (x ∷ y ∷ xs) zero s last h e is lt = absurd (omega (arith, e))
+below_last (x ∷ y ∷ xs) (suc n) s last h e is lt =
+    let r = below_last (y ∷ xs) n s last h.1 (omega (arith, e)) is lt in
+    let a : x < y = h.0.0 in
+    let b : y < s = r.0 in
+    (omega (arith, a, b), r)
+
+pub put_last : (xs : List ℕ) (s : ℕ) → Each (λ y. y < s) xs → with_number xs s ≡ xs ++ s ∷ []
+put_last [] s h = refl
+put_last (x ∷ xs) s h =
+    let below : x < s = h.0 in
+    by_place (λ l. l ≡ x ∷ (xs ++ s ∷ [])) x xs s (λ lt. absurd (omega (arith, below, lt))) (λ e. absurd (omega (arith, below, e))) (λ _. ap (λ l. x ∷ l) (put_last xs s h.1))
+
 -- ---- membership
 
 pub has_in : (xs : List ℕ) (s : ℕ) → has xs s ≡ true → IsIn s xs
@@ -88,14 +108,6 @@ has_with (x ∷ xs) s t =
 
 pub row_begins : (residue : ℕ) → IsRowOf residue [] []
 row_begins residue = record { rising = tt; holds = λ s. refl }
-
-pools_suc : (xs : List (List ℕ)) (i : ℕ) (x : List ℕ) → i < length xs → x ≡ get_or xs i x → take (suc i) xs ≡ take i xs ++ x ∷ []
-pools_suc [] i x lt is = absurd (omega arith)
-pools_suc (y ∷ xs) zero x lt is = ap (λ (e : List ℕ). e ∷ []) (sym is)
-pools_suc (y ∷ xs) (suc i) x lt is = ap (λ l. y ∷ l) (pools_suc xs i x (omega arith) is)
-
-pub pools_more : (xs : List (List ℕ)) (i : ℕ) (x : List ℕ) → i < length xs → x ≡ get_or xs i x → take (i + 1) xs ≡ take i xs ++ x ∷ []
-pools_more xs i x lt is = let one : i + 1 ≡ suc i = omega arith in ap (λ (n : ℕ). take n xs) one ∙ pools_suc xs i x lt is
 
 or_last : (a b : Bool) → (a || b) ≡ (b || (a || false))
 or_last true true = refl

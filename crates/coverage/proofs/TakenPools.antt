@@ -1,5 +1,8 @@
 -- The servers of the pools from which reads take, at a hash, are those that the plain tree of the hash takes.
-use Rattle.std.proofs.Common.{◌≡◌, ℕ, ◌%◌, Bool, true, false, cond, ◌&&◌, ◌||◌, List, [], ◌∷◌, ◌++◌, nat_eq, Option, Some, None, refl, sym, ap, ap₂, ◌∙◌, arith}
+use Rattle.std.specs.Str.{bytes_eq}
+use Rattle.std.proofs.lemmas.Slice.Eq.{bytes_eq-Decides}
+use Rattle.coverage.proofs.Choices.{either_split}
+use Rattle.std.proofs.Common.{◌≡◌, ℕ, ◌%◌, Bool, true, false, cond, ◌&&◌, ◌||◌, List, [], ◌∷◌, ◌++◌, nat_eq, Option, Some, None, refl, sym, ap, ap₂, ◌∙◌, arith, zero, suc, ◌+◌, ◌<◌, length, take, get_or, ⊎_elim, subst}
 use Rattle.mc_types.specs.declared.ask.Op.{Op}
 use Rattle.mc_types.specs.declared.ask.Op.TheVariants.{Get, Gat, Incr, Decr}
 use Rattle.route_tree.specs.Operation.{same_op}
@@ -9,7 +12,7 @@ use Rattle.route_tree.specs.Chosen.{chosen}
 use Rattle.route_tree.proofs.Left.{left_of_chosen}
 use Rattle.coverage.specs.Computed.{is_get, taken, fails, hits_each, adds, shown, shown_each, shown_first, shown_some, shown_head, shown_policy, copied, copied_some, copied_first, copied_head, copied_policy}
 use Rattle.coverage.specs.Rows.{is_taken}
-use Rattle.coverage.specs.Pools.{has, server_at, servers_at, pools_of, pools_of_each, pools_of_some, pools_of_first, pools_of_head, pools_of_policy, pools_of_prefixes, taken_pools}
+use Rattle.coverage.specs.Pools.{has, server_at, servers_at, pools_of, pools_of_each, pools_of_some, pools_of_first, pools_of_head, pools_of_policy, pools_of_prefixes, has_pool, with_pool, distinct_after, sought_pools, taken_pools}
 use Rattle.coverage.proofs.SameStanding.{same, all_same}
 
 pub has_append : (xs ys : List ℕ) (s : ℕ) → has (xs ++ ys) s ≡ (has xs s || has ys s)
@@ -228,8 +231,8 @@ module _ (text : List ℕ) (hash s : ℕ) where
   at_decr : (r : Route) → has (servers_at hash (pools_of text Decr true false r)) s ≡ taken (left_of hash text r) Decr s
   at_decr r = all_there text Decr hash s r true false
 
-  pub pools_are_taken : (r : Route) → has (servers_at hash (taken_pools text r)) s ≡ is_taken (left_of hash text r) s
-  pools_are_taken r =
+  sought_are_taken : (r : Route) → has (servers_at hash (sought_pools text r)) s ≡ is_taken (left_of hash text r) s
+  sought_are_taken r =
       let a = pools_of text Get true true r in
       let b = pools_of text Gat true false r in
       let c = pools_of text Incr true false r in
@@ -239,3 +242,77 @@ module _ (text : List ℕ) (hash s : ℕ) where
       (there_append text Incr hash s (a ++ b) c
       ∙ ap₂ (λ x y. x || y) (there_append text Gat hash s a b ∙ ap₂ (λ x y. x || y) (at_get r) (at_gat r)) (at_incr r))
       (at_decr r)
+
+-- ---- each once
+
+absorbs : (a b : Bool) → (a || b) ≡ ((a || b) || (a || false))
+absorbs true b = refl
+absorbs false true = refl
+absorbs false false = refl
+
+assoc : (a b c : Bool) → (a || (b || c)) ≡ ((a || b) || c)
+assoc true b c = refl
+assoc false b c = refl
+
+regroup : (a b c : Bool) → ((a || (b || false)) || c) ≡ (a || (b || c))
+regroup true b c = refl
+regroup false true c = refl
+regroup false false c = refl
+
+same_pool : (p q : List ℕ) → bytes_eq p q ≡ true → p ≡ q
+same_pool p q e = (bytes_eq-Decides p q).0 e
+
+module _ (hash s : ℕ) where
+  -- a pool that is there already adds no server
+  there_first : (p : List ℕ) (ps : List (List ℕ)) (pool : List ℕ) → bytes_eq p pool ≡ true → has (servers_at hash (p ∷ ps)) s ≡ (has (servers_at hash (p ∷ ps)) s || has (servers_at hash (pool ∷ [])) s)
+  there_first p ps pool e =
+      subst (λ q. has (servers_at hash (p ∷ ps)) s ≡ (has (servers_at hash (p ∷ ps)) s || has (servers_at hash (q ∷ [])) s)) (same_pool p pool e)
+      (absorbs (nat_eq (server_at hash p) s) (has (servers_at hash ps) s))
+
+  there_already : (pools : List (List ℕ)) (pool : List ℕ) → has_pool pools pool ≡ true → has (servers_at hash pools) s ≡ (has (servers_at hash pools) s || has (servers_at hash (pool ∷ [])) s)
+  there_already [] pool h = absurd (cc)
+  there_already (p ∷ ps) pool h =
+      ⊎_elim (there_first p ps pool)
+      (λ (e : has_pool ps pool ≡ true). ap (λ b. nat_eq (server_at hash p) s || b) (there_already ps pool e) ∙ assoc (nat_eq (server_at hash p) s) (has (servers_at hash ps) s) (has (servers_at hash (pool ∷ [])) s))
+      (either_split (bytes_eq p pool) (has_pool ps pool) h)
+
+  with_one : (pools : List (List ℕ)) (pool : List ℕ) → has (servers_at hash (with_pool pools pool)) s ≡ (has (servers_at hash pools) s || has (servers_at hash (pool ∷ [])) s)
+  with_one pools pool = step (has_pool pools pool) refl
+    where
+      step : (b : Bool) → has_pool pools pool ≡ b → has (servers_at hash (cond b pools (pools ++ pool ∷ []))) s ≡ (has (servers_at hash pools) s || has (servers_at hash (pool ∷ [])) s)
+      step true e = there_already pools pool e
+      step false e = ap (λ l. has l s) (at_append hash pools (pool ∷ [])) ∙ has_append (servers_at hash pools) (servers_at hash (pool ∷ [])) s
+
+  distinct_has : (pools ps : List (List ℕ)) → has (servers_at hash (distinct_after pools ps)) s ≡ (has (servers_at hash pools) s || has (servers_at hash ps) s)
+  distinct_has pools [] = sym (or_false (has (servers_at hash pools) s))
+  distinct_has pools (p ∷ ps) =
+      distinct_has (with_pool pools p) ps ∙ ap (λ b. b || has (servers_at hash ps) s) (with_one pools p)
+      ∙ regroup (has (servers_at hash pools) s) (nat_eq (server_at hash p) s) (has (servers_at hash ps) s)
+
+-- the servers of the pools at a hash are those that the plain tree of the hash takes
+pub pools_are_taken : (text : List ℕ) (hash s : ℕ) (r : Route) → has (servers_at hash (taken_pools text r)) s ≡ is_taken (left_of hash text r) s
+pools_are_taken text hash s r = distinct_has hash s [] (sought_pools text r) ∙ sought_are_taken text hash s r
+
+-- ---- one after another
+
+distinct_last : (xs ps : List (List ℕ)) (p : List ℕ) → distinct_after xs (ps ++ p ∷ []) ≡ with_pool (distinct_after xs ps) p
+distinct_last xs [] p = refl
+distinct_last xs (q ∷ ps) p = distinct_last (with_pool xs q) ps p
+
+pools_suc : (xs : List (List ℕ)) (i : ℕ) (x : List ℕ) → i < length xs → x ≡ get_or xs i x → take (suc i) xs ≡ take i xs ++ x ∷ []
+pools_suc [] i x lt is = absurd (omega arith)
+pools_suc (y ∷ xs) zero x lt is = ap (λ (e : List ℕ). e ∷ []) (sym is)
+pools_suc (y ∷ xs) (suc i) x lt is = ap (λ l. y ∷ l) (pools_suc xs i x (omega arith) is)
+
+pub pools_more : (xs : List (List ℕ)) (i : ℕ) (x : List ℕ) → i < length xs → x ≡ get_or xs i x → take (i + 1) xs ≡ take i xs ++ x ∷ []
+pools_more xs i x lt is = let one : i + 1 ≡ suc i = omega arith in ap (λ (n : ℕ). take n xs) one ∙ pools_suc xs i x lt is
+
+-- one pool more
+pub distinct_more : (xs : List (List ℕ)) (i : ℕ) (x : List ℕ) → i < length xs → x ≡ get_or xs i x → distinct_after [] (take (i + 1) xs) ≡ with_pool (distinct_after [] (take i xs)) x
+distinct_more xs i x lt is = ap (distinct_after []) (pools_more xs i x lt is) ∙ distinct_last [] (take i xs) x
+
+pub with_pool_there : (xs : List (List ℕ)) (x : List ℕ) → has_pool xs x ≡ true → with_pool xs x ≡ xs
+with_pool_there xs x e = ap (λ b. cond b xs (xs ++ x ∷ [])) e
+
+pub with_pool_new : (xs : List (List ℕ)) (x : List ℕ) → has_pool xs x ≡ false → with_pool xs x ≡ xs ++ x ∷ []
+with_pool_new xs x e = ap (λ b. cond b xs (xs ++ x ∷ [])) e

@@ -1,5 +1,6 @@
 -- From which pools of a tree the replies to an operation are taken, and from which they are copied: the same ones for each hash.
 use Rattle.std.specs.Prelude.{ℕ, ◌%◌, Bool, true, false, ◌&&◌, ◌||◌, List, [], ◌∷◌, ◌++◌, length, slice_index, nat_eq, Option, Some, None, if◌then◌else◌}
+use Rattle.std.specs.Str.{bytes_eq}
 use Rattle.mc_types.specs.declared.ask.Op.{Op}
 use Rattle.mc_types.specs.declared.ask.Op.TheVariants.{Get, Gat, Incr, Decr}
 use Rattle.route_tree.specs.Operation.{same_op}
@@ -63,7 +64,24 @@ module _ (text : List ℕ) (op : Op) where
     pools_of_prefixes shows copies (Prefix p r ps) best =
         pools_of_prefixes shows copies ps (if begins p text && is_longer p best then Some (p, pools_of shows copies r) else best)
 
--- the pools from which some operation takes
-abbrev pub taken_pools : List ℕ → Route → List (List ℕ)
-taken_pools text tree =
+-- the pool is among them
+abbrev pub has_pool : List (List ℕ) → List ℕ → Bool
+has_pool [] pool = false
+has_pool (p ∷ ps) pool = bytes_eq p pool || has_pool ps pool
+
+-- one more, unless it is there
+abbrev pub with_pool : List (List ℕ) → List ℕ → List (List ℕ)
+with_pool pools pool = if has_pool pools pool then pools else pools ++ pool ∷ []
+
+abbrev pub distinct_after : List (List ℕ) → List (List ℕ) → List (List ℕ)
+distinct_after pools [] = pools
+distinct_after pools (p ∷ ps) = distinct_after (with_pool pools p) ps
+
+-- the pools from which some operation takes, with repetitions
+abbrev pub sought_pools : List ℕ → Route → List (List ℕ)
+sought_pools text tree =
     pools_of text Get true true tree ++ pools_of text Gat true false tree ++ pools_of text Incr true false tree ++ pools_of text Decr true false tree
+
+-- the pools from which some operation takes, each once
+abbrev pub taken_pools : List ℕ → Route → List (List ℕ)
+taken_pools text tree = distinct_after [] (sought_pools text tree)

@@ -1,8 +1,9 @@
 //! From which pools of a tree reads take, found once for all keys that a text begins: the same pools for each hash.
 
 ghost use Rattle.std.specs.Prelude.{◌≡◌, ◌++◌, ◌∷◌, [], ◌<◌, true, if◌then◌else◌, IfOk, length};
+ghost use Rattle.std.specs.Str.{bytes_eq};
 ghost use Rattle.route_tree.specs.Form.{routes_of, policies_of};
-ghost use Rattle.coverage.specs.Pools.{server_at, pools_of, pools_of_each, pools_of_some, pools_of_first, pools_of_head, pools_of_policy, taken_pools};
+ghost use Rattle.coverage.specs.Pools.{server_at, pools_of, pools_of_each, pools_of_some, pools_of_first, pools_of_head, pools_of_policy, has_pool, with_pool, distinct_after, sought_pools, taken_pools};
 
 use crate::collecting::longest;
 use crate::standing::{adding_at, standing, standing_each};
@@ -36,6 +37,22 @@ impl<'a> Pool<'a> {
         ensures { result ≡ servers.now }
     {
         Pool { servers }
+    }
+
+    /// The same pool once more. It takes no memory.
+    fn again(&self) -> Pool<'a>
+        ensures { result ≡ self.now }
+    {
+        Pool {
+            servers: self.servers,
+        }
+    }
+
+    // Whether the other has the same servers.
+    fn is_same(&self, other: &Pool) -> bool
+        ensures { result ≡ bytes_eq self.now other.now }
+    {
+        self.servers == other.servers
     }
 
     /// The server at the hash modulo the pool's size.
@@ -224,8 +241,30 @@ fn add_pools_of_policy<'a>(
     }
 }
 
-/// The pools from which some operation takes, for the keys that the text begins. The only error is that memory was
-/// refused.
+// The pools from which some operation takes, those of each operation after another.
+fn sought_pools<'a>(alloc: Global, tree: &'a Tree, text: &[u8]) -> Result<Vec<Pool<'a>>, AllocError>
+    ensures { IfOk result (λ pools. pools.items ≡ sought_pools text.now tree.now) }
+{
+    let mut pools = Vec::new(alloc);
+    add_pools(tree, text, shown_by(Op::Get, true), &mut pools)?;
+    add_pools(tree, text, shown_by(Op::Gat, false), &mut pools)?;
+    add_pools(tree, text, shown_by(Op::Incr, false), &mut pools)?;
+    add_pools(tree, text, shown_by(Op::Decr, false), &mut pools)?;
+    Ok(pools)
+}
+
+// Whether the pool is among them.
+fn has_pool(pools: &[Pool], pool: &Pool) -> bool
+    ensures { result ≡ has_pool pools.now pool.now }
+{
+    match pools {
+        [] => false,
+        [first, rest @ ..] => first.is_same(pool) || has_pool(rest, pool),
+    }
+}
+
+/// The pools from which some operation takes, for the keys that the text begins, each once. The only error is that memory
+/// was refused.
 pub fn taken_pools<'a>(
     alloc: Global,
     tree: &'a Tree,
@@ -233,11 +272,29 @@ pub fn taken_pools<'a>(
 ) -> Result<Vec<Pool<'a>>, AllocError>
     ensures { IfOk result (λ pools. pools.items ≡ taken_pools text.now tree.now) }
 {
+    let sought = sought_pools(alloc, tree, text)?;
+    distinct_of(alloc, &sought)
+}
+
+// Adds the pool, unless it is there.
+fn add_new<'a>(pools: &mut Vec<Pool<'a>>, pool: &Pool<'a>) -> Result<(), AllocError>
+    ensures { IfOk result (λ _. pools.new.items ≡ with_pool pools.old.items pool.now) }
+{
+    if has_pool(pools, pool) {
+        return Ok(());
+    }
+    pools.push(pool.again())?;
+    Ok(())
+}
+
+// Each of the pools once.
+fn distinct_of<'a>(alloc: Global, sought: &[Pool<'a>]) -> Result<Vec<Pool<'a>>, AllocError>
+    ensures { IfOk result (λ pools. pools.items ≡ distinct_after [] sought.now) }
+{
     let mut pools = Vec::new(alloc);
-    add_pools(tree, text, shown_by(Op::Get, true), &mut pools)?;
-    add_pools(tree, text, shown_by(Op::Gat, false), &mut pools)?;
-    add_pools(tree, text, shown_by(Op::Incr, false), &mut pools)?;
-    add_pools(tree, text, shown_by(Op::Decr, false), &mut pools)?;
+    for pool in sought {
+        add_new(&mut pools, pool)?;
+    }
     Ok(pools)
 }
 

@@ -1,6 +1,7 @@
 //! The servers from which reads take at a residue, as a row.
 
-ghost use Rattle.std.specs.Prelude.{◌≡◌, ◌≤◌, IfOk, IfSome, length};
+ghost use Rattle.std.specs.Prelude.{◌≡◌, ◌≤◌, [], ◌∷◌, ◌++◌, true, IfOk, IfSome, length};
+ghost use Rattle.coverage.specs.Valid.{IsRising};
 ghost use Rattle.coverage.specs.Rows.{number_in, with_number, IsRowOf};
 
 use crate::pools::Pool;
@@ -29,10 +30,27 @@ fn number_in(row: &[ServerId], server: ServerId) -> Option<usize>
     }
 }
 
+// Whether the server goes after all others: a quick test of what mostly holds, as a pool's servers follow those before.
+fn goes_last(row: &[ServerId], server: ServerId) -> bool
+    requires { IsRising row.now }
+    ensures { result ≡ true → with_number row.now server ≡ row.now ++ server ∷ [] }
+{
+    if row.is_empty() {
+        return true;
+    }
+    let last = row[row.len() - 1];
+    last.number() < server.number()
+}
+
 // Puts the server in its place, unless it is there.
 fn put_in(row: &mut Vec<ServerId>, server: ServerId) -> Result<(), AllocError>
+    requires { IsRising row.now.items }
     ensures { IfOk result (λ _. row.new.items ≡ with_number row.old.items server) }
 {
+    if goes_last(row, server) {
+        row.push(server)?;
+        return Ok(());
+    }
     match number_in(row, server) {
         None => Ok(()),
         Some(index) => {

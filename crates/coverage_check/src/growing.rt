@@ -1,7 +1,7 @@
 //! Small plain trees, made from a seed.
 
-ghost use Rattle.std.specs.Prelude.{◌≡◌, ℕ, ◌+◌, ◌*◌, ◌<◌, ◌≤◌, IfOk};
-ghost use Rattle.coverage_check.specs.Small.{IsSmall};
+ghost use Rattle.std.specs.Prelude.{◌<◌, IfOk};
+ghost use Rattle.coverage_check.specs.Small.{IsSmall, IsOver};
 
 use mc_types::{Op, ServerId};
 use route_tree::{Plain, PlainForm};
@@ -39,9 +39,9 @@ fn leaf(seed: &mut u32) -> Plain
 
 // One of the five forms over the two.
 fn over(alloc: Global, seed: &mut u32, first: Plain, second: Plain) -> Result<Plain, AllocError>
-    requires first { IsSmall 4 200 first }
-    requires second { IsSmall 4 200 second }
-    ensures { IfOk result (λ plain. (d n : ℕ) → IsSmall d n first → IsSmall d n second → IsSmall (d + 1) (4 * n + 1) plain) }
+    requires first { IsSmall 3 43 first }
+    requires second { IsSmall 3 43 second }
+    ensures { IfOk result (IsOver first second) }
 {
     let form = match pick(seed, 5) {
         0 => PlainForm::AllSync(vec![in alloc; first, second]?),
@@ -67,7 +67,7 @@ fn over(alloc: Global, seed: &mut u32, first: Plain, second: Plain) -> Result<Pl
 }
 
 fn small(alloc: Global, seed: &mut u32) -> Result<Plain, AllocError>
-    ensures { IfOk result (IsSmall 2 5) }
+    ensures { IfOk result (IsSmall 2 7) }
 {
     let first = leaf(seed);
     let second = leaf(seed);
@@ -75,7 +75,7 @@ fn small(alloc: Global, seed: &mut u32) -> Result<Plain, AllocError>
 }
 
 fn larger(alloc: Global, seed: &mut u32) -> Result<Plain, AllocError>
-    ensures { IfOk result (IsSmall 3 21) }
+    ensures { IfOk result (IsSmall 3 43) }
 {
     let first = small(alloc, seed)?;
     let second = small(alloc, seed)?;

@@ -14,7 +14,7 @@ use Rattle.coverage.specs.Pools.{has, taken_pools}
 use Rattle.coverage.specs.Rows.{IsRowOf}
 use Rattle.coverage.specs.Taking.{Clears, Covers}
 use Rattle.coverage.specs.Valid.{IsValidRow, IsRising}
-use Rattle.coverage.proofs.Tests.{both, both_split, either_left, either_right, either_split}
+use Rattle.coverage.proofs.Choices.{both, both_split, either_left, either_right, either_split}
 use Rattle.coverage.proofs.Keeping.{cleared_is_exact}
 use Rattle.coverage.proofs.Finding.{taken_is_exact}
 use Rattle.coverage.proofs.RowTests.{takes, taken_takes}

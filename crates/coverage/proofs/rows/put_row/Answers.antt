@@ -1,7 +1,8 @@
 use Rattle.std.proofs.Common.{◌≡◌, ◌++◌, [], ◌∷◌, List, ℕ, take, sym, ap, ◌∙◌, subst}
 use Rattle.coverage.specs.Pools.{server_at}
 use Rattle.coverage.specs.Rows.{IsRowOf, with_number}
-use Rattle.coverage.proofs.Proposals.{row_next, pools_more}
+use Rattle.coverage.proofs.Proposals.{row_next}
+use Rattle.coverage.proofs.TakenPools.{pools_more}
 use Rattle.coverage.proofs.rows.put_row.Goals as goal
 
 pub loop-pool-preserved : goal.loop-pool-preserved
