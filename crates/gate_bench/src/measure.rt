@@ -36,13 +36,13 @@ fn print_measure<R: AllocGlobal + Print + CpuClock>(rt: &R, shape: Shape) -> io:
     )
 }
 
-/// Judges trees of 261,632 places with few routes, about 100 and about 1,000.
+/// Judges trees of 261,632 places with a few routes and with about 100, and one of 4,032 places with about 1,000.
 pub fn print_measures<R: AllocGlobal + Print + CpuClock>(rt: &R) -> io::Result<()> {
-    for pools in [2, 50, 500] {
+    for (pools, first, second) in [(2, 512, 511), (50, 512, 511), (500, 64, 63)] {
         let shape = Shape {
             pools,
-            first: 512,
-            second: 511,
+            first,
+            second,
             deleted: pools,
         };
         print_measure(rt, shape)?;
