@@ -105,7 +105,7 @@ module _ (ask : Ask) where
   stands false true e = absurd cc
   stands false false e = refl
 
-  told_stand : (told : Told) (body : Option (List ℕ)) (b : Bool) → is_some body ≡ b → all_stand ask.tokens told ≡ true → StandAs ask.tokens b (fields_told told body)
+  pub told_stand : (told : Told) (body : Option (List ℕ)) (b : Bool) → is_some body ≡ b → all_stand ask.tokens told ≡ true → StandAs ask.tokens b (fields_told told body)
   told_stand told body b e all =
       let three = both (as_asked (wants ask.tokens LetterC) (is_some told.cas) && as_asked (wants ask.tokens LetterF) (is_some told.flags) && as_asked (wants ask.tokens LetterS) (is_some told.size)) (as_asked (wants ask.tokens LetterT) (is_some told.ttl)) all in
       let two = both (as_asked (wants ask.tokens LetterC) (is_some told.cas) && as_asked (wants ask.tokens LetterF) (is_some told.flags)) (as_asked (wants ask.tokens LetterS) (is_some told.size)) three.0 in
@@ -118,7 +118,7 @@ module _ (ask : Ask) where
         ttl = stands (wants ask.tokens LetterT) (is_some told.ttl) three.1;
       }
 
-  told_range : (told : Told) (body : Option (List ℕ)) → IfSome body (λ b. length b ≤ data_limit) → IsTold told → AreFieldsInRange (fields_told told body)
+  pub told_range : (told : Told) (body : Option (List ℕ)) → IfSome body (λ b. length b ≤ data_limit) → IsTold told → AreFieldsInRange (fields_told told body)
   told_range told body le h = record { body = le; cas = h.cas; flags = h.flags; size = h.size; ttl = h.ttl }
 
   -- what the lines say

@@ -2,3 +2,4 @@ pub mod Told
 pub mod Tokens
 pub mod Line
 pub mod Spelling
+pub mod Fitting

@@ -7,10 +7,9 @@ use Rattle.std.specs.Str.{bytes_eq}
 use Rattle.std.specs.Str.Parse.{digits_value}
 use Rattle.std.proofs.lemmas.Bool.{cond_both, ltb-true, leb-true}
 use Rattle.mc_text.specs.Number.{number_below, is_number}
-use Rattle.mc_text.specs.Line.{without_cr}
 use Rattle.mc_text.specs.Word.{words}
 use Rattle.mc_types.specs.Asks.{data_limit}
-use Rattle.mc_types.specs.Fits.{FitsIn, FitsClassic, IsAnswer, IsErrorText, is_text_byte}
+use Rattle.mc_types.specs.Fits.{FitsClassic, IsAnswer, IsErrorText, is_text_byte}
 use Rattle.mc_types.specs.declared.ask.Ask.{Ask}
 use Rattle.mc_types.specs.declared.ask.Op.{Op}
 use Rattle.mc_types.specs.declared.ask.Op.TheVariants.{Get, Gat, Set, Add, Replace, Append, Prepend, Cas, Delete, Incr, Decr, Touch}
@@ -24,13 +23,12 @@ use Rattle.text_answers.specs.declared.said.HitLine.{HitLine}
 use Rattle.text_answers.specs.Table.{looked_up, of_store, of_cas, of_fetch, of_delete, of_touch, of_count, number_or, word_answer}
 use Rattle.text_answers.specs.FirstLine.{said, words_said, error_said, error_text, is_error_text, behind_word, cas_said, hit_said, is_fetch, hit_or_foreign, whole_or_foreign, alone, in_dialect}
 use Rattle.text_answers.specs.Reading.{Follows}
-use Rattle.text_answers.specs.Laws.{SpelledAnswersFit}
 
 both : (a b : Bool) → (a && b) ≡ true → (a ≡ true) × (b ≡ true)
 both true b e = (refl, e)
 both false b e = absurd cc
 
-abbrev Taken : Op → Bool → Answer → Type 0
+abbrev pub Taken : Op → Bool → Answer → Type 0
 Taken op with_cas answer = IsAnswer answer × FitsClassic op with_cas answer
 
 abbrev pub IsHitOf : Bool → HitLine → Type 0
@@ -119,7 +117,7 @@ hit_fits op wc (Some hit) e h = (h, e)
 hit_fits op wc None e h = tt
 
 -- error lines
-text_is : (line : List ℕ) → IfSome (error_text line) IsErrorText
+pub text_is : (line : List ℕ) → IfSome (error_text line) IsErrorText
 text_is line = cond_both (is_error_text (behind_word line)) (Some (behind_word line)) None (λ (o : Option (List ℕ)). IfSome o IsErrorText)
     (λ yes. let parts = both (leb (length (behind_word line)) 1024) (list_all is_text_byte (behind_word line)) yes in record { short = leb-true _ _ parts.0; bytes = parts.1 })
     (λ no. tt)
@@ -172,7 +170,5 @@ follows_fit op wc (Hit hit) rest answer used h f =
 follows_fit op wc (Value line) rest answer used h f = absurd h
 follows_fit op wc Foreign rest answer used h f = absurd f
 
-pub spelled_answers_fit : SpelledAnswersFit
-spelled_answers_fit ask bytes answer used classic s =
-    let taken = follows_fit ask.op ask.with_cas (said ask (without_cr s.text)) s.rest answer s.behind (said_fits ask (without_cr s.text) classic) s.follows in
-    record { ranges = taken.0; listed = subst (λ (d : Dialect). FitsIn d ask answer) (sym classic) taken.1 }
+pub classic_taken : (ask : Ask) → ask.dialect ≡ Classic → (line rest : List ℕ) (answer : Answer) (used : ℕ) → Follows (said ask line) rest answer used → Taken ask.op ask.with_cas answer
+classic_taken ask classic line rest answer used f = follows_fit ask.op ask.with_cas (said ask line) rest answer used (said_fits ask line classic) f

@@ -6,4 +6,6 @@ pub mod Reading
 pub mod FitLemmas
 pub mod WordBack
 pub mod HitBack
+pub mod MetaBack
 pub mod ReadBack
+pub mod MetaFits

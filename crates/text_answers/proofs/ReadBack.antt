@@ -9,11 +9,14 @@ use Rattle.mc_text.specs.Line.{IsOneLine, LF}
 use Rattle.mc_text.specs.Spelling.{spaced}
 use Rattle.mc_text.proofs.Spaced.{IsPlain, literal, plain_line}
 use Rattle.mc_types.specs.KeyText.{IsKey}
-use Rattle.mc_types.specs.Fits.{FitsIn, FitsClassic, IsAnswer, IsErrorText, is_text_byte}
+use Rattle.mc_types.specs.Asks.{HasShapeOf, shape_of, meta_shape}
+use Rattle.meta_answers.specs.Fitting.{AreTexts}
+use Rattle.mc_types.specs.Fits.{FitsIn, FitsClassic, FitsMeta, IsAnswer, IsErrorText, is_text_byte}
 use Rattle.mc_types.specs.declared.ask.Ask.{Ask}
 use Rattle.mc_types.specs.declared.ask.Op.{Op}
 use Rattle.mc_types.specs.declared.ask.Op.TheVariants.{Get, Gat, Set, Add, Replace, Append, Prepend, Cas, Delete, Incr, Decr, Touch}
 use Rattle.mc_types.specs.declared.ask.Dialect.{Dialect}
+use Rattle.mc_types.specs.declared.ask.Dialect.TheVariants as dialects
 use Rattle.mc_types.specs.declared.ask.Dialect.TheVariants.{Classic}
 use Rattle.mc_types.specs.declared.answer.Answer.{Answer}
 use Rattle.mc_types.specs.declared.answer.Code.{Code}
@@ -28,6 +31,7 @@ use Rattle.text_answers.specs.Reading.{Follows, Spells}
 use Rattle.text_answers.specs.Laws.{AnswersAreReadBack}
 use Rattle.text_answers.proofs.WordBack.{spelled, alone_back}
 use Rattle.text_answers.proofs.HitBack.{hit_back}
+use Rattle.text_answers.proofs.MetaBack.{meta_back, meta_error_back}
 
 both : (a b : Bool) → (a && b) ≡ true → (a ≡ true) × (b ≡ true)
 both true b e = (refl, e)
@@ -93,6 +97,26 @@ go ask (ClientError text) more classic k r f = error_back ask (codes "CLIENT_ERR
 go ask Error more classic k r f = alone_back ask Error more classic r f tt
 go ask (ServerError text) more classic k r f = error_back ask (codes "SERVER_ERROR") text more ServerError (literal (codes "SERVER_ERROR") refl (omega arith)) (omega arith) r (server_said ask text r)
 
+in_dialect : (ask : Ask) (answer : Answer) (more : List ℕ) (dialect : Dialect) → ask.dialect ≡ dialect → IsKey ask.key → AreTexts ask.tokens → HasShapeOf ask (shape_of dialect ask.op) → IsAnswer answer → FitsIn dialect ask answer
+    → Spells ask (spelling_of ask answer ++ more) answer (length (spelling_of ask answer))
+in_dialect ask answer more Classic is key texts shape ranges fits = go ask answer more is key ranges fits
+in_dialect ask answer more dialects.Meta is key texts shape ranges fits = meta ask answer more is key texts shape ranges fits
+  where
+    meta : (ask : Ask) (answer : Answer) (more : List ℕ) → ask.dialect ≡ dialects.Meta → IsKey ask.key → AreTexts ask.tokens → HasShapeOf ask (meta_shape ask.op) → IsAnswer answer → FitsMeta ask.op ask.tokens answer
+        → Spells ask (spelling_of ask answer ++ more) answer (length (spelling_of ask answer))
+    meta ask (Meta code fields) more is k x s r f = meta_back ask code fields more is k x s r f
+    meta ask (ClientError text) more is k x s r f = error_back ask (codes "CLIENT_ERROR") text more ClientError (literal (codes "CLIENT_ERROR") refl (omega arith)) (omega arith) r (client_said ask text r)
+    meta ask (ServerError text) more is k x s r f = error_back ask (codes "SERVER_ERROR") text more ServerError (literal (codes "SERVER_ERROR") refl (omega arith)) (omega arith) r (server_said ask text r)
+    meta ask Error more is k x s r f = meta_error_back ask more is
+    meta ask Stored more is k x s r f = absurd cc
+    meta ask NotStored more is k x s r f = absurd cc
+    meta ask Exists more is k x s r f = absurd cc
+    meta ask NotFound more is k x s r f = absurd cc
+    meta ask Deleted more is k x s r f = absurd cc
+    meta ask Touched more is k x s r f = absurd cc
+    meta ask (Number n) more is k x s r f = absurd cc
+    meta ask (answers.Hit flags body cas) more is k x s r f = absurd cc
+    meta ask Miss more is k x s r f = absurd cc
+
 pub answers_are_read_back : AnswersAreReadBack
-answers_are_read_back ask answer more is classic fits =
-    go ask answer more classic is.key fits.ranges (subst (λ (d : Dialect). FitsIn d ask answer) classic fits.listed)
+answers_are_read_back ask answer more is texts fits = in_dialect ask answer more ask.dialect refl is.key texts is.shape fits.ranges fits.listed

@@ -81,9 +81,9 @@ answers_stay ask bytes more answer used s = record {
 }
 
 pub none_begins_another : NoneBeginsAnother
-none_begins_another ask a b more other is classic fa fb e =
-    let back = answers_are_read_back ask a more is classic fa in
+none_begins_another ask a b more other is texts fa fb e =
+    let back = answers_are_read_back ask a more is texts fa in
     let begins : Spells ask (spelling_of ask a ++ more) b (length (spelling_of ask b)) =
-    subst (λ (t : List ℕ). Spells ask t b (length (spelling_of ask b))) (sym e) (answers_are_read_back ask b other is classic fb) in
+    subst (λ (t : List ℕ). Spells ask t b (length (spelling_of ask b))) (sym e) (answers_are_read_back ask b other is texts fb) in
     let same = one_answer ask (spelling_of ask a ++ more) a b (length (spelling_of ask a)) (length (spelling_of ask b)) back begins in
     (same.0, (same_front (spelling_of ask a) (spelling_of ask b) more other same.1 e).1)

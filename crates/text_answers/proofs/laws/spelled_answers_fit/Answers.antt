@@ -1,4 +1,4 @@
-use Rattle.text_answers.proofs.FitLemmas.{spelled_answers_fit}
+use Rattle.text_answers.proofs.MetaFits.{spelled_answers_fit}
 use Rattle.text_answers.proofs.laws.spelled_answers_fit.Goals as goal
 
 pub returns : goal.returns
