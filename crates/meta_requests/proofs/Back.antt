@@ -8,6 +8,7 @@ use Rattle.std.proofs.lemmas.Bool.{and_parts, le-leb, leb-true}
 use Rattle.std.proofs.lemmas.Fmt.{length-decimal-le}
 use Rattle.std.proofs.lemmas.List.{length-append}
 use Rattle.std.proofs.lemmas.List.Elements.{All-cons}
+use Rattle.mc_text.specs.Spelling.{line_of}
 use Rattle.mc_text.proofs.Spaced.{IsPlain, literal, decimal_word, signed_word, all_plain}
 use Rattle.mc_types.specs.KeyText.{IsKey}
 use Rattle.mc_types.specs.OpaqueText.{IsOpaque, is_opaque_byte}
@@ -33,7 +34,7 @@ use Rattle.meta_requests.specs.Order.{order_of, sets, mixes, comparing}
 use Rattle.meta_requests.specs.Grammar.{meta_grammar}
 use Rattle.meta_requests.specs.Message.{Begins}
 use Rattle.meta_requests.specs.Spelling.{kind_of, kind_word, mode_letter, mode_word, token_word, token_words, cas_words, exptime_words, value_words, flag_words, length_words, block_by, line_words, length_for, order_for}
-use Rattle.meta_requests.specs.Asks.{IsText, IsMetaAsk, ask_by, asks_by, is_quiet, bare_ask}
+use Rattle.meta_requests.specs.Asks.{IsText, IsMetaAsk, get_op, store_op, ask_by, asks_by, is_quiet}
 use Rattle.meta_requests.specs.ReadBack.{AsksAreReadBack, MessagesAreOneAsk}
 use Rattle.meta_requests.proofs.ServedLemmas.{served_by}
 use Rattle.meta_requests.proofs.FlagsBack.{AreValued, flags_back, tokens_back, values_back}
@@ -99,6 +100,9 @@ few_append m n a b h g = record { are = joined a h.are; few = let x = h.few in l
 
 few_first : (n : ℕ) (w : Word) (ws : List Word) → IsToken w → AreFew n ws → AreFew (suc n) (w ∷ ws)
 few_first n w ws h g = record { are = (h, g.are); few = let x = g.few in omega arith }
+
+few_le : (m n : ℕ) (ws : List Word) → m ≤ n → AreFew m ws → AreFew n ws
+few_le m n ws le h = record { are = h.are; few = let x = h.few in omega arith }
 
 few_cas : (c : Option ℕ) → IfSome c (λ n. n < 2 ^ 64) → AreFew 1 (cas_words c)
 few_cas None h = record { are = tt; few = omega arith }
@@ -167,6 +171,13 @@ few_tokens letters ts e h = record {
       omega (arith, n, words_len ts, a, b, c, d, f, g, i);
 }
 
+-- a cas number of `ms` comes with a set
+abbrev IsUnmixed : Kind → Values → Type 0
+IsUnmixed Get v = Unit {0}
+IsUnmixed Store v = mixes v ≡ false
+IsUnmixed Delete v = Unit {0}
+IsUnmixed Count v = Unit {0}
+
 -- what the line of an ask needs, to be read back as the values and the return flags of the ask
 pub record IsSpelled (kind : Kind) (ask : Ask) (v : Values) : Type 0 where
   pub key : IsKey ask.key
@@ -175,7 +186,7 @@ pub record IsSpelled (kind : Kind) (ask : Ask) (v : Values) : Type 0 where
   pub texts : AllByRecursion IsText ask.tokens
   pub valued : AreValued kind (value_words kind ask) v
   pub few : AreFew 4 (value_words kind ask)
-  pub unmixed : mixes v ≡ false
+  pub unmixed : IsUnmixed kind v
 
 module _ (ask : Ask) (v : Values) where
   flags_are : (kind : Kind) → IsSpelled kind ask v → flags_of kind [] (flag_words kind ask) ≡ Ok (flag_words kind ask)
@@ -197,19 +208,136 @@ module _ (ask : Ask) (v : Values) where
   order_back Store h = let below = h.short in rw (key_back ask.key h.key, small_back (length ask.body) (omega arith), flags_are Store h, compared h, le-leb (length ask.body) data_limit h.short) refl
 
   line_few : (kind : Kind) → IsSpelled kind ask v → AreFew 14 (line_words kind ask)
-  line_few Get h = few_more (few_first 12 (kind_word Get) _ (kind_token Get) (few_first 11 ask.key _ (key_token ask.key h.key) (few_flags Get h)))
-    where
-      few_more : {ws : List Word} → AreFew 13 ws → AreFew 14 ws
-      few_more g = record { are = g.are; few = let x = g.few in omega arith }
-  line_few Delete h = few_more (few_first 12 (kind_word Delete) _ (kind_token Delete) (few_first 11 ask.key _ (key_token ask.key h.key) (few_flags Delete h)))
-    where
-      few_more : {ws : List Word} → AreFew 13 ws → AreFew 14 ws
-      few_more g = record { are = g.are; few = let x = g.few in omega arith }
-  line_few Count h = few_more (few_first 12 (kind_word Count) _ (kind_token Count) (few_first 11 ask.key _ (key_token ask.key h.key) (few_flags Count h)))
-    where
-      few_more : {ws : List Word} → AreFew 13 ws → AreFew 14 ws
-      few_more g = record { are = g.are; few = let x = g.few in omega arith }
+  line_few Get h = few_le 13 14 _ (omega arith) (few_first 12 (kind_word Get) _ (kind_token Get) (few_first 11 ask.key _ (key_token ask.key h.key) (few_flags Get h)))
+  line_few Delete h = few_le 13 14 _ (omega arith) (few_first 12 (kind_word Delete) _ (kind_token Delete) (few_first 11 ask.key _ (key_token ask.key h.key) (few_flags Delete h)))
+  line_few Count h = few_le 13 14 _ (omega arith) (few_first 12 (kind_word Count) _ (kind_token Count) (few_first 11 ask.key _ (key_token ask.key h.key) (few_flags Count h)))
   line_few Store h = let below = h.short in few_first 13 (kind_word Store) _ (kind_token Store) (few_first 12 ask.key _ (key_token ask.key h.key) (few_first 11 (decimal (length ask.body)) _ (decimal_token (length ask.body) (omega arith)) (few_flags Store h)))
 
   at_most : (kind : Kind) → IsSpelled kind ask v → length (line_words kind ask) ≤ 20
   at_most kind h = let n = (line_few kind h).few in omega arith
+
+-- asks with the same fields are the same
+same_ask : (a b : Ask) → a.key ≡ b.key → a.op ≡ b.op → a.dialect ≡ b.dialect → a.with_cas ≡ b.with_cas → a.flags ≡ b.flags → a.exptime ≡ b.exptime → a.body ≡ b.body → a.cas ≡ b.cas → a.delta ≡ b.delta → a.tokens ≡ b.tokens → a ≡ b
+same_ask a b e1 e2 e3 e4 e5 e6 e7 e8 e9 e10 =
+    let fields : (let r : Ask = record { key = a.key; op = a.op; dialect = a.dialect; with_cas = a.with_cas; flags = a.flags; exptime = a.exptime; body = a.body; cas = a.cas; delta = a.delta; tokens = a.tokens } in r)
+    ≡ (let r : Ask = record { key = b.key; op = b.op; dialect = b.dialect; with_cas = b.with_cas; flags = b.flags; exptime = b.exptime; body = b.body; cas = b.cas; delta = b.delta; tokens = b.tokens } in r) = cc in
+    fields
+
+some_exptime : (o : Option ℤ) → IsSome o → Some (unwrap_or o (pos 0)) ≡ o
+some_exptime None h = absurd cc
+some_exptime (Some z) h = refl
+
+gat_op : (e : Option ℤ) → IsSome e → get_op e ≡ ops.Gat
+gat_op None h = absurd cc
+gat_op (Some z) h = refl
+
+cas_op : (c : Option ℕ) (m : Option Op) → IsSome c → store_op c m ≡ ops.Cas
+cas_op None m h = absurd cc
+cas_op (Some n) m h = refl
+
+and_false : (b : Bool) → (b && false) ≡ false
+and_false true = refl
+and_false false = refl
+
+-- the body of an ask whose line has no data is empty
+abbrev BodyIs : Kind → Ask → Type 0
+BodyIs Get ask = ask.body ≡ []
+BodyIs Store ask = Unit {0}
+BodyIs Delete ask = ask.body ≡ []
+BodyIs Count ask = ask.body ≡ []
+
+-- the line of an ask is read back as the ask
+pub record IsReadBack (kind : Kind) (ask : Ask) : Type 0 where
+  pub v : Values
+  pub loud : v.quiet ≡ false
+  pub spelled : IsSpelled kind ask v
+  pub body : BodyIs kind ask
+  pub same : ask_by kind ask.key v ask.tokens ask.body ≡ ask
+
+abbrev values : Option ℕ → Option ℕ → Option ℤ → Option ℕ → Option Op → Values
+values c d e f m = record { cas = c; delta = d; exptime = e; flags = f; mode = m; quiet = false }
+
+module _ (ask : Ask) (h : IsMetaAsk ask) where
+  get_spelled : are_served of_get ask.tokens ≡ true → IsSpelled Get ask (values None None ask.exptime None None)
+  get_spelled s = record { key = h.well_formed.key; short = h.well_formed.ranges.body; served = s; texts = h.texts; valued = get_values ask.exptime h.well_formed.ranges.exptime; few = few_le 1 4 _ (omega arith) (few_exptime ask.exptime h.well_formed.ranges.exptime); unmixed = tt }
+
+  delete_spelled : are_served of_delete ask.tokens ≡ true → IsSpelled Delete ask (values ask.cas None None None None)
+  delete_spelled s = record { key = h.well_formed.key; short = h.well_formed.ranges.body; served = s; texts = h.texts; valued = delete_values ask.cas h.well_formed.ranges.cas; few = few_le 1 4 _ (omega arith) (few_cas ask.cas h.well_formed.ranges.cas); unmixed = tt }
+
+  few_values : (l n : ℕ) → 33 ≤ l → n < 2 ^ 64 → AreFew 4 (cas_words ask.cas ++ (l ∷ decimal n) ∷ mode_word ask.op ∷ exptime_words ask.exptime)
+  few_values l n le lt = few_append 1 3 (cas_words ask.cas) _ (few_cas ask.cas h.well_formed.ranges.cas) (few_first 2 (l ∷ decimal n) _ (wide_token l n le lt) (few_first 1 (mode_word ask.op) _ (mode_token ask.op) (few_exptime ask.exptime h.well_formed.ranges.exptime)))
+
+  store_spelled : (m : Op) → are_served of_store ask.tokens ≡ true → mode_of Store (mode_letter ask.op ∷ []) ≡ Some m → mixes (values ask.cas None ask.exptime (Some ask.flags) (Some m)) ≡ false → IsSpelled Store ask (values ask.cas None ask.exptime (Some ask.flags) (Some m))
+  store_spelled m s is u = let small = h.well_formed.ranges.flags in record { key = h.well_formed.key; short = h.well_formed.ranges.body; served = s; texts = h.texts; valued = store_values ask.cas ask.flags ask.op m ask.exptime h.well_formed.ranges.cas h.well_formed.ranges.flags is h.well_formed.ranges.exptime; few = few_values 70 ask.flags (omega arith) (omega arith); unmixed = u }
+
+  count_spelled : (m : Op) → are_served of_count ask.tokens ≡ true → mode_of Count (mode_letter ask.op ∷ []) ≡ Some m → IsSpelled Count ask (values ask.cas (Some ask.delta) ask.exptime None (Some m))
+  count_spelled m s is = record { key = h.well_formed.key; short = h.well_formed.ranges.body; served = s; texts = h.texts; valued = count_values ask.cas ask.delta ask.op m ask.exptime h.well_formed.ranges.cas h.well_formed.ranges.delta is h.well_formed.ranges.exptime; few = few_values 68 ask.delta (omega arith) h.well_formed.ranges.delta; unmixed = tt }
+
+  mode_is : (kind : Kind) (op m : Op) → ask.op ≡ op → mode_of kind (mode_letter op ∷ []) ≡ Some m → mode_of kind (mode_letter ask.op ∷ []) ≡ Some m
+  mode_is kind op m o e = ap (λ (p : Op). mode_of kind (mode_letter p ∷ [])) o ∙ e
+
+  plain_store : (op : Op) → ask.op ≡ op → mode_of Store (mode_letter op ∷ []) ≡ Some op → HasShape ask (shapes.storing of_store) → IsReadBack Store ask
+  plain_store op o is s = record {
+    v = values ask.cas None ask.exptime (Some ask.flags) (Some op);
+    loud = refl;
+    spelled = store_spelled op s.tokens (mode_is Store op op o is) (ap (λ (c : Option ℕ). mixes (values c None ask.exptime (Some ask.flags) (Some op))) s.cas);
+    body = tt;
+    same = same_ask _ ask refl (ap (λ (c : Option ℕ). store_op c (Some op)) s.cas ∙ sym o) (sym h.meta) (sym s.with_cas) refl (some_exptime ask.exptime s.exptime) refl refl (sym s.delta) refl;
+  }
+
+  counting : (op : Op) → ask.op ≡ op → mode_of Count (mode_letter op ∷ []) ≡ Some op → HasShape ask (record (shapes.bare of_count) { exptime = shapes.Optional; cas = shapes.Optional; delta = shapes.Required }) → IsReadBack Count ask
+  counting op o is s = record {
+    v = values ask.cas (Some ask.delta) ask.exptime None (Some op);
+    loud = refl;
+    spelled = count_spelled op s.tokens (mode_is Count op op o is);
+    body = s.body;
+    same = same_ask _ ask refl (sym o) (sym h.meta) (sym s.with_cas) (sym s.flags) refl (sym s.body) refl refl refl;
+  }
+
+  by_op : (op : Op) → ask.op ≡ op → HasShapeOf ask (shapes.meta_shape op) → IsReadBack (kind_of op) ask
+  by_op ops.Get o s = record { v = values None None ask.exptime None None; loud = refl; spelled = get_spelled s.tokens; body = s.body; same = same_ask _ ask refl (ap get_op s.exptime ∙ sym o) (sym h.meta) (sym s.with_cas) (sym s.flags) refl (sym s.body) (sym s.cas) (sym s.delta) refl }
+  by_op ops.Gat o s = record { v = values None None ask.exptime None None; loud = refl; spelled = get_spelled s.tokens; body = s.body; same = same_ask _ ask refl (gat_op ask.exptime s.exptime ∙ sym o) (sym h.meta) (sym s.with_cas) (sym s.flags) refl (sym s.body) (sym s.cas) (sym s.delta) refl }
+  by_op ops.Set o s = plain_store ops.Set o refl s
+  by_op ops.Add o s = plain_store ops.Add o refl s
+  by_op ops.Replace o s = plain_store ops.Replace o refl s
+  by_op ops.Append o s = plain_store ops.Append o refl s
+  by_op ops.Prepend o s = plain_store ops.Prepend o refl s
+  by_op ops.Cas o s = record {
+    v = values ask.cas None ask.exptime (Some ask.flags) (Some ops.Set);
+    loud = refl;
+    spelled = store_spelled ops.Set s.tokens (mode_is Store ops.Cas ops.Set o refl) (and_false (is_some ask.cas));
+    body = tt;
+    same = same_ask _ ask refl (cas_op ask.cas (Some ops.Set) s.cas ∙ sym o) (sym h.meta) (sym s.with_cas) refl (some_exptime ask.exptime s.exptime) refl refl (sym s.delta) refl;
+  }
+  by_op ops.Delete o s = record { v = values ask.cas None None None None; loud = refl; spelled = delete_spelled s.tokens; body = s.body; same = same_ask _ ask refl (sym o) (sym h.meta) (sym s.with_cas) (sym s.flags) (sym s.exptime) (sym s.body) refl (sym s.delta) refl }
+  by_op ops.Incr o s = counting ops.Incr o refl s
+  by_op ops.Decr o s = counting ops.Decr o refl s
+  by_op ops.Touch o s = absurd s
+
+  shape_is : HasShapeOf ask (shapes.meta_shape ask.op)
+  shape_is = subst (λ (d : Dialect). HasShapeOf ask (shape_of d ask.op)) h.meta h.well_formed.shape
+
+  pub is_back : IsReadBack (kind_of ask.op) ask
+  is_back = by_op ask.op refl shape_is
+
+by_kind : (ask : Ask) (more : List ℕ) (kind : Kind) → IsReadBack kind ask → Begins ((line_of (line_words kind ask) ++ block_by kind ask.body) ++ more) (Served (order_for kind ask) ask.body) (length (line_of (line_words kind ask) ++ block_by kind ask.body))
+by_kind ask more Get r = subst (λ (b : List ℕ). Begins ((line_of (line_words Get ask) ++ []) ++ more) (Served (order_for Get ask) b) (length (line_of (line_words Get ask) ++ []))) (sym r.body) (begins_plain meta_grammar (line_words Get ask) (order_for Get ask) (line_few ask r.v Get r.spelled).are (at_most ask r.v Get r.spelled) (order_back ask r.v Get r.spelled) more refl)
+by_kind ask more Delete r = subst (λ (b : List ℕ). Begins ((line_of (line_words Delete ask) ++ []) ++ more) (Served (order_for Delete ask) b) (length (line_of (line_words Delete ask) ++ []))) (sym r.body) (begins_plain meta_grammar (line_words Delete ask) (order_for Delete ask) (line_few ask r.v Delete r.spelled).are (at_most ask r.v Delete r.spelled) (order_back ask r.v Delete r.spelled) more refl)
+by_kind ask more Count r = subst (λ (b : List ℕ). Begins ((line_of (line_words Count ask) ++ []) ++ more) (Served (order_for Count ask) b) (length (line_of (line_words Count ask) ++ []))) (sym r.body) (begins_plain meta_grammar (line_words Count ask) (order_for Count ask) (line_few ask r.v Count r.spelled).are (at_most ask r.v Count r.spelled) (order_back ask r.v Count r.spelled) more refl)
+by_kind ask more Store r = begins_block meta_grammar (line_words Store ask) (order_for Store ask) (line_few ask r.v Store r.spelled).are (at_most ask r.v Store r.spelled) (order_back ask r.v Store r.spelled) ask.body more refl
+
+pub asks_are_read_back : AsksAreReadBack
+asks_are_read_back ask more h = by_kind ask more (kind_of ask.op) (is_back ask h)
+
+one : (a b : Ask) → a ≡ b → a ∷ [] ≡ b ∷ []
+one a b e = cc
+
+one_ask : (ask : Ask) (kind : Kind) → IsReadBack kind ask → (asks_by (order_for kind ask) ask.body ≡ ask ∷ []) × (is_quiet (order_for kind ask) ≡ false)
+one_ask ask kind r =
+    let vs : values_of kind (flag_words kind ask) ≡ r.v = values_back kind (value_words kind ask) r.v r.spelled.valued ask.tokens in
+    let ts : tokens_in (flag_words kind ask) ≡ ask.tokens = tokens_back kind (value_words kind ask) r.v r.spelled.valued ask.tokens r.spelled.texts in
+    let made : ask_by kind ask.key (values_of kind (flag_words kind ask)) (tokens_in (flag_words kind ask)) ask.body ≡ ask = rw (vs, ts) r.same in
+    (one _ ask made, ap (λ (v : Values). v.quiet) vs ∙ r.loud)
+
+pub messages_are_one_ask : MessagesAreOneAsk
+messages_are_one_ask ask h = one_ask ask (kind_of ask.op) (is_back ask h)
