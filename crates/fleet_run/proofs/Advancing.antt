@@ -14,7 +14,8 @@ use Rattle.text_requests.specs.declared.command.Request.{Request}
 use Rattle.text_requests.specs.Message.{Message, IsReadFrom, message_in}
 use Rattle.text_requests.specs.declared.request.Asks.{Asks}
 use Rattle.text_requests.specs.Asks.{asks_of, quiet_of, IsWalk, counted}
-use Rattle.text_requests.proofs.StreamLemmas.{used_within}
+use Rattle.request_parts.proofs.Streams.{used_within}
+use Rattle.text_requests.specs.Grammar.{classic_grammar}
 use Rattle.text_codec.specs.Held.{held_at}
 use Rattle.request_parts.specs.Stream.{Place, Stands}
 use Rattle.text_requests.specs.Stream.{behind}
@@ -201,4 +202,4 @@ way_on x y request asks asks' i bytes next ask router router' fleet fleet' ended
 
 -- what a request uses is held
 pub used_held : (x : Connection) (held : List ℕ) (request : Request) → x.stream ≡ Stands Nothing held → IsReadFrom held request → request.used ≤ length (held_at x.stream)
-used_held x held request place read = subst (λ (p : Place). request.used ≤ length (held_at p)) (sym place) (used_within held (message_in held request) request.used read.begins)
+used_held x held request place read = subst (λ (p : Place). request.used ≤ length (held_at p)) (sym place) (used_within classic_grammar held (message_in held request) request.used read.begins)

@@ -6,3 +6,4 @@ pub mod ServedLemmas
 pub mod Sound
 pub mod FlagsBack
 pub mod ValuesBack
+pub mod Back

@@ -1,4 +1,5 @@
 //! The laws of meta requests and of their streams.
+ghost use Rattle.meta_requests.specs.ReadBack.{AsksAreReadBack, MessagesAreOneAsk};
 ghost use Rattle.meta_requests.specs.Laws.{BeginsStill, OneMessage, ReadStill, TooLongBeginsNothing, GoesOn, OneSplitting, AsksAreWellFormed};
 
 /// What the bytes begin with stays, whatever follows.
@@ -35,4 +36,14 @@ pub fn one_splitting()
 /// in its range.
 pub fn asks_are_well_formed()
     ensures { AsksAreWellFormed }
+{}
+
+/// Bytes that begin with the spelling of an ask begin with its message, whatever follows.
+pub fn asks_are_read_back()
+    ensures { AsksAreReadBack }
+{}
+
+/// The message of an ask is this ask alone, and wants an answer.
+pub fn messages_are_one_ask()
+    ensures { MessagesAreOneAsk }
 {}

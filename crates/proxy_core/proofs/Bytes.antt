@@ -8,8 +8,8 @@ use Rattle.mc_runs.specs.Overlap as log
 use Rattle.mc_runs.specs.Overlap.{Front, Slot, Owner, Entry, fed_front, start_front}
 use Rattle.mc_runs.specs.OverlapStanding.{Either, Walks}
 use Rattle.mc_runs.proofs.OverlapSteps.{walks_lead}
-use Rattle.text_requests.specs.Stream.{Place, Stands, extended}
-use Rattle.text_requests.specs.declared.command.Skip.TheVariants.{Nothing}
+use Rattle.request_parts.specs.Stream.{Place, Stands, extended}
+use Rattle.request_parts.specs.declared.skip.Skip.TheVariants.{Nothing}
 use Rattle.text_codec.specs.Classic.{classic, Said, ReadsNext, asks_in}
 use Rattle.text_codec.proofs.ReaderLaws.{reader_is}
 use Rattle.mc_types.specs.declared.answer.Answer.{Answer}

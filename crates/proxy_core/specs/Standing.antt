@@ -17,7 +17,7 @@ use Rattle.route_tree.specs.At.{tree_at}
 use Rattle.route_tree.specs.Copies.{may_copy, copy_bars}
 use Rattle.route_tree.specs.Direct.{words_of}
 use Rattle.route_tree.specs.Word.{Given}
-use Rattle.text_requests.specs.Stream.{Place, Closed}
+use Rattle.request_parts.specs.Stream.{Place, Closed}
 use Rattle.text_requests.specs.Asks.{quiet_of}
 use Rattle.text_codec.specs.Held.{held_at}
 use Rattle.text_codec.specs.Classic.{classic, Said, Whole, LongLine, ReadsNext, asks_in}
