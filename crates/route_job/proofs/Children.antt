@@ -2,14 +2,16 @@
 use Rattle.std.proofs.Common.{◌≡◌, ℕ, suc, zero, ◌+◌, ◌≤◌, ◌<◌, Bool, true, false, List, nat_lt, MatchBool, cond, refl, sym, ap, subst, arith}
 use Rattle.std.proofs.lemmas.Bool.{le-ltb, lt-ltb, MatchBool-at_true, MatchBool-at_false}
 use Rattle.mc_types.specs.declared.ask.Ask.{Ask}
+use Rattle.mc_types.specs.declared.ask.Op.{Op}
+use Rattle.mc_types.specs.declared.ask.Op.TheVariants.{Get, Gat, Set, Add, Replace, Append, Prepend, Cas, Delete, Incr, Decr, Touch}
 use Rattle.mc_types.specs.declared.answer.Answer.{Answer}
 use Rattle.mc_types.specs.declared.call.Origin.{Origin}
 use Rattle.mc_runs.specs.Run.{Call}
 use Rattle.route_tree.specs.Operation.{same_op}
 use Rattle.route_tree.specs.Plan.{Plan, Plans, PlanPolicies, Otherwise, Policy, End, More, AllSync, count, count_of_all, count_of_policies}
-use Rattle.route_tree.specs.Branching.{chosen_plan}
-use Rattle.route_tree.specs.Word.{Given, rank, Gives, Then, Word, WordOfFirst, WordOfPolicy, AfterWarm}
-use Rattle.route_job.specs.Parts.{SameAt, worse, WorstWith, AfterFirst}
+use Rattle.route_tree.specs.Levels.{chosen_plan}
+use Rattle.route_tree.specs.Word.{Given, rank, Gives, Then, Word, WordOfFirst, WordOfPolicy, AfterWarm, IfGet}
+use Rattle.route_job.specs.Parts.{SameAt, worse, WorstWith, AfterFirst, is_get}
 use Rattle.route_job.proofs.Same.{same_refl, same_trans, all_begin, worst_more, worst_one, first_begin, choice_true, choice_false}
 
 pub enter_all_is : (ps : Plans) (p : Plan) (qs : Plans) → ps ≡ More p qs → (ask : Ask) (origin : Origin) (b : ℕ) → SameAt b (Word (AllSync ps) ask origin) (Then (Word p ask origin) (WorstWith qs ask origin))
@@ -67,3 +69,33 @@ chosen_count (Policy o p ps) ask = count_by (same_op o ask.op) p (chosen_plan as
 pub no_hit : (ask : Ask) (cold warm : ℕ → List Call → Given → Type 0) (add : Answer → ℕ → ℕ → List Call → Given → Type 0) (first g : Given) (r : ℕ) → (r ≡ 0 → ⊥) → (b : ℕ) → SameAt b (AfterWarm ask cold warm add first g r) (Gives first)
 no_hit ask cold warm add first g zero isnt b = absurd (isnt refl)
 no_hit ask cold warm add first g (suc r) isnt b = same_refl b (Gives first)
+
+-- what holds of a get
+pub of_get : (op : Op) (X Y : ℕ → List Call → Given → Type 0) (b : ℕ) → is_get op ≡ true → SameAt b (λ n calls given. IfGet op (X n calls given) (Y n calls given)) X
+of_get Get X Y b e = same_refl b X
+of_get Gat X Y b e = let h : ⊥ = cc in absurd h
+of_get Set X Y b e = let h : ⊥ = cc in absurd h
+of_get Add X Y b e = let h : ⊥ = cc in absurd h
+of_get Replace X Y b e = let h : ⊥ = cc in absurd h
+of_get Append X Y b e = let h : ⊥ = cc in absurd h
+of_get Prepend X Y b e = let h : ⊥ = cc in absurd h
+of_get Cas X Y b e = let h : ⊥ = cc in absurd h
+of_get Delete X Y b e = let h : ⊥ = cc in absurd h
+of_get Incr X Y b e = let h : ⊥ = cc in absurd h
+of_get Decr X Y b e = let h : ⊥ = cc in absurd h
+of_get Touch X Y b e = let h : ⊥ = cc in absurd h
+
+-- what holds of the other operations
+pub of_other : (op : Op) (X Y : ℕ → List Call → Given → Type 0) (b : ℕ) → is_get op ≡ false → SameAt b (λ n calls given. IfGet op (X n calls given) (Y n calls given)) Y
+of_other Get X Y b e = let h : ⊥ = cc in absurd h
+of_other Gat X Y b e = same_refl b Y
+of_other Set X Y b e = same_refl b Y
+of_other Add X Y b e = same_refl b Y
+of_other Replace X Y b e = same_refl b Y
+of_other Append X Y b e = same_refl b Y
+of_other Prepend X Y b e = same_refl b Y
+of_other Cas X Y b e = same_refl b Y
+of_other Delete X Y b e = same_refl b Y
+of_other Incr X Y b e = same_refl b Y
+of_other Decr X Y b e = same_refl b Y
+of_other Touch X Y b e = same_refl b Y

@@ -7,15 +7,23 @@ use Rattle.mc_types.specs.declared.call.Outcome.{Outcome}
 use Rattle.mc_types.specs.declared.call.Outcome.TheVariants.{Failed}
 use Rattle.mc_runs.specs.Run.{Call}
 use Rattle.mc_runs.specs.Single.{FitsOutcome}
+use Rattle.key_hash.specs.Tag.{key_hash}
+use Rattle.route_tree.proofs.Left.{plan_left}
+use Rattle.route_tree.specs.At.{tree_at}
+use Rattle.route_tree.specs.Route.{Route, IsTree}
 use Rattle.route_tree.specs.Each.{Each}
 use Rattle.route_tree.specs.Plan.{Plan, IsPlan, IsGood}
 use Rattle.route_tree.specs.Word.{Given, Word}
 use Rattle.route_tree.proofs.Going.{each_ask_has_a_word, each_outcome_goes_on}
 use Rattle.route_tree.proofs.Words.{calls_are_within}
-use Rattle.route_job.specs.Jobs.{IsJob, Comes, call_of, server_in}
+use Rattle.route_job.specs.Jobs.{Comes, call_of, server_in}
 use Rattle.route_job.specs.Rest.{ask_under, origin_under}
 use Rattle.route_job.specs.Executing.{MakesAll, BreaksOff, Stands}
 use Rattle.route_job.specs.declared.job.Job.{Job}
+
+-- the plain tree of a key keeps the limits
+pub good_at : (tree : Route) (key : List ℕ) → IsTree tree → IsPlan (tree_at tree key)
+good_at tree key is = plan_left (key_hash key) key tree is
 
 -- what may still come begins with the call of the job
 abbrev pub Begins : Job → Type 0
@@ -35,8 +43,8 @@ module _ {F : Type 0} (law : F → Call → F → Type 0) where
   made_more old (c ∷ before) mid call new m l = (m.0, m.1, made_more m.0 before mid call new m.2 l)
 
 module _ {F : Type 0} (law : F → Call → F → Type 0) (serves : F → ℕ → Ask → Type 0) (plain : Plan) (ask : Ask) (good : IsGood plain) (old : F) where
-  pub begun : (job : Job) → IsJob job → ((calls : List Call) (given : Given) → Comes job calls given ↔ Word plain ask Client 0 calls given) → Stands law serves plain ask old [] job old
-  begun job is words = record { made = refl; is_job = is; rest = words; some = each_ask_has_a_word plain ask Client 0 good; stays = λ s a h. h }
+  pub begun : (job : Job) → ((calls : List Call) (given : Given) → Comes job calls given ↔ Word plain ask Client 0 calls given) → Stands law serves plain ask old [] job old
+  begun job words = record { made = refl; rest = words; some = each_ask_has_a_word plain ask Client 0 good; stays = λ s a h. h }
 
   module _ (before : List Call) (job : Job) (now : F) (stands : Stands law serves plain ask old before job now) where
     -- the call that is next in some word
@@ -70,12 +78,11 @@ module _ {F : Type 0} (law : F → Call → F → Type 0) (serves : F → ℕ �
         let r = goes_on begins Failed tt in
         (before ++ call_of job Failed ∷ [], r.0, r.1, r.2, inr (before, call_of job Failed, refl, refl, now, stands.made, l))
 
-    pub taken : (begins : Begins job) (outcome : Outcome) (new : F) (job' : Job) → FitsOutcome (ask_under job.frames.items job.ask) outcome → law now (call_of job outcome) new → ((s : ℕ) (a : Ask) → serves now s a → serves new s a) → IsJob job' → ((calls : List Call) (given : Given) → Comes job' calls given ↔ Comes job (call_of job outcome ∷ calls) given) → Stands law serves plain ask old (before ++ call_of job outcome ∷ []) job' new
-    taken begins outcome new job' fits l stays is rest =
+    pub taken : (begins : Begins job) (outcome : Outcome) (new : F) (job' : Job) → FitsOutcome (ask_under job.frames.items job.ask) outcome → law now (call_of job outcome) new → ((s : ℕ) (a : Ask) → serves now s a → serves new s a) → ((calls : List Call) (given : Given) → Comes job' calls given ↔ Comes job (call_of job outcome ∷ calls) given) → Stands law serves plain ask old (before ++ call_of job outcome ∷ []) job' new
+    taken begins outcome new job' fits l stays rest =
         let path : (calls : List Call) → before ++ call_of job outcome ∷ calls ≡ (before ++ call_of job outcome ∷ []) ++ calls = λ calls. sym (append_assoc before (call_of job outcome ∷ []) calls) in
         record {
           made = made_more law old before now (call_of job outcome) new stands.made l;
-          is_job = is;
           rest = λ calls given. (
             (λ w. subst (λ x. Word plain ask Client 0 x given) (path calls) ((stands.rest (call_of job outcome ∷ calls) given).0 ((rest calls given).0 w))),
             (λ w. (rest calls given).1 ((stands.rest (call_of job outcome ∷ calls) given).1 (subst (λ x. Word plain ask Client 0 x given) (sym (path calls)) w))),

@@ -10,48 +10,9 @@ use Rattle.route_job.specs.Rest.{Under, AfterFrame, ask_in, origin_in, ask_under
 use Rattle.route_job.specs.declared.frame.Frame.{Frame}
 use Rattle.route_job.proofs.Same.{same_refl, same_then}
 
-pub under_same : (fs : List Frame) (ask : Ask) (origin : Origin) (b : ℕ) (X Y : ℕ → List Call → Given → Type 0) → SameAt b X Y → SameAt b (Under fs ask origin X) (Under fs ask origin Y)
-under_same [] ask origin b X Y h = h
-under_same (f ∷ fs) ask origin b X Y h =
-    same_then b (Under fs (ask_in f ask) (origin_in f origin) X) (Under fs (ask_in f ask) (origin_in f origin) Y) (AfterFrame f ask origin) (under_same fs (ask_in f ask) (origin_in f origin) b X Y h)
+-- ---- after a call
 
--- a frame that is put down inmost
-pub under_put : (fs : List Frame) (f : Frame) (ask : Ask) (origin : Origin) (b : ℕ) (X : ℕ → List Call → Given → Type 0) → SameAt b (Under (fs ++ f ∷ []) ask origin X) (Under fs ask origin (Then X (AfterFrame f (ask_under fs ask) (origin_under fs origin))))
-under_put [] f ask origin b X = same_refl b (Then X (AfterFrame f ask origin))
-under_put (g ∷ fs) f ask origin b X =
-    same_then b (Under (fs ++ f ∷ []) (ask_in g ask) (origin_in g origin) X) (Under fs (ask_in g ask) (origin_in g origin) (Then X (AfterFrame f (ask_under fs (ask_in g ask)) (origin_under fs (origin_in g origin))))) (AfterFrame g ask origin) (under_put fs f (ask_in g ask) (origin_in g origin) b X)
-
-pub ask_put : (fs : List Frame) (f : Frame) (ask : Ask) → ask_under (fs ++ f ∷ []) ask ≡ ask_in f (ask_under fs ask)
-ask_put [] f ask = refl
-ask_put (g ∷ fs) f ask = ask_put fs f (ask_in g ask)
-
-pub origin_put : (fs : List Frame) (f : Frame) (origin : Origin) → origin_under (fs ++ f ∷ []) origin ≡ origin_in f (origin_under fs origin)
-origin_put [] f origin = refl
-origin_put (g ∷ fs) f origin = origin_put fs f (origin_in g origin)
-
--- ---- what each frame needs
-
-pub sure_same : (fs : List Frame) (ask : Ask) (origin : Origin) (b : ℕ) (X Y : ℕ → List Call → Given → Type 0) → SameAt b X Y → Sure fs ask origin b X → Sure fs ask origin b Y
-sure_same [] ask origin b X Y h s = tt
-sure_same (f ∷ fs) ask origin b X Y h s = (
-  (λ calls given w. s.0 calls given ((under_same fs (ask_in f ask) (origin_in f origin) b X Y h calls given).1 w)),
-  sure_same fs (ask_in f ask) (origin_in f origin) b X Y h s.1,
-)
-
-pub sure_off : (fs : List Frame) (f : Frame) (ask : Ask) (origin : Origin) (b : ℕ) (X : ℕ → List Call → Given → Type 0) → Sure (fs ++ f ∷ []) ask origin b X → Sure fs ask origin b (Then X (AfterFrame f (ask_under fs ask) (origin_under fs origin))) × SureOf f b X
-sure_off [] f ask origin b X s = (tt, s.0)
-sure_off (g ∷ fs) f ask origin b X s =
-    let r = sure_off fs f (ask_in g ask) (origin_in g origin) b X s.1 in
-    (((λ calls given w. s.0 calls given ((under_put fs f (ask_in g ask) (origin_in g origin) b X calls given).1 w)), r.0), r.1)
-
-pub sure_put : (fs : List Frame) (f : Frame) (ask : Ask) (origin : Origin) (b : ℕ) (X : ℕ → List Call → Given → Type 0) → Sure fs ask origin b (Then X (AfterFrame f (ask_under fs ask) (origin_under fs origin))) → SureOf f b X → Sure (fs ++ f ∷ []) ask origin b X
-sure_put [] f ask origin b X s k = (k, tt)
-sure_put (g ∷ fs) f ask origin b X s k =
-    ((λ calls given w. s.0 calls given ((under_put fs f (ask_in g ask) (origin_in g origin) b X calls given).0 w)), sure_put fs f (ask_in g ask) (origin_in g origin) b X s.1 k)
-
--- ---- behind a call
-
--- X begins with a call, and behind this one it goes on by Y
+-- X begins with a call, and after this one it goes on by Y
 pub record Later (b : ℕ) (call : Call) (X Y : ℕ → List Call → Given → Type 0) : Type 0 where
   pub none : (given : Given) → X b [] given → ⊥
   pub same : (calls : List Call) (given : Given) → X b (call ∷ calls) given ↔ Y (b + 1) calls given
@@ -83,18 +44,6 @@ then_later b call X Y S l = record { none = empty; same = λ calls given. (there
     back calls given w =
         (call ∷ w.0, w.1, ap (λ l. call ∷ l) w.2, w.3, (l.same w.0 w.3).1 w.4, subst (λ n. S w.3 n w.1 given) (sym (count w.0 call)) w.5)
 
-pub under_later : (fs : List Frame) (ask : Ask) (origin : Origin) (b : ℕ) (call : Call) (X Y : ℕ → List Call → Given → Type 0) → Later b call X Y → Later b call (Under fs ask origin X) (Under fs ask origin Y)
-under_later [] ask origin b call X Y l = l
-under_later (f ∷ fs) ask origin b call X Y l =
-    then_later b call (Under fs (ask_in f ask) (origin_in f origin) X) (Under fs (ask_in f ask) (origin_in f origin) Y) (AfterFrame f ask origin) (under_later fs (ask_in f ask) (origin_in f origin) b call X Y l)
-
-pub sure_later : (fs : List Frame) (ask : Ask) (origin : Origin) (b : ℕ) (call : Call) (X Y : ℕ → List Call → Given → Type 0) → Later b call X Y → Sure fs ask origin b X → Sure fs ask origin (b + 1) Y
-sure_later [] ask origin b call X Y l s = tt
-sure_later (f ∷ fs) ask origin b call X Y l s = (
-  (λ calls given w. s.0 (call ∷ calls) given (((under_later fs (ask_in f ask) (origin_in f origin) b call X Y l).same calls given).1 w)),
-  sure_later fs (ask_in f ask) (origin_in f origin) b call X Y l s.1,
-)
-
 -- ---- the next call
 
 -- every word from here begins with a call of this ask
@@ -108,7 +57,60 @@ then_begins b X S server ask origin h calls given w =
     let k = h w.0 w.3 w.4 in
     (k.0, k.1 ++ w.1, w.2 ∙ ap (λ l. l ++ w.1) k.2)
 
-pub under_begins : (fs : List Frame) (under : Ask) (source : Origin) (b : ℕ) (X : ℕ → List Call → Given → Type 0) (server : ℕ) (ask : Ask) (origin : Origin) → BeginsWith b X server ask origin → BeginsWith b (Under fs under source X) server ask origin
-under_begins [] under source b X server ask origin h = h
-under_begins (f ∷ fs) under source b X server ask origin h =
-    then_begins b (Under fs (ask_in f under) (origin_in f source) X) (AfterFrame f under source) server ask origin (under_begins fs (ask_in f under) (origin_in f source) b X server ask origin h)
+pub ask_put : (fs : List Frame) (f : Frame) (ask : Ask) → ask_under (fs ++ f ∷ []) ask ≡ ask_in f (ask_under fs ask)
+ask_put [] f ask = refl
+ask_put (g ∷ fs) f ask = ask_put fs f (ask_in g ask)
+
+pub origin_put : (fs : List Frame) (f : Frame) (origin : Origin) → origin_under (fs ++ f ∷ []) origin ≡ origin_in f (origin_under fs origin)
+origin_put [] f origin = refl
+origin_put (g ∷ fs) f origin = origin_put fs f (origin_in g origin)
+
+-- Trees are seen by the keys of this hash and text.
+module _ (hash : ℕ) (text : List ℕ) where
+  pub under_same : (fs : List Frame) (ask : Ask) (origin : Origin) (b : ℕ) (X Y : ℕ → List Call → Given → Type 0) → SameAt b X Y → SameAt b (Under hash text fs ask origin X) (Under hash text fs ask origin Y)
+  under_same [] ask origin b X Y h = h
+  under_same (f ∷ fs) ask origin b X Y h =
+      same_then b (Under hash text fs (ask_in f ask) (origin_in f origin) X) (Under hash text fs (ask_in f ask) (origin_in f origin) Y) (AfterFrame hash text f ask origin) (under_same fs (ask_in f ask) (origin_in f origin) b X Y h)
+
+  -- a frame that is put down inmost
+  pub under_put : (fs : List Frame) (f : Frame) (ask : Ask) (origin : Origin) (b : ℕ) (X : ℕ → List Call → Given → Type 0) → SameAt b (Under hash text (fs ++ f ∷ []) ask origin X) (Under hash text fs ask origin (Then X (AfterFrame hash text f (ask_under fs ask) (origin_under fs origin))))
+  under_put [] f ask origin b X = same_refl b (Then X (AfterFrame hash text f ask origin))
+  under_put (g ∷ fs) f ask origin b X =
+      same_then b (Under hash text (fs ++ f ∷ []) (ask_in g ask) (origin_in g origin) X) (Under hash text fs (ask_in g ask) (origin_in g origin) (Then X (AfterFrame hash text f (ask_under fs (ask_in g ask)) (origin_under fs (origin_in g origin))))) (AfterFrame hash text g ask origin) (under_put fs f (ask_in g ask) (origin_in g origin) b X)
+
+  -- ---- what each frame needs
+
+  pub sure_same : (fs : List Frame) (ask : Ask) (origin : Origin) (b : ℕ) (X Y : ℕ → List Call → Given → Type 0) → SameAt b X Y → Sure hash text fs ask origin b X → Sure hash text fs ask origin b Y
+  sure_same [] ask origin b X Y h s = tt
+  sure_same (f ∷ fs) ask origin b X Y h s = (
+    (λ calls given w. s.0 calls given ((under_same fs (ask_in f ask) (origin_in f origin) b X Y h calls given).1 w)),
+    sure_same fs (ask_in f ask) (origin_in f origin) b X Y h s.1,
+  )
+
+  pub sure_off : (fs : List Frame) (f : Frame) (ask : Ask) (origin : Origin) (b : ℕ) (X : ℕ → List Call → Given → Type 0) → Sure hash text (fs ++ f ∷ []) ask origin b X → Sure hash text fs ask origin b (Then X (AfterFrame hash text f (ask_under fs ask) (origin_under fs origin))) × SureOf f b X
+  sure_off [] f ask origin b X s = (tt, s.0)
+  sure_off (g ∷ fs) f ask origin b X s =
+      let r = sure_off fs f (ask_in g ask) (origin_in g origin) b X s.1 in
+      (((λ calls given w. s.0 calls given ((under_put fs f (ask_in g ask) (origin_in g origin) b X calls given).1 w)), r.0), r.1)
+
+  pub sure_put : (fs : List Frame) (f : Frame) (ask : Ask) (origin : Origin) (b : ℕ) (X : ℕ → List Call → Given → Type 0) → Sure hash text fs ask origin b (Then X (AfterFrame hash text f (ask_under fs ask) (origin_under fs origin))) → SureOf f b X → Sure hash text (fs ++ f ∷ []) ask origin b X
+  sure_put [] f ask origin b X s k = (k, tt)
+  sure_put (g ∷ fs) f ask origin b X s k =
+      ((λ calls given w. s.0 calls given ((under_put fs f (ask_in g ask) (origin_in g origin) b X calls given).0 w)), sure_put fs f (ask_in g ask) (origin_in g origin) b X s.1 k)
+
+  pub under_later : (fs : List Frame) (ask : Ask) (origin : Origin) (b : ℕ) (call : Call) (X Y : ℕ → List Call → Given → Type 0) → Later b call X Y → Later b call (Under hash text fs ask origin X) (Under hash text fs ask origin Y)
+  under_later [] ask origin b call X Y l = l
+  under_later (f ∷ fs) ask origin b call X Y l =
+      then_later b call (Under hash text fs (ask_in f ask) (origin_in f origin) X) (Under hash text fs (ask_in f ask) (origin_in f origin) Y) (AfterFrame hash text f ask origin) (under_later fs (ask_in f ask) (origin_in f origin) b call X Y l)
+
+  pub sure_later : (fs : List Frame) (ask : Ask) (origin : Origin) (b : ℕ) (call : Call) (X Y : ℕ → List Call → Given → Type 0) → Later b call X Y → Sure hash text fs ask origin b X → Sure hash text fs ask origin (b + 1) Y
+  sure_later [] ask origin b call X Y l s = tt
+  sure_later (f ∷ fs) ask origin b call X Y l s = (
+    (λ calls given w. s.0 (call ∷ calls) given (((under_later fs (ask_in f ask) (origin_in f origin) b call X Y l).same calls given).1 w)),
+    sure_later fs (ask_in f ask) (origin_in f origin) b call X Y l s.1,
+  )
+
+  pub under_begins : (fs : List Frame) (under : Ask) (source : Origin) (b : ℕ) (X : ℕ → List Call → Given → Type 0) (server : ℕ) (ask : Ask) (origin : Origin) → BeginsWith b X server ask origin → BeginsWith b (Under hash text fs under source X) server ask origin
+  under_begins [] under source b X server ask origin h = h
+  under_begins (f ∷ fs) under source b X server ask origin h =
+      then_begins b (Under hash text fs (ask_in f under) (origin_in f source) X) (AfterFrame hash text f under source) server ask origin (under_begins fs (ask_in f under) (origin_in f source) b X server ask origin h)

@@ -6,7 +6,7 @@ use Rattle.mc_types.specs.declared.call.Outcome.TheVariants.{Failed}
 use Rattle.mc_runs.specs.Run.{Call}
 use Rattle.route_tree.specs.Plan.{Plan}
 use Rattle.route_tree.specs.Word.{Given, Word}
-use Rattle.route_job.specs.Jobs.{IsJob, Comes}
+use Rattle.route_job.specs.Jobs.{Comes}
 use Rattle.route_job.specs.declared.job.Job.{Job}
 
 -- calls, one after the other
@@ -23,7 +23,6 @@ BreaksOff {F} law breaks old calls new =
 -- how far a command has come: these calls were made, and what may still come of the job goes on from them to a word
 pub record Stands {F : Type 0} (law : F → Call → F → Type 0) (serves : F → ℕ → Ask → Type 0) (plain : Plan) (ask : Ask) (old : F) (before : List Call) (job : Job) (now : F) : Type 0 where
   pub made : MakesAll law old before now
-  pub is_job : IsJob job
   pub rest : (calls : List Call) (given : Given) → Comes job calls given ↔ Word plain ask Client 0 (before ++ calls) given
   pub some : (calls : List Call) × (given : Given) × Word plain ask Client 0 (before ++ calls) given
   pub stays : (s : ℕ) (a : Ask) → serves old s a → serves now s a

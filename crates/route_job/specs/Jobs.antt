@@ -5,8 +5,9 @@ use Rattle.mc_types.specs.declared.call.Outcome.{Outcome}
 use Rattle.mc_runs.specs.Run.{Call}
 use Rattle.route_tree.specs.Word.{Given}
 use Rattle.route_job.specs.Given.{given_of}
+use Rattle.route_job.specs.Parts.{broken_reply}
 use Rattle.route_job.specs.Rest.{Comings, ask_under, origin_under}
-use Rattle.route_job.specs.Settling.{AreSure, IsAtRest, frames_work, pending_work}
+use Rattle.route_job.specs.Settling.{frames_work, pending_work}
 use Rattle.route_job.specs.declared.frame.Pending.{Pending}
 use Rattle.route_job.specs.declared.frame.Pending.TheVariants.{Enter, Call as Calling, Back}
 use Rattle.route_job.specs.declared.job.Job.{Job}
@@ -15,22 +16,20 @@ use Rattle.route_job.specs.declared.job.Step.TheVariants as steps
 
 -- these calls and then this reply may still come
 abbrev pub Comes : Job → List Call → Given → Type 0
-Comes job calls given = Comings job.frames.items job.ask Client job.pending job.made calls given
+Comes job calls given = Comings job.hash job.ask.key job.frames.items job.ask Client job.pending job.made calls given
 
--- what every job keeps
-pub record IsJob (job : Job) : Type 0 where
-  pub rests : IsAtRest job.frames.items job.pending
-  pub sure : AreSure job.made job.ask job.frames.items job.pending
-  pub few : job.made + frames_work job.frames.items + pending_work job.pending ≤ 12288
+-- nothing more is called, and the reply is the error of a command that was refused memory
+abbrev pub IsBroken : Job → Type 0
+IsBroken job = (calls : List Call) (given : Given) → Comes job calls given ↔ ((calls ≡ []) × (given ≡ broken_reply))
 
--- the server of a pending that is a call
+-- the server that is called
 abbrev pub server_in : Pending → ℕ
-server_in (Enter plain) = 0
+server_in (Enter tree) = 0
 server_in (Calling server) = server
 server_in (Back done) = 0
 
 abbrev pub IsCall : Pending → Type 0
-IsCall (Enter plain) = ⊥
+IsCall (Enter tree) = ⊥
 IsCall (Calling server) = Unit {0}
 IsCall (Back done) = ⊥
 
@@ -39,7 +38,7 @@ abbrev pub IsCalling : Job → Type 0
 IsCalling job = IsCall job.pending
 
 abbrev pub IsReply : Pending → Type 0
-IsReply (Enter plain) = ⊥
+IsReply (Enter tree) = ⊥
 IsReply (Calling server) = ⊥
 IsReply (Back done) = Unit {0}
 
@@ -47,9 +46,9 @@ IsReply (Back done) = Unit {0}
 abbrev pub IsDone : Job → Type 0
 IsDone job = IsReply job.pending
 
--- more than the turns that are left
+-- more than the steps that are left
 abbrev pub work_of : Job → ℕ
-work_of job = frames_work job.frames.items + pending_work job.pending
+work_of job = frames_work job.hash job.ask.key job.frames.items + pending_work job.hash job.ask.key job.pending
 
 -- the next call, with this outcome
 abbrev pub call_of : Job → Outcome → Call

@@ -5,6 +5,9 @@ use Rattle.mc_types.specs.declared.ask.Op.TheVariants.{Get}
 use Rattle.mc_types.specs.declared.ask.Ask.{Ask}
 use Rattle.mc_types.specs.declared.call.Origin.{Origin}
 use Rattle.mc_types.specs.Rank.{IsWorst}
+use Rattle.mc_types.specs.ErrorTexts.{own_text}
+use Rattle.mc_types.specs.declared.answer.Answer.TheVariants.{ServerError}
+use Rattle.mc_types.specs.declared.error_text.OwnText.TheVariants.{OutOfMemory}
 use Rattle.mc_runs.specs.Run.{Call}
 use Rattle.route_tree.specs.Plan.{Plans, End, More}
 use Rattle.route_tree.specs.Word.{Given, rank, Gives, WordOfAll, WordOfFirst}
@@ -39,3 +42,7 @@ NamesHit given = rank given ≡ 0 → IsSome given.from
 abbrev pub is_get : Op → Bool
 is_get Get = true
 is_get _ = false
+
+-- the end of a command that was refused memory
+abbrev pub broken_reply : Given
+broken_reply = record { reply = ServerError (own_text OutOfMemory); from = None }

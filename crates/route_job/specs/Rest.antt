@@ -4,6 +4,7 @@ use Rattle.mc_types.specs.declared.ask.Ask.{Ask}
 use Rattle.mc_types.specs.declared.call.Origin.{Origin}
 use Rattle.mc_types.specs.declared.call.Origin.TheVariants.{CopyOf}
 use Rattle.mc_runs.specs.Run.{Call}
+use Rattle.route_tree.specs.At.{left_of, left_of_all}
 use Rattle.route_tree.specs.Plan.{Server}
 use Rattle.route_tree.specs.Word.{Given, rank, Gives, Then, Word, plain_get, refill, AfterCold, AfterWarm, AfterRefill}
 use Rattle.route_job.specs.Given.{given_of}
@@ -13,17 +14,6 @@ use Rattle.route_job.specs.declared.frame.Frame.TheVariants.{All, First, Cold, W
 use Rattle.route_job.specs.declared.frame.Pending.{Pending}
 use Rattle.route_job.specs.declared.frame.Pending.TheVariants.{Enter, Call as Calling, Back}
 use Rattle.route_job.specs.declared.frame.Advance.{Advance}
-
--- what a frame goes on with when a child gave this
-abbrev pub AfterFrame : Frame → Ask → Origin → Given → ℕ → List Call → Given → Type 0
-AfterFrame (All rest worst) ask origin g = AfterAll (option_map given_of worst) rest ask origin g
-AfterFrame (First rest limit) ask origin g = AfterFirst rest limit ask origin g
-AfterFrame (Cold sides) ask origin g =
-    AfterCold ask (Word sides.cold ask origin) (Word sides.warm (plain_get ask) origin) (λ hit w. Word sides.cold (refill ask hit sides.exptime) (CopyOf w)) g (rank g)
-AfterFrame (Warm sides first get) ask origin g =
-    AfterWarm ask (Word sides.cold ask origin) (Word sides.warm (plain_get ask) origin) (λ hit w. Word sides.cold (refill ask hit sides.exptime) (CopyOf w)) (given_of first) g (rank g)
-AfterFrame (Refill sides from_warm from add) ask origin g =
-    AfterRefill ask (Word sides.cold ask origin) (Word sides.warm (plain_get ask) origin) (λ hit w. Word sides.cold (refill ask hit sides.exptime) (CopyOf w)) (given_of from_warm)
 
 -- what a child of the frame is asked
 abbrev pub ask_in : Frame → Ask → Ask
@@ -41,25 +31,6 @@ origin_in (Cold sides) origin = origin
 origin_in (Warm sides first get) origin = origin
 origin_in (Refill sides from_warm from add) origin = CopyOf from
 
--- what the next pending may bring
-abbrev pub PendingOf : Pending → Ask → Origin → ℕ → List Call → Given → Type 0
-PendingOf (Enter plain) ask origin = Word plain ask origin
-PendingOf (Calling server) ask origin = Word (Server server) ask origin
-PendingOf (Back done) ask origin = Gives (given_of done)
-
--- what a pending may bring, and then what its frame goes on with
-abbrev pub AdvanceBy : Option Frame → Pending → Ask → Origin → ℕ → List Call → Given → Type 0
-AdvanceBy None pending ask origin = PendingOf pending ask origin
-AdvanceBy (Some frame) pending ask origin = Then (PendingOf pending (ask_in frame ask) (origin_in frame origin)) (AfterFrame frame ask origin)
-
-abbrev pub AdvanceOf : Advance → Ask → Origin → ℕ → List Call → Given → Type 0
-AdvanceOf advance ask origin = AdvanceBy advance.frame advance.pending ask origin
-
--- frames, the outmost first, and within them what is under way
-abbrev pub Under : List Frame → Ask → Origin → (ℕ → List Call → Given → Type 0) → ℕ → List Call → Given → Type 0
-Under [] ask origin inner = inner
-Under (frame ∷ frames) ask origin inner = Then (Under frames (ask_in frame ask) (origin_in frame origin) inner) (AfterFrame frame ask origin)
-
 -- what is asked within the frames
 abbrev pub ask_under : List Frame → Ask → Ask
 ask_under [] ask = ask
@@ -69,10 +40,6 @@ ask_under (frame ∷ frames) ask = ask_under frames (ask_in frame ask)
 abbrev pub origin_under : List Frame → Origin → Origin
 origin_under [] origin = origin
 origin_under (frame ∷ frames) origin = origin_under frames (origin_in frame origin)
-
--- what may still come of a command that has these frames and this pending
-abbrev pub Comings : List Frame → Ask → Origin → Pending → ℕ → List Call → Given → Type 0
-Comings frames ask origin pending = Under frames ask origin (PendingOf pending (ask_under frames ask) (origin_under frames origin))
 
 -- only a warm side's frame needs something of the reply that it gets
 abbrev pub NeedsHit : Frame → Given → Type 0
@@ -86,8 +53,44 @@ NeedsHit (Refill sides from_warm from add) g = Unit {0}
 abbrev pub SureOf : Frame → ℕ → (ℕ → List Call → Given → Type 0) → Type 0
 SureOf frame b inner = (calls : List Call) (given : Given) → inner b calls given → NeedsHit frame given
 
--- what comes within each frame gives it what it needs
-abbrev pub Sure : List Frame → Ask → Origin → ℕ → (ℕ → List Call → Given → Type 0) → Type 0
-Sure [] ask origin b inner = Unit {0}
-Sure (frame ∷ frames) ask origin b inner =
-    SureOf frame b (Under frames (ask_in frame ask) (origin_in frame origin) inner) × Sure frames (ask_in frame ask) (origin_in frame origin) b inner
+-- Trees are seen by the keys of this hash and text.
+module _ (hash : ℕ) (text : List ℕ) where
+  -- what a frame goes on with when a child gave this
+  abbrev pub AfterFrame : Frame → Ask → Origin → Given → ℕ → List Call → Given → Type 0
+  AfterFrame (All rest worst) ask origin g = AfterAll (option_map given_of worst) (left_of_all hash text rest) ask origin g
+  AfterFrame (First rest limit) ask origin g = AfterFirst (left_of_all hash text rest) limit ask origin g
+  AfterFrame (Cold sides) ask origin g =
+      AfterCold ask (Word (left_of hash text sides.cold) ask origin) (Word (left_of hash text sides.warm) (plain_get ask) origin) (λ hit w. Word (left_of hash text sides.cold) (refill ask hit sides.exptime) (CopyOf w)) g (rank g)
+  AfterFrame (Warm sides first get) ask origin g =
+      AfterWarm ask (Word (left_of hash text sides.cold) ask origin) (Word (left_of hash text sides.warm) (plain_get ask) origin) (λ hit w. Word (left_of hash text sides.cold) (refill ask hit sides.exptime) (CopyOf w)) (given_of first) g (rank g)
+  AfterFrame (Refill sides from_warm from add) ask origin g =
+      AfterRefill ask (Word (left_of hash text sides.cold) ask origin) (Word (left_of hash text sides.warm) (plain_get ask) origin) (λ hit w. Word (left_of hash text sides.cold) (refill ask hit sides.exptime) (CopyOf w)) (given_of from_warm)
+
+  -- what is to be done next may bring this
+  abbrev pub PendingOf : Pending → Ask → Origin → ℕ → List Call → Given → Type 0
+  PendingOf (Enter tree) ask origin = Word (left_of hash text tree) ask origin
+  PendingOf (Calling server) ask origin = Word (Server server) ask origin
+  PendingOf (Back done) ask origin = Gives (given_of done)
+
+  -- what is to be done next, and then what the frame that is put down goes on with
+  abbrev pub AdvanceBy : Option Frame → Pending → Ask → Origin → ℕ → List Call → Given → Type 0
+  AdvanceBy None pending ask origin = PendingOf pending ask origin
+  AdvanceBy (Some frame) pending ask origin = Then (PendingOf pending (ask_in frame ask) (origin_in frame origin)) (AfterFrame frame ask origin)
+
+  abbrev pub AdvanceOf : Advance → Ask → Origin → ℕ → List Call → Given → Type 0
+  AdvanceOf advance ask origin = AdvanceBy advance.frame advance.pending ask origin
+
+  -- frames, the outmost first, and within them what is under way
+  abbrev pub Under : List Frame → Ask → Origin → (ℕ → List Call → Given → Type 0) → ℕ → List Call → Given → Type 0
+  Under [] ask origin inner = inner
+  Under (frame ∷ frames) ask origin inner = Then (Under frames (ask_in frame ask) (origin_in frame origin) inner) (AfterFrame frame ask origin)
+
+  -- what may still come of a command that has these frames and this to do next
+  abbrev pub Comings : List Frame → Ask → Origin → Pending → ℕ → List Call → Given → Type 0
+  Comings frames ask origin pending = Under frames ask origin (PendingOf pending (ask_under frames ask) (origin_under frames origin))
+
+  -- what comes within each frame gives it what it needs
+  abbrev pub Sure : List Frame → Ask → Origin → ℕ → (ℕ → List Call → Given → Type 0) → Type 0
+  Sure [] ask origin b inner = Unit {0}
+  Sure (frame ∷ frames) ask origin b inner =
+      SureOf frame b (Under frames (ask_in frame ask) (origin_in frame origin) inner) × Sure frames (ask_in frame ask) (origin_in frame origin) b inner

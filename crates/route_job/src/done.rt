@@ -2,7 +2,7 @@
 ghost use Rattle.std.specs.Prelude.{◌≡◌, None, IfOk};
 ghost use Rattle.route_tree.specs.Word.{given_by, answer_of_nothing, code_of_nothing, word_of_nothing, failing_reply, rank};
 ghost use Rattle.route_job.specs.Given.{given_of};
-ghost use Rattle.route_job.specs.Parts.{worse};
+ghost use Rattle.route_job.specs.Parts.{worse, broken_reply};
 
 use mc_types::{Answer, Code, Dialect, ErrorText, Fields, Op, Outcome, OwnText};
 
@@ -67,6 +67,16 @@ pub fn failing_done() -> Done
     Done {
         from: None,
         reply: Answer::ServerError(ErrorText::own(OwnText::ErrorRoute)),
+    }
+}
+
+/// The end of a command that was refused memory.
+pub fn broken_done() -> Done
+    ensures { given_of result ≡ broken_reply }
+{
+    Done {
+        from: None,
+        reply: Answer::ServerError(ErrorText::own(OwnText::OutOfMemory)),
     }
 }
 

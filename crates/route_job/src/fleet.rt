@@ -15,7 +15,7 @@ ghost use Rattle.route_job.specs.Executing.{MakesAll, BreaksOff};
 use crate::done::Done;
 use crate::job::{Job, Step};
 use mc_types::{Ask, Origin, Outcome, ServerId};
-use route_tree::{Branch, Tree};
+use route_tree::Tree;
 use std::alloc::{AllocError, Global};
 
 /// Servers that can be called, whatever they are: in memory, or over a network.
@@ -69,24 +69,8 @@ pub fn execute<F: Fleet>(
     ensures ok { IfOk result (λ done. (calls : List Call) × Word (tree_at tree.now ask.key) ask Client 0 calls (given_of done) × MakesAll (F.law number) fleet.old calls fleet.new × (length calls ≤ 4096)) }
     ensures err { OnErr result ((calls rest : List Call) × (given : Given) × Word (tree_at tree.now ask.key) ask Client 0 (calls ++ rest) given × BreaksOff (F.law number) (F.breaks number) fleet.old calls fleet.new) }
 {
-    let key = ask.key;
-    execute_at(alloc, Branch::of_key(tree, &key), number, ask, fleet)
-}
-
-// The command of a plain tree.
-fn execute_at<F: Fleet>(
-    alloc: Global,
-    plain: Branch,
-    number: u64,
-    ask: Ask,
-    fleet: &mut F,
-) -> Result<Done, F::Fault>
-    requires { (calls : List Call) (given : Given) → Word plain ask Client 0 calls given → Each (λ call. F.serves fleet.old call.server call.ask) calls }
-    ensures ok { IfOk result (λ done. (calls : List Call) × Word plain.entry ask Client 0 calls (given_of done) × MakesAll (F.law number) fleet.old calls fleet.new × (length calls ≤ 4096)) }
-    ensures err { OnErr result ((calls rest : List Call) × (given : Given) × Word plain.entry ask Client 0 (calls ++ rest) given × BreaksOff (F.law number) (F.breaks number) fleet.old calls fleet.new) }
-{
-    let _form = plain.form();
-    let mut job = Job::new(alloc, plain, ask)?;
+    let _form = tree.form();
+    let mut job = Job::new(alloc, tree, ask)?;
     while let Step::Call {
         server,
         ask,

@@ -1,42 +1,43 @@
 //! What a command that is under way has still to do.
+
 use crate::done::Done;
 use mc_types::{Ask, ServerId};
-use route_tree::{Branch, Branches};
+use route_tree::{Children, Tree};
 
-/// The two sides of a warm-up.
+/// The two sides of a warm-up. They are shared with the tree.
 #[derive(Drop)]
-pub struct Sides<'a> {
-    pub cold: Branch<'a>,
-    pub warm: Branch<'a>,
+pub struct Sides {
+    pub cold: Tree,
+    pub warm: Tree,
     pub exptime: u32,
 }
 
 /// A route whose child is asked: what it goes on with when the child has given its reply.
 #[derive(Drop)]
-pub enum Frame<'a> {
+pub enum Frame {
     /// AllSync: the children that are still to be asked, and the worst reply so far.
     All {
-        rest: Branches<'a>,
+        rest: Children,
         worst: Option<Done>,
     },
     /// Failover and MissFailover: the children that are still to be asked, if the reply has this rank or a greater one.
     First {
-        rest: Branches<'a>,
+        rest: Children,
         limit: u8,
     },
     /// WarmUp: the cold side is asked.
     Cold {
-        sides: Sides<'a>,
+        sides: Sides,
     },
     /// WarmUp: the warm side is asked this get; the cold one gave the first reply.
     Warm {
-        sides: Sides<'a>,
+        sides: Sides,
         first: Done,
         get: Box<Ask>,
     },
     /// WarmUp: the cold side is asked this add, of what call `from` of the warm side was answered.
     Refill {
-        sides: Sides<'a>,
+        sides: Sides,
         from_warm: Done,
         from: u64,
         add: Box<Ask>,
@@ -45,9 +46,9 @@ pub enum Frame<'a> {
 
 /// What a command has to do next.
 #[derive(Drop)]
-pub enum Pending<'a> {
-    /// Ask this plain tree.
-    Enter(Branch<'a>),
+pub enum Pending {
+    /// Ask this tree.
+    Enter(Tree),
     /// Call this server.
     Call(ServerId),
     /// Give this to the inmost frame; without a frame it is the end of the command.
@@ -56,7 +57,7 @@ pub enum Pending<'a> {
 
 /// One step on: the frame that is put down, if any, and what is to be done next.
 #[derive(Drop)]
-pub struct Advance<'a> {
-    pub frame: Option<Frame<'a>>,
-    pub pending: Pending<'a>,
+pub struct Advance {
+    pub frame: Option<Frame>,
+    pub pending: Pending,
 }

@@ -1,11 +1,13 @@
 //! One client command on a tree of routes: which server is called next, and what the client gets at the end.
 #![tactic(auto)]
 
+pub mod asks;
 pub mod done;
+pub mod entering;
 pub mod fleet;
 pub mod frame;
 pub mod job;
-pub mod steps;
+pub mod returning;
 pub mod walk;
 
 pub use done::Done;

@@ -1,9 +1,0 @@
-use Rattle.std.proofs.Common.{◌≡◌, ◌∙◌, subst}
-use Rattle.route_tree.specs.Word.{Word, plain_get}
-use Rattle.route_tree.proofs.Gets.{get_names_hit}
-use Rattle.route_job.proofs.steps.back_cold.Goals as goal
-
-pub returns-clause-sure : goal.returns-clause-sure
-returns-clause-sure c = λ origin b calls given w.
-    let e : c.in_ok-get.get.value ≡ plain_get c.args.ask.now = c.in_ok-get.ensures.ok ∙ c.plain_get_of.ensures in
-    get_names_hit c.again.result c.args.ask.now origin b calls given (subst (λ a. Word c.again.result a origin b calls given) e w)
