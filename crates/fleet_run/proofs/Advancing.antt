@@ -1,11 +1,13 @@
 -- What is done for one client is more of every log.
-use Rattle.std.proofs.Common.{◌≡◌, ℕ, ◌+◌, ◌<◌, ◌≤◌, Bool, true, false, cond, List, [], ◌∷◌, ◌++◌, length, drop, Option, Some, refl, sym, ap, ◌∙◌, subst, arith, nat_eq, slice_get, ◌||◌, inl, inr}
+use Rattle.std.proofs.Common.{◌≡◌, ℕ, ◌+◌, ◌<◌, ◌≤◌, Bool, true, false, cond, List, [], ◌∷◌, ◌++◌, length, drop, Option, Some, None, nat_le, refl, sym, ap, ◌∙◌, subst, arith, nat_eq, slice_get, ◌||◌, inl, inr}
 use Rattle.std.proofs.lemmas.Bool.{eq-eqb, cases_eq}
 use Rattle.mc_types.specs.declared.ask.Ask.{Ask}
 use Rattle.mc_types.specs.declared.answer.Answer.{Answer}
 use Rattle.mc_types.specs.Asks.{IsAsk}
-use Rattle.mc_runs.specs.Run.{Call}
-use Rattle.mc_runs.specs.Single.{server_call, from_of}
+use Rattle.mc_types.specs.declared.call.Origin.TheVariants.{Client}
+use Rattle.mc_types.specs.Items.{Item}
+use Rattle.mc_runs.specs.Fleet.{AreOn}
+use Rattle.mc_runs.specs.Stale.{stale_since}
 use Rattle.mc_runs.specs.Log.{Part, Point, after_reply}
 use Rattle.mc_runs.specs.Standing.{Standing, Works, Moves}
 use Rattle.mc_runs.proofs.LogWorks.{works_nothing, works_on, works_passed, works_each}
@@ -24,9 +26,12 @@ use Rattle.text_codec.specs.Classic.{Said, Whole, ReadsNext, classic, shown_by}
 use Rattle.connections.specs.declared.connection.Connection.{Connection}
 use Rattle.connections.specs.Steps.{output_of, GoesTo}
 use Rattle.memory_fleet.specs.declared.fleet.MemoryFleet.{MemoryFleet}
-use Rattle.memory_fleet.specs.Fleets.{holds_of}
+use Rattle.memory_fleet.specs.Fleets.{holds_of, begun_of}
 use Rattle.route_tree.specs.Route.{Route}
-use Rattle.route_tree.specs.Direct.{is_direct, server_at, words_of, DirectIsOneServer}
+use Rattle.route_tree.specs.At.{tree_at}
+use Rattle.route_tree.specs.Servers.{CallsStay}
+use Rattle.route_tree.specs.Direct.{words_of}
+use Rattle.fleet_run.specs.Gone.{number_in}
 use Rattle.connections.proofs.Fronts.{served_behind}
 use Rattle.fleet_run.specs.declared.router.Router.{Router}
 use Rattle.connections.specs.Steps.{place_behind, Shows}
@@ -61,15 +66,15 @@ passes old new router fleet said next reads none g =
             reads = subst (λ (p : Point classic). ReadsNext p.place said next) (sym (same c (point_at old 0) (base.point c))) reads;
             asks = none;
             moves = placed_moves base c 0 0 old new router router fleet fleet next _ g;
-            rests = record { number = refl; holds = λ s k. refl; turn = refl; named = λ t. refl };
+            rests = record { number = refl; holds = λ s k. refl; turn = refl; named = λ t. refl; stale = refl; gone = λ k. refl };
           });
       tree = refl;
       count = refl;
-      counted = λ e. e;
+      few = λ e. e;
     }
 
 pub advances_nothing : (x : Connection) (i : ℕ) (router : Router) (fleet : MemoryFleet) → Advances x i router fleet x i router fleet
-advances_nothing x i router fleet = record { works = λ base c. works_nothing classic (words_of (tree_of router)) (placed base c x i router fleet) c; tree = refl; count = refl; counted = λ e. e }
+advances_nothing x i router fleet = record { works = λ base c. works_nothing classic (words_of (tree_of router)) (placed base c x i router fleet) c; tree = refl; count = refl; few = λ e. e }
 
 pub advances_on : (x y z : Connection) (i j k : ℕ) (p q r : Router) (f g h : MemoryFleet) → Advances x i p f y j q g → Advances y j q g z k r h → Advances x i p f z k r h
 advances_on x y z i j k p q r f g h a b =
@@ -77,7 +82,7 @@ advances_on x y z i j k p q r f g h a b =
       works = λ base c. works_on classic (words_of (tree_of p)) (placed base c x i p f) (placed base c y j q g) (placed base c z k r h) c (a.works base c) (subst (λ (n : Route). Works (words_of n) (placed base c y j q g) c (placed base c z k r h)) a.tree (b.works base c));
       tree = b.tree ∙ a.tree;
       count = b.count ∙ a.count;
-      counted = λ e. b.counted (a.counted e);
+      few = λ e. b.few (a.few e);
     }
 
 point_behind : (ended done : Bool) (old : Connection) (i : ℕ) (point : Point classic) (next : Place) (rest : List ℕ) → ended ≡ done → point.place ≡ old.stream → next ≡ Stands Nothing rest
@@ -89,20 +94,29 @@ point_behind false done old i point next rest e at is =
     subst (λ (b : Bool). ◌≡◌ {A = Point classic} (record { place = old.stream; index = i + 1 }) (cond {A = Point classic} b (record { place = next; index = 0 }) (record { place = point.place; index = i + 1 }))) e
     (ap (λ (p : Place). let q : Point classic = record { place = p; index = i + 1 } in q) (sym at))
 
--- one key of a request: one call, and what its reply shows
-pub replied : DirectIsOneServer → (old new : Connection) (router router' : Router) (fleet fleet' : MemoryFleet) (held : List ℕ) (request : Request) (i : ℕ) (ask : Ask) (reply : Answer) (ended : Bool)
-    → old.stream ≡ Stands Nothing held → IsReadFrom held request → slice_get (asks_of (message_in held request)) i ≡ Some ask → IsAsk ask → is_direct (tree_of router) ≡ true → Asked router fleet ask reply router' fleet'
+at_most_one : (last : Option ℕ) (item : Option Item) → stale_since last item ≤ 1
+at_most_one last None = omega arith
+at_most_one None (Some item) = omega arith
+at_most_one (Some n) (Some item) = one_or_none (nat_le item.stamp n)
+  where
+    one_or_none : (b : Bool) → cond {A = ℕ} b 1 0 ≤ 1
+    one_or_none true = omega arith
+    one_or_none false = omega arith
+
+-- one key of a request: the calls of its command, and what its reply shows
+pub replied : CallsStay → (old new : Connection) (router router' : Router) (fleet fleet' : MemoryFleet) (held : List ℕ) (request : Request) (i : ℕ) (ask : Ask) (reply : Answer) (ended : Bool)
+    → old.stream ≡ Stands Nothing held → IsReadFrom held request → slice_get (asks_of (message_in held request)) i ≡ Some ask → IsAsk ask → Asked router fleet ask reply router' fleet'
     → ended ≡ ends_with (asks_of (message_in held request)) i reply
     → GoesTo old (place_behind ended old (drop request.used held)) (shown_text (quiet_of (message_in held request)) (is_last (asks_of (message_in held request)) i) ask reply) new
     → Advances old i router fleet new (next_index ended i) router' fleet'
-replied law old new router router' fleet fleet' held request i ask reply ended place read at is direct asked done g =
+replied law old new router router' fleet fleet' held request i ask reply ended place read at is asked done g =
     let m : Message = message_in held request in
     let rest : List ℕ = drop request.used held in
     let next : Place = behind m rest in
     let behind_is : next ≡ Stands Nothing rest = served_behind _ _ rest i ask at in
     let part : Part classic = record { message = Whole m; next = next; index = i; ask = ask } in
     let words = words_of (tree_of router) in
-    let call : Call = server_call (server_at (tree_of router)) ask asked.made.outcome in
+    let on_key : AreOn ask.key asked.calls = (law (tree_at (tree_of router) ask.key) ask Client 0 asked.calls (record { reply = reply; from = asked.from }) asked.word).0 in
     record {
       works = λ base c.
           let before : Standing classic = placed base c old i router fleet in
@@ -116,7 +130,7 @@ replied law old new router router' fleet fleet' held request i ask reply ended p
           subst (λ (p : Point classic). Moves before c p (classic.shown (Whole m) i reply) after) point
           (subst (λ (l : List ℕ). Moves before c (record { place = place_behind ended old rest; index = next_index ended i }) l after) shown
           (placed_moves base c i (next_index ended i) old new router router' fleet fleet' _ _ g)) in
-          works_each classic words before after c (router.number + 1) part (call ∷ []) reply (from_of asked.made.outcome)
+          works_each classic words before after c (begun_of fleet + 1) part asked.calls reply asked.from
           (record {
             next = record {
               reads = subst (λ (p : Point classic). ReadsNext p.place (Whole m) next) (sym at_front) reads;
@@ -125,34 +139,41 @@ replied law old new router router' fleet fleet' held request i ask reply ended p
             };
             moves = moves;
             number_is = refl;
-            last = asked.number;
-            named = asked.call.named_is;
+            last = asked.begun_is;
+            named = asked.named_is;
           })
           (record {
-            word = ((law (tree_of router) direct).1 (router.number + 1) ask (call ∷ []) reply (from_of asked.made.outcome)).1 (is, asked.made.outcome, asked.call.fits, refl, asked.reply_is, refl);
-            on_key = (refl, tt);
-            state = record { holds = holds_of fleet'; found = asked.call.before ∷ [] };
-            made = (record { holds = holds_of fleet'; found = asked.call.before ∷ [] }, asked.call.call, asked.call.as_named, refl);
+            word = (is, asked.word);
+            on_key = on_key;
+            state = record { holds = holds_of fleet'; found = asked.found };
+            made = asked.made;
             holds = λ s k. refl;
-            turn = asked.call.turn_is;
+            turn = asked.turn_is;
+            item = asked.item;
+            shown = asked.shown;
+            counted = record { stale = asked.stale; gone = asked.gone };
           });
       tree = asked.tree;
-      count = asked.call.count_is;
-      counted = λ e. asked.number ∙ ap (λ n. n + 1) e ∙ sym asked.call.turn_is;
+      count = asked.count_is;
+      few = λ e.
+          let more = asked.stale in
+          let one : stale_since (number_in router.gone ask.key) asked.item ≤ 1 = at_most_one (number_in router.gone ask.key) asked.item in
+          let next = asked.begun_is in
+          omega (arith, e, more, one, next);
     }
 
 -- the same, as the code serves an ask
-pub serves_ask : DirectIsOneServer → (old new : Connection) (router router' : Router) (fleet fleet' : MemoryFleet) (request : Request) (i : ℕ) (ask : Ask) (reply : Answer) (quiet last ended : Bool)
-    → (front : IsAskAt old request i ask) → IsAsk ask → is_direct (tree_of router) ≡ true → Asked router fleet ask reply router' fleet'
+pub serves_ask : CallsStay → (old new : Connection) (router router' : Router) (fleet fleet' : MemoryFleet) (request : Request) (i : ℕ) (ask : Ask) (reply : Answer) (quiet last ended : Bool)
+    → (front : IsAskAt old request i ask) → IsAsk ask → Asked router fleet ask reply router' fleet'
     → quiet ≡ quiet_of (message_in front.held request) → last ≡ is_last (asks_of (message_in front.held request)) i
     → Shows old request.used quiet last ask reply ended new → ServesAsk old request i router fleet ended new router' fleet'
-serves_ask law old new router router' fleet fleet' request i ask reply quiet last ended front is direct asked quiet_is last_is shows =
+serves_ask law old new router router' fleet fleet' request i ask reply quiet last ended front is asked quiet_is last_is shows =
     let asks : List Ask = asks_of (message_in front.held request) in
     let goes : GoesTo old (place_behind ended old (drop request.used front.held)) (shown_text (quiet_of (message_in front.held request)) (is_last asks i) ask reply) new =
     subst (λ (q : Bool). GoesTo old (place_behind ended old (drop request.used front.held)) (shown_text q (is_last asks i) ask reply) new) quiet_is
     (subst (λ (l : Bool). GoesTo old (place_behind ended old (drop request.used front.held)) (shown_text quiet l ask reply) new) last_is (shows.goes front.held front.place)) in
     record {
-      advances = replied law old new router router' fleet fleet' front.held request i ask reply ended front.place front.read front.at is direct asked (shows.ended_is ∙ ap (λ (l : Bool). is_failure reply || l) last_is) goes;
+      advances = replied law old new router router' fleet fleet' front.held request i ask reply ended front.place front.read front.at is asked (shows.ended_is ∙ ap (λ (l : Bool). is_failure reply || l) last_is) goes;
       place = λ held at. (shows.goes held at).place_is;
       more = λ not_ended held at read.
           let same_held : front.held ≡ held = held_is front.held held (sym front.place ∙ at) in

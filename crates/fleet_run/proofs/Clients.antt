@@ -85,13 +85,13 @@ piece_taken clients c x y bytes out router router' fleet fleet' given given' lt 
           fed_is ∙ ap (λ (p : Point classic). fed_point p bytes) (sym (at_point clients c x lt is) ∙ ap (point_in clients) (eqb-true c d e)));
       output = λ d. where_other (nat_eq c d) (output_of s.fed) (output_in clients d) (λ e.
           s.feeds.output_is ∙ append-nil (output_of x) ∙ sym (at_output clients c x lt is) ∙ ap (output_in clients) (eqb-true c d e));
-      rests = record { number = refl; holds = λ a k. refl; turn = refl; named = λ t. refl };
+      rests = record { number = refl; holds = λ a k. refl; turn = refl; named = λ t. refl; stale = refl; gone = λ k. refl };
     } in
     let took : IsGiven served c out taken = record {
       bytes_are = s.out_is ∙ sym (same c (output_of s.served) (output_in clients c));
       stuck = subst (λ (p : Point classic). IsStuck classic p.place) (sym (same c (point_at s.served 0) (point_in clients c))) s.serves.stuck;
       output = λ d. output_set clients c y lt d ∙ over (nat_eq c d) (output_of y) (output_of s.served) (output_in clients d) [] s.output;
       point = λ d. point_set clients c y lt d ∙ where_same (nat_eq c d) (point_at y 0) (point_at s.served 0) (point_in clients d) (λ e. ap (λ (p : Place). let q : Point classic = record { place = p; index = 0 } in q) s.stream);
-      rests = record { number = refl; holds = λ a k. refl; turn = refl; named = λ t. refl };
+      rests = record { number = refl; holds = λ a k. refl; turn = refl; named = λ t. refl; stale = refl; gone = λ k. refl };
     } in
     piece_up classic (words_of (tree_of router)) old mid served taken given given' c bytes out fed (s.serves.advances.works old c) took handed

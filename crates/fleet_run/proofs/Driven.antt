@@ -1,5 +1,5 @@
 -- From the first event of a script to the last.
-use Rattle.std.proofs.Common.{Result, Ok, Err, OnErr, ◌≡◌, ℕ, ℤ, zero, suc, ◌+◌, ◌<◌, Bool, true, false, ◌||◌, List, [], ◌∷◌, ◌++◌, length, map, take, get_or, Option, refl, sym, ap, ◌∙◌, subst, arith, length-set}
+use Rattle.std.proofs.Common.{Result, Ok, Err, OnErr, ◌≡◌, ℕ, ℤ, zero, suc, ◌+◌, ◌<◌, ◌≤◌, Bool, true, false, ◌||◌, List, [], ◌∷◌, ◌++◌, length, map, take, get_or, Option, None, refl, sym, ap, ◌∙◌, subst, arith, length-set}
 use Rattle.std.proofs.Math.ListN.{set}
 use Rattle.mc_types.specs.Items.{Item}
 use Rattle.mc_runs.specs.Run.{Words, IsFresh, IsNewNumber, held}
@@ -10,7 +10,8 @@ use Rattle.mc_runs.specs.Log.{Entry, Takes, Point, run_of, script_of, Scripted, 
 use Rattle.mc_runs.specs.Standing.{Standing}
 use Rattle.mc_runs.specs.Taking.{Stands, TakesUp}
 use Rattle.mc_runs.proofs.LogRuns.{runs, splits}
-use Rattle.mc_runs.proofs.LogStale.{fresh_has_none}
+use Rattle.mc_runs.specs.Stale.{stale_in, tally_of}
+use Rattle.mc_runs.proofs.LogStale.{fresh_has_none, last_counts}
 use Rattle.mc_runs.proofs.LogSteps.{nothing_yet}
 use Rattle.mc_runs.proofs.LogTaking.{settled}
 use Rattle.mc_runs.proofs.Fresh.{fresh}
@@ -24,10 +25,11 @@ use Rattle.connections.specs.declared.connection.Connection.{Connection}
 use Rattle.memory_fleet.specs.declared.event.Loss.{Loss}
 use Rattle.memory_fleet.specs.declared.event.Loss.TheVariants as losses
 use Rattle.memory_fleet.specs.declared.fleet.MemoryFleet.{MemoryFleet}
-use Rattle.memory_fleet.specs.Fleets.{IsNewFleet, FailsFrom, HoldsFrom, IsLost, IsMoment, loss_of, count_of}
+use Rattle.memory_fleet.specs.Fleets.{IsNewFleet, FailsFrom, HoldsFrom, IsLost, IsMoment, LosesFrom, loss_of, count_of, begun_of}
 use Rattle.cache_server.specs.Contents.{Contents}
 use Rattle.route_tree.specs.Route.{Route}
-use Rattle.route_tree.specs.Direct.{is_direct, words_of, DirectIsOneServer}
+use Rattle.route_tree.specs.Direct.{words_of, DirectIsOneServer}
+use Rattle.fleet_run.specs.Gone.{number_in}
 use Rattle.fleet_run.specs.declared.router.Router.{Router}
 use Rattle.fleet_run.specs.declared.script.Event.{Event}
 use Rattle.fleet_run.specs.declared.script.Transcript.{Transcript}
@@ -40,7 +42,7 @@ use Rattle.fleet_run.specs.Scripted.{scripted_of, shown_by, transcript_of}
 use Rattle.fleet_run.specs.Driving.{standing_of, ServesPiece, HandsOut, TakesAlone, IsPut, TakesBy, TakesEvent, AreNew, Drives, DrivesPart}
 use Rattle.connections.proofs.Shorter.{takes_some}
 use Rattle.fleet_run.proofs.Clients.{piece_taken}
-use Rattle.fleet_run.proofs.EventSteps.{event_of, moment_alone, fail_alone, lost_up}
+use Rattle.fleet_run.proofs.EventSteps.{event_of, moment_alone, at_alone, fail_alone, lost_up}
 use Rattle.fleet_run.proofs.BadEvents.{map_more, one_begun, left_false, is_held}
 use Rattle.fleet_run.proofs.Openings.{same_opening, opened_new, AreTaken, nothing_happened, reopened, holds_opened, opened_same, opened_more}
 use Rattle.fleet_run.proofs.Wording.{direct_covered}
@@ -58,12 +60,12 @@ pub record Comes (words : Words) (before : List Scripted) (now : Standing classi
   pub quiet : has_begun before ≡ false → AreTaken log × IsOpened before fleet
 
 -- before the first event
-pub starts : (words : Words) (clients : List Connection) (router : Router) (fleet : MemoryFleet) (t : Transcript) (servers : ℕ) → AreNew clients → router.number ≡ 0 → IsNewFleet servers fleet → t.shown.items ≡ [] → Comes words [] (standing_of clients router fleet) (transcript_of t) fleet
-starts words clients router fleet t servers new number none empty =
+pub starts : (words : Words) (clients : List Connection) (router : Router) (fleet : MemoryFleet) (t : Transcript) (servers : ℕ) → AreNew clients → router.stale ≡ 0 → ((key : List ℕ) → number_in router.gone key ≡ None) → IsNewFleet servers fleet → t.shown.items ≡ [] → Comes words [] (standing_of clients router fleet) (transcript_of t) fleet
+starts words clients router fleet t servers new stale gone none empty =
     record {
       log = [];
       stands = record {
-        leads = nothing_yet classic words (opening_of []) (standing_of clients router fleet) new.point new.output number (λ s k. none.holds s k) none.turn none.named;
+        leads = nothing_yet classic words (opening_of []) (standing_of clients router fleet) new.point new.output none.begun (λ s k. none.holds s k) none.turn none.named stale gone;
         given_is = ap (map shown_by) empty;
         stuck = λ c. subst (λ (p : Point classic). IsStuck classic p.place) (sym (new.point c)) quiet_start;
         taken = new.output;
@@ -71,6 +73,9 @@ starts words clients router fleet t servers new number none empty =
       script = refl;
       quiet = λ e. (tt, opened_new servers fleet none);
     }
+
+few_same : {a b n : ℕ} → b ≡ a → n ≤ a → n ≤ b
+few_same e h = omega (arith, e, h)
 
 -- a piece, as one of the script's events
 pub piece_event : (clients : List Connection) (c : ℕ) (x y : Connection) (bytes out : List ℕ) (router router' : Router) (fleet fleet' : MemoryFleet) (t t' : Transcript) (event : Event) → scripted_of event ≡ log.Piece c bytes → c < length clients → x ≡ get_or clients c x → ServesPiece x router fleet bytes out y router' fleet' → HandsOut c out t t'
@@ -80,7 +85,7 @@ piece_event clients c x y bytes out router router' fleet fleet' t t' event is lt
       takes = subst (TakesBy (words_of (tree_of router)) (standing_of clients router fleet) (transcript_of t) fleet (standing_of (set clients c y) router' fleet') (transcript_of t') fleet') (sym is) (piece_taken clients c x y bytes out router router' fleet fleet' (transcript_of t) (transcript_of t') lt at s handed);
       tree = s.serves.advances.tree;
       count = s.serves.advances.count;
-      counted = s.serves.advances.counted;
+      few = s.serves.advances.few;
       clients_are = length-set clients c y;
     }
 
@@ -88,10 +93,10 @@ pub hold_event : (clients : List Connection) (router : Router) (fleet fleet' : M
 hold_event clients router fleet fleet' t event server key content is f =
     record {
       takes = subst (TakesBy (words_of (tree_of router)) (standing_of clients router fleet) (transcript_of t) fleet (standing_of clients router fleet') (transcript_of t) fleet') (sym is)
-          (record { caches = f.cache_is; holds = λ s k. refl; point = λ c. refl; output = λ c. refl; number = refl; turn = f.turn_is; named = f.named_is; given_is = refl });
+          (record { caches = f.cache_is; holds = λ s k. refl; point = λ c. refl; output = λ c. refl; number = f.begun_is; turn = f.turn_is; named = f.named_is; stale = refl; gone = λ k. refl; given_is = refl });
       tree = refl;
       count = f.count_is;
-      counted = λ e. e ∙ sym f.turn_is;
+      few = λ e. few_same f.begun_is e;
       clients_are = refl;
     }
 
@@ -100,12 +105,12 @@ fail_event clients router fleet fleet' t event turn manner is f =
     record {
       takes = subst (TakesBy (words_of (tree_of router)) (standing_of clients router fleet) (transcript_of t) fleet (standing_of clients router fleet') (transcript_of t) fleet') (sym is)
           (record {
-            goes = fail_alone classic (words_of (tree_of router)) (standing_of clients router fleet) (standing_of clients router fleet') (transcript_of t) turn manner (record { named = f.named; point = λ c. refl; output = λ c. refl; number = refl; holds = f.holds; turn_is = f.turn_is });
+            goes = fail_alone classic (words_of (tree_of router)) (standing_of clients router fleet) (standing_of clients router fleet') (transcript_of t) turn manner (record { named = f.named; point = λ c. refl; output = λ c. refl; number = f.begun_is; holds = f.holds; turn_is = f.turn_is; stale = refl; gone = λ k. refl });
             caches = f.caches_are;
           });
       tree = refl;
       count = f.count_is;
-      counted = λ e. e ∙ sym f.turn_is;
+      few = λ e. few_same f.begun_is e;
       clients_are = refl;
     }
 
@@ -117,10 +122,24 @@ pub lost_event : (clients : List Connection) (router : Router) (fleet fleet' : M
 lost_event clients router fleet fleet' t event loss is f =
     record {
       takes = subst (TakesBy (words_of (tree_of router)) (standing_of clients router fleet) (transcript_of t) fleet (standing_of clients router fleet') (transcript_of t) fleet') (sym is)
-          (lost_up classic (words_of (tree_of router)) (standing_of clients router fleet) (standing_of clients router fleet') (transcript_of t) (scripted.loss_of loss) (record { point = λ c. refl; output = λ c. refl; number = refl; turn = f.turn_is; named = f.named_is }) (rw (loss_event loss) f.holds));
+          (lost_up classic (words_of (tree_of router)) (standing_of clients router fleet) (standing_of clients router fleet') (transcript_of t) (scripted.loss_of loss) (record { point = λ c. refl; output = λ c. refl; number = f.begun_is; turn = f.turn_is; named = f.named_is; stale = refl; gone = λ k. refl }) (rw (loss_event loss) f.holds));
       tree = refl;
       count = f.count_is;
-      counted = λ e. e ∙ sym f.turn_is;
+      few = λ e. few_same f.begun_is e;
+      clients_are = refl;
+    }
+
+pub at_event : (clients : List Connection) (router : Router) (fleet fleet' : MemoryFleet) (t : Transcript) (event : Event) (turn : ℕ) (loss : Loss) → scripted_of event ≡ log.At turn (scripted.loss_of loss) → LosesFrom fleet turn (loss_of loss) fleet' → TakesEvent clients router fleet t event clients router fleet' t
+at_event clients router fleet fleet' t event turn loss is f =
+    record {
+      takes = subst (TakesBy (words_of (tree_of router)) (standing_of clients router fleet) (transcript_of t) fleet (standing_of clients router fleet') (transcript_of t) fleet') (sym is)
+          (record {
+            goes = at_alone classic (words_of (tree_of router)) (standing_of clients router fleet) (standing_of clients router fleet') (transcript_of t) turn (scripted.loss_of loss) (record { point = λ c. refl; output = λ c. refl; number = f.begun_is; turn = f.turn_is; named = f.named_is; stale = refl; gone = λ k. refl }) f.holds;
+            caches = f.caches_are;
+          });
+      tree = refl;
+      count = f.count_is;
+      few = λ e. few_same f.begun_is e;
       clients_are = refl;
     }
 
@@ -129,12 +148,12 @@ moment_event clients router fleet fleet' t event moment is f =
     record {
       takes = subst (TakesBy (words_of (tree_of router)) (standing_of clients router fleet) (transcript_of t) fleet (standing_of clients router fleet') (transcript_of t) fleet') (sym is)
           (record {
-            goes = moment_alone classic (words_of (tree_of router)) (standing_of clients router fleet) (standing_of clients router fleet') (transcript_of t) moment (record { point = λ c. refl; output = λ c. refl; number = refl; turn = f.turn_is; named = f.named_is }) f.holds;
+            goes = moment_alone classic (words_of (tree_of router)) (standing_of clients router fleet) (standing_of clients router fleet') (transcript_of t) moment (record { point = λ c. refl; output = λ c. refl; number = f.begun_is; turn = f.turn_is; named = f.named_is; stale = refl; gone = λ k. refl }) f.holds;
             caches = f.caches_are;
           });
       tree = refl;
       count = f.count_is;
-      counted = λ e. e ∙ sym f.turn_is;
+      few = λ e. few_same f.begun_is e;
       clients_are = refl;
     }
 
@@ -194,6 +213,8 @@ comes_put words before server key content old new given given' fleet fleet' good
           turn = put.turn ∙ s.leads.turn;
           count = put.number ∙ s.leads.count;
           named = λ t. put.named t ∙ s.leads.named t;
+          stale = put.stale ∙ s.leads.stale ∙ ap (tally_of (opening_of before)) (nothing_happened c.log q.0) ∙ sym (ap (tally_of (opening_of after)) (nothing_happened c.log q.0));
+          gone = λ k. put.gone k ∙ s.leads.gone k;
         };
         given_is = put.given_is ∙ s.given_is;
         stuck = λ d. subst (λ (p : Point classic). IsStuck classic p.place) (sym (put.point d)) (s.stuck d);
@@ -206,7 +227,7 @@ comes_put words before server key content old new given given' fleet fleet' good
 comes_by : (words : Words) (before : List Scripted) (event : Scripted) (old new : Standing classic) (given given' : List Shown) (fleet fleet' : MemoryFleet) → bad_in (count_of fleet) before event ≡ false → TakesBy words old given fleet new given' fleet' event → Comes words before old given fleet → Comes words (before ++ event ∷ []) new given' fleet'
 comes_by words before (log.Piece client bytes) old new given given' fleet fleet' good takes c = comes_up words before (log.Piece client bytes) old new given given' fleet fleet' refl (λ s c. refl) takes c
 comes_by words before (log.Now loss) old new given given' fleet fleet' good takes c = comes_up words before (log.Now loss) old new given given' fleet fleet' refl (λ s c. refl) takes c
-comes_by words before (log.At turn loss) old new given given' fleet fleet' good takes c = absurd takes
+comes_by words before (log.At turn loss) old new given given' fleet fleet' good takes c = comes_alone words before (log.At turn loss) old new given given' fleet fleet' (λ s c. refl) takes c
 comes_by words before (log.Fail turn manner) old new given given' fleet fleet' good takes c = comes_alone words before (log.Fail turn manner) old new given given' fleet fleet' (λ s c. refl) takes c
 comes_by words before (log.Moment moment) old new given given' fleet fleet' good takes c = comes_alone words before (log.Moment moment) old new given given' fleet fleet' (λ s c. refl) takes c
 comes_by words before (log.Hold server key content) old new given given' fleet fleet' good takes c = comes_put words before server key content old new given given' fleet fleet' good takes c
@@ -221,15 +242,15 @@ event_on tree clients clients' router router' fleet fleet' t t' xs i x tree_is l
     (subst (λ (r : Route). TakesBy (words_of r) (standing_of clients router fleet) (transcript_of t) fleet (standing_of clients' router' fleet') (transcript_of t') fleet' (scripted_of x)) tree_is takes.takes) c)
 
 -- after the last event
-pub drives : DirectIsOneServer → (tree : Route) → is_direct tree ≡ true → (fleet : MemoryFleet) (clients : List Connection) (router : Router) (events : List Scripted) (t : Transcript) (report : Report) → Comes (words_of tree) events (standing_of clients router fleet) (transcript_of t) fleet
-    → report.commands ≡ router.number → report.calls ≡ fleet.turn → report.stale ≡ 0 → Drives tree events (transcript_of t) report
-drives law tree direct fleet clients router events t report c commands calls stale =
+pub drives : DirectIsOneServer → (tree : Route) (fleet : MemoryFleet) (clients : List Connection) (router : Router) (events : List Scripted) (t : Transcript) (report : Report) → Comes (words_of tree) events (standing_of clients router fleet) (transcript_of t) fleet
+    → report.commands ≡ begun_of fleet → report.calls ≡ fleet.turn → report.stale ≡ router.stale → Drives tree events (transcript_of t) report
+drives law tree fleet clients router events t report c commands calls stale =
     let words = words_of tree in
     let opening = opening_of events in
     let s = c.stands in
     let done = settled classic words opening c.log (standing_of clients router fleet) (transcript_of t) s in
     let run = runs classic words opening c.log s.leads.follows in
-    let is_fresh : IsFresh opening (run_of c.log) = fresh words (direct_covered law tree direct) opening (run_of c.log) run in
+    let counted : report.stale ≡ stale_in opening (run_of c.log) = stale ∙ s.leads.stale ∙ sym (last_counts words opening (run_of c.log) run) in
     record {
       log = c.log;
       follows = s.leads.follows;
@@ -240,9 +261,10 @@ drives law tree direct fleet clients router events t report c commands calls sta
       commands = commands ∙ s.leads.count;
       calls = calls ∙ s.leads.turn;
       run = run;
-      fresh = is_fresh;
-      stale = stale ∙ sym (fresh_has_none words opening (run_of c.log) run is_fresh);
-      none = stale;
+      stale = counted;
+      fresh = λ direct.
+          let is_fresh : IsFresh opening (run_of c.log) = fresh words (direct_covered law tree direct) opening (run_of c.log) run in
+          (is_fresh, counted ∙ fresh_has_none words opening (run_of c.log) run is_fresh);
     }
 
 map_take : (xs : List Event) (i : ℕ) → map scripted_of (take i xs) ≡ take i (map scripted_of xs)
@@ -251,9 +273,9 @@ map_take [] (suc i) = refl
 map_take (x ∷ xs) (suc i) = ap (λ l. scripted_of x ∷ l) (map_take xs i)
 
 -- where an event is broken off
-pub drives_part : DirectIsOneServer → (tree : Route) → is_direct tree ≡ true → (count : ℕ) (fleet : MemoryFleet) (clients : List Connection) (router : Router) (events : List Event) (t t' : Transcript) → Comes (words_of tree) (map scripted_of (take count events)) (standing_of clients router fleet) (transcript_of t) fleet → t'.shown.items ≡ t.shown.items
+pub drives_part : DirectIsOneServer → (tree : Route) (count : ℕ) (fleet : MemoryFleet) (clients : List Connection) (router : Router) (events : List Event) (t t' : Transcript) → Comes (words_of tree) (map scripted_of (take count events)) (standing_of clients router fleet) (transcript_of t) fleet → t'.shown.items ≡ t.shown.items
     → DrivesPart tree (map scripted_of events) (transcript_of t')
-drives_part law tree direct count fleet clients router events t t' came same =
+drives_part law tree count fleet clients router events t t' came same =
     let words = words_of tree in
     let c = subst (λ (l : List Scripted). Comes words l (standing_of clients router fleet) (transcript_of t) fleet) (map_take events count) came in
     let opening = opening_of (take count (map scripted_of events)) in
@@ -265,7 +287,7 @@ drives_part law tree direct count fleet clients router events t t' came same =
       script_is = c.script;
       settled = settled classic words opening c.log (standing_of clients router fleet) (transcript_of t) s;
       shown = ap (map shown_by) same ∙ s.given_is;
-      fresh = fresh words (direct_covered law tree direct) opening (run_of c.log) (runs classic words opening c.log s.leads.follows);
+      fresh = λ direct. fresh words (direct_covered law tree direct) opening (run_of c.log) (runs classic words opening c.log s.leads.follows);
     }
 
 -- where nothing was taken up
@@ -278,7 +300,7 @@ nothing_driven tree events t empty =
       script_is = refl;
       settled = record { stuck = λ c. quiet_start; given = λ c. refl; idle = λ key. refl };
       shown = ap (map shown_by) empty;
-      fresh = λ n m d i lt ack shown. absurd ack;
+      fresh = λ direct n m d i lt ack shown. absurd ack;
     }
 
 pub on_err : {T E : Type 0} {P : Type 0} (r : Result T E) → P → OnErr r P

@@ -5,7 +5,7 @@ use Rattle.mc_runs.specs.Run.{Words, Event, Loses, Restarts, held, IsNewNumber}
 use Rattle.mc_runs.specs.Fleet.{after_event}
 use Rattle.mc_runs.specs.Protocol.{Protocol, IsStuck}
 use Rattle.mc_runs.specs.Log as log
-use Rattle.mc_runs.specs.Log.{Manner, Point, Entry, Takes, Happens, Fail, Now, Moment, Lose, Restart, run_of, given_of, Shown, IsSettled}
+use Rattle.mc_runs.specs.Log.{Manner, Point, Entry, Takes, Happens, Fail, At, Now, Moment, Lose, Restart, run_of, given_of, Shown, IsSettled}
 use Rattle.mc_runs.specs.Standing.{Standing, IsNamed}
 use Rattle.mc_runs.specs.Taking.{Stands, TakesUp}
 use Rattle.mc_runs.proofs.Bridge.{held_after, event_same}
@@ -25,6 +25,8 @@ module _ (P : Protocol) (words : Words) where
     pub number : new.number ≡ old.number
     pub turn : new.turn ≡ old.turn
     pub named : (t : ℕ) → new.named t ≡ old.named t
+    pub stale : new.stale ≡ old.stale
+    pub gone : (key : List ℕ) → new.gone key ≡ old.gone key
 
   stuck_still : (old new : Standing P) → IsQuiet old new → ((c : ℕ) → IsStuck P (old.point c).place) → (c : ℕ) → IsStuck P (new.point c).place
   stuck_still old new q h c = subst (λ (p : Point P). IsStuck P p.place) (sym (q.point c)) (h c)
@@ -43,6 +45,30 @@ module _ (P : Protocol) (words : Words) where
           turn = q.turn ∙ s.leads.turn;
           count = q.number ∙ s.leads.count;
           named = λ t. q.named t ∙ s.leads.named t;
+          stale = q.stale ∙ s.leads.stale;
+          gone = λ key. q.gone key ∙ s.leads.gone key;
+        };
+        given_is = s.given_is;
+        stuck = stuck_still old new q s.stuck;
+        taken = λ c. q.output c ∙ s.taken c;
+      }
+
+  -- something is named to be lost just before a call
+  pub at_alone : (old new : Standing P) (given : List Shown) (turn : ℕ) (loss : log.Loss) → IsQuiet old new → ((s : ℕ) (k : List ℕ) → new.holds s k ≡ old.holds s k) → (opening : ℕ → List ℕ → Option Item) (log : List (Entry P)) → Stands words opening log old given → Stands words opening (Takes (At turn loss) ∷ log) new given
+  at_alone old new given turn loss q holds opening log s =
+      record {
+        leads = record {
+          follows = (settled P words opening log old given s, s.leads.follows);
+          point = λ c. q.point c ∙ s.leads.point c;
+          output = λ c. ap (λ (l : List ℕ). given_of log c ++ l) (q.output c) ∙ s.leads.output c;
+          new = subst (λ (n : ℕ). IsNewNumber (n + 1) (run_of log)) (sym q.number) s.leads.new;
+          idle = s.leads.idle;
+          holds = λ a k. holds a k ∙ s.leads.holds a k;
+          turn = q.turn ∙ s.leads.turn;
+          count = q.number ∙ s.leads.count;
+          named = λ t. q.named t ∙ s.leads.named t;
+          stale = q.stale ∙ s.leads.stale;
+          gone = λ key. q.gone key ∙ s.leads.gone key;
         };
         given_is = s.given_is;
         stuck = stuck_still old new q s.stuck;
@@ -74,6 +100,8 @@ module _ (P : Protocol) (words : Words) where
         turn = q.turn ∙ s.leads.turn;
         count = q.number ∙ s.leads.count;
         named = λ t. q.named t ∙ s.leads.named t;
+        stale = q.stale ∙ s.leads.stale;
+        gone = λ key. q.gone key ∙ s.leads.gone key;
       };
       given_is = s.given_is;
       stuck = stuck_still old new q s.stuck;
@@ -94,6 +122,8 @@ module _ (P : Protocol) (words : Words) where
         turn = q.turn ∙ s.leads.turn;
         count = q.number ∙ s.leads.count;
         named = λ t. q.named t ∙ s.leads.named t;
+        stale = q.stale ∙ s.leads.stale;
+        gone = λ key. q.gone key ∙ s.leads.gone key;
       };
       given_is = s.given_is;
       stuck = stuck_still old new q s.stuck;

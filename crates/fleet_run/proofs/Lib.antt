@@ -6,3 +6,5 @@ pub mod BadEvents
 pub mod Openings
 pub mod EventSteps
 pub mod Driven
+pub mod Commands
+pub mod CountLemmas

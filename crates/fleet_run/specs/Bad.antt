@@ -42,7 +42,7 @@ abbrev pub bad_in : ℕ → List Scripted → Scripted → Bool
 bad_in servers before (Piece client bytes) = nat_lt 63 client || nat_lt piece_limit (sum_by len_of before + length bytes)
 bad_in servers before (Fail turn manner) = turn == 0
 bad_in servers before (Hold server key content) = nat_le servers server || nat_lt data_limit (length content) || has_begun before
-bad_in servers before (At turn loss) = true
+bad_in servers before (At turn loss) = turn == 0 || nat_le servers (loser_of loss)
 bad_in servers before (Now loss) = nat_le servers (loser_of loss)
 bad_in servers before (Moment moment) = int_lt moment (pos 0)
 

@@ -1,5 +1,5 @@
 -- What a script does. Source: mcgate's own.
-use Rattle.std.specs.Prelude.{◌≡◌, ℕ, zero, suc, List, [], ◌∷◌, ◌++◌, length, take, Option, ◌<◌, ◌+◌, ◌^◌}
+use Rattle.std.specs.Prelude.{◌≡◌, ℕ, zero, suc, List, [], ◌∷◌, ◌++◌, length, take, Option, true, ◌<◌, ◌≤◌, ◌⊎◌, ◌+◌, ◌^◌}
 use Rattle.mc_types.specs.Items.{Item}
 use Rattle.mc_runs.specs.Run.{Words, Run, IsFresh}
 use Rattle.mc_runs.specs.Protocol.{Splits}
@@ -16,18 +16,19 @@ use Rattle.text_codec.specs.Classic.{classic}
 use Rattle.connections.specs.declared.connection.Connection.{Connection}
 use Rattle.connections.specs.Steps.{output_of, GoesTo}
 use Rattle.memory_fleet.specs.declared.fleet.MemoryFleet.{MemoryFleet}
-use Rattle.memory_fleet.specs.Fleets.{holds_of, turn_of, named_of, count_of, last_turn, IsChanged}
+use Rattle.memory_fleet.specs.Fleets.{holds_of, turn_of, named_of, count_of, begun_of, last_turn, IsChanged}
 use Rattle.cache_server.specs.Contents.{storing, opening}
 use Rattle.memory_fleet.specs.declared.event.FleetFault.{FleetFault}
 use Rattle.memory_fleet.specs.declared.event.FleetFault.TheVariants as fleet_faults
 use Rattle.fleet_run.specs.declared.router.Router.{Router}
+use Rattle.fleet_run.specs.Gone.{number_in}
 use Rattle.fleet_run.specs.declared.script.Event.{Event}
 use Rattle.fleet_run.specs.declared.script.Transcript.{Transcript}
 use Rattle.fleet_run.specs.declared.script.Report.{Report}
 use Rattle.fleet_run.specs.declared.script.DriveFault.{DriveFault}
 use Rattle.fleet_run.specs.declared.script.DriveFault.TheVariants.{BadEvent, NoMemory, Spent}
 use Rattle.route_tree.specs.Route.{Route}
-use Rattle.route_tree.specs.Direct.{words_of}
+use Rattle.route_tree.specs.Direct.{is_direct, words_of}
 use Rattle.fleet_run.specs.Serving.{tree_of, point_at, ServesAll}
 use Rattle.fleet_run.specs.Scripted.{Scripted, Piece, Fail, Hold, At, Now, Moment, scripted_of, transcript_of}
 use Rattle.fleet_run.specs.Opening.{opening_of}
@@ -50,10 +51,12 @@ standing_of clients router fleet =
     record {
       point = point_in clients;
       output = output_in clients;
-      number = router.number;
+      number = begun_of fleet;
       holds = holds_of fleet;
       turn = turn_of fleet;
       named = named_of fleet;
+      stale = router.stale;
+      gone = number_in router.gone;
     }
 
 -- a piece came, all that was complete was served, and the new output was taken
@@ -66,7 +69,7 @@ pub record ServesPiece (old : Connection) (router : Router) (fleet : MemoryFleet
   pub stream : new.stream ≡ served.stream
   pub output : output_of new ≡ []
 
--- there is one log of the script, with a run of the tree from what the script put on the servers, one command at a time, whose outputs are those given out; the run is fresh
+-- there is one log of the script, with a run of the tree from what the script put on the servers, one command at a time, whose outputs are those given out, and the count of its stale replies
 pub record Drives (tree : Route) (events : List Scripted) (given : List Shown) (report : Report) : Type 0 where
   pub log : List (Entry classic)
   pub follows : Follows (words_of tree) (opening_of events) log
@@ -77,9 +80,9 @@ pub record Drives (tree : Route) (events : List Scripted) (given : List Shown) (
   pub commands : report.commands ≡ commands_in (run_of log)
   pub calls : report.calls ≡ calls_in (run_of log)
   pub run : Run (words_of tree) (opening_of events) (run_of log)
-  pub fresh : IsFresh (opening_of events) (run_of log)
   pub stale : report.stale ≡ stale_in (opening_of events) (run_of log)
-  pub none : report.stale ≡ 0
+  -- where each key has one server, the run is fresh
+  pub fresh : is_direct tree ≡ true → IsFresh (opening_of events) (run_of log) × (report.stale ≡ 0)
 
 -- after want of memory: the same of the first events, up to the one that was broken off
 pub record DrivesPart (tree : Route) (events : List Scripted) (given : List Shown) : Type 0 where
@@ -89,7 +92,7 @@ pub record DrivesPart (tree : Route) (events : List Scripted) (given : List Show
   pub script_is : script_of log ≡ take count events
   pub settled : IsSettled log
   pub shown : given ≡ shown_of log
-  pub fresh : IsFresh (opening_of (take count events)) (run_of log)
+  pub fresh : is_direct tree ≡ true → IsFresh (opening_of (take count events)) (run_of log)
 
 -- what a fault leaves: nothing was handed out where an event can't be
 abbrev pub EndsAsFault : Route → List Scripted → Transcript → DriveFault → Type 0
@@ -101,11 +104,11 @@ abbrev pub fault_of : FleetFault → DriveFault
 fault_of fleet_faults.NoMemory = NoMemory
 fault_of fleet_faults.Spent = Spent
 
--- numbers are spent only where none of the next 2^32 calls can be numbered
+-- numbers are spent only where none of the next 2^32 calls can be numbered, or the last command has its number
 abbrev pub IsSpent : DriveFault → MemoryFleet → Type 0
 IsSpent (BadEvent index) fleet = Unit {0}
 IsSpent NoMemory fleet = Unit {0}
-IsSpent Spent fleet = last_turn < turn_of fleet + 2 ^ 32
+IsSpent Spent fleet = (last_turn < turn_of fleet + 2 ^ 32) ⊎ (begun_of fleet ≡ last_turn)
 
 -- these bytes were handed out
 abbrev pub HandsOut : ℕ → List ℕ → Transcript → Transcript → Type 0
@@ -126,13 +129,15 @@ module _ (words : Words) (old : Standing classic) (given : List Shown) (fleet : 
     pub number : new.number ≡ old.number
     pub turn : new.turn ≡ old.turn
     pub named : (t : ℕ) → new.named t ≡ old.named t
+    pub stale : new.stale ≡ old.stale
+    pub gone : (k : List ℕ) → new.gone k ≡ old.gone k
     pub given_is : given' ≡ given
 
   -- what an event changes: with a piece and with a loss the run goes on
   abbrev pub TakesBy : Scripted → Type 0
   TakesBy (Piece client bytes) = TakesUp words old given (Piece client bytes) new given'
   TakesBy (Now loss) = TakesUp words old given (Now loss) new given'
-  TakesBy (At turn loss) = ⊥
+  TakesBy (At turn loss) = TakesAlone (At turn loss)
   TakesBy (Fail turn manner) = TakesAlone (Fail turn manner)
   TakesBy (Moment moment) = TakesAlone (Moment moment)
   TakesBy (Hold server key content) = IsPut server key content
@@ -142,7 +147,7 @@ pub record TakesEvent (clients : List Connection) (router : Router) (fleet : Mem
   pub takes : TakesBy (words_of (tree_of router)) (standing_of clients router fleet) (transcript_of transcript) fleet (standing_of clients' router' fleet') (transcript_of transcript') fleet' (scripted_of event)
   pub tree : tree_of router' ≡ tree_of router
   pub count : count_of fleet' ≡ count_of fleet
-  pub counted : router.number ≡ turn_of fleet → router'.number ≡ turn_of fleet'
+  pub few : router.stale ≤ begun_of fleet → router'.stale ≤ begun_of fleet'
   pub clients_are : length clients' ≡ length clients
 
 -- 64 clients that said nothing

@@ -1,3 +1,5 @@
+pub mod Gone
+pub mod Counting
 pub mod Serving
 pub mod Scripted
 pub mod Bad

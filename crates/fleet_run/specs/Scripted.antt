@@ -19,6 +19,7 @@ abbrev pub scripted_of : Event → Scripted
 scripted_of (events.Piece client bytes) = Piece client bytes.items
 scripted_of (events.Hold server key content) = Hold server key content.items
 scripted_of (events.Fail turn manner) = Fail turn (manner_of manner)
+scripted_of (events.At turn loss) = At turn (loss_of loss)
 scripted_of (events.Now loss) = Now (loss_of loss)
 scripted_of (events.Moment moment) = Moment moment
 

@@ -1,11 +1,16 @@
 -- One client before a router: how the whole stands where it is one of many. Source: mcgate's own.
-use Rattle.std.specs.Prelude.{◌≡◌, ℕ, ◌+◌, ◌^◌, ◌<◌, Bool, true, false, List, length, drop, Some, if◌then◌else◌, nat_eq, slice_get}
+use Rattle.std.specs.Prelude.{◌≡◌, ℕ, ◌+◌, ◌^◌, ◌<◌, ◌≤◌, ◌⊎◌, ◌&&◌, Bool, true, false, List, [], length, drop, Option, Some, None, if◌then◌else◌, nat_eq, bytes_eq, slice_get}
 use Rattle.mc_types.specs.declared.ask.Ask.{Ask}
 use Rattle.mc_types.specs.declared.answer.Answer.{Answer}
-use Rattle.mc_runs.specs.Single.{reply_of}
+use Rattle.mc_types.specs.declared.ask.Dialect.TheVariants.{Classic}
+use Rattle.mc_types.specs.declared.call.Origin.TheVariants.{Client}
+use Rattle.mc_types.specs.Acknowledged.{says_gone}
+use Rattle.mc_types.specs.Items.{Item}
+use Rattle.mc_runs.specs.Run.{Call}
+use Rattle.mc_runs.specs.Stale.{is_delete_op, stale_since}
 use Rattle.mc_runs.specs.Protocol.{IsStuck}
 use Rattle.mc_runs.specs.Log.{Point}
-use Rattle.mc_runs.specs.Standing.{Standing, Works}
+use Rattle.mc_runs.specs.Standing.{Standing, Works, MakesNamed, ShownIn}
 use Rattle.request_parts.specs.declared.skip.Skip.TheVariants.{Nothing}
 use Rattle.text_requests.specs.declared.command.Request.{Request}
 use Rattle.text_requests.specs.declared.request.Asks.{Asks}
@@ -16,14 +21,22 @@ use Rattle.text_codec.specs.Classic.{classic}
 use Rattle.connections.specs.declared.connection.Connection.{Connection}
 use Rattle.connections.specs.Steps.{output_of, held_len, place_behind}
 use Rattle.memory_fleet.specs.declared.fleet.MemoryFleet.{MemoryFleet}
-use Rattle.memory_fleet.specs.declared.event.Made.{Made}
-use Rattle.memory_fleet.specs.Fleets.{holds_of, turn_of, named_of, count_of, last_turn, FleetCalls}
+use Rattle.memory_fleet.specs.Fleets.{holds_of, turn_of, named_of, count_of, begun_of, last_turn}
+use Rattle.memory_fleet.specs.Law.{KeepsLaw, stamp_at}
 use Rattle.memory_fleet.specs.declared.event.FleetFault.{FleetFault}
 use Rattle.memory_fleet.specs.declared.event.FleetFault.TheVariants.{NoMemory, Spent}
 use Rattle.route_tree.specs.Route.{Route, IsTree}
-use Rattle.route_tree.specs.Direct.{is_direct, server_at, words_of}
+use Rattle.route_tree.specs.At.{tree_at}
+use Rattle.route_tree.specs.Direct.{words_of}
+use Rattle.route_tree.specs.Each.{Each}
+use Rattle.route_tree.specs.Sources.{IsFormed}
+use Rattle.route_tree.specs.Word.{Given, Word}
+use Rattle.route_job.specs.Executing.{MakesAll}
+use Rattle.route_job.specs.Given.{given_of}
+use Rattle.route_job.specs.declared.done.Done.{Done}
 use Rattle.route_json.specs.Fits.{IsBelow}
 use Rattle.fleet_run.specs.declared.router.Router.{Router}
+use Rattle.fleet_run.specs.Gone.{number_in}
 
 -- the tree that commands go through
 abbrev pub tree_of : Router → Route
@@ -39,10 +52,12 @@ placed base c x i router fleet =
     record {
       point = λ d. if nat_eq c d then point_at x i else base.point d;
       output = λ d. if nat_eq c d then output_of x else base.output d;
-      number = router.number;
+      number = begun_of fleet;
       holds = holds_of fleet;
       turn = turn_of fleet;
       named = named_of fleet;
+      stale = router.stale;
+      gone = number_in router.gone;
     }
 
 -- what was done for the client is more of every log, whoever the others are
@@ -50,19 +65,34 @@ pub record Advances (old : Connection) (i : ℕ) (router : Router) (fleet : Memo
   pub works : (base : Standing classic) (c : ℕ) → Works (words_of (tree_of router)) (placed base c old i router fleet) c (placed base c new j router' fleet')
   pub tree : tree_of router' ≡ tree_of router
   pub count : count_of fleet' ≡ count_of fleet
-  -- each command made one call
-  pub counted : router.number ≡ turn_of fleet → router'.number ≡ turn_of fleet'
+  -- each command is stale once at most
+  pub few : router.stale ≤ begun_of fleet → router'.stale ≤ begun_of fleet'
 
--- where numbers are spent, none of the next 2^32 calls can be numbered
+-- where numbers are spent, none of the next 2^32 calls can be numbered, or the last command has its number
 abbrev pub SpentBy : FleetFault → MemoryFleet → Type 0
 SpentBy NoMemory fleet = Unit {0}
-SpentBy Spent fleet = last_turn < turn_of fleet + 2 ^ 32
+SpentBy Spent fleet = (last_turn < turn_of fleet + 2 ^ 32) ⊎ (begun_of fleet ≡ last_turn)
 
--- each key has one server, which is there
+-- each server of the tree is there
 pub record IsServed (tree : Route) (count : ℕ) : Type 0 where
-  pub direct : is_direct tree ≡ true
   pub good : IsTree tree
   pub below : IsBelow count tree
+
+-- whatever comes of a command, its calls can be made
+abbrev pub CanBeAsked : Route → Ask → MemoryFleet → Type 0
+CanBeAsked tree ask fleet =
+    (calls : List Call) (given : Given) → Word (tree_at tree ask.key) ask Client 0 calls given
+    → Each (λ call. (call.server < count_of fleet) × IsFormed call.ask × (call.ask.dialect ≡ Classic)) calls
+
+-- the command's calls were made, one after the other, and this came of them
+abbrev pub RunsBy : ℕ → Route → Ask → MemoryFleet → Done → MemoryFleet → Type 0
+RunsBy number tree ask old done new =
+    (calls : List Call) × Word (tree_at tree ask.key) ask Client 0 calls (given_of done) × MakesAll (KeepsLaw number) old calls new
+
+-- the stamp of the item that a reply shows
+abbrev pub stamp_shown : Option ℕ → MemoryFleet → Option ℕ
+stamp_shown None fleet = None
+stamp_shown (Some call) fleet = stamp_at fleet.found.items call
 
 -- the request stands at the client's front
 pub record IsFront (x : Connection) (request : Request) : Type 0 where
@@ -105,12 +135,22 @@ pub record ServesKey (old : Connection) (request : Request) (i : ℕ) (router : 
   pub served : ServesAsk old request i router fleet ended new router' fleet'
   pub way : ended ≡ false → IsOnWay new request asks' (i + 1)
 
--- a command of this ask had this reply: one call of the key's server, under the next number
+-- a command of this ask had this reply: the calls of a word, under the next number, each by the law of runs and ending as it was named; and it was counted
 pub record Asked (router : Router) (fleet : MemoryFleet) (ask : Ask) (reply : Answer) (router' : Router) (fleet' : MemoryFleet) : Type 0 where
-  pub made : Made
-  pub call : FleetCalls (router.number + 1) fleet (server_at (tree_of router) ask.key) ask made fleet'
-  pub reply_is : reply ≡ reply_of made.outcome
-  pub number : router'.number ≡ router.number + 1
+  pub calls : List Call
+  pub from : Option ℕ
+  pub word : Word (tree_at (tree_of router) ask.key) ask Client 0 calls (record { reply = reply; from = from })
+  pub found : List (Option Item)
+  pub made : MakesNamed (begun_of fleet + 1) (turn_of fleet) (named_of fleet) (record { holds = holds_of fleet; found = [] }) calls (record { holds = holds_of fleet'; found = found })
+  pub turn_is : turn_of fleet' ≡ turn_of fleet + length calls
+  pub named_is : (t : ℕ) → named_of fleet' t ≡ named_of fleet t
+  pub count_is : count_of fleet' ≡ count_of fleet
+  pub begun_is : begun_of fleet' ≡ begun_of fleet + 1
+  -- what the call found whose item the reply shows
+  pub item : Option Item
+  pub shown : ShownIn found from item
+  pub stale : router'.stale ≡ router.stale + stale_since (number_in router.gone ask.key) item
+  pub gone : (key : List ℕ) → number_in router'.gone key ≡ (if bytes_eq ask.key key && (is_delete_op ask.op && says_gone reply) then Some (begun_of fleet + 1) else number_in router.gone key)
   pub tree : tree_of router' ≡ tree_of router
 
 -- a message at the front was done: fewer bytes are held

@@ -1,4 +1,4 @@
-// Which events of a script can't be.
+//! Which events of a script can't be.
 
 ghost use Rattle.std.specs.Prelude.{◌≡◌, ◌≤◌, ◌<◌, List, length, map, sum_by, IfSome};
 ghost use Rattle.memory_fleet.specs.Fleets.{server_of};
@@ -33,7 +33,7 @@ fn server_of(loss: &Loss) -> u32
     }
 }
 
-// Whether the event can't be, behind those before it.
+// Whether the event can't be, after those before it.
 fn is_bad(servers: u32, before: Before, event: &Event) -> bool
     requires { before.bytes ≤ 16777216 }
     ensures { (events : List Scripted) → before.bytes ≡ sum_by len_of events → before.begun ≡ has_begun events → result ≡ bad_in servers events (scripted_of event.now) }
@@ -46,6 +46,7 @@ fn is_bad(servers: u32, before: Before, event: &Event) -> bool
             server.number() >= servers || content.len() > DATA_LIMIT || before.begun
         }
         Event::Fail(turn, _) => *turn == 0,
+        Event::At(turn, loss) => *turn == 0 || server_of(loss) >= servers,
         Event::Now(loss) => server_of(loss) >= servers,
         Event::Moment(moment) => *moment < 0,
     }
@@ -67,13 +68,13 @@ fn begins_run(event: &Event) -> bool
 {
     match event {
         Event::Piece(_, _) | Event::Now(_) => true,
-        Event::Hold(_, _, _) | Event::Fail(_, _) | Event::Moment(_) => false,
+        Event::Hold(_, _, _) | Event::Fail(_, _) | Event::At(_, _) | Event::Moment(_) => false,
     }
 }
 
 /// The place of the first event that can't be, counted from 0: a client above 63, a server that isn't there, a turn
 /// counted 0, a moment below 0, the piece with which all pieces exceed 16,777,216 bytes, held data above 1,048,576 bytes,
-/// a `Hold` behind a piece or a loss. It takes no memory.
+/// a `Hold` after a piece or a loss, one named for a call (`At`) aside. It takes no memory.
 ///
 /// Source: mcgate's own.
 pub fn first_bad_event(servers: u32, script: &Script) -> Option<usize>

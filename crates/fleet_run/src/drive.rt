@@ -1,9 +1,8 @@
-// A script, run through a tree of routes on servers in memory.
+//! A script, run through a tree of routes on servers in memory.
 
 ghost use Rattle.std.specs.Prelude.{◌≡◌, ◌<◌, ◌≤◌, pos, ◌≤ℤ◌, List, [], true, false, length, map, None, IfOk, IfErr, OnOk, OnErr, MatchResult};
 ghost use Rattle.route_tree.specs.Route.{IsTree};
-ghost use Rattle.route_tree.specs.Direct.{is_direct};
-ghost use Rattle.memory_fleet.specs.Fleets.{IsNewFleet, IsMoment, count_of, turn_of};
+ghost use Rattle.memory_fleet.specs.Fleets.{IsNewFleet, IsMoment, count_of, begun_of};
 ghost use Rattle.memory_fleet.specs.declared.event.FleetFault.TheVariants.{NoMemory};
 ghost use Rattle.fleet_run.specs.Serving.{IsServed, SpentBy, tree_of};
 ghost use Rattle.fleet_run.specs.Scripted.{Scripted, scripted_of, transcript_of};
@@ -30,7 +29,7 @@ fn serve_piece(
     fleet: &mut MemoryFleet,
 ) -> Result<Vec<u8>, FleetFault>
     requires served { IsServed (tree_of router.old) (count_of fleet.old) }
-    requires counted { router.old.number ≡ turn_of fleet.old }
+    requires few { router.old.stale ≤ begun_of fleet.old }
     ensures spent { IfErr result (λ fault. SpentBy fault fleet.new) }
     ensures ok { IfOk result (λ out. ServesPiece connection.old router.old fleet.old bytes.now out.items connection.new router.new fleet.new) }
 {
@@ -71,7 +70,7 @@ fn take_up(
     transcript: &mut Transcript,
 ) -> Result<(), FleetFault>
     requires served { IsServed (tree_of router.old) (count_of fleet.old) }
-    requires counted { router.old.number ≡ turn_of fleet.old }
+    requires few { router.old.stale ≤ begun_of fleet.old }
     requires clients { length clients.old.items ≡ 64 }
     requires good { (before : List Scripted) × (bad_in (count_of fleet.old) before (scripted_of event.now) ≡ false) }
     ensures ok { OnOk result (TakesEvent clients.old.items router.old fleet.old transcript.old event.now clients.new.items router.new fleet.new transcript.new) }
@@ -86,6 +85,7 @@ fn take_up(
         }
         Event::Hold(server, key, content) => Ok(fleet.hold(*server, key, content.as_slice())?),
         Event::Fail(turn, manner) => fleet.fail(*turn, *manner),
+        Event::At(turn, loss) => fleet.lose_at(alloc, *turn, *loss),
         Event::Now(loss) => {
             fleet.lose(*loss);
             Ok(())
@@ -126,14 +126,14 @@ fn drive_events(
 {
     direct_is_one_server();
     let mut clients = new_clients(alloc)?;
-    let mut router = Router::new(tree);
+    let mut router = Router::new(alloc, tree);
     for event in &script.events {
         take_up(alloc, &mut clients, &mut router, fleet, event, transcript)?;
     }
     Ok(Report {
-        commands: router.number,
+        commands: fleet.commands(),
         calls: fleet.calls(),
-        stale: 0,
+        stale: router.stale,
     })
 }
 
@@ -156,12 +156,13 @@ fn drive_fault(fault: FleetFault) -> DriveFault
 /// Runs a script through the configuration's tree on servers in memory, one command at a time. After each piece the
 /// client's new output stands in the transcript, where there is any.
 ///
-/// The tree is one in which each key has one server (`Tree::is_direct`), and the fleet a new one with a server for each
-/// of the configuration's; a fleet that was driven isn't driven again.
+/// The tree may be any: no gate has judged it, so replies may be stale, and the report tells how many. Where each key has one
+/// server (`Tree::is_direct`), none is. The fleet is a new one with a server for each of the configuration's; a fleet that was
+/// driven isn't driven again.
 ///
 /// The error is `BadEvent` exactly where an event can't be, with the place of the first one, and then nothing has
 /// happened. After want of memory the transcript holds what was handed out before, and after `Spent` too, which comes only
-/// where none of the next 2^32 calls could be numbered.
+/// where none of the next 2^32 calls could be numbered, or 2^64 - 1 commands have begun.
 ///
 /// Source: mcgate's own.
 pub fn drive_any(
@@ -171,7 +172,6 @@ pub fn drive_any(
     script: &Script,
     transcript: &mut Transcript,
 ) -> Result<Report, DriveFault>
-    requires direct { is_direct config.now.tree ≡ true }
     requires fleet { IsNewFleet (length config.now.servers) fleet.old }
     requires transcript { transcript.old.shown.items ≡ [] }
     ensures refuses { MatchResult result (λ _. first_bad (length config.now.servers) (map scripted_of script.now.events.items) ≡ None) (Refuses (length config.now.servers) script.now) }

@@ -3,6 +3,7 @@
 
 pub mod bad;
 pub mod drive;
+pub mod gone;
 pub mod router;
 pub mod script;
 pub mod serve;

@@ -10,6 +10,9 @@ pub enum Event {
     Hold(ServerId, Key, Vec<u8>),
     /// The call of this turn, counted from here and from 1, fails. Of two that name one call, the later counts.
     Fail(u32, Manner),
+    /// Something is lost just before the call of this turn, counted from here and from 1. Several losses at one call happen in
+    /// the order of the script; where that call never comes, nothing is lost.
+    At(u32, Loss),
     /// Something is lost now.
     Now(Loss),
     /// The time from now on, in seconds; 0 at first.

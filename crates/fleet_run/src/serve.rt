@@ -1,56 +1,60 @@
-// What one client sent is served, message by message and key by key.
+//! What one client sent is served, message by message and key by key.
 
-ghost use Rattle.std.specs.Prelude.{◌≡◌, true, ◌+◌, ◌<◌, ◌≤◌, length, IfOk, IfErr, OnOk};
+ghost use Rattle.std.specs.Prelude.{◌≡◌, ◌≤◌, IfOk, IfErr, OnOk};
 ghost use Rattle.text_requests.specs.Asks.{IsClassicAsk};
-ghost use Rattle.mc_runs.specs.Single.{reply_of};
-ghost use Rattle.mc_runs.specs.Protocol.{IsStuck};
-ghost use Rattle.text_codec.specs.Classic.{classic};
-ghost use Rattle.connections.specs.Steps.{held_len};
-ghost use Rattle.memory_fleet.specs.Fleets.{count_of, turn_of};
-ghost use Rattle.route_tree.specs.Direct.{is_direct, server_at};
-ghost use Rattle.route_tree.specs.Route.{IsTree};
-ghost use Rattle.route_json.specs.Fits.{IsBelow};
-ghost use Rattle.fleet_run.specs.Serving.{IsServed, SpentBy, tree_of, IsFront, IsOnWay, IsAskAt, Asked, ServesAsk, ServesKey, ServesRequest, ServesAll};
+ghost use Rattle.memory_fleet.specs.Fleets.{count_of, begun_of};
+ghost use Rattle.fleet_run.specs.Serving.{IsServed, SpentBy, CanBeAsked, RunsBy, stamp_shown, tree_of, IsFront, IsOnWay, IsAskAt, Asked, ServesAsk, ServesKey, ServesRequest, ServesAll};
 
 use crate::router::Router;
 use connections::Connection;
-use mc_types::{Answer, Ask, ErrorText, Key, Outcome, OwnText, ServerId};
+use mc_types::{Answer, Ask};
+use memory_fleet::laws::calls_are_named;
 use memory_fleet::{FleetFault, MemoryFleet};
-use route_json::laws::direct_servers_are_below;
-use route_tree::laws::direct_is_one_server;
-use route_tree::{PlainForm, Tree};
+use route_job::{Done, execute};
+use route_tree::Tree;
+use route_tree::laws::{calls_are_asked, calls_stay, replies_show_what_was_found, servers_stay};
 use std::alloc::{AllocError, Global};
 use text_codec::{Asks, Read, Request};
 
-// What the client is answered.
-fn reply_to(outcome: Outcome) -> Answer
-    ensures { result ≡ reply_of outcome }
-{
-    match outcome {
-        Outcome::Answered(answer) => answer,
-        Outcome::Failed => Answer::ServerError(ErrorText::own(OwnText::CallFailed)),
-    }
-}
+/// The most calls of a command.
+const MOST_CALLS: u64 = 4_096;
 
 // A drop that is a call keeps the proof of a caller short.
 fn drop_answer(_answer: Answer) {}
 
 fn drop_ask(_ask: Ask) {}
 
-// The key's one server.
-fn server_of(alloc: Global, tree: &Tree, key: &Key) -> Result<ServerId, AllocError>
-    requires { is_direct tree.now ≡ true }
-    ensures { IfOk result (λ server. server ≡ server_at tree.now key.now) }
+fn drop_done(_done: Done) {}
+
+// The calls of the command of this number, and what came of them. Their numbers are there, so want of memory is the only
+// error.
+fn run(
+    alloc: Global,
+    tree: &Tree,
+    number: u64,
+    ask: &Ask,
+    fleet: &mut MemoryFleet,
+) -> Result<Done, AllocError>
+    requires { CanBeAsked tree.now ask.now fleet.old }
+    ensures { IfOk result (λ done. RunsBy number tree.now ask.now fleet.old done fleet.new) }
 {
-    direct_is_one_server();
-    let plain = tree.at(alloc, key)?;
-    match plain.form() {
-        PlainForm::Server(server) => Ok(*server),
-        _ => unreachable!(),
+    match execute(alloc, tree, number, ask.copy()?, fleet) {
+        Ok(done) => Ok(done),
+        Err(_) => Err(AllocError),
     }
 }
 
-// The next command: one call, of the key's server.
+// The stamp of the item that the reply shows.
+fn stamp_shown(from: Option<u64>, fleet: &MemoryFleet) -> Option<u64>
+    ensures { result ≡ stamp_shown from fleet.now }
+{
+    match from {
+        Some(call) => fleet.found_stamp(call),
+        None => None,
+    }
+}
+
+// The next command, by the tree.
 fn command(
     alloc: Global,
     router: &mut Router,
@@ -58,21 +62,30 @@ fn command(
     ask: &Ask,
 ) -> Result<Answer, FleetFault>
     requires served { IsServed (tree_of router.old) (count_of fleet.old) }
-    requires counted { router.old.number ≡ turn_of fleet.old }
+    requires few { router.old.stale ≤ begun_of fleet.old }
     requires ask { IsClassicAsk ask.now }
     ensures ok { IfOk result (λ reply. Asked router.old fleet.old ask.now reply router.new fleet.new) }
     ensures spent { IfErr result (λ fault. SpentBy fault fleet.new) }
 {
-    if router.number == u64::MAX {
+    if fleet.calls() > u64::MAX - MOST_CALLS {
         return Err(FleetFault::Spent);
     }
-    direct_is_one_server();
-    direct_servers_are_below();
-    let number = router.number + 1;
-    let server = server_of(alloc, router.tree, &ask.key)?;
-    let made = fleet.call(number, server, ask)?;
-    router.number = number;
-    Ok(reply_to(made.outcome))
+    servers_stay();
+    calls_stay();
+    calls_are_asked();
+    replies_show_what_was_found();
+    calls_are_named();
+    let number = fleet.begin()?;
+    let done = run(alloc, router.tree, number, ask, fleet)?;
+    let shown = stamp_shown(done.from, fleet);
+    let counted = router.count(number, ask, &done.reply, shown);
+    match counted {
+        Ok(()) => Ok(done.reply),
+        Err(_) => {
+            drop_done(done);
+            Err(FleetFault::NoMemory)
+        }
+    }
 }
 
 // The command of one ask of the request at the front: whether the request is done with its reply.
@@ -86,13 +99,13 @@ fn serve_ask(
     fleet: &mut MemoryFleet,
 ) -> Result<bool, FleetFault>
     requires served { IsServed (tree_of router.old) (count_of fleet.old) }
-    requires counted { router.old.number ≡ turn_of fleet.old }
+    requires few { router.old.stale ≤ begun_of fleet.old }
     requires at { IsAskAt connection.old request.now index ask.now }
     requires ask { IsClassicAsk ask.now }
     ensures ok { IfOk result (λ ended. ServesAsk connection.old request.now index router.old fleet.old ended connection.new router.new fleet.new) }
     ensures spent { IfErr result (λ fault. SpentBy fault fleet.new) }
 {
-    direct_is_one_server();
+    calls_stay();
     let count = request.asks();
     let last = index + 1 == count;
     let reply = command(alloc, router, fleet, ask)?;
@@ -115,7 +128,7 @@ fn serve_key(
     fleet: &mut MemoryFleet,
 ) -> Result<bool, FleetFault>
     requires served { IsServed (tree_of router.old) (count_of fleet.old) }
-    requires counted { router.old.number ≡ turn_of fleet.old }
+    requires few { router.old.stale ≤ begun_of fleet.old }
     requires way { IsOnWay connection.old request.now asks.old index }
     ensures ok { IfOk result (λ ended. ServesKey connection.old request.now index router.old fleet.old ended connection.new asks.new router.new fleet.new) }
     ensures spent { IfErr result (λ fault. SpentBy fault fleet.new) }
@@ -137,7 +150,7 @@ fn serve_request(
     fleet: &mut MemoryFleet,
 ) -> Result<(), FleetFault>
     requires served { IsServed (tree_of router.old) (count_of fleet.old) }
-    requires counted { router.old.number ≡ turn_of fleet.old }
+    requires few { router.old.stale ≤ begun_of fleet.old }
     requires front { IsFront connection.old request.now }
     ensures ok { OnOk result (ServesRequest connection.old router.old fleet.old connection.new router.new fleet.new) }
     ensures spent { IfErr result (λ fault. SpentBy fault fleet.new) }
@@ -163,7 +176,7 @@ pub fn serve(
     fleet: &mut MemoryFleet,
 ) -> Result<(), FleetFault>
     requires served { IsServed (tree_of router.old) (count_of fleet.old) }
-    requires counted { router.old.number ≡ turn_of fleet.old }
+    requires few { router.old.stale ≤ begun_of fleet.old }
     ensures ok { OnOk result (ServesAll connection.old router.old fleet.old connection.new router.new fleet.new) }
     ensures spent { IfErr result (λ fault. SpentBy fault fleet.new) }
 {

@@ -123,7 +123,7 @@ module _ (opening : ℕ → List ℕ → Option Item) where
   -- the fleet holds what the run says, and found what its calls found
   pub record IsIn (state : State) (past : List Event) (key : List ℕ) : Type 0 where
     pub holds : (s : ℕ) (k : List ℕ) → state.holds s k ≡ held opening past s k
-    pub found : (i : ℕ) (item : Item) → slice_get state.found i ≡ Some (Some item) → item_at opening past key i ≡ Some item
+    pub found : (i : ℕ) (item : Option Item) → slice_get state.found i ≡ Some item → item_at opening past key i ≡ item
     pub count : length state.found ≡ length (calls_so_far past key)
 
   module _ (words : ℕ → Ask → List Call → Answer → Option ℕ → Type 0) (number : ℕ) (client : Ask) (key : List ℕ) where
@@ -138,7 +138,7 @@ module _ (opening : ℕ → List ℕ → Option Item) where
 
     stamp_is : (past : List Event) (old : State) (origin : Origin) (stamp : ℕ) → IsIn old past key → StampIn old.found number origin stamp → GivesStamp opening past key number origin stamp
     stamp_is past old Client stamp is h = h
-    stamp_is past old (CopyOf i) stamp is h = (h.0, is.found i h.0 h.1, h.2)
+    stamp_is past old (CopyOf i) stamp is h = (h.0, is.found i (Some h.0) h.1, h.2)
 
     ends_well : (past : List Event) (old : State) (server : ℕ) (ask : Ask) (origin : Origin) (end : End) (before : Option Item) → ask.key ≡ key → IsIn old past key → before ≡ held opening past server ask.key → EndsIn before old.found number ask origin end → EndsWell opening past number server ask origin end
     ends_well past old server ask origin (Read stamp answer spaces) before at is b h =
@@ -180,7 +180,7 @@ module _ (opening : ℕ → List ℕ → Option Item) where
                 (λ r.
                 let here : nat_eq (length (calls_so_far past' key)) i ≡ true = eq-eqb (length (calls_so_far past' key)) i (let e = r.0 in omega arith) in
                 ap (λ b. cond b (held opening past' call.server key) (item_at opening past' key i)) here ∙ ap (held opening past' call.server) (sym at) ∙ sym (now call.server call.ask.key) ∙ r.1)
-                (get_last old.found before (Some item) i (ap (λ l. slice_get l i) (sym m.found) ∙ h));
+                (get_last old.found before item i (ap (λ l. slice_get l i) (sym m.found) ∙ h));
             count = ap length m.found ∙ length-append old.found (before ∷ []) ∙ ap (λ n. n + 1) is.count ∙ sym (length-append (calls_so_far past key) (call ∷ [])) ∙ ap length (sym calls_are);
           },
           (refl, losses_within number m.lost m.losses),

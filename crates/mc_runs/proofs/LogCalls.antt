@@ -13,7 +13,8 @@ use Rattle.mc_runs.specs.Run.{Words, Call, End, Read, Unread, Never, outcome_of,
 use Rattle.mc_runs.specs.Fleet.{after_losses, AreLosses, State, StampIn, EndsIn, MakesCall, AreOn}
 use Rattle.mc_runs.specs.Protocol.{Protocol}
 use Rattle.mc_runs.specs.Log.{Manner, Part, Entry, Starts, Happens, Ends, run_of, calls_in, EndsAs}
-use Rattle.mc_runs.specs.Standing.{Standing, AreItsCalls, MakesNamed, LeadsTo, IsReplied, CallsAll, CallsEach}
+use Rattle.mc_runs.specs.Standing.{Standing, AreItsCalls, MakesNamed, LeadsTo, IsReplied, ShownIn, CallsAll, CallsEach}
+use Rattle.mc_runs.specs.Stale.{shown_item}
 use Rattle.mc_runs.proofs.Lists.{bool_is, get_last}
 use Rattle.mc_runs.proofs.Bridge.{held_after, event_same, IsIn}
 use Rattle.mc_runs.proofs.LogRuns.{runs}
@@ -41,6 +42,11 @@ its_append number turn named (Replies m a b c ∷ xs) ys h k = absurd h
 losses_same : (lost : List Event) (g h : ℕ → List ℕ → Option Item) (s : ℕ) (k : List ℕ) → g s k ≡ h s k → after_losses lost g s k ≡ after_losses lost h s k
 losses_same [] g h s k is = is
 losses_same (e ∷ lost) g h s k is = event_same (λ a b. None) e (after_losses lost g) (after_losses lost h) s k (losses_same lost g h s k is)
+
+-- what is shown is what the call found that the reply names
+shown_is : (opening : ℕ → List ℕ → Option Item) (past : List Event) (key : List ℕ) (found : List (Option Item)) (from : Option ℕ) (item : Option Item) → ShownIn found from item → ((i : ℕ) (o : Option Item) → slice_get found i ≡ Some o → item_at opening past key i ≡ o) → shown_item opening past key from ≡ item
+shown_is opening past key found None item h at = sym h
+shown_is opening past key found (Some i) item h at = at i item h
 
 module _ (words : Words) (opening : ℕ → List ℕ → Option Item) where
   held_losses : (lost past : List Event) (s : ℕ) (k : List ℕ) → held opening (lost ++ past) s k ≡ after_losses lost (held opening past) s k
@@ -78,7 +84,7 @@ module _ (words : Words) (opening : ℕ → List ℕ → Option Item) where
 
     stamp_is : (past : List Event) (old : State) (origin : Origin) (stamp : ℕ) → IsIn opening old past key → StampIn old.found number origin stamp → GivesStamp opening past key number origin stamp
     stamp_is past old Client stamp is h = h
-    stamp_is past old (CopyOf i) stamp is h = (h.0, is.found i h.0 h.1, h.2)
+    stamp_is past old (CopyOf i) stamp is h = (h.0, is.found i (Some h.0) h.1, h.2)
 
     ends_well : (past : List Event) (old : State) (server : ℕ) (ask : Ask) (origin : Origin) (end : End) (before : Option Item) → ask.key ≡ key → IsIn opening old past key → before ≡ held opening past server ask.key → EndsIn before old.found number ask origin end → EndsWell opening past number server ask origin end
     ends_well past old server ask origin (Read stamp answer spaces) before at is b h =
@@ -123,7 +129,7 @@ module _ (words : Words) (opening : ℕ → List ℕ → Option Item) where
                 (λ r.
                 let here : nat_eq (length (calls_so_far past' key)) i ≡ true = eq-eqb (length (calls_so_far past' key)) i (let e = r.0 in omega arith) in
                 ap (λ b. cond b (held opening past' call.server key) (item_at opening past' key i)) here ∙ ap (held opening past' call.server) (sym at) ∙ sym (now call.server call.ask.key) ∙ r.1)
-                (get_last old.found before (Some item) i (ap (λ l. slice_get l i) (sym m.found) ∙ h));
+                (get_last old.found before item i (ap (λ l. slice_get l i) (sym m.found) ∙ h));
             count = ap length m.found ∙ length-append old.found (before ∷ []) ∙ ap (λ n. n + 1) is.count ∙ sym (length-append (calls_so_far past key) (call ∷ [])) ∙ ap length (sym calls_are);
           };
           its = (refl, subst (λ n. EndsAs (named n) m.end) turn_is as_named, none.0);
@@ -183,6 +189,9 @@ module _ (P : Protocol) (words : Words) (opening : ℕ → List ℕ → Option I
           word = subst (λ l. words number ask l reply from) (sym (done.made ∙ ap (λ l. l ++ calls) none)) c.word;
           holds = λ s k. c.holds s k ∙ done.state.holds s k;
           turn = c.turn ∙ ap (λ n. old.turn + n) (sym done.count);
+          item = c.item;
+          shown = shown_is opening (done.events ++ begun) ask.key c.state.found from c.item c.shown done.state.found;
+          counted = c.counted;
         },
       )
 

@@ -1,19 +1,19 @@
 -- Each step of clients and servers is more of a log.
-use Rattle.std.proofs.Common.{◌≡◌, ℕ, ◌+◌, ◌<◌, Bool, true, false, cond, List, [], ◌∷◌, ◌++◌, Option, Some, None, refl, sym, ap, ap₂, ◌∙◌, subst, arith, bytes_eq, nat_eq, append_assoc, append-nil, map}
+use Rattle.std.proofs.Common.{◌≡◌, ℕ, ◌+◌, ◌<◌, Bool, true, false, cond, ◌&&◌, List, [], ◌∷◌, ◌++◌, Option, Some, None, refl, sym, ap, ap₂, ◌∙◌, subst, arith, bytes_eq, nat_eq, append_assoc, append-nil, map}
 use Rattle.std.proofs.lemmas.Slice.Eq.{bytes_eq-Decides}
 use Rattle.std.proofs.lemmas.Bool.{eqb-true, eq-eqb}
 use Rattle.mc_types.specs.declared.ask.Ask.{Ask}
 use Rattle.mc_types.specs.declared.answer.Answer.{Answer}
-use Rattle.mc_types.specs.declared.call.Origin.TheVariants.{Client}
+use Rattle.mc_types.specs.Acknowledged.{says_gone}
 use Rattle.mc_types.specs.Items.{Item}
-use Rattle.mc_types.specs.Agree.{Agrees}
 use Rattle.mc_runs.specs.Run.{Words, Call, End, Read, Unread, Never, outcome_of, Event, Begins, Calls, Replies, Loses, Restarts, Command, under_way, calls_so_far, held, EndsWell, IsNewNumber, IsFront, MayCome, Run}
-use Rattle.mc_runs.specs.Fleet.{EndsIn}
 use Rattle.mc_runs.specs.Protocol.{Protocol, IsStuck}
 use Rattle.mc_runs.specs.Log.{Manner, Piece, Fail, Part, Point, Entry, Takes, Starts, Happens, Ends, Passes, Gives, after_reply, fed_point, run_of, point_of, output_of, given_of, shown_of, script_of, calls_in, commands_in, named_in, starter_of, EndsAs, IsSettled, IsNext, MayFollow, Follows}
-use Rattle.mc_runs.specs.Standing.{Standing, AreItsCalls, LeadsTo, Moves, IsFed, IsNamed, IsGiven, IsPassed, IsReplied, CallsOnce, CallsAll}
+use Rattle.mc_runs.specs.Standing.{Standing, AreItsCalls, LeadsTo, Moves, IsFed, IsNamed, IsGiven, IsPassed, IsReplied, CallsAll}
+use Rattle.mc_runs.specs.Stale.{is_delete_op, last_gone, stale_since, tally_of}
 use Rattle.mc_runs.proofs.Bridge.{held_after, event_same}
 use Rattle.mc_runs.proofs.LogRuns.{runs}
+use Rattle.mc_runs.proofs.LogTally.{way_over, last_after, tally_after}
 
 new_more : (n : ℕ) (past : List Event) → IsNewNumber n past → IsNewNumber (n + 1) past
 new_more n [] h = let lt = h in omega arith
@@ -31,14 +31,6 @@ shifted : (given out all more : List ℕ) → given ++ out ≡ all → given ++ 
 shifted given out all more e = sym (append_assoc given out more) ∙ ap (λ l. l ++ more) e
 
 -- what the calls of one command leave as it was, and what they count
-pub way_over : (number turn : ℕ) (named : ℕ → Option Manner) (events past : List Event) (key : List ℕ) → AreItsCalls number turn named events → under_way (events ++ past) key ≡ under_way past key
-way_over number turn named [] past key h = refl
-way_over number turn named (Calls m s a o e ∷ events) past key h = way_over number turn named events past key h.2
-way_over number turn named (Loses s k ∷ events) past key h = way_over number turn named events past key h
-way_over number turn named (Restarts s ∷ events) past key h = way_over number turn named events past key h
-way_over number turn named (Begins m a ∷ events) past key h = absurd h
-way_over number turn named (Replies m k r f ∷ events) past key h = absurd h
-
 new_over : (number turn : ℕ) (named : ℕ → Option Manner) (events past : List Event) → AreItsCalls number turn named events → IsNewNumber (number + 1) past → IsNewNumber (number + 1) (events ++ past)
 new_over number turn named [] past h new = new
 new_over number turn named (Calls m s a o e ∷ events) past h new = ((let is = h.0 in omega arith), new_over number turn named events past h.2 new)
@@ -124,6 +116,8 @@ module _ (P : Protocol) (words : Words) (opening : ℕ → List ℕ → Option I
         turn = f.rests.turn ∙ h.turn;
         count = f.rests.number ∙ h.count;
         named = λ t. f.rests.named t ∙ h.named t;
+        stale = f.rests.stale ∙ h.stale;
+        gone = λ key. f.rests.gone key ∙ h.gone key;
       }
 
   -- a call was named
@@ -139,6 +133,8 @@ module _ (P : Protocol) (words : Words) (opening : ℕ → List ℕ → Option I
         turn = f.turn_is ∙ h.turn;
         count = f.number ∙ h.count;
         named = λ t. f.named t ∙ ap₂ (λ n o. cond (nat_eq (n + turn) t) (Some manner) o) h.turn (h.named t);
+        stale = f.stale ∙ h.stale;
+        gone = λ key. f.gone key ∙ h.gone key;
       }
 
   -- output was given
@@ -159,6 +155,8 @@ module _ (P : Protocol) (words : Words) (opening : ℕ → List ℕ → Option I
         turn = g.rests.turn ∙ h.turn;
         count = g.rests.number ∙ h.count;
         named = λ t. g.rests.named t ∙ h.named t;
+        stale = g.rests.stale ∙ h.stale;
+        gone = λ key. g.rests.gone key ∙ h.gone key;
       }
 
   -- a message that asks no server was passed
@@ -175,6 +173,8 @@ module _ (P : Protocol) (words : Words) (opening : ℕ → List ℕ → Option I
         turn = p.rests.turn ∙ h.turn;
         count = p.rests.number ∙ h.count;
         named = λ t. p.rests.named t ∙ h.named t;
+        stale = p.rests.stale ∙ h.stale;
+        gone = λ key. p.rests.gone key ∙ h.gone key;
       }
 
   -- where each client's stream is done and its output taken, the log is settled
@@ -246,43 +246,19 @@ module _ (P : Protocol) (words : Words) (opening : ℕ → List ℕ → Option I
         turn = c.turn ∙ ap (λ n. n + calls_in events) h.turn ∙ sym (calls_over events begun) ∙ ap calls_in (sym run_is);
         count = r.last ∙ r.number_is ∙ ap (λ n. n + 1) h.count ∙ sym (commands_over number old.turn old.named events begun c.calls) ∙ ap commands_in (sym run_is);
         named = λ t. r.named t ∙ h.named t ∙ sym (named_over events started t);
+        stale = c.counted.stale ∙ ap₂ (λ n o. n + stale_since o c.item) h.stale (h.gone ask.key)
+            ∙ ap (λ i. tally_of opening run + stale_since (last_gone run ask.key) i) (sym c.shown)
+            ∙ sym (tally_after opening number old.turn old.named events run ask reply from c.calls)
+            ∙ ap (λ l. tally_of opening (Replies number ask.key reply from ∷ l)) (sym run_is);
+        gone = λ key. c.counted.gone key
+            ∙ ap (λ o. cond (bytes_eq ask.key key && (is_delete_op ask.op && says_gone reply)) (Some number) o) (h.gone key)
+            ∙ sym (last_after number old.turn old.named events run ask reply from key c.calls)
+            ∙ ap (λ l. last_gone (Replies number ask.key reply from ∷ l) key) (sym run_is);
       }
-
-  ends_well : (past : List Event) (number server : ℕ) (ask : Ask) (end : End) (before : Option Item) → before ≡ held opening past server ask.key → EndsIn before [] number ask Client end → EndsWell opening past number server ask Client end
-  ends_well past number server ask (Read stamp answer spaces) before e h = (subst (Agrees ask answer) e h.0, h.1)
-  ends_well past number server ask (Unread stamp answer spaces) before e h = (subst (Agrees ask answer) e h.0, h.1)
-  ends_well past number server ask Never before e h = tt
-
-  -- one call is a list of calls
-  calls_once : (log : List (Entry P)) (old new : Standing P) (number server : ℕ) (ask : Ask) (end : End) (reply : Answer) (from : Option ℕ) → LeadsTo words opening log old → number ≡ old.number + 1 → CallsOnce words old number server ask end reply from new → CallsAll words opening (run_of log) old number ask (Calls number server ask Client end ∷ []) reply from new
-  calls_once log old new number server ask end reply from h next c =
-      let run = run_of log in
-      let begun = Begins number ask ∷ run in
-      let me : Option Command = Some (record { number = number; ask = ask }) in
-      let call : Call = record { server = server; ask = ask; origin = Client; outcome = outcome_of end } in
-      let same : bytes_eq ask.key ask.key ≡ true = (bytes_eq-Decides ask.key ask.key).1 refl in
-      let way : under_way begun ask.key ≡ me = ap (λ b. cond b me (under_way run ask.key)) same in
-      let none : calls_so_far begun ask.key ≡ [] = ap (λ b. cond b [] (calls_so_far run ask.key)) same in
-      let one : calls_so_far (Calls number server ask Client end ∷ begun) ask.key ≡ call ∷ [] = ap (λ b. cond b (calls_so_far begun ask.key ++ call ∷ []) (calls_so_far begun ask.key)) same ∙ ap (λ l. l ++ call ∷ []) none in
-      let front : IsFront words number ask (calls_so_far begun ask.key ++ call ∷ []) = ([], reply, from, subst (λ l. words number ask ((l ++ call ∷ []) ++ []) reply from) (sym none) c.word) in
-      let well : EndsWell opening begun number server ask Client end = ends_well begun number server ask end _ (h.holds server ask.key) c.ends in
-      let turns : old.turn + 0 + 1 ≡ old.turn + 1 = omega arith in
-      record {
-        run = ((ask, way, front, well), (subst (λ n. IsNewNumber n run) (sym next) h.new, runs P words opening log h.follows));
-        calls = (refl, subst (λ t. EndsAs (old.named t) end) (sym turns) c.as_named, tt);
-        word = subst (λ l. words number ask l reply from) (sym one) c.word;
-        holds = λ s k. c.holds s k ∙ event_same opening (Calls number server ask Client end) old.holds (held opening begun) s k (h.holds s k) ∙ sym (held_after opening (Calls number server ask Client end) begun s k);
-        turn = c.turn;
-      }
-
-  -- a command of one call has its reply
-  pub replied_once : (log : List (Entry P)) (old new : Standing P) (client number server : ℕ) (part : Part P) (end : End) (reply : Answer) (from : Option ℕ) → LeadsTo words opening log old → IsReplied old client number part reply new → CallsOnce words old number server part.ask end reply from new → LeadsTo words opening (Ends client number part reply from ∷ (Happens (Calls number server part.ask Client end) ∷ (Starts client number part.ask ∷ log))) new
-  replied_once log old new client number server part end reply from h r c =
-      replied_more log old new client number part (Calls number server part.ask Client end ∷ []) reply from h r (calls_once log old new number server part.ask end reply from h r.number_is c)
 
 -- before the first event
-pub nothing_yet : (P : Protocol) (words : Words) (opening : ℕ → List ℕ → Option Item) (now : Standing P) → ((c : ℕ) → now.point c ≡ record { place = P.start; index = 0 }) → ((c : ℕ) → now.output c ≡ []) → now.number ≡ 0 → ((s : ℕ) (k : List ℕ) → now.holds s k ≡ opening s k) → now.turn ≡ 0 → ((t : ℕ) → now.named t ≡ None) → LeadsTo words opening [] now
-nothing_yet P words opening now point output number holds turn named =
+pub nothing_yet : (P : Protocol) (words : Words) (opening : ℕ → List ℕ → Option Item) (now : Standing P) → ((c : ℕ) → now.point c ≡ record { place = P.start; index = 0 }) → ((c : ℕ) → now.output c ≡ []) → now.number ≡ 0 → ((s : ℕ) (k : List ℕ) → now.holds s k ≡ opening s k) → now.turn ≡ 0 → ((t : ℕ) → now.named t ≡ None) → now.stale ≡ 0 → ((key : List ℕ) → now.gone key ≡ None) → LeadsTo words opening [] now
+nothing_yet P words opening now point output number holds turn named stale gone =
     record {
       follows = tt;
       point = point;
@@ -293,4 +269,6 @@ nothing_yet P words opening now point output number holds turn named =
       turn = turn;
       count = number;
       named = named;
+      stale = stale;
+      gone = gone;
     }

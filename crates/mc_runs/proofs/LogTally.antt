@@ -1,16 +1,23 @@
 -- How the count of stale commands goes on by a command.
-use Rattle.std.proofs.Common.{◌≡◌, ℕ, ◌+◌, true, cond, ◌&&◌, List, [], ◌∷◌, ◌++◌, length, Option, Some, refl, ap, ◌∙◌, bytes_eq, nat_eq}
+use Rattle.std.proofs.Common.{◌≡◌, ℕ, ◌+◌, true, cond, ◌&&◌, List, [], ◌∷◌, ◌++◌, Option, Some, refl, ap, ◌∙◌, bytes_eq}
 use Rattle.std.proofs.lemmas.Slice.Eq.{bytes_eq-Decides}
 use Rattle.mc_types.specs.declared.ask.Ask.{Ask}
 use Rattle.mc_types.specs.declared.answer.Answer.{Answer}
-use Rattle.mc_types.specs.declared.call.Origin.TheVariants.{Client}
 use Rattle.mc_types.specs.Acknowledged.{says_gone}
 use Rattle.mc_types.specs.Items.{Item}
-use Rattle.mc_runs.specs.Run.{Call, End, Event, Begins, Calls, Replies, Loses, Restarts, Command, under_way, calls_so_far, held, item_at}
+use Rattle.mc_runs.specs.Run.{Event, Begins, Calls, Replies, Loses, Restarts, Command, under_way}
 use Rattle.mc_runs.specs.Log.{Manner}
 use Rattle.mc_runs.specs.Standing.{AreItsCalls}
 use Rattle.mc_runs.specs.Stale.{is_delete_op, is_acknowledged, last_gone, stale_since, shown_item, tally_of}
-use Rattle.mc_runs.proofs.LogSteps.{way_over}
+
+-- what the calls of one command leave as it was
+pub way_over : (number turn : ℕ) (named : ℕ → Option Manner) (events past : List Event) (key : List ℕ) → AreItsCalls number turn named events → under_way (events ++ past) key ≡ under_way past key
+way_over number turn named [] past key h = refl
+way_over number turn named (Calls m s a o e ∷ events) past key h = way_over number turn named events past key h.2
+way_over number turn named (Loses s k ∷ events) past key h = way_over number turn named events past key h
+way_over number turn named (Restarts s ∷ events) past key h = way_over number turn named events past key h
+way_over number turn named (Begins m a ∷ events) past key h = absurd h
+way_over number turn named (Replies m k r f ∷ events) past key h = absurd h
 
 gone_over : (number turn : ℕ) (named : ℕ → Option Manner) (events past : List Event) (key : List ℕ) → AreItsCalls number turn named events → last_gone (events ++ past) key ≡ last_gone past key
 gone_over number turn named [] past key h = refl
@@ -46,12 +53,3 @@ module _ (opening : ℕ → List ℕ → Option Item) where
       let item = shown_item opening (events ++ begun) ask.key from in
       ap (λ n. n + stale_since (last_gone (events ++ begun) ask.key) item) (tally_over number turn named events begun h)
       ∙ ap (λ o. tally_of opening past + stale_since o item) (gone_over number turn named events begun ask.key h)
-
-  -- the one call of a command found what its server held before the command
-  pub found_once : (past : List Event) (number server : ℕ) (ask : Ask) (end : End) → item_at opening (Calls number server ask Client end ∷ (Begins number ask ∷ past)) ask.key 0 ≡ held opening past server ask.key
-  found_once past number server ask end =
-      let begun = Begins number ask ∷ past in
-      let same : bytes_eq ask.key ask.key ≡ true = (bytes_eq-Decides ask.key ask.key).1 refl in
-      let none : calls_so_far begun ask.key ≡ [] = ap (λ b. cond b [] (calls_so_far past ask.key)) same in
-      ap (λ b. cond b (cond (nat_eq (length (calls_so_far begun ask.key)) 0) (held opening begun server ask.key) (item_at opening begun ask.key 0)) (item_at opening begun ask.key 0)) same
-      ∙ ap (λ (l : List Call). cond (nat_eq (length l) 0) (held opening begun server ask.key) (item_at opening begun ask.key 0)) none

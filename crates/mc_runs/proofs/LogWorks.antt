@@ -1,11 +1,11 @@
 -- What is done for one client, one step after another.
 use Rattle.std.proofs.Common.{◌≡◌, ℕ, Bool, false, cond, List, ◌∷◌, ◌++◌, Option, refl, ap, ◌∙◌, nat_eq}
 use Rattle.mc_types.specs.declared.answer.Answer.{Answer}
-use Rattle.mc_runs.specs.Run.{Words, Call, End}
+use Rattle.mc_runs.specs.Run.{Words, Call}
 use Rattle.mc_runs.specs.Protocol.{Protocol}
 use Rattle.mc_runs.specs.Log.{Part, Point, Starts}
-use Rattle.mc_runs.specs.Standing.{Standing, Moves, IsPassed, IsReplied, CallsOnce, CallsEach, Works}
-use Rattle.mc_runs.proofs.LogSteps.{passed_more, replied_once, script_over, shown_over}
+use Rattle.mc_runs.specs.Standing.{Standing, Moves, IsPassed, IsReplied, CallsEach, Works}
+use Rattle.mc_runs.proofs.LogSteps.{passed_more, script_over, shown_over}
 use Rattle.mc_runs.proofs.LogCalls.{replied_each}
 
 other : {A : Type 0} (b : Bool) (x y : A) → b ≡ false → cond b x y ≡ y
@@ -36,15 +36,6 @@ module _ (P : Protocol) (words : Words) where
         leads = λ opening log h. (_, passed_more P words opening log old new client message next h p, refl, refl);
         points = moves_points old new client _ _ p.moves;
         outputs = moves_outputs old new client _ _ p.moves;
-      }
-
-  -- one key of a message, by one call
-  pub works_once : (old new : Standing P) (client number server : ℕ) (part : Part P) (end : End) (reply : Answer) (from : Option ℕ) → IsReplied old client number part reply new → CallsOnce words old number server part.ask end reply from new → Works words old client new
-  works_once old new client number server part end reply from r c =
-      record {
-        leads = λ opening log h. (_, replied_once P words opening log old new client number server part end reply from h r c, refl, refl);
-        points = moves_points old new client _ _ r.moves;
-        outputs = moves_outputs old new client _ _ r.moves;
       }
 
   -- one key of a message, by any calls of the fleet's law

@@ -1,15 +1,16 @@
 -- When clients and servers stand as a log says, and how each step changes that. Source: mcgate's own.
-use Rattle.std.specs.Prelude.{◌≡◌, ℕ, ◌+◌, false, List, [], ◌∷◌, ◌++◌, Option, Some, None, if◌then◌else◌, nat_eq, length}
+use Rattle.std.specs.Prelude.{◌≡◌, ℕ, ◌+◌, false, List, [], ◌∷◌, ◌++◌, Option, Some, None, if◌then◌else◌, nat_eq, bytes_eq, ◌&&◌, length, slice_get}
 use Rattle.mc_types.specs.declared.ask.Ask.{Ask}
 use Rattle.mc_types.specs.declared.answer.Answer.{Answer}
-use Rattle.mc_types.specs.declared.call.Origin.TheVariants.{Client}
+use Rattle.mc_types.specs.Acknowledged.{says_gone}
 use Rattle.mc_types.specs.Items.{Item}
 use Rattle.mc_runs.specs.Run.{Words, Call, End, outcome_of, Event, Begins, Calls, Replies, Loses, Restarts, Run, held, calls_so_far, IsNewNumber, under_way}
 use Rattle.mc_runs.specs.Fleet.{after_event, EndsIn, State, MakesCall, AreOn}
 use Rattle.mc_runs.specs.Protocol.{Protocol, IsStuck}
+use Rattle.mc_runs.specs.Stale.{is_delete_op, last_gone, stale_since, shown_item, tally_of}
 use Rattle.mc_runs.specs.Log.{Manner, Part, Point, Entry, after_reply, fed_point, run_of, point_of, output_of, given_of, calls_in, commands_in, named_in, EndsAs, IsNext, Follows, script_of, shown_of}
 
--- clients and servers at one moment: how far each client was served, and its output not yet taken; the last number given out; what servers hold, the calls made, and those that are to fail
+-- clients and servers at one moment: how far each client was served, and its output not yet taken; the last number given out; what servers hold, the calls made, and those that are to fail; how many commands were stale, and the number of the last acknowledged delete of each key
 pub record Standing (P : Protocol) : Type 0 where
   pub point : ℕ → Point P
   pub output : ℕ → List ℕ
@@ -17,6 +18,8 @@ pub record Standing (P : Protocol) : Type 0 where
   pub holds : ℕ → List ℕ → Option Item
   pub turn : ℕ
   pub named : ℕ → Option Manner
+  pub stale : ℕ
+  pub gone : List ℕ → Option ℕ
 
 -- the calls of the command of this number, with losses between them, the latest first; each ends as it was named
 abbrev pub AreItsCalls : ℕ → ℕ → (ℕ → Option Manner) → List Event → Type 0
@@ -34,6 +37,11 @@ MakesNamed number turn named old [] new = new ≡ old
 MakesNamed number turn named old (call ∷ calls) new =
     (mid : State) × (made : MakesCall number old call mid) × EndsAs (named (turn + 1)) made.end × MakesNamed number (turn + 1) named mid calls new
 
+-- the call whose item a reply shows found this item
+abbrev pub ShownIn : List (Option Item) → Option ℕ → Option Item → Type 0
+ShownIn found None item = item ≡ None
+ShownIn found (Some i) item = slice_get found i ≡ Some item
+
 module _ {P : Protocol} where
   module _ (words : Words) (opening : ℕ → List ℕ → Option Item) where
     -- this log leads there
@@ -47,6 +55,8 @@ module _ {P : Protocol} where
       pub turn : now.turn ≡ calls_in (run_of log)
       pub count : now.number ≡ commands_in (run_of log)
       pub named : (t : ℕ) → now.named t ≡ named_in log t
+      pub stale : now.stale ≡ tally_of opening (run_of log)
+      pub gone : (key : List ℕ) → now.gone key ≡ last_gone (run_of log) key
 
   -- one client goes to this point, and its output goes on by these bytes; the others stay
   pub record Moves (old : Standing P) (client : ℕ) (point : Point P) (more : List ℕ) (new : Standing P) : Type 0 where
@@ -59,6 +69,8 @@ module _ {P : Protocol} where
     pub holds : (s : ℕ) (k : List ℕ) → new.holds s k ≡ old.holds s k
     pub turn : new.turn ≡ old.turn
     pub named : (t : ℕ) → new.named t ≡ old.named t
+    pub stale : new.stale ≡ old.stale
+    pub gone : (key : List ℕ) → new.gone key ≡ old.gone key
 
   -- a piece came
   pub record IsFed (old : Standing P) (client : ℕ) (bytes : List ℕ) (new : Standing P) : Type 0 where
@@ -74,6 +86,8 @@ module _ {P : Protocol} where
     pub number : new.number ≡ old.number
     pub holds : (s : ℕ) (k : List ℕ) → new.holds s k ≡ old.holds s k
     pub turn_is : new.turn ≡ old.turn
+    pub stale : new.stale ≡ old.stale
+    pub gone : (key : List ℕ) → new.gone key ≡ old.gone key
 
   -- a client's output was taken, these bytes
   pub record IsGiven (old : Standing P) (client : ℕ) (bytes : List ℕ) (new : Standing P) : Type 0 where
@@ -98,13 +112,10 @@ module _ {P : Protocol} where
     pub last : new.number ≡ number
     pub named : (t : ℕ) → new.named t ≡ old.named t
 
-  -- it made one call, of this server
-  pub record CallsOnce (words : Words) (old : Standing P) (number server : ℕ) (ask : Ask) (end : End) (reply : Answer) (from : Option ℕ) (new : Standing P) : Type 0 where
-    pub word : words number ask (record { server = server; ask = ask; origin = Client; outcome = outcome_of end } ∷ []) reply from
-    pub as_named : EndsAs (old.named (old.turn + 1)) end
-    pub ends : EndsIn (old.holds server ask.key) [] number ask Client end
-    pub holds : (s : ℕ) (k : List ℕ) → new.holds s k ≡ after_event (Calls number server ask Client end) old.holds s k
-    pub turn : new.turn ≡ old.turn + 1
+  -- a command counts as stale by the last acknowledged delete of its key before it and by the item that it shows, and counts as a delete where it is acknowledged as one
+  pub record IsCounted (old : Standing P) (number : ℕ) (ask : Ask) (item : Option Item) (reply : Answer) (new : Standing P) : Type 0 where
+    pub stale : new.stale ≡ old.stale + stale_since (old.gone ask.key) item
+    pub gone : (key : List ℕ) → new.gone key ≡ (if bytes_eq ask.key key && (is_delete_op ask.op && says_gone reply) then Some number else old.gone key)
 
   -- it made these calls after this past, with losses between them
   pub record CallsAll (words : Words) (opening : ℕ → List ℕ → Option Item) (past : List Event) (old : Standing P) (number : ℕ) (ask : Ask) (events : List Event) (reply : Answer) (from : Option ℕ) (new : Standing P) : Type 0 where
@@ -113,6 +124,9 @@ module _ {P : Protocol} where
     pub word : words number ask (calls_so_far (events ++ (Begins number ask ∷ past)) ask.key) reply from
     pub holds : (s : ℕ) (k : List ℕ) → new.holds s k ≡ held opening (events ++ (Begins number ask ∷ past)) s k
     pub turn : new.turn ≡ old.turn + calls_in events
+    pub item : Option Item
+    pub shown : shown_item opening (events ++ (Begins number ask ∷ past)) ask.key from ≡ item
+    pub counted : IsCounted old number ask item reply new
 
   -- it made these calls, by the fleet's law
   pub record CallsEach (words : Words) (old : Standing P) (number : ℕ) (ask : Ask) (calls : List Call) (reply : Answer) (from : Option ℕ) (new : Standing P) : Type 0 where
@@ -122,6 +136,9 @@ module _ {P : Protocol} where
     pub made : MakesNamed number old.turn old.named (record { holds = old.holds; found = [] }) calls state
     pub holds : (s : ℕ) (k : List ℕ) → new.holds s k ≡ state.holds s k
     pub turn : new.turn ≡ old.turn + length calls
+    pub item : Option Item
+    pub shown : ShownIn state.found from item
+    pub counted : IsCounted old number ask item reply new
 
   -- what was done for one client: each log that led to the old standing goes on to the new one, by no event of the script, and nothing was given out; the other clients stay
   pub record Works (words : Words) (old : Standing P) (client : ℕ) (new : Standing P) : Type 0 where

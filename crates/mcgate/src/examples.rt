@@ -9,6 +9,12 @@ fn prints(alloc: Global, script: &str, lines: &str) -> bool {
     run_replay(alloc, false, script, &mut out) == DONE && out.as_slice() == lines.as_bytes()
 }
 
+/// The same, whatever a gate says of the tree.
+fn prints_any(alloc: Global, script: &str, lines: &str) -> bool {
+    let mut out = Vec::new(alloc);
+    run_replay(alloc, true, script, &mut out) == DONE && out.as_slice() == lines.as_bytes()
+}
+
 /// A script of a pool of one server, in which client 0 sends two pieces.
 fn two_pieces(alloc: Global, first: &str, second: &str) -> Result<String, AllocError> {
     let mut script = String::from_str(alloc, "pool 1\n> 0 ")?;
@@ -311,33 +317,185 @@ fn two_clients_interleaved(rt: HostRuntime) {
     assert!(rt; prints(rt.alloc(), script, lines));
 }
 
-// The configurations that README shows. Those with routes that aren't executed yet are read all the same: their fault
-// would be told first.
+const ALL: &str = "{\"type\":\"AllSyncRoute\",\"children\":[\"PoolRoute|A\",\"PoolRoute|B\"]}";
+
+const FIRST: &str = "{\"type\":\"FailoverRoute\",\"children\":[\"PoolRoute|A\",\"PoolRoute|B\"]}";
+
+const WARM_UP: &str =
+    "{\"type\":\"WarmUpRoute\",\"cold\":\"PoolRoute|A\",\"warm\":\"PoolRoute|B\",\"exptime\":0}";
+
+/// The two servers behind one route, and another for deletes, on one line.
+fn with_deletes(alloc: Global, others: &str, deletes: &str) -> Result<String, AllocError> {
+    let mut route = String::from_str(
+        alloc,
+        "{\"type\":\"OperationSelectorRoute\",\"default_policy\":",
+    )?;
+    route.push_str(others)?;
+    route.push_str(",\"operation_policies\":{\"delete\":")?;
+    route.push_str(deletes)?;
+    route.push_str("}}")?;
+    two_servers(alloc, route.as_str())
+}
+
+/// Whether the events print these lines, behind the route of that line.
+fn prints_over(
+    alloc: Global,
+    mut line: String,
+    events: &str,
+    lines: &str,
+) -> Result<bool, AllocError> {
+    line.push_str(events)?;
+    Ok(prints_any(alloc, line.as_str(), lines))
+}
+
 #[test]
-fn usual_set_ups(rt: HostRuntime) {
-    let done = (DONE, "done 0 commands 0 calls 0 stale\n");
-    let not_yet = (BAD_INPUT, "script: bad line 1\n");
-    let cases = [
-        (
-            "{\"pools\": {\"A\": {\"servers\": [\"10.0.0.1:11211\", \"10.0.0.2:11211\"]}}, \"route\": \"PoolRoute|A\"}",
-            done,
-        ),
-        (
-            "{\"pools\": {\"A\": {\"servers\": [\"10.0.0.1:11211\"]}, \"B\": {\"servers\": [\"10.0.0.2:11211\"]}}, \"route\": {\"type\": \"OperationSelectorRoute\", \"default_policy\": {\"type\": \"FailoverRoute\", \"children\": [\"PoolRoute|A\", \"PoolRoute|B\"]}, \"operation_policies\": {\"delete\": {\"type\": \"AllSyncRoute\", \"children\": [\"PoolRoute|A\", \"PoolRoute|B\"]}}}}",
-            not_yet,
-        ),
-        (
-            "{\"pools\": {\"cold\": {\"servers\": [\"10.0.0.3:11211\"]}, \"warm\": {\"servers\": [\"10.0.0.1:11211\"]}}, \"route\": {\"type\": \"OperationSelectorRoute\", \"default_policy\": {\"type\": \"WarmUpRoute\", \"cold\": \"PoolRoute|cold\", \"warm\": \"PoolRoute|warm\", \"exptime\": 3600}, \"operation_policies\": {\"delete\": {\"type\": \"AllSyncRoute\", \"children\": [\"PoolRoute|cold\", \"PoolRoute|warm\"]}}}}",
-            not_yet,
-        ),
-        (
-            "{\"pools\": {\"sessions\": {\"servers\": [\"10.0.1.1:11211\"]}, \"rest\": {\"servers\": [\"10.0.2.1:11211\", \"10.0.2.2:11211\"]}}, \"route\": {\"type\": \"PrefixSelectorRoute\", \"policies\": {\"session:\": \"PoolRoute|sessions\"}, \"wildcard\": \"PoolRoute|rest\"}}",
-            done,
-        ),
-    ];
-    for (text, (status, line)) in cases {
-        let mut out = Vec::new(rt.alloc());
-        assert_eq!(rt; run_replay(rt.alloc(), false, text, &mut out), status);
-        assert_eq!(rt; out.as_slice(), line.as_bytes());
-    }
+fn all_sync_delete_over_failover(rt: HostRuntime) -> Result<(), Fail> {
+    let line = with_deletes(rt.alloc(), FIRST, ALL)?;
+    assert!(rt;
+        prints_over(
+            rt.alloc(),
+            line,
+            "hold 1 a 7\nfail 2 before\n> 0 delete a\\r\\n\nfail 1 before\n> 0 get a\\r\\n\n",
+            "< 0 SERVER_ERROR call failed\\r\\n\n< 0 VALUE a 0 1\\r\\n7\\r\\nEND\\r\\n\ndone 2 commands 4 calls 0 stale\n"
+        )?
+    );
+    Ok(())
+}
+
+/// The meta example of the name has `mg` in place of `get`, which asks the cold side again once the item was added there.
+#[test]
+fn warm_up_accepted_with_classic_gets(rt: HostRuntime) -> Result<(), Fail> {
+    let line = with_deletes(rt.alloc(), WARM_UP, ALL)?;
+    assert!(rt;
+        prints_over(
+            rt.alloc(),
+            line,
+            "hold 1 a 7\nfail 3 before\n> 0 get a\\r\\n\n> 0 get a\\r\\n\n> 0 get a\\r\\n\n",
+            "< 0 VALUE a 0 1\\r\\n7\\r\\nEND\\r\\n\n< 0 VALUE a 0 1\\r\\n7\\r\\nEND\\r\\n\n< 0 VALUE a 0 1\\r\\n7\\r\\nEND\\r\\n\ndone 3 commands 7 calls 0 stale\n"
+        )?
+    );
+    Ok(())
+}
+
+const LEAKED: &str = "< 0 NOT_FOUND\\r\\n\n< 0 VALUE k0 0 1\\r\\n1\\r\\nEND\\r\\n\n";
+
+/// Those two lines, and then this report.
+fn leaked(alloc: Global, report: &str) -> Result<String, AllocError> {
+    let mut lines = String::from_str(alloc, LEAKED)?;
+    lines.push_str(report)?;
+    Ok(lines)
+}
+
+#[test]
+fn failover_leak(rt: HostRuntime) -> Result<(), Fail> {
+    let lines = leaked(rt.alloc(), "done 2 commands 3 calls 1 stale\n")?;
+    let line = two_servers(rt.alloc(), FIRST)?;
+    assert!(rt;
+        prints_over(
+            rt.alloc(),
+            line,
+            "hold 0 k0 1\nfail 1 before\n> 0 delete k0\\r\\n\n> 0 get k0\\r\\n\n",
+            lines.as_str()
+        )?
+    );
+    let line = two_servers(rt.alloc(), FIRST)?;
+    assert!(rt;
+        prints_over(
+            rt.alloc(),
+            line,
+            "hold 1 k0 1\n> 0 delete k0\\r\\n\nfail 1 before\n> 0 get k0\\r\\n\n",
+            lines.as_str()
+        )?
+    );
+    Ok(())
+}
+
+#[test]
+fn warm_up_leak(rt: HostRuntime) -> Result<(), Fail> {
+    let lines = leaked(rt.alloc(), "done 2 commands 4 calls 1 stale\n")?;
+    let line = two_servers(rt.alloc(), WARM_UP)?;
+    assert!(rt;
+        prints_over(
+            rt.alloc(),
+            line,
+            "hold 1 k0 1\n> 0 delete k0\\r\\n\n> 0 get k0\\r\\n\n",
+            lines.as_str()
+        )?
+    );
+    Ok(())
+}
+
+#[test]
+fn null_delete_and_first_of_worst(rt: HostRuntime) -> Result<(), Fail> {
+    let lines = leaked(rt.alloc(), "done 2 commands 1 calls 1 stale\n")?;
+    let line = with_deletes(rt.alloc(), "\"PoolRoute|A\"", "\"NullRoute\"")?;
+    assert!(rt;
+        prints_over(
+            rt.alloc(),
+            line,
+            "hold 0 k0 1\n> 0 delete k0\\r\\n\n> 0 get k0\\r\\n\n",
+            lines.as_str()
+        )?
+    );
+    Ok(())
+}
+
+#[test]
+fn a_lost_item(rt: HostRuntime) {
+    let script = "pool 1\nhold 0 a 7\nhold 0 b 8\nlose 0 a\n> 0 get a b\\r\\n\n";
+    let lines = "< 0 VALUE b 0 1\\r\\n8\\r\\nEND\\r\\n\ndone 2 commands 2 calls 0 stale\n";
+    assert!(rt; prints(rt.alloc(), script, lines));
+}
+
+#[test]
+fn losses_just_before_a_call(rt: HostRuntime) {
+    let second =
+        "pool 1\nhold 0 a 7\nat 2 lose 0 a\n> 0 get a\\r\\n\n> 0 get a\\r\\n\nat 1 restart 0\n";
+    let lines =
+        "< 0 VALUE a 0 1\\r\\n7\\r\\nEND\\r\\n\n< 0 END\\r\\n\ndone 2 commands 2 calls 0 stale\n";
+    assert!(rt; prints(rt.alloc(), second, lines));
+    let failed =
+        "pool 1\nhold 0 a 7\nfail 1 before\nat 1 restart 0\n> 0 get a\\r\\n\n> 0 get a\\r\\n\n";
+    let lines =
+        "< 0 SERVER_ERROR call failed\\r\\n\n< 0 END\\r\\n\ndone 2 commands 2 calls 0 stale\n";
+    assert!(rt; prints(rt.alloc(), failed, lines));
+}
+
+/// What a client does with a key that begins with `session:`.
+const SESSION: &str =
+    "> 0 set session:a 0 0 1\\r\\n1\\r\\n\n> 0 get session:a\\r\\n\n> 0 delete session:a\\r\\n\n";
+
+/// Whether a configuration runs that session: its delete has this reply, and the report this number of calls.
+fn runs_session(alloc: Global, config: &str, reply: &str, calls: &str) -> Result<bool, AllocError> {
+    let mut script = String::from_str(alloc, config)?;
+    script.push('\n')?;
+    script.push_str(SESSION)?;
+    let mut lines = String::from_str(
+        alloc,
+        "< 0 STORED\\r\\n\n< 0 VALUE session:a 0 1\\r\\n1\\r\\nEND\\r\\n\n< 0 ",
+    )?;
+    lines.push_str(reply)?;
+    lines.push_str("\\r\\n\ndone 3 commands ")?;
+    lines.push_str(calls)?;
+    lines.push_str(" calls 0 stale\n")?;
+    Ok(prints_any(alloc, script.as_str(), lines.as_str()))
+}
+
+/// The configurations that the README shows, each on one line.
+#[test]
+fn usual_set_ups(rt: HostRuntime) -> Result<(), Fail> {
+    let alloc = rt.alloc();
+    let pool =
+        "{\"pools\": {\"A\": {\"servers\": [\"10.0.0.1:11211\", \"10.0.0.2:11211\"]}}, \"route\": \"PoolRoute|A\"}";
+    assert!(rt; runs_session(alloc, pool, "DELETED", "3")?);
+    let replicas =
+        "{\"pools\": {\"A\": {\"servers\": [\"10.0.0.1:11211\"]}, \"B\": {\"servers\": [\"10.0.0.2:11211\"]}}, \"route\": {\"type\": \"OperationSelectorRoute\", \"default_policy\": {\"type\": \"FailoverRoute\", \"children\": [\"PoolRoute|A\", \"PoolRoute|B\"]}, \"operation_policies\": {\"delete\": {\"type\": \"AllSyncRoute\", \"children\": [\"PoolRoute|A\", \"PoolRoute|B\"]}}}}";
+    assert!(rt; runs_session(alloc, replicas, "NOT_FOUND", "4")?);
+    let warm_up =
+        "{\"pools\": {\"cold\": {\"servers\": [\"10.0.0.3:11211\"]}, \"warm\": {\"servers\": [\"10.0.0.1:11211\"]}}, \"route\": {\"type\": \"OperationSelectorRoute\", \"default_policy\": {\"type\": \"WarmUpRoute\", \"cold\": \"PoolRoute|cold\", \"warm\": \"PoolRoute|warm\", \"exptime\": 3600}, \"operation_policies\": {\"delete\": {\"type\": \"AllSyncRoute\", \"children\": [\"PoolRoute|cold\", \"PoolRoute|warm\"]}}}}";
+    assert!(rt; runs_session(alloc, warm_up, "NOT_FOUND", "4")?);
+    let prefixes =
+        "{\"pools\": {\"sessions\": {\"servers\": [\"10.0.1.1:11211\"]}, \"rest\": {\"servers\": [\"10.0.2.1:11211\", \"10.0.2.2:11211\"]}}, \"route\": {\"type\": \"PrefixSelectorRoute\", \"policies\": {\"session:\": \"PoolRoute|sessions\"}, \"wildcard\": \"PoolRoute|rest\"}}";
+    assert!(rt; runs_session(alloc, prefixes, "DELETED", "3")?);
+    Ok(())
 }

@@ -1,5 +1,4 @@
-ghost use Rattle.std.specs.Prelude.{◌≡◌, ◌≤◌, true, IfOk, length};
-ghost use Rattle.route_tree.specs.Direct.{is_direct};
+ghost use Rattle.std.specs.Prelude.{◌≡◌, ◌≤◌, IfOk, length};
 ghost use Rattle.mcgate.specs.Replay.{Replays, RunsScript};
 
 use fleet_run::{DriveFault, MemoryFleet, Transcript, drive_any};
@@ -48,8 +47,7 @@ fn run_script<W: Write>(
     configured: &ConfiguredScript,
     out: &mut W,
 ) -> Result<u8, RunFault>
-    requires direct { is_direct configured.now.config.tree ≡ true }
-    requires paired { length configured.now.lines.items ≡ length configured.now.script.events.items }
+    requires { length configured.now.lines.items ≡ length configured.now.script.events.items }
     ensures { IfOk result (RunsScript configured.now (W.contents out.old) (W.contents out.new)) }
 {
     let mut fleet = MemoryFleet::new(alloc, configured.server_count())?;
@@ -77,7 +75,7 @@ fn run_script<W: Write>(
             write_transcript(&transcript, out)?;
             Err(RunFault::NoMemory)
         }
-        // No input of 16,777,216 bytes has so many commands.
+        // No input of 16,777,216 bytes has so many commands or calls.
         Err(DriveFault::Spent) => Err(RunFault::Writer),
     }
 }
@@ -103,7 +101,7 @@ fn replay<W: Write>(alloc: Global, text: &str, out: &mut W) -> Result<u8, RunFau
 /// the line that is bad.
 ///
 /// The answer is the program's exit status, [`DONE`] or [`BAD_INPUT`]; or else [`NO_MEMORY`] where memory was refused, or [`WRITER`]
-/// where the output could not be written: then some of the lines may have been. `any` is for trees that a gate tests; those that are run now need none.
+/// where the output could not be written: then some of the lines may have been. `any` says that the tree need not be accepted by a gate; there is none yet, so every tree runs.
 pub fn run_replay<W: Write>(alloc: Global, any: bool, text: &str, out: &mut W) -> u8
     ensures status { result ≤ 4 }
     ensures wrote { result ≤ 2 → Replays text.now (W.contents out.old) (W.contents out.new) result }

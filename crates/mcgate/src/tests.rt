@@ -113,8 +113,8 @@ fn scripts_that_are_run(rt: HostRuntime) {
         ),
         (
             "{\"pools\":{},\"route\":\"NullRoute\"}\n",
-            BAD_INPUT,
-            "script: bad line 1\n",
+            DONE,
+            "done 0 commands 0 calls 0 stale\n",
         ),
         (
             "pool 1\nhold 0 a 1\nhold 1 a 1\n",

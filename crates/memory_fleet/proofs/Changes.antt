@@ -1,5 +1,5 @@
 -- What is held from the start, and what is lost, at one of the servers.
-use Rattle.std.proofs.Common.{refl, length, option_map, pos, replicate, ◌≡◌, ℕ, cond, List, [], ◌∷◌, Option, Some, None, sym, ap, ◌∙◌, subst, nat_eq, bytes_eq}
+use Rattle.std.proofs.Common.{refl, length, map, option_map, pos, replicate, ◌≡◌, ℕ, cond, List, [], ◌∷◌, Option, Some, None, sym, ap, ◌∙◌, subst, nat_eq, bytes_eq}
 use Rattle.std.specs.Prelude.{slice_set}
 use Rattle.std.specs.Ordering.{nat_cmp}
 use Rattle.std.specs.Map.{lookup}
@@ -10,10 +10,11 @@ use Rattle.mc_runs.specs.Run.{Loses, Restarts}
 use Rattle.cache_server.specs.Contents.{Contents, empty, held, losing, storing, opening, restarted}
 use Rattle.cache_server.specs.Held.{holds, without, pushed_by_new, IsHold, IsLoss}
 use Rattle.memory_fleet.specs.Fleets.{held_at, holds_of, HoldsFrom, IsLost, opening_item, loss_of, manner_of, capacity, IsNewFleet}
+use Rattle.memory_fleet.specs.Losing.{losses_of}
 use Rattle.memory_fleet.specs.declared.event.Loss.{Loss}
 use Rattle.memory_fleet.specs.declared.fleet.MemoryFleet.{MemoryFleet}
 use Rattle.memory_fleet.proofs.Places.{held_there, held_here, held_else, without_same, loses_at, by_server, none_held, same}
-use Rattle.memory_fleet.proofs.Calls.{ChangesCache, changes, count_same, named_same}
+use Rattle.memory_fleet.proofs.Calls.{ChangesCache, changes, count_same, named_same, lost_same}
 
 -- one server holds this, and the others what they held
 at_one : (old : MemoryFleet) (server : ℕ) (x y : Contents) (new : MemoryFleet) (f : List ℕ → Option Item) → ChangesCache old server x y new → ((k : List ℕ) → holds y k ≡ f k) → (s : ℕ) (k : List ℕ) → holds_of new s k ≡ cond (nat_eq server s) (f k) (holds_of old s k)
@@ -42,6 +43,8 @@ holds_from old server key body x y new ch stored is =
       named_is = named_same old server x y new ch;
       count_is = count_same old server x y new ch;
       moment_is = ch.moment;
+      lost_is = lost_same old server x y new ch;
+      begun_is = ch.begun;
     }
 
 pub loses_item : (old : MemoryFleet) (server : ℕ) (key : List ℕ) (x y : Contents) (new : MemoryFleet) → ChangesCache old server x y new → y ≡ losing x key → IsLoss (key ∷ []) x y → IsLost old (Loses server key) new
@@ -53,6 +56,8 @@ loses_item old server key x y new ch is loss =
       named_is = named_same old server x y new ch;
       count_is = count_same old server x y new ch;
       moment_is = ch.moment;
+      lost_is = lost_same old server x y new ch;
+      begun_is = ch.begun;
     }
 
 pub restarts : (old : MemoryFleet) (server : ℕ) (x y : Contents) (new : MemoryFleet) → ChangesCache old server x y new → y ≡ restarted x → ((k : List ℕ) → holds y k ≡ None) → IsLost old (Restarts server) new
@@ -64,18 +69,23 @@ restarts old server x y new ch is none =
       named_is = named_same old server x y new ch;
       count_is = count_same old server x y new ch;
       moment_is = ch.moment;
+      lost_is = lost_same old server x y new ch;
+      begun_is = ch.begun;
     }
 
 pub as_loss : (old new : MemoryFleet) (loss l : Loss) → l ≡ loss → IsLost old (loss_of l) new → IsLost old (loss_of loss) new
 as_loss old new loss l is lost = subst (λ m. IsLost old (loss_of m) new) is lost
 
-pub new_fleet : (n : ℕ) (fleet : MemoryFleet) → fleet.caches.items ≡ replicate n (empty capacity) → fleet.turn ≡ 0 → fleet.moment ≡ pos 0 → fleet.failures.entries ≡ [] → IsNewFleet n fleet
-new_fleet n fleet caches turn moment none =
+pub new_fleet : (n : ℕ) (fleet : MemoryFleet) → fleet.caches.items ≡ replicate n (empty capacity) → fleet.turn ≡ 0 → fleet.moment ≡ pos 0 → fleet.failures.entries ≡ [] → fleet.losses.entries ≡ [] → fleet.found.items ≡ [] → fleet.begun ≡ 0 → IsNewFleet n fleet
+new_fleet n fleet caches turn moment none unlost unfound begun =
     record {
       count = ap length caches ∙ length-replicate n (empty capacity);
       holds = λ s k. ap (λ l. held_at l s k) caches ∙ none_held n (empty capacity) (λ q. refl) s k;
       turn = turn;
       named = λ t. ap (λ es. option_map manner_of (lookup (is_at (nat_cmp t)) es)) none;
+      lost = λ t. ap (λ es. map loss_of (losses_of (lookup (is_at (nat_cmp t)) es))) unlost;
+      found = unfound;
+      begun = begun;
       moment = moment;
       caches = caches;
     }

@@ -1,5 +1,5 @@
 -- What servers in memory hold, and what a call, a failure and a loss change. Source: mcgate's own.
-use Rattle.std.specs.Prelude.{◌≡◌, ℕ, zero, suc, ◌+◌, ◌-◌, ◌^◌, ℤ, pos, List, [], ◌∷◌, length, slice_get, replicate, nat_abs, Option, Some, None, option_map, if◌then◌else◌, nat_eq, bytes_eq}
+use Rattle.std.specs.Prelude.{◌≡◌, ℕ, zero, suc, ◌+◌, ◌-◌, ◌^◌, ℤ, pos, List, [], ◌∷◌, ◌++◌, length, map, slice_get, replicate, nat_abs, Option, Some, None, option_map, if◌then◌else◌, nat_eq, bytes_eq}
 use Rattle.std.specs.Ordering.{nat_cmp}
 use Rattle.std.specs.BTreeMap.{get}
 use Rattle.mc_types.specs.declared.ask.Ask.{Ask}
@@ -14,6 +14,8 @@ use Rattle.mc_runs.specs.Log.{EndsAs}
 use Rattle.mc_runs.specs.Single.{FitsOutcome}
 use Rattle.cache_server.specs.Contents.{Contents, empty, at_moment, losing, storing, opening, restarted}
 use Rattle.cache_server.specs.Held as cache
+pub use Rattle.memory_fleet.specs.Losing.{loss_of, held_at, left_of, place_of}
+use Rattle.memory_fleet.specs.Losing.{after_loss, lost_in, listed, AreLost}
 use Rattle.memory_fleet.specs.declared.event.FleetFault.{FleetFault}
 use Rattle.memory_fleet.specs.declared.event.FleetFault.TheVariants.{NoMemory, Spent}
 use Rattle.memory_fleet.specs.declared.event.Manner.{Manner}
@@ -28,21 +30,10 @@ abbrev pub manner_of : Manner → log.Manner
 manner_of Before = log.Before
 manner_of After = log.After
 
--- a loss, as an event of a run
-abbrev pub loss_of : Loss → Event
-loss_of (losses.Item server key) = Loses server key
-loss_of (losses.Restart server) = Restarts server
-
 -- the server of a loss
 abbrev pub server_of : Loss → ℕ
 server_of (losses.Item server key) = server
 server_of (losses.Restart server) = server
-
--- what the cache at a place holds of a key
-abbrev pub held_at : List Contents → ℕ → List ℕ → Option Item
-held_at [] s k = None
-held_at (c ∷ caches) zero k = cache.holds c k
-held_at (c ∷ caches) (suc s) k = held_at caches s k
 
 -- what a server holds of a key
 abbrev pub holds_of : MemoryFleet → ℕ → List ℕ → Option Item
@@ -56,6 +47,10 @@ count_of fleet = length fleet.caches.items
 abbrev pub turn_of : MemoryFleet → ℕ
 turn_of fleet = fleet.turn
 
+-- how many commands have begun
+abbrev pub begun_of : MemoryFleet → ℕ
+begun_of fleet = fleet.begun
+
 -- the time now, in seconds
 abbrev pub moment_of : MemoryFleet → ℤ
 moment_of fleet = fleet.moment
@@ -64,7 +59,11 @@ moment_of fleet = fleet.moment
 abbrev pub named_of : MemoryFleet → ℕ → Option log.Manner
 named_of fleet t = option_map manner_of (get nat_cmp fleet.failures t)
 
--- calls are numbered up to here
+-- what is lost just before the call of this number, in order
+abbrev pub lost_of : MemoryFleet → ℕ → List Event
+lost_of fleet t = map loss_of (listed fleet.losses t)
+
+-- calls and commands are numbered up to here
 abbrev pub last_turn : ℕ
 last_turn = 2 ^ 64 - 1
 
@@ -78,6 +77,9 @@ pub record IsNewFleet (servers : ℕ) (fleet : MemoryFleet) : Type 0 where
   pub holds : (s : ℕ) (k : List ℕ) → holds_of fleet s k ≡ None
   pub turn : turn_of fleet ≡ 0
   pub named : (t : ℕ) → named_of fleet t ≡ None
+  pub lost : (t : ℕ) → lost_of fleet t ≡ []
+  pub found : fleet.found.items ≡ []
+  pub begun : begun_of fleet ≡ 0
   pub moment : moment_of fleet ≡ pos 0
   pub caches : fleet.caches.items ≡ replicate servers (empty capacity)
 
@@ -88,6 +90,8 @@ pub record IsSame (old new : MemoryFleet) : Type 0 where
   pub named_is : (t : ℕ) → named_of new t ≡ named_of old t
   pub count_is : count_of new ≡ count_of old
   pub moment_is : moment_of new ≡ moment_of old
+  pub lost_is : (t : ℕ) → lost_of new t ≡ lost_of old t
+  pub begun_is : begun_of new ≡ begun_of old
   pub caches_are : new.caches.items ≡ old.caches.items
 
 -- an answer comes with the stamp of the item that was found, where there was one
@@ -107,6 +111,8 @@ pub record FleetCalls (number : ℕ) (old : MemoryFleet) (server : ℕ) (ask : A
   pub named_is : (t : ℕ) → named_of new t ≡ named_of old t
   pub count_is : count_of new ≡ count_of old
   pub moment_is : moment_of new ≡ moment_of old
+  pub lost_is : (t : ℕ) → lost_of new t ≡ lost_of old t
+  pub begun_is : begun_of new ≡ begun_of old
 
 -- some keys may be lost; no call is counted
 pub record LosesAtMost (old new : MemoryFleet) : Type 0 where
@@ -117,6 +123,8 @@ pub record LosesAtMost (old new : MemoryFleet) : Type 0 where
   pub named_is : (t : ℕ) → named_of new t ≡ named_of old t
   pub count_is : count_of new ≡ count_of old
   pub moment_is : moment_of new ≡ moment_of old
+  pub lost_is : (t : ℕ) → lost_of new t ≡ lost_of old t
+  pub begun_is : begun_of new ≡ begun_of old
 
 -- the call of this turn from here is to fail
 pub record FailsFrom (old : MemoryFleet) (turn : ℕ) (manner : log.Manner) (new : MemoryFleet) : Type 0 where
@@ -125,28 +133,44 @@ pub record FailsFrom (old : MemoryFleet) (turn : ℕ) (manner : log.Manner) (new
   pub turn_is : turn_of new ≡ turn_of old
   pub count_is : count_of new ≡ count_of old
   pub moment_is : moment_of new ≡ moment_of old
+  pub lost_is : (t : ℕ) → lost_of new t ≡ lost_of old t
+  pub begun_is : begun_of new ≡ begun_of old
   pub caches_are : new.caches.items ≡ old.caches.items
 
 -- the cache of this server is changed so, and the others stay
 abbrev pub IsChanged : MemoryFleet → ℕ → (Contents → Contents) → MemoryFleet → Type 0
 IsChanged old server change new = (s : ℕ) → slice_get new.caches.items s ≡ option_map (λ c. if nat_eq server s then change c else c) (slice_get old.caches.items s)
 
--- a call that was stopped: by want of memory, where what has expired at the server is gone, or before anything was done
+-- a call that found no memory: what has expired at the server is gone
+abbrev pub AppliesNothing : MemoryFleet → ℕ → MemoryFleet → Type 0
+AppliesNothing old server new = IsChanged old server (at_moment (nat_abs (moment_of old))) new
+
+-- what was named to be lost just before the next call was lost, in order
+pub record LosesNamed (old new : MemoryFleet) : Type 0 where
+  pub caches : new.caches.items ≡ lost_in (lost_of old (turn_of old + 1)) old.caches.items
+  pub lost : AreLost old.caches.items new.caches.items
+  pub turn_is : turn_of new ≡ turn_of old
+  pub named_is : (t : ℕ) → named_of new t ≡ named_of old t
+  pub count_is : count_of new ≡ count_of old
+  pub moment_is : moment_of new ≡ moment_of old
+  pub lost_is : (t : ℕ) → lost_of new t ≡ lost_of old t
+  pub begun_is : begun_of new ≡ begun_of old
+
+-- a call that was stopped: by want of memory, after the losses named for it, or before anything was done
 abbrev pub Stops : FleetFault → MemoryFleet → ℕ → MemoryFleet → Type 0
-Stops NoMemory old server new = IsChanged old server (at_moment (nat_abs (moment_of old))) new
+Stops NoMemory old server new = (mid : MemoryFleet) × LosesNamed old mid × AppliesNothing mid server new
 Stops Spent old server new = new.caches.items ≡ old.caches.items
 
--- what a loss leaves of the cache of its server
-abbrev pub left_of : Event → Contents → Contents
-left_of (Loses server key) c = losing c key
-left_of (Restarts server) c = restarted c
-left_of _ c = c
-
--- the server of a loss
-abbrev pub place_of : Event → ℕ
-place_of (Loses server key) = server
-place_of (Restarts server) = server
-place_of _ = 0
+-- this is lost just before the call of this turn from here, after what was named for it
+pub record LosesFrom (old : MemoryFleet) (turn : ℕ) (loss : Event) (new : MemoryFleet) : Type 0 where
+  pub lost : (t : ℕ) → lost_of new t ≡ (if nat_eq (turn_of old + turn) t then lost_of old t ++ loss ∷ [] else lost_of old t)
+  pub named_is : (t : ℕ) → named_of new t ≡ named_of old t
+  pub holds : (s : ℕ) (k : List ℕ) → holds_of new s k ≡ holds_of old s k
+  pub turn_is : turn_of new ≡ turn_of old
+  pub count_is : count_of new ≡ count_of old
+  pub moment_is : moment_of new ≡ moment_of old
+  pub begun_is : begun_of new ≡ begun_of old
+  pub caches_are : new.caches.items ≡ old.caches.items
 
 -- an item that is there from the start: without flags, with stamp 0
 abbrev pub opening_item : List ℕ → Item
@@ -161,6 +185,8 @@ pub record HoldsFrom (old : MemoryFleet) (server : ℕ) (key body : List ℕ) (n
   pub named_is : (t : ℕ) → named_of new t ≡ named_of old t
   pub count_is : count_of new ≡ count_of old
   pub moment_is : moment_of new ≡ moment_of old
+  pub lost_is : (t : ℕ) → lost_of new t ≡ lost_of old t
+  pub begun_is : begun_of new ≡ begun_of old
 
 -- this is lost, and nothing else changes
 pub record IsLost (old : MemoryFleet) (loss : Event) (new : MemoryFleet) : Type 0 where
@@ -170,10 +196,14 @@ pub record IsLost (old : MemoryFleet) (loss : Event) (new : MemoryFleet) : Type 
   pub named_is : (t : ℕ) → named_of new t ≡ named_of old t
   pub count_is : count_of new ≡ count_of old
   pub moment_is : moment_of new ≡ moment_of old
+  pub lost_is : (t : ℕ) → lost_of new t ≡ lost_of old t
+  pub begun_is : begun_of new ≡ begun_of old
 
 -- this is the time, and nothing else changes
 pub record IsMoment (old : MemoryFleet) (moment : ℤ) (new : MemoryFleet) : Type 0 where
   pub moment_is : moment_of new ≡ moment
+  pub lost_is : (t : ℕ) → lost_of new t ≡ lost_of old t
+  pub begun_is : begun_of new ≡ begun_of old
   pub holds : (s : ℕ) (k : List ℕ) → holds_of new s k ≡ holds_of old s k
   pub turn_is : turn_of new ≡ turn_of old
   pub named_is : (t : ℕ) → named_of new t ≡ named_of old t

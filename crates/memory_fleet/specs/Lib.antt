@@ -1,2 +1,4 @@
+pub mod Losing
 pub mod Fleets
 pub mod Serves
+pub mod Law

@@ -1,5 +1,5 @@
 -- What a call is to the cache of its server, exactly. Source: mcgate's own.
-use Rattle.std.specs.Prelude.{◌≡◌, ℕ, false, nat_eq, List, [], ◌∷◌, Option, Some, None, slice_get, slice_set}
+use Rattle.std.specs.Prelude.{◌≡◌, ℕ, ◌+◌, false, nat_eq, List, [], ◌∷◌, Option, Some, None, slice_get, slice_set}
 use Rattle.mc_types.specs.declared.ask.Ask.{Ask}
 use Rattle.mc_types.specs.declared.answer.Answer.{Answer}
 use Rattle.mc_types.specs.declared.call.Outcome.TheVariants.{Answered, Failed}
@@ -11,7 +11,7 @@ use Rattle.mc_runs.specs.Single.{FitsOutcome}
 use Rattle.cache_server.specs.Contents.{Contents}
 use Rattle.cache_server.specs.Table.{Applies}
 use Rattle.cache_server.specs.Held.{IsCall}
-use Rattle.memory_fleet.specs.Fleets.{holds_of, turn_of, named_of, count_of, moment_of, IsStamp}
+use Rattle.memory_fleet.specs.Fleets.{holds_of, turn_of, named_of, count_of, moment_of, lost_of, begun_of, LosesNamed, IsStamp}
 use Rattle.memory_fleet.specs.declared.event.Made.{Made}
 use Rattle.memory_fleet.specs.declared.fleet.MemoryFleet.{MemoryFleet}
 
@@ -34,6 +34,11 @@ IsMade None number old server ask made new = (answer : Answer) × (made.outcome 
 IsMade (Some Before) number old server ask made new = HasFailed made × (new.caches.items ≡ old.caches.items)
 IsMade (Some After) number old server ask made new = HasFailed made × (answer : Answer) × (found : Option ℕ) × AppliesAt number old server ask answer found new
 
+-- the same, after what was named to be lost just before the call
+abbrev pub IsMadeAfter : ℕ → MemoryFleet → ℕ → Ask → Made → MemoryFleet → Type 0
+IsMadeAfter number old server ask made new =
+    (mid : MemoryFleet) × LosesNamed old mid × IsMade (named_of old (turn_of old + 1)) number mid server ask made new
+
 -- the server loses keys, and then answers so and holds what the call leaves; the others hold the same, and no call is counted
 pub record Serves (number : ℕ) (old : MemoryFleet) (server : ℕ) (ask : Ask) (answer : Answer) (found : Option ℕ) (new : MemoryFleet) : Type 0 where
   pub lost : List (List ℕ)
@@ -44,6 +49,8 @@ pub record Serves (number : ℕ) (old : MemoryFleet) (server : ℕ) (ask : Ask) 
   pub named_is : (t : ℕ) → named_of new t ≡ named_of old t
   pub count_is : count_of new ≡ count_of old
   pub moment_is : moment_of new ≡ moment_of old
+  pub lost_is : (t : ℕ) → lost_of new t ≡ lost_of old t
+  pub begun_is : begun_of new ≡ begun_of old
 
 -- one call as it is named, which isn't counted yet
 pub record Attempts (named : Option Manner) (number : ℕ) (old : MemoryFleet) (server : ℕ) (ask : Ask) (made : Made) (new : MemoryFleet) : Type 0 where
@@ -57,3 +64,5 @@ pub record Attempts (named : Option Manner) (number : ℕ) (old : MemoryFleet) (
   pub named_is : (t : ℕ) → named_of new t ≡ named_of old t
   pub count_is : count_of new ≡ count_of old
   pub moment_is : moment_of new ≡ moment_of old
+  pub lost_is : (t : ℕ) → lost_of new t ≡ lost_of old t
+  pub begun_is : begun_of new ≡ begun_of old

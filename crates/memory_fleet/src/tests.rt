@@ -61,7 +61,7 @@ fn set(
 ) -> Result<bool, Fail> {
     let ask = classic!(alloc, Op::Set, text, Some(exptime), short(alloc, body)?);
     let at = server(fleet, at)?;
-    let made = fleet.call(number, at, &ask).ok().ok_or("a set")?;
+    let made = fleet.call_as(number, at, &ask).ok().ok_or("a set")?;
     Ok(matches!(made.outcome, Outcome::Answered(Answer::Stored)))
 }
 
@@ -83,7 +83,7 @@ fn hit(
 ) -> Result<Option<u64>, Fail> {
     let ask = classic!(alloc, Op::Get, text, None, Body::empty());
     let at = server(fleet, at)?;
-    let made = fleet.call(99, at, &ask).ok().ok_or("a get")?;
+    let made = fleet.call_as(99, at, &ask).ok().ok_or("a get")?;
     match &made.outcome {
         Outcome::Answered(answer) if shows(answer, data) => Ok(made.stamp),
         _ => Ok(None),

@@ -4,7 +4,7 @@ use Rattle.std.specs.Result.{result_ok}
 use Rattle.std.specs.Str.{bytes_eq}
 use Rattle.mc_text.specs.Number.{number_below}
 use Rattle.mc_types.specs.Fault.{read_key}
-use Rattle.fleet_run.specs.Scripted.{Scripted, Piece, Fail, Hold, Now, Moment, Manner, Before, After, Lose, Restart}
+use Rattle.fleet_run.specs.Scripted.{Scripted, Piece, Fail, Hold, At, Now, Moment, Manner, Before, After, Loss, Lose, Restart}
 use Rattle.script_text.specs.Escapes.{unescaped}
 use Rattle.script_text.specs.Lines.{cut}
 
@@ -66,19 +66,44 @@ fail_said text = do
   manner ← manner_said parts.rest
   Some (Fail turn manner)
 
--- behind `lose `: S KEY
-abbrev pub lose_said : List ℕ → Option Scripted
-lose_said text = do
+-- a lost item: S KEY
+abbrev pub item_loss_said : List ℕ → Option Loss
+item_loss_said text = do
   parts ← cut text
   server ← server_said parts.word
   key ← key_said parts.rest
-  Some (Now (Lose server key))
+  Some (Lose server key)
 
--- behind `restart `: S
+-- a restart: S
+abbrev pub restart_loss_said : List ℕ → Option Loss
+restart_loss_said text = do
+  server ← server_said text
+  Some (Restart server)
+
+-- what is lost: `lose S KEY`, `restart S`
+abbrev pub loss_said : List ℕ → List ℕ → Option Loss
+loss_said word text = if bytes_eq word (codes "lose") then item_loss_said text else if bytes_eq word (codes "restart") then restart_loss_said text else None
+
+-- after `lose `: S KEY
+abbrev pub lose_said : List ℕ → Option Scripted
+lose_said text = do
+  loss ← item_loss_said text
+  Some (Now loss)
+
+-- after `restart `: S
 abbrev pub restart_said : List ℕ → Option Scripted
 restart_said text = do
-  server ← server_said text
-  Some (Now (Restart server))
+  loss ← restart_loss_said text
+  Some (Now loss)
+
+-- after `at `: K lose S KEY, K restart S
+abbrev pub at_said : List ℕ → Option Scripted
+at_said text = do
+  parts ← cut text
+  turn ← turn_said parts.word
+  said ← cut parts.rest
+  loss ← loss_said said.word said.rest
+  Some (At turn loss)
 
 -- behind `moment `: N, 0..=9223372036854775807
 abbrev pub moment_said : List ℕ → Option Scripted
@@ -94,6 +119,7 @@ said_behind word text =
     else if bytes_eq word (codes "fail") then fail_said text
     else if bytes_eq word (codes "lose") then lose_said text
     else if bytes_eq word (codes "restart") then restart_said text
+    else if bytes_eq word (codes "at") then at_said text
     else if bytes_eq word (codes "moment") then moment_said text
     else None
 

@@ -5,7 +5,6 @@ use Rattle.std.specs.Str.{bytes_eq}
 use Rattle.mc_text.specs.Number.{number_below}
 use Rattle.serde_json.specs.Read.{read}
 use Rattle.route_tree.specs.Route.{Route}
-use Rattle.route_tree.specs.Direct.{is_direct}
 use Rattle.route_json.specs.declared.fault.ConfigFault.{ConfigFault}
 use Rattle.route_json.specs.Fault.{Fault, fault_of}
 use Rattle.route_json.specs.Servers.{Addresses}
@@ -43,13 +42,9 @@ abbrev pub pool_or_bad : Option ℕ → Result Configuration WhyNot
 pool_or_bad None = Err BadFirstLine
 pool_or_bad (Some size) = Ok (pool_configuration size)
 
--- a tree and its servers, where the tree has one server for each key
-abbrev pub direct_or_bad : Route → Addresses → Result Configuration WhyNot
-direct_or_bad tree servers = if is_direct tree then Ok (record { tree = tree; servers = servers }) else Err BadFirstLine
-
 -- the configuration that was read, or its fault
 abbrev pub read_or_fault : Result (Route × Addresses) Fault → Result Configuration WhyNot
-read_or_fault (Ok c) = direct_or_bad c.0 c.1
+read_or_fault (Ok c) = Ok (record { tree = c.0; servers = c.1 })
 read_or_fault (Err fault) = Err (HasFault fault)
 
 -- the configuration that a first line says, or why not

@@ -1,7 +1,8 @@
+//! The events of a script, line by line.
 ghost use Rattle.std.specs.Prelude.{◌≡◌, ◌^◌, Some};
-ghost use Rattle.fleet_run.specs.Scripted.{manner_of, scripted_of};
+ghost use Rattle.fleet_run.specs.Scripted.{manner_of, loss_of, scripted_of};
 ghost use Rattle.script_text.specs.Reads.{Reads};
-ghost use Rattle.script_text.specs.Events.{client_said, server_said, turn_said, key_said, manner_said, piece_said, hold_said, fail_said, lose_said, restart_said, moment_said, said_behind, event_said};
+ghost use Rattle.script_text.specs.Events.{client_said, server_said, turn_said, key_said, manner_said, piece_said, hold_said, fail_said, item_loss_said, restart_loss_said, loss_said, lose_said, restart_said, at_said, moment_said, said_behind, event_said};
 
 use crate::escapes::unescape;
 use crate::fault::LineFault;
@@ -96,22 +97,62 @@ fn read_fail(text: &[u8]) -> Result<Event, LineFault>
     Ok(Event::Fail(turn, manner))
 }
 
-fn read_lose(alloc: Global, text: &[u8]) -> Result<Event, LineFault>
-    ensures { Reads scripted_of (lose_said text.now) result }
+fn read_item_loss(alloc: Global, text: &[u8]) -> Result<Loss, LineFault>
+    ensures { Reads loss_of (item_loss_said text.now) result }
 {
     let Some(parts) = cut(text) else {
         return Err(LineFault::Unreadable);
     };
     let server = read_server(parts.word)?;
     let key = read_key(alloc, parts.rest)?;
-    Ok(Event::Now(Loss::Item(server, key)))
+    Ok(Loss::Item(server, key))
+}
+
+fn read_restart_loss(text: &[u8]) -> Result<Loss, LineFault>
+    ensures { Reads loss_of (restart_loss_said text.now) result }
+{
+    let server = read_server(text)?;
+    Ok(Loss::Restart(server))
+}
+
+fn read_loss(alloc: Global, word: &[u8], text: &[u8]) -> Result<Loss, LineFault>
+    ensures { Reads loss_of (loss_said word.now text.now) result }
+{
+    if word == b"lose".as_slice() {
+        read_item_loss(alloc, text)
+    } else if word == b"restart".as_slice() {
+        read_restart_loss(text)
+    } else {
+        Err(LineFault::Unreadable)
+    }
+}
+
+fn read_lose(alloc: Global, text: &[u8]) -> Result<Event, LineFault>
+    ensures { Reads scripted_of (lose_said text.now) result }
+{
+    let loss = read_item_loss(alloc, text)?;
+    Ok(Event::Now(loss))
 }
 
 fn read_restart(text: &[u8]) -> Result<Event, LineFault>
     ensures { Reads scripted_of (restart_said text.now) result }
 {
-    let server = read_server(text)?;
-    Ok(Event::Now(Loss::Restart(server)))
+    let loss = read_restart_loss(text)?;
+    Ok(Event::Now(loss))
+}
+
+fn read_at(alloc: Global, text: &[u8]) -> Result<Event, LineFault>
+    ensures { Reads scripted_of (at_said text.now) result }
+{
+    let Some(parts) = cut(text) else {
+        return Err(LineFault::Unreadable);
+    };
+    let turn = read_turn(parts.word)?;
+    let Some(said) = cut(parts.rest) else {
+        return Err(LineFault::Unreadable);
+    };
+    let loss = read_loss(alloc, said.word, said.rest)?;
+    Ok(Event::At(turn, loss))
 }
 
 fn read_moment(text: &[u8]) -> Result<Event, LineFault>
@@ -136,6 +177,8 @@ fn read_behind(alloc: Global, word: &[u8], text: &[u8]) -> Result<Event, LineFau
         read_lose(alloc, text)
     } else if word == b"restart".as_slice() {
         read_restart(text)
+    } else if word == b"at".as_slice() {
+        read_at(alloc, text)
     } else if word == b"moment".as_slice() {
         read_moment(text)
     } else {

@@ -1,7 +1,7 @@
-ghost use Rattle.std.specs.Prelude.{◌≡◌, ◌+◌, ◌≤◌, ◌<◌, ◌^◌, IfOk, IfSome, map, length, true};
+//! Scripts as text: their first line, and their events.
+ghost use Rattle.std.specs.Prelude.{◌≡◌, ◌+◌, ◌≤◌, ◌<◌, ◌^◌, IfOk, IfSome, map, length};
 ghost use Rattle.serde_json.specs.Read.{read};
 ghost use Rattle.fleet_run.specs.Scripted.{scripted_of};
-ghost use Rattle.route_tree.specs.Direct.{is_direct};
 ghost use Rattle.route_json.specs.Configs.{read_or};
 ghost use Rattle.script_text.specs.Behind.{lines_behind};
 ghost use Rattle.script_text.specs.FirstLine.{size_said, pool_said, pool_or_bad, read_or_fault, first_said, ReadsFirst};
@@ -48,15 +48,10 @@ fn pool_config(alloc: Global, line: &[u8]) -> Result<Config, ScriptFault>
     }
 }
 
-fn direct_config(alloc: Global, line: &str) -> Result<Config, ScriptFault>
+fn json_config(alloc: Global, line: &str) -> Result<Config, ScriptFault>
     ensures { ReadsFirst (read_or_fault (read_or (read line.now))) result }
 {
-    let config = read_config(alloc, line)?;
-    if config.tree().is_direct() {
-        Ok(config)
-    } else {
-        Err(ScriptFault::BadLine(1))
-    }
+    Ok(read_config(alloc, line)?)
 }
 
 fn read_first(alloc: Global, line: &str) -> Result<Config, ScriptFault>
@@ -65,7 +60,7 @@ fn read_first(alloc: Global, line: &str) -> Result<Config, ScriptFault>
     if line.as_bytes().starts_with(b"pool".as_slice()) {
         pool_config(alloc, line.as_bytes())
     } else {
-        direct_config(alloc, line)
+        json_config(alloc, line)
     }
 }
 
@@ -127,20 +122,18 @@ fn bad_event_line(script: &ConfiguredScript) -> Option<usize>
 
 /// The script that a text says, with the number of each event's line.
 ///
-/// The first line is `pool N` (N in 1..=1024), which means one pool of the servers `s0:1`, `s1:1`, .., or a configuration in JSON whose
-/// tree has one server for each key. A line that begins with `pool` is meant to be the first of these, every other the second. Each
-/// further line is one event; empty lines and those that begin with `#` are none. The format is mcgate's own.
+/// The first line is `pool N` (N in 1..=1024), which means one pool of the servers `s0:1`, `s1:1`, .., or a configuration in JSON.
+/// A line that begins with `pool` is meant to be the first of these, every other the second. Each further line is one event; empty
+/// lines and those that begin with `#` are none. The format is mcgate's own.
 ///
 /// Faults are looked for in this order, and want of memory is the only other error:
 /// - [`ScriptFault::BadLine`] of 1 where the first line begins with `pool` and is no pool line.
 /// - [`ScriptFault::Config`], the first fault of a configuration.
-/// - [`ScriptFault::BadLine`] of 1 where the configuration's tree has routes other than pools, servers and selectors by prefix.
 /// - [`ScriptFault::BadLine`] where a further line can't be read. It has the number of the first line that is bad: where an event
 ///   before the unreadable line is one that the run would refuse, it is that event's line. Such an event alone is no fault here:
 ///   [`ConfiguredScript::line_of`] tells its line once the run has refused it.
 pub fn read_script(alloc: Global, text: &str) -> Result<ConfiguredScript, ScriptFault>
-    ensures reads { ReadsScript (told text.now) result }
-    ensures direct { IfOk result (λ s. is_direct s.config.tree ≡ true) }
+    ensures { ReadsScript (told text.now) result }
 {
     let front = front_of(text);
     let config = read_first(alloc, front.line)?;

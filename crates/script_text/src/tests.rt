@@ -127,6 +127,26 @@ fn events_that_are_read(rt: HostRuntime) {
     assert!(rt;
         says(
             alloc,
+            b"at 4294967295 lose 0 a".as_slice(),
+            |event| match event {
+                Event::At(turn, Loss::Item(server, key)) => {
+                    *turn == 4_294_967_295
+                        && server.number() == 0
+                        && key.as_bytes() == b"a".as_slice()
+                }
+                _ => false,
+            }
+        )
+    );
+    assert!(rt;
+        says(alloc, b"at 1 restart 2".as_slice(), |event| match event {
+            Event::At(turn, Loss::Restart(server)) => *turn == 1 && server.number() == 2,
+            _ => false,
+        })
+    );
+    assert!(rt;
+        says(
+            alloc,
             b"moment 9223372036854775807".as_slice(),
             |event| match event {
                 Event::Moment(moment) => *moment == 9_223_372_036_854_775_807,
@@ -158,7 +178,9 @@ fn lines_that_are_no_event(rt: HostRuntime) {
         b"restart 0\r".as_slice(),
         b"moment 9223372036854775808".as_slice(),
         b"moment -1".as_slice(),
-        b"at 1 restart 0".as_slice(),
+        b"at 0 restart 0".as_slice(),
+        b"at 1 moment 5".as_slice(),
+        b"at 1 restart".as_slice(),
         b"reload {}".as_slice(),
         b" restart 0".as_slice(),
         b"Restart 0".as_slice(),
@@ -238,7 +260,7 @@ fn bad_line(alloc: Global, text: &str) -> Option<usize> {
 }
 
 #[test]
-fn configurations_that_are_not_executed(rt: HostRuntime) -> Result<(), Fail> {
+fn configurations_of_every_kind_of_route(rt: HostRuntime) -> Result<(), Fail> {
     let cases = [
         "\"NullRoute\"",
         "\"ErrorRoute\"",
@@ -247,7 +269,7 @@ fn configurations_that_are_not_executed(rt: HostRuntime) -> Result<(), Fail> {
     ];
     for route in cases {
         let text = configuration(rt.alloc(), route, "\nx")?;
-        assert_eq!(rt; bad_line(rt.alloc(), text.as_str()), Some(1));
+        assert_eq!(rt; bad_line(rt.alloc(), text.as_str()), Some(2));
     }
     Ok(())
 }

@@ -19,9 +19,9 @@ loop-event-init c =
       clients = c.in_ok-clients.ensures.count;
       tree = c.new-router.ensures.tree;
       count = refl;
-      counted = c.new-router.ensures.number ∙ sym c.requires.fleet.turn;
+      few = omega (arith, c.new-router.ensures.stale, c.requires.fleet.begun);
       ahead = ap (λ (l : List Event). first_bad (count_of c.args.fleet.now) (map scripted_of l)) c.deref-event-items.ensures.value ∙ c.requires.good;
-      comes = starts (words_of c.args.tree.now) c.in_ok-clients.clients.items c.new-router.result c.args.fleet.now c.args.transcript.now (count_of c.args.fleet.now) c.in_ok-clients.ensures c.new-router.ensures.number c.requires.fleet c.requires.transcript;
+      comes = starts (words_of c.args.tree.now) c.in_ok-clients.clients.items c.new-router.result c.args.fleet.now c.args.transcript.now (count_of c.args.fleet.now) c.in_ok-clients.ensures c.new-router.ensures.stale c.new-router.ensures.gone c.requires.fleet c.requires.transcript;
     }
 
 pub take_up-requires-clause-good : goal.take_up-requires-clause-good
@@ -46,7 +46,7 @@ loop-event-preserved c =
       clients = t.clients_are ∙ v.clients;
       tree = t.tree ∙ v.tree;
       count = t.count ∙ v.count;
-      counted = t.counted v.counted;
+      few = t.few v.few;
       ahead = sym (not_here (count_of c.args.fleet.now) xs i x lt c.event-item.is good) ∙ v.ahead;
       comes = event_on c.args.tree.now c.loop-event.clients.items c.take_up.new.clients.items c.loop-event.router c.take_up.new.router c.loop-event.fleet c.take_up.new.fleet c.loop-event.transcript c.take_up.new.transcript xs i x v.tree lt c.event-item.is
           (subst (λ (n : ℕ). bad_in n (map scripted_of (take i xs)) (scripted_of x) ≡ false) (sym v.count) good) v.comes t;
@@ -55,7 +55,7 @@ loop-event-preserved c =
 pub returns-in_err-take_up-clause-err : goal.returns-in_err-take_up-clause-err
 returns-in_err-take_up-clause-err c =
     let v = c.loop-event.invariant in
-    on_err c.from_residual-in_err-take_up.result (drives_part c.direct_is_one_server.ensures c.args.tree.now c.requires.served.direct c.loop-event.event-index c.loop-event.fleet c.loop-event.clients.items c.loop-event.router c.args.script.now.events.items c.loop-event.transcript c.take_up.new.transcript
+    on_err c.from_residual-in_err-take_up.result (drives_part c.direct_is_one_server.ensures c.args.tree.now c.loop-event.event-index c.loop-event.fleet c.loop-event.clients.items c.loop-event.router c.args.script.now.events.items c.loop-event.transcript c.take_up.new.transcript
     (subst (λ (l : List Event). Comes (words_of c.args.tree.now) (map scripted_of (take c.loop-event.event-index l)) (standing_of c.loop-event.clients.items c.loop-event.router c.loop-event.fleet) (transcript_of c.loop-event.transcript) c.loop-event.fleet) c.deref-event-items.ensures.value v.comes) c.in_err-take_up.ensures.err)
 
 pub returns-clause-ok : goal.returns-clause-ok
@@ -64,5 +64,5 @@ returns-clause-ok c =
     let items = c.deref-event-items.result.now in
     let end : c.loop-event.event-index ≡ length items = omega (arith, c.loop-event-test.false, c.loop-event.auto.event-index-end) in
     let all : take c.loop-event.event-index items ≡ c.args.script.now.events.items = ap (λ n. take n items) end ∙ take-length items ∙ c.deref-event-items.ensures.value in
-    drives c.direct_is_one_server.ensures c.args.tree.now c.requires.served.direct c.loop-event.fleet c.loop-event.clients.items c.loop-event.router (map scripted_of c.args.script.now.events.items) c.loop-event.transcript (record { commands = c.loop-event.router.number; calls = c.calls.result; stale = 0 })
-    (subst (λ (l : List Event). Comes (words_of c.args.tree.now) (map scripted_of l) (standing_of c.loop-event.clients.items c.loop-event.router c.loop-event.fleet) (transcript_of c.loop-event.transcript) c.loop-event.fleet) all v.comes) refl c.calls.ensures refl
+    drives c.direct_is_one_server.ensures c.args.tree.now c.loop-event.fleet c.loop-event.clients.items c.loop-event.router (map scripted_of c.args.script.now.events.items) c.loop-event.transcript (record { commands = c.commands.result; calls = c.calls.result; stale = c.loop-event.router.stale })
+    (subst (λ (l : List Event). Comes (words_of c.args.tree.now) (map scripted_of l) (standing_of c.loop-event.clients.items c.loop-event.router c.loop-event.fleet) (transcript_of c.loop-event.transcript) c.loop-event.fleet) all v.comes) c.commands.ensures c.calls.ensures refl

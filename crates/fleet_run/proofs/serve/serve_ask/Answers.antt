@@ -10,5 +10,5 @@ show-shown-requires c = used_held c.args.connection.now c.requires.at.held c.arg
 
 pub returns-in-Ok-clause-ok : goal.returns-in-Ok-clause-ok
 returns-in-Ok-clause-ok c =
-    serves_ask c.direct_is_one_server.ensures c.args.connection.now c.show-shown.new.self c.args.router.now c.command.new.router c.args.fleet.now c.command.new.fleet c.args.request.now c.args.index c.args.ask.now c.in_ok-reply.reply c.quiet.result _ c.in-Ok.ended
-    c.requires.at c.requires.ask.well_formed c.requires.served.direct c.in_ok-reply.ensures.ok (c.quiet.ensures c.requires.at.held) (ap (λ n. nat_eq (c.args.index + 1) n) (c.asks-count.ensures c.requires.at.held c.requires.at.read)) c.in-Ok.ensures
+    serves_ask c.calls_stay.ensures c.args.connection.now c.show-shown.new.self c.args.router.now c.command.new.router c.args.fleet.now c.command.new.fleet c.args.request.now c.args.index c.args.ask.now c.in_ok-reply.reply c.quiet.result _ c.in-Ok.ended
+    c.requires.at c.requires.ask.well_formed c.in_ok-reply.ensures.ok (c.quiet.ensures c.requires.at.held) (ap (λ n. nat_eq (c.args.index + 1) n) (c.asks-count.ensures c.requires.at.held c.requires.at.read)) c.in-Ok.ensures

@@ -4,14 +4,14 @@ use Rattle.script_text.specs.Script.{told}
 use Rattle.mcgate.proofs.Replaying.{replays, paired}
 use Rattle.mcgate.proofs.replay.replay.Goals as goal
 
-pub run_script-requires-clause-paired : goal.run_script-requires-clause-paired
-run_script-requires-clause-paired g c = paired (told c.args.text.now) c.in-Ok.configured c.in-Ok.ensures.reads
+pub run_script-requires : goal.run_script-requires
+run_script-requires g c = paired (told c.args.text.now) c.in-Ok.configured c.in-Ok.ensures
 
 pub returns-in-Ok : goal.returns-in-Ok
 returns-in-Ok g c =
-    IfOk-weaker c.run_script.result _ _ (λ status. replays c.args.text.now (told c.args.text.now) c.in-Ok.configured _ _ status refl c.in-Ok.ensures.reads) c.run_script.ensures
+    IfOk-weaker c.run_script.result _ _ (λ status. replays c.args.text.now (told c.args.text.now) c.in-Ok.configured _ _ status refl c.in-Ok.ensures) c.run_script.ensures
 
 pub returns-in_ok-write_bad_line-in-Err-BadLine : goal.returns-in_ok-write_bad_line-in-Err-BadLine
 returns-in_ok-write_bad_line-in-Err-BadLine g c =
-    let told-bad = rw c.in-Err-BadLine.field-0-is at c.in-Err-BadLine.ensures.reads in
+    let told-bad = rw c.in-Err-BadLine.field-0-is at c.in-Err-BadLine.ensures in
     inr (refl, inr (record { line = c.in-Err-BadLine.line; bad = told-bad.1; printed = rw (← c.in-Err-BadLine.line-is) c.in_ok-write_bad_line-in-Err-BadLine.ensures }))

@@ -20,4 +20,4 @@ returns-in-Ok g c = inl (
 pub unwrap-line-requires : goal.unwrap-line-requires
 unwrap-line-requires g c =
     let refused = rw c.in-Err-BadEvent.field-0-is at c.in-Err-BadEvent.ensures.refuses in
-    is_there c.args.configured.now.lines.items c.in-Err-BadEvent.event c.line_of.result c.line_of.ensures (omega (arith, refused.0, c.requires.paired))
+    is_there c.args.configured.now.lines.items c.in-Err-BadEvent.event c.line_of.result c.line_of.ensures (omega (arith, refused.0, c.requires))

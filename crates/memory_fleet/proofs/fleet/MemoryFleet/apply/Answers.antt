@@ -14,7 +14,7 @@ returns-clause-ok c =
     let y = c.apply.new.self in
     let moment : ℤ = to_z w64 (of_z w64 old.moment) in
     let now : moment ≡ old.moment = grind (arith, to_z-of_z) in
-    let ch = changed_at old c.args.server x y _ c.number.result c.number.ensures c.requires.there c.index_mut.ensures.value refl refl refl refl in
+    let ch = changed_at old c.args.server x y _ c.number.result c.number.ensures c.requires.there c.index_mut.ensures.value refl refl refl refl refl refl in
     if_both c.apply.result _ _ _
     (λ r applies call. serves c.args.number old c.args.server c.args.ask.now (lost_by (nat_abs moment) c.args.number c.args.ask.now x) r.0 r.1 x y _ moment now ch applies call)
     c.apply.ensures.ok c.apply.ensures.call
@@ -26,7 +26,7 @@ returns-clause-err c =
     let y = c.apply.new.self in
     let moment : ℤ = to_z w64 (of_z w64 old.moment) in
     let now : moment ≡ old.moment = grind (arith, to_z-of_z) in
-    let ch = changed_at old c.args.server x y _ c.number.result c.number.ensures c.requires.there c.index_mut.ensures.value refl refl refl refl in
+    let ch = changed_at old c.args.server x y _ c.number.result c.number.ensures c.requires.there c.index_mut.ensures.value refl refl refl refl refl refl in
     on_err c.apply.result _ _ (λ loss. loses old c.args.server x y _ (expired_keys (nat_abs moment) x.entries) ch loss) c.apply.ensures.lost
 
 pub returns-clause-stops : goal.returns-clause-stops

@@ -14,4 +14,4 @@ loop-place-preserved c =
 pub returns : goal.returns
 returns c =
     let all : c.loop-place._place ≡ c.args.servers = omega (arith, c.loop-place-test.false, c.loop-place.auto._place-end) in
-    new_fleet c.args.servers _ (subst (λ n. c.loop-place.caches.items ≡ replicate n (empty capacity)) all c.loop-place.invariant) refl refl c.new-2.ensures.empty
+    new_fleet c.args.servers _ (subst (λ n. c.loop-place.caches.items ≡ replicate n (empty capacity)) all c.loop-place.invariant) refl refl c.new-2.ensures.empty c.new-3.ensures.empty c.new-4.ensures.items refl

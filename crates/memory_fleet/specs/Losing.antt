@@ -1,0 +1,65 @@
+-- What losses leave of the caches of servers, and which are named for a call. Source: mcgate's own.
+use Rattle.std.specs.Prelude.{◌≡◌, ℕ, zero, suc, List, [], ◌∷◌, Option, Some, None, Vec}
+use Rattle.std.specs.Ordering.{nat_cmp}
+use Rattle.std.specs.BTreeMap.{BTreeMap, get}
+use Rattle.std.specs.declared.alloc.Global.{Global}
+use Rattle.mc_types.specs.Items.{Item}
+use Rattle.mc_runs.specs.Run.{Event, Loses, Restarts}
+use Rattle.mc_runs.specs.Fleet.{after_losses, AreLosses}
+use Rattle.cache_server.specs.Contents.{Contents, losing, restarted}
+use Rattle.cache_server.specs.Held as cache
+use Rattle.memory_fleet.specs.declared.event.Loss.{Loss}
+use Rattle.memory_fleet.specs.declared.event.Loss.TheVariants as losses
+
+-- a loss, as an event of a run
+abbrev pub loss_of : Loss → Event
+loss_of (losses.Item server key) = Loses server key
+loss_of (losses.Restart server) = Restarts server
+
+-- what the cache at a place holds of a key
+abbrev pub held_at : List Contents → ℕ → List ℕ → Option Item
+held_at [] s k = None
+held_at (c ∷ caches) zero k = cache.holds c k
+held_at (c ∷ caches) (suc s) k = held_at caches s k
+
+-- what a loss leaves of the cache of its server
+abbrev pub left_of : Event → Contents → Contents
+left_of (Loses server key) c = losing c key
+left_of (Restarts server) c = restarted c
+left_of _ c = c
+
+-- the server of a loss
+abbrev pub place_of : Event → ℕ
+place_of (Loses server key) = server
+place_of (Restarts server) = server
+place_of _ = 0
+
+-- the cache at a place is changed, where there is one
+abbrev pub changed_at : ℕ → (Contents → Contents) → List Contents → List Contents
+changed_at s change [] = []
+changed_at zero change (c ∷ caches) = change c ∷ caches
+changed_at (suc s) change (c ∷ caches) = c ∷ changed_at s change caches
+
+-- what a loss leaves of the caches
+abbrev pub after_loss : Event → List Contents → List Contents
+after_loss loss caches = changed_at (place_of loss) (left_of loss) caches
+
+-- what losses leave of them, the first one first
+abbrev pub lost_in : List Event → List Contents → List Contents
+lost_in [] caches = caches
+lost_in (loss ∷ more) caches = lost_in more (after_loss loss caches)
+
+-- something is lost, and nothing else changes
+pub record AreLost (old new : List Contents) : Type 0 where
+  pub lost : List Event
+  pub losses : AreLosses lost
+  pub holds : (s : ℕ) (k : List ℕ) → held_at new s k ≡ after_losses lost (held_at old) s k
+
+-- the losses of an entry
+abbrev pub losses_of : Option (Vec Loss Global) → List Loss
+losses_of None = []
+losses_of (Some named) = named.items
+
+-- those that are named for the call of this number, in order
+abbrev pub listed : BTreeMap ℕ (Vec Loss Global) → ℕ → List Loss
+listed named t = losses_of (get nat_cmp named t)
