@@ -9,7 +9,9 @@ use Rattle.script_text.specs.FirstLine.{WhyNot}
 use Rattle.script_text.specs.Script.{Told, told, bad_line, bad_event_line, either, servers_said, events_said, lines_said, IsScriptOf, ReadsScript, Numbered}
 use Rattle.script_text.specs.declared.configured.ConfiguredScript.{ConfiguredScript}
 use Rattle.fleet_run.specs.Scripted.{Scripted, scripted_of}
-use Rattle.mcgate.specs.Replay.{Replays, RunsScript, Prints, events_of, servers_of}
+use Rattle.mcgate.specs.Replay.{Replays, RunsScript, Prints, PrintsPart, BreaksScriptOff, BreaksOff, events_of, servers_of}
+use Rattle.mcgate.specs.declared.replay.RunFault.{RunFault}
+use Rattle.mcgate.specs.declared.replay.RunFault.TheVariants.{NoMemory, Writer}
 
 pub both_written : (old mid new : Option (List ℕ)) (a b : List ℕ) → Appends old mid a → Appends mid new b → Appends old new (a ++ b)
 both_written None mid new a b x y = tt
@@ -45,3 +47,12 @@ pub replays : (text : List ℕ) (t : Result Told WhyNot) (script : ConfiguredScr
 replays text (Err why) script old new status e h r = absurd h
 replays text (Ok t) script old new status e h (inl r) = inl (r.0, record { script = t; said = e; good = bad_is t script h ∙ rw (r.1.good) refl; prints = prints_said t script old new h r.1.prints })
 replays text (Ok t) script old new status e h (inr r) = inr (r.0, inr (record { line = r.1.line; bad = ap bad_line e ∙ bad_is t script h ∙ r.1.bad; printed = r.1.printed }))
+
+prints_part_said : (t : Told) (script : ConfiguredScript) (old new : Option (List ℕ)) → IsScriptOf t script → PrintsPart script.config.tree (events_of script) old new → PrintsPart t.configuration.tree (events_said t) old new
+prints_part_said t script old new h p = rw (← h.configuration, ← h.events) p
+
+pub breaks_off : (text : List ℕ) (t : Result Told WhyNot) (script : ConfiguredScript) (old new : Option (List ℕ)) (fault : RunFault) → told text ≡ t → ReadsScript t (Ok script) → BreaksScriptOff script old new fault → BreaksOff text old new fault
+breaks_off text (Err why) script old new fault e h b = absurd h
+breaks_off text (Ok t) script old new NoMemory e h (inl kept) = inl kept
+breaks_off text (Ok t) script old new NoMemory e h (inr part) = inr (record { script = t; said = e; prints = prints_part_said t script old new h part })
+breaks_off text (Ok t) script old new Writer e h b = tt

@@ -12,7 +12,7 @@ ReadsInput text_of limit bytes (Err NotUtf8) = (length bytes ≤ limit) × ¬ Is
 ReadsInput text_of limit bytes (Err NoMemory) = Unit {0}
 ReadsInput text_of limit bytes (Err Device) = Unit {0}
 
--- want of memory, or a device that failed
+-- memory was refused, or a device failed
 abbrev pub IsFailure : InputFault → Type 0
 IsFailure TooLarge = ⊥
 IsFailure NotUtf8 = ⊥

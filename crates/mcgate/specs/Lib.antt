@@ -1,2 +1,4 @@
 pub mod Input
 pub mod Replay
+pub mod Stops
+pub mod Program

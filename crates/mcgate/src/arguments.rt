@@ -1,28 +1,36 @@
+//! The program's arguments, and what they ask for.
+
+ghost use Rattle.std.specs.Prelude.{◌≡◌};
+ghost use Rattle.clap.specs.Values.{kind_of};
+ghost use Rattle.mcgate.specs.Stops.{arguments_fault_at};
+
 use clap::error::ErrorKind;
 use clap::{Arg, ArgAction, Command, Error};
 use std::alloc::{AllocError, Global};
 
-/// What the words of the command line ask for.
+/// What the arguments ask for.
 #[derive(Clone, Copy)]
 pub enum Job<'a> {
     /// Run a script, of a file or of standard input.
     Replay { any: bool, file: Option<&'a str> },
 }
 
-/// Why the words ask for nothing.
+/// Why the arguments ask for nothing.
 #[derive(Clone, Copy)]
-pub enum WordsFault {
-    /// The program has no such words.
+pub enum ArgumentsFault {
+    /// The program has no such arguments.
     Refused,
     /// Memory was refused.
     NoMemory,
 }
 
-impl From<Error> for WordsFault {
-    fn from(error: Error) -> WordsFault {
+impl From<Error> for ArgumentsFault {
+    ghost from_gives = { λ error fault. fault ≡ arguments_fault_at (kind_of error) };
+
+    fn from(error: Error) -> ArgumentsFault {
         match error.kind() {
-            ErrorKind::OutOfMemory => WordsFault::NoMemory,
-            _ => WordsFault::Refused,
+            ErrorKind::OutOfMemory => ArgumentsFault::NoMemory,
+            _ => ArgumentsFault::Refused,
         }
     }
 }
@@ -41,14 +49,17 @@ fn command<'a>(alloc: Global) -> Result<Command<'a>, AllocError> {
         .subcommand(replay)
 }
 
-/// What the words ask for, the program's name first: none at all behind it, or `replay [--any] [FILE]`.
+/// What the arguments ask for, the program's name first: none at all after it, or `replay [--any] [FILE]`.
 ///
-/// Any other words are [`WordsFault::Refused`].
-pub fn read_words<'a>(alloc: Global, words: &'a [String]) -> Result<Job<'a>, WordsFault> {
+/// Any other arguments are [`ArgumentsFault::Refused`].
+pub fn read_arguments<'a>(
+    alloc: Global,
+    arguments: &'a [String],
+) -> Result<Job<'a>, ArgumentsFault> {
     let Ok(command) = command(alloc) else {
-        return Err(WordsFault::NoMemory);
+        return Err(ArgumentsFault::NoMemory);
     };
-    let matches = command.try_get_matches_from(words)?;
+    let matches = command.try_get_matches_from(arguments)?;
     match matches.subcommand() {
         None => Ok(Job::Replay {
             any: false,

@@ -58,6 +58,21 @@ fn hash_tags_and_a_restart(rt: HostRuntime) {
     assert!(rt; prints(rt.alloc(), script, lines));
 }
 
+// Server 0 has slots 0 and 1, server 1 has slot 2; `a` has slot 1 and `c` slot 2.
+#[test]
+fn weighted_slots(rt: HostRuntime) {
+    let script = r#"{"pools":{"W":{"servers":["h:1:2","h:2"]}},"route":"PoolRoute|W"}
+> 0 set a 0 0 1\r\n1\r\nset c 0 0 1\r\n2\r\n
+restart 1
+> 0 get a c\r\n
+"#;
+    let lines = r#"< 0 STORED\r\nSTORED\r\n
+< 0 VALUE a 0 1\r\n1\r\nEND\r\n
+done 4 commands 4 calls 0 stale
+"#;
+    assert!(rt; prints(rt.alloc(), script, lines));
+}
+
 /// The two servers of most examples, behind this route, on one line.
 fn two_servers(alloc: Global, route: &str) -> Result<String, AllocError> {
     let mut line = String::from_str(

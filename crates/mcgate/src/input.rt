@@ -1,5 +1,9 @@
-ghost use Rattle.std.specs.Prelude.{IfSome, string_bytes};
+//! The input: its bytes as text, or why they are none.
+
+ghost use Rattle.std.specs.Prelude.{◌≡◌, IfSome, string_bytes};
+ghost use Rattle.std.specs.IoError.{error_kind};
 ghost use Rattle.mcgate.specs.Input.{ReadsInput, IsFailure};
+ghost use Rattle.mcgate.specs.Stops.{input_fault_at};
 
 use std::alloc::Global;
 use std::io;
@@ -21,9 +25,10 @@ pub enum InputFault {
     Device,
 }
 
-/// What an error of a device means to the program: want of memory, or a device that failed.
+/// What a device's error means for an input: memory was refused, where the error is of that kind, or else the device failed.
 pub fn fault_of(error: &io::Error) -> InputFault
-    ensures { IsFailure result }
+    ensures kind { result ≡ input_fault_at (error_kind error.now) }
+    ensures failure { IsFailure result }
 {
     match error.kind() {
         ErrorKind::OutOfMemory => InputFault::NoMemory,

@@ -1,5 +1,6 @@
-ghost use Rattle.std.specs.Prelude.{◌≡◌, ◌≤◌, IfOk, length};
-ghost use Rattle.mcgate.specs.Replay.{Replays, RunsScript};
+ghost use Rattle.std.specs.Prelude.{◌≡◌, ◌≤◌, IfOk, IfErr, length};
+ghost use Rattle.mcgate.specs.Replay.{Replays, RunsScript, BreaksScriptOff, IsBrokenOff, BreaksOff};
+ghost use Rattle.mcgate.specs.declared.replay.RunFault.TheVariants.{NoMemory, Writer};
 
 use fleet_run::{DriveFault, MemoryFleet, Transcript, drive_any};
 use script_text::configured::{ConfiguredScript, ScriptFault};
@@ -7,7 +8,7 @@ use script_text::printer::{write_bad_line, write_config_fault, write_report, wri
 use script_text::reader::read_script;
 use std::alloc::{AllocError, Global};
 use std::io;
-use std::io::{ErrorKind, Write};
+use std::io::Write;
 
 /// The exit status of a run that was done.
 pub const DONE: u8 = 0;
@@ -28,17 +29,20 @@ enum RunFault {
 }
 
 impl From<AllocError> for RunFault {
+    ghost from_gives = { λ _ fault. fault ≡ NoMemory };
+
     fn from(_error: AllocError) -> RunFault {
         RunFault::NoMemory
     }
 }
 
+/// Only a writer makes such an error here. Whatever its kind, some of the lines may have been written, which isn't so where the run
+/// was refused memory.
 impl From<io::Error> for RunFault {
-    fn from(error: io::Error) -> RunFault {
-        match error.kind() {
-            ErrorKind::OutOfMemory => RunFault::NoMemory,
-            _ => RunFault::Writer,
-        }
+    ghost from_gives = { λ _ fault. fault ≡ Writer };
+
+    fn from(_error: io::Error) -> RunFault {
+        RunFault::Writer
     }
 }
 
@@ -48,7 +52,8 @@ fn run_script<W: Write>(
     out: &mut W,
 ) -> Result<u8, RunFault>
     requires { length configured.now.lines.items ≡ length configured.now.script.events.items }
-    ensures { IfOk result (RunsScript configured.now (W.contents out.old) (W.contents out.new)) }
+    ensures ok { IfOk result (RunsScript configured.now (W.contents out.old) (W.contents out.new)) }
+    ensures err { IfErr result (BreaksScriptOff configured.now (W.contents out.old) (W.contents out.new)) }
 {
     let mut fleet = MemoryFleet::new(alloc, configured.server_count())?;
     let mut transcript = Transcript {
@@ -81,7 +86,8 @@ fn run_script<W: Write>(
 }
 
 fn replay<W: Write>(alloc: Global, text: &str, out: &mut W) -> Result<u8, RunFault>
-    ensures { IfOk result (Replays text.now (W.contents out.old) (W.contents out.new)) }
+    ensures ok { IfOk result (Replays text.now (W.contents out.old) (W.contents out.new)) }
+    ensures err { IfErr result (BreaksOff text.now (W.contents out.old) (W.contents out.new)) }
 {
     match read_script(alloc, text) {
         Ok(configured) => run_script(alloc, &configured, out),
@@ -100,11 +106,13 @@ fn replay<W: Write>(alloc: Global, text: &str, out: &mut W) -> Result<u8, RunFau
 /// Runs a script over servers in memory, and prints the transcript and the report, or the fault of its configuration, or
 /// the line that is bad.
 ///
-/// The answer is the program's exit status, [`DONE`] or [`BAD_INPUT`]; or else [`NO_MEMORY`] where memory was refused, or [`WRITER`]
-/// where the output could not be written: then some of the lines may have been. `any` says that the tree need not be accepted by a gate; there is none yet, so every tree runs.
+/// The answer is the program's exit status, [`DONE`] or [`BAD_INPUT`]; or else [`NO_MEMORY`] where memory was refused: then the
+/// transcript so far was printed; or [`WRITER`] where the output could not be written: then some of the lines may have been. `any` says that
+/// the tree need not be accepted by a gate; every tree runs so far.
 pub fn run_replay<W: Write>(alloc: Global, any: bool, text: &str, out: &mut W) -> u8
     ensures status { result ≤ 4 }
     ensures wrote { result ≤ 2 → Replays text.now (W.contents out.old) (W.contents out.new) result }
+    ensures refused { result ≡ 3 → IsBrokenOff text.now (W.contents out.old) (W.contents out.new) }
 {
     let _ = any;
     match replay(alloc, text, out) {

@@ -1,12 +1,16 @@
+//! The program from its arguments to its exit status.
+
+use crate::arguments::{ArgumentsFault, Job, read_arguments};
 use crate::input::{INPUT_LIMIT, InputFault, read_input};
+use crate::program::{End, Stop, end_of, run_input};
 use crate::replay::{BAD_INPUT, DONE, WRITER, run_replay};
-use crate::words::{Job, WordsFault, read_words};
+use crate::text_of;
 use std::alloc::{AllocError, Global};
 use std::io;
 use std::io::{ErrorKind, Write};
 use std::test::Fail;
 
-fn words_of(alloc: Global, words: &[&str]) -> Result<Vec<String>, AllocError> {
+fn arguments_of(alloc: Global, words: &[&str]) -> Result<Vec<String>, AllocError> {
     let mut given = Vec::new(alloc);
     for word in words {
         given.push(String::from_str(alloc, word)?)?;
@@ -15,7 +19,7 @@ fn words_of(alloc: Global, words: &[&str]) -> Result<Vec<String>, AllocError> {
 }
 
 #[test]
-fn words_that_ask_for_a_replay(rt: HostRuntime) -> Result<(), Fail> {
+fn arguments_that_ask_for_a_replay(rt: HostRuntime) -> Result<(), Fail> {
     let cases = [
         (["mcgate"].as_slice(), false, None),
         (["mcgate", "replay"].as_slice(), false, None),
@@ -33,8 +37,8 @@ fn words_that_ask_for_a_replay(rt: HostRuntime) -> Result<(), Fail> {
         ),
     ];
     for (words, want_any, want_file) in cases {
-        let given = words_of(rt.alloc(), words)?;
-        let Ok(Job::Replay { any, file }) = read_words(rt.alloc(), given.as_slice()) else {
+        let given = arguments_of(rt.alloc(), words)?;
+        let Ok(Job::Replay { any, file }) = read_arguments(rt.alloc(), given.as_slice()) else {
             return Err(Fail::from("refused"));
         };
         assert_eq!(rt; any, want_any);
@@ -60,9 +64,9 @@ fn words_that_are_refused(rt: HostRuntime) -> Result<(), Fail> {
         ["mcgate", "replay", "replay", "f"].as_slice(),
     ];
     for words in cases {
-        let given = words_of(rt.alloc(), words)?;
-        let read = read_words(rt.alloc(), given.as_slice());
-        assert!(rt; matches!(read, Err(WordsFault::Refused)));
+        let given = arguments_of(rt.alloc(), words)?;
+        let read = read_arguments(rt.alloc(), given.as_slice());
+        assert!(rt; matches!(read, Err(ArgumentsFault::Refused)));
     }
     Ok(())
 }
@@ -90,6 +94,66 @@ fn inputs_that_are_no_text(rt: HostRuntime) {
     for bytes in cases {
         let read = read_input(rt.alloc(), bytes);
         assert!(rt; matches!(read, Err(InputFault::NotUtf8)));
+    }
+}
+
+#[test]
+fn inputs_of_files(rt: HostRuntime) -> Result<(), Fail> {
+    let Ok(text) = text_of(&rt, Some("/dev/null")) else {
+        return Err(Fail::from("not read"));
+    };
+    assert_eq!(rt; text.as_str(), "");
+    for path in ["/dev/null/x", "/"] {
+        let read = text_of(&rt, Some(path));
+        assert!(rt; matches!(read, Err(InputFault::Device)), "at {path}");
+    }
+    Ok(())
+}
+
+// What an input is or why it is none, how the run ends, and what is printed.
+#[test]
+fn ends_of_runs(rt: HostRuntime) -> Result<(), Fail> {
+    let alloc = rt.alloc();
+    let script = "pool 1\n".to_string(alloc)?;
+    let bad = "pool 0\n".to_string(alloc)?;
+    let cases = [
+        (Ok(script), (0, None), "done 0 commands 0 calls 0 stale\n"),
+        (Ok(bad), (2, None), "script: bad line 1\n"),
+        (Err(InputFault::TooLarge), (2, None), "input: too large\n"),
+        (Err(InputFault::NotUtf8), (2, None), "input: not UTF-8\n"),
+        (Err(InputFault::NoMemory), (3, Some("memory: refused")), ""),
+        (Err(InputFault::Device), (3, Some("device: failed")), ""),
+    ];
+    for (input, (want_status, want_complaint), want) in cases {
+        let mut out = Vec::new(alloc);
+        let End { status, complaint } = end_of(run_input(alloc, false, input, &mut out));
+        assert_eq!(rt; status, want_status);
+        assert_eq!(rt; complaint, want_complaint);
+        assert_eq!(rt; out.as_slice(), want.as_bytes());
+    }
+    Ok(())
+}
+
+#[test]
+fn ends_without_a_run(rt: HostRuntime) {
+    let usage = end_of(Err(Stop::from(ArgumentsFault::Refused)));
+    assert_eq!(rt; usage.status, 2);
+    assert_eq!(rt;
+        usage.complaint,
+        Some("usage: mcgate check, replay, serve, cache or loopback")
+    );
+    let memory = end_of(Err(Stop::from(ArgumentsFault::NoMemory)));
+    assert_eq!(rt; memory.status, 3);
+    assert_eq!(rt; memory.complaint, Some("memory: refused"));
+    let kinds = [
+        (ErrorKind::OutOfMemory, Some("memory: refused")),
+        (ErrorKind::StorageFull, Some("device: failed")),
+        (ErrorKind::NotFound, Some("device: failed")),
+    ];
+    for (kind, want) in kinds {
+        let end = end_of(Err(Stop::from(io::Error::from(kind))));
+        assert_eq!(rt; end.status, 3);
+        assert_eq!(rt; end.complaint, want);
     }
 }
 

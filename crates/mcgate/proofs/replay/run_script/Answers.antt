@@ -3,8 +3,8 @@ use Rattle.fleet_run.specs.Scripted.{transcript_of}
 use Rattle.mcgate.proofs.Replaying.{both_written, is_there}
 use Rattle.mcgate.proofs.replay.run_script.Goals as goal
 
-pub returns-in-Ok : goal.returns-in-Ok
-returns-in-Ok g c = inl (
+pub returns-in-Ok-clause-ok : goal.returns-in-Ok-clause-ok
+returns-in-Ok-clause-ok g c = inl (
   refl,
   record {
     good = c.in-Ok.ensures.refuses;

@@ -1,0 +1,49 @@
+-- Why the program stops, what it prints of that on standard error, and its exit statuses. Source: mcgate's own.
+use Rattle.std.specs.Prelude.{◌≡◌, ℕ, List, codes, Option, Some, None, Result, Ok, Err}
+use Rattle.std.specs.declared.io.ErrorKind.{ErrorKind}
+use Rattle.std.specs.declared.io.ErrorKind.TheVariants as io_kinds
+use Rattle.clap.specs.declared.error.ErrorKind.{ErrorKind as RefusalKind}
+use Rattle.clap.specs.declared.error.ErrorKind.TheVariants as refusal_kinds
+use Rattle.mcgate.specs.declared.arguments.ArgumentsFault.{ArgumentsFault}
+use Rattle.mcgate.specs.declared.arguments.ArgumentsFault.TheVariants as arguments
+use Rattle.mcgate.specs.declared.input.InputFault.{InputFault}
+use Rattle.mcgate.specs.declared.input.InputFault.TheVariants as inputs
+use Rattle.mcgate.specs.declared.program.Stop.{Stop}
+use Rattle.mcgate.specs.declared.program.Stop.TheVariants as stops
+
+-- what a refusal of the arguments means: memory was refused, or the program has no such arguments
+abbrev pub arguments_fault_at : RefusalKind → ArgumentsFault
+arguments_fault_at refusal_kinds.OutOfMemory = arguments.NoMemory
+arguments_fault_at _ = arguments.Refused
+
+-- what a device's error means for an input
+abbrev pub input_fault_at : ErrorKind → InputFault
+input_fault_at io_kinds.OutOfMemory = inputs.NoMemory
+input_fault_at _ = inputs.Device
+
+-- what a device's error means for the program
+abbrev pub stop_at : ErrorKind → Stop
+stop_at io_kinds.OutOfMemory = stops.Memory
+stop_at _ = stops.Device
+
+-- what a fault of the arguments means for the program
+abbrev pub stop_of : ArgumentsFault → Stop
+stop_of arguments.Refused = stops.Usage
+stop_of arguments.NoMemory = stops.Memory
+
+-- the exit status of a stop
+abbrev pub stop_status : Stop → ℕ
+stop_status stops.Usage = 2
+stop_status stops.Memory = 3
+stop_status stops.Device = 3
+
+-- the line on standard error of a stop
+abbrev pub stop_line : Stop → List ℕ
+stop_line stops.Usage = codes "usage: mcgate check, replay, serve, cache or loopback"
+stop_line stops.Memory = codes "memory: refused"
+stop_line stops.Device = codes "device: failed"
+
+-- the exit status, and the line on standard error if there is one
+abbrev pub end_of : Result ℕ Stop → ℕ × Option (List ℕ)
+end_of (Ok status) = (status, None)
+end_of (Err stop) = (stop_status stop, Some (stop_line stop))

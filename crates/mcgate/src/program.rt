@@ -1,0 +1,116 @@
+//! How the program ends: what it prints on which stream, and its exit statuses.
+
+ghost use Rattle.std.specs.Prelude.{◌≡◌, option_map};
+ghost use Rattle.std.specs.IoError.{error_kind};
+ghost use Rattle.mcgate.specs.Program.{Runs, AnswersInput};
+ghost use Rattle.mcgate.specs.Stops.{stop_at, stop_of, end_of};
+
+use crate::arguments::ArgumentsFault;
+use crate::input::InputFault;
+use crate::replay::{BAD_INPUT, NO_MEMORY, WRITER, run_replay};
+use std::alloc::Global;
+use std::io;
+use std::io::{ErrorKind, Write};
+
+/// Why the program ends with a line on standard error.
+#[derive(Clone, Copy)]
+pub enum Stop {
+    /// It has no such arguments.
+    Usage,
+    /// Memory was refused.
+    Memory,
+    /// A device failed.
+    Device,
+}
+
+impl From<io::Error> for Stop {
+    ghost from_gives = { λ error stop. stop ≡ stop_at (error_kind error) };
+
+    fn from(error: io::Error) -> Stop {
+        match error.kind() {
+            ErrorKind::OutOfMemory => Stop::Memory,
+            _ => Stop::Device,
+        }
+    }
+}
+
+impl From<ArgumentsFault> for Stop {
+    ghost from_gives = { λ fault stop. stop ≡ stop_of fault };
+
+    fn from(fault: ArgumentsFault) -> Stop {
+        match fault {
+            ArgumentsFault::Refused => Stop::Usage,
+            ArgumentsFault::NoMemory => Stop::Memory,
+        }
+    }
+}
+
+/// The exit status, and the line that is printed on standard error, if there is one.
+#[derive(Clone, Copy)]
+pub struct End {
+    pub status: u8,
+    pub complaint: Option<&'static str>,
+}
+
+/// How the program ends, by what its run answered.
+///
+/// Source: mcgate's own.
+pub fn end_of(ended: Result<u8, Stop>) -> End
+    ensures { (result.status, option_map (λ s. s.now) result.complaint) ≡ end_of ended }
+{
+    match ended {
+        Ok(status) => End {
+            status,
+            complaint: None,
+        },
+        Err(Stop::Usage) => End {
+            status: 2,
+            complaint: Some("usage: mcgate check, replay, serve, cache or loopback"),
+        },
+        Err(Stop::Memory) => End {
+            status: 3,
+            complaint: Some("memory: refused"),
+        },
+        Err(Stop::Device) => End {
+            status: 3,
+            complaint: Some("device: failed"),
+        },
+    }
+}
+
+fn run_text<W: Write>(alloc: Global, any: bool, text: &str, out: &mut W) -> Result<u8, Stop>
+    ensures { Runs text.now (W.contents out.old) (W.contents out.new) result }
+{
+    match run_replay(alloc, any, text, out) {
+        NO_MEMORY => Err(Stop::Memory),
+        WRITER => Err(Stop::Device),
+        status => Ok(status),
+    }
+}
+
+/// Replays an input, or prints why it is none. The answer is the exit status where all that was to be printed was written.
+///
+/// `Stop::Memory` and `Stop::Device` come where the input could not be read for that cause, and then nothing was written; also
+/// where the run was refused memory, or the output could not be written.
+pub fn run_input<W: Write>(
+    alloc: Global,
+    any: bool,
+    input: Result<String, InputFault>,
+    out: &mut W,
+) -> Result<u8, Stop>
+    ensures { AnswersInput input (W.contents out.old) (W.contents out.new) result }
+{
+    match input {
+        Ok(text) => run_text(alloc, any, text.as_str(), out),
+        Err(InputFault::TooLarge) => {
+            writeln!(out, "input: too large")?;
+            Ok(BAD_INPUT)
+        }
+        Err(InputFault::NotUtf8) => {
+            writeln!(out, "input: not UTF-8")?;
+            Ok(BAD_INPUT)
+        }
+        Err(InputFault::NoMemory) => Err(Stop::Memory),
+        Err(InputFault::Device) => Err(Stop::Device),
+    }
+}
