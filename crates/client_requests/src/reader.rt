@@ -1,0 +1,72 @@
+//! How the message at the front of a client's bytes is read, in whichever dialect it is.
+ghost use Rattle.std.specs.Prelude.{◌≡◌, ℕ, List};
+ghost use Rattle.text_requests.specs.Message as texts;
+ghost use Rattle.meta_requests.specs.Message as metas;
+ghost use Rattle.client_requests.specs.Both.{Classic, Meta, lift_found};
+ghost use Rattle.client_requests.specs.Reading.{IsMeant, Reads};
+
+use mc_text::ends::Line;
+use mc_text::reading::line;
+use mc_text::word::next_word;
+use request_parts::{Skip, Why};
+
+/// What the bytes of a client begin with.
+#[derive(Clone, Copy)]
+pub enum Read {
+    /// Less than a whole message.
+    More,
+    /// A line without an end in the first 65,536 bytes.
+    TooLong,
+    /// A message of the classic dialect that is served.
+    Classic(text_requests::Request),
+    /// A message of the meta dialect that is served.
+    Meta(meta_requests::Request),
+    /// A message that is refused: it takes `used` bytes, and what `skip` says is passed over behind them.
+    Refused { why: Why, used: usize, skip: Skip },
+}
+
+fn of_classic(read: text_requests::Read) -> Read
+    ensures { (bytes : List ℕ) (found : texts.Found) → texts.IsMeant bytes read found → IsMeant bytes result (lift_found Classic found) }
+{
+    match read {
+        text_requests::Read::More => Read::More,
+        text_requests::Read::TooLong => Read::TooLong,
+        text_requests::Read::Request(request) => Read::Classic(request),
+        text_requests::Read::Refused { why, used, skip } => Read::Refused { why, used, skip },
+    }
+}
+
+fn of_meta(read: meta_requests::Read) -> Read
+    ensures { (bytes : List ℕ) (found : metas.Found) → metas.IsMeant bytes read found → IsMeant bytes result (lift_found Meta found) }
+{
+    match read {
+        meta_requests::Read::More => Read::More,
+        meta_requests::Read::TooLong => Read::TooLong,
+        meta_requests::Read::Request(request) => Read::Meta(request),
+        meta_requests::Read::Refused { why, used, skip } => Read::Refused { why, used, skip },
+    }
+}
+
+/// The message that the bytes begin with, in either dialect: the line is found once, and its first word decides. It takes
+/// no memory, and time linear in its line: no data are looked at.
+///
+/// Source: memcached's protocol.txt.
+pub fn read_request(bytes: &[u8]) -> Read
+    ensures { Reads bytes.now result }
+{
+    match line(bytes) {
+        Line::More => Read::More,
+        Line::TooLong => Read::TooLong,
+        Line::At { end, used } => match next_word(&bytes[..end], 0) {
+            None => Read::Refused {
+                why: Why::Unknown,
+                used,
+                skip: Skip::Nothing,
+            },
+            Some(first) => match meta_requests::verbs::verb(&bytes[..end][first.start..first.end]) {
+                None => of_classic(text_requests::read_behind(bytes, end, used, first)),
+                Some(_) => of_meta(meta_requests::read_behind(bytes, end, used, first)),
+            },
+        },
+    }
+}
