@@ -17,7 +17,7 @@ use Rattle.route_tree.proofs.Parts.{each_at, match_bool}
 use Rattle.route_tree.proofs.Words.{IsOwn, own_calls}
 use Rattle.coverage.specs.Taking.{IsTaking, Takes}
 use Rattle.coverage.specs.Computed.{is_get, is_taking, fails, shown, adds, adds_some, adds_first, adds_head, adds_policy, copied, copied_some, copied_first, copied_policy, taken}
-use Rattle.coverage.proofs.Tests.{both, either_left, either_right, bool_is, if_true, if_false, true_match, false_match, only_get, only_other, is_get_of, HasCall, has_front, has_back, has_weaker, get_either, AreSome, some_either, some_at}
+use Rattle.coverage.proofs.Choices.{both, either_left, either_right, bool_is, if_true, if_false, true_match, false_match, only_get, only_other, is_get_of, HasCall, has_front, has_back, has_weaker, get_either, AreSome, some_either, some_at}
 use Rattle.coverage.proofs.Failing.{word_fails}
 use Rattle.coverage.proofs.Covering.{from_takes, copy_is_get, taking_get}
 use Rattle.coverage.proofs.Showing.{word_shows}

@@ -15,7 +15,7 @@ use Rattle.route_tree.specs.Plan.{Plan, Plans, PlanPolicies, Server, Null, Faili
 use Rattle.route_tree.specs.Word.{Given, rank, null_reply, answer_of_nothing, plain_get, refill, is_plain_get, Word, WordOfAll, WordOfFirst, WordOfHead, WordOfPolicy, AfterRefill, Refilled, AfterWarm, AfterCold, WarmUpWord}
 use Rattle.route_tree.proofs.Parts.{match_bool}
 use Rattle.coverage.specs.Computed.{is_get, fails, fails_some, fails_each, fails_last, fails_head, fails_policy, hits, hits_each, hits_first, hits_some, hits_head, hits_policy}
-use Rattle.coverage.proofs.Tests.{both, either_left, either_right, bool_is, if_true, if_false, true_match, false_match, by_get, only_get, only_other, is_get_of, no_get_of}
+use Rattle.coverage.proofs.Choices.{both, either_left, either_right, bool_is, if_true, if_false, true_match, false_match, by_get, only_get, only_other, is_get_of, no_get_of}
 
 null_one : (d : Dialect) (op : Op) → rank_of (answer_of_nothing d op) ≡ 1
 null_one dialects.Classic Get = refl

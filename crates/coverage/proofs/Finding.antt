@@ -26,7 +26,7 @@ use Rattle.route_tree.proofs.Going.{first_rest, has_word, all_some, first_some, 
 use Rattle.coverage.specs.Taking.{IsTaking, Takes}
 use Rattle.coverage.specs.Computed.{is_get, is_taking, fails, hits, hits_each, hits_first, hits_some, hits_head, hits_policy, shown, shown_each, shown_first, shown_some, shown_head, shown_policy, adds, copied, copied_some, copied_first, copied_policy, taken}
 use Rattle.coverage.specs.Exact.{TakenIsExact}
-use Rattle.coverage.proofs.Tests.{both, both_split, either_left, either_right, either_split, bool_is, cond_true, cond_false, if_true, if_false, match_true, match_false, by_get, get_is, other_is, is_get_of, get_of, no_get_of, HasCall, has_front, has_back, AreSome, one_less}
+use Rattle.coverage.proofs.Choices.{both, both_split, either_left, either_right, either_split, bool_is, cond_true, cond_false, if_true, if_false, match_true, match_false, by_get, get_is, other_is, is_get_of, get_of, no_get_of, HasCall, has_front, has_back, AreSome, one_less}
 use Rattle.coverage.proofs.Low.{low, first_given, cold_hit, warm_hit}
 use Rattle.coverage.proofs.Copying.{refill_adds, is_taking_op, takes_is_taken}
 

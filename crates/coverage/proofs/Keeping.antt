@@ -31,7 +31,7 @@ use Rattle.coverage.specs.declared.deleting.Deleting.TheVariants as kinds
 use Rattle.coverage.specs.Taking.{Clears, dialect_of}
 use Rattle.coverage.specs.Computed.{fails, kept, kept_each, kept_first, kept_head, kept_policy, cleared}
 use Rattle.coverage.specs.Exact.{ClearedIsExact}
-use Rattle.coverage.proofs.Tests.{both, both_split, either_left, either_right, either_split, bool_is, if_true, if_false, cond_true, cond_false, not_false, match_true, match_false, true_match, false_match, only_other}
+use Rattle.coverage.proofs.Choices.{both, both_split, either_left, either_right, either_split, bool_is, if_true, if_false, cond_true, cond_false, not_false, match_true, match_false, true_match, false_match, only_other}
 use Rattle.coverage.proofs.Failing.{word_fails}
 use Rattle.coverage.proofs.Low.{HasFailed, low, first_given}
 

@@ -1,5 +1,5 @@
 pub mod Covering
-pub mod Tests
+pub mod Choices
 pub mod Failing
 pub mod Low
 pub mod Keeping
@@ -19,3 +19,5 @@ pub mod RowTests
 pub mod Answering
 pub mod Proposals
 pub mod RunLists
+pub mod SameStanding
+pub mod TakenPools

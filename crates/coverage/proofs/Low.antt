@@ -17,7 +17,7 @@ use Rattle.route_tree.specs.Word.{Given, rank, given_by, null_reply, failing_rep
 use Rattle.route_tree.proofs.Places.{each_append}
 use Rattle.route_tree.proofs.Going.{worst_of, worst_none}
 use Rattle.coverage.specs.Computed.{is_get, fails, fails_some, fails_each, fails_last, fails_head, fails_policy, adds, adds_some, adds_first, adds_head, adds_policy}
-use Rattle.coverage.proofs.Tests.{both_split, either_split, bool_is, cond_true, cond_false, match_true, match_false, by_get, get_is, other_is, is_get_of, no_get_of, AreSome, some_left, some_right, one_less}
+use Rattle.coverage.proofs.Choices.{both_split, either_split, bool_is, cond_true, cond_false, match_true, match_false, by_get, get_is, other_is, is_get_of, no_get_of, AreSome, some_left, some_right, one_less}
 use Rattle.coverage.proofs.Failing.{null_rank}
 
 abbrev pub HasFailed : Call → Type 0

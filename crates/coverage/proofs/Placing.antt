@@ -12,7 +12,7 @@ use Rattle.route_tree.proofs.Parts.{each_weaker}
 use Rattle.route_tree.proofs.Places.{each_append, each_left, each_right, alike, tests, rests, prefixes_are_keys}
 use Rattle.coverage.specs.Taking.{Covers}
 use Rattle.coverage.specs.Places.{IsClassOf, place_at, CoversAt, SoundIsCovered}
-use Rattle.coverage.proofs.Tests.{bool_is}
+use Rattle.coverage.proofs.Choices.{bool_is}
 use Rattle.coverage.proofs.Covering.{covering_is_covered}
 
 -- some of the prefixes is the longest that begins the key, or none begins it

@@ -13,7 +13,7 @@ use Rattle.route_tree.proofs.Servers as route_servers
 use Rattle.coverage.specs.Taking.{IsTaking, Takes}
 use Rattle.coverage.specs.Computed.{taken}
 use Rattle.coverage.specs.Rows.{is_taken}
-use Rattle.coverage.proofs.Tests.{either_left, either_right, either_split}
+use Rattle.coverage.proofs.Choices.{either_left, either_right, either_split}
 use Rattle.coverage.proofs.Finding.{taken_is_exact}
 
 module _ (plain : Plan) (good : IsGood plain) where

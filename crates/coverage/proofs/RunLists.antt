@@ -1,5 +1,5 @@
 -- Runs, one residue after another.
-use Rattle.std.proofs.Common.{◌≡◌, ℕ, zero, suc, ◌+◌, ◌<◌, ◌≤◌, Bool, true, false, cond, List, [], ◌∷◌, ◌++◌, length, nat_le, slice_get, take, Option, Some, ⊎_elim, sym, ap, ◌∙◌, subst, arith}
+use Rattle.std.proofs.Common.{◌≡◌, ℕ, zero, suc, ◌+◌, ◌<◌, ◌≤◌, Bool, true, false, cond, List, [], ◌∷◌, ◌++◌, length, nat_le, slice_get, take, Option, Some, inl, inr, ⊎_elim, refl, sym, ap, ◌∙◌, subst, arith}
 use Rattle.std.specs.Prelude.{slice_index_or}
 use Rattle.std.proofs.lemmas.Bool.{cases_lt}
 use Rattle.route_tree.specs.Route.{Route}
@@ -12,7 +12,7 @@ use Rattle.coverage.specs.declared.table.PlaceTable.{PlaceTable}
 use Rattle.coverage.specs.Places.{place_at}
 use Rattle.coverage.specs.Tables.{IsTable}
 use Rattle.coverage.specs.Valid.{AreBehind, AreRuns, EachClass, IsClass, run_at}
-use Rattle.coverage.specs.Proposed.{AreRunsBelow, AreRowsBelow, AreProposed, IsValidIfCovered}
+use Rattle.coverage.specs.Proposed.{last_of, IsLast, IsWithRun, AreRunsBelow, AreRowsBelow, AreProposed, IsValidIfCovered}
 use Rattle.coverage.proofs.Answering.{at_index}
 
 at_most : (a b : ℕ) → a ≤ b → nat_le a b ≡ true
@@ -64,6 +64,57 @@ one n = omega arith
 
 pub rows_next : (tree : Route) (prefix : Option (List ℕ)) (modulus n : ℕ) (xs : List Run) (run : Run) → AreRowsBelow tree prefix modulus n xs → run.first ≡ n → IsValidIfCovered (tree_at_place tree (place_at prefix n modulus)) run.servers.items → AreRowsBelow tree prefix modulus (n + 1) (xs ++ run ∷ [])
 rows_next tree prefix modulus n xs run h e v = subst (λ (k : ℕ). AreRowsBelow tree prefix modulus k (xs ++ run ∷ [])) (one n) (rows_more tree prefix modulus n xs run h e v)
+
+-- ---- going on with the last run
+
+behind_wider : (last n : ℕ) (xs : List Run) → AreBehind last n xs → AreBehind last (suc n) xs
+behind_wider last n [] h = tt
+behind_wider last n (x ∷ xs) h = (h.0, (let k = h.1 in omega (arith, k)), behind_wider x.first n xs h.2)
+
+runs_wider : (n : ℕ) (xs : List Run) → 0 < length xs → AreRunsBelow n xs → AreRunsBelow (suc n) xs
+runs_wider n [] some h = absurd (omega (arith, some))
+runs_wider n (x ∷ xs) some h = (omega arith, (h.1.0, behind_wider 0 n xs h.1.1))
+
+run_at_end : (s : List ℕ) (last n : ℕ) (xs : List Run) → AreBehind last n xs → run_at s xs n ≡ last_of s xs
+run_at_end s last n [] h = refl
+run_at_end s last n (x ∷ xs) h =
+    ap (λ (t : Bool). cond t (run_at x.servers.items xs n) s) (at_most x.first n (let lt = h.1 in omega (arith, lt)))
+    ∙ run_at_end x.servers.items x.first n xs h.2
+
+run_at_last_of : (n : ℕ) (xs : List Run) → 0 < length xs → AreRunsBelow n xs → run_at [] xs n ≡ last_of [] xs
+run_at_last_of n [] some h = refl
+run_at_last_of n (x ∷ xs) some h =
+    ap (λ (t : Bool). cond t (run_at x.servers.items xs n) []) (at_most x.first n (let z = h.1.0 in omega (arith, z)))
+    ∙ run_at_end x.servers.items 0 n xs h.1.1
+
+rows_joined : (tree : Route) (prefix : Option (List ℕ)) (modulus n : ℕ) (xs : List Run) (servers : List ℕ) → AreRowsBelow tree prefix modulus n xs → IsLast xs servers → IsValidIfCovered (tree_at_place tree (place_at prefix n modulus)) servers → AreRowsBelow tree prefix modulus (suc n) xs
+rows_joined tree prefix modulus n xs servers h l v = (runs_wider n xs l.0 h.0, all)
+  where
+    all : (r : ℕ) → r < suc n → IsValidIfCovered (tree_at_place tree (place_at prefix r modulus)) (run_at [] xs r)
+    all r lt =
+        ⊎_elim (λ (less : r < n). h.1 r less)
+        (λ (le : n ≤ r).
+        let same : n ≡ r = omega (arith, le, lt) in
+        subst (λ (q : ℕ). IsValidIfCovered (tree_at_place tree (place_at prefix q modulus)) (run_at [] xs q)) same
+        (subst (IsValidIfCovered (tree_at_place tree (place_at prefix n modulus))) (sym (run_at_last_of n xs l.0 h.0 ∙ l.1)) v))
+        (cases_lt r n)
+
+-- the runs with those of one residue more
+pub rows_with : (tree : Route) (prefix : Option (List ℕ)) (modulus n : ℕ) (xs ys : List Run) (servers : List ℕ) → AreRowsBelow tree prefix modulus n xs → IsValidIfCovered (tree_at_place tree (place_at prefix n modulus)) servers → IsWithRun n servers xs ys → AreRowsBelow tree prefix modulus (n + 1) ys
+rows_with tree prefix modulus n xs ys servers h v (inl w) =
+    subst (λ (l : List Run). AreRowsBelow tree prefix modulus (n + 1) l) (sym w.1)
+    (subst (λ (k : ℕ). AreRowsBelow tree prefix modulus k xs) (one n) (rows_joined tree prefix modulus n xs servers h w.0 v))
+rows_with tree prefix modulus n xs ys servers h v (inr w) =
+    subst (λ (l : List Run). AreRowsBelow tree prefix modulus (n + 1) l) (sym w.3)
+    (rows_next tree prefix modulus n xs w.0 h w.1 (subst (IsValidIfCovered (tree_at_place tree (place_at prefix n modulus))) (sym w.2) v))
+
+-- the last run's servers
+pub last_is : (servers : List ℕ) (xs : List Run) (n : ℕ) (run : Run) → n + 1 ≡ length xs → run ≡ slice_index_or xs n run → last_of servers xs ≡ run.servers.items
+last_is servers [] n run e is = absurd (omega (arith, e))
+last_is servers (x ∷ []) zero run e is = ap (λ (r : Run). r.servers.items) (sym is)
+last_is servers (x ∷ []) (suc n) run e is = absurd (omega (arith, e))
+last_is servers (x ∷ y ∷ xs) zero run e is = absurd (omega (arith, e))
+last_is servers (x ∷ y ∷ xs) (suc n) run e is = last_is x.servers.items (y ∷ xs) n run (omega (arith, e)) is
 
 runs_are : (n : ℕ) (xs : List Run) → 0 < n → AreRunsBelow n xs → AreRuns n xs
 runs_are n [] some h = absurd (omega (arith, some, h))

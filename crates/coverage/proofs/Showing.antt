@@ -27,7 +27,7 @@ use Rattle.route_tree.specs.Word.{Given, rank, given_by, plain_get, refill, is_p
 use Rattle.route_tree.proofs.Parts.{match_bool}
 use Rattle.coverage.specs.Taking.{IsTaking}
 use Rattle.coverage.specs.Computed.{is_get, fails, shown, shown_each, shown_first, shown_some, shown_head, shown_policy}
-use Rattle.coverage.proofs.Tests.{both, either_left, either_right, bool_is, if_true, if_false, true_match, false_match, by_get, only_get, only_other, is_get_of, no_get_of, HasCall, has_front, has_back, has_weaker}
+use Rattle.coverage.proofs.Choices.{both, either_left, either_right, bool_is, if_true, if_false, true_match, false_match, by_get, only_get, only_other, is_get_of, no_get_of, HasCall, has_front, has_back, has_weaker}
 use Rattle.coverage.proofs.Failing.{word_fails, none_above_hits}
 use Rattle.coverage.proofs.Covering.{bare_shows_nothing}
 

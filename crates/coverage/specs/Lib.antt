@@ -10,3 +10,4 @@ pub mod Tables
 pub mod Lookup
 pub mod Rows
 pub mod Proposed
+pub mod Pools

@@ -1,5 +1,5 @@
 -- What is proposed: the servers that are taken, rising.
-use Rattle.std.specs.Prelude.{◌≡◌, ℕ, ◌<◌, List, [], ◌∷◌, Option, Some, None, insert, nat_eq, nat_lt, if◌then◌else◌}
+use Rattle.std.specs.Prelude.{◌≡◌, ℕ, ◌<◌, List, [], ◌∷◌, ◌++◌, Option, length, ◌⊎◌}
 use Rattle.route_tree.specs.Route.{Route}
 use Rattle.route_tree.specs.Plan.{Plan}
 use Rattle.route_tree.specs.Place.{tree_at_place}
@@ -10,30 +10,26 @@ use Rattle.coverage.specs.declared.table.PlaceTable.{PlaceTable}
 use Rattle.coverage.specs.declared.table.Certificate.{Certificate}
 use Rattle.coverage.specs.Places.{place_at}
 use Rattle.coverage.specs.Taking.{Covers}
-use Rattle.coverage.specs.Texts.{one_more}
 use Rattle.coverage.specs.Valid.{IsTableOf, IsShaped, IsValidRow, AreRuns, EachClass, row_at, run_at}
-use Rattle.coverage.specs.Rows.{is_taken}
-
--- where the number goes in, unless it is there
-abbrev pub number_in : List ℕ → ℕ → Option ℕ
-number_in [] s = Some 0
-number_in (x ∷ xs) s = if nat_lt s x then Some 0 else (if nat_eq s x then None else one_more (number_in xs s))
-
-abbrev pub put_number : List ℕ → ℕ → Option ℕ → List ℕ
-put_number xs s None = xs
-put_number xs s (Some i) = insert xs i s
-
-abbrev pub with_number : List ℕ → ℕ → List ℕ
-with_number xs s = put_number xs s (number_in xs s)
-
--- those of the servers that are taken, once and rising
-abbrev pub taken_of : Plan → List ℕ → List ℕ
-taken_of plain [] = []
-taken_of plain (s ∷ ss) = if is_taken plain s then with_number (taken_of plain ss) s else taken_of plain ss
 
 -- valid, unless the place has a gap
 abbrev pub IsValidIfCovered : Plan → List ℕ → Type 0
 IsValidIfCovered plain row = Covers plain plain → IsValidRow plain row
+
+-- the servers of the last run
+abbrev pub last_of : List ℕ → List Run → List ℕ
+last_of servers [] = servers
+last_of servers (run ∷ runs) = last_of run.servers.items runs
+
+-- there is a last run, and it has these servers
+abbrev pub IsLast : List Run → List ℕ → Type 0
+IsLast runs servers = (0 < length runs) × (last_of [] runs ≡ servers)
+
+-- the runs go on with these servers at the residue: the last run has them, or one more begins there
+abbrev pub IsWithRun : ℕ → List ℕ → List Run → List Run → Type 0
+IsWithRun residue servers old new =
+    (IsLast old servers × (new ≡ old))
+    ⊎ ((run : Run) × (run.first ≡ residue) × (run.servers.items ≡ servers) × (new ≡ old ++ run ∷ []))
 
 -- the runs of all residues below this one
 abbrev pub AreRunsBelow : ℕ → List Run → Type 0

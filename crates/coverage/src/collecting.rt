@@ -212,7 +212,7 @@ fn add_sizes_at_policies(
 }
 
 // The longest policy that begins the text, else the wildcard.
-fn longest<'a>(policies: &'a [(Key, Tree)], wildcard: &'a Tree, text: &[u8]) -> &'a Tree
+pub fn longest<'a>(policies: &'a [(Key, Tree)], wildcard: &'a Tree, text: &[u8]) -> &'a Tree
     ensures { result.now ≡ chosen text.now (prefixes_of policies.now wildcard.now) None }
 {
     let mut best: Option<&'a (Key, Tree)> = None;

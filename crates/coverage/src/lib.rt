@@ -2,14 +2,18 @@
 #![tactic(auto)]
 
 pub mod clearing;
+pub mod clearing_at;
 pub mod collecting;
 pub mod deleting;
 pub mod laws;
 pub mod lookup;
 pub mod making;
 pub mod multiples;
+pub mod pools;
 pub mod proposing;
+pub mod rows;
 pub mod servers;
+pub mod standing;
 pub mod stores;
 pub mod table;
 pub mod taking;
@@ -21,3 +25,6 @@ pub use making::{places, places_of_two};
 pub use proposing::propose;
 pub use table::{Certificate, Class, ClassRows, PlaceFault, PlaceTable, Run};
 pub use taking::taken;
+
+#[cfg(test)]
+mod tests;

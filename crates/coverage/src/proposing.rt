@@ -1,102 +1,54 @@
-//! Certificates by which trees are judged. What checks a certificate uses nothing of this.
+//! Certificates by which trees are judged. What checks a certificate uses nothing of this file.
 
-ghost use Rattle.std.specs.Prelude.{◌≡◌, ◌<◌, ◌≤◌, [], ◌∷◌, ◌++◌, IfOk, IfSome, MatchResult, length};
-ghost use Rattle.route_tree.specs.Place.{tree_at_place};
-ghost use Rattle.route_tree.specs.Servers.{servers};
-ghost use Rattle.coverage.specs.Places.{place_at};
+ghost use Rattle.std.specs.Prelude.{◌≡◌, ◌↔◌, ◌<◌, [], ◌∷◌, IfOk, IsTrue, MatchResult, length};
 ghost use Rattle.coverage.specs.Tables.{IsTable, IsPlaceFault};
-ghost use Rattle.coverage.specs.Proposed.{IsProposal, number_in, with_number, taken_of, IsValidIfCovered, AreProposed, IsProposedBy};
+ghost use Rattle.coverage.specs.Proposed.{IsProposal, last_of, IsLast, IsWithRun, AreProposed, IsProposedBy};
 
 use crate::making::places;
-use crate::servers::add_servers;
+use crate::pools::taken_pools;
+use crate::rows::put_row;
 use crate::table::{Certificate, Class, ClassRows, PlaceFault, PlaceTable, Run};
-use crate::taking::is_taken_at_all;
 use mc_types::ServerId;
-use route_tree::{Place, Plain, Tree};
+use route_tree::Tree;
 use std::alloc::{AllocError, Global};
 
-// Where the server goes in, unless it is there.
-fn number_in(row: &[ServerId], server: ServerId) -> Option<usize>
-    ensures place { result ≡ number_in row.now server }
-    ensures within { IfSome result (λ i. i ≤ length row.now) }
+// The servers of the last run.
+fn last_servers<'a>(runs: &'a [Run]) -> &'a [ServerId]
+    requires { 0 < length runs.now }
+    ensures { result.now ≡ last_of [] runs.now }
 {
-    match row {
-        [] => Some(0),
-        [first, rest @ ..] => {
-            if server.number() < first.number() {
-                Some(0)
-            } else if server.number() == first.number() {
-                None
-            } else {
-                match number_in(rest, server) {
-                    None => None,
-                    Some(index) => Some(index + 1),
-                }
-            }
-        }
-    }
+    let last = &runs[runs.len() - 1];
+    &last.servers
 }
 
-// Puts the server in its place, unless it is there.
-fn put_in(row: &mut Vec<ServerId>, server: ServerId) -> Result<(), AllocError>
-    ensures { IfOk result (λ _. row.new.items ≡ with_number row.old.items server) }
+// Whether the last run has these servers.
+fn is_last(runs: &[Run], servers: &[ServerId]) -> bool
+    ensures { IsTrue result ↔ IsLast runs.now servers.now }
 {
-    match number_in(row, server) {
-        None => Ok(()),
-        Some(index) => {
-            row.insert(index, server)?;
-            Ok(())
-        }
-    }
+    !runs.is_empty() && last_servers(runs) == servers
 }
 
-// Those of the servers that are taken, once and rising.
-fn taken_of(alloc: Global, plain: &Plain, among: &[ServerId]) -> Result<Vec<ServerId>, AllocError>
-    ensures { IfOk result (λ row. row.items ≡ taken_of plain.now among.now) }
-{
-    match among {
-        [] => Ok(Vec::new(alloc)),
-        [first, rest @ ..] => {
-            let mut row = taken_of(alloc, plain, rest)?;
-            if is_taken_at_all(plain, *first) {
-                put_in(&mut row, *first)?;
-            }
-            Ok(row)
-        }
-    }
-}
-
-/// The row of a plain tree: the servers that are taken.
-#[tactic(auto, using(crate::proofs::Proposals::valid_if_covered))]
-pub fn row_of(alloc: Global, plain: &Plain) -> Result<Vec<ServerId>, AllocError>
-    ensures { IfOk result (λ row. IsValidIfCovered plain.now row.items) }
-{
-    let _form = plain.form();
-    let mut among = Vec::new(alloc);
-    add_servers(plain, &mut among)?;
-    taken_of(alloc, plain, &among)
-}
-
-// The row of a residue.
-fn row_at(
+// Goes on with the last run, where it has these servers, else begins a run at the residue.
+fn add_run(
     alloc: Global,
-    tree: &Tree,
-    class: &Class,
-    modulus: u32,
+    runs: &mut Vec<Run>,
     residue: u32,
-) -> Result<Vec<ServerId>, AllocError>
-    ensures { IfOk result (λ row. IsValidIfCovered (tree_at_place tree.now (place_at class.now.prefix residue modulus)) row.items) }
+    servers: &[ServerId],
+) -> Result<(), AllocError>
+    ensures { IfOk result (λ _. IsWithRun residue servers.now runs.old.items runs.new.items) }
 {
-    let place = Place {
-        prefix: class.prefix,
-        residue,
-        modulus,
-    };
-    let plain = tree.at_place(alloc, &place)?;
-    row_of(alloc, &plain)
+    if is_last(runs, servers) {
+        return Ok(());
+    }
+    let servers = Vec::from_slice(alloc, servers)?;
+    runs.push(Run {
+        first: residue,
+        servers,
+    })?;
+    Ok(())
 }
 
-// The rows of a class.
+// The rows of a class: of neighbours that are equal one run.
 fn class_rows(
     alloc: Global,
     tree: &Tree,
@@ -106,13 +58,13 @@ fn class_rows(
     requires { 0 < class.now.modulus }
     ensures { IfOk result (λ rows. AreProposed tree.now modulus class.now rows) }
 {
+    let _form = tree.form();
+    let pools = taken_pools(alloc, tree, class.text())?;
+    let mut row = Vec::new(alloc);
     let mut runs = Vec::new(alloc);
     for residue in 0..class.modulus {
-        let servers = row_at(alloc, tree, class, modulus, residue)?;
-        runs.push(Run {
-            first: residue,
-            servers,
-        })?;
+        put_row(&pools, residue, &mut row)?;
+        add_run(alloc, &mut runs, residue, &row)?;
     }
     Ok(ClassRows {
         modulus: class.modulus,
@@ -120,7 +72,7 @@ fn class_rows(
     })
 }
 
-/// The certificate of the tree's table.
+/// The certificate of the tree's table, as `propose` makes it. The only error is that memory was refused.
 pub fn propose_by(alloc: Global, tree: &Tree, table: &PlaceTable) -> Result<Certificate, AllocError>
     requires { IsTable (tree.now ∷ []) table.now }
     ensures { IfOk result (λ certificate. IsProposedBy tree.now table.now certificate) }
@@ -132,7 +84,10 @@ pub fn propose_by(alloc: Global, tree: &Tree, table: &PlaceTable) -> Result<Cert
     Ok(Certificate { classes })
 }
 
-/// The certificate that the tree is judged by. Each row that has no gap is valid.
+/// The certificate that the tree is judged by: the table's classes with their moduli, and at each place the servers that
+/// reads take, rising, so that each row that has no gap is valid. Neighbouring residues with equal rows share a run.
+///
+/// `TooManyPlaces` comes exactly where there would be more than 262,144 rows, `NoMemory` where memory was refused.
 pub fn propose(alloc: Global, tree: &Tree) -> Result<Certificate, PlaceFault>
     ensures { MatchResult result (IsProposal tree.now) (IsPlaceFault (tree.now ∷ [])) }
 {

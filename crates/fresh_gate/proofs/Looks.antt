@@ -4,21 +4,16 @@ use Rattle.mc_types.specs.declared.ask.Op.{Op}
 use Rattle.mc_types.specs.declared.ask.Op.TheVariants.{Get, Gat, Set, Add, Replace, Append, Prepend, Cas, Delete, Incr, Decr, Touch}
 use Rattle.route_tree.specs.Each.{IsIn}
 use Rattle.route_tree.specs.Plan.{Plan}
-use Rattle.route_tree.specs.Servers.{servers, CallsStay}
-use Rattle.route_tree.specs.Word.{Given}
-use Rattle.route_tree.proofs.Parts.{each_at, each_weaker}
+use Rattle.route_tree.proofs.Parts.{each_weaker}
 use Rattle.route_tree.proofs.Places.{each_append}
 use Rattle.coverage.proofs.Validity.{each_in}
 use Rattle.std.proofs.lemmas.Bool.{leb-true, cases_lt}
-use Rattle.mc_types.specs.declared.call.Origin.TheVariants.{Client}
-use Rattle.mc_runs.specs.Run.{Call}
-use Rattle.fresh_gate.specs.declared.rows.Found.{Found}
-use Rattle.coverage.specs.Valid.{IsValidRow}
-use Rattle.fresh_gate.specs.Ends.{IsLook, look_of}
+use Rattle.fresh_gate.specs.declared.finding.Found.{Found}
 use Rattle.coverage.specs.declared.deleting.Deleting.{Deleting}
 use Rattle.coverage.specs.declared.deleting.Deleting.TheVariants as kinds
 use Rattle.coverage.specs.Taking.{IsTaking, Takes, Clears}
 use Rattle.fresh_gate.specs.Gate.{op_order, kind_order, IsFirstAt}
+use Rattle.fresh_gate.specs.Rows.{HoldsTaken}
 use Rattle.fresh_gate.specs.Looking.{IsFirstUncleared, IsFirstAtServer, CoversServer, IsFirstAmong, IfFound, IfGap, lesser}
 
 pub is_not : (b : Bool) (P : Type 0) → (IsTrue b ↔ P) → b ≡ false → P → ⊥
@@ -101,18 +96,12 @@ module _ (earlier later : Plan) where
 
   -- ---- all servers
 
-  takes_within : CallsStay → (op : Op) (s : ℕ) → Takes later op s → IsIn s (servers later)
-  takes_within stay op s t =
-      let given : Given = record { reply = t.4; from = t.5 } in
-      let c = t.7.1 in
-      subst (λ n. IsIn n (servers later)) c.2 (each_at (λ (call : Call). IsIn call.server (servers later)) t.3 t.7.0 c.0 (stay later t.0 Client 0 t.3 given t.6).1 c.1)
-
-  first_at : CallsStay → (f : Found) → IsFirstAmong earlier later (servers later) f → IsFirstAt earlier later f.server f.op f.deleting
-  first_at stay f h = record {
+  first_at : (among : List ℕ) → HoldsTaken later among → (f : Found) → IsFirstAmong earlier later among f → IsFirstAt earlier later f.server f.op f.deleting
+  first_at among all f h = record {
     gap = record { taking = h.first.taken.taking; taken = h.first.taken.taken; uncleared = h.first.uncleared.uncleared };
     first = λ t p e g.
         ⊎_elim
-        (λ (lt : t < f.server). absurd (g.uncleared (each_in (λ s. s < f.server → CoversServer earlier later s) (servers later) t h.least (takes_within stay p t g.taken) lt p g.taking g.taken e)))
+        (λ (lt : t < f.server). absurd (g.uncleared (each_in (λ s. s < f.server → CoversServer earlier later s) among t h.least (all p g.taking t g.taken) lt p g.taking g.taken e)))
         (λ (le : f.server ≤ t). ⊎_elim
         (λ (lt : f.server < t). inl lt)
         (λ (ge : t ≤ f.server).
@@ -125,13 +114,6 @@ module _ (earlier later : Plan) where
       behind : (p : Op) (e : Deleting) → op_order f.op ≤ op_order p → kind_order f.deleting ≤ kind_order e → (op_order f.op < op_order p) ⊎ ((op_order f.op ≡ op_order p) × (kind_order f.deleting ≤ kind_order e))
       behind p e a b = ⊎_elim (λ (lt : op_order f.op < op_order p). inl lt) (λ (ge : op_order p ≤ op_order f.op). inr (omega arith, b)) (cases_lt (op_order f.op) (op_order p))
 
-  pub found_is_first : CallsStay → (found : Option Found) → IfFound earlier later (servers later) found → IfGap earlier later found
-  found_is_first stay None h = λ op taking s t kind. each_in (CoversServer earlier later) (servers later) s h (takes_within stay op s t) op taking t kind
-  found_is_first stay (Some f) h = first_at stay f h
-
--- ---- a look
-
-pub is_look : (plain : Plan) (row : List ℕ) (found : Option Found) (valid : Bool) → IfGap plain plain found → (IsTrue valid ↔ IsValidRow plain row) → IsLook plain row (look_of found valid)
-is_look plain row (Some f) valid gap is = gap
-is_look plain row None true gap is = is.0 refl
-is_look plain row None false gap is = (gap, is_not false (IsValidRow plain row) is refl)
+  pub found_is_first : (among : List ℕ) → HoldsTaken later among → (found : Option Found) → IfFound earlier later among found → IfGap earlier later found
+  found_is_first among all None h = λ op taking s t kind. each_in (CoversServer earlier later) among s h (all op taking s t) op taking t kind
+  found_is_first among all (Some f) h = first_at among all f h

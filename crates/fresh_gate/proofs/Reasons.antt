@@ -21,7 +21,7 @@ use Rattle.coverage.proofs.Sizing.{sizes_left}
 use Rattle.coverage.proofs.Validity.{looks_are_enough}
 use Rattle.fresh_gate.specs.declared.classes.ClassEnd.TheVariants as ends
 use Rattle.fresh_gate.specs.declared.classes.TableEnd.TheVariants as tables
-use Rattle.fresh_gate.specs.declared.rows.Found.{Found}
+use Rattle.fresh_gate.specs.declared.finding.Found.{Found}
 use Rattle.fresh_gate.specs.declared.gap.Gap.{Gap}
 use Rattle.fresh_gate.specs.Ends.{IsClassEnd, IsTableEnd, EndsAt, AreValidBelow, AreValidBefore}
 use Rattle.fresh_gate.specs.Gate.{IsInvalid, IsBadRow, AreValidUpTo, IsGapMet}

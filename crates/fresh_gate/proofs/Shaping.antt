@@ -6,7 +6,7 @@ use Rattle.coverage.specs.declared.table.Run.{Run}
 use Rattle.coverage.specs.declared.table.ClassRows.{ClassRows}
 use Rattle.coverage.specs.Texts.{one_more}
 use Rattle.coverage.specs.Valid.{AreBehind, AreRuns, IsShaped}
-use Rattle.coverage.proofs.Tests.{both, both_split}
+use Rattle.coverage.proofs.Choices.{both, both_split}
 use Rattle.fresh_gate.specs.Shapes.{is_rising, has_runs, is_shaped, first_misshaped, IfMisshaped}
 
 rising_is : (last m : ℕ) (runs : List Run) → is_rising last m runs ≡ true → AreBehind last m runs

@@ -17,7 +17,7 @@ use Rattle.coverage.specs.Valid.{IsClass, IsTableOf}
 use Rattle.coverage.proofs.Resolving.{same_left}
 use Rattle.coverage.proofs.Sizing.{both_left}
 use Rattle.coverage.proofs.Validity.{each_in}
-use Rattle.fresh_gate.specs.declared.rows.Found.{Found}
+use Rattle.fresh_gate.specs.declared.finding.Found.{Found}
 use Rattle.fresh_gate.specs.declared.gap.Gap.{Gap}
 use Rattle.fresh_gate.specs.declared.pairs.PairEnd.TheVariants as ends
 use Rattle.fresh_gate.specs.declared.pairs.TwoEnd.TheVariants as tables

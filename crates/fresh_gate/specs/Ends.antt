@@ -1,5 +1,5 @@
 -- How looks at rows end.
-use Rattle.std.specs.Prelude.{◌≡◌, ℕ, ◌<◌, List, [], ◌∷◌, Option, Some, None, Bool, true, false, length, slice_get}
+use Rattle.std.specs.Prelude.{◌≡◌, ℕ, ◌<◌, List, [], ◌∷◌, Option, Some, length, slice_get}
 use Rattle.route_tree.specs.Plan.{Plan}
 use Rattle.route_tree.specs.Route.{Route}
 use Rattle.route_tree.specs.Place.{tree_at_place}
@@ -16,13 +16,7 @@ use Rattle.fresh_gate.specs.declared.classes.Look.{Look}
 use Rattle.fresh_gate.specs.declared.classes.Look.TheVariants as looks
 use Rattle.fresh_gate.specs.declared.classes.ClassEnd.{ClassEnd}
 use Rattle.fresh_gate.specs.declared.classes.ClassEnd.TheVariants as ends
-use Rattle.fresh_gate.specs.declared.rows.Found.{Found}
 use Rattle.fresh_gate.specs.Gate.{IsFirstAt}
-
-abbrev pub look_of : Option Found → Bool → Look
-look_of (Some f) b = looks.Gap f
-look_of None true = looks.Good
-look_of None false = looks.Bad
 
 -- a look at one row: the first gap, else whether the row is valid
 abbrev pub IsLook : Plan → List ℕ → Look → Type 0

@@ -6,7 +6,7 @@ use Rattle.route_tree.specs.Plan.{Plan}
 use Rattle.coverage.specs.declared.deleting.Deleting.{Deleting}
 use Rattle.coverage.specs.Taking.{IsTaking, Takes, Clears, Covers}
 use Rattle.fresh_gate.specs.Gate.{op_order, kind_order, IsFirstAt}
-use Rattle.fresh_gate.specs.declared.rows.Found.{Found}
+use Rattle.fresh_gate.specs.declared.finding.Found.{Found}
 
 -- the first delete that doesn't clear the server
 pub record IsFirstUncleared (plain : Plan) (server : ℕ) (kind : Deleting) : Type 0 where

@@ -35,5 +35,9 @@ IsFaultAmong trees tree (faults.Uncovered generation gap) = FailsAt trees tree g
 IsFaultAmong trees tree faults.NoMemory = Unit {0}
 
 -- the new list of servers begins with the one in use, so that each server keeps its number
+abbrev pub AreKept : Addresses → Addresses → Type 0
+AreKept used new = (i : ℕ) → i < length used → slice_get new i ≡ slice_get used i
+
+-- of the configuration in use and a new one
 abbrev pub KeepsNumbers : List Configuration → Configuration → Type 0
-KeepsNumbers configs config = (used : Configuration) → IsLast configs used → (more : Addresses) × (config.servers ≡ used.servers ++ more)
+KeepsNumbers configs config = (used : Configuration) → IsLast configs used → AreKept used.servers config.servers

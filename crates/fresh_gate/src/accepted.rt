@@ -1,6 +1,6 @@
 //! Accepted configurations, one loaded after another.
 
-ghost use Rattle.std.specs.Prelude.{◌≡◌, ◌+◌, ◌++◌, [], ◌∷◌, IfErr, IfOk, MatchResult, OnOk, length};
+ghost use Rattle.std.specs.Prelude.{◌≡◌, ◌+◌, ◌++◌, [], ◌∷◌, ◌↔◌, IfErr, IfOk, IsTrue, MatchResult, OnOk, length};
 ghost use Rattle.coverage.specs.Places.{CoversAt};
 ghost use Rattle.fresh_gate.specs.Sound.{AreGenerations, EveryRunIsFresh, IsLast, trees_of};
 ghost use Rattle.fresh_gate.specs.Reload.{IsReloadFault, KeepsNumbers};
@@ -8,6 +8,7 @@ ghost use Rattle.fresh_gate.specs.declared.gap.Reason.TheVariants as reasons;
 
 use crate::gap::{Reason, Refused};
 use crate::laws::generations_are_fresh;
+use crate::numbers::are_kept;
 use crate::pairs::covers;
 use crate::reloading::{ReloadFault, all_cover, numbered};
 use route_json::Config;
@@ -74,6 +75,14 @@ impl Accepted {
         ensures generations { AreGenerations (trees_of self.now) }
     {
         &self.configs[self.configs.len() - 1]
+    }
+
+    /// Whether the configuration's list of servers begins with that of the configuration in use, as `reload` asks. It takes no
+    /// memory.
+    pub fn keeps_numbers(&self, config: &Config) -> bool
+        ensures { IsTrue result ↔ KeepsNumbers self.now config.now }
+    {
+        are_kept(self.config().servers(), config.servers())
     }
 
     /// The same generations once more. The only error is `AllocError`, where memory is refused.

@@ -1,15 +1,18 @@
 //! Looks at the rows of a certificate, one for each residue of each class's own modulus.
 
 ghost use Rattle.std.specs.Prelude.{◌≡◌, ◌≤◌, ℕ, IfOk, length};
+ghost use Rattle.route_tree.specs.At.{left_of};
+ghost use Rattle.route_tree.specs.Place.{prefix_text};
 ghost use Rattle.coverage.specs.Valid.{run_at};
-ghost use Rattle.fresh_gate.specs.Ends.{look_of, plain_of, IsLook, IsClassEnd, IsTableEnd};
+ghost use Rattle.fresh_gate.specs.Rows.{IsTakenRow};
+ghost use Rattle.fresh_gate.specs.Ends.{plain_of, IsLook, IsClassEnd, IsTableEnd};
 
-use crate::rows::{Found, first_gap};
-use crate::validity::is_valid_row;
-use coverage::servers::add_servers;
+use crate::finding::{Found, gap_at};
+use crate::validity::{is_valid_at, take_row};
+use coverage::pools::taken_pools;
 use coverage::{Class, ClassRows, Run};
 use mc_types::ServerId;
-use route_tree::{Place, Plain, Tree};
+use route_tree::Tree;
 use std::alloc::{AllocError, Global};
 
 /// What a look at a row finds.
@@ -36,26 +39,6 @@ pub enum TableEnd {
     Valid,
 }
 
-// A look at the plain tree of a place and its row.
-fn seen_at(plain: &Plain, row: &[ServerId], alloc: Global) -> Result<Look, AllocError>
-    ensures { IfOk result (λ seen. IsLook plain.now row.now seen) }
-{
-    let mut among = Vec::new(alloc);
-    add_servers(plain, &mut among)?;
-    let found = first_gap(plain, plain, &among);
-    let is_valid = is_valid_row(plain, row, &among);
-    Ok(look_of(found, is_valid))
-}
-
-fn look_of(found: Option<Found>, is_valid: bool) -> Look
-    ensures { result ≡ look_of found is_valid }
-{
-    match found {
-        Some(found) => Look::Gap(found),
-        None => { if is_valid { Look::Good } else { Look::Bad } }
-    }
-}
-
 // The servers of the run that holds the residue, and the runs after it, where a run of these servers has begun before and
 // these runs come after it.
 fn run_of<'a>(servers: &'a [ServerId], runs: &'a [Run], residue: u32) -> (&'a [ServerId], &'a [Run])
@@ -74,24 +57,30 @@ fn run_of<'a>(servers: &'a [ServerId], runs: &'a [Run], residue: u32) -> (&'a [S
     }
 }
 
-// A look at the residue's plain tree and this row.
+// A look at the residue, of which the servers that are taken are given, and this row.
 fn look_at(
     alloc: Global,
     tree: &Tree,
     class: &Class,
     modulus: u32,
-    row: &[ServerId],
     residue: u32,
+    taken: &[ServerId],
+    row: &[ServerId],
 ) -> Result<Look, AllocError>
+    requires { IsTakenRow (left_of residue (prefix_text class.now.prefix) tree.now) taken.now }
     ensures { IfOk result (λ seen. IsLook (plain_of tree.now class.now.prefix modulus residue) row.now seen) }
 {
-    let place = Place {
-        prefix: class.prefix,
-        residue,
-        modulus,
-    };
-    let plain = tree.at_place(alloc, &place)?;
-    seen_at(&plain, row, alloc)
+    let _form = tree.form();
+    match gap_at(alloc, tree, tree, class, modulus, residue, taken)? {
+        Some(found) => Ok(Look::Gap(found)),
+        None => {
+            if is_valid_at(tree, class.text(), residue, taken, row) {
+                Ok(Look::Good)
+            } else {
+                Ok(Look::Bad)
+            }
+        }
+    }
 }
 
 /// Looks at the class's rows by rising residue.
@@ -104,13 +93,16 @@ pub fn check_class(
 ) -> Result<ClassEnd, AllocError>
     ensures { IfOk result (λ end. IsClassEnd tree.now class.now.prefix modulus rows.now end) }
 {
+    let pools = taken_pools(alloc, tree, class.text())?;
+    let mut taken = Vec::new(alloc);
     let mut servers: &[ServerId] = &[];
     let mut runs: &[Run] = &rows.runs;
     for residue in 0..rows.modulus {
         let (own, rest) = run_of(servers, runs, residue);
         servers = own;
         runs = rest;
-        match look_at(alloc, tree, class, modulus, own, residue)? {
+        take_row(tree, class.text(), &pools, residue, &mut taken)?;
+        match look_at(alloc, tree, class, modulus, residue, &taken, own)? {
             Look::Good => {}
             Look::Gap(found) => return Ok(ClassEnd::Gap(residue, found)),
             Look::Bad => return Ok(ClassEnd::Bad(residue)),

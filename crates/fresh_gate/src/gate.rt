@@ -10,9 +10,9 @@ ghost use Rattle.fresh_gate.specs.Shapes.{IsTableReason, IsLookReason};
 
 use crate::accepted::{Accepted, accept};
 use crate::classes::{TableEnd, check_classes};
+use crate::finding::Found;
 use crate::gap::{Gap, Reason, Refused};
 use crate::laws::{certified_is_fresh, end_is_valid};
-use crate::rows::Found;
 use crate::shapes::misshaped;
 use coverage::{Certificate, PlaceFault, PlaceTable, places};
 use route_json::Config;

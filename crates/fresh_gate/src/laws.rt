@@ -2,7 +2,6 @@
 
 ghost use Rattle.fresh_gate.specs.Sound.{GenerationsAreFresh};
 ghost use Rattle.fresh_gate.specs.Gate.{CertifiedIsFresh};
-ghost use Rattle.fresh_gate.specs.Rows.{ValidityIsTested};
 ghost use Rattle.fresh_gate.specs.Ends.{EndIsValid};
 
 /// Every run over generations is fresh, whenever each of them was loaded.
@@ -13,11 +12,6 @@ pub fn generations_are_fresh()
 /// A tree with a valid certificate covers itself, and every run of it is fresh.
 pub fn certified_is_fresh()
     ensures { CertifiedIsFresh }
-{}
-
-/// The tests say whether a row is valid.
-pub fn validity_is_tested()
-    ensures { ValidityIsTested }
 {}
 
 /// Looks that all ended well make a valid certificate.

@@ -4,13 +4,14 @@
 
 pub mod accepted;
 mod classes;
+mod finding;
 pub mod gap;
 pub mod gate;
 pub mod judging;
 pub mod laws;
+mod numbers;
 mod pairs;
 pub mod reloading;
-mod rows;
 mod shapes;
 mod validity;
 
@@ -19,3 +20,6 @@ pub use gap::{Gap, Reason, Refused};
 pub use gate::check;
 pub use judging::judge;
 pub use reloading::ReloadFault;
+
+#[cfg(test)]
+mod tests;

@@ -1,18 +1,17 @@
 //! Looks at the places of two trees together.
 
 ghost use Rattle.std.specs.Prelude.{◌≡◌, [], ◌∷◌, IfOk, MatchResult};
-ghost use Rattle.route_tree.specs.Place.{tree_at_place};
-ghost use Rattle.coverage.specs.Places.{place_at, CoversAt};
+ghost use Rattle.coverage.specs.Places.{CoversAt};
 ghost use Rattle.coverage.specs.Tables.{IsTable};
-ghost use Rattle.fresh_gate.specs.Looking.{IfGap};
 ghost use Rattle.fresh_gate.specs.Pairs.{IsPairEnd, IsTwoEnd, IsPairFault};
 
+use crate::finding::{Found, gap_at};
 use crate::gap::Gap;
 use crate::gate::gap_of;
-use crate::rows::{Found, first_gap};
-use coverage::servers::add_servers;
+use crate::validity::take_row;
+use coverage::pools::taken_pools;
 use coverage::{Class, PlaceFault, PlaceTable, places_of_two};
-use route_tree::{Place, Plain, Tree};
+use route_tree::{Place, Tree};
 use std::alloc::{AllocError, Global};
 
 /// How the looks at a class end.
@@ -37,36 +36,7 @@ pub enum PairFault {
     NoMemory,
 }
 
-// The first gap at a place of the two plain trees.
-fn gap_between(alloc: Global, earlier: &Plain, later: &Plain) -> Result<Option<Found>, AllocError>
-    ensures { IfOk result (IfGap earlier.now later.now) }
-{
-    let mut among = Vec::new(alloc);
-    add_servers(later, &mut among)?;
-    Ok(first_gap(earlier, later, &among))
-}
-
-// The first gap at a residue.
-fn pair_at(
-    alloc: Global,
-    earlier: &Tree,
-    later: &Tree,
-    class: &Class,
-    modulus: u32,
-    residue: u32,
-) -> Result<Option<Found>, AllocError>
-    ensures { IfOk result (IfGap (tree_at_place earlier.now (place_at class.now.prefix residue modulus)) (tree_at_place later.now (place_at class.now.prefix residue modulus))) }
-{
-    let place = Place {
-        prefix: class.prefix,
-        residue,
-        modulus,
-    };
-    let first = earlier.at_place(alloc, &place)?;
-    let second = later.at_place(alloc, &place)?;
-    gap_between(alloc, &first, &second)
-}
-
+// The first residue of the class with a gap.
 fn pair_class(
     alloc: Global,
     earlier: &Tree,
@@ -76,8 +46,11 @@ fn pair_class(
 ) -> Result<PairEnd, AllocError>
     ensures { IfOk result (IsPairEnd earlier.now later.now modulus class.now) }
 {
+    let pools = taken_pools(alloc, later, class.text())?;
+    let mut taken = Vec::new(alloc);
     for residue in 0..class.modulus {
-        match pair_at(alloc, earlier, later, class, modulus, residue)? {
+        take_row(later, class.text(), &pools, residue, &mut taken)?;
+        match gap_at(alloc, earlier, later, class, modulus, residue, &taken)? {
             None => {}
             Some(found) => return Ok(PairEnd::Gap(residue, found)),
         }
@@ -85,6 +58,7 @@ fn pair_class(
     Ok(PairEnd::Covered)
 }
 
+// The first class with a gap.
 fn pair_classes(
     alloc: Global,
     earlier: &Tree,
@@ -114,6 +88,7 @@ pub fn covers(alloc: Global, earlier: &Tree, later: &Tree) -> Result<(), PairFau
     }
 }
 
+// The same by the table of both.
 fn covers_by(
     alloc: Global,
     earlier: &Tree,

@@ -1,5 +1,5 @@
 -- What was read stays read, and nothing else could have been, whichever the dialect.
-use Rattle.std.proofs.Common.{◌≡◌, ℕ, ◌+◌, ◌-◌, ◌≤◌, true, false, eqb, ◌⊎◌, List, [], ◌∷◌, ◌++◌, length, take, drop, Option, Some, None, Result, Ok, Err, refl, sym, ap, subst, ◌∙◌, append_assoc, arith, inl, inr}
+use Rattle.std.proofs.Common.{◌≡◌, ℕ, ◌+◌, ◌-◌, ◌<◌, ◌≤◌, true, false, eqb, ◌⊎◌, List, [], ◌∷◌, ◌++◌, length, take, drop, Option, Some, None, Result, Ok, Err, refl, sym, ap, subst, ◌∙◌, append_assoc, arith, inl, inr}
 use Rattle.std.proofs.lemmas.Bool.{cases_lt, lt-ltb, le-ltb}
 use Rattle.std.proofs.lemmas.List.{length-append, length-drop, length-take, take-append-le, drop-append-le, drop_all}
 use Rattle.std.proofs.Math.Seq.{drop-append-add}
@@ -69,6 +69,15 @@ by_end order used n rest x Bad r e =
 within_rest : {Order : Type 0} (order : Order) (used : ℕ) (rest : List ℕ) (x : Message Order × ℕ) (n : Option ℕ) → with_rest order used rest n ≡ Some x → x.1 ≤ used + length rest
 within_rest order used rest x None e = let is : used ≡ x.1 = ap (λ y. y.1) (some_is (Served order [], used) x e) in omega arith
 within_rest order used rest x (Some n) e = by_end order used n rest x (end_of (drop n rest)) refl e
+
+some_by_end : {Order : Type 0} (order : Order) (used n : ℕ) (rest : List ℕ) (x : Message Order × ℕ) (end : End) → 1 ≤ used → with_block order used (take n rest) end ≡ Some x → 1 ≤ x.1
+some_by_end order used n rest x Open some e = absurd (cc)
+some_by_end order used n rest x Good some e = let is : used + length (take n rest) + 2 ≡ x.1 = ap (λ y. y.1) (some_is (Served order (take n rest), used + length (take n rest) + 2) x e) in omega arith
+some_by_end order used n rest x Bad some e = let is : used + length (take n rest) ≡ x.1 = ap (λ y. y.1) (some_is (Refusal BadChunk ThroughNewline, used + length (take n rest)) x e) in omega arith
+
+some_by_rest : {Order : Type 0} (order : Order) (used : ℕ) (rest : List ℕ) (x : Message Order × ℕ) (n : Option ℕ) → 1 ≤ used → with_rest order used rest n ≡ Some x → 1 ≤ x.1
+some_by_rest order used rest x None some e = let is : used ≡ x.1 = ap (λ y. y.1) (some_is (Served order [], used) x e) in omega arith
+some_by_rest order used rest x (Some n) some e = some_by_end order used n rest x (end_of (drop n rest)) some e
 
 through-append : (bytes more : List ℕ) → through_newline (bytes ++ more) ≡ extended (through_newline bytes) more
 through-append [] more = refl
@@ -180,3 +189,15 @@ module _ (G : Grammar) where
 
   pub too_long_begins_nothing : TooLongBeginsNothing G
   too_long_begins_nothing bytes more message used long b = not_too_long (bytes ++ more) b.text b.rest b.line (too_long_still bytes more long)
+
+  some_by_line : (line : Result G.Order Why) (skip : Skip) (used : ℕ) (rest : List ℕ) (x : Message G.Order × ℕ) → 1 ≤ used → meaning_of G line skip used rest ≡ Some x → 1 ≤ x.1
+  some_by_line (Err why) skip used rest x some e = let is : used ≡ x.1 = ap (λ (y : Message G.Order × ℕ). y.1) (some_is (Refusal why skip, used) x e) in omega arith
+  some_by_line (Ok order) skip used rest x some e = some_by_rest order used rest x (G.block_len order) some e
+
+  -- a message takes a byte at least
+  pub some_taken : (bytes : List ℕ) (message : Message G.Order) (used : ℕ) → Begins G bytes message used → 1 ≤ used
+  some_taken bytes message used b = some_by_line (G.order_of (words (without_cr b.text))) (G.skip_of (words (without_cr b.text))) (length b.text + 1) b.rest (message, used) (omega arith) b.says
+
+  -- so fewer are left
+  pub fewer_left : (held : List ℕ) (message : Message G.Order) (used : ℕ) → Begins G held message used → length (drop used held) < length held
+  fewer_left held message used b = omega (arith, some_taken held message used b, used_within held message used b, length-drop used held)

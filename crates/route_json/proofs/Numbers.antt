@@ -8,7 +8,7 @@ use Rattle.route_json.specs.declared.pools.Pool.{Pool}
 use Rattle.route_json.specs.declared.pools.WeightedServer.{WeightedServer}
 use Rattle.route_json.specs.Fault.{Fault, EmptyPool, TooManyServers}
 use Rattle.route_json.specs.Pools.{Pools, AllBelow, AreWeighted, IsPool, ArePools, pools_of, servers_in, pool_list}
-use Rattle.route_json.specs.Reading.{Reading, each, values}
+use Rattle.route_json.specs.Reading.{Reading, values}
 use Rattle.route_json.specs.Servers.{Addresses}
 use Rattle.route_json.proofs.Each.{Goes, goes, values_length}
 

@@ -1,5 +1,5 @@
 -- The slots of a pool.
-use Rattle.std.proofs.Common.{◌≡◌, ◌≤◌, ◌<◌, ℕ, suc, zero, ◌+◌, ◌*◌, List, [], ◌∷◌, ◌++◌, length, replicate, refl, sym, ap, ap₂, ◌∙◌, arith, subst, append-nil, append_assoc, add-one, length-append}
+use Rattle.std.proofs.Common.{◌≡◌, ◌≤◌, ◌<◌, ℕ, suc, zero, ◌+◌, ◌*◌, List, [], ◌∷◌, ◌++◌, length, replicate, sym, ap, ◌∙◌, arith, subst, append_assoc, length-append}
 use Rattle.std.proofs.lemmas.List.{length-replicate, replicate_more}
 use Rattle.route_tree.specs.Route.{Pool}
 use Rattle.route_json.specs.declared.pools.WeightedServer.{WeightedServer}

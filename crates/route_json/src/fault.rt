@@ -1,5 +1,6 @@
-ghost use Rattle.std.specs.Prelude.{◌≡◌, Some, ◌++◌, codes, string_bytes, IfSome};
-ghost use Rattle.route_json.specs.Fault.{BadField, BadAddress, EmptyPool, TooManyServers, TooManySlots, UnknownType, NoPool, BadPrefix, fault_of};
+//! The faults of a configuration, and what is printed of each.
+
+ghost use Rattle.std.specs.Prelude.{Some};
 ghost use Rattle.route_json.specs.Printed.{fault_line};
 
 use byte_escapes::Escaped;
@@ -8,7 +9,7 @@ use std::error::Error;
 use std::fmt;
 use std::fmt::Display;
 
-/// The first fault of a configuration. `Display` writes what mcgate prints of it behind `config: `.
+/// The first fault of a configuration. `Display` writes what mcgate prints of it after `config: `.
 ///
 /// Source: mcgate's own.
 #[derive(Debug, Drop)]
@@ -110,75 +111,3 @@ impl Display for ConfigFault {
 }
 
 impl Error for ConfigFault {}
-
-pub fn bad_field(alloc: Global, name: &str) -> ConfigFault
-    ensures { IfSome (fault_of result) (λ f. f ≡ BadField name.now) }
-{
-    match String::from_str(alloc, name) {
-        Ok(name) => ConfigFault::BadField(name),
-        Err(_) => ConfigFault::NoMemory,
-    }
-}
-
-pub fn bad_address(alloc: Global, text: &str) -> ConfigFault
-    ensures { IfSome (fault_of result) (λ f. f ≡ BadAddress text.now) }
-{
-    match String::from_str(alloc, text) {
-        Ok(text) => ConfigFault::BadAddress(text),
-        Err(_) => ConfigFault::NoMemory,
-    }
-}
-
-pub fn empty_pool(alloc: Global, name: &str) -> ConfigFault
-    ensures { IfSome (fault_of result) (λ f. f ≡ EmptyPool name.now) }
-{
-    match String::from_str(alloc, name) {
-        Ok(name) => ConfigFault::EmptyPool(name),
-        Err(_) => ConfigFault::NoMemory,
-    }
-}
-
-pub fn too_many_servers(alloc: Global, name: &str) -> ConfigFault
-    ensures { IfSome (fault_of result) (λ f. f ≡ TooManyServers name.now) }
-{
-    match String::from_str(alloc, name) {
-        Ok(name) => ConfigFault::TooManyServers(name),
-        Err(_) => ConfigFault::NoMemory,
-    }
-}
-
-pub fn too_many_slots(alloc: Global, name: &str) -> ConfigFault
-    ensures { IfSome (fault_of result) (λ f. f ≡ TooManySlots name.now) }
-{
-    match String::from_str(alloc, name) {
-        Ok(name) => ConfigFault::TooManySlots(name),
-        Err(_) => ConfigFault::NoMemory,
-    }
-}
-
-pub fn unknown_type(alloc: Global, name: &str) -> ConfigFault
-    ensures { IfSome (fault_of result) (λ f. f ≡ UnknownType name.now) }
-{
-    match String::from_str(alloc, name) {
-        Ok(name) => ConfigFault::UnknownType(name),
-        Err(_) => ConfigFault::NoMemory,
-    }
-}
-
-pub fn no_pool(alloc: Global, name: &str) -> ConfigFault
-    ensures { IfSome (fault_of result) (λ f. f ≡ NoPool name.now) }
-{
-    match String::from_str(alloc, name) {
-        Ok(name) => ConfigFault::NoPool(name),
-        Err(_) => ConfigFault::NoMemory,
-    }
-}
-
-pub fn bad_prefix(alloc: Global, text: &str) -> ConfigFault
-    ensures { IfSome (fault_of result) (λ f. f ≡ BadPrefix text.now) }
-{
-    match String::from_str(alloc, text) {
-        Ok(text) => ConfigFault::BadPrefix(text),
-        Err(_) => ConfigFault::NoMemory,
-    }
-}

@@ -4,7 +4,7 @@ ghost use Rattle.std.specs.Prelude.{◌≡◌, ◌<◌, ◌≤◌, IfOk, length}
 ghost use Rattle.route_json.specs.Fault.{Gives};
 ghost use Rattle.route_json.specs.Servers.{numbered, server_of_text};
 
-use crate::fault::{ConfigFault, bad_address, too_many_servers};
+use crate::fault::ConfigFault;
 use crate::pools::WeightedServer;
 use mc_types::ServerId;
 use server_addresses::servers::MAX_SERVERS;
@@ -29,7 +29,7 @@ pub fn server_of_text(
             let server = number(alloc, servers, pool, address)?;
             Ok(WeightedServer { server, weight })
         }
-        None => Err(bad_address(alloc, text)),
+        None => Err(ConfigFault::BadAddress(String::from_str(alloc, text)?)),
     }
 }
 
@@ -47,7 +47,7 @@ fn number(
         return Ok(server);
     }
     if servers.len() >= MAX_SERVERS {
-        return Err(too_many_servers(alloc, pool));
+        return Err(ConfigFault::TooManyServers(String::from_str(alloc, pool)?));
     }
     Ok(servers.push(alloc, address)?)
 }

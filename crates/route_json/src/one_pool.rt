@@ -1,3 +1,5 @@
+//! The configuration of one pool.
+
 ghost use Rattle.std.specs.Prelude.{◌≡◌, ◌<◌, ◌≤◌, IfOk};
 ghost use Rattle.route_json.specs.PoolConfiguration.{pool_configuration};
 

@@ -6,7 +6,7 @@ ghost use Rattle.route_json.specs.Fault.{Gives};
 ghost use Rattle.route_json.specs.Pools.{pools_of, slots_of, AreWeighted, IsPool, ArePools, servers_of, server_of, few_slots, servers_in, pool_list, pool_object, pool_of, pools_in};
 ghost use Rattle.route_json.specs.Reading.{each, values};
 
-use crate::fault::{ConfigFault, bad_field, empty_pool, too_many_servers, too_many_slots};
+use crate::fault::ConfigFault;
 use crate::fields::{list_field, only};
 use crate::numbering::server_of_text;
 use mc_types::ServerId;
@@ -155,7 +155,7 @@ fn read_pool(
 {
     match value {
         Value::Object(_) => read_pool_object(alloc, servers, name, value),
-        _ => Err(bad_field(alloc, name)),
+        _ => Err(ConfigFault::BadField(String::from_str(alloc, name)?)),
     }
 }
 
@@ -185,10 +185,10 @@ fn read_list(
     ensures more { length servers.old ≤ length servers.new }
 {
     if items.is_empty() {
-        return Err(empty_pool(alloc, name));
+        return Err(ConfigFault::EmptyPool(String::from_str(alloc, name)?));
     }
     if items.len() > MAX_POOL {
-        return Err(too_many_servers(alloc, name));
+        return Err(ConfigFault::TooManyServers(String::from_str(alloc, name)?));
     }
     read_servers(alloc, servers, name, items)
 }
@@ -207,7 +207,7 @@ fn read_servers(
 {
     let pool = read_each(alloc, servers, name, items)?;
     if slot_count(&pool) > MAX_SLOTS {
-        return Err(too_many_slots(alloc, name));
+        return Err(ConfigFault::TooManySlots(String::from_str(alloc, name)?));
     }
     Ok(pool)
 }
@@ -244,6 +244,6 @@ fn read_server(
 {
     match value {
         Value::String(text) => server_of_text(alloc, servers, name, text.as_str()),
-        _ => Err(bad_field(alloc, "servers")),
+        _ => Err(ConfigFault::BadField(String::from_str(alloc, "servers")?)),
     }
 }

@@ -1,15 +1,26 @@
-use Rattle.std.proofs.Common.{◌≡◌, ℕ, ◌+◌, List, sym, subst, refl, arith}
-use Rattle.coverage.specs.declared.table.Run.{Run}
+use Rattle.std.proofs.Common.{◌≡◌, ℕ, List, sym, subst, ap, ◌∙◌, refl, arith}
+use Rattle.route_tree.proofs.Left.{plan_left}
 use Rattle.coverage.specs.declared.table.ClassRows.{ClassRows}
-use Rattle.coverage.specs.Proposed.{AreRowsBelow}
-use Rattle.coverage.proofs.RunLists.{rows_next, proposed_is}
+use Rattle.coverage.specs.Pools.{taken_pools}
+use Rattle.route_tree.specs.At.{left_of}
+use Rattle.route_tree.specs.Place.{prefix_text}
+use Rattle.coverage.specs.Rows.{IsRowOf}
+use Rattle.coverage.specs.Proposed.{AreRowsBelow, IsValidIfCovered}
+use Rattle.coverage.proofs.Proposals.{valid_if_covered}
+use Rattle.coverage.proofs.RunLists.{rows_with, proposed_is}
 use Rattle.coverage.proofs.proposing.class_rows.Goals as goal
 
 pub loop-residue-preserved : goal.loop-residue-preserved
 loop-residue-preserved c =
-    let run : Run = record { first = c.loop-residue.residue; servers = c.in_ok-servers.servers } in
-    subst (λ (xs : List Run). AreRowsBelow c.args.tree.now c.args.class.now.prefix c.args.modulus (c.loop-residue.residue + 1) xs) (sym c.in_ok-push.ensures.items)
-    (rows_next c.args.tree.now c.args.class.now.prefix c.args.modulus c.loop-residue.residue c.loop-residue.runs.items run c.loop-residue.invariant refl c.in_ok-servers.ensures)
+    let residue = c.loop-residue.residue in
+    let tree = c.args.tree.now in
+    let class = c.args.class.now in
+    let text = prefix_text class.prefix in
+    let pools : c.deref.result.now ≡ taken_pools text tree = c.deref.ensures.value ∙ c.in_ok-pools.ensures ∙ ap (λ (x : List ℕ). taken_pools x tree) c.text.ensures in
+    let row = subst (λ (x : List (List ℕ)). IsRowOf residue x c.put_row.new.row.items) pools c.in_ok-put_row.ensures in
+    let valid = valid_if_covered text tree residue c.put_row.new.row.items (plan_left residue text tree c.form-form.ensures.tree).good row in
+    rows_with tree class.prefix c.args.modulus residue c.loop-residue.runs.items c.add_run.new.runs.items c.deref-in-loop-residue.result.now c.loop-residue.invariant
+    (subst (λ (x : List ℕ). IsValidIfCovered (left_of residue text tree) x) (sym c.deref-in-loop-residue.ensures.value) valid) c.in_ok-add_run.ensures
 
 pub returns : goal.returns
 returns c =

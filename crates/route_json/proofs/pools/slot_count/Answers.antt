@@ -1,4 +1,4 @@
-use Rattle.std.proofs.Common.{◌≡◌, ◌≤◌, ◌+◌, drop, arith}
+use Rattle.std.proofs.Common.{◌≤◌, ◌+◌, drop, arith}
 use Rattle.route_json.proofs.Each.{drop_step}
 use Rattle.route_json.proofs.Slots.{count_fits}
 use Rattle.route_json.proofs.pools.slot_count.Goals as goal

@@ -1,5 +1,4 @@
 use Rattle.std.proofs.Common.{◌≡◌, ℕ, List, length, ap, sym, subst}
-use Rattle.route_json.specs.declared.pools.WeightedServer.{WeightedServer}
 use Rattle.route_json.specs.Pools.{Pools, pools_of, IsPool, ArePools}
 use Rattle.route_json.proofs.Gives.{if_some_weaker}
 use Rattle.route_json.proofs.pools.Pools.servers_of.Goals as goal

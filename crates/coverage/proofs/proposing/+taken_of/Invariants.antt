@@ -1,5 +1,0 @@
-use Rattle.std.proofs.Common.{length}
-use Rattle.coverage.proofs.proposing.+taken_of.Given as goal
-
-abbrev pub decreases-taken_of : goal.decreases-taken_of
-decreases-taken_of l = length l.among.now
