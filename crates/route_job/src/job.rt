@@ -23,7 +23,7 @@ use std::alloc::{AllocError, Global};
 /// part of the tree and not the ask is copied. A command that calls one server takes no memory.
 ///
 /// A job in whose `take` memory was refused is broken: it calls nothing more, and its reply is the error line
-/// `SERVER_ERROR out of memory storing object`, which is no word of the tree. Its owner drops it.
+/// `SERVER_ERROR out of memory storing object`, whatever its calls were answered. Its owner drops it.
 ///
 /// Source: mcgate's own.
 #[derive(Drop)]

@@ -218,7 +218,9 @@ fn all_sync(alloc: Global) -> Result<Tree, AllocError>
     Tree::new(alloc, TreeForm::AllSync(two(alloc)?))
 }
 
-fn failover(alloc: Global) -> Result<Tree, AllocError> {
+fn failover(alloc: Global) -> Result<Tree, AllocError>
+    ensures { IfOk result (λ tree. tree ≡ route.Failover (route.More (route.Server 1) (route.More (route.Server 2) route.End))) }
+{
     Tree::new(alloc, TreeForm::Failover(two(alloc)?))
 }
 
@@ -226,7 +228,9 @@ fn miss_failover(alloc: Global) -> Result<Tree, AllocError> {
     Tree::new(alloc, TreeForm::MissFailover(two(alloc)?))
 }
 
-fn warm_up(alloc: Global) -> Result<Tree, AllocError> {
+fn warm_up(alloc: Global) -> Result<Tree, AllocError>
+    ensures { IfOk result (λ tree. tree ≡ route.WarmUp (route.Server 1) (route.Server 2) 60) }
+{
     let cold = Box::new(alloc, leaf(alloc, 1)?)?;
     let warm = Box::new(alloc, leaf(alloc, 2)?)?;
     Tree::new(
@@ -244,6 +248,20 @@ fn by_operation(alloc: Global) -> Result<Tree, AllocError> {
     let pool = vec![in alloc; ServerId::new(5), ServerId::new(6)]?;
     let policies = vec![in alloc; (Op::Delete, all_sync(alloc)?)]?;
     let default = Box::new(alloc, Tree::new(alloc, TreeForm::Pool(pool))?)?;
+    Tree::new(alloc, TreeForm::ByOperation { policies, default })
+}
+
+// Deletes go to both servers, all else fails over.
+fn replicas(alloc: Global) -> Result<Tree, AllocError> {
+    let policies = vec![in alloc; (Op::Delete, all_sync(alloc)?)]?;
+    let default = Box::new(alloc, failover(alloc)?)?;
+    Tree::new(alloc, TreeForm::ByOperation { policies, default })
+}
+
+// Deletes go to both servers, all else to the first, which is filled from the second.
+fn warm_up_with_deletes(alloc: Global) -> Result<Tree, AllocError> {
+    let policies = vec![in alloc; (Op::Delete, all_sync(alloc)?)]?;
+    let default = Box::new(alloc, warm_up(alloc)?)?;
     Tree::new(alloc, TreeForm::ByOperation { policies, default })
 }
 
@@ -376,5 +394,16 @@ fn a_command_of_a_pool_takes_no_memory(rt: HostRuntime) -> Result<(), Fail> {
     assert!(rt; next_server(&job) == Some(ServerId::new(5)));
     fail_next(alloc, &mut job)?;
     assert!(rt; next_server(&job).is_none());
+    Ok(())
+}
+
+#[test]
+fn replicas_and_a_warm_up(rt: HostRuntime) -> Result<(), Fail> {
+    let tree = replicas(rt.alloc())?;
+    tells!(rt, tree, Op::Get, b"fh", "1g 2g = hit of 1");
+    tells!(rt, tree, Op::Delete, b"df", "1d 2d = failed");
+    let tree = warm_up_with_deletes(rt.alloc())?;
+    tells!(rt, tree, Op::Get, b"mhs", "1g 2g 1ac1 = hit of 1");
+    tells!(rt, tree, Op::Delete, b"dd", "1d 2d = deleted");
     Ok(())
 }
