@@ -1,12 +1,13 @@
 -- Which messages close a stream.
 use Rattle.std.proofs.Common.{◌≡◌, ℕ, ◌-◌, Bool, true, false, cond, eqb, List, [], ◌∷◌, length, drop, refl, sym, ◌∙◌, ◌↔◌}
 use Rattle.mc_text.specs.Line.{LF}
-use Rattle.text_requests.specs.declared.command.Own.TheVariants.{Version, Quit}
-use Rattle.text_requests.specs.declared.command.Skip.{Skip}
-use Rattle.text_requests.specs.declared.command.Skip.TheVariants.{Nothing, Bytes, ThroughNewline}
+use Rattle.request_parts.specs.declared.own.Own.TheVariants.{Version, Quit, Noop}
+use Rattle.request_parts.specs.declared.skip.Skip.{Skip}
+use Rattle.request_parts.specs.declared.skip.Skip.TheVariants.{Nothing, Bytes, ThroughNewline}
 use Rattle.text_requests.specs.Order.{Order, Retrieval, Storage, Swapping, Deletion, Touching, Counting, OfItself}
-use Rattle.text_requests.specs.Message.{Served, Refusal}
-use Rattle.text_requests.specs.Stream.{Stands, Closed, skipped, through_newline, behind_order}
+use Rattle.request_parts.specs.Message.{Served, Refusal}
+use Rattle.request_parts.specs.Stream.{Stands, Closed, skipped, through_newline}
+use Rattle.text_requests.specs.Stream.{behind_order}
 use Rattle.text_codec.specs.Classic.{Whole, LongLine}
 use Rattle.cache_connection.specs.Laws.{ClosesBehindLast}
 
@@ -32,6 +33,7 @@ skipped_stands ThroughNewline bytes e = through_stands bytes e
 order_closes : (order : Order) (rest : List ℕ) → (behind_order order rest ≡ Closed) ↔ (order ≡ OfItself Quit)
 order_closes (OfItself Quit) rest = (λ e. refl, λ e. refl)
 order_closes (OfItself Version) rest = (λ e. absurd (stands Nothing rest e), λ e. absurd (cc))
+order_closes (OfItself Noop) rest = (λ e. absurd (stands Nothing rest e), λ e. absurd (cc))
 order_closes (Retrieval exptime with_cas keys) rest = (λ e. absurd (stands Nothing rest e), λ e. absurd (cc))
 order_closes (Storage kind stored quiet) rest = (λ e. absurd (stands Nothing rest e), λ e. absurd (cc))
 order_closes (Swapping stored cas quiet) rest = (λ e. absurd (stands Nothing rest e), λ e. absurd (cc))

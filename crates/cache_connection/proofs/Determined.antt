@@ -4,7 +4,7 @@ use Rattle.mc_types.specs.declared.ask.Ask.{Ask}
 use Rattle.mc_types.specs.declared.answer.Answer.{Answer}
 use Rattle.mc_runs.specs.Protocol.{Goes, IsStuck}
 use Rattle.mc_runs.specs.Stream.{Done, AreWhole, IsWhole, LastEnds, written, written_all}
-use Rattle.text_requests.specs.Stream.{Place, Closed, extended}
+use Rattle.request_parts.specs.Stream.{Place, Closed, extended}
 use Rattle.text_codec.specs.Classic.{Said, classic, ends_at, asks_in}
 use Rattle.text_codec.proofs.ReaderLaws.{reader_is}
 use Rattle.cache_server.specs.Contents.{Contents}

@@ -2,21 +2,24 @@
 use Rattle.std.proofs.Common.{◌≡◌, ℕ, ℤ, ◌<◌, List, [], ◌++◌, length, drop, Option, inl, refl, sym, ap, ◌∙◌, subst, arith, append_assoc}
 use Rattle.mc_text.specs.Line.{IsTooLong}
 use Rattle.mc_runs.specs.Stream.{Done}
-use Rattle.text_requests.specs.declared.command.Own.{Own}
-use Rattle.text_requests.specs.declared.command.Why.{Why}
-use Rattle.text_requests.specs.declared.command.Skip.{Skip}
-use Rattle.text_requests.specs.declared.command.Skip.TheVariants.{Nothing}
+use Rattle.request_parts.specs.declared.own.Own.{Own}
+use Rattle.request_parts.specs.declared.refusal.Why.{Why}
+use Rattle.request_parts.specs.declared.skip.Skip.{Skip}
+use Rattle.request_parts.specs.declared.skip.Skip.TheVariants.{Nothing}
 use Rattle.text_requests.specs.declared.command.Read.TheVariants as reads
 use Rattle.text_requests.specs.declared.command.Request.{Request}
-use Rattle.text_requests.specs.Message.{Message, Refusal, Begins, IsReadFrom}
+use Rattle.text_requests.specs.Message.{Message, Begins, IsReadFrom}
+use Rattle.request_parts.specs.Message.{Refusal}
 use Rattle.text_requests.specs.Places.{order_in}
 use Rattle.text_requests.specs.Asks.{asks_of, own_of}
-use Rattle.text_requests.specs.Stream.{Place, Stands, Closed, skipped, behind}
+use Rattle.request_parts.specs.Stream.{Place, Stands, Closed, skipped}
+use Rattle.text_requests.specs.Stream.{behind}
 use Rattle.text_codec.specs.Held.{held_at, IsReadAt}
 use Rattle.text_codec.specs.Replies.{refusal_text, long_line_text}
 use Rattle.text_codec.specs.Classic.{Said, Whole, LongLine, ReadsNext, classic, own_passed, asks_in, passed_text}
 use Rattle.connections.specs.declared.connection.Connection.{Connection}
-use Rattle.connections.specs.Steps.{output_of, held_len, behind_own, GoesTo}
+use Rattle.connections.specs.Steps.{output_of, held_len, GoesTo}
+use Rattle.request_parts.specs.Stream.{behind_own}
 use Rattle.cache_server.specs.Contents.{Contents}
 use Rattle.cache_connection.specs.Serving.{BreaksOff}
 use Rattle.cache_connection.specs.Steps.{message_at, IsFront, GoesOn, ServesFront}

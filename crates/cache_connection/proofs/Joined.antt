@@ -3,7 +3,7 @@ use Rattle.std.proofs.Common.{◌≡◌, ℕ, ℤ, List, [], ◌∷◌, ◌++◌
 use Rattle.std.proofs.lemmas.List.{map-append}
 use Rattle.mc_runs.specs.Protocol.{Goes}
 use Rattle.mc_runs.specs.Stream.{Done, AreWhole, IsWhole, written, written_all}
-use Rattle.text_requests.specs.Stream.{Place, extended}
+use Rattle.request_parts.specs.Stream.{Place, extended}
 use Rattle.text_codec.specs.Classic.{Said, classic, ReadsNext}
 use Rattle.text_codec.proofs.ReaderLaws.{reader_is}
 use Rattle.cache_server.specs.Contents.{Contents}

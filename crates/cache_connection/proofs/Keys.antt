@@ -4,13 +4,15 @@ use Rattle.std.proofs.lemmas.Bool.{eq-eqb, cases_eq}
 use Rattle.mc_types.specs.declared.ask.Ask.{Ask}
 use Rattle.mc_types.specs.declared.answer.Answer.{Answer}
 use Rattle.mc_runs.specs.Stream.{Done, written, written_from, NoneEnds, LastEnds, IsWhole}
-use Rattle.text_requests.specs.declared.command.Skip.TheVariants.{Nothing}
+use Rattle.request_parts.specs.declared.skip.Skip.TheVariants.{Nothing}
 use Rattle.text_requests.specs.declared.command.Request.{Request}
 use Rattle.text_requests.specs.Message.{Message, IsReadFrom, message_in}
 use Rattle.text_requests.specs.declared.request.Asks.{Asks}
 use Rattle.text_requests.specs.Asks.{asks_of, quiet_of, IsWalk, counted}
-use Rattle.text_requests.specs.Stream.{Place, Stands, behind}
-use Rattle.text_requests.proofs.StreamLemmas.{used_within}
+use Rattle.request_parts.specs.Stream.{Place, Stands}
+use Rattle.text_requests.specs.Stream.{behind}
+use Rattle.request_parts.proofs.Streams.{used_within}
+use Rattle.text_requests.specs.Grammar.{classic_grammar}
 use Rattle.text_codec.specs.Held.{held_at}
 use Rattle.text_codec.specs.Replies.{is_failure, is_last, shown_text}
 use Rattle.text_codec.specs.Classic.{Said, Whole, classic, ReadsNext, shown_by, shown_of, ends_at}
@@ -26,7 +28,7 @@ use Rattle.cache_connection.proofs.Joined.{serves_one}
 
 -- what a request uses is held
 pub used_held : (x : Connection) (request : Request) → IsFront x request → request.used ≤ length (held_at x.stream)
-used_held x request front = used_within (held_at x.stream) (message_at x request) request.used front.read.begins
+used_held x request front = used_within classic_grammar (held_at x.stream) (message_at x request) request.used front.read.begins
 
 -- a request at the front is the next message
 pub reads_front : (x : Connection) (request : Request) → IsFront x request → ReadsNext x.stream (Whole (message_at x request)) (behind (message_at x request) (drop request.used (held_at x.stream)))

@@ -2,10 +2,10 @@
 use Rattle.std.specs.Prelude.{◌≡◌, ◌≢◌, ℕ, ℤ, ◌↔◌, List, [], ◌∷◌, ◌++◌}
 use Rattle.mc_types.specs.declared.answer.Answer.{Answer}
 use Rattle.mc_runs.specs.Stream.{Done}
-use Rattle.text_requests.specs.declared.command.Own.TheVariants.{Quit}
+use Rattle.request_parts.specs.declared.own.Own.TheVariants.{Quit}
 use Rattle.text_requests.specs.Order.{OfItself}
-use Rattle.text_requests.specs.Message.{Served, Refusal}
-use Rattle.text_requests.specs.Stream.{Place, Closed}
+use Rattle.request_parts.specs.Message.{Served, Refusal}
+use Rattle.request_parts.specs.Stream.{Place, Closed}
 use Rattle.text_codec.specs.Classic.{Said, Whole, LongLine, ReadsNext, classic}
 use Rattle.cache_server.specs.Contents.{Contents}
 use Rattle.cache_connection.specs.Serving.{out_of_memory, Feeds}

@@ -9,7 +9,7 @@ use Rattle.mc_types.specs.declared.error_text.OwnText.TheVariants.{OutOfMemory}
 use Rattle.mc_types.specs.ErrorTexts.{own_text}
 use Rattle.mc_runs.specs.Protocol.{Goes, IsStuck}
 use Rattle.mc_runs.specs.Stream.{Done, AreWhole, written_all}
-use Rattle.text_requests.specs.Stream.{Place, extended}
+use Rattle.request_parts.specs.Stream.{Place, extended}
 use Rattle.text_codec.specs.Classic.{Said, classic, ReadsNext, asks_in}
 use Rattle.cache_server.specs.Contents.{Contents, at_moment}
 use Rattle.cache_server.specs.Table.{Applies}

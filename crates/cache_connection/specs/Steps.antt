@@ -4,12 +4,12 @@ use Rattle.mc_types.specs.declared.ask.Ask.{Ask}
 use Rattle.mc_types.specs.declared.answer.Answer.{Answer}
 use Rattle.mc_runs.specs.Protocol.{IsStuck}
 use Rattle.mc_runs.specs.Stream.{written_from, NoneEnds}
-use Rattle.text_requests.specs.declared.command.Skip.TheVariants.{Nothing}
+use Rattle.request_parts.specs.declared.skip.Skip.TheVariants.{Nothing}
 use Rattle.text_requests.specs.declared.command.Request.{Request}
 use Rattle.text_requests.specs.declared.request.Asks.{Asks}
 use Rattle.text_requests.specs.Message.{Message, IsReadFrom, message_in}
 use Rattle.text_requests.specs.Asks.{asks_of, IsWalk}
-use Rattle.text_requests.specs.Stream.{Stands}
+use Rattle.request_parts.specs.Stream.{Stands}
 use Rattle.text_codec.specs.Held.{held_at}
 use Rattle.text_codec.specs.Classic.{Whole, classic, shown_of, ends_at}
 use Rattle.connections.specs.declared.connection.Connection.{Connection}

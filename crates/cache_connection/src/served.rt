@@ -1,6 +1,6 @@
 ghost use Rattle.std.specs.Prelude.{◌≡◌, ◌↔◌, pos, ◌≤ℤ◌, [], IsOk, IsTrue, IfOk, OnOk, OnErr};
-ghost use Rattle.text_requests.specs.declared.command.Skip.TheVariants.{Nothing};
-ghost use Rattle.text_requests.specs.Stream.{Stands, Closed, extended};
+ghost use Rattle.request_parts.specs.declared.skip.Skip.TheVariants.{Nothing};
+ghost use Rattle.request_parts.specs.Stream.{Stands, Closed, extended};
 ghost use Rattle.connections.specs.Steps.{output_of};
 ghost use Rattle.cache_connection.specs.Serving.{Feeds, Stops};
 
@@ -38,7 +38,7 @@ pub struct Served {
 
 impl Model for Served {
     ghost use Rattle.std.specs.Prelude.{◌≡◌, []};
-    ghost use Rattle.text_requests.specs.Stream.{Place};
+    ghost use Rattle.request_parts.specs.Stream.{Place};
     ghost use Rattle.connections.specs.Steps.{output_of};
 
     ghost Value = { Place };

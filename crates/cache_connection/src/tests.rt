@@ -134,3 +134,63 @@ fn version_is_answered(rt: HostRuntime) -> Result<(), Fail> {
     assert!(rt; answers_first(rt.alloc(), b"version\r\n", b"VERSION mcgate-1\r\n")?);
     Ok(())
 }
+
+#[test]
+fn each_operation_on_one_connection(rt: HostRuntime) -> Result<(), Fail> {
+    let alloc = rt.alloc();
+    let mut cache = Cache::new(alloc, 16)?;
+    let mut served = Served::new(alloc);
+    // The cas numbers are 1 for the set, 2 for the replace, and so on: each change takes the next.
+    let cases = [
+        ("set a 1 0 1\r\n5\r\n", "STORED\r\n"),
+        ("add a 0 0 1\r\n1\r\n", "NOT_STORED\r\n"),
+        ("replace a 2 0 1\r\n7\r\n", "STORED\r\n"),
+        ("append a 0 0 1\r\n1\r\n", "STORED\r\n"),
+        ("prepend a 0 0 1\r\n1\r\n", "STORED\r\n"),
+        ("gets a\r\n", "VALUE a 2 3 4\r\n171\r\nEND\r\n"),
+        ("cas a 3 0 2 4\r\n10\r\n", "STORED\r\n"),
+        ("cas a 3 0 2 4\r\n11\r\n", "EXISTS\r\n"),
+        ("cas b 0 0 1 1\r\n1\r\n", "NOT_FOUND\r\n"),
+        ("incr a 5\r\n", "15\r\n"),
+        ("decr a 20\r\n", "0\r\n"),
+        ("touch a 100\r\n", "TOUCHED\r\n"),
+        ("touch b 0\r\n", "NOT_FOUND\r\n"),
+        ("gat 0 a\r\n", "VALUE a 3 1\r\n0\r\nEND\r\n"),
+        ("gats 0 a\r\n", "VALUE a 3 1 7\r\n0\r\nEND\r\n"),
+        ("delete a\r\n", "DELETED\r\n"),
+        ("delete a\r\n", "NOT_FOUND\r\n"),
+        ("get a\r\n", "END\r\n"),
+    ];
+    for (piece, text) in cases {
+        assert!(rt;
+            answers(
+                &mut served,
+                &mut cache,
+                0,
+                piece.as_bytes(),
+                text.as_bytes()
+            )?,
+            "{piece}"
+        );
+    }
+    Ok(())
+}
+
+// A set of 5,000 bytes of data.
+fn large_set(alloc: Global) -> Result<Vec<u8>, Fail> {
+    let mut piece = Vec::new(alloc);
+    piece.extend_from_slice(b"set a 0 0 5000\r\n")?;
+    piece.resize(5_016, b'x')?;
+    piece.extend_from_slice(b"\r\n")?;
+    Ok(piece)
+}
+
+#[test]
+fn a_piece_of_five_thousand_bytes(rt: HostRuntime) -> Result<(), Fail> {
+    let alloc = rt.alloc();
+    let mut cache = Cache::new(alloc, 16)?;
+    let mut served = Served::new(alloc);
+    let piece = large_set(alloc)?;
+    assert!(rt; answers(&mut served, &mut cache, 0, piece.as_slice(), b"STORED\r\n")?);
+    Ok(())
+}

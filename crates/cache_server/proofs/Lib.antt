@@ -4,4 +4,5 @@ pub mod TableLemmas
 pub mod PartLemmas
 pub mod ChangeLemmas
 pub mod RowLemmas
+pub mod MetaRowLemmas
 pub mod CallLemmas

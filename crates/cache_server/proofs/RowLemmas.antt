@@ -31,7 +31,7 @@ pub record IsRow (ask : Ask) (stamp : ℕ) (op : Op) (d : Decision) (before : Op
   pub agrees : AgreesAs op ask (classic_answer ask.with_cas d.verdict) before
   pub left_is : left d.change before ≡ after_as op ask stamp (classic_answer ask.with_cas d.verdict) before
 
-short_text : (text : OwnText) → IsErrorText (own_text text)
+pub short_text : (text : OwnText) → IsErrorText (own_text text)
 short_text texts.CallFailed = record { short = omega arith; bytes = refl }
 short_text texts.ErrorRoute = record { short = omega arith; bytes = refl }
 short_text texts.OutOfMemory = record { short = omega arith; bytes = refl }

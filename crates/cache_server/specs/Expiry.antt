@@ -23,3 +23,8 @@ expiry_after now (Some exptime) before = moment_of now exptime
 abbrev pub has_come : ℕ → Option ℕ → Bool
 has_come now None = false
 has_come now (Some expiry) = nat_le expiry now
+
+-- the seconds until an expiry, 0 where it has come; -1 for never (memcached's protocol.txt, "Meta Get", the flag t)
+abbrev pub ttl_of : ℕ → Option ℕ → ℤ
+ttl_of now None = negsuc 0
+ttl_of now (Some expiry) = pos (expiry - now)

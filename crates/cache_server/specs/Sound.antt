@@ -19,10 +19,11 @@ abbrev pub due_with : ℕ → Option ℕ → ℕ
 due_with due None = due
 due_with due (Some expiry) = min due expiry
 
--- data and flags are in their ranges
+-- data, flags and expiry are in their ranges
 pub record IsItem (item : CacheItem) : Type 0 where
   pub body : length item.body ≤ data_limit
   pub flags : item.flags < 2 ^ 32
+  pub expiry : IfSome item.expiry (λ expiry. expiry < 2 ^ 63)
 
 pub record IsEntry (entry : Entry) : Type 0 where
   pub item : IsItem entry.item

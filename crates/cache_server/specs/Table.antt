@@ -1,5 +1,6 @@
--- What each operation answers and changes. Source: memcached's protocol.txt, "Storage commands" to "Touch", and its limit of 1 MiB for an item; the order of the tests is mcgate's own.
+-- What each operation answers and changes. Source: memcached's protocol.txt, "Storage commands" to "Touch" and "Meta Commands", and its limit of 1 MiB for an item; the order of the tests is mcgate's own.
 use Rattle.std.specs.Prelude.{◌≡◌, ℕ, ◌++◌, ℤ, nat_abs, Bool, true, false, not, ◌&&◌, List, Option, Some, None, option_map, decimal, length, nat_lt, ◌==◌, if◌then◌else◌}
+use Rattle.std.specs.Bool.{then_some}
 use Rattle.mc_types.specs.Asks.{data_limit}
 use Rattle.mc_types.specs.Items.{counted}
 use Rattle.mc_types.specs.ErrorTexts.{own_text}
@@ -7,6 +8,13 @@ use Rattle.mc_types.specs.declared.error_text.OwnText.TheVariants as texts
 use Rattle.mc_types.specs.declared.ask.Ask.{Ask}
 use Rattle.mc_types.specs.declared.ask.Op.{Op}
 use Rattle.mc_types.specs.declared.ask.Op.TheVariants.{Get, Gat, Set, Add, Replace, Append, Prepend, Cas, Delete, Incr, Decr, Touch}
+use Rattle.mc_types.specs.declared.ask.Dialect.{Dialect}
+use Rattle.mc_types.specs.declared.ask.Dialect.TheVariants.{Classic, Meta}
+use Rattle.mc_types.specs.declared.token.Token.{Token}
+use Rattle.mc_types.specs.Tokens.{wants, LetterC, LetterF, LetterS, LetterT, LetterV}
+use Rattle.mc_types.specs.declared.answer.Code.{Code}
+use Rattle.mc_types.specs.declared.answer.Code.TheVariants as codes
+use Rattle.mc_types.specs.declared.answer.Fields.{Fields}
 use Rattle.mc_types.specs.declared.answer.Answer.{Answer}
 use Rattle.mc_types.specs.declared.answer.Answer.TheVariants as answers
 use Rattle.cache_server.specs.declared.item.CacheItem.{CacheItem}
@@ -16,8 +24,8 @@ use Rattle.cache_server.specs.declared.decision.Verdict.TheVariants.{Hit, Miss, 
 use Rattle.cache_server.specs.declared.decision.Change.{Change}
 use Rattle.cache_server.specs.declared.decision.Change.TheVariants.{Leaves, Removes, Renews, Stores}
 use Rattle.cache_server.specs.declared.decision.Decision.{Decision}
-use Rattle.cache_server.specs.Expiry.{expiry_after}
-use Rattle.cache_server.specs.Contents.{Contents, Key, held, at_moment, using, losing, putting, storing, last_number}
+use Rattle.cache_server.specs.Expiry.{expiry_after, ttl_of}
+use Rattle.cache_server.specs.Contents.{Contents, Key, held, at_moment, using, losing, putting, storing, last_number, next_number}
 
 -- nothing changes but that the key was used
 abbrev pub finds : Verdict → Decision
@@ -126,13 +134,59 @@ classic_answer with_cas NotNumeric = answers.ClientError (own_text texts.NotNume
 classic_answer with_cas TooLarge = answers.ServerError (own_text texts.TooLarge)
 classic_answer with_cas OutOfMemory = answers.ServerError (own_text texts.OutOfMemory)
 
+-- the entry that a change leaves of its key, under the number that it takes
+abbrev pub left_by : ℕ → Option Entry → Change → Option Entry
+left_by counter before Leaves = before
+left_by counter before Removes = None
+left_by counter before (Renews entry) = Some entry
+left_by counter before (Stores item) = Some (record { item = item; cas = next_number counter })
+
+-- what the return flags show of an entry
+abbrev pub fields_of : ℕ → List Token → Entry → Fields
+fields_of now tokens entry = record {
+  body = then_some (wants tokens LetterV) entry.item.body;
+  cas = then_some (wants tokens LetterC) entry.cas;
+  flags = then_some (wants tokens LetterF) entry.item.flags;
+  size = then_some (wants tokens LetterS) (length entry.item.body);
+  ttl = then_some (wants tokens LetterT) (ttl_of now entry.item.expiry);
+}
+
+-- a code with nothing beside it
+abbrev pub bare : Code → Answer
+bare code = answers.Meta code (record { body = None; cas = None; flags = None; size = None; ttl = None })
+
+-- a call that was done shows the entry that it leaves: VA where its data were asked for, else HD
+abbrev pub done_answer : ℕ → List Token → Option Entry → Answer
+done_answer now tokens None = bare codes.Hd
+done_answer now tokens (Some entry) = answers.Meta (if wants tokens LetterV then codes.Va else codes.Hd) (fields_of now tokens entry)
+
+-- the meta answer, where the call leaves this entry of its key
+abbrev pub meta_answer : ℕ → List Token → Option Entry → Verdict → Answer
+meta_answer now tokens left (Hit entry) = done_answer now tokens left
+meta_answer now tokens left Miss = bare codes.En
+meta_answer now tokens left Stored = done_answer now tokens left
+meta_answer now tokens left NotStored = bare codes.Ns
+meta_answer now tokens left Exists = bare codes.Ex
+meta_answer now tokens left NotFound = bare codes.Nf
+meta_answer now tokens left Deleted = done_answer now tokens left
+meta_answer now tokens left Touched = done_answer now tokens left
+meta_answer now tokens left (Counted n) = done_answer now tokens left
+meta_answer now tokens left NotNumeric = answers.ClientError (own_text texts.NotNumeric)
+meta_answer now tokens left TooLarge = answers.ServerError (own_text texts.TooLarge)
+meta_answer now tokens left OutOfMemory = answers.ServerError (own_text texts.OutOfMemory)
+
+-- the answer in the dialect that was asked in, by what is held before the call and the last cas number
+abbrev pub answer_in : Dialect → ℕ → Ask → ℕ → Option Entry → Decision → Answer
+answer_in Classic now ask counter before decision = classic_answer ask.with_cas decision.verdict
+answer_in Meta now ask counter before decision = meta_answer now ask.tokens (left_by counter before decision.change) decision.verdict
+
 -- what the table decides for a cache from which the expired items are gone
 abbrev pub decided_in : ℕ → ℕ → Ask → Contents → Decision
 decided_in now stamp ask c = settled c.counter (decided now stamp ask (held c ask.key))
 
 -- A call answers so, with the stamp of the item that it found, and leaves this; the expired items are gone before.
 pub record Serves (now stamp : ℕ) (ask : Ask) (old : Contents) (answer : Answer) (found : Option ℕ) (new : Contents) : Type 0 where
-  pub answer_is : answer ≡ classic_answer ask.with_cas (decided_in now stamp ask old).verdict
+  pub answer_is : answer ≡ answer_in ask.dialect now ask old.counter (held old ask.key) (decided_in now stamp ask old)
   pub found_is : found ≡ option_map (λ entry. entry.item.stamp) (held old ask.key)
   pub contents : new ≡ changed old ask.key (decided_in now stamp ask old).change
 

@@ -1,16 +1,18 @@
-ghost use Rattle.std.specs.Prelude.{◌≡◌, ◌<◌, ◌≤◌, ◌^◌, pos, ◌≤ℤ◌, nat_abs, [], ◌∷◌, length, None, IfOk, OnOk, OnErr};
+ghost use Rattle.std.specs.Prelude.{◌≡◌, ◌<◌, ◌≤◌, ◌^◌, pos, ◌≤ℤ◌, nat_abs, [], ◌∷◌, length, None, IfOk, IfSome, OnOk, OnErr, option_copied, IsOk, IsErr};
 ghost use Rattle.std.specs.List.{IsDistinct};
 ghost use Rattle.std.specs.Map.{keys_of};
 ghost use Rattle.cache_server.specs.Contents.{Key, same_key};
 ghost use Rattle.mc_types.specs.Asks.{IsAsk, data_limit};
-ghost use Rattle.mc_types.specs.declared.ask.Dialect.TheVariants.{Classic};
+ghost use Rattle.cache_server.specs.Sound.{IsEntry, IsChange};
+ghost use Rattle.cache_server.specs.Table.{answer_in};
 
 use crate::decide::decide;
-use crate::decision::{Change, Decision};
+use crate::decision::{Change, Decision, Verdict};
 use crate::item::{CacheItem, Entry};
+use crate::meta_answer::meta_answer;
 use crate::sweep::{due_before, sweep};
 use lru::LruCache;
-use mc_types::{Answer, Ask, Body, Key};
+use mc_types::{Answer, Ask, Body, Dialect, Key};
 use std::alloc::{AllocError, Global};
 use std::marker::Model;
 use std::num::NonZeroUsize;
@@ -20,6 +22,40 @@ fn keys_differ(items: &LruCache<Key, Entry>)
     ensures { IsDistinct same_key (keys_of items.now.entries) }
 {
     let _count = items.len();
+}
+
+// The answer in the ask's dialect, by what the call finds and changes.
+fn answer(
+    now: u64,
+    ask: &Ask,
+    counter: u64,
+    held: Option<&Entry>,
+    verdict: Verdict,
+    change: &Change,
+) -> Result<Answer, AllocError>
+    requires held { IfSome (option_copied held) IsEntry }
+    requires change { IsChange change.now }
+    ensures { IfOk result (λ answer. answer ≡ answer_in ask.now.dialect now ask.now counter (option_copied held.entry) (record { verdict = verdict; change = change.now })) }
+{
+    match ask.dialect {
+        Dialect::Classic => Ok(verdict.classic_answer(ask.with_cas)),
+        Dialect::Meta => meta_answer(now, &ask.tokens, counter, held, &verdict, change),
+    }
+}
+
+// The answer, where the change was carried out.
+fn answered(
+    carried_out: Result<(), AllocError>,
+    answer: Answer,
+    found: Option<u64>,
+) -> Result<(Answer, Option<u64>), AllocError>
+    ensures ok { IfOk result (λ r. (r ≡ (answer, found)) × IsOk carried_out) }
+    ensures err { OnErr result (IsErr carried_out) }
+{
+    match carried_out {
+        Ok(()) => Ok((answer, found)),
+        Err(error) => Err(error),
+    }
 }
 
 /// One memcached server: items under keys, of which the least recently used goes where there are too many.
@@ -46,7 +82,7 @@ impl Model for Cache {
 impl Cache {
     ghost use Rattle.cache_server.specs.Contents.{empty, at_moment, putting, storing, losing, opening, restarted};
     ghost use Rattle.cache_server.specs.Held.{holds, IsCall, IsHold, IsLoss, lost_by, expired_keys};
-    ghost use Rattle.cache_server.specs.Sound.{IsEntry, IsItem, IsChange};
+    ghost use Rattle.cache_server.specs.Sound.{IsItem};
     ghost use Rattle.cache_server.specs.Table.{Applies, Serves, changed};
 
     /// A server that holds nothing yet, and then at most `capacity` items. The only error is want of memory.
@@ -131,11 +167,14 @@ impl Cache {
         };
         let decision = decide(self.alloc, now, stamp, ask, held)?;
         let Decision { verdict, change } = decision.settled(self.counter);
-        self.carry_out(&ask.key, change)?;
-        Ok((verdict.classic_answer(ask.with_cas), found))
+        let answer = answer(now, ask, self.counter, held, verdict, &change)?;
+        answered(self.carry_out(&ask.key, change), answer, found)
     }
 
     /// Answers a call at this moment, in seconds, and gives the stamp of the item that it found, where its key was held.
+    ///
+    /// A meta answer shows the item as the call leaves it: the cas number is the one that it took, the seconds left are
+    /// those after a new expiry was set.
     ///
     /// All items that have expired are dropped before, for good. What the call stores as a new item has the stamp that
     /// is given here. The only error is want of memory: then nothing changes but that expired items are gone.
@@ -149,7 +188,6 @@ impl Cache {
     ) -> Result<(Answer, Option<u64>), AllocError>
         requires moment { pos 0 ≤ℤ moment }
         requires ask { IsAsk ask.now }
-        requires dialect { ask.now.dialect ≡ Classic }
         ensures ok { IfOk result (λ r. Applies moment stamp ask.now self.old r.0 r.1 self.new) }
         ensures call { IfOk result (λ r. IsCall stamp ask.now (holds self.old) (lost_by (nat_abs moment) stamp ask.now self.old) r.0 r.1 (holds self.new)) }
         ensures err { OnErr result (self.new ≡ at_moment (nat_abs moment) self.old) }

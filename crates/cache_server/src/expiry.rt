@@ -1,5 +1,5 @@
-ghost use Rattle.std.specs.Prelude.{◌≡◌, ◌<◌, ◌^◌};
-ghost use Rattle.cache_server.specs.Expiry.{moment_of, expiry_after};
+ghost use Rattle.std.specs.Prelude.{◌≡◌, ◌<◌, ◌^◌, IfSome};
+ghost use Rattle.cache_server.specs.Expiry.{moment_of, expiry_after, ttl_of};
 
 /// The longest exptime that counts seconds from now: 30 days.
 const RELATIVE_LIMIT: i64 = 2_592_000;
@@ -32,5 +32,18 @@ pub fn expiry_after_ask(now: u64, exptime: Option<i64>, before: Option<u64>) -> 
     match exptime {
         Some(exptime) => moment_of_exptime(now, exptime),
         None => before,
+    }
+}
+
+/// The seconds until the expiry, 0 where it has come; -1 where there is none.
+///
+/// Source: memcached's protocol.txt, "Meta Get", the flag `t`.
+pub fn seconds_left(now: u64, expiry: Option<u64>) -> i64
+    requires { IfSome expiry (λ expiry. expiry < 2 ^ 63) }
+    ensures { result ≡ ttl_of now expiry }
+{
+    match expiry {
+        Some(expiry) => expiry.saturating_sub(now) as i64,
+        None => -1,
     }
 }

@@ -6,6 +6,7 @@ mod decide;
 mod decision;
 mod expiry;
 mod item;
+mod meta_answer;
 mod sweep;
 #[cfg(test)]
 mod tests;

@@ -1,4 +1,5 @@
-ghost use Rattle.text_requests.specs.Message.{IsReadFrom, Begins, Refusal};
+ghost use Rattle.text_requests.specs.Message.{IsReadFrom, Begins};
+ghost use Rattle.request_parts.specs.Message.{Refusal};
 
 use crate::answering::answer_to;
 use crate::counts::{Counts, one_more};

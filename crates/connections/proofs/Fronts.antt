@@ -2,22 +2,25 @@
 use Rattle.std.proofs.Common.{◌≡◌, ℕ, ◌<◌, ◌≤◌, List, [], ◌∷◌, length, Option, Some, None, refl, ap, arith, slice_get}
 use Rattle.mc_types.specs.declared.ask.Ask.{Ask}
 use Rattle.mc_runs.specs.Protocol.{IsStuck}
-use Rattle.text_requests.specs.declared.command.Own.{Own}
-use Rattle.text_requests.specs.declared.command.Own.TheVariants.{Version, Quit}
-use Rattle.text_requests.specs.declared.command.Why.{Why}
-use Rattle.text_requests.specs.declared.command.Skip.{Skip}
-use Rattle.text_requests.specs.declared.command.Skip.TheVariants.{Nothing, Bytes, ThroughNewline}
+use Rattle.request_parts.specs.declared.own.Own.{Own}
+use Rattle.request_parts.specs.declared.own.Own.TheVariants.{Version, Quit, Noop}
+use Rattle.request_parts.specs.declared.refusal.Why.{Why}
+use Rattle.request_parts.specs.declared.skip.Skip.{Skip}
+use Rattle.request_parts.specs.declared.skip.Skip.TheVariants.{Nothing, Bytes, ThroughNewline}
 use Rattle.text_requests.specs.declared.command.Read.{Read}
 use Rattle.text_requests.specs.declared.command.Read.TheVariants as reads
 use Rattle.text_requests.specs.declared.command.Request.{Request}
 use Rattle.text_requests.specs.Order.{Order, Retrieval, Storage, Swapping, Deletion, Touching, Counting, OfItself}
 use Rattle.text_requests.specs.Message.{Reads}
-use Rattle.text_requests.specs.Asks.{asks_by, own_by}
-use Rattle.text_requests.specs.Stream.{Place, Stands, Closed, behind_order}
+use Rattle.text_requests.specs.Asks.{asks_by}
+use Rattle.text_requests.specs.Grammar.{own_by}
+use Rattle.request_parts.specs.Stream.{Place, Stands, Closed}
+use Rattle.text_requests.specs.Stream.{behind_order}
 use Rattle.text_codec.specs.Held.{held_at, IsReadAt}
 use Rattle.text_codec.specs.Classic.{Whole, LongLine, classic}
 use Rattle.connections.specs.declared.connection.Connection.{Connection}
-use Rattle.connections.specs.Steps.{held_len, behind_own}
+use Rattle.connections.specs.Steps.{held_len}
+use Rattle.request_parts.specs.Stream.{behind_own}
 
 -- nothing is in a list of length 0
 pub empty_is : (asks : List Ask) → length asks ≡ 0 → asks ≡ []
@@ -29,6 +32,7 @@ pub own_len : (own : Option Own) (rest : List ℕ) → length (held_at (behind_o
 own_len None rest = omega arith
 own_len (Some Version) rest = omega arith
 own_len (Some Quit) rest = omega arith
+own_len (Some Noop) rest = omega arith
 
 -- fewer bytes are held behind a message
 pub shorter_by : (old new : Connection) (held rest : List ℕ) (place : Place) → old.stream ≡ Stands Nothing held → new.stream ≡ place → length (held_at place) ≤ length rest → length rest < length held → held_len new < held_len old
@@ -51,6 +55,7 @@ served_behind (Counting up key delta quiet) block rest i ask e = refl
 pub own_behind : (order : Order) (rest : List ℕ) → behind_order order rest ≡ behind_own (own_by order) rest
 own_behind (OfItself Version) rest = refl
 own_behind (OfItself Quit) rest = refl
+own_behind (OfItself Noop) rest = refl
 own_behind (Retrieval exptime with_cas keys) rest = refl
 own_behind (Storage kind stored quiet) rest = refl
 own_behind (Swapping stored cas quiet) rest = refl

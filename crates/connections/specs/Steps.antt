@@ -1,9 +1,7 @@
 -- What a step of a connection changes. Source: mcgate's own.
 use Rattle.std.specs.Prelude.{◌≡◌, ℕ, Bool, true, false, ◌||◌, List, ◌++◌, drop, Option, Some, None, length}
-use Rattle.text_requests.specs.declared.command.Skip.TheVariants.{Nothing}
-use Rattle.text_requests.specs.declared.command.Own.{Own}
-use Rattle.text_requests.specs.declared.command.Own.TheVariants.{Version, Quit}
-use Rattle.text_requests.specs.Stream.{Place, Stands, Closed}
+use Rattle.request_parts.specs.declared.skip.Skip.TheVariants.{Nothing}
+use Rattle.request_parts.specs.Stream.{Place, Stands, Closed}
 use Rattle.mc_types.specs.declared.ask.Ask.{Ask}
 use Rattle.mc_types.specs.declared.answer.Answer.{Answer}
 use Rattle.text_codec.specs.Held.{held_at}
@@ -18,12 +16,6 @@ output_of x = x.output.items
 pub record GoesTo (old : Connection) (place : Place) (more : List ℕ) (new : Connection) : Type 0 where
   pub place_is : new.stream ≡ place
   pub output_is : output_of new ≡ output_of old ++ more
-
--- behind what mcgate itself was asked: `quit` closes the stream
-abbrev pub behind_own : Option Own → List ℕ → Place
-behind_own None rest = Stands Nothing rest
-behind_own (Some Version) rest = Stands Nothing rest
-behind_own (Some Quit) rest = Closed
 
 -- where it stands behind a reply, with these bytes behind the message: the message is done, or it stands where it stood
 abbrev pub place_behind : Bool → Connection → List ℕ → Place

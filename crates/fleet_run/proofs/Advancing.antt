@@ -9,14 +9,15 @@ use Rattle.mc_runs.specs.Single.{server_call, from_of}
 use Rattle.mc_runs.specs.Log.{Part, Point, after_reply}
 use Rattle.mc_runs.specs.Standing.{Standing, Works, Moves}
 use Rattle.mc_runs.proofs.LogWorks.{works_nothing, works_on, works_passed, works_each}
-use Rattle.text_requests.specs.declared.command.Skip.TheVariants.{Nothing}
+use Rattle.request_parts.specs.declared.skip.Skip.TheVariants.{Nothing}
 use Rattle.text_requests.specs.declared.command.Request.{Request}
 use Rattle.text_requests.specs.Message.{Message, IsReadFrom, message_in}
 use Rattle.text_requests.specs.declared.request.Asks.{Asks}
 use Rattle.text_requests.specs.Asks.{asks_of, quiet_of, IsWalk, counted}
 use Rattle.text_requests.proofs.StreamLemmas.{used_within}
 use Rattle.text_codec.specs.Held.{held_at}
-use Rattle.text_requests.specs.Stream.{Place, Stands, behind}
+use Rattle.request_parts.specs.Stream.{Place, Stands}
+use Rattle.text_requests.specs.Stream.{behind}
 use Rattle.text_codec.specs.Replies.{shown_text, is_last, is_failure, ends_with}
 use Rattle.text_codec.specs.Classic.{Said, Whole, ReadsNext, classic, shown_by}
 use Rattle.connections.specs.declared.connection.Connection.{Connection}

@@ -8,8 +8,8 @@ use Rattle.mc_runs.specs.Log.{Point, Shown, Piece, one_shown, fed_point}
 use Rattle.mc_runs.specs.Standing.{Standing, IsFed, IsGiven}
 use Rattle.mc_runs.specs.Taking.{TakesUp}
 use Rattle.mc_runs.proofs.LogTaking.{piece_up}
-use Rattle.text_requests.specs.declared.command.Skip.TheVariants.{Nothing}
-use Rattle.text_requests.specs.Stream.{Place, Stands}
+use Rattle.request_parts.specs.declared.skip.Skip.TheVariants.{Nothing}
+use Rattle.request_parts.specs.Stream.{Place, Stands}
 use Rattle.text_codec.specs.Classic.{classic}
 use Rattle.connections.specs.declared.connection.Connection.{Connection}
 use Rattle.connections.specs.Steps.{output_of}

@@ -14,9 +14,10 @@ use Rattle.mc_runs.proofs.LogStale.{fresh_has_none}
 use Rattle.mc_runs.proofs.LogSteps.{nothing_yet}
 use Rattle.mc_runs.proofs.LogTaking.{settled}
 use Rattle.mc_runs.proofs.Fresh.{fresh}
-use Rattle.text_requests.specs.declared.command.Skip.TheVariants.{Nothing}
+use Rattle.request_parts.specs.declared.skip.Skip.TheVariants.{Nothing}
 use Rattle.text_requests.specs.Stream as stream
-use Rattle.text_requests.proofs.StreamLemmas.{used_within}
+use Rattle.request_parts.proofs.Streams.{used_within}
+use Rattle.text_requests.specs.Grammar.{classic_grammar}
 use Rattle.text_codec.specs.Classic.{Whole, LongLine, classic}
 use Rattle.text_codec.proofs.ReaderLaws.{reader_is}
 use Rattle.connections.specs.declared.connection.Connection.{Connection}
@@ -45,7 +46,7 @@ use Rattle.fleet_run.proofs.Openings.{same_opening, opened_new, AreTaken, nothin
 use Rattle.fleet_run.proofs.Wording.{direct_covered}
 
 quiet_start : IsStuck classic (stream.Stands Nothing [])
-quiet_start (Whole message) next r = let some = takes_some [] message r.0 r.1 in let all = used_within [] message r.0 r.1 in absurd (omega (arith, some, all))
+quiet_start (Whole message) next r = let some = takes_some [] message r.0 r.1 in let all = used_within classic_grammar [] message r.0 r.1 in absurd (omega (arith, some, all))
 quiet_start LongLine next r = absurd (omega (arith, r.0.long))
 
 -- how far a script has come: a log of the events so far leads to where clients and servers stand, over what those events put on the servers

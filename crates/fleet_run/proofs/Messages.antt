@@ -1,20 +1,24 @@
 -- What is done message by message.
 use Rattle.std.proofs.Common.{◌≡◌, ℕ, ◌+◌, Bool, true, false, List, [], length, drop, Option, refl, sym, ap, ◌∙◌, subst, arith}
 use Rattle.mc_text.specs.Line.{IsTooLong}
-use Rattle.text_requests.specs.declared.command.Own.{Own}
-use Rattle.text_requests.specs.declared.command.Why.{Why}
-use Rattle.text_requests.specs.declared.command.Skip.{Skip}
-use Rattle.text_requests.specs.declared.command.Skip.TheVariants.{Nothing}
+use Rattle.request_parts.specs.declared.own.Own.{Own}
+use Rattle.request_parts.specs.declared.refusal.Why.{Why}
+use Rattle.request_parts.specs.declared.skip.Skip.{Skip}
+use Rattle.request_parts.specs.declared.skip.Skip.TheVariants.{Nothing}
 use Rattle.text_requests.specs.declared.command.Request.{Request}
 use Rattle.text_requests.specs.declared.request.Asks.{Asks}
-use Rattle.text_requests.specs.Message.{Message, Refusal, Begins, message_in}
+use Rattle.text_requests.specs.Message.{Message, Begins, message_in}
+use Rattle.request_parts.specs.Message.{Refusal}
 use Rattle.text_requests.specs.Places.{order_in}
-use Rattle.text_requests.specs.Asks.{asks_of, own_by}
-use Rattle.text_requests.specs.Stream.{Place, Stands, Closed, skipped, behind}
+use Rattle.text_requests.specs.Asks.{asks_of}
+use Rattle.text_requests.specs.Grammar.{own_by}
+use Rattle.request_parts.specs.Stream.{Place, Stands, Closed, skipped}
+use Rattle.text_requests.specs.Stream.{behind}
 use Rattle.text_codec.specs.Replies.{refusal_text, long_line_text}
 use Rattle.text_codec.specs.Classic.{Said, Whole, LongLine, ReadsNext, classic, own_passed}
 use Rattle.connections.specs.declared.connection.Connection.{Connection}
-use Rattle.connections.specs.Steps.{behind_own, GoesTo}
+use Rattle.request_parts.specs.Stream.{behind_own}
+use Rattle.connections.specs.Steps.{GoesTo}
 use Rattle.memory_fleet.specs.declared.fleet.MemoryFleet.{MemoryFleet}
 use Rattle.fleet_run.specs.declared.router.Router.{Router}
 use Rattle.fleet_run.specs.Serving.{Advances, IsFront, IsOnWay, ServesKey, ServesRequest}

@@ -10,8 +10,8 @@ use Rattle.mc_runs.specs.Stale.{stale_in}
 use Rattle.mc_runs.specs.Standing.{Standing}
 use Rattle.mc_runs.specs.Taking as Follow
 use Rattle.mc_runs.specs.Taking.{TakesUp}
-use Rattle.text_requests.specs.declared.command.Skip.TheVariants.{Nothing}
-use Rattle.text_requests.specs.Stream.{Stands, extended}
+use Rattle.request_parts.specs.declared.skip.Skip.TheVariants.{Nothing}
+use Rattle.request_parts.specs.Stream.{Stands, extended}
 use Rattle.text_codec.specs.Classic.{classic}
 use Rattle.connections.specs.declared.connection.Connection.{Connection}
 use Rattle.connections.specs.Steps.{output_of, GoesTo}

@@ -6,12 +6,12 @@ use Rattle.mc_runs.specs.Single.{reply_of}
 use Rattle.mc_runs.specs.Protocol.{IsStuck}
 use Rattle.mc_runs.specs.Log.{Point}
 use Rattle.mc_runs.specs.Standing.{Standing, Works}
-use Rattle.text_requests.specs.declared.command.Skip.TheVariants.{Nothing}
+use Rattle.request_parts.specs.declared.skip.Skip.TheVariants.{Nothing}
 use Rattle.text_requests.specs.declared.command.Request.{Request}
 use Rattle.text_requests.specs.declared.request.Asks.{Asks}
 use Rattle.text_requests.specs.Message.{IsReadFrom, message_in}
 use Rattle.text_requests.specs.Asks.{asks_of, IsWalk}
-use Rattle.text_requests.specs.Stream.{Stands}
+use Rattle.request_parts.specs.Stream.{Stands}
 use Rattle.text_codec.specs.Classic.{classic}
 use Rattle.connections.specs.declared.connection.Connection.{Connection}
 use Rattle.connections.specs.Steps.{output_of, held_len, place_behind}

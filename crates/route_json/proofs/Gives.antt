@@ -1,16 +1,11 @@
 -- Answers and readings.
-use Rattle.std.proofs.Common.{◌≡◌, Option, Some, None, Result, Err, IfSome, ap, sym, ◌∙◌, subst}
+use Rattle.std.proofs.Common.{◌≡◌, Option, Some, None, Result, Err, IfSome, subst}
 use Rattle.route_json.specs.declared.fault.ConfigFault.{ConfigFault}
 use Rattle.route_json.specs.Fault.{Fault, Fails, Gives}
 
 -- the answer gives the same reading, however it is written
 pub gives_too : {X Y : Type 0} (view : X → Y) (r : Result X ConfigFault) (a b : Result Y Fault) → a ≡ b → Gives view r a → Gives view r b
 gives_too view r a b e h = subst (λ q. Gives view r q) e h
-
--- a named fault
-pub named_fault : {Y : Type 0} (o : Option Fault) (f : Fault) (read : Result Y Fault) → IfSome o (λ g. g ≡ f) → read ≡ Err f → Fails o read
-named_fault None f read h e = tt
-named_fault (Some g) f read h e = e ∙ ap (λ (x : Fault). let r : Result _ Fault = Err x in r) (sym h)
 
 -- what a fault of a part is for the whole
 pub passed : {A B : Type 0} (o : Option Fault) (read : Result A Fault) (whole : Result B Fault) → Fails o read → ((f : Fault) → read ≡ Err f → whole ≡ Err f) → Fails o whole

@@ -1,5 +1,6 @@
 pub mod Each
 pub mod Numbers
+pub mod Slots
 pub mod Gives
 pub mod Fitting
 pub mod RouteSteps

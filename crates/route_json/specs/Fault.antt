@@ -10,6 +10,7 @@ pub data Fault : Type 0 where
   BadAddress : (text : List ℕ) → Fault
   EmptyPool : (name : List ℕ) → Fault
   TooManyServers : (name : List ℕ) → Fault
+  TooManySlots : (name : List ℕ) → Fault
   TooDeep : Fault
   TooManyNodes : Fault
   UnknownType : (name : List ℕ) → Fault
@@ -24,6 +25,7 @@ fault_of (faults.BadField s) = Some (BadField (string_bytes s))
 fault_of (faults.BadAddress s) = Some (BadAddress (string_bytes s))
 fault_of (faults.EmptyPool s) = Some (EmptyPool (string_bytes s))
 fault_of (faults.TooManyServers s) = Some (TooManyServers (string_bytes s))
+fault_of (faults.TooManySlots s) = Some (TooManySlots (string_bytes s))
 fault_of faults.TooDeep = Some TooDeep
 fault_of faults.TooManyNodes = Some TooManyNodes
 fault_of (faults.UnknownType s) = Some (UnknownType (string_bytes s))

@@ -1,60 +1,85 @@
 -- Pools of servers. Source: mcgate's own.
-use Rattle.std.specs.Prelude.{ℕ, ◌<◌, ◌≤◌, ◌==◌, List, [], ◌∷◌, codes, length, nat_lt, Option, Some, None, Ok, Err, if◌then◌else◌, string_bytes}
+use Rattle.std.specs.Prelude.{ℕ, ◌<◌, ◌≤◌, ◌==◌, List, [], ◌∷◌, codes, length, replicate, nat_lt, Option, Some, None, Result, Ok, Err, if◌then◌else◌, string_bytes}
+use Rattle.std.specs.List.{flat_map}
 use Rattle.std.specs.Str.{bytes_eq}
 use Rattle.serde_json.specs.Data.{Data, string, object, Members}
 use Rattle.serde_json.specs.Find.{get}
 use Rattle.route_names.specs.declared.holders.Holder.TheVariants as holders
 use Rattle.route_json.specs.declared.pools.Pool.{Pool}
-use Rattle.route_json.specs.Fault.{BadField, EmptyPool, TooManyServers}
+use Rattle.route_json.specs.declared.pools.WeightedServer.{WeightedServer}
+use Rattle.route_json.specs.Fault.{Fault, BadField, EmptyPool, TooManyServers, TooManySlots}
 use Rattle.route_json.specs.Fields.{only, list_or}
 use Rattle.route_json.specs.Reading.{Reading, ◌>>=◌, fail, pure, each, values, members, named}
 use Rattle.route_json.specs.Servers.{Addresses, server_of_text}
 
--- names with the numbers of their servers
+-- names with their servers, one for each text
 abbrev pub Pools : Type 0
-Pools = List (List ℕ × List ℕ)
+Pools = List (List ℕ × List WeightedServer)
 
 -- the pools of a vector
 abbrev pub pools_of : List Pool → Pools
 pools_of [] = []
 pools_of (p ∷ ps) = (string_bytes p.name, p.servers.items) ∷ pools_of ps
 
+-- the slots of a pool: each server as often in a row as its weight says
+abbrev pub slots_of : List WeightedServer → List ℕ
+slots_of servers = flat_map (λ s. replicate s.weight s.server) servers
+
 -- all of them are below
 abbrev pub AllBelow : ℕ → List ℕ → Type 0
 AllBelow bound [] = Unit {0}
 AllBelow bound (s ∷ ss) = (s < bound) × AllBelow bound ss
 
--- no pool is empty or has more than 1,024 servers, and each server is one of so many
+-- each server is one of so many, and has a weight in 1..=16
+abbrev pub AreWeighted : ℕ → List WeightedServer → Type 0
+AreWeighted bound [] = Unit {0}
+AreWeighted bound (s ∷ ss) = (s.server < bound) × (0 < s.weight) × (s.weight ≤ 16) × AreWeighted bound ss
+
+-- a pool isn't empty and doesn't have more than 2,048 slots, and its servers are some of so many
+abbrev pub IsPool : ℕ → List WeightedServer → Type 0
+IsPool bound servers = (0 < length servers) × (length (slots_of servers) ≤ 2048) × AreWeighted bound servers
+
+-- each is such a pool
 abbrev pub ArePools : ℕ → Pools → Type 0
 ArePools bound [] = Unit {0}
-ArePools bound (p ∷ ps) = (0 < length p.1) × (length p.1 ≤ 1024) × AllBelow bound p.1 × ArePools bound ps
+ArePools bound (p ∷ ps) = IsPool bound p.1 × ArePools bound ps
 
 -- the servers of the pool of this name
-abbrev pub servers_of : List ℕ → Pools → Option (List ℕ)
+abbrev pub servers_of : List ℕ → Pools → Option (List WeightedServer)
 servers_of name [] = None
 servers_of name (p ∷ ps) = if bytes_eq p.0 name then Some p.1 else servers_of name ps
 
--- the number of the server that a value names, in the list of this pool
-abbrev pub server_of : List ℕ → Data → Reading Addresses ℕ
-server_of pool (string a) = server_of_text pool a
+-- the server that a value names, in the list of this pool
+abbrev pub server_of : List ℕ → Data → Reading Addresses WeightedServer
+server_of pool (string text) = server_of_text pool text
 server_of pool _ = fail (BadField (codes "servers"))
 
+-- these servers, if they don't have more than 2,048 slots
+abbrev pub few_slots : List ℕ → List WeightedServer → Result (List WeightedServer) Fault
+few_slots pool servers = if nat_lt 2048 (length (slots_of servers)) then Err (TooManySlots pool) else Ok servers
+
+-- the servers of a pool, from texts that are neither none nor too many
+abbrev pub servers_in : List ℕ → List Data → Reading Addresses (List WeightedServer)
+servers_in pool ds = do
+  servers ← each (server_of pool) ds
+  pure (few_slots pool servers)
+
 -- the servers of a pool, from its list
-abbrev pub numbers_of : List ℕ → List Data → Reading Addresses (List ℕ)
-numbers_of pool ds known =
+abbrev pub pool_list : List ℕ → List Data → Reading Addresses (List WeightedServer)
+pool_list pool ds known =
     if length ds == 0 then Err (EmptyPool pool)
     else if nat_lt 1024 (length ds) then Err (TooManyServers pool)
-    else each (server_of pool) ds known
+    else servers_in pool ds known
 
 -- the servers of a pool, from its object
-abbrev pub pool_object : List ℕ → Data → Reading Addresses (List ℕ)
+abbrev pub pool_object : List ℕ → Data → Reading Addresses (List WeightedServer)
 pool_object name d = do
   _ ← pure (only holders.Pool d)
   ds ← pure (list_or (codes "servers") (get (codes "servers") d))
-  numbers_of name (values ds)
+  pool_list name (values ds)
 
 -- the servers of the pool of this name
-abbrev pub pool_of : List ℕ → Data → Reading Addresses (List ℕ)
+abbrev pub pool_of : List ℕ → Data → Reading Addresses (List WeightedServer)
 pool_of name (object ms) = pool_object name (object ms)
 pool_of name _ = fail (BadField name)
 

@@ -1,7 +1,7 @@
 -- What is printed of a fault, behind `config: `. Source: mcgate's own.
 use Rattle.std.specs.Prelude.{ℕ, List, ◌++◌, codes, string_bytes}
 use Rattle.route_json.specs.declared.fault.ConfigFault.{ConfigFault}
-use Rattle.route_json.specs.declared.fault.ConfigFault.TheVariants.{NotJson, BadField, BadAddress, EmptyPool, TooManyServers, TooDeep, TooManyNodes, UnknownType, NoPool, EmptyChildren, BadPrefix, NoMemory}
+use Rattle.route_json.specs.declared.fault.ConfigFault.TheVariants.{NotJson, BadField, BadAddress, EmptyPool, TooManyServers, TooManySlots, TooDeep, TooManyNodes, UnknownType, NoPool, EmptyChildren, BadPrefix, NoMemory}
 use Rattle.byte_escapes.specs.Escapes.{escaped}
 
 -- the words of a fault, with its name or text escaped
@@ -11,6 +11,7 @@ fault_line (BadField name) = codes "bad field " ++ escaped (string_bytes name)
 fault_line (BadAddress text) = codes "bad address " ++ escaped (string_bytes text)
 fault_line (EmptyPool name) = codes "empty pool " ++ escaped (string_bytes name)
 fault_line (TooManyServers name) = codes "too many servers in " ++ escaped (string_bytes name)
+fault_line (TooManySlots name) = codes "too many slots in " ++ escaped (string_bytes name)
 fault_line TooDeep = codes "too deep"
 fault_line TooManyNodes = codes "too many routes"
 fault_line (UnknownType name) = codes "unknown route " ++ escaped (string_bytes name)

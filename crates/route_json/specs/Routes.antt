@@ -17,7 +17,8 @@ use Rattle.route_names.specs.declared.holders.Holder.TheVariants as holders
 use Rattle.route_names.specs.Names.{kind_of, op_of, behind}
 use Rattle.route_json.specs.Fault.{Fault, BadField, TooDeep, TooManyNodes, UnknownType, NoPool, EmptyChildren, BadPrefix}
 use Rattle.route_json.specs.Fields.{only, value_or, text_or, object_or, exptime_or, op_or}
-use Rattle.route_json.specs.Pools.{Pools, servers_of}
+use Rattle.route_json.specs.declared.pools.WeightedServer.{WeightedServer}
+use Rattle.route_json.specs.Pools.{Pools, servers_of, slots_of}
 use Rattle.route_json.specs.Reading.{Reading, ◌>>=◌, give, fail, pure, each, values, members, named}
 
 -- one route of this weight more, of at most 4,096
@@ -56,22 +57,22 @@ listed lists.Failover rs = forms.Failover rs
 listed lists.MissFailover rs = forms.MissFailover rs
 
 -- the servers of a pool that has to be there
-abbrev pub known_pool : List ℕ → Option (List ℕ) → Result (List ℕ) Fault
+abbrev pub known_pool : List ℕ → Option (List WeightedServer) → Result (List WeightedServer) Fault
 known_pool name (Some servers) = Ok servers
 known_pool name None = Err (NoPool name)
 
 module _ (pools : Pools) where
-  -- the route by slots over a pool
+  -- the route over a pool's slots
   abbrev pub pool_route : List ℕ → Reading ℕ Route
   pool_route name = do
     servers ← pure (known_pool name (servers_of name pools))
-    give (forms.Pool servers)
+    give (forms.Pool (slots_of servers))
 
   -- one child for each server of a pool
   abbrev pub server_routes : ℕ → ℕ → List ℕ → Reading ℕ (List Route)
   server_routes levels weight name = do
     servers ← pure (known_pool name (servers_of name pools))
-    each (λ s. leaf levels weight (Server s)) servers
+    each (λ s. leaf levels weight (Server s.server)) servers
 
   -- ---- short texts
 

@@ -2,9 +2,10 @@
 use Rattle.std.specs.Prelude.{ℕ, List, [], ◌∷◌, ◌++◌, length, nat_lt, Option, Some, None, Ok, Err, if◌then◌else◌, position}
 use Rattle.std.specs.Str.{bytes_eq}
 pub use Rattle.server_addresses.specs.Servers.{Addresses}
-use Rattle.server_addresses.specs.Addresses.{is_address}
+use Rattle.server_addresses.specs.ServerTexts.{server_in}
+use Rattle.route_json.specs.declared.pools.WeightedServer.{WeightedServer}
 use Rattle.route_json.specs.Fault.{BadAddress, TooManyServers}
-use Rattle.route_json.specs.Reading.{Reading}
+use Rattle.route_json.specs.Reading.{Reading, ◌>>=◌, give, fail}
 
 -- the number of an address that is known at this place or new
 abbrev pub numbered_at : Option ℕ → List ℕ → List ℕ → Reading Addresses ℕ
@@ -15,6 +16,13 @@ numbered_at None pool a known = if nat_lt (length known) 4294967295 then Ok (len
 abbrev pub numbered : List ℕ → List ℕ → Reading Addresses ℕ
 numbered pool a known = numbered_at (position (bytes_eq a) known) pool a known
 
--- the number of a server's text in the list of this pool
-abbrev pub server_of_text : List ℕ → List ℕ → Reading Addresses ℕ
-server_of_text pool a known = if is_address a then numbered pool a known else Err (BadAddress a)
+-- the server of an address and a weight, if the text says them
+abbrev pub server_or : List ℕ → List ℕ → Option (List ℕ × ℕ) → Reading Addresses WeightedServer
+server_or pool text (Some s) = do
+  n ← numbered pool s.0
+  give (record { server = n; weight = s.1 })
+server_or pool text None = fail (BadAddress text)
+
+-- the server of a text in the list of this pool
+abbrev pub server_of_text : List ℕ → List ℕ → Reading Addresses WeightedServer
+server_of_text pool text = server_or pool text (server_in text)

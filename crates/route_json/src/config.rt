@@ -1,3 +1,5 @@
+//! What a configuration means, read from a JSON text.
+
 ghost use Rattle.std.specs.Prelude.{◌≡◌, IfOk, length};
 ghost use Rattle.serde_json.specs.Read.{read};
 ghost use Rattle.serde_json.specs.View.{view};
@@ -7,6 +9,7 @@ ghost use Rattle.route_json.specs.Fits.{IsBelow};
 
 use crate::fault::ConfigFault;
 use crate::fields::{object_field, only, value_field};
+use crate::place::{Place, RouteCount};
 use crate::pools::Pools;
 use crate::route::route;
 use route_names::Holder;
@@ -65,12 +68,12 @@ impl Config {
         &self.servers
     }
 
-    /// The same configuration once more. The only error is want of memory.
+    /// The same configuration once more, its tree shared. The only error: memory was refused.
     pub fn copy(&self, alloc: Global) -> Result<Config, AllocError>
         ensures { IfOk result (λ config. config ≡ self.now) }
     {
         Ok(Config {
-            tree: self.tree.copy(alloc)?,
+            tree: self.tree.copy()?,
             servers: self.servers.copy(alloc)?,
         })
     }
@@ -113,7 +116,11 @@ fn object_after(alloc: Global, servers: Servers, value: &Value) -> Result<Config
     let root = value_field(alloc, "route", value)?;
     let map = object_field(alloc, "pools", value)?;
     let pools = Pools::read(alloc, servers, map)?;
-    let mut nodes = 0;
-    let tree = route(alloc, &pools, &mut nodes, MAX_DEPTH, 1, "route", root)?;
+    let mut count = RouteCount { routes: 0 };
+    let place = Place {
+        levels: MAX_DEPTH,
+        weight: 1,
+    };
+    let tree = route(alloc, &pools, &mut count, place, "route", root)?;
     Ok(Config::new(tree, pools.into_servers()))
 }

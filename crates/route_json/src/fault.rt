@@ -1,5 +1,6 @@
-ghost use Rattle.std.specs.Prelude.{◌≡◌, Some, ◌++◌, codes, string_bytes, IfSome};
-ghost use Rattle.route_json.specs.Fault.{BadField, BadAddress, EmptyPool, TooManyServers, UnknownType, NoPool, BadPrefix, fault_of};
+//! The faults of a configuration, and what is printed of each.
+
+ghost use Rattle.std.specs.Prelude.{Some};
 ghost use Rattle.route_json.specs.Printed.{fault_line};
 
 use byte_escapes::Escaped;
@@ -8,7 +9,7 @@ use std::error::Error;
 use std::fmt;
 use std::fmt::Display;
 
-/// The first fault of a configuration. `Display` writes what mcgate prints of it behind `config: `.
+/// The first fault of a configuration. `Display` writes what mcgate prints of it after `config: `.
 ///
 /// Source: mcgate's own.
 #[derive(Debug, Drop)]
@@ -23,6 +24,8 @@ pub enum ConfigFault {
     EmptyPool(String),
     /// The pool has more than 1,024 servers, or with it there are more than 4,294,967,295 in all.
     TooManyServers(String),
+    /// The servers of the pool have more than 2,048 slots in all.
+    TooManySlots(String),
     /// A route is nested more than 32 deep.
     TooDeep,
     /// There are more than 4,096 routes, each counted three times for every `cold` that it stands in.
@@ -83,6 +86,10 @@ impl Display for ConfigFault {
                 f.write_str("too many servers in ")?;
                 Escaped(name.as_bytes()).fmt(f)
             }
+            ConfigFault::TooManySlots(name) => {
+                f.write_str("too many slots in ")?;
+                Escaped(name.as_bytes()).fmt(f)
+            }
             ConfigFault::TooDeep => f.write_str("too deep"),
             ConfigFault::TooManyNodes => f.write_str("too many routes"),
             ConfigFault::UnknownType(name) => {
@@ -104,66 +111,3 @@ impl Display for ConfigFault {
 }
 
 impl Error for ConfigFault {}
-
-pub fn bad_field(alloc: Global, name: &str) -> ConfigFault
-    ensures { IfSome (fault_of result) (λ f. f ≡ BadField name.now) }
-{
-    match String::from_str(alloc, name) {
-        Ok(name) => ConfigFault::BadField(name),
-        Err(_) => ConfigFault::NoMemory,
-    }
-}
-
-pub fn bad_address(alloc: Global, text: &str) -> ConfigFault
-    ensures { IfSome (fault_of result) (λ f. f ≡ BadAddress text.now) }
-{
-    match String::from_str(alloc, text) {
-        Ok(text) => ConfigFault::BadAddress(text),
-        Err(_) => ConfigFault::NoMemory,
-    }
-}
-
-pub fn empty_pool(alloc: Global, name: &str) -> ConfigFault
-    ensures { IfSome (fault_of result) (λ f. f ≡ EmptyPool name.now) }
-{
-    match String::from_str(alloc, name) {
-        Ok(name) => ConfigFault::EmptyPool(name),
-        Err(_) => ConfigFault::NoMemory,
-    }
-}
-
-pub fn too_many_servers(alloc: Global, name: &str) -> ConfigFault
-    ensures { IfSome (fault_of result) (λ f. f ≡ TooManyServers name.now) }
-{
-    match String::from_str(alloc, name) {
-        Ok(name) => ConfigFault::TooManyServers(name),
-        Err(_) => ConfigFault::NoMemory,
-    }
-}
-
-pub fn unknown_type(alloc: Global, name: &str) -> ConfigFault
-    ensures { IfSome (fault_of result) (λ f. f ≡ UnknownType name.now) }
-{
-    match String::from_str(alloc, name) {
-        Ok(name) => ConfigFault::UnknownType(name),
-        Err(_) => ConfigFault::NoMemory,
-    }
-}
-
-pub fn no_pool(alloc: Global, name: &str) -> ConfigFault
-    ensures { IfSome (fault_of result) (λ f. f ≡ NoPool name.now) }
-{
-    match String::from_str(alloc, name) {
-        Ok(name) => ConfigFault::NoPool(name),
-        Err(_) => ConfigFault::NoMemory,
-    }
-}
-
-pub fn bad_prefix(alloc: Global, text: &str) -> ConfigFault
-    ensures { IfSome (fault_of result) (λ f. f ≡ BadPrefix text.now) }
-{
-    match String::from_str(alloc, text) {
-        Ok(text) => ConfigFault::BadPrefix(text),
-        Err(_) => ConfigFault::NoMemory,
-    }
-}

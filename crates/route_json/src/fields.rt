@@ -1,4 +1,4 @@
-// Fields of JSON objects.
+//! Fields of JSON objects.
 
 ghost use Rattle.std.specs.Prelude.{codes};
 ghost use Rattle.serde_json.specs.Find.{get};
@@ -7,7 +7,7 @@ ghost use Rattle.route_json.specs.Fault.{Gives};
 ghost use Rattle.route_json.specs.Fields.{only_members, only, value_or, text_or, list_or, object_or, exptime_or};
 ghost use Rattle.route_json.specs.Reading.{members};
 
-use crate::fault::{ConfigFault, bad_field};
+use crate::fault::ConfigFault;
 use route_names::{Holder, is_field};
 use serde_json::{Map, Value};
 use std::alloc::Global;
@@ -31,7 +31,7 @@ fn only_members(alloc: Global, holder: Holder, map: &Map<String, Value>) -> Resu
     for (name, _) in map.iter() {
         let text = name.as_str();
         if !is_field(holder, text) {
-            return Err(bad_field(alloc, text));
+            return Err(ConfigFault::BadField(String::from_str(alloc, text)?));
         }
     }
     Ok(())
@@ -47,7 +47,7 @@ pub fn value_field<'a>(
 {
     match value.get(name) {
         Some(found) => Ok(found),
-        None => Err(bad_field(alloc, name)),
+        None => Err(ConfigFault::BadField(String::from_str(alloc, name)?)),
     }
 }
 
@@ -57,7 +57,7 @@ pub fn text_field<'a>(alloc: Global, name: &str, value: &'a Value) -> Result<&'a
 {
     match value.get(name) {
         Some(Value::String(text)) => Ok(text.as_str()),
-        _ => Err(bad_field(alloc, name)),
+        _ => Err(ConfigFault::BadField(String::from_str(alloc, name)?)),
     }
 }
 
@@ -71,7 +71,7 @@ pub fn list_field<'a>(
 {
     match value.get(name) {
         Some(Value::Array(items)) => Ok(items.as_slice()),
-        _ => Err(bad_field(alloc, name)),
+        _ => Err(ConfigFault::BadField(String::from_str(alloc, name)?)),
     }
 }
 
@@ -85,7 +85,7 @@ pub fn object_field<'a>(
 {
     match value.get(name) {
         Some(Value::Object(map)) => Ok(map),
-        _ => Err(bad_field(alloc, name)),
+        _ => Err(ConfigFault::BadField(String::from_str(alloc, name)?)),
     }
 }
 
@@ -97,7 +97,7 @@ pub fn exptime_field(alloc: Global, value: &Value) -> Result<u32, ConfigFault>
         None => Ok(0),
         Some(found) => match found.as_u64() {
             Some(exptime) if exptime <= MAX_EXPTIME => Ok(exptime as u32),
-            _ => Err(bad_field(alloc, "exptime")),
+            _ => Err(ConfigFault::BadField(String::from_str(alloc, "exptime")?)),
         },
     }
 }

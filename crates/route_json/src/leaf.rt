@@ -1,4 +1,4 @@
-// Routes that hold no other value: pools, their servers, short texts, defaults.
+//! Routes that hold no other value: pools, their servers, short texts, defaults.
 
 ghost use Rattle.std.specs.Prelude.{◌≡◌, ℕ, ◌+◌, ◌<◌, ◌≤◌, IfOk, codes, length};
 ghost use Rattle.mc_types.specs.KeyText.{IsKey};
@@ -7,47 +7,32 @@ ghost use Rattle.route_tree.specs.Form.{route_of_form, routes_of};
 ghost use Rattle.route_json.specs.Fault.{Gives};
 ghost use Rattle.route_names.specs.Names.{kind_of, behind};
 ghost use Rattle.route_json.specs.Fits.{IsLeaf, Fits, AllFit, NodeFits};
-ghost use Rattle.route_json.specs.Pools.{AllBelow, servers_of};
+ghost use Rattle.route_json.specs.Pools.{AreWeighted, IsPool, servers_of};
 ghost use Rattle.route_json.specs.Reading.{each};
-ghost use Rattle.route_json.specs.Routes.{counts, leaf, kind_or, policy_op, prefix_of, listed, known_pool, pool_route, server_routes, short_list, short, text_children};
+ghost use Rattle.route_json.specs.Routes.{leaf, kind_or, policy_op, prefix_of, listed, known_pool, pool_route, server_routes, short_list, short, text_children};
 
-use crate::fault::{ConfigFault, bad_field, bad_prefix, no_pool, unknown_type};
-use crate::pools::Pools;
+use crate::fault::ConfigFault;
+use crate::place::{Below, RouteCount};
+use crate::pools::{Pools, WeightedServer, slots_of};
 use mc_types::{Key, Op, ServerId};
 use route_names::{Kind, Lists, behind, kind_of, op_of};
 use route_tree::{Tree, TreeForm};
 use std::alloc::Global;
 
-/// The most routes that a tree may have, each counted with its weight.
-const MAX_ROUTES: u32 = 4096;
-
-/// Counts one route more; `TooManyNodes` above 4,096.
-pub fn count(nodes: &mut u32, weight: u32) -> Result<(), ConfigFault>
-    requires { nodes.old ≤ 4096 }
-    ensures gives { Gives (λ u. (u, nodes.new)) result (counts weight nodes.old) }
-    ensures counted { nodes.new ≤ 4096 }
-    ensures more { IfOk result (λ _. nodes.new ≡ nodes.old + weight) }
+/// A default error route, among the children of a route.
+pub fn error_leaf(
+    alloc: Global,
+    count: &mut RouteCount,
+    below: Below,
+) -> Result<Tree, ConfigFault>
+    ensures gives { Gives (λ t. (t, count.new.routes)) result (leaf below.levels below.weight Failing count.old.routes) }
+    ensures fits { IfOk result (λ t. (bound : ℕ) → Fits bound below.levels below.weight count.old.routes t count.new.routes) }
 {
-    if weight > MAX_ROUTES - *nodes {
-        return Err(ConfigFault::TooManyNodes);
-    }
-    *nodes += weight;
-    Ok(())
-}
-
-/// A default error route, below a route with this many levels left.
-pub fn error_leaf(nodes: &mut u32, levels: u32, weight: u32) -> Result<Tree, ConfigFault>
-    requires counted { nodes.old ≤ 4096 }
-    requires weighs { 0 < weight }
-    ensures gives { Gives (λ t. (t, nodes.new)) result (leaf levels weight Failing nodes.old) }
-    ensures counted { nodes.new ≤ 4096 }
-    ensures fits { IfOk result (λ t. (bound : ℕ) → Fits bound levels weight nodes.old t nodes.new) }
-{
-    if levels == 0 {
+    if below.levels == 0 {
         return Err(ConfigFault::TooDeep);
     }
-    count(nodes, weight)?;
-    Ok(Tree::new(TreeForm::Error))
+    count.add(below.weight)?;
+    Ok(Tree::new(alloc, TreeForm::Error)?)
 }
 
 /// The kind of a type; `UnknownType` where there is none.
@@ -56,7 +41,7 @@ pub fn known_kind(alloc: Global, name: &str) -> Result<Kind, ConfigFault>
 {
     match kind_of(name) {
         Some(kind) => Ok(kind),
-        None => Err(unknown_type(alloc, name)),
+        None => Err(ConfigFault::UnknownType(String::from_str(alloc, name)?)),
     }
 }
 
@@ -66,7 +51,7 @@ pub fn policy_op(alloc: Global, name: &str) -> Result<Op, ConfigFault>
 {
     match op_of(name) {
         Some(op) => Ok(op),
-        None => Err(bad_field(alloc, name)),
+        None => Err(ConfigFault::BadField(String::from_str(alloc, name)?)),
     }
 }
 
@@ -77,7 +62,7 @@ pub fn policy_prefix(alloc: Global, name: &str) -> Result<Key, ConfigFault>
 {
     match Key::read(name.as_bytes()) {
         Ok(key) => Ok(key),
-        Err(_) => Err(bad_prefix(alloc, name)),
+        Err(_) => Err(ConfigFault::BadPrefix(String::from_str(alloc, name)?)),
     }
 }
 
@@ -96,103 +81,87 @@ fn known_pool<'a>(
     alloc: Global,
     pools: &'a Pools,
     name: &str,
-) -> Result<&'a [ServerId], ConfigFault>
+) -> Result<&'a [WeightedServer], ConfigFault>
     ensures gives { Gives (λ s. s.now) result (known_pool name.now (servers_of name.now pools.now.0)) }
-    ensures sized { IfOk result (λ s. (0 < length s.now) × (length s.now ≤ 1024)) }
-    ensures below { IfOk result (λ s. AllBelow (length pools.now.1) s.now) }
+    ensures good { IfOk result (λ s. IsPool (length pools.now.1) s.now) }
 {
     match pools.servers_of(name) {
         Some(servers) => Ok(servers),
-        None => Err(no_pool(alloc, name)),
+        None => Err(ConfigFault::NoPool(String::from_str(alloc, name)?)),
     }
 }
 
-/// The route by slots over a pool; `NoPool` where there is none of this name.
+/// The route over a pool's slots; `NoPool` where there is none of this name.
 pub fn pool_route(alloc: Global, pools: &Pools, name: &str) -> Result<TreeForm, ConfigFault>
     ensures gives { (n : ℕ) → Gives (λ f. (route_of_form f, n)) result (pool_route pools.now.0 name.now n) }
     ensures leaf { IfOk result (λ f. IsLeaf (length pools.now.1) (route_of_form f)) }
 {
     let servers = known_pool(alloc, pools, name)?;
-    Ok(TreeForm::Pool(servers.to_vec(alloc)?))
+    Ok(TreeForm::Pool(slots_of(alloc, servers)?))
 }
 
-/// One child for each server of a pool; `NoPool` where there is none of this name.
+/// One child for each text of a pool, whatever its weight; `NoPool` where there is none of this name.
 pub fn server_routes(
     alloc: Global,
     pools: &Pools,
-    nodes: &mut u32,
-    levels: u32,
-    weight: u32,
+    count: &mut RouteCount,
+    below: Below,
     name: &str,
 ) -> Result<Vec<Tree>, ConfigFault>
-    requires counted { nodes.old ≤ 4096 }
-    requires weighs { 0 < weight }
-    ensures gives { Gives (λ v. (v.items, nodes.new)) result (server_routes pools.now.0 levels weight name.now nodes.old) }
-    ensures counted { nodes.new ≤ 4096 }
-    ensures fits { IfOk result (λ v. AllFit (length pools.now.1) levels weight nodes.old v.items nodes.new) }
+    ensures gives { Gives (λ v. (v.items, count.new.routes)) result (server_routes pools.now.0 below.levels below.weight name.now count.old.routes) }
+    ensures fits { IfOk result (λ v. AllFit (length pools.now.1) below.levels below.weight count.old.routes v.items count.new.routes) }
     ensures some { IfOk result (λ v. 0 < length v.items) }
 {
     let servers = known_pool(alloc, pools, name)?;
-    each_server(alloc, pools, nodes, levels, weight, servers)
+    each_server(alloc, pools, count, below, servers)
 }
 
 fn each_server(
     alloc: Global,
     pools: &Pools,
-    nodes: &mut u32,
-    levels: u32,
-    weight: u32,
-    servers: &[ServerId],
+    count: &mut RouteCount,
+    below: Below,
+    servers: &[WeightedServer],
 ) -> Result<Vec<Tree>, ConfigFault>
-    requires counted { nodes.old ≤ 4096 }
-    requires weighs { 0 < weight }
     requires some { 0 < length servers.now }
-    requires below { AllBelow (length pools.now.1) servers.now }
-    ensures gives { Gives (λ v. (v.items, nodes.new)) result (each (λ s. leaf levels weight (Server s)) servers.now nodes.old) }
-    ensures counted { nodes.new ≤ 4096 }
-    ensures fits { IfOk result (λ v. AllFit (length pools.now.1) levels weight nodes.old v.items nodes.new) }
+    requires weighted { AreWeighted (length pools.now.1) servers.now }
+    ensures gives { Gives (λ v. (v.items, count.new.routes)) result (each (λ s. leaf below.levels below.weight (Server s.server)) servers.now count.old.routes) }
+    ensures fits { IfOk result (λ v. AllFit (length pools.now.1) below.levels below.weight count.old.routes v.items count.new.routes) }
     ensures some { IfOk result (λ v. 0 < length v.items) }
 {
     let mut trees = Vec::new(alloc);
     for server in servers {
-        trees.push(server_leaf(nodes, levels, weight, *server)?)?;
+        trees.push(server_leaf(alloc, count, below, server.server)?)?;
     }
     Ok(trees)
 }
 
 fn server_leaf(
-    nodes: &mut u32,
-    levels: u32,
-    weight: u32,
+    alloc: Global,
+    count: &mut RouteCount,
+    below: Below,
     server: ServerId,
 ) -> Result<Tree, ConfigFault>
-    requires counted { nodes.old ≤ 4096 }
-    requires weighs { 0 < weight }
-    ensures gives { Gives (λ t. (t, nodes.new)) result (leaf levels weight (Server server) nodes.old) }
-    ensures counted { nodes.new ≤ 4096 }
-    ensures fits { IfOk result (λ t. (bound : ℕ) → server < bound → Fits bound levels weight nodes.old t nodes.new) }
+    ensures gives { Gives (λ t. (t, count.new.routes)) result (leaf below.levels below.weight (Server server) count.old.routes) }
+    ensures fits { IfOk result (λ t. (bound : ℕ) → server < bound → Fits bound below.levels below.weight count.old.routes t count.new.routes) }
 {
-    if levels == 0 {
+    if below.levels == 0 {
         return Err(ConfigFault::TooDeep);
     }
-    count(nodes, weight)?;
-    Ok(Tree::new(TreeForm::Server(server)))
+    count.add(below.weight)?;
+    Ok(Tree::new(alloc, TreeForm::Server(server))?)
 }
 
 /// The route of a short text; `UnknownType` where there is none of this name.
 pub fn short(
     alloc: Global,
     pools: &Pools,
-    nodes: &mut u32,
-    levels: u32,
-    weight: u32,
+    count: &mut RouteCount,
+    below: Below,
     text: &str,
 ) -> Result<TreeForm, ConfigFault>
-    requires counted { nodes.old ≤ 4096 }
-    requires weighs { 0 < weight }
-    ensures gives { Gives (λ f. (route_of_form f, nodes.new)) result (short pools.now.0 levels weight text.now nodes.old) }
-    ensures counted { nodes.new ≤ 4096 }
-    ensures fits { IfOk result (λ f. NodeFits (length pools.now.1) levels weight nodes.old (route_of_form f) nodes.new) }
+    ensures gives { Gives (λ f. (route_of_form f, count.new.routes)) result (short pools.now.0 below.levels below.weight text.now count.old.routes) }
+    ensures fits { IfOk result (λ f. NodeFits (length pools.now.1) below.levels below.weight count.old.routes (route_of_form f) count.new.routes) }
 {
     if text == "NullRoute" {
         return Ok(TreeForm::Null);
@@ -204,41 +173,29 @@ pub fn short(
         return pool_route(alloc, pools, name);
     }
     if let Some(name) = behind("AllSyncRoute|Pool|", text) {
-        return short_list(alloc, pools, nodes, levels, weight, Lists::AllSync, name);
+        return short_list(alloc, pools, count, below, Lists::AllSync, name);
     }
     if let Some(name) = behind("FailoverRoute|Pool|", text) {
-        return short_list(alloc, pools, nodes, levels, weight, Lists::Failover, name);
+        return short_list(alloc, pools, count, below, Lists::Failover, name);
     }
     if let Some(name) = behind("MissFailoverRoute|Pool|", text) {
-        return short_list(
-            alloc,
-            pools,
-            nodes,
-            levels,
-            weight,
-            Lists::MissFailover,
-            name,
-        );
+        return short_list(alloc, pools, count, below, Lists::MissFailover, name);
     }
-    Err(unknown_type(alloc, text))
+    Err(ConfigFault::UnknownType(String::from_str(alloc, text)?))
 }
 
 fn short_list(
     alloc: Global,
     pools: &Pools,
-    nodes: &mut u32,
-    levels: u32,
-    weight: u32,
+    count: &mut RouteCount,
+    below: Below,
     lists: Lists,
     name: &str,
 ) -> Result<TreeForm, ConfigFault>
-    requires counted { nodes.old ≤ 4096 }
-    requires weighs { 0 < weight }
-    ensures gives { Gives (λ f. (route_of_form f, nodes.new)) result (short_list pools.now.0 lists levels weight name.now nodes.old) }
-    ensures counted { nodes.new ≤ 4096 }
-    ensures fits { IfOk result (λ f. NodeFits (length pools.now.1) levels weight nodes.old (route_of_form f) nodes.new) }
+    ensures gives { Gives (λ f. (route_of_form f, count.new.routes)) result (short_list pools.now.0 lists below.levels below.weight name.now count.old.routes) }
+    ensures fits { IfOk result (λ f. NodeFits (length pools.now.1) below.levels below.weight count.old.routes (route_of_form f) count.new.routes) }
 {
-    let trees = server_routes(alloc, pools, nodes, levels, weight, name)?;
+    let trees = server_routes(alloc, pools, count, below, name)?;
     Ok(listed(lists, trees))
 }
 
@@ -246,20 +203,16 @@ fn short_list(
 pub fn text_children(
     alloc: Global,
     pools: &Pools,
-    nodes: &mut u32,
-    levels: u32,
-    weight: u32,
+    count: &mut RouteCount,
+    below: Below,
     text: &str,
 ) -> Result<Vec<Tree>, ConfigFault>
-    requires counted { nodes.old ≤ 4096 }
-    requires weighs { 0 < weight }
-    ensures gives { Gives (λ v. (v.items, nodes.new)) result (text_children pools.now.0 levels weight (behind (codes "Pool|") text.now) nodes.old) }
-    ensures counted { nodes.new ≤ 4096 }
-    ensures fits { IfOk result (λ v. AllFit (length pools.now.1) levels weight nodes.old v.items nodes.new) }
+    ensures gives { Gives (λ v. (v.items, count.new.routes)) result (text_children pools.now.0 below.levels below.weight (behind (codes "Pool|") text.now) count.old.routes) }
+    ensures fits { IfOk result (λ v. AllFit (length pools.now.1) below.levels below.weight count.old.routes v.items count.new.routes) }
     ensures some { IfOk result (λ v. 0 < length v.items) }
 {
     match behind("Pool|", text) {
-        Some(name) => server_routes(alloc, pools, nodes, levels, weight, name),
-        None => Err(bad_field(alloc, "children")),
+        Some(name) => server_routes(alloc, pools, count, below, name),
+        None => Err(ConfigFault::BadField(String::from_str(alloc, "children")?)),
     }
 }

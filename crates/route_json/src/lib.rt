@@ -8,6 +8,7 @@ pub mod laws;
 mod leaf;
 mod numbering;
 pub mod one_pool;
+mod place;
 mod pools;
 mod route;
 mod selector;

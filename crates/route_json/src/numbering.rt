@@ -1,31 +1,35 @@
-// Numbers of the servers that a configuration names.
+//! The servers that a configuration names, numbered by their addresses.
 
 ghost use Rattle.std.specs.Prelude.{◌≡◌, ◌<◌, ◌≤◌, IfOk, length};
 ghost use Rattle.route_json.specs.Fault.{Gives};
 ghost use Rattle.route_json.specs.Servers.{numbered, server_of_text};
 
-use crate::fault::{ConfigFault, bad_address, too_many_servers};
+use crate::fault::ConfigFault;
+use crate::pools::WeightedServer;
 use mc_types::ServerId;
 use server_addresses::servers::MAX_SERVERS;
-use server_addresses::{Servers, is_address};
+use server_addresses::{Servers, read_server};
 use std::alloc::Global;
 
-/// The number of a server's text in the list of this pool: a new address goes last. `BadAddress` where the text is none,
+/// The server of a text in the list of this pool: a new address goes last. `BadAddress` where the text says no server,
 /// and `TooManyServers` where there is no room for it.
-pub fn number_text(
+pub fn server_of_text(
     alloc: Global,
     servers: &mut Servers,
     pool: &str,
     text: &str,
-) -> Result<ServerId, ConfigFault>
-    ensures gives { Gives (λ n. (n, servers.new)) result (server_of_text pool.now text.now servers.old) }
-    ensures below { IfOk result (λ n. n < length servers.new) }
+) -> Result<WeightedServer, ConfigFault>
+    ensures gives { Gives (λ s. (s, servers.new)) result (server_of_text pool.now text.now servers.old) }
+    ensures below { IfOk result (λ s. s.server < length servers.new) }
+    ensures weight { IfOk result (λ s. (0 < s.weight) × (s.weight ≤ 16)) }
     ensures more { length servers.old ≤ length servers.new }
 {
-    if is_address(text.as_bytes()) {
-        number(alloc, servers, pool, text)
-    } else {
-        Err(bad_address(alloc, text))
+    match read_server(text) {
+        Some((address, weight)) => {
+            let server = number(alloc, servers, pool, address)?;
+            Ok(WeightedServer { server, weight })
+        }
+        None => Err(ConfigFault::BadAddress(String::from_str(alloc, text)?)),
     }
 }
 
@@ -43,7 +47,7 @@ fn number(
         return Ok(server);
     }
     if servers.len() >= MAX_SERVERS {
-        return Err(too_many_servers(alloc, pool));
+        return Err(ConfigFault::TooManyServers(String::from_str(alloc, pool)?));
     }
     Ok(servers.push(alloc, address)?)
 }

@@ -1,3 +1,5 @@
+//! The configuration of one pool.
+
 ghost use Rattle.std.specs.Prelude.{◌≡◌, ◌<◌, ◌≤◌, IfOk};
 ghost use Rattle.route_json.specs.PoolConfiguration.{pool_configuration};
 
@@ -20,6 +22,7 @@ impl Config {
             let address = format!(in alloc; "s{number}:1")?;
             pool.push(addresses.push(alloc, &address)?)?;
         }
-        Ok(Config::new(Tree::new(TreeForm::Pool(pool)), addresses))
+        let tree = Tree::new(alloc, TreeForm::Pool(pool))?;
+        Ok(Config::new(tree, addresses))
     }
 }

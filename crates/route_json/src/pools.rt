@@ -1,30 +1,42 @@
-ghost use Rattle.std.specs.Prelude.{◌≡◌, ℕ, ◌<◌, ◌≤◌, IfOk, IfSome, length, option_map};
+//! Pools of servers: their servers in order, and their slots.
+
+ghost use Rattle.std.specs.Prelude.{◌≡◌, ◌++◌, ℕ, ◌<◌, ◌≤◌, IfOk, IfSome, length, option_map, replicate};
 ghost use Rattle.serde_json.specs.View.{view, items_view, members_view};
 ghost use Rattle.route_json.specs.Fault.{Gives};
-ghost use Rattle.route_json.specs.Pools.{pools_of, AllBelow, ArePools, servers_of, server_of, numbers_of, pool_object, pool_of, pools_in};
+ghost use Rattle.route_json.specs.Pools.{pools_of, slots_of, AreWeighted, IsPool, ArePools, servers_of, server_of, few_slots, servers_in, pool_list, pool_object, pool_of, pools_in};
 ghost use Rattle.route_json.specs.Reading.{each, values};
 
-use crate::fault::{ConfigFault, bad_field, empty_pool, too_many_servers};
+use crate::fault::ConfigFault;
 use crate::fields::{list_field, only};
-use crate::numbering::number_text;
+use crate::numbering::server_of_text;
 use mc_types::ServerId;
 use route_names::Holder;
 use serde_json::{Map, Value};
 use server_addresses::Servers;
-use std::alloc::Global;
+use std::alloc::{AllocError, Global};
 use std::marker::Model;
 
-/// The most servers that a pool may have.
+/// The most texts of servers that a pool may have.
 const MAX_POOL: usize = 1024;
+
+/// The most slots that a pool may have.
+const MAX_SLOTS: u32 = 2048;
+
+/// A server of a pool, as one of its texts says it: it has so many slots in a row.
+#[derive(Clone, Copy)]
+pub struct WeightedServer {
+    pub server: ServerId,
+    pub weight: u32,
+}
 
 /// A pool of servers, in order.
 #[derive(Drop)]
 pub struct Pool {
     pub name: String,
-    pub servers: Vec<ServerId>,
+    pub servers: Vec<WeightedServer>,
 }
 
-/// The pools of a configuration and its servers. No pool is empty or has more than 1,024 servers.
+/// The pools of a configuration and its servers. No pool is empty or has more than 2,048 slots.
 #[derive(Drop)]
 pub struct Pools {
     list: Vec<Pool>,
@@ -33,10 +45,10 @@ pub struct Pools {
 
 impl Model for Pools {
     ghost use Rattle.std.specs.Prelude.{List, ℕ, length};
-    ghost use Rattle.route_json.specs.Pools.{pools_of, ArePools};
+    ghost use Rattle.route_json.specs.Pools.{Pools, pools_of, ArePools};
     ghost use Rattle.route_json.specs.Servers.{Addresses};
 
-    ghost Value = { List (List ℕ × List ℕ) × Addresses };
+    ghost Value = { Pools × Addresses };
 
     ghost view = { λ a. (pools_of a.list.items, a.servers) };
 
@@ -44,7 +56,7 @@ impl Model for Pools {
 }
 
 impl Pools {
-    /// The pools of an object, with their servers numbered behind these; or the first fault, pools in byte order of their
+    /// The pools of an object, with their servers numbered after these; or the first fault, pools in byte order of their
     /// names.
     pub fn read(
         alloc: Global,
@@ -67,11 +79,10 @@ impl Pools {
         Ok(Pools { list, servers })
     }
 
-    /// The servers of the pool of this name.
-    pub fn servers_of(&self, name: &str) -> Option<&[ServerId]>
+    /// The servers of the pool of this name, one for each of its texts.
+    pub fn servers_of(&self, name: &str) -> Option<&[WeightedServer]>
         ensures found { option_map (λ s. s.now) result ≡ servers_of name.now self.now.0 }
-        ensures sized { IfSome result (λ s. (0 < length s.now) × (length s.now ≤ 1024)) }
-        ensures below { IfSome result (λ s. AllBelow (length self.now.1) s.now) }
+        ensures good { IfSome result (λ s. IsPool (length self.now.1) s.now) }
     {
         find(&self.list, name)
     }
@@ -84,9 +95,41 @@ impl Pools {
     }
 }
 
-fn find<'a>(list: &'a [Pool], name: &str) -> Option<&'a [ServerId]>
+/// The slots of a pool: each server as often in a row as its weight says. The only error is out of memory.
+pub fn slots_of(alloc: Global, servers: &[WeightedServer]) -> Result<Vec<ServerId>, AllocError>
+    ensures { IfOk result (λ v. v.items ≡ slots_of servers.now) }
+{
+    let mut slots = Vec::new(alloc);
+    for server in servers {
+        push_slots(&mut slots, *server)?;
+    }
+    Ok(slots)
+}
+
+fn push_slots(slots: &mut Vec<ServerId>, server: WeightedServer) -> Result<(), AllocError>
+    ensures { IfOk result (λ _. slots.new.items ≡ slots.old.items ++ replicate server.weight server.server) }
+{
+    for _slot in 0..server.weight {
+        slots.push(server.server)?;
+    }
+    Ok(())
+}
+
+fn slot_count(servers: &[WeightedServer]) -> u32
+    requires few { length servers.now ≤ 1024 }
+    requires light { (bound : ℕ) × AreWeighted bound servers.now }
+    ensures { result ≡ length (slots_of servers.now) }
+{
+    let mut count = 0;
+    for server in servers {
+        count += server.weight;
+    }
+    count
+}
+
+fn find<'a>(list: &'a [Pool], name: &str) -> Option<&'a [WeightedServer]>
     ensures found { option_map (λ s. s.now) result ≡ servers_of name.now (pools_of list.now) }
-    ensures good { (bound : ℕ) → ArePools bound (pools_of list.now) → IfSome result (λ s. (0 < length s.now) × (length s.now ≤ 1024) × AllBelow bound s.now) }
+    ensures good { (bound : ℕ) → ArePools bound (pools_of list.now) → IfSome result (λ s. IsPool bound s.now) }
 {
     match list {
         [] => None,
@@ -105,15 +148,14 @@ fn read_pool(
     servers: &mut Servers,
     name: &str,
     value: &Value,
-) -> Result<Vec<ServerId>, ConfigFault>
+) -> Result<Vec<WeightedServer>, ConfigFault>
     ensures gives { Gives (λ v. (v.items, servers.new)) result (pool_of name.now (view value.now) servers.old) }
-    ensures sized { IfOk result (λ v. (0 < length v.items) × (length v.items ≤ 1024)) }
-    ensures below { IfOk result (λ v. AllBelow (length servers.new) v.items) }
+    ensures good { IfOk result (λ v. IsPool (length servers.new) v.items) }
     ensures more { length servers.old ≤ length servers.new }
 {
     match value {
         Value::Object(_) => read_pool_object(alloc, servers, name, value),
-        _ => Err(bad_field(alloc, name)),
+        _ => Err(ConfigFault::BadField(String::from_str(alloc, name)?)),
     }
 }
 
@@ -122,35 +164,52 @@ fn read_pool_object(
     servers: &mut Servers,
     name: &str,
     value: &Value,
-) -> Result<Vec<ServerId>, ConfigFault>
+) -> Result<Vec<WeightedServer>, ConfigFault>
     ensures gives { Gives (λ v. (v.items, servers.new)) result (pool_object name.now (view value.now) servers.old) }
-    ensures sized { IfOk result (λ v. (0 < length v.items) × (length v.items ≤ 1024)) }
-    ensures below { IfOk result (λ v. AllBelow (length servers.new) v.items) }
+    ensures good { IfOk result (λ v. IsPool (length servers.new) v.items) }
     ensures more { length servers.old ≤ length servers.new }
 {
     only(alloc, Holder::Pool, value)?;
     let items = list_field(alloc, "servers", value)?;
-    read_numbers(alloc, servers, name, items)
+    read_list(alloc, servers, name, items)
 }
 
-fn read_numbers(
+fn read_list(
     alloc: Global,
     servers: &mut Servers,
     name: &str,
     items: &[Value],
-) -> Result<Vec<ServerId>, ConfigFault>
-    ensures gives { Gives (λ v. (v.items, servers.new)) result (numbers_of name.now (values (items_view items.now)) servers.old) }
-    ensures sized { IfOk result (λ v. (0 < length v.items) × (length v.items ≤ 1024)) }
-    ensures below { IfOk result (λ v. AllBelow (length servers.new) v.items) }
+) -> Result<Vec<WeightedServer>, ConfigFault>
+    ensures gives { Gives (λ v. (v.items, servers.new)) result (pool_list name.now (values (items_view items.now)) servers.old) }
+    ensures good { IfOk result (λ v. IsPool (length servers.new) v.items) }
     ensures more { length servers.old ≤ length servers.new }
 {
     if items.is_empty() {
-        return Err(empty_pool(alloc, name));
+        return Err(ConfigFault::EmptyPool(String::from_str(alloc, name)?));
     }
     if items.len() > MAX_POOL {
-        return Err(too_many_servers(alloc, name));
+        return Err(ConfigFault::TooManyServers(String::from_str(alloc, name)?));
     }
-    read_each(alloc, servers, name, items)
+    read_servers(alloc, servers, name, items)
+}
+
+fn read_servers(
+    alloc: Global,
+    servers: &mut Servers,
+    name: &str,
+    items: &[Value],
+) -> Result<Vec<WeightedServer>, ConfigFault>
+    requires some { 0 < length items.now }
+    requires few { length items.now ≤ 1024 }
+    ensures gives { Gives (λ v. (v.items, servers.new)) result (servers_in name.now (values (items_view items.now)) servers.old) }
+    ensures good { IfOk result (λ v. IsPool (length servers.new) v.items) }
+    ensures more { length servers.old ≤ length servers.new }
+{
+    let pool = read_each(alloc, servers, name, items)?;
+    if slot_count(&pool) > MAX_SLOTS {
+        return Err(ConfigFault::TooManySlots(String::from_str(alloc, name)?));
+    }
+    Ok(pool)
 }
 
 fn read_each(
@@ -158,18 +217,18 @@ fn read_each(
     servers: &mut Servers,
     name: &str,
     items: &[Value],
-) -> Result<Vec<ServerId>, ConfigFault>
+) -> Result<Vec<WeightedServer>, ConfigFault>
     ensures gives { Gives (λ v. (v.items, servers.new)) result (each (server_of name.now) (values (items_view items.now)) servers.old) }
     ensures many { IfOk result (λ v. length v.items ≡ length items.now) }
-    ensures below { IfOk result (λ v. AllBelow (length servers.new) v.items) }
+    ensures below { IfOk result (λ v. AreWeighted (length servers.new) v.items) }
     ensures more { length servers.old ≤ length servers.new }
 {
-    let mut numbers = Vec::new(alloc);
+    let mut pool = Vec::new(alloc);
     for item in items {
         let server = read_server(alloc, servers, name, item)?;
-        numbers.push(server)?;
+        pool.push(server)?;
     }
-    Ok(numbers)
+    Ok(pool)
 }
 
 fn read_server(
@@ -177,13 +236,14 @@ fn read_server(
     servers: &mut Servers,
     name: &str,
     value: &Value,
-) -> Result<ServerId, ConfigFault>
-    ensures gives { Gives (λ n. (n, servers.new)) result (server_of name.now (view value.now) servers.old) }
-    ensures below { IfOk result (λ n. n < length servers.new) }
+) -> Result<WeightedServer, ConfigFault>
+    ensures gives { Gives (λ s. (s, servers.new)) result (server_of name.now (view value.now) servers.old) }
+    ensures below { IfOk result (λ s. s.server < length servers.new) }
+    ensures weight { IfOk result (λ s. (0 < s.weight) × (s.weight ≤ 16)) }
     ensures more { length servers.old ≤ length servers.new }
 {
     match value {
-        Value::String(text) => number_text(alloc, servers, name, text.as_str()),
-        _ => Err(bad_field(alloc, "servers")),
+        Value::String(text) => server_of_text(alloc, servers, name, text.as_str()),
+        _ => Err(ConfigFault::BadField(String::from_str(alloc, "servers")?)),
     }
 }

@@ -1,4 +1,4 @@
-// Selectors by operation and by prefix, read from JSON values.
+//! Selectors by operation and by prefix, read from JSON values.
 
 ghost use Rattle.std.specs.Prelude.{◌≡◌, ◌<◌, ◌≤◌, IfOk, length};
 ghost use Rattle.serde_json.specs.View.{view, members_view};
@@ -12,6 +12,7 @@ ghost use Rattle.route_json.specs.Routes.{policy_op, prefix_of, default_of, by_o
 use crate::fault::ConfigFault;
 use crate::fields::object_field;
 use crate::leaf::{error_leaf, policy_op, policy_prefix};
+use crate::place::{Below, Place, RouteCount};
 use crate::pools::Pools;
 use crate::route::route;
 use mc_types::{Key, Op};
@@ -24,22 +25,16 @@ use std::alloc::Global;
 pub fn by_operation(
     alloc: Global,
     pools: &Pools,
-    nodes: &mut u32,
-    levels: u32,
-    weight: u32,
+    count: &mut RouteCount,
+    below: Below,
     value: &Value,
 ) -> Result<TreeForm, ConfigFault>
-    requires counted { nodes.old ≤ 4096 }
-    requires weighs { 0 < weight }
-    requires light { weight ≤ 4096 }
-    requires levels { levels < 32 }
-    ensures gives { Gives (λ r. (route_of_form r, nodes.new)) result (by_operation pools.now.0 levels weight (route pools.now.0 levels) (view value.now) nodes.old) }
-    ensures counted { nodes.new ≤ 4096 }
-    ensures fits { IfOk result (λ r. NodeFits (length pools.now.1) levels weight nodes.old (route_of_form r) nodes.new) }
+    ensures gives { Gives (λ r. (route_of_form r, count.new.routes)) result (by_operation pools.now.0 below.levels below.weight (route pools.now.0 below.levels) (view value.now) count.old.routes) }
+    ensures fits { IfOk result (λ r. NodeFits (length pools.now.1) below.levels below.weight count.old.routes (route_of_form r) count.new.routes) }
 {
     let map = object_field(alloc, "operation_policies", value)?;
-    let policies = operations(alloc, pools, nodes, levels, weight, map)?;
-    let default = default_route(alloc, pools, nodes, levels, weight, "default_policy", value)?;
+    let policies = operations(alloc, pools, count, below, map)?;
+    let default = default_route(alloc, pools, count, below, "default_policy", value)?;
     let default = Box::new(alloc, default)?;
     Ok(TreeForm::ByOperation { policies, default })
 }
@@ -49,22 +44,16 @@ pub fn by_operation(
 pub fn by_prefix(
     alloc: Global,
     pools: &Pools,
-    nodes: &mut u32,
-    levels: u32,
-    weight: u32,
+    count: &mut RouteCount,
+    below: Below,
     value: &Value,
 ) -> Result<TreeForm, ConfigFault>
-    requires counted { nodes.old ≤ 4096 }
-    requires weighs { 0 < weight }
-    requires light { weight ≤ 4096 }
-    requires levels { levels < 32 }
-    ensures gives { Gives (λ r. (route_of_form r, nodes.new)) result (by_prefix pools.now.0 levels weight (route pools.now.0 levels) (view value.now) nodes.old) }
-    ensures counted { nodes.new ≤ 4096 }
-    ensures fits { IfOk result (λ r. NodeFits (length pools.now.1) levels weight nodes.old (route_of_form r) nodes.new) }
+    ensures gives { Gives (λ r. (route_of_form r, count.new.routes)) result (by_prefix pools.now.0 below.levels below.weight (route pools.now.0 below.levels) (view value.now) count.old.routes) }
+    ensures fits { IfOk result (λ r. NodeFits (length pools.now.1) below.levels below.weight count.old.routes (route_of_form r) count.new.routes) }
 {
     let map = object_field(alloc, "policies", value)?;
-    let policies = prefixes(alloc, pools, nodes, levels, weight, map)?;
-    let wildcard = default_route(alloc, pools, nodes, levels, weight, "wildcard", value)?;
+    let policies = prefixes(alloc, pools, count, below, map)?;
+    let wildcard = default_route(alloc, pools, count, below, "wildcard", value)?;
     let wildcard = Box::new(alloc, wildcard)?;
     Ok(TreeForm::ByPrefix { policies, wildcard })
 }
@@ -74,23 +63,21 @@ pub fn by_prefix(
 fn default_route(
     alloc: Global,
     pools: &Pools,
-    nodes: &mut u32,
-    levels: u32,
-    weight: u32,
+    count: &mut RouteCount,
+    below: Below,
     name: &str,
     value: &Value,
 ) -> Result<Tree, ConfigFault>
-    requires counted { nodes.old ≤ 4096 }
-    requires weighs { 0 < weight }
-    requires light { weight ≤ 4096 }
-    requires levels { levels < 32 }
-    ensures gives { Gives (λ r. (r, nodes.new)) result (default_of pools.now.0 levels weight (route pools.now.0 levels) name.now (get name.now (view value.now)) nodes.old) }
-    ensures counted { nodes.new ≤ 4096 }
-    ensures fits { IfOk result (λ r. Fits (length pools.now.1) levels weight nodes.old r nodes.new) }
+    ensures gives { Gives (λ r. (r, count.new.routes)) result (default_of pools.now.0 below.levels below.weight (route pools.now.0 below.levels) name.now (get name.now (view value.now)) count.old.routes) }
+    ensures fits { IfOk result (λ r. Fits (length pools.now.1) below.levels below.weight count.old.routes r count.new.routes) }
 {
+    let place = Place {
+        levels: below.levels,
+        weight: below.weight,
+    };
     match value.get(name) {
-        Some(child) => route(alloc, pools, nodes, levels, weight, name, child),
-        None => error_leaf(nodes, levels, weight),
+        Some(child) => route(alloc, pools, count, place, name, child),
+        None => error_leaf(alloc, count, below),
     }
 }
 
@@ -98,24 +85,22 @@ fn default_route(
 fn operations(
     alloc: Global,
     pools: &Pools,
-    nodes: &mut u32,
-    levels: u32,
-    weight: u32,
+    count: &mut RouteCount,
+    below: Below,
     map: &Map<String, Value>,
 ) -> Result<Vec<(Op, Tree)>, ConfigFault>
-    requires counted { nodes.old ≤ 4096 }
-    requires weighs { 0 < weight }
-    requires light { weight ≤ 4096 }
-    requires levels { levels < 32 }
-    ensures gives { Gives (λ r. (r.items, nodes.new)) result (each (named policy_op (route pools.now.0 levels weight)) (members (members_view map.now.entries)) nodes.old) }
-    ensures counted { nodes.new ≤ 4096 }
-    ensures fits { IfOk result (λ r. AllFit (length pools.now.1) levels weight nodes.old (seconds r.items) nodes.new) }
+    ensures gives { Gives (λ r. (r.items, count.new.routes)) result (each (named policy_op (route pools.now.0 below.levels below.weight)) (members (members_view map.now.entries)) count.old.routes) }
+    ensures fits { IfOk result (λ r. AllFit (length pools.now.1) below.levels below.weight count.old.routes (seconds r.items) count.new.routes) }
 {
+    let place = Place {
+        levels: below.levels,
+        weight: below.weight,
+    };
     let mut policies = Vec::new(alloc);
     for (name, child) in map.iter() {
         let text = name.as_str();
         let op = policy_op(alloc, text)?;
-        let tree = route(alloc, pools, nodes, levels, weight, text, child)?;
+        let tree = route(alloc, pools, count, place, text, child)?;
         policies.push((op, tree))?;
     }
     Ok(policies)
@@ -125,25 +110,23 @@ fn operations(
 fn prefixes(
     alloc: Global,
     pools: &Pools,
-    nodes: &mut u32,
-    levels: u32,
-    weight: u32,
+    count: &mut RouteCount,
+    below: Below,
     map: &Map<String, Value>,
 ) -> Result<Vec<(Key, Tree)>, ConfigFault>
-    requires counted { nodes.old ≤ 4096 }
-    requires weighs { 0 < weight }
-    requires light { weight ≤ 4096 }
-    requires levels { levels < 32 }
-    ensures gives { Gives (λ r. (r.items, nodes.new)) result (each (named prefix_of (route pools.now.0 levels weight)) (members (members_view map.now.entries)) nodes.old) }
-    ensures counted { nodes.new ≤ 4096 }
-    ensures fits { IfOk result (λ r. AllFit (length pools.now.1) levels weight nodes.old (seconds r.items) nodes.new) }
+    ensures gives { Gives (λ r. (r.items, count.new.routes)) result (each (named prefix_of (route pools.now.0 below.levels below.weight)) (members (members_view map.now.entries)) count.old.routes) }
+    ensures fits { IfOk result (λ r. AllFit (length pools.now.1) below.levels below.weight count.old.routes (seconds r.items) count.new.routes) }
     ensures keys { IfOk result (λ r. AreKeys r.items) }
 {
+    let place = Place {
+        levels: below.levels,
+        weight: below.weight,
+    };
     let mut policies = Vec::new(alloc);
     for (name, child) in map.iter() {
         let text = name.as_str();
         let prefix = policy_prefix(alloc, text)?;
-        let tree = route(alloc, pools, nodes, levels, weight, text, child)?;
+        let tree = route(alloc, pools, count, place, text, child)?;
         policies.push((prefix, tree))?;
     }
     Ok(policies)

@@ -1,3 +1,5 @@
+//! Worked examples.
+
 use super::*;
 use mc_types::{Op, ServerId};
 use route_tree::{Tree, TreeForm};
@@ -28,6 +30,9 @@ fn server_lists() -> &'static str {
 ["h:0"] => bad address h:0
 ["h 1:1"] => bad address h 1:1
 ["h:1","h:1"] => accepted
+["h:1:16","h:1:1"] => accepted
+["h:1:17"] => bad address h:1:17
+["h:1:0"] => bad address h:1:0
 ["a:1",5,"h:0"] => bad field servers
 ["h:0",5] => bad address h:0
 5 => bad field servers"#
@@ -344,6 +349,55 @@ fn lengths(rt: HostRuntime) -> Result<(), Fail> {
         let list = between(alloc, first, more.as_str(), "]")?;
         let text = with_servers(alloc, list.as_str())?;
         assert_eq!(rt; printed(alloc, text.as_str())?.as_str(), want, "at {count}");
+    }
+    Ok(())
+}
+
+// A list of so many texts of weight 16, and then this text.
+fn heavy_servers(alloc: Global, count: u32, last: &str) -> Result<String, Fail> {
+    let all = times(alloc, r#""h:1:16","#, count)?;
+    between(alloc, "[", all.as_str(), last)
+}
+
+#[test]
+fn weight_texts(rt: HostRuntime) -> Result<(), Fail> {
+    let alloc = rt.alloc();
+    for (count, last, want) in [
+        (127, r#""h:2:16"]"#, "accepted"),
+        (127, r#""h:2:15","h:3"]"#, "accepted"),
+        (128, r#""h:2"]"#, "too many slots in A"),
+        (128, r#""h:0"]"#, "bad address h:0"),
+        (1024, r#""h:2"]"#, "too many servers in A"),
+    ] {
+        let list = heavy_servers(alloc, count, last)?;
+        let text = with_servers(alloc, list.as_str())?;
+        assert_eq!(rt;
+            printed(alloc, text.as_str())?.as_str(),
+            want,
+            "at {count} {last}"
+        );
+    }
+    Ok(())
+}
+
+// Routes over pool W of a server of weight 2 and one of weight 1.
+fn weighted_set_ups() -> &'static str {
+    r#""PoolRoute|W" => Pool h:1 h:1 h:2
+"AllSyncRoute|Pool|W" => AllSync; Server h:1; Server h:2
+{"type":"FailoverRoute","children":"Pool|W"} => Failover; Server h:1; Server h:2
+"MissFailoverRoute|Pool|W" => MissFailover; Server h:1; Server h:2"#
+}
+
+#[test]
+fn weighted_pools(rt: HostRuntime) -> Result<(), Fail> {
+    let alloc = rt.alloc();
+    for line in weighted_set_ups().lines() {
+        let (route, want) = parts(line);
+        let front = r#"{"pools":{"W":{"servers":["h:1:2","h:2"]}},"route":"#;
+        let text = between(alloc, front, route, "}")?;
+        let config = read_config(alloc, text.as_str())?;
+        assert_eq!(rt; shown(alloc, &config)?.as_str(), want, "at {route}");
+        assert_eq!(rt; config.servers().len(), 2);
     }
     Ok(())
 }

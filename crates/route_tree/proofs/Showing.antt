@@ -44,7 +44,7 @@ pub get_back : (xs ys : List Call) (i : ℕ) (x : Call) → slice_get ys i ≡ S
 get_back [] ys i x h = let e : length {A = Call} [] + i ≡ i = omega arith in subst (λ n. slice_get ys n ≡ Some x) (sym e) h
 get_back (y ∷ xs) ys i x h = let e : length (y ∷ xs) + i ≡ suc (length xs + i) = omega arith in subst (λ n. slice_get (y ∷ (xs ++ ys)) n ≡ Some x) (sym e) (get_back xs ys i x h)
 
-answer_there : (calls more : List Call) (i j : ℕ) (reply : Answer) → ((x : Call) → slice_get calls i ≡ Some x → slice_get more j ≡ Some x) → IsAnswerOf calls i reply → IsAnswerOf more j reply
+pub answer_there : (calls more : List Call) (i j : ℕ) (reply : Answer) → ((x : Call) → slice_get calls i ≡ Some x → slice_get more j ≡ Some x) → IsAnswerOf calls i reply → IsAnswerOf more j reply
 answer_there calls more i j reply there h = record { call = h.call; made = there h.call h.made; answered = h.answered; asked = h.asked; fits = h.fits; showing = h.showing }
 
 pub found_front : (b : ℕ) (calls front back : List Call) (given : Given) → calls ≡ front ++ back → Found b front given → Found b calls given
@@ -60,7 +60,7 @@ found_back b calls front back given e h =
     (λ i k. (length front + k.0, (let n = k.1 in omega arith), answer_there back (front ++ back) k.0 (length front + k.0) given.reply (get_back front back k.0) k.2)) h)
 
 -- each reply of the part is found among its calls
-abbrev Finds : (ℕ → List Call → Given → Type 0) → Type 0
+abbrev pub Finds : (ℕ → List Call → Given → Type 0) → Type 0
 Finds part = (b : ℕ) (calls : List Call) (given : Given) → part b calls given → Found b calls given
 
 -- no reply without a call shows anything

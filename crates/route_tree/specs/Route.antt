@@ -38,9 +38,9 @@ IsNotEmpty End = ⊥
 IsNotEmpty (More r rs) = Unit {0}
 
 abbrev mutual
-  -- no list of children and no pool is empty, no pool has more than 1,024 servers, and each prefix is a key
+  -- no list of children and no pool is empty, no pool has more than 2,048 slots, and each prefix is a key
   pub IsGood : Route → Type 0
-  IsGood (Pool servers) = (0 < length servers) × (length servers ≤ 1024)
+  IsGood (Pool servers) = (0 < length servers) × (length servers ≤ 2048)
   IsGood (Server s) = Unit {0}
   IsGood Null = Unit {0}
   IsGood Failing = Unit {0}

@@ -37,7 +37,7 @@ abbrev mutual
   route_to (route.ByPrefix ps) = gcons (gnum 9) (prefixes_route_to ps)
 
   -- children as numbers
-  all_route_to : Routes → Gv
+  pub all_route_to : Routes → Gv
   all_route_to route.End = gnil
   all_route_to (route.More p ps) = gcons (route_to p) (all_route_to ps)
 
@@ -66,7 +66,7 @@ abbrev mutual
   route_from _ = route.Null
 
   -- the children of these numbers
-  all_route_from : Gv → Routes
+  pub all_route_from : Gv → Routes
   all_route_from (gcons p ps) = route.More (route_from p) (all_route_from ps)
   all_route_from _ = route.End
 
@@ -97,7 +97,7 @@ mutual
   route_back (route.ByPrefix ps) = λ i. route.ByPrefix (prefixes_route_back ps i)
 
   -- so are children
-  all_route_back : (ps : Routes) → all_route_from (all_route_to ps) ≡ ps
+  pub all_route_back : (ps : Routes) → all_route_from (all_route_to ps) ≡ ps
   all_route_back route.End = refl
   all_route_back (route.More p ps) = λ i. route.More (route_back p i) (all_route_back ps i)
 
@@ -114,6 +114,10 @@ mutual
 -- two trees with the same numbers are the same
 abbrev pub route_code : Coded Route
 route_code = code_by Gv itself route_to route_from route_back
+
+-- so are children
+abbrev pub routes_code : Coded Routes
+routes_code = code_by Gv itself all_route_to all_route_from all_route_back
 
 abbrev mutual
   -- the size of a tree, greater than that of each child

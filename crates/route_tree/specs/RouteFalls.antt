@@ -36,5 +36,5 @@ falls (WarmUp c w e) = omega arith
 falls (ByOperation ps d) = omega (arith, policies_most ps.items d.value)
 falls (ByPrefix ps d) = omega (arith, prefixes_most ps.items d.value)
 
-pub route_falls : (a : Inside) → IsTree (route_of_form a.form) → max (deep-TreeForm a.form) 0 ≤ route_size (route_of_form a.form)
-route_falls a h = falls a.form
+pub route_falls : (a : Inside) → IsTree (route_of_form a.form.value) → max (deep-TreeForm a.form.value) 0 ≤ route_size (route_of_form a.form.value)
+route_falls a h = falls a.form.value

@@ -16,10 +16,10 @@ fn key_of(text: &[u8]) -> Option<Key>
     Key::read(text).ok()
 }
 
-fn leaf(number: u32) -> Tree
-    ensures { result ≡ route.Server number }
+fn leaf(alloc: Global, number: u32) -> Result<Tree, AllocError>
+    ensures { IfOk result (λ tree. tree ≡ route.Server number) }
 {
-    Tree::new(TreeForm::Server(ServerId::new(number)))
+    Tree::new(alloc, TreeForm::Server(ServerId::new(number)))
 }
 
 // The server that the plain tree is, if it is one.
@@ -35,9 +35,9 @@ fn by_prefix(alloc: Global, a: Key, ab: Key) -> Result<Tree, AllocError>
     requires a { IsKey a }
     requires ab { IsKey ab }
 {
-    let policies = vec![in alloc; (a, leaf(0)), (ab, leaf(1))]?;
-    let wildcard = Box::new(alloc, leaf(2))?;
-    Ok(Tree::new(TreeForm::ByPrefix { policies, wildcard }))
+    let policies = vec![in alloc; (a, leaf(alloc, 0)?), (ab, leaf(alloc, 1)?)]?;
+    let wildcard = Box::new(alloc, leaf(alloc, 2)?)?;
+    Tree::new(alloc, TreeForm::ByPrefix { policies, wildcard })
 }
 
 // A key, and the server of the longest policy that begins it.
@@ -77,9 +77,9 @@ fn longest_prefix(rt: HostRuntime) -> Result<(), Fail> {
 fn two_pools(alloc: Global) -> Result<Tree, AllocError> {
     let three = vec![in alloc; ServerId::new(10), ServerId::new(11), ServerId::new(12)]?;
     let two = vec![in alloc; ServerId::new(20), ServerId::new(21)]?;
-    let policies = vec![in alloc; (Op::Delete, Tree::new(TreeForm::Pool(three)))]?;
-    let default = Box::new(alloc, Tree::new(TreeForm::Pool(two)))?;
-    Ok(Tree::new(TreeForm::ByOperation { policies, default }))
+    let policies = vec![in alloc; (Op::Delete, Tree::new(alloc, TreeForm::Pool(three))?)]?;
+    let default = Box::new(alloc, Tree::new(alloc, TreeForm::Pool(two))?)?;
+    Tree::new(alloc, TreeForm::ByOperation { policies, default })
 }
 
 // The servers of a delete and of all else.
@@ -98,7 +98,7 @@ fn two_servers(plain: &Plain) -> Option<(u32, u32)> {
 fn slots_of_pools(rt: HostRuntime) -> Result<(), Fail> {
     let alloc = rt.alloc();
     let tree = two_pools(alloc)?;
-    let copy = tree.copy(alloc)?;
+    let copy = tree.copy()?;
     let cases = [
         (b"a".as_slice(), 4, (11, 20)),
         (b"b".as_slice(), 1, (11, 21)),
@@ -124,18 +124,18 @@ fn slots_of_pools(rt: HostRuntime) -> Result<(), Fail> {
 fn null_for_others(alloc: Global, prefix: Key) -> Result<Tree, AllocError>
     requires { IsKey prefix }
 {
-    let policies = vec![in alloc; (prefix, leaf(0))]?;
-    let wildcard = Box::new(alloc, Tree::new(TreeForm::Null))?;
-    Ok(Tree::new(TreeForm::ByPrefix { policies, wildcard }))
+    let policies = vec![in alloc; (prefix, leaf(alloc, 0)?)]?;
+    let wildcard = Box::new(alloc, Tree::new(alloc, TreeForm::Null)?)?;
+    Tree::new(alloc, TreeForm::ByPrefix { policies, wildcard })
 }
 
 // Keys that begin with the prefix go to no server, the others to server 0.
 fn null_for_prefix(alloc: Global, prefix: Key) -> Result<Tree, AllocError>
     requires { IsKey prefix }
 {
-    let policies = vec![in alloc; (prefix, Tree::new(TreeForm::Null))]?;
-    let wildcard = Box::new(alloc, leaf(0))?;
-    Ok(Tree::new(TreeForm::ByPrefix { policies, wildcard }))
+    let policies = vec![in alloc; (prefix, Tree::new(alloc, TreeForm::Null)?)]?;
+    let wildcard = Box::new(alloc, leaf(alloc, 0)?)?;
+    Tree::new(alloc, TreeForm::ByPrefix { policies, wildcard })
 }
 
 #[test]
@@ -143,7 +143,7 @@ fn direct_trees(rt: HostRuntime) -> Result<(), Fail> {
     let alloc = rt.alloc();
     let a = key_of(b"a").ok_or("a is a key")?;
     let ab = key_of(b"ab").ok_or("ab is a key")?;
-    assert!(rt; leaf(7).is_direct());
+    assert!(rt; leaf(alloc, 7)?.is_direct());
     assert!(rt; by_prefix(alloc, a, ab)?.is_direct());
     assert!(rt; !null_for_others(alloc, a)?.is_direct());
     assert!(rt; !null_for_prefix(alloc, a)?.is_direct());

@@ -1,21 +1,16 @@
-// Addresses of servers.
+//! Addresses of servers: a host and a port.
 
-ghost use Rattle.std.specs.Prelude.{◌≡◌, option_map, Some};
+ghost use Rattle.std.specs.Prelude.{◌≡◌, option_map};
 ghost use Rattle.std.specs.List.{list_all};
-ghost use Rattle.server_addresses.specs.Addresses.{is_printable, behind_colon, port_text, is_port, is_address};
+ghost use Rattle.server_addresses.specs.Addresses.{is_printable, around_colon, is_host_and_port, is_port, is_address};
 
 use mc_text::number::small_number;
 
-fn behind_colon(text: &[u8]) -> Option<&[u8]>
-    ensures { option_map (λ s. s.now) result ≡ behind_colon text.now }
+/// What stands before the last colon and what stands after it, where there is a colon.
+pub(crate) fn around_colon(text: &str) -> Option<(&str, &str)>
+    ensures { option_map (λ p. (p.0.now, p.1.now)) result ≡ around_colon text.now }
 {
-    match text {
-        [] => None,
-        [first, rest @ ..] => match behind_colon(rest) {
-            Some(port) => Some(port),
-            None => { if *first == b':' { Some(rest) } else { None } }
-        },
-    }
+    text.rsplit_once(':')
 }
 
 fn is_printable_text(text: &[u8]) -> bool
@@ -25,7 +20,7 @@ fn is_printable_text(text: &[u8]) -> bool
 }
 
 fn is_port(digits: &[u8]) -> bool
-    ensures { result ≡ is_port (Some digits.now) }
+    ensures { result ≡ is_port digits.now }
 {
     if digits.len() > 5 {
         return false;
@@ -36,24 +31,21 @@ fn is_port(digits: &[u8]) -> bool
     }
 }
 
-fn has_port(text: &[u8]) -> bool
-    ensures { result ≡ is_port (port_text text.now) }
+fn has_port(text: &str) -> bool
+    ensures { result ≡ is_host_and_port (around_colon text.now) }
 {
-    match text {
-        [] => false,
-        [_, rest @ ..] => match behind_colon(rest) {
-            Some(digits) => is_port(digits),
-            None => false,
-        },
+    match around_colon(text) {
+        Some((host, digits)) => !host.is_empty() && is_port(digits.as_bytes()),
+        None => false,
     }
 }
 
 /// Whether the text is an address: 3 to 255 bytes, each 33..=126, whose last `:` has something before it and a port in
-/// 1..=65535 of 1 to 5 digits behind it.
+/// 1..=65535 of 1 to 5 digits after it.
 ///
 /// Source: mcgate's own.
-pub fn is_address(text: &[u8]) -> bool
+pub fn is_address(text: &str) -> bool
     ensures { result ≡ is_address text.now }
 {
-    3 <= text.len() && text.len() <= 255 && is_printable_text(text) && has_port(text)
+    3 <= text.len() && text.len() <= 255 && is_printable_text(text.as_bytes()) && has_port(text)
 }

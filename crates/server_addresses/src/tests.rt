@@ -1,3 +1,5 @@
+//! Worked examples.
+
 use super::*;
 use mc_types::ServerId;
 use std::alloc::Global;
@@ -23,7 +25,7 @@ fn addresses(rt: HostRuntime) {
         ("é:1", false),
     ];
     for (text, is_one) in cases {
-        assert_eq!(rt; is_address(text.as_bytes()), is_one, "at {text}");
+        assert_eq!(rt; is_address(text), is_one, "at {text}");
     }
 }
 
@@ -40,8 +42,48 @@ fn long_address(alloc: Global, letters: u32) -> Result<String, Fail> {
 #[test]
 fn lengths_of_addresses(rt: HostRuntime) -> Result<(), Fail> {
     let alloc = rt.alloc();
-    assert!(rt; is_address(long_address(alloc, 253)?.as_bytes()));
-    assert!(rt; !is_address(long_address(alloc, 254)?.as_bytes()));
+    assert!(rt; is_address(long_address(alloc, 253)?.as_str()));
+    assert!(rt; !is_address(long_address(alloc, 254)?.as_str()));
+    Ok(())
+}
+
+// Texts of servers, and what each says.
+#[test]
+fn weight_texts(rt: HostRuntime) {
+    let cases = [
+        ("h:1:2", Some(("h:1", 2))),
+        ("h:1:16", Some(("h:1", 16))),
+        ("h:1:02", Some(("h:1", 2))),
+        ("h:1:17", None),
+        ("h:1:0", None),
+        ("h:1:002", None),
+        ("h:1:", None),
+        ("h:1:a", None),
+        ("h:0:2", None),
+        ("h:1", Some(("h:1", 1))),
+        ("[::1]:5001:2", Some(("[::1]:5001", 2))),
+        ("[::1]:5001", Some(("[::1]:5001", 1))),
+        ("a::1", None),
+        ("[:1]:5", None),
+        ("[a:1]:5", None),
+        ("::1", Some(("::1", 1))),
+        (":1:2", Some((":1:2", 1))),
+        ("1:2:3:4", Some(("1:2:3:4", 1))),
+    ];
+    for (text, want) in cases {
+        assert_eq!(rt; read_server(text), want, "at {text}");
+    }
+}
+
+// The bytes of a weight are none of the address.
+#[test]
+fn lengths_of_weighted_addresses(rt: HostRuntime) -> Result<(), Fail> {
+    let alloc = rt.alloc();
+    for (letters, is_one) in [(253, true), (254, false)] {
+        let mut text = long_address(alloc, letters)?;
+        text.push_str(":16")?;
+        assert_eq!(rt; read_server(text.as_str()).is_some(), is_one);
+    }
     Ok(())
 }
 

@@ -5,7 +5,7 @@ use Rattle.std.proofs.lemmas.List.{length-drop, drop-append-le, take_all}
 use Rattle.mc_text.specs.Line.{IsLine, IsOpen, IsTooLong, TakesLine, LF, CR}
 use Rattle.mc_text.specs.Word.{words}
 use Rattle.mc_text.proofs.Stays.{open_no_line, open_not_too_long, taken_line, too_long_no_line, taken_only, lines_are_determined}
-use Rattle.text_answers.specs.Reading.{IsEndLine, IsBlockEnd, IsCutEnd}
+use Rattle.text_answers.specs.Reading.{IsEndLine, IsBlockEnd, IsCutEnd, IsDataEnd, IsCutDataEnd}
 
 pub too_long_line : (bytes : List ℕ) → IsTooLong bytes → (more : List ℕ) (used : ℕ) → ¬ IsEndLine (bytes ++ more) used
 too_long_line bytes h more used e = too_long_no_line bytes more e.text e.rest h e.line
@@ -45,6 +45,11 @@ one_end bytes n m a b =
     let text = lines_are_determined a.behind a.line.text b.line.text a.line.rest b.line.rest a.line.line line in
     let long : length a.line.text ≡ length b.line.text = ap length text.0 in
     omega (arith, a.used_is, b.used_is, a.line.used_is, b.line.used_is)
+
+-- the data of a meta answer
+pub cut_no_data_end : (bytes : List ℕ) → IsCutDataEnd bytes → ¬ IsDataEnd bytes
+cut_no_data_end bytes (inl none) e = let f : [] ≡ CR ∷ LF ∷ e.0 = sym none ∙ e.1 in cc
+cut_no_data_end bytes (inr one) e = let f : CR ∷ [] ≡ CR ∷ LF ∷ e.0 = sym one ∙ e.1 in cc
 
 -- what is cut isn't there
 pub cut_no_end : (bytes : List ℕ) → IsCutEnd bytes → (used : ℕ) → ¬ IsBlockEnd bytes used

@@ -15,13 +15,14 @@ use Rattle.mc_types.specs.declared.ask.Ask.{Ask}
 use Rattle.mc_types.specs.declared.ask.Op.{Op}
 use Rattle.mc_types.specs.declared.ask.Op.TheVariants.{Get, Gat, Set, Add, Replace, Append, Prepend, Cas, Delete, Incr, Decr, Touch}
 use Rattle.mc_types.specs.declared.ask.Dialect.{Dialect}
+use Rattle.mc_types.specs.declared.ask.Dialect.TheVariants.{Classic}
 use Rattle.mc_types.specs.declared.answer.Answer.{Answer}
 use Rattle.mc_types.specs.declared.answer.Answer.TheVariants as answers
 use Rattle.text_answers.specs.declared.said.Said.{Said}
-use Rattle.text_answers.specs.declared.said.Said.TheVariants.{Whole, Hit, Foreign}
+use Rattle.text_answers.specs.declared.said.Said.TheVariants.{Whole, Hit, Value, Foreign}
 use Rattle.text_answers.specs.declared.said.HitLine.{HitLine}
 use Rattle.text_answers.specs.Table.{looked_up, of_store, of_cas, of_fetch, of_delete, of_touch, of_count, number_or, word_answer}
-use Rattle.text_answers.specs.FirstLine.{said, words_said, error_said, error_text, is_error_text, behind_word, cas_said, hit_said, is_fetch, hit_or_foreign, whole_or_foreign, alone}
+use Rattle.text_answers.specs.FirstLine.{said, words_said, error_said, error_text, is_error_text, behind_word, cas_said, hit_said, is_fetch, hit_or_foreign, whole_or_foreign, alone, in_dialect}
 use Rattle.text_answers.specs.Reading.{Follows}
 use Rattle.text_answers.specs.Laws.{SpelledAnswersFit}
 
@@ -38,6 +39,7 @@ IsHitOf with_cas hit = (hit.flags < 2 ^ 32) × (hit.len ≤ data_limit) × IfSom
 abbrev SaidFits : Op → Bool → Said → Type 0
 SaidFits op with_cas (Whole answer) = Taken op with_cas answer
 SaidFits op with_cas (Hit hit) = IsHitOf with_cas hit × (is_fetch op ≡ true)
+SaidFits op with_cas (Value line) = ⊥
 SaidFits op with_cas Foreign = Unit {0}
 
 below_limit : (limit : ℕ) (w : List ℕ) → IfSome (number_below limit w) (λ n. n < limit)
@@ -144,18 +146,19 @@ server_fits : (op : Op) (wc : Bool) (o : Option (List ℕ)) → IfSome o IsError
 server_fits op wc (Some text) h = (h, (errors_taken op wc text).1)
 server_fits op wc None h = tt
 
-words_fit : (ask : Ask) (text : Option (List ℕ)) (ws : List (List ℕ)) → IfSome text IsErrorText → SaidFits ask.op ask.with_cas (words_said ask text ws)
-words_fit ask text [] h = tt
-words_fit ask text (w ∷ more) h =
+words_fit : (ask : Ask) → ask.dialect ≡ Classic → (text : Option (List ℕ)) (ws : List (List ℕ)) → IfSome text IsErrorText → SaidFits ask.op ask.with_cas (words_said ask text ws)
+words_fit ask classic text [] h = tt
+words_fit ask classic text (w ∷ more) h =
     let P : Said → Type 0 = SaidFits ask.op ask.with_cas in
     cond_both (bytes_eq w (codes "CLIENT_ERROR")) _ _ P (λ client. client_fits ask.op ask.with_cas text h)
     (λ no. cond_both (bytes_eq w (codes "SERVER_ERROR")) _ _ P (λ server. server_fits ask.op ask.with_cas text h)
-    (λ no. cond_both (bytes_eq w (codes "VALUE") && is_fetch ask.op) _ _ P
+    (λ no. subst (λ (d : Dialect). P (in_dialect d ask w more)) (sym classic)
+    (cond_both (bytes_eq w (codes "VALUE") && is_fetch ask.op) _ _ P
     (λ value. hit_fits ask.op ask.with_cas (hit_said ask.key ask.with_cas more) (both (bytes_eq w (codes "VALUE")) (is_fetch ask.op) value).1 (hit_taken ask.key ask.with_cas more))
-    (λ no. alone_taken ask.op ask.with_cas w more)))
+    (λ no. alone_taken ask.op ask.with_cas w more))))
 
-said_fits : (ask : Ask) (line : List ℕ) → SaidFits ask.op ask.with_cas (said ask line)
-said_fits ask line = words_fit ask (error_text line) (words line) (text_is line)
+said_fits : (ask : Ask) (line : List ℕ) → ask.dialect ≡ Classic → SaidFits ask.op ask.with_cas (said ask line)
+said_fits ask line classic = words_fit ask classic (error_text line) (words line) (text_is line)
 
 hit_listed : (op : Op) (wc : Bool) (flags : ℕ) (body : List ℕ) (cas : Option ℕ) → is_fetch op ≡ true → is_some cas ≡ wc → FitsClassic op wc (answers.Hit flags body cas)
 hit_listed Get wc flags body cas e h = h
@@ -166,9 +169,10 @@ follows_fit : (op : Op) (wc : Bool) (s : Said) (rest : List ℕ) (answer : Answe
 follows_fit op wc (Whole x) rest answer used h f = subst (Taken op wc) (sym f.0) h
 follows_fit op wc (Hit hit) rest answer used h f =
     subst (Taken op wc) (sym f.3) ((h.0.0, omega (arith, f.4, h.0.1), h.0.2), hit_listed op wc hit.flags f.0 hit.cas h.1 h.0.3)
+follows_fit op wc (Value line) rest answer used h f = absurd h
 follows_fit op wc Foreign rest answer used h f = absurd f
 
 pub spelled_answers_fit : SpelledAnswersFit
 spelled_answers_fit ask bytes answer used classic s =
-    let taken = follows_fit ask.op ask.with_cas (said ask (without_cr s.text)) s.rest answer s.behind (said_fits ask (without_cr s.text)) s.follows in
+    let taken = follows_fit ask.op ask.with_cas (said ask (without_cr s.text)) s.rest answer s.behind (said_fits ask (without_cr s.text) classic) s.follows in
     record { ranges = taken.0; listed = subst (λ (d : Dialect). FitsIn d ask answer) (sym classic) taken.1 }

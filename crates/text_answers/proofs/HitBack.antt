@@ -15,6 +15,7 @@ use Rattle.mc_types.specs.Asks.{data_limit}
 use Rattle.mc_types.specs.Fits.{FitsClassic, IsAnswer}
 use Rattle.mc_types.specs.declared.ask.Ask.{Ask}
 use Rattle.mc_types.specs.declared.ask.Op.{Op}
+use Rattle.mc_types.specs.declared.ask.Dialect.TheVariants.{Classic}
 use Rattle.mc_types.specs.declared.ask.Op.TheVariants.{Get, Gat}
 use Rattle.mc_types.specs.declared.answer.Answer.TheVariants as answers
 use Rattle.mc_types.specs.declared.answer.Answer.TheVariants.{Stored, NotStored, Exists, NotFound, Deleted, Touched, Number, Miss, Meta, ClientError, Error, ServerError}
@@ -69,8 +70,8 @@ hit_short key flags n (Some cas) k f le c =
     let a = digits_short flags (omega arith) in let b = digits_short n (omega arith) in let d = digits_short cas c in let short = k.short in
     simp length-append (omega arith)
 
-value_said : (ask : Ask) (line : List ℕ) (ws : List (List ℕ)) (hit : HitLine) → words line ≡ codes "VALUE" ∷ ws → is_fetch ask.op ≡ true → hit_said ask.key ask.with_cas ws ≡ Some hit → said ask line ≡ Hit hit
-value_said ask line ws hit is fetch h = ap (words_said ask (error_text line)) is ∙ rw (fetch, h) refl
+value_said : (ask : Ask) (line : List ℕ) (ws : List (List ℕ)) (hit : HitLine) → ask.dialect ≡ Classic → words line ≡ codes "VALUE" ∷ ws → is_fetch ask.op ≡ true → hit_said ask.key ask.with_cas ws ≡ Some hit → said ask line ≡ Hit hit
+value_said ask line ws hit classic is fetch h = ap (words_said ask (error_text line)) is ∙ rw (classic, fetch, h) refl
 
 regroup : (l body c e more : List ℕ) → (((l ++ body) ++ c) ++ e) ++ more ≡ l ++ (body ++ (c ++ (e ++ more)))
 regroup l body c e more = simp append_assoc
@@ -95,9 +96,9 @@ end_read more =
       used_is = omega arith;
     }
 
-pub hit_back : (ask : Ask) (flags : ℕ) (body : List ℕ) (cas : Option ℕ) (more : List ℕ) → IsKey ask.key → IsAnswer (answers.Hit flags body cas) → FitsClassic ask.op ask.with_cas (answers.Hit flags body cas)
+pub hit_back : (ask : Ask) (flags : ℕ) (body : List ℕ) (cas : Option ℕ) (more : List ℕ) → ask.dialect ≡ Classic → IsKey ask.key → IsAnswer (answers.Hit flags body cas) → FitsClassic ask.op ask.with_cas (answers.Hit flags body cas)
     → Spells ask (spelling_of ask (answers.Hit flags body cas) ++ more) (answers.Hit flags body cas) (length (spelling_of ask (answers.Hit flags body cas)))
-hit_back ask flags body cas more k ranges fits =
+hit_back ask flags body cas more classic k ranges fits =
     let n = length body in
     let line = spaced (hit_words ask.key flags n cas) in
     let only = fetch_only ask.op ask.with_cas flags body cas fits in
@@ -105,7 +106,7 @@ hit_back ask flags body cas more k ranges fits =
     let one : IsOneLine line = spaced_line (hit_words ask.key flags n cas) (plain_lines (hit_words ask.key flags n cas) plain) in
     let are : words line ≡ hit_words ask.key flags n cas = words-spaced (hit_words ask.key flags n cas) (plain_words (hit_words ask.key flags n cas) plain) in
     let hit : HitLine = record { flags = flags; len = n; cas = cas } in
-    let says : said ask line ≡ Hit hit = value_said ask line (ask.key ∷ decimal flags ∷ decimal n ∷ cas_words cas) hit are only.0 (hit_read ask.key ask.with_cas flags n cas ranges.0 ranges.1 ranges.2 only.1) in
+    let says : said ask line ≡ Hit hit = value_said ask line (ask.key ∷ decimal flags ∷ decimal n ∷ cas_words cas) hit classic are only.0 (hit_read ask.key ask.with_cas flags n cas ranges.0 ranges.1 ranges.2 only.1) in
     let rest = body ++ (codes "\r\n" ++ (end_text ++ more)) in
     let there : Follows (Hit hit) rest (answers.Hit flags body cas) (n + 7) = (body, codes "\r\n" ++ (end_text ++ more), 7, refl, refl, refl, end_read more, refl) in
     let follows : Follows (said ask line) rest (answers.Hit flags body cas) (n + 7) = subst (λ (s : Said). Follows s rest (answers.Hit flags body cas) (n + 7)) (sym says) there in

@@ -14,6 +14,7 @@ use Rattle.mc_types.specs.declared.ask.Ask.{Ask}
 use Rattle.mc_types.specs.declared.ask.Op.{Op}
 use Rattle.mc_types.specs.declared.ask.Op.TheVariants.{Get, Gat, Set, Add, Replace, Append, Prepend, Cas, Delete, Incr, Decr, Touch}
 use Rattle.mc_types.specs.declared.ask.Dialect.{Dialect}
+use Rattle.mc_types.specs.declared.ask.Dialect.TheVariants.{Classic}
 use Rattle.mc_types.specs.declared.answer.Answer.{Answer}
 use Rattle.mc_types.specs.declared.answer.Code.{Code}
 use Rattle.mc_types.specs.declared.answer.Fields.{Fields}
@@ -77,21 +78,21 @@ meta_never Incr wc code fields f = cc
 meta_never Decr wc code fields f = cc
 meta_never Touch wc code fields f = cc
 
-go : (ask : Ask) (answer : Answer) (more : List ℕ) → IsKey ask.key → IsAnswer answer → FitsClassic ask.op ask.with_cas answer → Spells ask (spelling_of ask answer ++ more) answer (length (spelling_of ask answer))
-go ask Stored more k r f = alone_back ask Stored more r f tt
-go ask NotStored more k r f = alone_back ask NotStored more r f tt
-go ask Exists more k r f = alone_back ask Exists more r f tt
-go ask NotFound more k r f = alone_back ask NotFound more r f tt
-go ask Deleted more k r f = alone_back ask Deleted more r f tt
-go ask Touched more k r f = alone_back ask Touched more r f tt
-go ask (Number n) more k r f = alone_back ask (Number n) more r f tt
-go ask (answers.Hit flags body cas) more k r f = hit_back ask flags body cas more k r f
-go ask Miss more k r f = alone_back ask Miss more r f tt
-go ask (Meta code fields) more k r f = absurd (meta_never ask.op ask.with_cas code fields f)
-go ask (ClientError text) more k r f = error_back ask (codes "CLIENT_ERROR") text more ClientError (literal (codes "CLIENT_ERROR") refl (omega arith)) (omega arith) r (client_said ask text r)
-go ask Error more k r f = alone_back ask Error more r f tt
-go ask (ServerError text) more k r f = error_back ask (codes "SERVER_ERROR") text more ServerError (literal (codes "SERVER_ERROR") refl (omega arith)) (omega arith) r (server_said ask text r)
+go : (ask : Ask) (answer : Answer) (more : List ℕ) → ask.dialect ≡ Classic → IsKey ask.key → IsAnswer answer → FitsClassic ask.op ask.with_cas answer → Spells ask (spelling_of ask answer ++ more) answer (length (spelling_of ask answer))
+go ask Stored more classic k r f = alone_back ask Stored more classic r f tt
+go ask NotStored more classic k r f = alone_back ask NotStored more classic r f tt
+go ask Exists more classic k r f = alone_back ask Exists more classic r f tt
+go ask NotFound more classic k r f = alone_back ask NotFound more classic r f tt
+go ask Deleted more classic k r f = alone_back ask Deleted more classic r f tt
+go ask Touched more classic k r f = alone_back ask Touched more classic r f tt
+go ask (Number n) more classic k r f = alone_back ask (Number n) more classic r f tt
+go ask (answers.Hit flags body cas) more classic k r f = hit_back ask flags body cas more classic k r f
+go ask Miss more classic k r f = alone_back ask Miss more classic r f tt
+go ask (Meta code fields) more classic k r f = absurd (meta_never ask.op ask.with_cas code fields f)
+go ask (ClientError text) more classic k r f = error_back ask (codes "CLIENT_ERROR") text more ClientError (literal (codes "CLIENT_ERROR") refl (omega arith)) (omega arith) r (client_said ask text r)
+go ask Error more classic k r f = alone_back ask Error more classic r f tt
+go ask (ServerError text) more classic k r f = error_back ask (codes "SERVER_ERROR") text more ServerError (literal (codes "SERVER_ERROR") refl (omega arith)) (omega arith) r (server_said ask text r)
 
 pub answers_are_read_back : AnswersAreReadBack
 answers_are_read_back ask answer more is classic fits =
-    go ask answer more is.key fits.ranges (subst (λ (d : Dialect). FitsIn d ask answer) classic fits.listed)
+    go ask answer more classic is.key fits.ranges (subst (λ (d : Dialect). FitsIn d ask answer) classic fits.listed)

@@ -1,6 +1,6 @@
 -- What follows the first line of an answer, and what the answer is then.
-use Rattle.std.proofs.Common.{◌≡◌, ℕ, ◌+◌, ◌-◌, ◌<◌, ◌≤◌, List, ◌++◌, length, take, drop, sym, ap, subst, ◌∙◌, arith, inl, inr}
-use Rattle.std.proofs.lemmas.List.{length-append, drop-append-le, drop_all}
+use Rattle.std.proofs.Common.{◌≡◌, ℕ, ◌+◌, ◌-◌, ◌<◌, ◌≤◌, true, false, Some, List, ◌++◌, length, take, drop, refl, sym, ap, subst, ◌∙◌, arith, inl, inr}
+use Rattle.std.proofs.lemmas.List.{length-append, length-take-le, take-append-drop, take-append-le, take_at, drop-append-le, drop_all}
 use Rattle.mc_text.specs.Line.{IsTooLong, TakesLine, without_cr}
 use Rattle.mc_text.proofs.Stays.{open_no_line, too_long_no_line, taken_only, taken_line, taken_text, taken_length, line_length, lines_are_determined, open_not_too_long, not_too_long}
 use Rattle.mc_text.proofs.WordLemmas.{rest_is}
@@ -8,13 +8,18 @@ use Rattle.std.proofs.Math.Seq.{drop-append_seam}
 use Rattle.mc_types.specs.declared.ask.Ask.{Ask}
 use Rattle.mc_types.specs.declared.answer.Answer.{Answer}
 use Rattle.text_answers.specs.declared.said.Said.{Said}
-use Rattle.text_answers.specs.declared.said.Said.TheVariants.{Whole, Hit, Foreign}
+use Rattle.text_answers.specs.declared.said.Said.TheVariants.{Whole, Hit, Value, Foreign}
 use Rattle.text_answers.specs.declared.said.HitLine.{HitLine}
+use Rattle.mc_types.specs.declared.answer.Code.TheVariants.{Va}
+use Rattle.mc_types.specs.declared.answer.Fields.{Fields}
+use Rattle.mc_types.specs.declared.answer.Answer.TheVariants as answers
+use Rattle.meta_answers.specs.declared.line.ValueLine.{ValueLine}
+use Rattle.meta_answers.specs.Told.{fields_told}
 use Rattle.text_answers.specs.FirstLine.{said}
-use Rattle.text_answers.specs.Reading.{IsBlockEnd, IsCutEnd, IsCutBehind, IsCut, Follows, Spells, Reads, ReadsBehind, LiesWithin}
+use Rattle.text_answers.specs.Reading.{IsDataEnd, IsCutDataEnd, is_data, IsBlockEnd, IsCutEnd, IsCutBehind, IsCut, Follows, Spells, Reads, ReadsBehind, LiesWithin}
 use Rattle.text_answers.specs.declared.reader.AnswerRead.{AnswerRead}
 use Rattle.text_answers.specs.declared.reader.AnswerRead.TheVariants as reads
-use Rattle.text_answers.proofs.EndLemmas.{cut_no_end, line_not_open}
+use Rattle.text_answers.proofs.EndLemmas.{cut_no_end, cut_no_data_end, line_not_open}
 
 -- the bytes behind a body of this length
 behind_body : (n : ℕ) (rest body behind : List ℕ) → length body ≡ n → rest ≡ body ++ behind → drop n rest ≡ behind
@@ -27,6 +32,8 @@ short_is_cut n rest lt = inl (drop_all n rest (omega arith))
 pub cut_no_follow : (said : Said) (rest : List ℕ) → IsCutBehind said rest → (answer : Answer) (used : ℕ) → ¬ Follows said rest answer used
 cut_no_follow (Hit hit) rest cut answer used f =
     cut_no_end (drop hit.len rest) cut f.2 (subst (λ (t : List ℕ). IsBlockEnd t f.2) (sym (behind_body hit.len rest f.0 f.1 f.4 f.5)) f.6)
+cut_no_follow (Value line) rest cut answer used f =
+    cut_no_data_end (drop line.len rest) cut (subst IsDataEnd (sym (behind_body line.len rest f.0 f.1 f.3 f.4)) f.5)
 cut_no_follow (Whole a) rest cut answer used f = cut
 cut_no_follow Foreign rest cut answer used f = cut
 
@@ -46,6 +53,44 @@ bad_hit hit rest le never more answer used f =
     let here : f.1 ≡ take (length rest - hit.len) (drop hit.len rest) ++ more =
     sym (behind_body hit.len (rest ++ more) f.0 f.1 f.4 f.5) ∙ drop-append-le hit.len rest more le ∙ ap (λ (t : List ℕ). t ++ more) (sym (rest_is rest hit.len)) in
     never more f.2 (subst (λ (t : List ℕ). IsBlockEnd t f.2) here f.6)
+
+-- the same of the data of a meta answer
+pub bad_value : (line : ValueLine) (rest : List ℕ) → line.len ≤ length rest → ((more : List ℕ) → ¬ IsDataEnd (take (length rest - line.len) (drop line.len rest) ++ more))
+    → (more : List ℕ) (answer : Answer) (used : ℕ) → ¬ Follows (Value line) (rest ++ more) answer used
+bad_value line rest le never more answer used f =
+    let here : f.1 ≡ take (length rest - line.len) (drop line.len rest) ++ more =
+    sym (behind_body line.len (rest ++ more) f.0 f.1 f.3 f.4) ∙ drop-append-le line.len rest more le ∙ ap (λ (t : List ℕ). t ++ more) (sym (rest_is rest line.len)) in
+    never more (subst IsDataEnd here f.5)
+
+-- and where they are no number
+pub no_data : (line : ValueLine) (rest : List ℕ) → line.len ≤ length rest → is_data line.is_number (take line.len rest) ≡ false
+    → (more : List ℕ) (answer : Answer) (used : ℕ) → ¬ Follows (Value line) (rest ++ more) answer used
+no_data line rest le isnt more answer used f =
+    let body : f.0 ≡ take line.len rest =
+    sym (subst (λ (k : ℕ). take k (f.0 ++ f.1) ≡ f.0) f.3 (take_at f.0 f.1 (length f.0) refl)) ∙ ap (take line.len) (sym f.4) ∙ take-append-le line.len rest more le in
+    let same : is_data line.is_number f.0 ≡ false = ap (is_data line.is_number) body ∙ isnt in
+    let clash : true ≡ false = sym f.6 ∙ same in
+    cc
+
+pub value_there : (line : ValueLine) (rest : List ℕ) → line.len ≤ length rest → IsDataEnd (take (length rest - line.len) (drop line.len rest)) → is_data line.is_number (take line.len rest) ≡ true
+    → (fields : Fields) (used : ℕ) → fields ≡ fields_told line.told (Some (take line.len rest)) → used ≡ 2 → Follows (Value line) rest (answers.Meta Va fields) (line.len + used)
+value_there line rest le end is fields used are two = (
+  take line.len rest,
+  drop line.len rest,
+  ap (λ (f : Fields). answers.Meta Va f) are,
+  length-take-le line.len rest le,
+  sym (take-append-drop line.len rest),
+  subst IsDataEnd (rest_is rest line.len) end,
+  is,
+  ap (λ (n : ℕ). line.len + n) two,
+)
+
+pub not_cut_value : (line : ValueLine) (rest : List ℕ) → (¬ IsCutDataEnd (take (length rest - line.len) (drop line.len rest))) → ¬ IsCutBehind (Value line) rest
+not_cut_value line rest not_cut cut = not_cut (subst IsCutDataEnd (sym (rest_is rest line.len)) cut)
+
+-- an end that is there isn't cut
+pub there_not_cut : (line : ValueLine) (rest : List ℕ) → IsDataEnd (take (length rest - line.len) (drop line.len rest)) → ¬ IsCutBehind (Value line) rest
+there_not_cut line rest end cut = cut_no_data_end (drop line.len rest) cut (subst IsDataEnd (rest_is rest line.len) end)
 
 pub not_cut_hit : (hit : HitLine) (rest : List ℕ) → (¬ IsCutEnd (take (length rest - hit.len) (drop hit.len rest))) → ¬ IsCutBehind (Hit hit) rest
 not_cut_hit hit rest not_cut cut = not_cut (subst IsCutEnd (sym (rest_is rest hit.len)) cut)
@@ -121,6 +166,7 @@ end_within bytes used e = omega (arith, ap length e.whole, e.used_is, e.line.use
 follows_within : (s : Said) (rest : List ℕ) (answer : Answer) (used : ℕ) → Follows s rest answer used → used ≤ length rest
 follows_within (Whole x) rest answer used f = omega (arith, f.1)
 follows_within (Hit hit) rest answer used f = omega (arith, f.4, f.7, ap length f.5, length-append f.0 f.1, end_within f.1 f.2 f.6)
+follows_within (Value line) rest answer used f = omega (arith, f.3, f.7, ap length f.4, length-append f.0 f.1, ap length f.5.1)
 follows_within Foreign rest answer used f = absurd f
 
 pub spelled_within : (ask : Ask) (bytes : List ℕ) (answer : Answer) (used : ℕ) → Spells ask bytes answer used → used ≤ length bytes

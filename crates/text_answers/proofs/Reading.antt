@@ -1,11 +1,13 @@
 -- The laws of spellings and of reading.
-use Rattle.std.proofs.Common.{◌≡◌, ℕ, ◌+◌, List, [], ◌∷◌, ◌++◌, length, refl, sym, ap, subst, ◌∙◌, append_assoc, arith}
+use Rattle.std.proofs.Common.{◌≡◌, ℕ, ◌+◌, Some, List, [], ◌∷◌, ◌++◌, length, refl, sym, ap, subst, ◌∙◌, append_assoc, arith}
 use Rattle.mc_text.specs.Line.{without_cr}
 use Rattle.mc_text.proofs.Stays.{lines_stay, lines_are_determined}
 use Rattle.mc_types.specs.declared.answer.Answer.{Answer}
 use Rattle.mc_types.specs.declared.answer.Answer.TheVariants as answers
 use Rattle.text_answers.specs.declared.said.Said.{Said}
-use Rattle.text_answers.specs.declared.said.Said.TheVariants.{Whole, Hit, Foreign}
+use Rattle.text_answers.specs.declared.said.Said.TheVariants.{Whole, Hit, Value, Foreign}
+use Rattle.mc_types.specs.declared.answer.Code.TheVariants.{Va}
+use Rattle.meta_answers.specs.Told.{fields_told}
 use Rattle.text_answers.specs.FirstLine.{said}
 use Rattle.text_answers.specs.Spelling.{spelling_of}
 use Rattle.text_answers.specs.Reading.{IsBlockEnd, Follows, Spells}
@@ -30,6 +32,9 @@ one_follows (Hit hit) rest a b m n f g =
     let parts = same_front f.0 g.0 f.1 g.1 (f.4 ∙ sym g.4) (sym f.5 ∙ g.5) in
     let len : f.2 ≡ g.2 = one_end f.1 f.2 g.2 f.6 (subst (λ (t : List ℕ). IsBlockEnd t g.2) (sym parts.1) g.6) in
     (f.3 ∙ ap (λ (t : List ℕ). answers.Hit hit.flags t hit.cas) parts.0 ∙ sym g.3, f.7 ∙ ap (λ (k : ℕ). hit.len + k) len ∙ sym g.7)
+one_follows (Value line) rest a b m n f g =
+    let parts = same_front f.0 g.0 f.1 g.1 (f.3 ∙ sym g.3) (sym f.4 ∙ g.4) in
+    (f.2 ∙ ap (λ (t : List ℕ). answers.Meta Va (fields_told line.told (Some t))) parts.0 ∙ sym g.2, f.7 ∙ sym g.7)
 one_follows Foreign rest a b m n f g = absurd f
 
 pub one_answer : OneAnswer
@@ -61,6 +66,8 @@ follows_stay : (s : Said) (rest more : List ℕ) (answer : Answer) (used : ℕ) 
 follows_stay (Whole x) rest more answer used f = f
 follows_stay (Hit hit) rest more answer used f =
     (f.0, f.1 ++ more, f.2, f.3, f.4, ap (λ (t : List ℕ). t ++ more) f.5 ∙ append_assoc f.0 f.1 more, end_stays f.1 more f.2 f.6, f.7)
+follows_stay (Value line) rest more answer used f =
+    (f.0, f.1 ++ more, f.2, f.3, ap (λ (t : List ℕ). t ++ more) f.4 ∙ append_assoc f.0 f.1 more, (f.5.0 ++ more, ap (λ (t : List ℕ). t ++ more) f.5.1), f.6, f.7)
 follows_stay Foreign rest more answer used f = absurd f
 
 pub answers_stay : AnswersStay

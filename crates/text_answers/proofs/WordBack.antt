@@ -14,6 +14,7 @@ use Rattle.mc_text.proofs.Spaced.{IsPlain, literal, decimal_word, plain_words, p
 use Rattle.mc_types.specs.Fits.{FitsClassic, FitsStore, FitsCas, FitsFetch, FitsDelete, FitsTouch, FitsCount, IsAnswer}
 use Rattle.mc_types.specs.declared.ask.Ask.{Ask}
 use Rattle.mc_types.specs.declared.ask.Op.{Op}
+use Rattle.mc_types.specs.declared.ask.Dialect.TheVariants.{Classic}
 use Rattle.mc_types.specs.declared.ask.Op.TheVariants.{Get, Gat, Set, Add, Replace, Append, Prepend, Cas, Delete, Incr, Decr, Touch}
 use Rattle.mc_types.specs.declared.answer.Answer.{Answer}
 use Rattle.mc_types.specs.declared.answer.Answer.TheVariants as answers
@@ -165,18 +166,18 @@ back_word Decr wc a lt f h = back_count a lt f h
 back_word Touch wc a lt f h = back_touch a f h
 
 -- a line of one word
-alone_said : (ask : Ask) (w : List ℕ) (a : Answer) → IsPlain w → bytes_eq w (codes "CLIENT_ERROR") ≡ false → bytes_eq w (codes "SERVER_ERROR") ≡ false → bytes_eq w (codes "VALUE") ≡ false
+alone_said : (ask : Ask) (w : List ℕ) (a : Answer) → ask.dialect ≡ Classic → IsPlain w → bytes_eq w (codes "CLIENT_ERROR") ≡ false → bytes_eq w (codes "SERVER_ERROR") ≡ false → bytes_eq w (codes "VALUE") ≡ false
     → word_answer ask.op w ≡ Some a → said ask w ≡ Whole a
-alone_said ask w a plain client server value is =
-    ap (words_said ask (error_text w)) (words-spaced (w ∷ []) (plain_words (w ∷ []) (plain, tt))) ∙ rw (client, server, value, is) refl
+alone_said ask w a classic plain client server value is =
+    ap (words_said ask (error_text w)) (words-spaced (w ∷ []) (plain_words (w ∷ []) (plain, tt))) ∙ rw (client, server, classic, value, is) refl
 
-pub alone_back : (ask : Ask) (a : Answer) (more : List ℕ) → IsAnswer a → FitsClassic ask.op ask.with_cas a → IsAlone a
+pub alone_back : (ask : Ask) (a : Answer) (more : List ℕ) → ask.dialect ≡ Classic → IsAnswer a → FitsClassic ask.op ask.with_cas a → IsAlone a
     → Spells ask (line_of (word_of a ∷ []) ++ more) a (length (line_of (word_of a ∷ [])))
-alone_back ask a more lt f h =
+alone_back ask a more classic lt f h =
     let w = word_of a in
     let plain = word_plain a lt h in
     let none = no_command a lt h in
-    let says : said ask w ≡ Whole a = alone_said ask w a plain.0 none.0 none.1 none.2 (back_word ask.op ask.with_cas a lt f h) in
+    let says : said ask w ≡ Whole a = alone_said ask w a classic plain.0 none.0 none.1 none.2 (back_word ask.op ask.with_cas a lt f h) in
     let follows : Follows (said ask w) more a 0 = subst (λ (s : Said). Follows s more a 0) (sym says) (refl, refl) in
     let all = spelled ask w more a 0 (plain_line w plain.0) (omega (arith, plain.1)) follows in
     subst (λ (n : ℕ). Spells ask (line_of (w ∷ []) ++ more) a n) (omega (arith, length-append w (codes "\r\n"))) all

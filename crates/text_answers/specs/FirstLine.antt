@@ -1,4 +1,4 @@
--- What the first line of an answer to a classic ask says. Source: memcached's protocol.txt, "Retrieval command" and "Error strings"; that a line may have more spaces, and the limits, are mcgate's own.
+-- What the first line of an answer says to its ask. Source: memcached's protocol.txt, "Retrieval command", "Meta Commands" and "Error strings"; that a line may have more spaces, and the limits, are mcgate's own.
 use Rattle.std.specs.Prelude.{ℕ, ◌+◌, ◌^◌, ◌&&◌, Bool, true, false, List, [], ◌∷◌, length, Option, Some, None, option_map, nat_le, codes, if◌then◌else◌}
 use Rattle.std.specs.Option.{option_and_then}
 use Rattle.std.specs.List.{list_all, after_first}
@@ -10,10 +10,18 @@ use Rattle.mc_types.specs.Fits.{is_text_byte}
 use Rattle.mc_types.specs.declared.ask.Op.{Op}
 use Rattle.mc_types.specs.declared.ask.Op.TheVariants.{Get, Gat}
 use Rattle.mc_types.specs.declared.ask.Ask.{Ask}
+use Rattle.mc_types.specs.declared.ask.Dialect.{Dialect}
+use Rattle.mc_types.specs.declared.ask.Dialect.TheVariants as dialects
+use Rattle.mc_types.specs.declared.ask.Dialect.TheVariants.{Classic}
+use Rattle.mc_types.specs.declared.answer.Code.TheVariants.{Hd}
 use Rattle.mc_types.specs.declared.answer.Answer.{Answer}
-use Rattle.mc_types.specs.declared.answer.Answer.TheVariants.{ClientError, ServerError}
+use Rattle.mc_types.specs.declared.answer.Answer.TheVariants.{ClientError, ServerError, Error, Meta}
+use Rattle.meta_answers.specs.declared.line.MetaLine.{MetaLine}
+use Rattle.meta_answers.specs.declared.line.MetaLine.TheVariants as lines
+use Rattle.meta_answers.specs.Told.{none_told, fields_told}
+use Rattle.meta_answers.specs.Line.{meta_said}
 use Rattle.text_answers.specs.declared.said.Said.{Said}
-use Rattle.text_answers.specs.declared.said.Said.TheVariants.{Whole, Hit, Foreign}
+use Rattle.text_answers.specs.declared.said.Said.TheVariants.{Whole, Hit, Value, Foreign}
 use Rattle.text_answers.specs.declared.said.HitLine.{HitLine}
 use Rattle.text_answers.specs.Table.{word_answer}
 
@@ -76,14 +84,41 @@ abbrev pub alone : Op → List ℕ → List (List ℕ) → Said
 alone op word [] = whole_or_foreign (word_answer op word)
 alone op word (other ∷ more) = Foreign
 
+-- what a line of these words says to a classic ask
+abbrev pub classic_said : Ask → List ℕ → List (List ℕ) → Said
+classic_said ask word more =
+    if bytes_eq word (codes "VALUE") && is_fetch ask.op then hit_or_foreign (hit_said ask.key ask.with_cas more)
+    else alone ask.op word more
+
+-- what the line of a meta answer says
+abbrev pub line_said : MetaLine → Said
+line_said (lines.Done told) = Whole (Meta Hd (fields_told told None))
+line_said (lines.Value value) = Value value
+line_said (lines.Other code) = Whole (Meta code (fields_told none_told None))
+
+abbrev pub line_or_foreign : Option MetaLine → Said
+line_or_foreign (Some line) = line_said line
+line_or_foreign None = Foreign
+
+abbrev pub is_error_word : List ℕ → List (List ℕ) → Bool
+is_error_word word [] = bytes_eq word (codes "ERROR")
+is_error_word word (other ∷ more) = false
+
+-- what a line of these words says to a meta ask
+abbrev pub meta_or_error : Ask → List ℕ → List (List ℕ) → Said
+meta_or_error ask word more = if is_error_word word more then Whole Error else line_or_foreign (meta_said ask word more)
+
+abbrev pub in_dialect : Dialect → Ask → List ℕ → List (List ℕ) → Said
+in_dialect Classic ask word more = classic_said ask word more
+in_dialect dialects.Meta ask word more = meta_or_error ask word more
+
 -- a line of these words, with this text of an error
 abbrev pub words_said : Ask → Option (List ℕ) → List (List ℕ) → Said
 words_said ask text [] = Foreign
 words_said ask text (word ∷ more) =
     if bytes_eq word (codes "CLIENT_ERROR") then error_said ClientError text
     else if bytes_eq word (codes "SERVER_ERROR") then error_said ServerError text
-    else if bytes_eq word (codes "VALUE") && is_fetch ask.op then hit_or_foreign (hit_said ask.key ask.with_cas more)
-    else alone ask.op word more
+    else in_dialect ask.dialect ask word more
 
 -- what the line says to the ask
 abbrev pub said : Ask → List ℕ → Said

@@ -1,6 +1,7 @@
--- The one spelling of an answer to a classic ask. Source: memcached's protocol.txt, what is said of the answers of each command; that a line has one space between two words is mcgate's own.
+-- The one spelling of an answer to an ask. Source: memcached's protocol.txt, what is said of the answers of each command; that a line has one space between two words is mcgate's own.
 use Rattle.std.specs.Prelude.{ℕ, List, [], ◌∷◌, ◌++◌, Option, Some, None, length, codes, decimal}
 use Rattle.mc_text.specs.Spelling.{line_of}
+use Rattle.meta_answers.specs.Spelling.{meta_spelling}
 use Rattle.mc_types.specs.declared.ask.Ask.{Ask}
 use Rattle.mc_types.specs.declared.answer.Answer.{Answer}
 use Rattle.mc_types.specs.declared.answer.Answer.TheVariants.{Stored, NotStored, Exists, NotFound, Deleted, Touched, Number, Hit, Miss, Meta, ClientError, Error, ServerError}
@@ -38,7 +39,7 @@ error_words word (b ∷ text) = word ∷ (b ∷ text) ∷ []
 abbrev pub error_line : List ℕ → List ℕ → List ℕ
 error_line word text = line_of (error_words word text)
 
--- an answer's bytes; a meta answer is none to a classic ask
+-- an answer's bytes
 abbrev pub spelling_of : Ask → Answer → List ℕ
 spelling_of ask Stored = line_of (codes "STORED" ∷ [])
 spelling_of ask NotStored = line_of (codes "NOT_STORED" ∷ [])
@@ -49,7 +50,7 @@ spelling_of ask Touched = line_of (codes "TOUCHED" ∷ [])
 spelling_of ask (Number n) = line_of (decimal n ∷ [])
 spelling_of ask (Hit flags body cas) = value_of ask (Hit flags body cas) ++ end_text
 spelling_of ask Miss = end_text
-spelling_of ask (Meta code fields) = []
+spelling_of ask (Meta code fields) = meta_spelling ask code fields
 spelling_of ask (ClientError text) = error_line (codes "CLIENT_ERROR") text
 spelling_of ask Error = line_of (codes "ERROR" ∷ [])
 spelling_of ask (ServerError text) = error_line (codes "SERVER_ERROR") text

@@ -1,6 +1,6 @@
 ghost use Rattle.std.specs.Prelude.{◌≡◌, ◌↔◌, IsTrue, [], ◌∷◌, codes};
 ghost use Rattle.mc_text.specs.Word.{words};
-ghost use Rattle.text_answers.specs.Reading.{TellsEnd, TellsEndLine};
+ghost use Rattle.text_answers.specs.Reading.{TellsDataEnd, TellsEnd, TellsEndLine};
 
 use mc_text::word::next_word;
 use mc_text::{Line, line};
@@ -40,6 +40,17 @@ fn end_line(bytes: &[u8]) -> Ends
                 Ends::Bad
             }
         }
+    }
+}
+
+/// How a data block ends behind its data.
+pub fn data_end(bytes: &[u8]) -> Ends
+    ensures { TellsDataEnd bytes.now result }
+{
+    match bytes {
+        [] | [b'\r'] => Ends::Open,
+        [b'\r', b'\n', ..] => Ends::Whole(2),
+        _ => Ends::Bad,
     }
 }
 

@@ -22,13 +22,19 @@ ghost use Rattle.text_answers.specs.FirstLine.{
   cas_said,
   hit_said,
   is_fetch,
+  is_error_word,
+  line_said,
+  meta_or_error,
+  classic_said,
+  in_dialect,
   said,
 };
 
 use crate::said::{HitLine, Said};
 use mc_text::number::{number, small_number};
 use mc_text::word::next_word;
-use mc_types::{Answer, Ask, Body, ErrorText, Op};
+use mc_types::{Answer, Ask, Body, Code, Dialect, ErrorText, Fields, Op};
+use meta_answers::{MetaLine, meta_line};
 use std::alloc::{AllocError, Global};
 
 /// The most bytes of data in a hit.
@@ -232,8 +238,68 @@ fn is_fetch(op: Op) -> bool
     matches!(op, Op::Get | Op::Gat)
 }
 
-/// What the first line of an answer says to a classic ask. The only error is want of memory, and only an error line
-/// takes any.
+// What a line with this first word, and with words from `at` on, says to a classic ask.
+fn classic_said(ask: &Ask, word: &[u8], line: &[u8], at: usize) -> Said
+    requires { at ≤ length line.now }
+    ensures { result ≡ classic_said ask.now word.now (words (drop at line.now)) }
+{
+    if word == b"VALUE".as_slice() && is_fetch(ask.op) {
+        return match hit_line(ask, line, at) {
+            Some(hit) => Said::Hit(hit),
+            None => Said::Foreign,
+        };
+    }
+    if next_word(line, at).is_some() {
+        return Said::Foreign;
+    }
+    match word_answer(ask.op, word) {
+        Some(answer) => Said::Whole(answer),
+        None => Said::Foreign,
+    }
+}
+
+fn line_said(line: MetaLine) -> Said
+    ensures { result ≡ line_said line }
+{
+    match line {
+        MetaLine::Done(told) => Said::Whole(Answer::Meta(Code::Hd, told.fields(None))),
+        MetaLine::Value(value) => Said::Value(value),
+        MetaLine::Other(code) => Said::Whole(Answer::Meta(code, Fields::none())),
+    }
+}
+
+fn is_error_word(word: &[u8], line: &[u8], at: usize) -> bool
+    requires { at ≤ length line.now }
+    ensures { result ≡ is_error_word word.now (words (drop at line.now)) }
+{
+    word == b"ERROR".as_slice() && next_word(line, at).is_none()
+}
+
+// The same to a meta ask.
+fn meta_said(ask: &Ask, word: &[u8], line: &[u8], at: usize) -> Said
+    requires { at ≤ length line.now }
+    ensures { result ≡ meta_or_error ask.now word.now (words (drop at line.now)) }
+{
+    if is_error_word(word, line, at) {
+        return Said::Whole(Answer::Error);
+    }
+    match meta_line(ask, word, line, at) {
+        Some(line) => line_said(line),
+        None => Said::Foreign,
+    }
+}
+
+fn in_dialect(ask: &Ask, word: &[u8], line: &[u8], at: usize) -> Said
+    requires { at ≤ length line.now }
+    ensures { result ≡ in_dialect ask.now.dialect ask.now word.now (words (drop at line.now)) }
+{
+    match ask.dialect {
+        Dialect::Classic => classic_said(ask, word, line, at),
+        Dialect::Meta => meta_said(ask, word, line, at),
+    }
+}
+
+/// What the first line of an answer says to an ask. The only error is want of memory, and only an error line takes any.
 pub fn said(alloc: Global, ask: &Ask, line: &[u8]) -> Result<Said, AllocError>
     ensures { IfOk result (λ s. s ≡ said ask.now line.now) }
 {
@@ -253,17 +319,5 @@ pub fn said(alloc: Global, ask: &Ask, line: &[u8]) -> Result<Said, AllocError>
             None => Said::Foreign,
         });
     }
-    if word == b"VALUE".as_slice() && is_fetch(ask.op) {
-        return Ok(match hit_line(ask, line, first.end) {
-            Some(hit) => Said::Hit(hit),
-            None => Said::Foreign,
-        });
-    }
-    if next_word(line, first.end).is_some() {
-        return Ok(Said::Foreign);
-    }
-    Ok(match word_answer(ask.op, word) {
-        Some(answer) => Said::Whole(answer),
-        None => Said::Foreign,
-    })
+    Ok(in_dialect(ask, word, line, first.end))
 }

@@ -1,4 +1,4 @@
-//! Answers of memcached's classic text protocol: how they are written, and how they are read.
+//! Answers of memcached's text protocol, in both dialects: how they are written, and how they are read.
 #![tactic(auto)]
 
 mod block_end;

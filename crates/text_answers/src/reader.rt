@@ -1,12 +1,14 @@
 ghost use Rattle.std.specs.Prelude.{◌≡◌, length, IfOk};
-ghost use Rattle.text_answers.specs.Reading.{Reads, ReadsBehind, LiesWithin};
+ghost use Rattle.text_answers.specs.Reading.{Reads, ReadsBehind, LiesWithin, is_data};
 ghost use Rattle.text_answers.specs.FirstLine.{said};
 
-use crate::block_end::{Ends, block_end};
+use crate::block_end::{Ends, block_end, data_end};
 use crate::first_line::said;
 use crate::said::{HitLine, Said};
+use mc_text::number::number;
 use mc_text::{Line, line};
-use mc_types::{Answer, Ask, Body};
+use mc_types::{Answer, Ask, Body, Code};
+use meta_answers::ValueLine;
 use std::alloc::{AllocError, Global};
 
 /// What was read of an answer.
@@ -40,29 +42,58 @@ fn hit_behind(alloc: Global, hit: HitLine, rest: &[u8]) -> Result<AnswerRead, Al
     }
 }
 
+fn is_data(is_number: bool, body: &[u8]) -> bool
+    ensures { result ≡ is_data is_number body.now }
+{
+    !is_number || number(body).is_some()
+}
+
+fn value_behind(alloc: Global, line: ValueLine, rest: &[u8]) -> Result<AnswerRead, AllocError>
+    ensures { IfOk result (ReadsBehind (Said.Value line) rest.now) }
+{
+    if rest.len() < line.len {
+        return Ok(AnswerRead::More);
+    }
+    match data_end(&rest[line.len..]) {
+        Ends::Bad => Ok(AnswerRead::Foreign),
+        Ends::Open => Ok(AnswerRead::More),
+        Ends::Whole(used) => {
+            let body = &rest[..line.len];
+            if !is_data(line.is_number, body) {
+                return Ok(AnswerRead::Foreign);
+            }
+            let fields = line.told.fields(Some(Body::from_slice(alloc, body)?));
+            let answer = Answer::Meta(Code::Va, fields);
+            Ok(AnswerRead::Answer(answer, line.len + used))
+        }
+    }
+}
+
 fn behind(alloc: Global, said: Said, rest: &[u8]) -> Result<AnswerRead, AllocError>
     ensures { IfOk result (ReadsBehind said rest.now) }
 {
     match said {
         Said::Whole(answer) => Ok(AnswerRead::Answer(answer, 0)),
         Said::Hit(hit) => hit_behind(alloc, hit, rest),
+        Said::Value(line) => value_behind(alloc, line, rest),
         Said::Foreign => Ok(AnswerRead::Foreign),
     }
 }
 
-/// Reads the answer to a classic ask at the front of the bytes that a server sent.
+/// Reads the answer to an ask, in the ask's dialect, at the front of the bytes that a server sent.
 ///
 /// A line ends at `\n`, and one `\r` before that is no part of it; words are parted by one or more spaces. Which answers
 /// are taken for which ask is a table over the operation. The key of a `VALUE` line has to be the one that was asked, a
 /// cas number stands on it where the ask wants one, and is dropped where not. The text of an error line is what stands
-/// behind its word and one space, at most 1,024 bytes, none of them a control character.
+/// behind its word and one space, at most 1,024 bytes, none of them a control character. What the line of a meta answer
+/// may say is told at [`meta_answers::meta_line`]; the data of an `ma` are a number of 1 to 20 digits.
 ///
 /// [`AnswerRead::Foreign`] comes where no answer begins so, whatever follows: another answer than the table has, a second
 /// `VALUE`, more than 1,048,576 bytes of data, a line of more than 65,535 bytes. The only error is want of memory; the
 /// data of a hit are copied once, and only when the answer is whole.
 ///
-/// Source: memcached's protocol.txt, what is said of the answers of each command; the limits and what is foreign are
-/// mcgate's own.
+/// Source: memcached's protocol.txt, what is said of the answers of each command, and "Meta Commands"; the limits and what
+/// is foreign are mcgate's own.
 pub fn read_answer(alloc: Global, ask: &Ask, bytes: &[u8]) -> Result<AnswerRead, AllocError>
     ensures reads { IfOk result (Reads ask.now bytes.now) }
     ensures within { IfOk result (LiesWithin bytes.now) }

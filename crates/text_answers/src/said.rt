@@ -1,4 +1,5 @@
 use mc_types::Answer;
+use meta_answers::ValueLine;
 
 /// What the first line of a hit says.
 #[derive(Clone, Copy)]
@@ -17,6 +18,8 @@ pub enum Said {
     Whole(Answer),
     /// A hit: its data and the line `END` follow.
     Hit(HitLine),
+    /// A meta answer with data, which follow.
+    Value(ValueLine),
     /// No answer to the ask begins with this line.
     Foreign,
 }

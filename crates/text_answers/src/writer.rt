@@ -12,6 +12,7 @@ ghost use Rattle.text_answers.specs.Spelling.{
 use bytes::BytesMut;
 use itoa::Buffer;
 use mc_types::{Answer, Ask};
+use meta_answers::put_meta;
 use std::alloc::AllocError;
 
 fn put_number(number: u64, out: &mut BytesMut) -> Result<(), AllocError>
@@ -106,20 +107,20 @@ fn put_answer(ask: &Ask, answer: &Answer, out: &mut BytesMut) -> Result<(), Allo
             write_end(out)
         }
         Answer::Miss => write_end(out),
-        Answer::Meta(_, _) => Ok(()),
+        Answer::Meta(code, fields) => put_meta(ask, *code, fields, out),
         Answer::ClientError(text) => put_error(b"CLIENT_ERROR".as_slice(), text.as_bytes(), out),
         Answer::Error => out.extend_from_slice(b"ERROR\r\n"),
         Answer::ServerError(text) => put_error(b"SERVER_ERROR".as_slice(), text.as_bytes(), out),
     }
 }
 
-/// Appends the one spelling of an answer to a classic ask: one space between two words, `\r\n` behind each line.
+/// Appends the one spelling of an answer to an ask: one space between two words, `\r\n` after each line.
 ///
-/// A hit has its cas number on the line exactly where it carries one, and `END` behind its data. A meta answer is no
-/// answer to a classic ask, and nothing is appended for it. The only error is want of memory, which leaves the buffer
-/// as it was.
+/// A hit has its cas number on the line exactly where it carries one, and `END` after its data. A meta answer has its return
+/// tokens in the order of the ask's flags: `k` and `O` on every line, `c`, `f`, `s` and `t` where their field is set. The
+/// only error is want of memory, which leaves the buffer as it was.
 ///
-/// Source: memcached's protocol.txt, what is said of the answers of each command.
+/// Source: memcached's protocol.txt, what is said of the answers of each command, and "Meta Commands".
 pub fn write_answer(ask: &Ask, answer: &Answer, out: &mut BytesMut) -> Result<(), AllocError>
     ensures ok { OnOk result (out.new.items ≡ out.old.items ++ spelling_of ask.now answer.now) }
     ensures err { OnErr result (out.new.items ≡ out.old.items) }

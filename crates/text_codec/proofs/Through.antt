@@ -2,8 +2,8 @@
 use Rattle.std.proofs.Common.{◌≡◌, ℕ, suc, ◌+◌, ◌<◌, true, false, eqb, List, [], ◌∷◌, length, drop, refl, sym, ap, ◌∙◌, arith}
 use Rattle.std.specs.List.{position_or_len}
 use Rattle.std.specs.Prelude.{◌==◌}
-use Rattle.text_requests.specs.declared.command.Skip.TheVariants.{Nothing, ThroughNewline}
-use Rattle.text_requests.specs.Stream.{Stands, through_newline}
+use Rattle.request_parts.specs.declared.skip.Skip.TheVariants.{Nothing, ThroughNewline}
+use Rattle.request_parts.specs.Stream.{Stands, through_newline}
 
 abbrev line_end : List ℕ → ℕ
 line_end bytes = position_or_len (λ b. b == 10) bytes

@@ -1,11 +1,11 @@
 -- What a stream holds. Source: mcgate's own.
 use Rattle.std.specs.Prelude.{◌≡◌, ℕ, Bool, true, false, List, []}
-use Rattle.text_requests.specs.declared.command.Skip.{Skip}
-use Rattle.text_requests.specs.declared.command.Skip.TheVariants.{Nothing, Bytes, ThroughNewline}
+use Rattle.request_parts.specs.declared.skip.Skip.{Skip}
+use Rattle.request_parts.specs.declared.skip.Skip.TheVariants.{Nothing, Bytes, ThroughNewline}
 use Rattle.text_requests.specs.declared.command.Read.{Read}
 use Rattle.text_requests.specs.declared.command.Read.TheVariants as reads
 use Rattle.text_requests.specs.Message.{Reads}
-use Rattle.text_requests.specs.Stream.{Place, Stands, Closed}
+use Rattle.request_parts.specs.Stream.{Place, Stands, Closed}
 
 abbrev pub place_in : Bool → Skip → List ℕ → Place
 place_in true skip held = Closed

@@ -5,10 +5,10 @@ use Rattle.mc_types.specs.declared.ask.Op.{Op}
 use Rattle.mc_types.specs.declared.ask.Op.TheVariants.{Get, Gat, Set, Add, Replace, Append, Prepend, Cas, Delete, Incr, Decr, Touch}
 use Rattle.mc_types.specs.declared.ask.Ask.{Ask}
 use Rattle.mc_types.specs.declared.answer.Answer.{Answer}
-use Rattle.text_requests.specs.declared.command.Own.{Own}
-use Rattle.text_requests.specs.declared.command.Own.TheVariants.{Version, Quit}
-use Rattle.text_requests.specs.declared.command.Why.{Why}
-use Rattle.text_requests.specs.Refusals.{refusal_line}
+use Rattle.request_parts.specs.declared.own.Own.{Own}
+use Rattle.request_parts.specs.declared.own.Own.TheVariants.{Version, Quit, Noop}
+use Rattle.request_parts.specs.declared.refusal.Why.{Why}
+use Rattle.request_parts.specs.Refusals.{refusal_line}
 use Rattle.text_answers.specs.Spelling.{spelling_of, value_of, end_text}
 
 abbrev pub is_fetch : Op → Bool
@@ -52,6 +52,7 @@ ends_with asks i reply = is_failure reply || is_last asks i
 abbrev pub own_answer : Own → List ℕ
 own_answer Version = codes "VERSION mcgate-1\r\n"
 own_answer Quit = []
+own_answer Noop = codes "MN\r\n"
 
 abbrev pub refusal_text : Why → List ℕ
 refusal_text why = refusal_line why ++ codes "\r\n"

@@ -69,7 +69,7 @@ pub fn write_part(
     written
 }
 
-/// Appends what mcgate itself answers: its version, and nothing to `quit`. The only error is want of memory, which
+/// Appends what mcgate itself answers: its version, `MN` to `mn`, and nothing to `quit`. The only error is want of memory, which
 /// leaves the buffer as it was.
 pub fn write_own(own: Own, out: &mut BytesMut) -> Result<(), AllocError>
     ensures ok { OnOk result (out.new.items ≡ out.old.items ++ own_answer own) }
@@ -78,6 +78,7 @@ pub fn write_own(own: Own, out: &mut BytesMut) -> Result<(), AllocError>
     match own {
         Own::Version => out.extend_from_slice(b"VERSION mcgate-1\r\n"),
         Own::Quit => Ok(()),
+        Own::Noop => out.extend_from_slice(b"MN\r\n"),
     }
 }
 

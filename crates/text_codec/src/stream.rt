@@ -1,6 +1,6 @@
 ghost use Rattle.std.specs.Prelude.{◌≡◌, ◌≤◌, ◌↔◌, IsTrue, ℕ, List, [], drop, length, OnOk, OnErr};
-ghost use Rattle.text_requests.specs.declared.command.Skip.TheVariants.{Nothing};
-ghost use Rattle.text_requests.specs.Stream.{Stands, Closed, skipped, extended};
+ghost use Rattle.request_parts.specs.declared.skip.Skip.TheVariants.{Nothing};
+ghost use Rattle.request_parts.specs.Stream.{Stands, Closed, skipped, extended};
 ghost use Rattle.text_codec.specs.Held.{held_at, HoldsNone, IsReadAt};
 
 use bytes::BytesMut;
@@ -18,7 +18,7 @@ pub struct TextStream {
 }
 
 impl Model for TextStream {
-    ghost use Rattle.text_requests.specs.Stream.{Place};
+    ghost use Rattle.request_parts.specs.Stream.{Place};
     ghost use Rattle.text_codec.specs.Held.{place_in, HoldsNone};
 
     ghost Value = { Place };

@@ -1,34 +1,28 @@
 -- Each ask of a message that is served is well formed.
-use Rattle.std.proofs.Common.{◌≡◌, ℕ, zero, suc, ◌+◌, ◌-◌, ◌^◌, ◌<◌, ◌≤◌, Bool, true, false, not, eqb, ltb, List, [], ◌∷◌, length, take, drop, Option, Some, None, Result, Ok, Err, refl, ap, subst, ◌∙◌, arith}
-use Rattle.std.specs.Prelude.{ℤ, IfSome, map, position, slice_get}
-use Rattle.std.specs.List.{AllByRecursion, list_all, position_or_len}
-use Rattle.std.proofs.lemmas.Bool.{le-ltb, ne_eqb}
-use Rattle.std.proofs.lemmas.List.{length-take, drop-take}
-use Rattle.mc_text.specs.Line.{without_cr}
+use Rattle.std.proofs.Common.{◌≡◌, ℕ, zero, suc, ◌+◌, ◌-◌, ◌^◌, ◌<◌, ◌≤◌, Bool, true, false, List, [], ◌∷◌, length, take, drop, Option, Some, None, refl, ap, subst, ◌∙◌, arith}
+use Rattle.std.specs.Prelude.{ℤ, IfSome, map, slice_get}
+use Rattle.std.specs.List.{AllByRecursion}
+use Rattle.std.proofs.lemmas.List.{drop-take}
 use Rattle.mc_text.specs.Word.{words, text_at}
-use Rattle.mc_types.specs.KeyText.{IsKey, is_bad_byte, is_key_byte}
-use Rattle.mc_types.specs.Fault.{read_key}
+use Rattle.mc_types.specs.KeyText.{IsKey}
 use Rattle.mc_types.specs.Asks.{IsAsk, IsExptime, AreInRange, data_limit}
 use Rattle.mc_types.specs.declared.ask.Op.{Op}
 use Rattle.mc_types.specs.declared.ask.Op.TheVariants as ops
-use Rattle.text_requests.specs.declared.command.Why.{Why}
-use Rattle.text_requests.specs.declared.command.Skip.{Skip}
-use Rattle.text_requests.specs.declared.command.Skip.TheVariants.{Nothing}
-use Rattle.text_requests.specs.declared.command.Why.TheVariants.{Unknown}
 use Rattle.text_requests.specs.declared.command.StoreKind.{StoreKind}
 use Rattle.text_requests.specs.declared.command.StoreKind.TheVariants as kinds
-use Rattle.text_requests.specs.declared.command.End.{End}
-use Rattle.text_requests.specs.declared.command.End.TheVariants.{Open, Good, Bad}
 use Rattle.text_requests.specs.declared.command.Command.{Command}
 use Rattle.text_requests.specs.declared.command.Keys.{Keys}
 use Rattle.text_requests.specs.declared.command.Request.{Request}
-use Rattle.text_requests.specs.Places.{order_in, keys_in, IsIn}
-use Rattle.text_requests.specs.CommandWords.{Word}
-use Rattle.text_requests.specs.Order.{Order, Storing, Retrieval, Storage, Swapping, Deletion, Touching, Counting, OfItself, order_of, skip_of}
-use Rattle.text_requests.specs.Message.{Message, Served, Refusal, Found, Begins, IsReadFrom, message_in, meaning_of, with_rest, with_block, end_of, block_len}
+use Rattle.text_requests.specs.Places.{order_in, keys_in}
+use Rattle.request_parts.specs.Places.{IsIn}
+use Rattle.request_parts.specs.Tests.{Word}
+use Rattle.text_requests.specs.Order.{Order, Storing, Retrieval, Storage, Swapping, Deletion, Touching, Counting, OfItself}
+use Rattle.text_requests.specs.Message.{Message, Begins, IsReadFrom, message_in}
+use Rattle.request_parts.specs.Message.{Served, Refusal}
+use Rattle.text_requests.specs.Grammar.{classic_grammar, block_len}
 use Rattle.text_requests.specs.Asks.{asks_by, asks_of, IsClassicAsk, retrieval_ask, store_ask, bare_ask, count_ask, kind_op}
 use Rattle.text_requests.proofs.Sound.{IsSound, IsSoundStoring, sound}
-use Rattle.text_requests.proofs.WordTable.{both}
+use Rattle.request_parts.proofs.Sound.{IsServed, served_sound}
 
 bare_range : (op : Op) (key : Word) → AreInRange (bare_ask op key)
 bare_range op key = record { flags = omega arith; exptime = tt; body = omega arith; cas = tt; delta = omega arith }
@@ -64,27 +58,8 @@ are_asks (Touching key exptime quiet) block h le = (record { key = h.0; ranges =
 are_asks (Counting up key delta quiet) block h le = (is_count up key delta h.0 h.1, tt)
 are_asks (OfItself own) block h le = tt
 
--- an order that is served, and its block
-pub record IsServed (o : Order) (block : List ℕ) : Type 0 where
-  pub sound : IsSound o
-  pub short : length block ≤ data_limit
-
-not_true : (b : Bool) → not b ≡ true → b ≡ false
-not_true true e = absurd cc
-not_true false e = refl
-
 some_is : {A : Type 0} (x y : A) → Some x ≡ Some y → x ≡ y
 some_is x y e = cc
-
-abbrev message_first : Found → Message
-message_first (Some x) = x.0
-message_first None = Refusal Unknown Nothing
-
-served_is : (o p : Order) (a b : List ℕ) (i j : ℕ) → ◌≡◌ {A = Found} (Some (Served o a, i)) (Some (Served p b, j)) → (o ≡ p) × (a ≡ b)
-served_is o p a b i j e = let g : Served o a ≡ Served p b = ap message_first e in (cc, cc)
-
-refused_is_not : {A : Type 0} (why : Why) (skip : Skip) (p : Order) (b : List ℕ) (i j : ℕ) → ◌≡◌ {A = Found} (Some (Refusal why skip, i)) (Some (Served p b, j)) → A
-refused_is_not why skip p b i j e = let g : Refusal why skip ≡ Served p b = ap message_first e in absurd (cc)
 
 -- the block of an order is no longer than its line says, and that is at most the limit
 block_short : (o : Order) (n : ℕ) → IsSound o → block_len o ≡ Some n → n ≤ data_limit
@@ -96,24 +71,8 @@ block_short (Touching key exptime quiet) n h e = absurd cc
 block_short (Counting up key delta quiet) n h e = absurd cc
 block_short (OfItself own) n h e = absurd cc
 
-with_end : (o p : Order) (block b : List ℕ) (used j : ℕ) (end : End) → with_block o used block end ≡ Some (Served p b, j) → (o ≡ p) × (block ≡ b)
-with_end o p block b used j Open e = absurd cc
-with_end o p block b used j Good e = served_is o p block b _ _ e
-with_end o p block b used j Bad e = refused_is_not _ _ p b _ _ e
-
-by_len : (o p : Order) (used j : ℕ) (rest b : List ℕ) (len : Option ℕ) → IsSound o → block_len o ≡ len → with_rest o used rest len ≡ Some (Served p b, j) → IsServed p b
-by_len o p used j rest b None h is e = let s = served_is o p [] b used j e in record { sound = subst IsSound s.0 h; short = subst (λ (t : List ℕ). length t ≤ data_limit) s.1 (omega arith) }
-by_len o p used j rest b (Some n) h is e =
-    let s = with_end o p (take n rest) b used j (end_of (drop n rest)) e in
-    let le = block_short o n h is in
-    record { sound = subst IsSound s.0 h; short = subst (λ (t : List ℕ). length t ≤ data_limit) s.1 (omega (arith, length-take n rest)) }
-
-by_line : (ws : List Word) (line : Result Order Why) (p : Order) (skip : Skip) (used j : ℕ) (rest b : List ℕ) → order_of ws ≡ line → meaning_of line skip used rest ≡ Some (Served p b, j) → IsServed p b
-by_line ws (Err why) p skip used j rest b is e = refused_is_not why skip p b used j e
-by_line ws (Ok o) p skip used j rest b is e = by_len o p used j rest b (block_len o) (sound ws o is) refl e
-
-pub is_served : (bytes : List ℕ) (o : Order) (block : List ℕ) (used : ℕ) → Begins bytes (Served o block) used → IsServed o block
-is_served bytes o block used b = let ws = words (without_cr b.text) in by_line ws (order_of ws) o (skip_of ws) (length b.text + 1) used b.rest block refl b.says
+pub is_served : (bytes : List ℕ) (o : Order) (block : List ℕ) (used : ℕ) → Begins bytes (Served o block) used → IsServed classic_grammar IsSound o block
+is_served = served_sound classic_grammar IsSound sound block_short
 
 are_classic_retrievals : (exptime : Option ℤ) (with_cas : Bool) (keys : List Word) → AllByRecursion IsAsk (map (retrieval_ask exptime with_cas) keys) → AllByRecursion IsClassicAsk (map (retrieval_ask exptime with_cas) keys)
 are_classic_retrievals exptime with_cas [] h = tt
@@ -131,22 +90,6 @@ are_classic (OfItself own) block h = tt
 pub of_message : (bytes : List ℕ) (m : Message) (used : ℕ) → Begins bytes m used → AllByRecursion IsClassicAsk (asks_of m)
 of_message bytes (Served o block) used b = let s = is_served bytes o block used b in are_classic o block (are_asks o block s.sound s.short)
 of_message bytes (Refusal why skip) used b = tt
-
--- a text that is a key is read as one
-no_bad : (text : List ℕ) → list_all is_key_byte text ≡ true → position_or_len is_bad_byte text ≡ length text
-no_bad [] e = refl
-no_bad (b ∷ text) e =
-    let parts = both (is_key_byte b) (list_all is_key_byte text) e in
-    let good : is_bad_byte b ≡ false = not_true (is_bad_byte b) parts.0 in
-    let rest = no_bad text parts.1 in
-    rw (good, rest) (omega arith)
-
-pub is_read : (text : List ℕ) → IsKey text → read_key text ≡ Ok text
-is_read text k =
-    let some : eqb (length text) 0 ≡ false = ne_eqb (length text) 0 (λ e. let s = k.some in omega arith) in
-    let short : ltb 250 (length text) ≡ false = le-ltb 250 (length text) k.short in
-    let none : position is_bad_byte text ≡ None = rw (no_bad text k.bytes, le-ltb (length text) (length text) (omega arith)) refl in
-    rw (some, short, none) refl
 
 -- an element of a list
 pub found : {A : Type 0} (P : A → Type 0) (xs : List A) (i : ℕ) (x : A) → AllByRecursion P xs → slice_get xs i ≡ Some x → P x

@@ -1,59 +1,22 @@
 -- What was written is read back.
-use Rattle.std.proofs.Common.{◌≡◌, ℕ, suc, ◌+◌, ◌*◌, ◌^◌, ◌<◌, ◌≤◌, Bool, true, false, List, [], ◌∷◌, ◌++◌, length, take, drop, Some, None, Result, Ok, refl, sym, ap, subst, ◌∙◌, append_assoc, arith}
-use Rattle.std.specs.Prelude.{ℤ, pos, negsuc, codes, decimal, FitsSigned}
-use Rattle.std.specs.Fmt.{signed_decimal}
-use Rattle.std.specs.List.{AllByRecursion}
-use mir.Syntax.{w64}
-use Rattle.std.proofs.lemmas.Fmt.{length-decimal-le}
-use Rattle.std.proofs.lemmas.List.{length-append, append-nil, take_at, drop_at}
-use Rattle.mc_text.specs.Line.{IsLine, CR, LF}
-use Rattle.mc_text.specs.Spelling.{spaced, line_of}
-use Rattle.mc_text.proofs.Spaced.{IsPlain, ArePlain, literal, decimal_word, signed_word, plain_words, plain_lines, is_line, line_words, spaced-more}
-use Rattle.mc_types.specs.KeyText.{IsKey}
-use Rattle.mc_types.specs.Asks.{IsAsk, IsExptime, HasShape, HasShapeOf, shape_of, classic_shape}
+use Rattle.std.proofs.Common.{◌≡◌, ℕ, ◌≤◌, Bool, true, false, List, [], ◌∷◌, ◌++◌, length, Some, None, refl, subst, arith}
+use Rattle.std.specs.Prelude.{codes, decimal}
+use Rattle.mc_text.specs.Spelling.{line_of}
+use Rattle.mc_text.proofs.Spaced.{literal}
+use Rattle.mc_types.specs.Asks.{IsAsk, HasShape, HasShapeOf, shape_of, classic_shape}
 use Rattle.mc_types.specs.declared.ask.Ask.{Ask}
 use Rattle.mc_types.specs.declared.ask.Op.{Op}
 use Rattle.mc_types.specs.declared.ask.Op.TheVariants.{Get, Gat, Set, Add, Replace, Append, Prepend, Cas, Delete, Incr, Decr, Touch}
 use Rattle.mc_types.specs.declared.ask.Dialect.{Dialect}
 use Rattle.mc_types.specs.declared.ask.Dialect.TheVariants.{Classic}
-use Rattle.text_requests.specs.declared.command.Why.{Why}
-use Rattle.text_requests.specs.CommandWords.{Word}
-use Rattle.text_requests.specs.Order.{Order, order_of, skip_of}
-use Rattle.text_requests.specs.Message.{Served, Begins, meaning, meaning_of, with_rest, block_len}
-use Rattle.text_requests.specs.Spelling.{command_word, words_behind, store_words, block_text, block_behind, order_for, exptime_in, cas_in}
+use Rattle.request_parts.specs.Tests.{Word, block_text}
+use Rattle.request_parts.specs.Message.{Served}
+use Rattle.request_parts.proofs.Tokens.{IsToken, AreTokens, key_token, decimal_token, signed_token, begins_plain, begins_block}
+use Rattle.text_requests.specs.Message.{Begins}
+use Rattle.text_requests.specs.Grammar.{classic_grammar, block_len}
+use Rattle.text_requests.specs.Spelling.{command_word, words_behind, store_words, block_behind, order_for, exptime_in, cas_in}
 use Rattle.text_requests.specs.ReadBack.{AsksAreReadBack}
-use Rattle.text_requests.proofs.OrderBack.{IsFit, key_plain, fits, is_fit, order_back}
-
--- a word that isn't long
-pub record IsToken (w : Word) : Type 0 where
-  pub plain : IsPlain w
-  pub short : length w ≤ 250
-
-abbrev AreTokens : List Word → Type 0
-AreTokens = AllByRecursion IsToken
-
-are_plain : (ws : List Word) → AreTokens ws → ArePlain ws
-are_plain [] h = tt
-are_plain (w ∷ ws) h = (h.0.plain, are_plain ws h.1)
-
--- a line of tokens isn't long
-spaced_short : (ws : List Word) → AreTokens ws → length (spaced ws) ≤ 251 * length ws
-spaced_short [] h = omega arith
-spaced_short (w ∷ []) h = let s = h.0.short in omega arith
-spaced_short (w ∷ o ∷ ws) h = let s = h.0.short in let rest = spaced_short (o ∷ ws) h.1 in omega (arith, spaced-more w o ws)
-
-key_token : (key : Word) → IsKey key → IsToken key
-key_token key k = record { plain = key_plain key k; short = k.short }
-
-decimal_token : (n : ℕ) → n < 2 ^ 64 → IsToken (decimal n)
-decimal_token n lt = let le : length (decimal n) ≤ 20 = length-decimal-le 20 n (omega arith) (omega arith) lt in record { plain = decimal_word n lt; short = omega arith }
-
-signed_short : (z : ℤ) → FitsSigned w64 z → length (signed_decimal z) ≤ 250
-signed_short (pos n) h = let small = h.sfits in let le : length (decimal n) ≤ 20 = length-decimal-le 20 n (omega arith) (omega arith) (omega arith) in omega arith
-signed_short (negsuc n) h = let small = h.sfits in let le : length (decimal (suc n)) ≤ 20 = length-decimal-le 20 (suc n) (omega arith) (omega arith) (omega arith) in omega arith
-
-signed_token : (z : ℤ) → IsExptime z → IsToken (signed_decimal z)
-signed_token z h = record { plain = signed_word z (fits z h); short = signed_short z (fits z h) }
+use Rattle.text_requests.proofs.OrderBack.{IsFit, is_fit, order_back}
 
 word_token : (op : Op) (with_cas : Bool) → IsToken (command_word op with_cas)
 word_token Get false = record { plain = literal (codes "get") refl (omega arith); short = omega arith }
@@ -105,58 +68,18 @@ few_behind Incr ask = omega arith
 few_behind Decr ask = omega arith
 few_behind Touch ask = omega arith
 
--- a line of tokens is read as what they ask
-module _ (ws : List Word) (o : Order) (more : List ℕ) (are : AreTokens ws) (few : length ws ≤ 6) (asks : order_of ws ≡ Ok o) where
-  text_len : length (spaced ws ++ CR ∷ []) + 1 ≡ length (line_of ws)
-  text_len = omega (arith, length-append (spaced ws) (CR ∷ []), length-append (spaced ws) (codes "\r\n"))
-
-  line_is : IsLine (line_of ws ++ more) (spaced ws ++ CR ∷ []) more
-  line_is = let short = spaced_short ws are in is_line ws more (plain_lines ws (are_plain ws are)) (omega arith)
-
-  means : meaning (spaced ws ++ CR ∷ []) more ≡ with_rest o (length (spaced ws ++ CR ∷ []) + 1) more (block_len o)
-  means =
-      ap (λ (line : List Word). meaning_of (order_of line) (skip_of line) (length (spaced ws ++ CR ∷ []) + 1) more) (line_words ws (plain_words ws (are_plain ws are)))
-      ∙ ap (λ (r : Result Order Why). meaning_of r (skip_of ws) (length (spaced ws ++ CR ∷ []) + 1) more) asks
-
-begins_line : (ws : List Word) (o : Order) (more : List ℕ) → AreTokens ws → length ws ≤ 6 → order_of ws ≡ Ok o → block_len o ≡ None → Begins (line_of ws ++ more) (Served o []) (length (line_of ws))
-begins_line ws o more are few asks none = record {
-  text = spaced ws ++ CR ∷ [];
-  rest = more;
-  line = line_is ws o more are few asks;
-  says = means ws o more are few asks ∙ ap (with_rest o (length (spaced ws ++ CR ∷ []) + 1) more) none ∙ ap (λ (n : ℕ). Some (Served o [], n)) (text_len ws o more are few asks);
-}
-
-begins_plain : (ws : List Word) (o : Order) (more : List ℕ) → AreTokens ws → length ws ≤ 6 → order_of ws ≡ Ok o → block_len o ≡ None → Begins ((line_of ws ++ []) ++ more) (Served o []) (length (line_of ws ++ []))
-begins_plain ws o more are few asks none = subst (λ (t : List ℕ). Begins (t ++ more) (Served o []) (length t)) (sym (append-nil (line_of ws))) (begins_line ws o more are few asks none)
-
-begins_block : (ws : List Word) (o : Order) (body more : List ℕ) → AreTokens ws → length ws ≤ 6 → order_of ws ≡ Ok o → block_len o ≡ Some (length body) → Begins ((line_of ws ++ block_text body) ++ more) (Served o body) (length (line_of ws ++ block_text body))
-begins_block ws o body more are few asks long =
-    let rest : List ℕ = body ++ (CR ∷ LF ∷ more) in
-    let used : ℕ = length (spaced ws ++ CR ∷ []) + 1 in
-    let cut : (line_of ws ++ block_text body) ++ more ≡ line_of ws ++ rest = append_assoc (line_of ws) (block_text body) more ∙ ap (λ (t : List ℕ). line_of ws ++ t) (append_assoc body (CR ∷ LF ∷ []) more) in
-    let front : take (length body) rest ≡ body = take_at body (CR ∷ LF ∷ more) (length body) refl in
-    let back : drop (length body) rest ≡ CR ∷ LF ∷ more = drop_at body (CR ∷ LF ∷ more) (length body) refl in
-    let all : used + length body + 2 ≡ length (line_of ws ++ block_text body) = omega (arith, text_len ws o rest are few asks, length-append (line_of ws) (block_text body), length-append body (codes "\r\n")) in
-    let block : with_rest o used rest (Some (length body)) ≡ Some (Served o body, used + length body + 2) = rw (front, back) refl in
-    record {
-      text = spaced ws ++ CR ∷ [];
-      rest = rest;
-      line = subst (λ (t : List ℕ). IsLine t (spaced ws ++ CR ∷ []) rest) (sym cut) (line_is ws o rest are few asks);
-      says = means ws o rest are few asks ∙ ap (with_rest o used rest) long ∙ block ∙ ap (λ (n : ℕ). Some (Served o body, n)) all;
-    }
-
 module _ (ask : Ask) (more : List ℕ) (f : IsFit ask) where
   tokens : (op : Op) → AreTokens (command_word op ask.with_cas ∷ words_behind op ask)
   tokens op = (word_token op ask.with_cas, tokens_behind op ask f)
 
-  few : (op : Op) → length (command_word op ask.with_cas ∷ words_behind op ask) ≤ 6
+  few : (op : Op) → length (command_word op ask.with_cas ∷ words_behind op ask) ≤ 20
   few op = let n = few_behind op ask in omega arith
 
   plain : (op : Op) → block_len (order_for op ask) ≡ None → Begins ((line_of (command_word op ask.with_cas ∷ words_behind op ask) ++ []) ++ more) (Served (order_for op ask) []) (length (line_of (command_word op ask.with_cas ∷ words_behind op ask) ++ []))
-  plain op none = begins_plain (command_word op ask.with_cas ∷ words_behind op ask) (order_for op ask) more (tokens op) (few op) (order_back op ask f) none
+  plain op none = begins_plain classic_grammar (command_word op ask.with_cas ∷ words_behind op ask) (order_for op ask) (tokens op) (few op) (order_back op ask f) more none
 
   blocked : (op : Op) → block_len (order_for op ask) ≡ Some (length ask.body) → Begins ((line_of (command_word op ask.with_cas ∷ words_behind op ask) ++ block_text ask.body) ++ more) (Served (order_for op ask) ask.body) (length (line_of (command_word op ask.with_cas ∷ words_behind op ask) ++ block_text ask.body))
-  blocked op long = begins_block (command_word op ask.with_cas ∷ words_behind op ask) (order_for op ask) ask.body more (tokens op) (few op) (order_back op ask f) long
+  blocked op long = begins_block classic_grammar (command_word op ask.with_cas ∷ words_behind op ask) (order_for op ask) (tokens op) (few op) (order_back op ask f) ask.body more long
 
 -- by the operation: an ask without data has an empty body
 by_op : (ask : Ask) (more : List ℕ) (op : Op) → IsFit ask → HasShape ask (classic_shape op) → Begins ((line_of (command_word op ask.with_cas ∷ words_behind op ask) ++ block_behind op ask) ++ more) (Served (order_for op ask) ask.body) (length (line_of (command_word op ask.with_cas ∷ words_behind op ask) ++ block_behind op ask))

@@ -11,7 +11,7 @@ use Rattle.mc_text.proofs.WordLemmas.{next_is}
 use Rattle.mc_types.specs.KeyText.{is_bad_byte, is_key_byte}
 use Rattle.text_requests.specs.declared.next_key.NextKey.TheVariants.{Key, Other}
 use Rattle.text_requests.specs.KeysOfLine.{ends_word, IsNextKey}
-use Rattle.text_requests.specs.Order.{is_key}
+use Rattle.request_parts.specs.Tests.{is_key}
 
 one_plus : (n : ℕ) → 1 + n ≡ suc n
 one_plus n = omega arith

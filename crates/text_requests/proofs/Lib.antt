@@ -1,6 +1,5 @@
 pub mod WordTable
 pub mod Front
-pub mod GroupLemmas
 pub mod KeyLemmas
 pub mod StreamLemmas
 pub mod Sound

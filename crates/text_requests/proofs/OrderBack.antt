@@ -1,57 +1,28 @@
 -- The line of an ask asks what the ask says.
-use Rattle.std.proofs.Common.{◌≡◌, ℕ, ◌^◌, ◌<◌, ◌≤◌, Bool, true, false, not, eqb, ◌||◌, List, [], ◌∷◌, length, Option, Some, None, Result, Ok, refl, ap, ◌∙◌, arith, inl, inr}
-use Rattle.std.specs.Prelude.{ℤ, pos, negsuc, codes, decimal, IfSome, unwrap_or, FitsSigned}
+use Rattle.std.proofs.Common.{◌≡◌, ℕ, ◌^◌, ◌<◌, ◌≤◌, Bool, true, false, List, [], ◌∷◌, length, Option, Some, None, Result, Ok, refl, ap, ◌∙◌, arith}
+use Rattle.std.specs.Prelude.{ℤ, pos, codes, decimal, IfSome, unwrap_or}
 use Rattle.std.specs.Fmt.{signed_decimal}
-use mir.Syntax.{w64}
-use Rattle.std.proofs.lemmas.Bool.{cases_lt, lt-ltb, le-leb}
+use Rattle.std.proofs.lemmas.Bool.{le-leb}
 use Rattle.std.proofs.lemmas.Int.{ints}
-use Rattle.mc_text.proofs.Spaced.{IsPlain, all_plain}
-use Rattle.mc_text.proofs.NumberLemmas.{number_below-decimal}
-use Rattle.mc_text.proofs.ReadBack.{signed_are_read_back}
-use Rattle.mc_types.specs.KeyText.{IsKey, is_key_byte}
+use Rattle.mc_types.specs.KeyText.{IsKey}
 use Rattle.mc_types.specs.Asks.{IsAsk, IsExptime, data_limit}
 use Rattle.mc_types.specs.declared.ask.Ask.{Ask}
 use Rattle.mc_types.specs.declared.ask.Op.{Op}
 use Rattle.mc_types.specs.declared.ask.Op.TheVariants.{Get, Gat, Set, Add, Replace, Append, Prepend, Cas, Delete, Incr, Decr, Touch}
-use Rattle.text_requests.specs.declared.command.Why.{Why}
+use Rattle.request_parts.specs.declared.refusal.Why.{Why}
 use Rattle.text_requests.specs.declared.command.Verb.{Verb}
 use Rattle.text_requests.specs.declared.command.Verb.TheVariants as verbs
 use Rattle.text_requests.specs.declared.command.StoreKind.{StoreKind}
 use Rattle.text_requests.specs.declared.command.StoreKind.TheVariants as kinds
-use Rattle.text_requests.specs.CommandWords.{Word, verb_of}
-use Rattle.text_requests.specs.Order.{Order, Storing, Retrieval, Storage, Swapping, Deletion, Touching, Counting, ◌>>=◌, is_key, key_of, keys_of, small_of, wide_of, exptime_of, storing_of, order_of, ordered_by, fitting, storage, swapping, getting, getting_and_touching, counting, touching, deletion}
+use Rattle.request_parts.specs.Tests.{Word}
+use Rattle.text_requests.specs.CommandWords.{verb_of}
+use Rattle.text_requests.specs.Order.{Order, Storing, Retrieval, Storage, Swapping, Deletion, Touching, Counting, keys_of, storing_of, order_of, ordered_by, storage, swapping, getting, getting_and_touching, counting, touching, deletion}
+use Rattle.request_parts.specs.Tests.{◌>>=◌, wide_of, exptime_of, fitting}
+use Rattle.request_parts.proofs.Tokens.{key_passes, key_back, small_back, wide_back, exptime_back}
 use Rattle.text_requests.specs.Spelling.{command_word, words_behind, store_words, storing, order_for, exptime_in, cas_in}
-
-key_byte : (b : ℕ) → is_key_byte b ≡ true → 33 ≤ b
-key_byte b e = elim (cases_lt b 33) [
-  | inl lt ↦ let f : not (true || eqb b 127) ≡ true = rw (lt-ltb b 33 lt) at e in absurd cc
-  | inr ge ↦ ge
-]
-
-pub key_plain : (key : Word) → IsKey key → IsPlain key
-key_plain key k = record { some = k.some; plain = all_plain is_key_byte key_byte key k.bytes }
-
-key_passes : (key : Word) → IsKey key → is_key key ≡ true
-key_passes key k = rw (le-leb 1 (length key) k.some, le-leb (length key) 250 k.short, k.bytes) refl
-
-key_back : (key : Word) → IsKey key → key_of key ≡ Ok key
-key_back key k = rw (key_passes key k) refl
 
 keys_back : (key : Word) → IsKey key → keys_of (key ∷ []) ≡ Ok (key ∷ [])
 keys_back key k = rw (key_passes key k) refl
-
-small_back : (n : ℕ) → n < 2 ^ 32 → small_of (decimal n) ≡ Ok n
-small_back n lt = rw (number_below-decimal (2 ^ 32) n lt (omega arith)) refl
-
-wide_back : (n : ℕ) → n < 2 ^ 64 → wide_of (decimal n) ≡ Ok n
-wide_back n lt = rw (number_below-decimal (2 ^ 64) n lt (omega arith)) refl
-
-pub fits : (z : ℤ) → IsExptime z → FitsSigned w64 z
-fits (pos n) h = record { sfits = omega (arith, ints, h.1) }
-fits (negsuc n) h = record { sfits = omega (arith, ints, h.0) }
-
-exptime_back : (z : ℤ) → IsExptime z → exptime_of (signed_decimal z) ≡ Ok z
-exptime_back z h = rw (signed_are_read_back z (fits z h)) refl
 
 storing_back : (s : Storing) → IsKey s.key → s.flags < 2 ^ 32 → IsExptime s.exptime → s.length ≤ data_limit → storing_of s.key (decimal s.flags) (signed_decimal s.exptime) (decimal s.length) ≡ Ok s
 storing_back s k f e n =

@@ -1,23 +1,21 @@
 -- What a line that is served asks, is in its ranges.
-use Rattle.std.proofs.Common.{◌≡◌, ℕ, zero, suc, ◌+◌, ◌^◌, ◌<◌, ◌≤◌, Bool, true, false, eqb, leb, ltb, ◌&&◌, List, [], ◌∷◌, length, drop, get_or, Option, Some, None, Result, Ok, Err, refl, subst, arith, inl, inr}
-use Rattle.std.specs.Prelude.{ℤ, pos, neg_ℤ, IfSome, ok_or}
+use Rattle.std.proofs.Common.{◌≡◌, ◌^◌, ◌<◌, ◌≤◌, Bool, true, false, List, [], ◌∷◌, Option, Some, None, Result, Ok, Err, subst, inl, inr}
+use Rattle.std.specs.Prelude.{IfSome}
 use Rattle.std.specs.List.{AllByRecursion, list_all}
-use Rattle.std.specs.Option.{option_map}
-use Rattle.std.specs.Str.Parse.{digits_value}
-use Rattle.std.proofs.lemmas.Bool.{cases_Bool, leb-true, ltb-true}
-use Rattle.std.proofs.lemmas.Int.{ints}
-use Rattle.mc_text.specs.Number.{is_number, number_below, signed_number}
-use Rattle.mc_types.specs.KeyText.{IsKey, is_key_byte}
+use Rattle.std.proofs.lemmas.Bool.{cases_Bool, and_parts}
+use Rattle.mc_types.specs.KeyText.{IsKey}
 use Rattle.mc_types.specs.Asks.{IsExptime, data_limit}
-use Rattle.text_requests.specs.declared.command.Why.{Why}
-use Rattle.text_requests.specs.declared.command.Why.TheVariants.{BadKey, BadNumber, TooLarge}
+use Rattle.request_parts.specs.declared.refusal.Why.{Why}
+use Rattle.request_parts.specs.declared.refusal.Why.TheVariants.{BadKey}
+use Rattle.request_parts.specs.declared.own.Own.{Own}
+use Rattle.request_parts.specs.Tests.{Word, is_key, key_of, small_of, wide_of, exptime_of}
+use Rattle.request_parts.proofs.KeyTexts.{key_is}
+use Rattle.request_parts.proofs.Ranges.{passed, is_ok, a_key, a_small, a_wide, an_exptime, fits}
 use Rattle.text_requests.specs.declared.command.Verb.{Verb}
 use Rattle.text_requests.specs.declared.command.Verb.TheVariants as verbs
 use Rattle.text_requests.specs.declared.command.StoreKind.{StoreKind}
-use Rattle.text_requests.specs.declared.command.Own.{Own}
-use Rattle.text_requests.specs.CommandWords.{Word, verb_of}
-use Rattle.text_requests.specs.Order.{Order, Storing, Retrieval, Storage, Swapping, Deletion, Touching, Counting, OfItself, ◌>>=◌, is_key, key_of, keys_of, small_of, wide_of, exptime_of, noreply_of, delete_tail_of, getting, getting_and_touching, retrieval, storing_of, fitting, storage, swapping, deletion, touching, counting, of_itself, ordered_by, order_of}
-use Rattle.text_requests.proofs.WordTable.{both}
+use Rattle.text_requests.specs.CommandWords.{verb_of}
+use Rattle.text_requests.specs.Order.{Order, Storing, Retrieval, Storage, Swapping, Deletion, Touching, Counting, OfItself, keys_of, noreply_of, delete_tail_of, getting, getting_and_touching, retrieval, storing_of, storage, swapping, deletion, touching, counting, of_itself, ordered_by, order_of}
 
 pub record IsSoundStoring (s : Storing) : Type 0 where
   pub key : IsKey s.key
@@ -34,33 +32,9 @@ IsSound (Touching key exptime quiet) = IsKey key × IsExptime exptime
 IsSound (Counting up key delta quiet) = IsKey key × (delta < 2 ^ 64)
 IsSound (OfItself own) = Unit {0}
 
--- the first test was passed, and so were the others
-passed : {A : Type 0} → (r : Result A Why) (f : A → Result Order Why) (o : Order) → r >>= f ≡ Ok o → (x : A) × (r ≡ Ok x) × (f x ≡ Ok o)
-passed (Ok x) f o e = (x, refl, e)
-passed (Err why) f o e = absurd cc
-
-passed_store : {A : Type 0} → (r : Result A Why) (f : A → Result Storing Why) (o : Storing) → r >>= f ≡ Ok o → (x : A) × (r ≡ Ok x) × (f x ≡ Ok o)
-passed_store (Ok x) f o e = (x, refl, e)
-passed_store (Err why) f o e = absurd cc
-
-is_ok : {A : Type 0} → (x y : A) → ◌≡◌ {A = Result A Why} (Ok x) (Ok y) → x ≡ y
-is_ok x y e = cc
-
-pub key_is : (w : Word) → is_key w ≡ true → IsKey w
-key_is w e =
-    let a = both (leb 1 (length w) && leb (length w) 250) (list_all is_key_byte w) e in
-    let b = both (leb 1 (length w)) (leb (length w) 250) a.0 in
-    record { some = leb-true 1 (length w) b.0; short = leb-true (length w) 250 b.1; bytes = a.1 }
-
 keys_are : (ws : List Word) → list_all is_key ws ≡ true → AllByRecursion IsKey ws
 keys_are [] e = tt
-keys_are (w ∷ ws) e = let a = both (is_key w) (list_all is_key ws) e in (key_is w a.0, keys_are ws a.1)
-
-a_key : (w k : Word) → key_of w ≡ Ok k → IsKey k
-a_key w k e = elim (cases_Bool (is_key w)) [
-  | inl same ↦ let f : ◌≡◌ {A = Result Word Why} (Ok w) (Ok k) = rw same at e in subst IsKey (is_ok w k f) (key_is w same)
-  | inr other ↦ let f : ◌≡◌ {A = Result Word Why} (Err BadKey) (Ok k) = rw other at e in absurd cc
-]
+keys_are (w ∷ ws) e = let a = and_parts (is_key w) (list_all is_key ws) e in (key_is w a.0, keys_are ws a.1)
 
 some_keys : (ws ks : List Word) → keys_of ws ≡ Ok ks → AllByRecursion IsKey ks
 some_keys [] ks e = absurd cc
@@ -69,66 +43,15 @@ some_keys (w ∷ ws) ks e = elim (cases_Bool (list_all is_key (w ∷ ws))) [
   | inr other ↦ let f : ◌≡◌ {A = Result (List Word) Why} (Err BadKey) (Ok ks) = rw other at e in absurd cc
 ]
 
-below_limit : (limit n : ℕ) (w : Word) → number_below limit w ≡ Some n → n < limit
-below_limit limit n w e = elim (cases_Bool (is_number w && ltb (digits_value 10 w) limit)) [
-  | inl same ↦
-      let f : Some (digits_value 10 w) ≡ Some n = rw same at e in
-      let lt = ltb-true (digits_value 10 w) limit (both (is_number w) (ltb (digits_value 10 w) limit) same).1 in
-      let value : digits_value 10 w ≡ n = cc in omega (arith, lt)
-  | inr other ↦ let f : None ≡ Some n = rw other at e in absurd cc
-]
-
-from_ok_or : {A : Type 0} → (o : Option A) (x : A) → ok_or {E = Why} o BadNumber ≡ Ok x → o ≡ Some x
-from_ok_or None x e = absurd cc
-from_ok_or (Some y) x e = cc
-
-a_small : (w : Word) (n : ℕ) → small_of w ≡ Ok n → n < 2 ^ 32
-a_small w n e = below_limit (2 ^ 32) n w (from_ok_or (number_below (2 ^ 32) w) n e)
-
-a_wide : (w : Word) (n : ℕ) → wide_of w ≡ Ok n → n < 2 ^ 64
-a_wide w n e = below_limit (2 ^ 64) n w (from_ok_or (number_below (2 ^ 64) w) n e)
-
-down : (n : ℕ) → n < 2 ^ 63 + 1 → IsExptime (neg_ℤ (pos n))
-down zero lt = (omega (arith, ints), omega (arith, ints))
-down (suc n) lt = (omega (arith, ints), omega (arith, ints))
-
-up : (n : ℕ) → n < 2 ^ 63 → IsExptime (pos n)
-up n lt = (omega (arith, ints), omega (arith, ints))
-
-below_zero : (o : Option ℕ) (z : ℤ) → ((n : ℕ) → o ≡ Some n → n < 2 ^ 63 + 1) → option_map (λ n. neg_ℤ (pos n)) o ≡ Some z → IsExptime z
-below_zero None z h e = absurd cc
-below_zero (Some n) z h e = let same : neg_ℤ (pos n) ≡ z = cc in subst IsExptime same (down n (h n refl))
-
-not_below_zero : (o : Option ℕ) (z : ℤ) → ((n : ℕ) → o ≡ Some n → n < 2 ^ 63) → option_map pos o ≡ Some z → IsExptime z
-not_below_zero None z h e = absurd cc
-not_below_zero (Some n) z h e = let same : pos n ≡ z = cc in subst IsExptime same (up n (h n refl))
-
-signed : (w : Word) (z : ℤ) → signed_number w ≡ Some z → IsExptime z
-signed w z e = elim (cases_Bool (eqb (get_or w 0 0) 45)) [
-  | inl same ↦ let f : option_map (λ n. neg_ℤ (pos n)) (number_below (2 ^ 63 + 1) (drop 1 w)) ≡ Some z = rw same at e in
-      below_zero (number_below (2 ^ 63 + 1) (drop 1 w)) z (λ n h. below_limit (2 ^ 63 + 1) n (drop 1 w) h) f
-  | inr other ↦ let f : option_map pos (number_below (2 ^ 63) w) ≡ Some z = rw other at e in
-      not_below_zero (number_below (2 ^ 63) w) z (λ n h. below_limit (2 ^ 63) n w h) f
-]
-
-an_exptime : (w : Word) (z : ℤ) → exptime_of w ≡ Ok z → IsExptime z
-an_exptime w z e = signed w z (from_ok_or (signed_number w) z e)
-
 storing : (k f e n : Word) (s : Storing) → storing_of k f e n ≡ Ok s → IsSoundStoring s
 storing k f e n s h =
-    let a = passed_store (key_of k) _ s h in
-    let b = passed_store (small_of f) _ s a.2 in
-    let c = passed_store (exptime_of e) _ s b.2 in
-    let d = passed_store (small_of n) _ s c.2 in
+    let a = passed (key_of k) _ s h in
+    let b = passed (small_of f) _ s a.2 in
+    let c = passed (exptime_of e) _ s b.2 in
+    let d = passed (small_of n) _ s c.2 in
     let r : Storing = record { key = a.0; flags = b.0; exptime = c.0; length = d.0 } in
     let same : r ≡ s = is_ok r s d.2 in
     subst IsSoundStoring same (record { key = a_key k a.0 a.1; flags = a_small f b.0 b.1; exptime = an_exptime e c.0 c.1 })
-
-fits : (n : ℕ) (o p : Order) → fitting n o ≡ Ok p → (n ≤ data_limit) × (o ≡ p)
-fits n o p e = elim (cases_Bool (leb n data_limit)) [
-  | inl same ↦ let f : ◌≡◌ {A = Result Order Why} (Ok o) (Ok p) = rw same at e in (leb-true n data_limit same, is_ok o p f)
-  | inr other ↦ let f : ◌≡◌ {A = Result Order Why} (Err TooLarge) (Ok p) = rw other at e in absurd cc
-]
 
 by_storage : (kind : StoreKind) (ws : List Word) (o : Order) → storage kind ws ≡ Ok o → IsSound o
 by_storage kind [] o h = absurd cc

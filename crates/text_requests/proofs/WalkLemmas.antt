@@ -12,7 +12,7 @@ use Rattle.text_requests.specs.declared.command.Command.{Command}
 use Rattle.text_requests.specs.declared.command.Command.TheVariants as commands
 use Rattle.text_requests.specs.declared.command.Keys.{Keys}
 use Rattle.text_requests.specs.declared.command.Request.{Request}
-use Rattle.text_requests.specs.CommandWords.{Word}
+use Rattle.request_parts.specs.Tests.{Word}
 use Rattle.text_requests.specs.Order.{Order, Retrieval, Storage, Swapping, Deletion, Touching, Counting, OfItself}
 use Rattle.text_requests.specs.Places.{order_in, keys_in, AreIn, LiesIn}
 use Rattle.text_requests.specs.Message.{IsReadFrom}

@@ -4,7 +4,8 @@ use Rattle.std.specs.List.{list_all}
 use Rattle.std.specs.Str.{bytes_eq}
 use Rattle.std.proofs.lemmas.Bool.{cases_Bool, eqb-false, ne_eqb}
 use Rattle.std.proofs.lemmas.Slice.Eq.{bytes_eq-Decides}
-use Rattle.text_requests.specs.CommandWords.{Word, Entry, command_words, found_in, verb_of, of_three, of_four, of_five, of_six, of_seven}
+use Rattle.request_parts.specs.Tests.{Word}
+use Rattle.text_requests.specs.CommandWords.{Entry, command_words, found_in, verb_of, of_three, of_four, of_five, of_six, of_seven}
 
 pub both : (a b : Bool) → (a && b) ≡ true → (a ≡ true) × (b ≡ true)
 both true b e = (refl, e)

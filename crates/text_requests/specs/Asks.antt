@@ -6,8 +6,8 @@ use Rattle.mc_types.specs.declared.ask.Op.{Op}
 use Rattle.mc_types.specs.declared.ask.Op.TheVariants as ops
 use Rattle.mc_types.specs.declared.ask.Dialect.TheVariants.{Classic}
 use Rattle.mc_types.specs.declared.ask.Ask.{Ask}
-use Rattle.text_requests.specs.CommandWords.{Word}
-use Rattle.text_requests.specs.declared.command.Own.{Own}
+use Rattle.request_parts.specs.Tests.{Word}
+use Rattle.request_parts.specs.declared.own.Own.{Own}
 use Rattle.text_requests.specs.declared.command.StoreKind.{StoreKind}
 use Rattle.text_requests.specs.declared.command.StoreKind.TheVariants as kinds
 use Rattle.text_requests.specs.declared.command.Command.{Command}
@@ -16,7 +16,9 @@ use Rattle.text_requests.specs.declared.command.Keys.{Keys}
 use Rattle.text_requests.specs.declared.request.Asks.{Asks}
 use Rattle.text_requests.specs.Order.{Order, Storing, Retrieval, Storage, Swapping, Deletion, Touching, Counting, OfItself}
 use Rattle.text_requests.specs.Places.{keys_in}
-use Rattle.text_requests.specs.Message.{Message, Served, Refusal, IsReadFrom}
+use Rattle.text_requests.specs.Grammar.{own_by}
+use Rattle.text_requests.specs.Message.{Message, IsReadFrom}
+use Rattle.request_parts.specs.Message.{Served, Refusal}
 
 -- an operation on a key, and nothing else
 abbrev pub bare_ask : Op → Word → Ask
@@ -95,11 +97,6 @@ is_quiet (OfItself own) = false
 abbrev pub quiet_of : Message → Bool
 quiet_of (Served order block) = is_quiet order
 quiet_of (Refusal why skip) = false
-
--- what an order asks of mcgate itself
-abbrev pub own_by : Order → Option Own
-own_by (OfItself own) = Some own
-own_by _ = None
 
 -- what a message asks of mcgate itself
 abbrev pub own_of : Message → Option Own

@@ -1,14 +1,11 @@
 -- The command words. Source: memcached's protocol.txt, "Commands"; that the words of the meta commands aren't among them is mcgate's own.
-use Rattle.std.specs.Prelude.{ℕ, true, false, List, [], ◌∷◌, ◌++◌, Option, Some, None, codes, if◌then◌else◌}
+use Rattle.std.specs.Prelude.{true, false, List, [], ◌∷◌, ◌++◌, Option, Some, None, codes, if◌then◌else◌}
 use Rattle.std.specs.Str.{bytes_eq}
+use Rattle.request_parts.specs.Tests.{Word}
 use Rattle.text_requests.specs.declared.command.Verb.{Verb}
 use Rattle.text_requests.specs.declared.command.Verb.TheVariants as verbs
 use Rattle.text_requests.specs.declared.command.StoreKind.TheVariants as kinds
-use Rattle.text_requests.specs.declared.command.Own.TheVariants as owns
-
--- what stands between the spaces of a line
-abbrev pub Word : Type 0
-Word = List ℕ
+use Rattle.request_parts.specs.declared.own.Own.TheVariants as owns
 
 -- a command word, and what it means
 abbrev pub Entry : Type 0

@@ -4,7 +4,7 @@ use Rattle.mc_text.specs.Word.{words, text_at, IsNextWord}
 use Rattle.mc_text.specs.declared.word.Span.{Span}
 use Rattle.text_requests.specs.declared.next_key.NextKey.{NextKey}
 use Rattle.text_requests.specs.declared.next_key.NextKey.TheVariants.{Nothing, Key, Other}
-use Rattle.text_requests.specs.Order.{is_key}
+use Rattle.request_parts.specs.Tests.{is_key}
 
 -- a word ends before these bytes
 abbrev pub ends_word : List ℕ → Bool

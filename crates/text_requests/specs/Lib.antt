@@ -1,7 +1,7 @@
 pub mod CommandWords
-pub mod Refusals
 pub mod Order
 pub mod Places
+pub mod Grammar
 pub mod KeysOfLine
 pub mod Message
 pub mod Asks

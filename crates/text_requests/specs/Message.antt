@@ -1,76 +1,40 @@
 -- Messages at the front of a stream: a line, and behind a store's line its data. Source: memcached's protocol.txt, "Protocol" and "Storage commands".
-use Rattle.std.specs.Prelude.{◌≡◌, ℕ, ◌+◌, ◌&&◌, List, [], ◌∷◌, length, take, drop, Option, Some, None, Result, Ok, Err, ◌==◌, if◌then◌else◌}
-use Rattle.mc_text.specs.Line.{IsLine, IsTooLong, LF, CR, without_cr}
-use Rattle.mc_text.specs.Word.{words, text_at}
-use Rattle.text_requests.specs.declared.command.Why.{Why}
-use Rattle.text_requests.specs.declared.command.Why.TheVariants.{BadChunk}
-use Rattle.text_requests.specs.declared.command.Skip.{Skip}
-use Rattle.text_requests.specs.declared.command.Skip.TheVariants.{ThroughNewline}
-use Rattle.text_requests.specs.declared.command.End.{End}
-use Rattle.text_requests.specs.declared.command.End.TheVariants.{Open, Good, Bad}
+use Rattle.std.specs.Prelude.{◌≡◌, ℕ, List, length, Option, Some, None}
+use Rattle.mc_text.specs.Line.{IsTooLong}
+use Rattle.mc_text.specs.Word.{text_at}
+use Rattle.request_parts.specs.Message as parts
+use Rattle.request_parts.specs.Message.{Served, Refusal}
+use Rattle.request_parts.specs.Places.{IsIn}
 use Rattle.text_requests.specs.declared.command.Read.{Read}
 use Rattle.text_requests.specs.declared.command.Read.TheVariants as reads
 use Rattle.text_requests.specs.declared.command.Request.{Request}
 use Rattle.text_requests.specs.declared.command.Command.{Command}
 use Rattle.text_requests.specs.declared.command.Command.TheVariants as commands
-use Rattle.text_requests.specs.Order.{Order, Storage, Swapping, order_of, skip_of}
-use Rattle.text_requests.specs.Places.{order_in, LiesIn, IsIn}
+use Rattle.text_requests.specs.Order.{Order}
+use Rattle.text_requests.specs.Grammar.{classic_grammar}
+use Rattle.text_requests.specs.Places.{order_in, LiesIn}
 
 -- a message: one that is served, with its data block, or one that is refused, with what is passed over behind it
-pub data Message : Type 0 where
-  Served : (order : Order) (block : List ℕ) → Message
-  Refusal : (why : Why) (skip : Skip) → Message
+abbrev pub Message : Type 0
+Message = parts.Message Order
 
--- the length of the data block behind the line, where one follows
-abbrev pub block_len : Order → Option ℕ
-block_len (Storage kind stored quiet) = Some stored.length
-block_len (Swapping stored cas quiet) = Some stored.length
-block_len _ = None
-
--- the same of a command
+-- the length of the data block behind a command, where one follows
 abbrev pub command_block_len : Command → Option ℕ
 command_block_len (commands.Storage kind stored quiet) = Some stored.length
 command_block_len (commands.Swapping stored cas quiet) = Some stored.length
 command_block_len _ = None
 
--- how a data block ends, by what follows its data
-abbrev pub end_of : List ℕ → End
-end_of [] = Open
-end_of (b ∷ []) = if b == CR then Open else Bad
-end_of (b ∷ c ∷ more) = if b == CR && c == LF then Good else Bad
-
 -- a message, and how many bytes it takes; none where more must come
 abbrev pub Found : Type 0
-Found = Option (Message × ℕ)
-
--- an order with its data block, behind a line of so many bytes
-abbrev pub with_block : Order → ℕ → List ℕ → End → Found
-with_block order used block Open = None
-with_block order used block Good = Some (Served order block, used + length block + 2)
-with_block order used block Bad = Some (Refusal BadChunk ThroughNewline, used + length block)
-
--- an order, behind a line of so many bytes, with what follows it
-abbrev pub with_rest : Order → ℕ → List ℕ → Option ℕ → Found
-with_rest order used rest None = Some (Served order [], used)
-with_rest order used rest (Some n) = with_block order used (take n rest) (end_of (drop n rest))
-
--- what a line means, with what follows it
-abbrev pub meaning_of : Result Order Why → Skip → ℕ → List ℕ → Found
-meaning_of (Ok order) skip used rest = with_rest order used rest (block_len order)
-meaning_of (Err why) skip used rest = Some (Refusal why skip, used)
+Found = parts.Found Order
 
 -- what the line of this text and the bytes behind it are, unless more must come
 abbrev pub meaning : List ℕ → List ℕ → Found
-meaning text rest =
-    let line = words (without_cr text) in
-    meaning_of (order_of line) (skip_of line) (length text + 1) rest
+meaning = parts.meaning classic_grammar
 
 -- the bytes begin with this message, which takes so many of them
-pub record Begins (bytes : List ℕ) (message : Message) (used : ℕ) : Type 0 where
-  pub text : List ℕ
-  pub rest : List ℕ
-  pub line : IsLine bytes text rest
-  pub says : meaning text rest ≡ Some (message, used)
+abbrev pub Begins : List ℕ → Message → ℕ → Type 0
+Begins = parts.Begins classic_grammar
 
 -- what a request is, in the bytes that it was read from
 abbrev pub message_in : List ℕ → Request → Message

@@ -1,19 +1,17 @@
 -- What a request line says, by its words. Source: memcached's protocol.txt, the lines of each command; the order of the tests, and what is passed over behind a refused line, are mcgate's own.
-use Rattle.std.specs.Prelude.{ℕ, ◌+◌, ◌^◌, ◌&&◌, ℤ, Bool, true, false, List, [], ◌∷◌, length, Option, Some, None, Result, Ok, Err, nat_le, if◌then◌else◌, slice_get, codes, ok_or}
+use Rattle.std.specs.Prelude.{ℕ, ℤ, Bool, true, false, List, [], ◌∷◌, Option, Some, None, Result, Ok, Err, if◌then◌else◌, slice_get, codes}
 use Rattle.std.specs.List.{list_all}
 use Rattle.std.specs.Str.{bytes_eq}
-use Rattle.mc_text.specs.Number.{number_below, signed_number}
-use Rattle.mc_types.specs.KeyText.{is_key_byte}
-use Rattle.mc_types.specs.Asks.{data_limit}
-use Rattle.text_requests.specs.CommandWords.{Word, verb_of}
+use Rattle.request_parts.specs.Tests.{Word, ◌>>=◌, is_key, key_of, small_of, wide_of, exptime_of, fitting, skip_by, length_in}
+use Rattle.text_requests.specs.CommandWords.{verb_of}
 use Rattle.text_requests.specs.declared.command.Verb.{Verb}
 use Rattle.text_requests.specs.declared.command.Verb.TheVariants as verbs
 use Rattle.text_requests.specs.declared.command.StoreKind.{StoreKind}
-use Rattle.text_requests.specs.declared.command.Own.{Own}
-use Rattle.text_requests.specs.declared.command.Why.{Why}
-use Rattle.text_requests.specs.declared.command.Why.TheVariants.{Unknown, BadKey, BadNumber, TooLarge}
-use Rattle.text_requests.specs.declared.command.Skip.{Skip}
-use Rattle.text_requests.specs.declared.command.Skip.TheVariants.{Nothing, Bytes}
+use Rattle.request_parts.specs.declared.own.Own.{Own}
+use Rattle.request_parts.specs.declared.refusal.Why.{Why}
+use Rattle.request_parts.specs.declared.refusal.Why.TheVariants.{Unknown, BadKey}
+use Rattle.request_parts.specs.declared.skip.Skip.{Skip}
+use Rattle.request_parts.specs.declared.skip.Skip.TheVariants.{Nothing}
 
 -- the key and the numbers that each store has
 pub record Storing : Type 0 where
@@ -32,36 +30,10 @@ pub data Order : Type 0 where
   Counting : (up : Bool) (key : Word) (delta : ℕ) (quiet : Bool) → Order
   OfItself : (own : Own) → Order
 
-infixl 10 ◌>>=◌
--- the tests in turn: the first that fails decides
-abbrev pub ◌>>=◌ : {A B : Type 0} → Result A Why → (A → Result B Why) → Result B Why
-(Ok x) >>= f = f x
-(Err e) >>= f = Err e
-
--- 1 to 250 bytes, each 33..=126 or 128..=255
-abbrev pub is_key : Word → Bool
-is_key word = nat_le 1 (length word) && nat_le (length word) 250 && list_all is_key_byte word
-
--- a key
-abbrev pub key_of : Word → Result Word Why
-key_of word = if is_key word then Ok word else Err BadKey
-
 -- a key or more
 abbrev pub keys_of : List Word → Result (List Word) Why
 keys_of [] = Err Unknown
 keys_of (key ∷ keys) = if list_all is_key (key ∷ keys) then Ok (key ∷ keys) else Err BadKey
-
--- flags or a length: a number below 2^32
-abbrev pub small_of : Word → Result ℕ Why
-small_of word = ok_or (number_below (2 ^ 32) word) BadNumber
-
--- a cas number, or by how much is counted: a number below 2^64
-abbrev pub wide_of : Word → Result ℕ Why
-wide_of word = ok_or (number_below (2 ^ 64) word) BadNumber
-
--- a number of 64 bits with a sign
-abbrev pub exptime_of : Word → Result ℤ Why
-exptime_of word = ok_or (signed_number word) BadNumber
 
 -- whether `noreply` stands there, and nothing else
 abbrev pub noreply_of : List Word → Result Bool Why
@@ -101,10 +73,6 @@ storing_of key flags exptime length = do
   exptime ← exptime_of exptime
   length ← small_of length
   Ok (record { key = key; flags = flags; exptime = exptime; length = length })
-
--- data of at most 1,048,576 bytes
-abbrev pub fitting : ℕ → Order → Result Order Why
-fitting length order = if nat_le length data_limit then Ok order else Err TooLarge
 
 -- `set add replace append prepend`: key, flags, exptime, length, and `noreply` or not
 abbrev pub storage : StoreKind → List Word → Result Order Why
@@ -175,16 +143,6 @@ abbrev pub is_store : Option Verb → Bool
 is_store (Some (verbs.Store kind)) = true
 is_store (Some verbs.Cas) = true
 is_store _ = false
-
--- a length that was read: the data and their end
-abbrev pub skip_by : Option ℕ → Skip
-skip_by None = Nothing
-skip_by (Some n) = Bytes (n + 2)
-
--- a length, where a word is there and is one
-abbrev pub length_in : Option Word → Option ℕ
-length_in None = None
-length_in (Some word) = number_below (2 ^ 32) word
 
 -- what is passed over behind a refused line: the data that a store's fifth word tells of
 abbrev pub skip_of : List Word → Skip

@@ -1,12 +1,11 @@
 -- What the spans of a command stand for in the bytes that were read.
-use Rattle.std.specs.Prelude.{◌≡◌, ℕ, ◌≤◌, List, ◌∷◌, length, drop, Result, Ok, Err}
+use Rattle.std.specs.Prelude.{◌≡◌, ℕ, List, ◌∷◌, length, drop}
 use Rattle.mc_text.specs.Word.{words, text_at}
-use Rattle.mc_text.specs.declared.word.Span.{Span}
 use Rattle.text_requests.specs.declared.command.Command.{Command}
 use Rattle.text_requests.specs.declared.command.Command.TheVariants as commands
 use Rattle.text_requests.specs.declared.command.Keys.{Keys}
 use Rattle.text_requests.specs.declared.command.Stored.{Stored}
-use Rattle.text_requests.specs.declared.command.Why.{Why}
+use Rattle.request_parts.specs.Places.{IsIn}
 use Rattle.text_requests.specs.declared.stores.StoreWords.{StoreWords}
 use Rattle.text_requests.specs.Order.{Order, Storing, Retrieval, Storage, Swapping, Deletion, Touching, Counting, OfItself}
 
@@ -27,11 +26,6 @@ order_in text (commands.Deletion key quiet) = Deletion (text_at text key) quiet
 order_in text (commands.Touching key exptime quiet) = Touching (text_at text key) exptime quiet
 order_in text (commands.Counting up key delta quiet) = Counting up (text_at text key) delta quiet
 order_in text (commands.Own own) = OfItself own
-
--- the span lies in so many bytes
-pub record IsIn (n : ℕ) (s : Span) : Type 0 where
-  pub ordered : s.start ≤ s.end
-  pub within : s.end ≤ n
 
 -- the span lies in the text, and the count is that of its words
 pub record AreIn (text : List ℕ) (keys : Keys) : Type 0 where
@@ -59,8 +53,3 @@ pub record AreSpans (n : ℕ) (s : StoreWords) : Type 0 where
 pub record AreStoreWords (line : List ℕ) (at : ℕ) (s : StoreWords) : Type 0 where
   pub spans : AreSpans (length line) s
   pub words_are : words (drop at line) ≡ text_at line s.key ∷ text_at line s.flags ∷ text_at line s.exptime ∷ text_at line s.length ∷ words (drop s.length.end line)
-
--- what was returned, seen by view, is what the words say
-abbrev pub Gives : {X Y : Type 0} → (X → Y) → Result X Why → Result Y Why → Type 0
-Gives view (Ok x) read = read ≡ Ok (view x)
-Gives view (Err e) read = read ≡ Err e

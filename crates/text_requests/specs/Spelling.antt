@@ -6,9 +6,10 @@ use Rattle.mc_types.specs.declared.ask.Op.{Op}
 use Rattle.mc_types.specs.declared.ask.Op.TheVariants.{Get, Gat, Set, Add, Replace, Append, Prepend, Cas, Delete, Incr, Decr, Touch}
 use Rattle.mc_types.specs.declared.ask.Ask.{Ask}
 use Rattle.text_requests.specs.declared.command.StoreKind.TheVariants as kinds
-use Rattle.text_requests.specs.CommandWords.{Word}
+use Rattle.request_parts.specs.Tests.{Word, block_text}
 use Rattle.text_requests.specs.Order.{Order, Storing, Retrieval, Storage, Swapping, Deletion, Touching, Counting}
-use Rattle.text_requests.specs.Message.{Message, Served}
+use Rattle.text_requests.specs.Message.{Message}
+use Rattle.request_parts.specs.Message.{Served}
 
 -- one word, or the other where the cas number is wanted
 abbrev pub with_s : Bool → Word → Word → Word
@@ -56,10 +57,6 @@ words_behind Delete ask = ask.key ∷ []
 words_behind Incr ask = ask.key ∷ decimal ask.delta ∷ []
 words_behind Decr ask = ask.key ∷ decimal ask.delta ∷ []
 words_behind Touch ask = ask.key ∷ signed_decimal (exptime_in ask) ∷ []
-
--- the data block of a store, with its end
-abbrev pub block_text : List ℕ → List ℕ
-block_text body = body ++ codes "\r\n"
 
 -- the data block behind the line, where one follows
 abbrev pub block_behind : Op → Ask → List ℕ

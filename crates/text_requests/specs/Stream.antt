@@ -1,58 +1,23 @@
--- The messages of a stream, one after another. Source: mcgate's own.
-use Rattle.std.specs.Prelude.{◌≡◌, ℕ, ◌-◌, List, [], ◌∷◌, ◌++◌, length, drop, ◌==◌, nat_lt, if◌then◌else◌}
-use Rattle.mc_text.specs.Line.{LF}
-use Rattle.text_requests.specs.declared.command.Own.TheVariants.{Quit}
-use Rattle.text_requests.specs.declared.command.Skip.{Skip}
-use Rattle.text_requests.specs.declared.command.Skip.TheVariants.{Nothing, Bytes, ThroughNewline}
-use Rattle.text_requests.specs.Order.{Order, OfItself}
-use Rattle.text_requests.specs.Message.{Message, Served, Refusal, Begins}
+-- The messages of a classic stream, one after another.
+use Rattle.std.specs.Prelude.{ℕ, List}
+use Rattle.request_parts.specs.Stream as streams
+use Rattle.request_parts.specs.Stream.{Place, behind_own}
+use Rattle.text_requests.specs.Order.{Order}
+use Rattle.text_requests.specs.Grammar.{classic_grammar, own_by}
+use Rattle.text_requests.specs.Message.{Message}
 
--- where a reader stands: what it has still to pass over, and the bytes that it holds; or it reads no more
-pub data Place : Type 0 where
-  Stands : (skip : Skip) (held : List ℕ) → Place
-  Closed : Place
-
--- behind the next line end, if there is one
-abbrev pub through_newline : List ℕ → Place
-through_newline [] = Stands ThroughNewline []
-through_newline (b ∷ bytes) = if b == LF then Stands Nothing bytes else through_newline bytes
-
--- after passing over what it can
-abbrev pub skipped : Skip → List ℕ → Place
-skipped Nothing bytes = Stands Nothing bytes
-skipped (Bytes n) bytes = if nat_lt (length bytes) n then Stands (Bytes (n - length bytes)) [] else Stands Nothing (drop n bytes)
-skipped ThroughNewline bytes = through_newline bytes
-
--- more has come
-abbrev pub extended : Place → List ℕ → Place
-extended (Stands skip held) more = skipped skip (held ++ more)
-extended Closed more = Closed
-
--- `quit` is the last message of its stream
+-- where a reader stands behind a request
 abbrev pub behind_order : Order → List ℕ → Place
-behind_order (OfItself Quit) rest = Closed
-behind_order order rest = Stands Nothing rest
+behind_order order rest = behind_own (own_by order) rest
 
 -- where a reader stands behind a message, with these bytes behind it
 abbrev pub behind : Message → List ℕ → Place
-behind (Served order block) rest = behind_order order rest
-behind (Refusal why skip) rest = skipped skip rest
+behind = streams.behind classic_grammar
 
 -- from one place these messages come, one after another, and lead to the other
 abbrev pub Goes : Place → List Message → Place → Type 0
-Goes from [] to = from ≡ to
-Goes (Stands Nothing held) (message ∷ messages) to = (used : ℕ) × (Begins held message used × Goes (behind message (drop used held)) messages to)
-Goes (Stands (Bytes n) held) (message ∷ messages) to = ⊥
-Goes (Stands ThroughNewline held) (message ∷ messages) to = ⊥
-Goes Closed (message ∷ messages) to = ⊥
-
--- no whole message is there: less than one, or a line that is too long, or bytes to pass over, or none is read any more
-abbrev pub IsStuck : Place → Type 0
-IsStuck (Stands Nothing held) = (message : Message) (used : ℕ) → ¬ Begins held message used
-IsStuck (Stands (Bytes n) held) = Unit {0}
-IsStuck (Stands ThroughNewline held) = Unit {0}
-IsStuck Closed = Unit {0}
+Goes = streams.Goes classic_grammar
 
 -- the stream is these messages, and then no whole one
 abbrev pub Splits : List ℕ → List Message → Place → Type 0
-Splits stream messages rest = Goes (Stands Nothing stream) messages rest × IsStuck rest
+Splits = streams.Splits classic_grammar

@@ -1,13 +1,6 @@
+//! What a line asks, and what the bytes of a client begin with.
 use mc_text::word::Span;
-
-/// What a request asks of mcgate itself.
-#[derive(Clone, Copy, PartialEq, Eq)]
-pub enum Own {
-    /// The name and version.
-    Version,
-    /// To be closed.
-    Quit,
-}
+use request_parts::{Own, Skip, Why};
 
 /// The stores without a cas number, each named as its command word.
 #[derive(Clone, Copy)]
@@ -33,31 +26,6 @@ pub enum Verb {
     /// `incr` up, `decr` down.
     Count { up: bool },
     Own(Own),
-}
-
-/// Why a line is refused. The tests are made in this order, and the first that fails decides.
-#[derive(Clone, Copy, PartialEq, Eq)]
-pub enum Why {
-    /// No command is spelled so: its word, the number of its words, or another word where `noreply` or `0` may stand.
-    Unknown,
-    /// A key isn't 1 to 250 bytes, or has a control character or the byte 127 in it.
-    BadKey,
-    /// A number isn't 1 to 20 digits, or out of its range.
-    BadNumber,
-    /// The data would be longer than 1,048,576 bytes.
-    TooLarge,
-    /// The data aren't followed by `\r\n`.
-    BadChunk,
-}
-
-/// What is passed over behind the bytes that a refused message used.
-#[derive(Clone, Copy, PartialEq, Eq)]
-pub enum Skip {
-    Nothing,
-    /// So many bytes: at most 4,294,967,297.
-    Bytes(u64),
-    /// All bytes through the next `\n`.
-    ThroughNewline,
 }
 
 /// The key and the numbers that each store has.
@@ -145,15 +113,4 @@ pub enum Read {
     Request(Request),
     /// A message that is refused: it takes `used` bytes, and what `skip` says is passed over behind them.
     Refused { why: Why, used: usize, skip: Skip },
-}
-
-/// How a data block ends, by the bytes behind it.
-#[derive(Clone, Copy)]
-pub enum End {
-    /// The bytes that decide haven't come.
-    Open,
-    /// With `\r\n`.
-    Good,
-    /// With another byte.
-    Bad,
 }

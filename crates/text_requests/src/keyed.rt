@@ -1,11 +1,15 @@
+//! The lines of the commands with one key and no data, and of those without a key.
 ghost use Rattle.std.specs.Prelude.{◌≡◌, ◌≤◌, ◌<◌, length, drop, IfOk};
 ghost use Rattle.mc_text.specs.Word.{words};
 ghost use Rattle.text_requests.specs.Order.{counting, deletion, touching, of_itself};
-ghost use Rattle.text_requests.specs.Places.{Gives, LiesIn, order_in};
+ghost use Rattle.request_parts.specs.Places.{Gives};
+ghost use Rattle.text_requests.specs.Places.{LiesIn, order_in};
 
-use crate::command::{Command, Own, Why};
-use crate::parts::{delete_tail, exptime, key, noreply, wide, word};
+use crate::command::Command;
+use crate::parts::{delete_tail, noreply};
 use mc_text::word::next_word;
+use request_parts::parts::{exptime, key, wide, word};
+use request_parts::{Own, Why};
 
 /// What `delete` asks.
 pub fn deletion(line: &[u8], at: usize) -> Result<Command, Why>

@@ -1,3 +1,4 @@
+//! The laws of requests and of their streams.
 ghost use Rattle.text_requests.specs.ReadBack.{AsksAreReadBack, MessagesAreOneAsk};
 ghost use Rattle.text_requests.specs.Laws.{BeginsStill, OneMessage, ReadStill, TooLongBeginsNothing, GoesOn, GoesFurther, OneSplitting, WalkStill, AsksAreWellFormed};
 

@@ -2,23 +2,22 @@
 #![tactic(auto)]
 
 pub mod command;
-pub mod key_bytes;
 pub mod keyed;
 pub mod laws;
 pub mod line_words;
 pub mod next_key;
 pub mod parts;
 pub mod reader;
-pub mod refusal;
 pub mod request;
 pub mod retrieval;
 pub mod stores;
 pub mod verbs;
 pub mod writer;
 
-pub use command::{Own, Read, Request, Skip, Why};
-pub use reader::read_request;
+pub use command::{Read, Request};
+pub use reader::{read_behind, read_request};
 pub use request::Asks;
+pub use request_parts::{Own, Skip, Why};
 pub use writer::write_ask;
 
 #[cfg(test)]

@@ -1,17 +1,18 @@
-ghost use Rattle.std.specs.Prelude.{◌≡◌, ◌≤◌, ◌<◌, length, drop, IfOk, IfSome, slice_get};
-ghost use Rattle.std.specs.Option.{option_map};
-ghost use Rattle.mc_text.specs.Word.{words, text_at};
-ghost use Rattle.text_requests.specs.Order.{order_of, ordered_by, is_store, skip_of, length_in};
-ghost use Rattle.text_requests.specs.Places.{Gives, IsIn, LiesIn, order_in};
+//! What the words of a line ask, and what is passed over behind it.
+ghost use Rattle.std.specs.Prelude.{◌≡◌, ◌≤◌, length, drop, IfOk};
+ghost use Rattle.mc_text.specs.Word.{words, IsNextWord};
+ghost use Rattle.text_requests.specs.Order.{order_of, ordered_by, is_store, skip_of};
+ghost use Rattle.request_parts.specs.Places.{Gives};
+ghost use Rattle.text_requests.specs.Places.{LiesIn, order_in};
 
-use crate::command::{Command, Skip, Verb, Why};
+use crate::command::{Command, Verb};
 use crate::keyed::{counting, deletion, of_itself, touching};
-use crate::parts::word;
 use crate::retrieval::retrieval;
 use crate::stores::{storage, swapping};
 use crate::verbs::verb;
-use mc_text::number::small_number;
 use mc_text::word::{Span, next_word};
+use request_parts::parts::length_at;
+use request_parts::{Skip, Why};
 
 fn ordered(line: &[u8], at: usize, verb: Option<Verb>) -> Result<Command, Why>
     requires { at ≤ length line.now }
@@ -30,34 +31,13 @@ fn ordered(line: &[u8], at: usize, verb: Option<Verb>) -> Result<Command, Why>
     }
 }
 
-/// What a line asks, or the first test that it fails.
-pub fn command(line: &[u8]) -> Result<Command, Why>
+/// What a line with this first word asks, or the first test that it fails.
+pub fn command(line: &[u8], first: Span) -> Result<Command, Why>
+    requires { IsNextWord line.now 0 first }
     ensures order { Gives (order_in line.now) result (order_of (words line.now)) }
     ensures within { IfOk result (LiesIn line.now) }
 {
-    let first = word(line, 0)?;
     ordered(line, first.end, verb(&line[first.start..first.end]))
-}
-
-/// The word at a place among the words of a line from a byte on.
-pub fn nth_word(line: &[u8], from: usize, place: usize) -> Option<Span>
-    requires { from ≤ length line.now }
-    ensures value { option_map (text_at line.now) result ≡ slice_get (words (drop from line.now)) place }
-    ensures within { IfSome result (IsIn (length line.now)) }
-{
-    let mut at = from;
-    for _ in 0..place {
-        at = next_word(line, at)?.end;
-    }
-    next_word(line, at)
-}
-
-fn length_behind(line: &[u8], at: usize) -> Option<u32>
-    requires { at ≤ length line.now }
-    ensures { result ≡ length_in (slice_get (words (drop at line.now)) 3) }
-{
-    let word = nth_word(line, at, 3)?;
-    small_number(&line[word.start..word.end])
 }
 
 fn stores(verb: Option<Verb>) -> bool
@@ -79,7 +59,7 @@ pub fn skip(line: &[u8]) -> Skip
             if !stores(verb(&line[first.start..first.end])) {
                 return Skip::Nothing;
             }
-            match length_behind(line, first.end) {
+            match length_at(line, first.end, 3) {
                 Some(n) => Skip::Bytes(u64::from(n) + 2),
                 None => Skip::Nothing,
             }

@@ -1,10 +1,11 @@
+//! The keys of a line, one after another.
 ghost use Rattle.std.specs.Prelude.{◌≡◌, ◌≤◌, ◌&&◌, nat_le, length, position};
 ghost use Rattle.std.specs.List.{position_or_len};
 ghost use Rattle.mc_text.specs.Word.{is_no_space};
 ghost use Rattle.text_requests.specs.KeysOfLine.{IsNextKey, ends_word};
 
-use crate::key_bytes::key_len;
 use mc_text::word::Span;
+use request_parts::key_bytes::key_len;
 
 /// What stands next on a line where keys stand.
 #[derive(Clone, Copy)]

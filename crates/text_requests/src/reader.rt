@@ -1,24 +1,17 @@
+//! How the message at the front of a client's bytes is read.
 ghost use Rattle.std.specs.Prelude.{◌≡◌, ◌≤◌, ◌-◌, ◌<◌, ◌+◌, take, drop, length, Some};
 ghost use Rattle.mc_text.specs.Line.{TakesLine};
+ghost use Rattle.mc_text.specs.Word.{IsNextWord};
 ghost use Rattle.text_requests.specs.Places.{LiesIn, order_in};
-ghost use Rattle.text_requests.specs.Message.{Reads, IsMeant, meaning, end_of, with_rest, command_block_len};
+ghost use Rattle.text_requests.specs.Message.{Reads, IsMeant, meaning, command_block_len};
+ghost use Rattle.request_parts.specs.Message.{end_of, with_rest};
 
-use crate::command::{Command, End, Read, Request, Skip, Why};
+use crate::command::{Command, Read, Request};
 use crate::line_words::{command, skip};
 use mc_text::ends::Line;
 use mc_text::reading::line;
-use mc_text::word::Span;
-
-// how a data block ends, behind its data
-fn block_end(after: &[u8]) -> End
-    ensures { result ≡ end_of after.now }
-{
-    match after {
-        [] | [b'\r'] => End::Open,
-        [b'\r', b'\n', ..] => End::Good,
-        _ => End::Bad,
-    }
-}
+use mc_text::word::{Span, next_word};
+use request_parts::{End, Skip, Why, block_end};
 
 fn with_block(bytes: &[u8], used: usize, command: Command, len: usize) -> Read
     requires used { used ≤ length bytes.now }
@@ -55,12 +48,16 @@ fn block_len(command: &Command) -> Option<usize>
     }
 }
 
-fn behind_line(bytes: &[u8], end: usize, used: usize) -> Read
-    requires { TakesLine bytes.now end used }
+/// The message of the line that was found, whose first word is known, and of what follows the line. It takes no memory.
+///
+/// A reader of several dialects finds the line and looks at its first word once, and then calls this.
+pub fn read_behind(bytes: &[u8], end: usize, used: usize, first: Span) -> Read
+    requires line { TakesLine bytes.now end used }
+    requires first { IsNextWord (take end bytes.now) 0 first }
     ensures { IsMeant bytes.now result (meaning (take (used - 1) bytes.now) (drop used bytes.now)) }
 {
     let text = &bytes[..end];
-    match command(text) {
+    match command(text, first) {
         Err(why) => Read::Refused {
             why,
             used,
@@ -93,6 +90,13 @@ pub fn read_request(bytes: &[u8]) -> Read
     match line(bytes) {
         Line::More => Read::More,
         Line::TooLong => Read::TooLong,
-        Line::At { end, used } => behind_line(bytes, end, used),
+        Line::At { end, used } => match next_word(&bytes[..end], 0) {
+            Some(first) => read_behind(bytes, end, used, first),
+            None => Read::Refused {
+                why: Why::Unknown,
+                used,
+                skip: Skip::Nothing,
+            },
+        },
     }
 }

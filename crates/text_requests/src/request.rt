@@ -1,26 +1,18 @@
+//! What a request asks: its asks, one for each key.
 ghost use Rattle.std.specs.Prelude.{◌≡◌, ℕ, List, ◌<◌, IfOk, IfSome, OnErr, Some, length, slice_get};
 ghost use Rattle.mc_text.specs.Word.{text_at};
 ghost use Rattle.mc_types.specs.KeyText.{IsKey};
-ghost use Rattle.text_requests.specs.Places.{IsIn, order_in, storing_in};
+ghost use Rattle.request_parts.specs.Places.{IsIn};
+ghost use Rattle.text_requests.specs.Places.{order_in, storing_in};
 ghost use Rattle.text_requests.specs.Message.{IsReadFrom, message_in};
 ghost use Rattle.text_requests.specs.Asks.{asks_of, quiet_of, own_of, bare_ask, retrieval_ask, store_ask, kind_op, count_op, single_ask, first_place, IsClassicAsk, IsWalk, counted};
 
-use crate::command::{Command, Own, Request, StoreKind, Stored};
-use crate::line_words::nth_word;
+use crate::command::{Command, Request, StoreKind, Stored};
 use mc_text::word::{Span, next_word};
 use mc_types::{Ask, Body, Dialect, Key, Op, Tokens};
+use request_parts::Own;
+use request_parts::parts::{key_at, nth_word};
 use std::alloc::{AllocError, Global};
-
-fn key_at(bytes: &[u8], word: Span) -> Key
-    requires placed { IsIn (length bytes.now) word }
-    requires key { IsKey (text_at bytes.now word) }
-    ensures { result ≡ text_at bytes.now word }
-{
-    match Key::read(&bytes[word.start..word.end]) {
-        Ok(key) => key,
-        Err(_) => unreachable!(),
-    }
-}
 
 fn bare(alloc: Global, op: Op, key: Key) -> Ask
     ensures { result ≡ bare_ask op key }

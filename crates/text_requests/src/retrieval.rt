@@ -1,13 +1,17 @@
+//! The lines of `get`, `gets`, `gat` and `gats`.
 ghost use Rattle.std.specs.Prelude.{◌≡◌, ◌≤◌, ◌<◌, length, drop, IfOk, MatchOption, true, false};
 ghost use Rattle.std.specs.List.{list_all};
 ghost use Rattle.mc_text.specs.Word.{words};
-ghost use Rattle.text_requests.specs.Order.{is_key, keys_of, getting, getting_and_touching, retrieval};
-ghost use Rattle.text_requests.specs.Places.{AreIn, Gives, LiesIn, keys_in, order_in};
+ghost use Rattle.request_parts.specs.Tests.{is_key};
+ghost use Rattle.text_requests.specs.Order.{keys_of, getting, getting_and_touching, retrieval};
+ghost use Rattle.text_requests.specs.Places.{AreIn, LiesIn, keys_in, order_in};
+ghost use Rattle.request_parts.specs.Places.{Gives};
 
-use crate::command::{Command, Keys, Why};
+use crate::command::{Command, Keys};
 use crate::next_key::{NextKey, next_key};
-use crate::parts::{exptime, word};
 use mc_text::word::Span;
+use request_parts::Why;
+use request_parts::parts::{exptime, word};
 
 // how many words there are, if each is a key
 fn count_keys(line: &[u8], at: usize) -> Option<usize>

@@ -1,14 +1,16 @@
+//! The lines of the commands with a data block.
 ghost use Rattle.std.specs.Prelude.{◌≡◌, ◌≤◌, ◌<◌, length, drop, IfOk, MatchResult};
 ghost use Rattle.mc_text.specs.Word.{words, text_at};
 ghost use Rattle.text_requests.specs.Order.{storage, storing_of, swapping};
-ghost use Rattle.text_requests.specs.Places.{AreSpans, AreStoreWords, Gives, LiesIn, order_in, storing_in};
+ghost use Rattle.text_requests.specs.Places.{AreSpans, AreStoreWords, LiesIn, order_in, storing_in};
+ghost use Rattle.request_parts.specs.Places.{Gives};
 
-use crate::command::{Command, StoreKind, Stored, Why};
-use crate::parts::{exptime, key, noreply, small, wide, word};
+use crate::command::{Command, StoreKind, Stored};
+use crate::parts::noreply;
 use mc_text::word::Span;
-
-/// The most bytes of a data block.
-pub const DATA_LIMIT: u32 = 1_048_576;
+use request_parts::Why;
+use request_parts::block::DATA_LIMIT;
+use request_parts::parts::{exptime, key, small, wide, word};
 
 /// The words that each store has, in order.
 #[derive(Clone, Copy)]

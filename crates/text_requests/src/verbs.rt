@@ -1,7 +1,9 @@
+//! The command words.
 ghost use Rattle.std.specs.Prelude.{◌≡◌};
 ghost use Rattle.text_requests.specs.CommandWords.{verb_of, found_in, of_three, of_four, of_five, of_six, of_seven};
 
-use crate::command::{Own, StoreKind, Verb};
+use crate::command::{StoreKind, Verb};
+use request_parts::Own;
 
 fn three(word: &[u8]) -> Option<Verb>
     ensures { result ≡ found_in of_three word.now }

@@ -1,8 +1,10 @@
+//! How an ask is written to a server.
 ghost use Rattle.std.specs.Prelude.{◌≡◌, ◌++◌, ◌∷◌, [], take, length, OnOk, OnErr, codes, decimal};
 ghost use Rattle.std.specs.Fmt.{signed_decimal};
 ghost use Rattle.mc_text.specs.Spelling.{spaced, line_of};
 ghost use Rattle.text_requests.specs.Asks.{IsClassicAsk};
-ghost use Rattle.text_requests.specs.Spelling.{command_word, exptime_in, cas_in, store_words, block_text, spelling_of};
+ghost use Rattle.request_parts.specs.Tests.{block_text};
+ghost use Rattle.text_requests.specs.Spelling.{command_word, exptime_in, cas_in, store_words, spelling_of};
 
 use bytes::BytesMut;
 use itoa::Buffer;

@@ -1,5 +1,5 @@
 use Rattle.std.proofs.Common.{[], inl, refl}
-use Rattle.text_requests.specs.Stream.{extended}
+use Rattle.request_parts.specs.Stream.{extended}
 use Rattle.cache_connection.proofs.Exits.{on_err}
 use Rattle.cache_connection.proofs.Joined.{serves_nothing}
 use Rattle.cache_connection.proofs.served.feed_connection.Goals as goal

@@ -1,6 +1,6 @@
 use Rattle.std.proofs.Common.{◌≡◌, ◌+◌, ◌∷◌, [], sym, ap, ◌∙◌, subst, length, length-append}
-use Rattle.text_requests.specs.declared.command.Skip.TheVariants.{Nothing}
-use Rattle.text_requests.specs.Stream.{Stands}
+use Rattle.request_parts.specs.declared.skip.Skip.TheVariants.{Nothing}
+use Rattle.request_parts.specs.Stream.{Stands}
 use Rattle.fleet_run.specs.Driving.{point_in, output_in}
 use Rattle.fleet_run.proofs.Clients.{point_more, output_more}
 use Rattle.fleet_run.proofs.drive.new_clients.Goals as goal

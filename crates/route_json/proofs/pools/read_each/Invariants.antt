@@ -6,4 +6,4 @@ use Rattle.route_json.proofs.Numbers.{Numbers}
 use Rattle.route_json.proofs.pools.read_each.Given as goal
 
 abbrev pub invariant-loop-item : goal.invariant-loop-item
-invariant-loop-item l = Numbers (server_of l.name) (each (server_of l.name) (values (items_view l.items)) l.initial.servers) (values (items_view (drop l.item-index l.items))) l.numbers.items l.initial.servers l.servers l.item-index
+invariant-loop-item l = Numbers (server_of l.name) (each (server_of l.name) (values (items_view l.items)) l.initial.servers) (values (items_view (drop l.item-index l.items))) l.pool.items l.initial.servers l.servers l.item-index

@@ -6,3 +6,6 @@ use Rattle.text_answers.proofs.reader.behind.Goals as goal
 
 pub returns-in-Hit : goal.returns-in-Hit
 returns-in-Hit c = subst (λ (s : Said). IfOk c.hit_behind.result (ReadsBehind s c.args.rest.now)) (sym c.in-Hit.is) c.hit_behind.ensures
+
+pub returns-in-Value : goal.returns-in-Value
+returns-in-Value c = subst (λ (s : Said). IfOk c.value_behind.result (ReadsBehind s c.args.rest.now)) (sym c.in-Value.is) c.value_behind.ensures

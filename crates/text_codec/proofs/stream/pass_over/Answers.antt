@@ -1,7 +1,7 @@
 use Rattle.std.proofs.Common.{ℕ, List, length, sym, ap, ◌∙◌, arith}
 use Rattle.std.proofs.lemmas.List.{drop_all}
-use Rattle.text_requests.specs.declared.command.Skip.TheVariants.{ThroughNewline}
-use Rattle.text_requests.specs.Stream.{Stands}
+use Rattle.request_parts.specs.declared.skip.Skip.TheVariants.{ThroughNewline}
+use Rattle.request_parts.specs.Stream.{Stands}
 use Rattle.text_codec.proofs.Through.{through_at, through_none}
 use Rattle.text_codec.proofs.stream.pass_over.Goals as goal
 

@@ -1,8 +1,16 @@
-use Rattle.text_requests.proofs.Front.{nothing_begins, reads-from_line}
+use Rattle.request_parts.proofs.Fronts.{nothing_begins}
+use Rattle.text_requests.specs.Grammar.{classic_grammar}
+use Rattle.text_requests.specs.declared.command.Read.TheVariants as reads
+use Rattle.request_parts.specs.declared.refusal.Why.TheVariants.{Unknown}
+use Rattle.request_parts.specs.declared.skip.Skip.TheVariants.{Nothing}
+use Rattle.text_requests.proofs.Front.{reads-from_line, no_word}
 use Rattle.text_requests.proofs.reader.read_request.Goals as goal
 
 pub returns-in-More : goal.returns-in-More
-returns-in-More c = nothing_begins c.args.bytes.now c.in-More.ensures
+returns-in-More c = nothing_begins classic_grammar c.args.bytes.now c.in-More.ensures
 
-pub returns-in-At : goal.returns-in-At
-returns-in-At c = reads-from_line c.args.bytes.now c.in-At.end c.in-At.used c.behind_line.result c.in-At.ensures c.behind_line.ensures
+pub returns-in-Some : goal.returns-in-Some
+returns-in-Some c = reads-from_line c.args.bytes.now c.in-At.end c.in-At.used c.read_behind.result c.in-At.ensures c.read_behind.ensures
+
+pub returns-in-None : goal.returns-in-None
+returns-in-None c = reads-from_line c.args.bytes.now c.in-At.end c.in-At.used (reads.Refused Unknown c.in-At.used Nothing) c.in-At.ensures (no_word c.args.bytes.now c.in-At.end c.in-At.used c.in-At.ensures c.in-None.ensures)

@@ -1,7 +1,7 @@
 use Rattle.std.proofs.Common.{◌≡◌, ◌≤◌, ◌+◌, ◌-◌, length, drop}
 use Rattle.std.specs.List.{list_all}
 use Rattle.mc_text.specs.Word.{words}
-use Rattle.text_requests.specs.Order.{is_key}
+use Rattle.request_parts.specs.Tests.{is_key}
 use Rattle.text_requests.proofs.retrieval.count_keys.Given as goal
 
 abbrev pub invariant-loop-key : goal.invariant-loop-key

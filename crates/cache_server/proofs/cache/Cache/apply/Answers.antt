@@ -1,4 +1,4 @@
-use Rattle.std.proofs.Common.{◌≡◌, nat_abs, sym, subst, rules, IfOk, OnErr}
+use Rattle.std.proofs.Common.{◌≡◌, ◌<◌, ◌^◌, nat_abs, sym, subst, rules, IfOk, OnErr}
 use Rattle.std.specs.List.{IsDistinct}
 use Rattle.std.specs.Map.{keys_of}
 use Rattle.cache_server.specs.Contents.{Contents, same_key, at_moment}
@@ -14,10 +14,11 @@ returns-clause-call c =
     let distinct = subst (λ (n : Contents). IsDistinct same_key (keys_of n.entries)) c.self.view_is c.keys_differ.ensures in
     let are = subst (λ (n : Contents). AreEntries n.entries) c.self.view_is c.self.invariant.entries_are in
     let now = nat_abs c.args.moment in
+    let small : now < 2 ^ 63 = search rules in
     let done : IfOk c.serve.result (λ r. Applies c.args.moment c.args.stamp c.args.ask.now old r.0 r.1 c.serve.new.self) = search rules in
     if_ok c.serve.result (λ r. Applies c.args.moment c.args.stamp c.args.ask.now old r.0 r.1 c.serve.new.self)
     (λ r. IsCall c.args.stamp c.args.ask.now (holds old) (lost_by now c.args.stamp c.args.ask.now old) r.0 r.1 (holds c.serve.new.self))
-    (λ r serves. call_is now c.args.stamp c.args.ask.now old r.0 r.1 c.serve.new.self c.requires.ask c.requires.dialect are distinct serves)
+    (λ r serves. call_is now c.args.stamp c.args.ask.now old r.0 r.1 c.serve.new.self small c.requires.ask are distinct serves)
     done
 
 pub returns-clause-lost : goal.returns-clause-lost

@@ -23,4 +23,4 @@ new-requires c =
 pub new-requires-2 : goal.new-requires-2
 new-requires-2 c =
     let h = pool_is_below c.loop-number.number-counter c.loop-number.pool.items c.loop-number.addresses c.loop-number.invariant in
-    subst (IsBelow _) (sym c.new.ensures) h
+    subst (IsBelow _) (sym c.in_ok-tree.ensures) h

@@ -1,6 +1,6 @@
 use Rattle.std.proofs.Common.{◌≡◌, refl, sym, subst, ◌∙◌}
-use Rattle.text_requests.specs.declared.command.Skip.TheVariants.{Nothing}
-use Rattle.text_requests.specs.Stream.{Place, Stands}
+use Rattle.request_parts.specs.declared.skip.Skip.TheVariants.{Nothing}
+use Rattle.request_parts.specs.Stream.{Place, Stands}
 use Rattle.text_requests.specs.Message.{Reads}
 use Rattle.text_codec.specs.Held.{IsReadAt}
 use Rattle.text_codec.proofs.stream.TextStream.read.Goals as goal

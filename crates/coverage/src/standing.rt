@@ -1,0 +1,270 @@
+//! What can come of an operation at a tree: the same for each hash, since it doesn't hang on which servers are asked.
+
+ghost use Rattle.std.specs.Prelude.{◌≡◌};
+ghost use Rattle.mc_types.specs.declared.ask.Op.TheVariants.{Add};
+ghost use Rattle.route_tree.specs.Form.{routes_of, policies_of};
+ghost use Rattle.route_tree.specs.At.{left_of, left_of_all, left_of_policies};
+ghost use Rattle.coverage.specs.Computed.{adds, adds_some, adds_first, adds_head, adds_policy, fails, fails_some, fails_each, fails_last, fails_head, fails_policy, hits, hits_each, hits_first, hits_some, hits_head, hits_policy};
+
+use crate::collecting::longest;
+use crate::stores::{OfAdd, is_op};
+use mc_types::Op;
+use route_tree::{Tree, TreeForm};
+
+/// What can come of an operation: that it fails, and that it hits.
+#[derive(Clone, Copy)]
+pub struct Stands {
+    pub fails: bool,
+    pub hits: bool,
+}
+
+/// What can come of the operation for the keys that the text begins. It takes no memory.
+#[cycle(standing)]
+pub fn standing(tree: &Tree, text: &[u8], op: Op) -> Stands
+    ensures fails { result.fails ≡ fails op (left_of 0 text.now tree.now) }
+    ensures hits { result.hits ≡ hits op (left_of 0 text.now tree.now) }
+{
+    match tree.form() {
+        TreeForm::Pool(_) | TreeForm::Server(_) => Stands {
+            fails: true,
+            hits: true,
+        },
+        TreeForm::Null => Stands {
+            fails: false,
+            hits: false,
+        },
+        TreeForm::Error => Stands {
+            fails: true,
+            hits: false,
+        },
+        TreeForm::AllSync(children) => standing_each(children, text, op),
+        TreeForm::Failover(children) => standing_first(children, text, op),
+        TreeForm::MissFailover(children) => {
+            if is_op(op, Op::Get) {
+                standing_some(children, text, op)
+            } else {
+                standing_head(children, text, op)
+            }
+        }
+        TreeForm::WarmUp { cold, warm, .. } => {
+            let a = standing(cold, text, op);
+            let b = standing(warm, text, op);
+            let is_warm = is_op(op, Op::Get) && b.hits;
+            Stands {
+                fails: a.fails,
+                hits: a.hits || is_warm,
+            }
+        }
+        TreeForm::ByOperation { policies, default } => standing_policy(policies, default, text, op),
+        TreeForm::ByPrefix { policies, wildcard } => {
+            standing(longest(policies, wildcard, text), text, op)
+        }
+    }
+}
+
+// All children.
+#[cycle(standing)]
+pub fn standing_each(children: &[Tree], text: &[u8], op: Op) -> Stands
+    ensures fails { result.fails ≡ fails_some op (left_of_all 0 text.now (routes_of children.now)) }
+    ensures hits { result.hits ≡ hits_each op (left_of_all 0 text.now (routes_of children.now)) }
+{
+    match children {
+        [] => Stands {
+            fails: false,
+            hits: true,
+        },
+        [first, rest @ ..] => {
+            let a = standing(first, text, op);
+            let b = standing_each(rest, text, op);
+            Stands {
+                fails: a.fails || b.fails,
+                hits: a.hits && b.hits,
+            }
+        }
+    }
+}
+
+// Children up to one that doesn't fail.
+#[cycle(standing)]
+fn standing_first(children: &[Tree], text: &[u8], op: Op) -> Stands
+    ensures fails { result.fails ≡ fails_each op (left_of_all 0 text.now (routes_of children.now)) }
+    ensures hits { result.hits ≡ hits_first op (left_of_all 0 text.now (routes_of children.now)) }
+{
+    match children {
+        [] => Stands {
+            fails: true,
+            hits: false,
+        },
+        [first, rest @ ..] => {
+            let a = standing(first, text, op);
+            let b = standing_first(rest, text, op);
+            Stands {
+                fails: a.fails && b.fails,
+                hits: a.hits || (a.fails && b.hits),
+            }
+        }
+    }
+}
+
+// Children up to a hit.
+#[cycle(standing)]
+fn standing_some(children: &[Tree], text: &[u8], op: Op) -> Stands
+    ensures fails { result.fails ≡ fails_last op (left_of_all 0 text.now (routes_of children.now)) }
+    ensures hits { result.hits ≡ hits_some op (left_of_all 0 text.now (routes_of children.now)) }
+{
+    match children {
+        [] => Stands {
+            fails: false,
+            hits: false,
+        },
+        [first, rest @ ..] => {
+            let a = standing(first, text, op);
+            let b = standing_some(rest, text, op);
+            let is_last = rest.is_empty();
+            Stands {
+                fails: if is_last { a.fails } else { b.fails },
+                hits: a.hits || b.hits,
+            }
+        }
+    }
+}
+
+// The first child alone.
+#[cycle(standing)]
+fn standing_head(children: &[Tree], text: &[u8], op: Op) -> Stands
+    ensures fails { result.fails ≡ fails_head op (left_of_all 0 text.now (routes_of children.now)) }
+    ensures hits { result.hits ≡ hits_head op (left_of_all 0 text.now (routes_of children.now)) }
+{
+    match children {
+        [] => Stands {
+            fails: false,
+            hits: false,
+        },
+        [first, ..] => standing(first, text, op),
+    }
+}
+
+// The child of the operation, else the default.
+#[cycle(standing)]
+fn standing_policy(policies: &[(Op, Tree)], default: &Tree, text: &[u8], op: Op) -> Stands
+    ensures fails { result.fails ≡ fails_policy op (left_of_policies 0 text.now (policies_of policies.now default.now)) }
+    ensures hits { result.hits ≡ hits_policy op (left_of_policies 0 text.now (policies_of policies.now default.now)) }
+{
+    match policies {
+        [] => standing(default, text, op),
+        [(own, child), rest @ ..] => {
+            if is_op(*own, op) {
+                standing(child, text, op)
+            } else {
+                standing_policy(rest, default, text, op)
+            }
+        }
+    }
+}
+
+/// What can come of an add for the keys that the text begins. It takes no memory.
+#[cycle(adding_at)]
+pub fn adding_at(tree: &Tree, text: &[u8]) -> OfAdd
+    ensures adds { result.adds ≡ adds (left_of 0 text.now tree.now) }
+    ensures fails { result.fails ≡ fails Add (left_of 0 text.now tree.now) }
+{
+    match tree.form() {
+        TreeForm::Pool(_) | TreeForm::Server(_) => OfAdd {
+            adds: true,
+            fails: true,
+        },
+        TreeForm::Null => OfAdd {
+            adds: false,
+            fails: false,
+        },
+        TreeForm::Error => OfAdd {
+            adds: false,
+            fails: true,
+        },
+        TreeForm::AllSync(children) => adding_at_some(children, text),
+        TreeForm::Failover(children) => adding_at_first(children, text),
+        TreeForm::MissFailover(children) => adding_at_head(children, text),
+        TreeForm::WarmUp { cold, .. } => adding_at(cold, text),
+        TreeForm::ByOperation { policies, default } => adding_at_policy(policies, default, text),
+        TreeForm::ByPrefix { policies, wildcard } => {
+            adding_at(longest(policies, wildcard, text), text)
+        }
+    }
+}
+
+// All children.
+#[cycle(adding_at)]
+fn adding_at_some(children: &[Tree], text: &[u8]) -> OfAdd
+    ensures adds { result.adds ≡ adds_some (left_of_all 0 text.now (routes_of children.now)) }
+    ensures fails { result.fails ≡ fails_some Add (left_of_all 0 text.now (routes_of children.now)) }
+{
+    match children {
+        [] => OfAdd {
+            adds: false,
+            fails: false,
+        },
+        [first, rest @ ..] => {
+            let a = adding_at(first, text);
+            let b = adding_at_some(rest, text);
+            OfAdd {
+                adds: a.adds || b.adds,
+                fails: a.fails || b.fails,
+            }
+        }
+    }
+}
+
+// Children up to one that doesn't fail.
+#[cycle(adding_at)]
+fn adding_at_first(children: &[Tree], text: &[u8]) -> OfAdd
+    ensures adds { result.adds ≡ adds_first (left_of_all 0 text.now (routes_of children.now)) }
+    ensures fails { result.fails ≡ fails_each Add (left_of_all 0 text.now (routes_of children.now)) }
+{
+    match children {
+        [] => OfAdd {
+            adds: false,
+            fails: true,
+        },
+        [first, rest @ ..] => {
+            let a = adding_at(first, text);
+            let b = adding_at_first(rest, text);
+            OfAdd {
+                adds: a.adds || (a.fails && b.adds),
+                fails: a.fails && b.fails,
+            }
+        }
+    }
+}
+
+// The first child alone.
+#[cycle(adding_at)]
+fn adding_at_head(children: &[Tree], text: &[u8]) -> OfAdd
+    ensures adds { result.adds ≡ adds_head (left_of_all 0 text.now (routes_of children.now)) }
+    ensures fails { result.fails ≡ fails_head Add (left_of_all 0 text.now (routes_of children.now)) }
+{
+    match children {
+        [] => OfAdd {
+            adds: false,
+            fails: false,
+        },
+        [first, ..] => adding_at(first, text),
+    }
+}
+
+// The child of the operation, else the default.
+#[cycle(adding_at)]
+fn adding_at_policy(policies: &[(Op, Tree)], default: &Tree, text: &[u8]) -> OfAdd
+    ensures adds { result.adds ≡ adds_policy (left_of_policies 0 text.now (policies_of policies.now default.now)) }
+    ensures fails { result.fails ≡ fails_policy Add (left_of_policies 0 text.now (policies_of policies.now default.now)) }
+{
+    match policies {
+        [] => adding_at(default, text),
+        [(own, child), rest @ ..] => {
+            if is_op(*own, Op::Add) {
+                adding_at(child, text)
+            } else {
+                adding_at_policy(rest, default, text)
+            }
+        }
+    }
+}

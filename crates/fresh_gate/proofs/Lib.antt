@@ -1,0 +1,10 @@
+pub mod Generations
+pub mod Looks
+pub mod RowTests
+pub mod ClassLooks
+pub mod Accepting
+pub mod Shaping
+pub mod Reasons
+pub mod Answering
+pub mod Two
+pub mod Following

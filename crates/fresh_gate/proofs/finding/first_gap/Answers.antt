@@ -1,0 +1,5 @@
+use Rattle.fresh_gate.proofs.Looks.{found_is_first}
+use Rattle.fresh_gate.proofs.finding.first_gap.Goals as goal
+
+pub returns : goal.returns
+returns c = found_is_first c.args.earlier.now c.args.later.now c.args.among.now c.requires c.gap_among.result c.gap_among.ensures

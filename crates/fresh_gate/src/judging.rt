@@ -1,0 +1,57 @@
+//! Configurations judged by a certificate of mcgate's own making.
+
+ghost use Rattle.std.specs.Prelude.{[], ◌∷◌, ◌≡◌, IfErr, IfOk, MatchResult, OnOk};
+ghost use Rattle.mc_runs.specs.Freshness.{RunsAreFresh};
+ghost use Rattle.route_tree.specs.Direct.{words_of};
+ghost use Rattle.coverage.specs.Tables.{IsTable};
+ghost use Rattle.fresh_gate.specs.Gate.{IsCertified, IsCertifiedBy, IsJudged};
+ghost use Rattle.fresh_gate.specs.Shapes.{IsJudgedBy};
+
+use crate::accepted::{Accepted, accept};
+use crate::gap::{Reason, Refused};
+use crate::gate::verdict_on_rows;
+use crate::laws::certified_is_fresh;
+use coverage::proposing::propose_by;
+use coverage::{PlaceFault, PlaceTable, places};
+use route_json::Config;
+use route_tree::Tree;
+use std::alloc::Global;
+
+/// Proposes a certificate for the configuration's tree, and checks it.
+///
+/// Memory aside, it accepts exactly the trees of at most 262,144 places for which some certificate is valid, and never
+/// answers `BadCertificate`. Else the configuration is given back with the reason.
+pub fn judge(alloc: Global, config: Config) -> Result<Accepted, Refused>
+    ensures accepted { IfOk result (λ accepted. (accepted ≡ config ∷ []) × IsCertified config.tree) }
+    ensures fresh { OnOk result (RunsAreFresh (words_of config.tree)) }
+    ensures refused { IfErr result (λ refused. (refused.config ≡ config) × IsJudged config.tree refused.reason) }
+{
+    certified_is_fresh();
+    let _form = config.tree().form();
+    match judgement(alloc, config.tree()) {
+        Ok(()) => accept(alloc, config),
+        Err(reason) => Err(Refused { config, reason }),
+    }
+}
+
+// Whether the proposed certificate is valid for the tree.
+fn judgement(alloc: Global, tree: &Tree) -> Result<(), Reason>
+    ensures { MatchResult result (λ _. IsCertified tree.now) (λ reason. IsJudged tree.now reason) }
+{
+    match places(alloc, tree) {
+        Ok(table) => judgement_by(alloc, tree, &table),
+        Err(PlaceFault::TooManyPlaces) => Err(Reason::TooManyPlaces),
+        Err(PlaceFault::NoMemory) => Err(Reason::NoMemory),
+    }
+}
+
+// The same by the tree's table.
+fn judgement_by(alloc: Global, tree: &Tree, table: &PlaceTable) -> Result<(), Reason>
+    requires { IsTable (tree.now ∷ []) table.now }
+    ensures { MatchResult result (λ _. IsCertifiedBy tree.now table.now) (λ reason. IsJudgedBy tree.now table.now reason) }
+{
+    match propose_by(alloc, tree, table) {
+        Ok(certificate) => verdict_on_rows(alloc, tree, table, &certificate),
+        Err(_) => Err(Reason::NoMemory),
+    }
+}

@@ -1,0 +1,42 @@
+-- The pieces that a line is written in.
+use Rattle.std.proofs.Common.{◌≡◌, ℕ, List, [], ◌∷◌, ◌++◌, length, take, refl, sym, ap, ◌∙◌, append_assoc, append-nil}
+use Rattle.std.specs.Prelude.{codes}
+use Rattle.mc_text.specs.Spelling.{spaced}
+use Rattle.mc_types.specs.declared.ask.Ask.{Ask}
+use Rattle.mc_types.specs.declared.answer.Code.{Code}
+use Rattle.mc_types.specs.declared.answer.Fields.{Fields}
+use Rattle.meta_answers.specs.Line.{code_word}
+use Rattle.meta_answers.specs.Spelling.{tokens_words, len_words, data_block, meta_spelling, led}
+
+pub led-append : (a b : List (List ℕ)) → led (a ++ b) ≡ led a ++ led b
+led-append [] b = refl
+led-append (w ∷ a) b = ap (λ (t : List ℕ). 32 ∷ (w ++ t)) (led-append a b) ∙ ap (λ (t : List ℕ). 32 ∷ t) (sym (append_assoc w (led a) (led b)))
+
+pub spaced-led : (w : List ℕ) (ws : List (List ℕ)) → spaced (w ∷ ws) ≡ w ++ led ws
+spaced-led w [] = sym (append-nil w)
+spaced-led w (o ∷ ws) = ap (λ (t : List ℕ). w ++ 32 ∷ t) (spaced-led o ws)
+
+-- one token more
+pub one_more : (out old all : List ℕ) (x y : List (List ℕ)) → out ++ led (x ++ y) ≡ old ++ all → (out ++ led x) ++ led y ≡ old ++ all
+one_more out old all x y e = append_assoc out (led x) (led y) ∙ ap (λ (t : List ℕ). out ++ t) (sym (led-append x y)) ∙ e
+
+regroup : (old w x y e d : List ℕ) → ((((old ++ w) ++ x) ++ y) ++ e) ++ d ≡ old ++ (((w ++ (x ++ y)) ++ e) ++ d)
+regroup old w x y e d = simp append_assoc
+
+pieces : (old w e d : List ℕ) (x y : List (List ℕ)) → ((((old ++ w) ++ led x) ++ led y) ++ e) ++ d ≡ old ++ ((spaced (w ∷ (x ++ y)) ++ e) ++ d)
+pieces old w e d x y = regroup old w (led x) (led y) e d ∙ ap (λ (t : List ℕ). old ++ ((t ++ e) ++ d)) (ap (λ (t : List ℕ). w ++ t) (sym (led-append x y)) ∙ sym (spaced-led w (x ++ y)))
+
+-- a meta answer as it is written, piece by piece
+pub meta_pieces : (old : List ℕ) (ask : Ask) (code : Code) (fields : Fields)
+    → ((((old ++ code_word code) ++ led (len_words fields.body)) ++ led (tokens_words ask.key fields ask.tokens)) ++ codes "\r\n") ++ data_block fields.body ≡ old ++ meta_spelling ask code fields
+meta_pieces old ask code fields = pieces old (code_word code) (codes "\r\n") (data_block fields.body) (len_words fields.body) (tokens_words ask.key fields ask.tokens)
+
+-- what begins with more than this begins with this
+pub begins : (a s x : List ℕ) → take (length (a ++ s)) x ≡ a ++ s → take (length a) x ≡ a
+begins [] s x e = refl
+begins (b ∷ a) s [] e = absurd cc
+begins (b ∷ a) s (c ∷ x) e =
+    let heads : c ≡ b = cc in
+    let tails : take (length (a ++ s)) x ≡ a ++ s = cc in
+    let rest = begins a s x tails in
+    cc

@@ -1,0 +1,4 @@
+pub mod Told
+pub mod Tokens
+pub mod Line
+pub mod Spelling

@@ -1,0 +1,12 @@
+//! Meta answers: what the line of one says, read against its ask, and how it is written.
+#![tactic(auto)]
+
+mod codes;
+mod line;
+mod token;
+mod told;
+mod writer;
+
+pub use line::{MetaLine, ValueLine, meta_line};
+pub use told::Told;
+pub use writer::put_meta;

@@ -1,0 +1,8 @@
+pub mod SeenLemmas
+pub mod Front
+pub mod TokenLemmas
+pub mod WriteLemmas
+pub mod ServedLemmas
+pub mod Sound
+pub mod FlagsBack
+pub mod ValuesBack

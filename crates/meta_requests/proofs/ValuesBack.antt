@@ -1,0 +1,47 @@
+-- The flags with a value of a spelled ask, and what they say.
+use Rattle.std.proofs.Common.{◌≡◌, ℕ, ◌^◌, ◌<◌, true, false, List, [], ◌∷◌, ◌++◌, Option, Some, None, refl, arith}
+use Rattle.std.specs.Prelude.{ℤ, IfSome, decimal}
+use Rattle.std.specs.Fmt.{signed_decimal}
+use Rattle.mc_text.specs.Number.{number_below, signed_number}
+use Rattle.mc_text.proofs.NumberLemmas.{number_below-decimal}
+use Rattle.mc_text.proofs.ReadBack.{signed_are_read_back}
+use Rattle.mc_types.specs.Asks.{IsExptime}
+use Rattle.mc_types.specs.declared.ask.Op.{Op}
+use Rattle.request_parts.proofs.Tokens.{fits}
+use Rattle.meta_requests.specs.declared.command.Kind.TheVariants.{Get, Store, Delete, Count}
+use Rattle.meta_requests.specs.declared.command.Values.{Values}
+use Rattle.meta_requests.specs.Flags.{mode_of}
+use Rattle.meta_requests.specs.Spelling.{cas_words, exptime_words, mode_word, mode_letter}
+use Rattle.meta_requests.proofs.FlagsBack.{AreValued}
+
+wide : (n : ℕ) → n < 2 ^ 64 → number_below (2 ^ 64) (decimal n) ≡ Some n
+wide n lt = number_below-decimal (2 ^ 64) n lt (omega arith)
+
+small : (n : ℕ) → n < 2 ^ 32 → number_below (2 ^ 32) (decimal n) ≡ Some n
+small n lt = number_below-decimal (2 ^ 32) n lt (omega arith)
+
+signed : (z : ℤ) → IsExptime z → signed_number (signed_decimal z) ≡ Some z
+signed z h = signed_are_read_back z (fits z h)
+
+abbrev values : Option ℕ → Option ℕ → Option ℤ → Option ℕ → Option Op → Values
+values c d e f m = record { cas = c; delta = d; exptime = e; flags = f; mode = m; quiet = false }
+
+pub get_values : (e : Option ℤ) → IfSome e IsExptime → AreValued Get (exptime_words e) (values None None e None None)
+get_values None h = record { fit = tt; once = refl; valued = refl; none = refl; values = refl }
+get_values (Some z) h = record { fit = (refl, rw (signed z h) refl, tt); once = refl; valued = refl; none = refl; values = rw (signed z h) refl }
+
+pub delete_values : (c : Option ℕ) → IfSome c (λ n. n < 2 ^ 64) → AreValued Delete (cas_words c) (values c None None None None)
+delete_values None h = record { fit = tt; once = refl; valued = refl; none = refl; values = refl }
+delete_values (Some n) h = record { fit = (refl, rw (wide n h) refl, tt); once = refl; valued = refl; none = refl; values = rw (wide n h) refl }
+
+pub store_values : (c : Option ℕ) (f : ℕ) (op m : Op) (e : Option ℤ) → IfSome c (λ n. n < 2 ^ 64) → f < 2 ^ 32 → mode_of Store (mode_letter op ∷ []) ≡ Some m → IfSome e IsExptime → AreValued Store (cas_words c ++ (70 ∷ decimal f) ∷ mode_word op ∷ exptime_words e) (values c None e (Some f) (Some m))
+store_values None f op m None c lt is h = record { fit = (refl, rw (small f lt) refl, (refl, rw is refl, tt)); once = refl; valued = refl; none = refl; values = rw (small f lt, is) refl }
+store_values None f op m (Some z) c lt is h = record { fit = (refl, rw (small f lt) refl, (refl, rw is refl, (refl, rw (signed z h) refl, tt))); once = refl; valued = refl; none = refl; values = rw (small f lt, is, signed z h) refl }
+store_values (Some n) f op m None c lt is h = record { fit = (refl, rw (wide n c) refl, (refl, rw (small f lt) refl, (refl, rw is refl, tt))); once = refl; valued = refl; none = refl; values = rw (wide n c, small f lt, is) refl }
+store_values (Some n) f op m (Some z) c lt is h = record { fit = (refl, rw (wide n c) refl, (refl, rw (small f lt) refl, (refl, rw is refl, (refl, rw (signed z h) refl, tt)))); once = refl; valued = refl; none = refl; values = rw (wide n c, small f lt, is, signed z h) refl }
+
+pub count_values : (c : Option ℕ) (d : ℕ) (op m : Op) (e : Option ℤ) → IfSome c (λ n. n < 2 ^ 64) → d < 2 ^ 64 → mode_of Count (mode_letter op ∷ []) ≡ Some m → IfSome e IsExptime → AreValued Count (cas_words c ++ (68 ∷ decimal d) ∷ mode_word op ∷ exptime_words e) (values c (Some d) e None (Some m))
+count_values None d op m None c lt is h = record { fit = (refl, rw (wide d lt) refl, (refl, rw is refl, tt)); once = refl; valued = refl; none = refl; values = rw (wide d lt, is) refl }
+count_values None d op m (Some z) c lt is h = record { fit = (refl, rw (wide d lt) refl, (refl, rw is refl, (refl, rw (signed z h) refl, tt))); once = refl; valued = refl; none = refl; values = rw (wide d lt, is, signed z h) refl }
+count_values (Some n) d op m None c lt is h = record { fit = (refl, rw (wide n c) refl, (refl, rw (wide d lt) refl, (refl, rw is refl, tt))); once = refl; valued = refl; none = refl; values = rw (wide n c, wide d lt, is) refl }
+count_values (Some n) d op m (Some z) c lt is h = record { fit = (refl, rw (wide n c) refl, (refl, rw (wide d lt) refl, (refl, rw is refl, (refl, rw (signed z h) refl, tt)))); once = refl; valued = refl; none = refl; values = rw (wide n c, wide d lt, is, signed z h) refl }

@@ -1,0 +1,16 @@
+use Rattle.request_parts.proofs.Fronts.{nothing_begins}
+use Rattle.meta_requests.specs.Grammar.{meta_grammar}
+use Rattle.meta_requests.specs.declared.command.Read.TheVariants as reads
+use Rattle.request_parts.specs.declared.refusal.Why.TheVariants.{Unknown}
+use Rattle.request_parts.specs.declared.skip.Skip.TheVariants.{Nothing}
+use Rattle.meta_requests.proofs.Front.{reads-from_line, no_word}
+use Rattle.meta_requests.proofs.reader.read_request.Goals as goal
+
+pub returns-in-More : goal.returns-in-More
+returns-in-More c = nothing_begins meta_grammar c.args.bytes.now c.in-More.ensures
+
+pub returns-in-Some : goal.returns-in-Some
+returns-in-Some c = reads-from_line c.args.bytes.now c.in-At.end c.in-At.used c.read_behind.result c.in-At.ensures c.read_behind.ensures
+
+pub returns-in-None : goal.returns-in-None
+returns-in-None c = reads-from_line c.args.bytes.now c.in-At.end c.in-At.used (reads.Refused Unknown c.in-At.used Nothing) c.in-At.ensures (no_word c.args.bytes.now c.in-At.end c.in-At.used c.in-At.ensures c.in-None.ensures)

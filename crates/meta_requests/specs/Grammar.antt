@@ -1,0 +1,18 @@
+-- The meta dialect's lines, as a grammar of requests.
+use Rattle.std.specs.Prelude.{ℕ, Option, Some, None}
+use Rattle.request_parts.specs.declared.own.Own.{Own}
+use Rattle.request_parts.specs.Grammar.{Grammar}
+use Rattle.meta_requests.specs.Order.{Order, Asking, OfItself, order_of, skip_of}
+
+-- the length of the data block behind the line, where one follows
+abbrev pub block_len : Order → Option ℕ
+block_len (Asking kind key n flags) = n
+block_len (OfItself own) = None
+
+-- what an order asks of mcgate itself
+abbrev pub own_by : Order → Option Own
+own_by (Asking kind key n flags) = None
+own_by (OfItself own) = Some own
+
+abbrev pub meta_grammar : Grammar
+meta_grammar = record { Order = Order; order_of = order_of; skip_of = skip_of; block_len = block_len; own_by = own_by }

@@ -1,0 +1,10 @@
+pub mod CommandWords
+pub mod Flags
+pub mod Order
+pub mod Places
+pub mod Grammar
+pub mod Message
+pub mod Asks
+pub mod Laws
+pub mod Spelling
+pub mod ReadBack

@@ -1,0 +1,89 @@
+//! What a meta line asks, and what the bytes of a client begin with.
+use mc_text::word::Span;
+use mc_types::Op;
+use request_parts::{Own, Skip, Why};
+
+/// The meta commands that ask something of a key.
+#[derive(Clone, Copy)]
+pub enum Kind {
+    /// `mg`
+    Get,
+    /// `ms`
+    Store,
+    /// `md`
+    Delete,
+    /// `ma`
+    Count,
+}
+
+/// What a command word means.
+///
+/// Source: memcached's protocol.txt, "Meta Commands".
+#[derive(Clone, Copy)]
+pub enum Verb {
+    Keyed(Kind),
+    /// `mn`
+    Noop,
+}
+
+/// What the flags with a value say, and whether `q` stands among them.
+#[derive(Clone, Copy)]
+pub struct Values {
+    /// `C`: the cas number that has to be equal.
+    pub cas: Option<u64>,
+    /// `D`: by how much is counted.
+    pub delta: Option<u64>,
+    /// `T`, as the protocol writes an exptime.
+    pub exptime: Option<i64>,
+    /// `F`: the flags that a store keeps beside the data.
+    pub flags: Option<u32>,
+    /// `M`: which store, or whether is counted up or down.
+    pub mode: Option<Op>,
+    /// `q`
+    pub quiet: bool,
+}
+
+/// The flags of a line: where they stand, with the spaces around them, and what they say.
+#[derive(Clone, Copy)]
+pub struct Flags {
+    pub span: Span,
+    pub values: Values,
+}
+
+/// What a line asks, by the places of its key and its flags.
+#[derive(Clone, Copy)]
+pub enum Command {
+    /// `mg`, `ms`, `md` and `ma`.
+    Keyed {
+        key: Span,
+        flags: Flags,
+        /// How many bytes of data follow the line: of `ms` alone.
+        length: Option<u32>,
+        kind: Kind,
+    },
+    /// `mn`.
+    Own(Own),
+}
+
+/// A request that is served: what its line asks, and where its data block stands in the bytes that were read.
+#[derive(Clone, Copy)]
+pub struct Request {
+    pub command: Command,
+    /// The data, without the `\r\n` behind them; empty where none follow.
+    pub block: Span,
+    /// How many bytes the request takes, its data block included.
+    pub used: usize,
+}
+
+/// What the bytes of a client begin with.
+#[derive(Clone, Copy)]
+pub enum Read {
+    /// Less than a whole message.
+    More,
+    /// A line without an end in the first 65,536 bytes.
+    TooLong,
+    /// A message that is served.
+    Request(Request),
+    /// A message that is refused: it takes `used` bytes, and what `skip` says is passed over behind them.
+    Refused { why: Why, used: usize, skip: Skip },
+}

@@ -1,0 +1,20 @@
+//! The meta requests of memcached's text protocol: how they are read from a client's bytes, and written to a server.
+#![tactic(auto)]
+
+pub mod command;
+pub mod flags;
+pub mod laws;
+pub mod line_words;
+pub mod reader;
+pub mod request;
+pub mod values;
+pub mod verbs;
+pub mod writer;
+
+pub use command::{Command, Kind, Read, Request, Verb};
+pub use reader::{read_behind, read_request};
+pub use request_parts::{Own, Skip, Why};
+pub use writer::write_ask;
+
+#[cfg(test)]
+mod tests;

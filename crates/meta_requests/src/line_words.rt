@@ -1,0 +1,136 @@
+//! What the words of a line ask, and what is passed over behind it.
+ghost use Rattle.std.specs.Prelude.{◌≡◌, ◌≤◌, length, drop, IfOk};
+ghost use Rattle.mc_text.specs.Word.{words, IsNextWord};
+ghost use Rattle.request_parts.specs.Places.{Gives};
+ghost use Rattle.meta_requests.specs.Order.{order_of, ordered_by, asking, storing, noop, sets, mixes, is_store, skip_of};
+ghost use Rattle.meta_requests.specs.Places.{LiesIn, order_in};
+
+use crate::command::{Command, Kind, Values, Verb};
+use crate::flags::flags;
+use crate::verbs::verb;
+use mc_text::word::{Span, next_word};
+use mc_types::Op;
+use request_parts::block::DATA_LIMIT;
+use request_parts::parts::{key, length_at, small, word};
+use request_parts::{Own, Skip, Why};
+
+fn sets(mode: Option<Op>) -> bool
+    ensures { result ≡ sets mode }
+{
+    match mode {
+        None | Some(Op::Set) => true,
+        _ => false,
+    }
+}
+
+// a cas number with a mode other than set
+fn mixes(values: Values) -> bool
+    ensures { result ≡ mixes values }
+{
+    values.cas.is_some() && !sets(values.mode)
+}
+
+// what `mg`, `md` and `ma` ask
+fn asking(line: &[u8], at: usize, kind: Kind) -> Result<Command, Why>
+    requires { at ≤ length line.now }
+    ensures order { Gives (order_in line.now) result (asking kind (words (drop at line.now))) }
+    ensures within { IfOk result (LiesIn line.now) }
+{
+    let first = word(line, at)?;
+    let key = key(line, first)?;
+    let flags = flags(line, first.end, kind)?;
+    Ok(Command::Keyed {
+        key,
+        flags,
+        length: None,
+        kind,
+    })
+}
+
+// what `ms` asks
+fn storing(line: &[u8], at: usize) -> Result<Command, Why>
+    requires { at ≤ length line.now }
+    ensures order { Gives (order_in line.now) result (storing (words (drop at line.now))) }
+    ensures within { IfOk result (LiesIn line.now) }
+{
+    let first = word(line, at)?;
+    let second = word(line, first.end)?;
+    let key = key(line, first)?;
+    let length = small(line, second)?;
+    let flags = flags(line, second.end, Kind::Store)?;
+    if mixes(flags.values) {
+        return Err(Why::FlagNotServed);
+    }
+    if length > DATA_LIMIT {
+        return Err(Why::TooLarge);
+    }
+    Ok(Command::Keyed {
+        key,
+        flags,
+        length: Some(length),
+        kind: Kind::Store,
+    })
+}
+
+// what `mn` asks
+fn noop(line: &[u8], at: usize) -> Result<Command, Why>
+    requires { at ≤ length line.now }
+    ensures order { Gives (order_in line.now) result (noop (words (drop at line.now))) }
+    ensures within { IfOk result (LiesIn line.now) }
+{
+    match next_word(line, at) {
+        None => Ok(Command::Own(Own::Noop)),
+        Some(_) => Err(Why::Unknown),
+    }
+}
+
+fn ordered(line: &[u8], at: usize, verb: Option<Verb>) -> Result<Command, Why>
+    requires { at ≤ length line.now }
+    ensures order { Gives (order_in line.now) result (ordered_by verb (words (drop at line.now))) }
+    ensures within { IfOk result (LiesIn line.now) }
+{
+    match verb {
+        None => Err(Why::Unknown),
+        Some(Verb::Keyed(Kind::Get)) => asking(line, at, Kind::Get),
+        Some(Verb::Keyed(Kind::Store)) => storing(line, at),
+        Some(Verb::Keyed(Kind::Delete)) => asking(line, at, Kind::Delete),
+        Some(Verb::Keyed(Kind::Count)) => asking(line, at, Kind::Count),
+        Some(Verb::Noop) => noop(line, at),
+    }
+}
+
+/// What a line with this first word asks, or the first test that it fails.
+pub fn command(line: &[u8], first: Span) -> Result<Command, Why>
+    requires { IsNextWord line.now 0 first }
+    ensures order { Gives (order_in line.now) result (order_of (words line.now)) }
+    ensures within { IfOk result (LiesIn line.now) }
+{
+    ordered(line, first.end, verb(&line[first.start..first.end]))
+}
+
+fn stores(verb: Option<Verb>) -> bool
+    ensures { result ≡ is_store verb }
+{
+    match verb {
+        Some(Verb::Keyed(Kind::Store)) => true,
+        _ => false,
+    }
+}
+
+/// What is passed over behind the line, if it is refused: the data that the third word of `ms` tells of.
+pub fn skip(line: &[u8]) -> Skip
+    ensures { result ≡ skip_of (words line.now) }
+{
+    match next_word(line, 0) {
+        None => Skip::Nothing,
+        Some(first) => {
+            if !stores(verb(&line[first.start..first.end])) {
+                return Skip::Nothing;
+            }
+            match length_at(line, first.end, 1) {
+                Some(n) => Skip::Bytes(u64::from(n) + 2),
+                None => Skip::Nothing,
+            }
+        }
+    }
+}

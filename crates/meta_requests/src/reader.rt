@@ -1,0 +1,103 @@
+//! How the message at the front of a client's bytes is read.
+ghost use Rattle.std.specs.Prelude.{◌≡◌, ◌≤◌, ◌-◌, ◌<◌, ◌+◌, take, drop, length, Some};
+ghost use Rattle.mc_text.specs.Line.{TakesLine};
+ghost use Rattle.mc_text.specs.Word.{IsNextWord};
+ghost use Rattle.request_parts.specs.Message.{end_of, with_rest};
+ghost use Rattle.meta_requests.specs.Places.{LiesIn, order_in};
+ghost use Rattle.meta_requests.specs.Message.{Reads, IsMeant, meaning, command_block_len};
+
+use crate::command::{Command, Read, Request};
+use crate::line_words::{command, skip};
+use mc_text::ends::Line;
+use mc_text::reading::line;
+use mc_text::word::{Span, next_word};
+use request_parts::{End, Skip, Why, block_end};
+
+fn with_block(bytes: &[u8], used: usize, command: Command, len: usize) -> Read
+    requires used { used ≤ length bytes.now }
+    requires within { LiesIn bytes.now command }
+    ensures { IsMeant bytes.now result (with_rest (order_in bytes.now command) used (drop used bytes.now) (Some len)) }
+{
+    let rest = &bytes[used..];
+    if rest.len() <= len {
+        return Read::More;
+    }
+    let end = used + len;
+    match block_end(&rest[len..]) {
+        End::Open => Read::More,
+        End::Good => Read::Request(Request {
+            command,
+            block: Span { start: used, end },
+            used: end + 2,
+        }),
+        End::Bad => Read::Refused {
+            why: Why::BadChunk,
+            used: end,
+            skip: Skip::ThroughNewline,
+        },
+    }
+}
+
+fn block_len(command: &Command) -> Option<usize>
+    ensures { result ≡ command_block_len command.now }
+{
+    match command {
+        Command::Keyed {
+            length: Some(length),
+            ..
+        } => Some(*length as usize),
+        _ => None,
+    }
+}
+
+/// The message of the line that was found, whose first word is known, and of what follows the line. It takes no memory.
+///
+/// A reader of several dialects finds the line and looks at its first word once, and then calls this.
+pub fn read_behind(bytes: &[u8], end: usize, used: usize, first: Span) -> Read
+    requires line { TakesLine bytes.now end used }
+    requires first { IsNextWord (take end bytes.now) 0 first }
+    ensures { IsMeant bytes.now result (meaning (take (used - 1) bytes.now) (drop used bytes.now)) }
+{
+    let text = &bytes[..end];
+    match command(text, first) {
+        Err(why) => Read::Refused {
+            why,
+            used,
+            skip: skip(text),
+        },
+        Ok(command) => match block_len(&command) {
+            Some(len) => with_block(bytes, used, command, len),
+            None => Read::Request(Request {
+                command,
+                block: Span {
+                    start: used,
+                    end: used,
+                },
+                used,
+            }),
+        },
+    }
+}
+
+/// The message that the bytes begin with. It takes no memory, and time linear in its line: no data are looked at.
+///
+/// A line ends at `\n`, and one `\r` before it is dropped; its words are parted by spaces. `mg`, `ms`, `md`, `ma` and `mn`
+/// are served; every other first word is unknown, also those of the classic commands.
+///
+/// Source: memcached's protocol.txt, "Meta Commands".
+pub fn read_request(bytes: &[u8]) -> Read
+    ensures { Reads bytes.now result }
+{
+    match line(bytes) {
+        Line::More => Read::More,
+        Line::TooLong => Read::TooLong,
+        Line::At { end, used } => match next_word(&bytes[..end], 0) {
+            Some(first) => read_behind(bytes, end, used, first),
+            None => Read::Refused {
+                why: Why::Unknown,
+                used,
+                skip: Skip::Nothing,
+            },
+        },
+    }
+}

@@ -1,0 +1,220 @@
+//! Requests with known answers: refusals by the table, cuts, and the one spelling.
+use super::*;
+use bytes::BytesMut;
+use std::test::Fail;
+
+fn refused(bytes: &[u8], why: Why, skip: Skip) -> bool {
+    match read_request(bytes) {
+        Read::Refused {
+            why: is,
+            used: takes,
+            skip: passes,
+        } => is == why && takes == bytes.len() && passes == skip,
+        _ => false,
+    }
+}
+
+fn served(bytes: &[u8], quiet: bool) -> bool {
+    match read_request(bytes) {
+        Read::Request(request) => request.used == bytes.len() && request.quiet() == quiet,
+        _ => false,
+    }
+}
+
+#[test]
+fn flag_not_served(rt: HostRuntime) {
+    for line in [
+        b"mg a b\r\n".as_slice(),
+        b"mg a q v b\r\n".as_slice(),
+        b"mg a C1\r\n".as_slice(),
+        b"ms a 1 v\r\n".as_slice(),
+        b"ms a 1 D1\r\n".as_slice(),
+        b"md a c\r\n".as_slice(),
+        b"md a T1\r\n".as_slice(),
+        b"ma a s\r\n".as_slice(),
+        b"ma a F1\r\n".as_slice(),
+    ] {
+        let skip = if line[1] == b's' {
+            Skip::Bytes(3)
+        } else {
+            Skip::Nothing
+        };
+        assert!(rt; refused(line, Why::FlagNotServed, skip));
+    }
+    assert!(rt; refused(b"ms a 1 C1 ME\r\n", Why::FlagNotServed, Skip::Bytes(3)));
+    assert!(rt; refused(b"ms a 1 Ma C1\r\n", Why::FlagNotServed, Skip::Bytes(3)));
+    assert!(rt; matches!(read_request(b"ms a 1 C1 Ms\r\n"), Read::More));
+    assert!(rt; matches!(read_request(b"ms a 1 C1\r\n"), Read::More));
+}
+
+// For one flag its letter, its having come before and its value are tested together before the next flag.
+#[test]
+fn refusals_in_order(rt: HostRuntime) {
+    for (line, why) in [
+        (b" \r\n".as_slice(), Why::Unknown),
+        (b"MG a\r\n".as_slice(), Why::Unknown),
+        (b"me a\r\n".as_slice(), Why::Unknown),
+        (b"get a\r\n".as_slice(), Why::Unknown),
+        (b"mg\r\n".as_slice(), Why::Unknown),
+        (b"md\r\n".as_slice(), Why::Unknown),
+        (b"ma\r\n".as_slice(), Why::Unknown),
+        (b"ms a\r\n".as_slice(), Why::Unknown),
+        (b"mn 1\r\n".as_slice(), Why::Unknown),
+        (b"mg \x7f z\r\n".as_slice(), Why::BadKey),
+        (b"md \x7f z\r\n".as_slice(), Why::BadKey),
+        (b"ma \x7f z\r\n".as_slice(), Why::BadKey),
+        (b"ms \x7f x z\r\n".as_slice(), Why::BadKey),
+        (b"ms a x z\r\n".as_slice(), Why::BadNumber),
+        (b"ms a 4294967296 z\r\n".as_slice(), Why::BadNumber),
+        (b"mg a vx z\r\n".as_slice(), Why::BadToken),
+        (b"mg a v v z\r\n".as_slice(), Why::FlagTwice),
+        (b"mg a v vx\r\n".as_slice(), Why::FlagTwice),
+        (b"mg a z vx v v\r\n".as_slice(), Why::FlagNotServed),
+        (b"mg a Tx\r\n".as_slice(), Why::BadToken),
+        (b"mg a T9223372036854775808\r\n".as_slice(), Why::BadToken),
+        (b"mg a O\r\n".as_slice(), Why::BadToken),
+        (b"md a q q\r\n".as_slice(), Why::FlagTwice),
+        (b"md a C18446744073709551616\r\n".as_slice(), Why::BadToken),
+        (b"md a C\r\n".as_slice(), Why::BadToken),
+        (b"ma a D1 D1\r\n".as_slice(), Why::FlagTwice),
+        (b"ma a D-1\r\n".as_slice(), Why::BadToken),
+        (b"ma a MS\r\n".as_slice(), Why::BadToken),
+        (b"ma a MII\r\n".as_slice(), Why::BadToken),
+    ] {
+        assert!(rt; refused(line, why, Skip::Nothing));
+    }
+    for (line, why) in [
+        (b"ms a 1 c c\r\n".as_slice(), Why::FlagTwice),
+        (b"ms a 1 F4294967296\r\n".as_slice(), Why::BadToken),
+        (b"ms a 1 MI\r\n".as_slice(), Why::BadToken),
+        (b"ms a 1 C1 MA Fx\r\n".as_slice(), Why::BadToken),
+        (b"ms \x7f 1\r\n".as_slice(), Why::BadKey),
+    ] {
+        assert!(rt; refused(line, why, Skip::Bytes(3)));
+    }
+    assert!(rt;
+        refused(
+            b"ms a 1048577 C1 MA\r\n",
+            Why::FlagNotServed,
+            Skip::Bytes(1_048_579)
+        )
+    );
+    assert!(rt; refused(b"ms a 1048577\r\n", Why::TooLarge, Skip::Bytes(1_048_579)));
+    assert!(rt;
+        refused(
+            b"ms a 4294967295\r\n",
+            Why::TooLarge,
+            Skip::Bytes(4_294_967_297)
+        )
+    );
+    assert!(rt; matches!(read_request(b"ms a 1048576\r\n"), Read::More));
+    match read_request(b"ms a 1\r\nxyz\r\n") {
+        Read::Refused { why, used, skip } => assert!(rt;
+            why == Why::BadChunk && used == 9 && skip == Skip::ThroughNewline
+        ),
+        _ => assert!(rt; false),
+    }
+}
+
+#[test]
+fn texts_of_32_and_33_bytes(rt: HostRuntime) -> Result<(), Fail> {
+    let mut bytes = b"mg a O".to_vec(rt.alloc())?;
+    bytes.extend_from_slice(&[b'~'; 32])?;
+    bytes.extend_from_slice(b"\r\n")?;
+    assert!(rt; served(bytes.as_slice(), false));
+    bytes.truncate(38);
+    bytes.extend_from_slice(b"~\r\n")?;
+    assert!(rt; refused(bytes.as_slice(), Why::BadToken, Skip::Nothing));
+    assert!(rt; refused(b"mg a O\x80\r\n", Why::BadToken, Skip::Nothing));
+    Ok(())
+}
+
+#[test]
+fn requests_cut_anywhere(rt: HostRuntime) {
+    for (bytes, quiet) in [
+        (b"mg a c f k q s t v Oxyz T30\r\n".as_slice(), true),
+        (
+            b"ms a 3 c k q C1 F2 Oxyz T-1 MS\r\nxyz\r\n".as_slice(),
+            true,
+        ),
+        (b"md a k C1 Oxyz\r\n".as_slice(), false),
+        (b"ma a c k q t v C1 D2 Oxyz T30 M-\r\n".as_slice(), true),
+        (b"mn\r\n".as_slice(), false),
+    ] {
+        for end in 0..bytes.len() {
+            assert!(rt; matches!(read_request(&bytes[..end]), Read::More));
+        }
+        assert!(rt; served(bytes, quiet));
+    }
+}
+
+// The ask's return flags and `O` in their order, then those of `C D F M T` that it has; `q` and what is left out aren't kept.
+#[test]
+fn meta_flags_in_order(rt: HostRuntime) -> Result<(), Fail> {
+    for (bytes, want) in [
+        (b"mg a\r\n".as_slice(), b"mg a\r\n".as_slice()),
+        (
+            b"mg  a v Oxyz q T030 t s k f c\n".as_slice(),
+            b"mg a v Oxyz t s k f c T30\r\n".as_slice(),
+        ),
+        (
+            b"ms a 1\r\nx\r\n".as_slice(),
+            b"ms a 1 F0 MS T0\r\nx\r\n".as_slice(),
+        ),
+        (
+            b"ms a 01 T-0 Mr q k F7 Ox c\r\nx\r\n".as_slice(),
+            b"ms a 1 k Ox c F7 MR T0\r\nx\r\n".as_slice(),
+        ),
+        (
+            b"ms a 0 Ms C5\r\n\r\n".as_slice(),
+            b"ms a 0 C5 F0 MS T0\r\n\r\n".as_slice(),
+        ),
+        (
+            b"ms a 2 ME\r\n\r\n\r\n".as_slice(),
+            b"ms a 2 F0 ME T0\r\n\r\n\r\n".as_slice(),
+        ),
+        (
+            b"ms a 1 Ma\nx\r\n".as_slice(),
+            b"ms a 1 F0 MA T0\r\nx\r\n".as_slice(),
+        ),
+        (
+            b"ms a 1 Mp\nx\r\n".as_slice(),
+            b"ms a 1 F0 MP T0\r\nx\r\n".as_slice(),
+        ),
+        (
+            b"md a q Ox C9 k\r\n".as_slice(),
+            b"md a Ox k C9\r\n".as_slice(),
+        ),
+        (b"ma a\r\n".as_slice(), b"ma a D1 MI\r\n".as_slice()),
+        (
+            b"ma a T60 M- D9 v C3 t\r\n".as_slice(),
+            b"ma a v t C3 D9 MD T60\r\n".as_slice(),
+        ),
+        (b"ma a M+\r\n".as_slice(), b"ma a D1 MI\r\n".as_slice()),
+        (b"ma a Md k\r\n".as_slice(), b"ma a k D1 MD\r\n".as_slice()),
+    ] {
+        let mut out = BytesMut::new(rt.alloc());
+        match read_request(bytes) {
+            Read::Request(request) => {
+                assert_eq!(rt; request.asks(), 1);
+                let ask = request.ask(rt.alloc(), bytes, 0)?;
+                write_ask(&ask, &mut out)?;
+            }
+            _ => assert!(rt; false),
+        }
+        assert!(rt; out.as_slice() == want);
+    }
+    Ok(())
+}
+
+#[test]
+fn asked_of_itself(rt: HostRuntime) {
+    match read_request(b"mn\r\nmg a\r\n") {
+        Read::Request(request) => {
+            assert!(rt;
+                request.own() == Some(Own::Noop) && request.asks() == 0 && request.used == 4
+            );
+        }
+        _ => assert!(rt; false),
+    }
+}

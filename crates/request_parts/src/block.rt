@@ -1,0 +1,28 @@
+//! The end of a data block.
+ghost use Rattle.std.specs.Prelude.{◌≡◌};
+ghost use Rattle.request_parts.specs.Message.{end_of};
+
+/// The most bytes of a data block.
+pub const DATA_LIMIT: u32 = 1_048_576;
+
+/// How a data block ends, by the bytes behind it.
+#[derive(Clone, Copy)]
+pub enum End {
+    /// The bytes that decide haven't come.
+    Open,
+    /// With `\r\n`.
+    Good,
+    /// With another byte.
+    Bad,
+}
+
+/// How a data block ends, by the bytes behind its data.
+pub fn block_end(after: &[u8]) -> End
+    ensures { result ≡ end_of after.now }
+{
+    match after {
+        [] | [b'\r'] => End::Open,
+        [b'\r', b'\n', ..] => End::Good,
+        _ => End::Bad,
+    }
+}

@@ -1,0 +1,18 @@
+//! What the requests of both dialects of memcached's text protocol share: the tests of their words, their refusals, data
+//! blocks, and how messages follow one another in a stream.
+#![tactic(auto)]
+
+pub mod block;
+pub mod key_bytes;
+pub mod own;
+pub mod parts;
+pub mod refusal;
+pub mod skip;
+
+pub use block::{End, block_end};
+pub use own::Own;
+pub use refusal::Why;
+pub use skip::Skip;
+
+#[cfg(test)]
+mod tests;

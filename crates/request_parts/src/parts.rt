@@ -1,0 +1,99 @@
+//! The tests of a line's words, one after another.
+ghost use Rattle.std.specs.Prelude.{◌≡◌, ◌≤◌, [], length, drop, IfOk, IfSome, MatchResult, slice_get};
+ghost use Rattle.std.specs.Option.{option_map};
+ghost use Rattle.mc_types.specs.KeyText.{IsKey};
+ghost use Rattle.mc_text.specs.Word.{words, text_at, IsNextWord};
+ghost use Rattle.request_parts.specs.Tests.{is_key, key_of, small_of, wide_of, exptime_of, length_in};
+ghost use Rattle.request_parts.specs.Places.{Gives, IsIn};
+
+use crate::key_bytes::are_key_bytes;
+use crate::refusal::Why;
+use mc_text::number::{number, signed, small_number};
+use mc_text::word::{Span, next_word};
+use mc_types::Key;
+
+/// Whether a word is a key.
+pub fn is_key(word: &[u8]) -> bool
+    ensures { result ≡ is_key word.now }
+{
+    1 <= word.len() && word.len() <= 250 && are_key_bytes(word)
+}
+
+/// The next word, which must be there.
+pub fn word(line: &[u8], at: usize) -> Result<Span, Why>
+    requires { at ≤ length line.now }
+    ensures { MatchResult result (IsNextWord line.now at) (λ e. (e ≡ Why.Unknown) × (words (drop at line.now) ≡ [])) }
+{
+    next_word(line, at).ok_or(Why::Unknown)
+}
+
+/// The word at a place among the words of a line from a byte on.
+pub fn nth_word(line: &[u8], from: usize, place: usize) -> Option<Span>
+    requires { from ≤ length line.now }
+    ensures value { option_map (text_at line.now) result ≡ slice_get (words (drop from line.now)) place }
+    ensures within { IfSome result (IsIn (length line.now)) }
+{
+    let mut at = from;
+    for _ in 0..place {
+        at = next_word(line, at)?.end;
+    }
+    next_word(line, at)
+}
+
+/// The length that stands at a place among the words of a line from a byte on, if one does.
+pub fn length_at(line: &[u8], from: usize, place: usize) -> Option<u32>
+    requires { from ≤ length line.now }
+    ensures { result ≡ length_in (slice_get (words (drop from line.now)) place) }
+{
+    let word = nth_word(line, from, place)?;
+    small_number(&line[word.start..word.end])
+}
+
+/// The key that a word must be.
+pub fn key(line: &[u8], word: Span) -> Result<Span, Why>
+    requires { IsIn (length line.now) word }
+    ensures key { Gives (text_at line.now) result (key_of (text_at line.now word)) }
+    ensures same { IfOk result (λ s. s ≡ word) }
+{
+    if is_key(&line[word.start..word.end]) {
+        Ok(word)
+    } else {
+        Err(Why::BadKey)
+    }
+}
+
+/// The flags or the length that a word must be.
+pub fn small(line: &[u8], word: Span) -> Result<u32, Why>
+    requires { IsIn (length line.now) word }
+    ensures { result ≡ small_of (text_at line.now word) }
+{
+    small_number(&line[word.start..word.end]).ok_or(Why::BadNumber)
+}
+
+/// The number below 2^64 that a word must be.
+pub fn wide(line: &[u8], word: Span) -> Result<u64, Why>
+    requires { IsIn (length line.now) word }
+    ensures { result ≡ wide_of (text_at line.now word) }
+{
+    number(&line[word.start..word.end]).ok_or(Why::BadNumber)
+}
+
+/// The exptime that a word must be.
+pub fn exptime(line: &[u8], word: Span) -> Result<i64, Why>
+    requires { IsIn (length line.now) word }
+    ensures { result ≡ exptime_of (text_at line.now word) }
+{
+    signed(&line[word.start..word.end]).ok_or(Why::BadNumber)
+}
+
+/// The key that stands there.
+pub fn key_at(bytes: &[u8], word: Span) -> Key
+    requires placed { IsIn (length bytes.now) word }
+    requires key { IsKey (text_at bytes.now word) }
+    ensures { result ≡ text_at bytes.now word }
+{
+    match Key::read(&bytes[word.start..word.end]) {
+        Ok(key) => key,
+        Err(_) => unreachable!(),
+    }
+}

@@ -1,0 +1,9 @@
+//! Which return flags a meta ask has.
+#![tactic(auto)]
+
+mod wanted;
+
+pub use wanted::Wanted;
+
+#[cfg(test)]
+mod tests;

@@ -1,0 +1,6 @@
+-- A reply of the code as the definitions have it.
+use Rattle.route_tree.specs.Word.{Given}
+use Rattle.route_job.specs.declared.done.Done.{Done}
+
+abbrev pub given_of : Done → Given
+given_of done = record { reply = done.reply; from = done.from }

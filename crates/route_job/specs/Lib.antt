@@ -1,0 +1,6 @@
+pub mod Given
+pub mod Parts
+pub mod Rest
+pub mod Settling
+pub mod Jobs
+pub mod Executing

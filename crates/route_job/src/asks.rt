@@ -1,0 +1,79 @@
+//! The asks that a warm-up makes of its own, and which asks it is for.
+
+ghost use Rattle.std.specs.Prelude.{◌≡◌, pos, [], false, Some, None, IfOk};
+ghost use Rattle.mc_types.specs.declared.ask.Op.TheVariants.{Add};
+ghost use Rattle.mc_types.specs.declared.ask.Dialect.TheVariants.{Classic};
+ghost use Rattle.route_tree.specs.Word.{plain_get, refill, is_plain_get};
+ghost use Rattle.route_job.specs.Parts.{is_get};
+
+use mc_types::{Answer, Ask, Body, Dialect, Op, Tokens};
+use std::alloc::{AllocError, Global};
+
+/// Whether it is a get.
+pub fn is_get(op: Op) -> bool
+    ensures { result ≡ is_get op }
+{
+    match op {
+        Op::Get => true,
+        _ => false,
+    }
+}
+
+/// A classic get of the key of the ask. It takes no memory.
+pub fn plain_get_of(alloc: Global, ask: &Ask) -> Ask
+    ensures { result ≡ plain_get ask.now }
+{
+    Ask {
+        key: ask.key,
+        op: Op::Get,
+        dialect: Dialect::Classic,
+        with_cas: false,
+        flags: 0,
+        exptime: None,
+        body: Body::empty(),
+        cas: None,
+        delta: 0,
+        tokens: Tokens::new(alloc),
+    }
+}
+
+// An add of these data under the key of the ask. It takes no memory.
+fn add_of(alloc: Global, ask: &Ask, flags: u32, body: Body, exptime: u32) -> Ask
+    ensures { result ≡ record { key = ask.now.key; op = Add; dialect = Classic; with_cas = false; flags = flags; exptime = Some (pos exptime); body = body; cas = None; delta = 0; tokens = [] } }
+{
+    Ask {
+        key: ask.key,
+        op: Op::Add,
+        dialect: Dialect::Classic,
+        with_cas: false,
+        flags,
+        exptime: Some(i64::from(exptime)),
+        body,
+        cas: None,
+        delta: 0,
+        tokens: Tokens::new(alloc),
+    }
+}
+
+/// An add of the item that was answered.
+pub fn refill_of(alloc: Global, ask: &Ask, answer: &Answer, exptime: u32) -> Result<Ask, AllocError>
+    ensures { IfOk result (λ add. add ≡ refill ask.now answer.now exptime) }
+{
+    match answer {
+        Answer::Hit { flags, body, .. } => {
+            let body = body.copy()?;
+            Ok(add_of(alloc, ask, *flags, body, exptime))
+        }
+        _ => Ok(add_of(alloc, ask, 0, Body::empty(), exptime)),
+    }
+}
+
+/// A classic get without its cas number.
+pub fn is_plain_get(ask: &Ask) -> bool
+    ensures { result ≡ is_plain_get ask.now }
+{
+    match ask.dialect {
+        Dialect::Classic => !ask.with_cas,
+        Dialect::Meta => false,
+    }
+}

@@ -1,0 +1,155 @@
+//! What each form of route begins with.
+
+ghost use Rattle.std.specs.Prelude.{◌≡◌, ◌+◌, ◌*◌, ◌≤◌, ℕ, List, IfOk};
+ghost use Rattle.mc_types.specs.declared.ask.Ask.{Ask};
+ghost use Rattle.mc_types.specs.declared.call.Origin.{Origin};
+ghost use Rattle.route_tree.specs.At.{left_of, left_of_all, left_of_policies};
+ghost use Rattle.route_tree.specs.Form.{policies_of};
+ghost use Rattle.route_tree.specs.Levels.{plan_of_level};
+ghost use Rattle.route_tree.specs.Plan.{AllSync, MissFailover, More, WarmUp, count, count_of_all, count_of_policies};
+ghost use Rattle.route_tree.specs.Word.{Word, WordOfFirst, WordOfPolicy};
+ghost use Rattle.route_job.specs.Parts.{SameAt};
+ghost use Rattle.route_job.specs.Rest.{AdvanceOf};
+ghost use Rattle.route_job.specs.Settling.{IsSure, advance_work};
+
+use crate::asks::is_get;
+use crate::done::{failing_done, null_done};
+use crate::frame::{Advance, Frame, Pending, Sides};
+use mc_types::{Ask, Op};
+use route_tree::{Children, Level, Tree, policy_of};
+use std::alloc::AllocError;
+
+// All children in order.
+fn enter_all(first: Tree, rest: Children) -> Advance
+    ensures same { (hash : ℕ) (text : List ℕ) (ask : Ask) (origin : Origin) (b : ℕ) → SameAt b (Word (AllSync (More (left_of hash text first) (left_of_all hash text rest))) ask origin) (AdvanceOf hash text result ask origin) }
+    ensures sure { (hash : ℕ) (text : List ℕ) (ask : Ask) (origin : Origin) (b : ℕ) → IsSure hash text result ask origin b }
+    ensures less { (hash : ℕ) (text : List ℕ) → advance_work hash text result + 1 ≤ 3 * count (AllSync (More (left_of hash text first) (left_of_all hash text rest))) }
+{
+    Advance {
+        frame: Some(Frame::All { rest, worst: None }),
+        pending: Pending::Enter(first),
+    }
+}
+
+// The children in order up to the first reply of a rank below the limit.
+fn enter_first(first: Tree, rest: Children, limit: u8) -> Advance
+    ensures same { (hash : ℕ) (text : List ℕ) (ask : Ask) (origin : Origin) (b : ℕ) → SameAt b (WordOfFirst (More (left_of hash text first) (left_of_all hash text rest)) limit ask origin) (AdvanceOf hash text result ask origin) }
+    ensures sure { (hash : ℕ) (text : List ℕ) (ask : Ask) (origin : Origin) (b : ℕ) → IsSure hash text result ask origin b }
+    ensures less { (hash : ℕ) (text : List ℕ) → advance_work hash text result ≤ 3 * count_of_all (More (left_of hash text first) (left_of_all hash text rest)) + 1 }
+{
+    Advance {
+        frame: Some(Frame::First { rest, limit }),
+        pending: Pending::Enter(first),
+    }
+}
+
+// A get goes on to the first hit; another operation asks the first child alone.
+fn enter_miss(ask: &Ask, first: Tree, rest: Children) -> Advance
+    ensures same { (hash : ℕ) (text : List ℕ) (origin : Origin) (b : ℕ) → SameAt b (Word (MissFailover (More (left_of hash text first) (left_of_all hash text rest))) ask.now origin) (AdvanceOf hash text result ask.now origin) }
+    ensures sure { (hash : ℕ) (text : List ℕ) (origin : Origin) (b : ℕ) → IsSure hash text result ask.now origin b }
+    ensures less { (hash : ℕ) (text : List ℕ) → advance_work hash text result ≤ 3 * count_of_all (More (left_of hash text first) (left_of_all hash text rest)) + 1 }
+{
+    if is_get(ask.op) {
+        enter_first(first, rest, 1)
+    } else {
+        enter_alone(first)
+    }
+}
+
+// This tree and nothing more.
+fn enter_alone(tree: Tree) -> Advance
+    ensures same { (hash : ℕ) (text : List ℕ) (ask : Ask) (origin : Origin) (b : ℕ) → SameAt b (Word (left_of hash text tree) ask origin) (AdvanceOf hash text result ask origin) }
+    ensures sure { (hash : ℕ) (text : List ℕ) (ask : Ask) (origin : Origin) (b : ℕ) → IsSure hash text result ask origin b }
+    ensures less { (hash : ℕ) (text : List ℕ) → advance_work hash text result ≤ 3 * count (left_of hash text tree) }
+{
+    Advance {
+        frame: None,
+        pending: Pending::Enter(tree),
+    }
+}
+
+// A get may ask the warm side too.
+fn enter_warm_up(ask: &Ask, sides: Sides) -> Result<Advance, AllocError>
+    ensures same { IfOk result (λ advance. (hash : ℕ) (text : List ℕ) (origin : Origin) (b : ℕ) → SameAt b (Word (WarmUp (left_of hash text sides.cold) (left_of hash text sides.warm) sides.exptime) ask.now origin) (AdvanceOf hash text advance ask.now origin)) }
+    ensures sure { IfOk result (λ advance. (hash : ℕ) (text : List ℕ) (origin : Origin) (b : ℕ) → IsSure hash text advance ask.now origin b) }
+    ensures less { IfOk result (λ advance. (hash : ℕ) (text : List ℕ) → advance_work hash text advance + 1 ≤ 3 * count (WarmUp (left_of hash text sides.cold) (left_of hash text sides.warm) sides.exptime)) }
+{
+    let cold = sides.cold.copy()?;
+    let pending = Pending::Enter(cold);
+    if is_get(ask.op) {
+        Ok(Advance {
+            frame: Some(Frame::Cold { sides }),
+            pending,
+        })
+    } else {
+        Ok(Advance {
+            frame: None,
+            pending,
+        })
+    }
+}
+
+// The sides, shared.
+fn sides_of(cold: &Tree, warm: &Tree, exptime: u32) -> Result<Sides, AllocError>
+    ensures { IfOk result (λ sides. sides ≡ record { cold = cold.now; warm = warm.now; exptime = exptime }) }
+{
+    let cold = cold.copy()?;
+    let warm = warm.copy()?;
+    Ok(Sides {
+        cold,
+        warm,
+        exptime,
+    })
+}
+
+// The child of the operation, else the default.
+fn enter_chosen(ask: &Ask, policies: &[(Op, Tree)], default: &Tree) -> Result<Advance, AllocError>
+    ensures same { IfOk result (λ advance. (hash : ℕ) (text : List ℕ) (origin : Origin) (b : ℕ) → SameAt b (WordOfPolicy (left_of_policies hash text (policies_of policies.now default.now)) ask.now origin) (AdvanceOf hash text advance ask.now origin)) }
+    ensures sure { IfOk result (λ advance. (hash : ℕ) (text : List ℕ) (origin : Origin) (b : ℕ) → IsSure hash text advance ask.now origin b) }
+    ensures less { IfOk result (λ advance. (hash : ℕ) (text : List ℕ) → advance_work hash text advance ≤ 3 * count_of_policies (left_of_policies hash text (policies_of policies.now default.now))) }
+{
+    let tree = policy_of(policies, default, ask.op).copy()?;
+    Ok(enter_alone(tree))
+}
+
+// What a level begins with.
+fn enter_level(ask: &Ask, level: Level) -> Result<Advance, AllocError>
+    ensures same { IfOk result (λ advance. (hash : ℕ) (text : List ℕ) (origin : Origin) (b : ℕ) → SameAt b (Word (plan_of_level hash text level.entry) ask.now origin) (AdvanceOf hash text advance ask.now origin)) }
+    ensures sure { IfOk result (λ advance. (hash : ℕ) (text : List ℕ) (origin : Origin) (b : ℕ) → IsSure hash text advance ask.now origin b) }
+    ensures less { IfOk result (λ advance. (hash : ℕ) (text : List ℕ) → advance_work hash text advance + 1 ≤ 3 * count (plan_of_level hash text level.entry)) }
+{
+    match level {
+        Level::Server(server) => Ok(Advance {
+            frame: None,
+            pending: Pending::Call(server),
+        }),
+        Level::Null => Ok(Advance {
+            frame: None,
+            pending: Pending::Back(null_done(ask.dialect, ask.op)),
+        }),
+        Level::Error => Ok(Advance {
+            frame: None,
+            pending: Pending::Back(failing_done()),
+        }),
+        Level::AllSync { first, rest } => Ok(enter_all(first, rest)),
+        Level::Failover { first, rest } => Ok(enter_first(first, rest, 4)),
+        Level::MissFailover { first, rest } => Ok(enter_miss(ask, first, rest)),
+        Level::WarmUp {
+            cold,
+            warm,
+            exptime,
+        } => enter_warm_up(ask, sides_of(cold, warm, exptime)?),
+        Level::ByOperation { policies, default } => enter_chosen(ask, policies, default),
+    }
+}
+
+/// What the tree begins with, as the keys of this hash and text see it. It takes no memory, and is refused only where a
+/// count of sharers is full.
+pub fn enter(hash: u32, text: &[u8], ask: &Ask, tree: &Tree) -> Result<Advance, AllocError>
+    ensures same { IfOk result (λ advance. (origin : Origin) (b : ℕ) → SameAt b (Word (left_of hash text.now tree.now) ask.now origin) (AdvanceOf hash text.now advance ask.now origin)) }
+    ensures sure { IfOk result (λ advance. (origin : Origin) (b : ℕ) → IsSure hash text.now advance ask.now origin b) }
+    ensures less { IfOk result (λ advance. advance_work hash text.now advance + 1 ≤ 3 * count (left_of hash text.now tree.now)) }
+{
+    let level = tree.level(hash, text)?;
+    enter_level(ask, level)
+}

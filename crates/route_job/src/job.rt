@@ -1,0 +1,131 @@
+//! A command as a value: it shows its next call, and takes the outcome.
+
+ghost use Rattle.std.specs.Prelude.{◌≡◌, ◌↔◌, ◌+◌, ◌≤◌, ℕ, List, [], ◌∷◌, IfOk, OnOk, OnErr};
+ghost use Rattle.mc_types.specs.declared.call.Origin.TheVariants.{Client};
+ghost use Rattle.mc_runs.specs.Run.{Call as CallMade};
+ghost use Rattle.mc_runs.specs.Single.{FitsOutcome};
+ghost use Rattle.route_tree.specs.At.{tree_at};
+ghost use Rattle.route_tree.specs.Word.{Given, Word};
+ghost use Rattle.route_job.specs.Given.{given_of};
+ghost use Rattle.route_job.specs.Settling.{IsKept, kept_prop};
+
+use crate::done::{Done, broken_done, done_by};
+use crate::frame::{Frame, Pending};
+use crate::walk::{ask_under, origin_under, settle};
+use key_hash::key_hash;
+use mc_types::{Ask, Origin, Outcome, ServerId};
+use route_tree::Tree;
+use std::alloc::{AllocError, Global};
+
+/// One client command on a tree, stepped by the outcomes of its calls.
+///
+/// It borrows nothing: what it needs of the tree it shares, so it can be kept while another tree takes that one's place. No
+/// part of the tree and not the ask is copied. A command that calls one server takes no memory.
+///
+/// A job in whose `take` memory was refused is broken: it calls nothing more, and its reply is the error line
+/// `SERVER_ERROR out of memory storing object`, which is no word of the tree. Its owner drops it.
+///
+/// Source: mcgate's own.
+#[derive(Drop)]
+pub struct Job {
+    ask: Ask,
+    hash: u32,
+    frames: Vec<Frame>,
+    pending: Pending,
+    made: u64,
+    ghost kept: { IsKept hash ask.key ask frames.items pending made } by { kept_prop hash ask.key ask frames.items pending made },
+}
+
+/// What a job shows next.
+#[derive(Drop)]
+pub enum Step<'b> {
+    /// This call.
+    Call {
+        server: ServerId,
+        ask: &'b Ask,
+        origin: Origin,
+    },
+    /// Nothing more: the command ended so.
+    Done(&'b Done),
+}
+
+impl Job {
+    ghost use Rattle.route_job.specs.Jobs.{Comes, IsBroken, call_of, IsNext, IsCalling, IsDone, work_of};
+
+    /// The command on this tree for this ask: what may come of it are the words of the key's plain tree. The only error:
+    /// memory was refused.
+    pub fn new(alloc: Global, tree: &Tree, ask: Ask) -> Result<Job, AllocError>
+        ensures { IfOk result (λ job. (calls : List CallMade) (given : Given) → Comes job calls given ↔ Word (tree_at tree.now ask.key) ask Client 0 calls given) }
+    {
+        let hash = key_hash(&ask.key);
+        let _form = tree.form();
+        let mut frames = Vec::new(alloc);
+        let root = tree.copy()?;
+        let pending = settle(alloc, hash, &ask, &mut frames, Pending::Enter(root))?;
+        Ok(Job {
+            ask,
+            hash,
+            frames,
+            pending,
+            made: 0,
+        })
+    }
+
+    /// The next call, or how the command ended. It takes no memory.
+    pub fn next(&self) -> Step<'_>
+        ensures { IsNext self.now result }
+    {
+        match &self.pending {
+            Pending::Call(server) => Step::Call {
+                server: *server,
+                ask: ask_under(self.frames.as_slice(), &self.ask),
+                origin: origin_under(self.frames.as_slice(), Origin::Client),
+            },
+            Pending::Back(done) => Step::Done(done),
+            Pending::Enter(_) => unreachable!(),
+        }
+    }
+
+    /// The call that is next had this outcome: what may come now is what is left of what began so. The only error: memory
+    /// was refused; the job is broken then.
+    pub fn take(&mut self, alloc: Global, outcome: Outcome) -> Result<(), AllocError>
+        requires calling { IsCalling self.old }
+        requires fits { FitsOutcome (call_of self.old outcome).ask outcome }
+        ensures rest { OnOk result ((calls : List CallMade) (given : Given) → Comes self.new calls given ↔ Comes self.old (call_of self.old outcome ∷ calls) given) }
+        ensures less { OnOk result (work_of self.new + 1 ≤ work_of self.old) }
+        ensures broken { OnErr result (IsBroken self.new) }
+    {
+        let done = done_by(self.made, outcome);
+        self.made += 1;
+        let next = Pending::Back(done);
+        match settle(alloc, self.hash, &self.ask, &mut self.frames, next) {
+            Ok(pending) => {
+                self.pending = pending;
+                Ok(())
+            }
+            Err(error) => {
+                self.frames.clear();
+                self.pending = Pending::Back(broken_done());
+                Err(error)
+            }
+        }
+    }
+
+    /// How the command ended.
+    pub fn into_done(self) -> Done
+        requires { IsDone self }
+        ensures { (calls : List CallMade) (given : Given) → Comes self calls given ↔ ((calls ≡ []) × (given ≡ given_of result)) }
+    {
+        let Job {
+            ask: _ask,
+            hash: _hash,
+            frames: _frames,
+            pending,
+            made: _made,
+        } = self;
+        match pending {
+            Pending::Back(done) => done,
+            _ => unreachable!(),
+        }
+    }
+}

@@ -1,0 +1,15 @@
+//! One client command on a tree of routes: which server is called next, and what the client gets at the end.
+#![tactic(auto)]
+
+pub mod asks;
+pub mod done;
+pub mod entering;
+pub mod fleet;
+pub mod frame;
+pub mod job;
+pub mod returning;
+pub mod walk;
+
+pub use done::Done;
+pub use fleet::{Fleet, execute};
+pub use job::{Job, Step};
