@@ -1,15 +1,14 @@
 -- A piece that came, output that was given, and clients that come and go.
 use Rattle.std.proofs.lemmas.Bool.{eqb-true, eq-eqb}
-use Rattle.std.proofs.Common.{◌≡◌, ℕ, ◌+◌, ◌<◌, ◌≤◌, Bool, true, false, cond, List, [], ◌∷◌, length, Option, Some, None, inl, inr, refl, sym, ap, ◌∙◌, subst, arith, nat_eq, slice_get}
+use Rattle.std.proofs.Common.{◌≡◌, ℕ, ◌+◌, ◌<◌, Bool, true, false, cond, List, [], ◌∷◌, length, Option, Some, None, inl, inr, refl, sym, ap, ◌∙◌, subst, arith, nat_eq, slice_get}
 use Rattle.std.specs.Prelude.{IsSome, is_some}
 use Rattle.slab.proofs.SlabLemmas.{Updates-with_value}
 use Rattle.slab.specs.Slab.{Slab, get, with_value, Updates}
 use Rattle.mc_runs.specs.Overlap as log
 use Rattle.mc_runs.specs.Overlap.{Front, Slot, Owner, Entry, fed_front, start_front}
-use Rattle.mc_runs.specs.OverlapStanding.{Either, Walks}
+use Rattle.mc_runs.specs.OverlapStanding.{Either}
 use Rattle.mc_runs.proofs.OverlapSteps.{walks_lead}
-use Rattle.request_parts.specs.Stream.{Place, Stands, extended}
-use Rattle.request_parts.specs.declared.skip.Skip.TheVariants.{Nothing}
+use Rattle.text_requests.specs.Stream.{Place, extended}
 use Rattle.text_codec.specs.Classic.{classic, Said, ReadsNext, asks_in}
 use Rattle.text_codec.proofs.ReaderLaws.{reader_is}
 use Rattle.mc_types.specs.declared.answer.Answer.{Answer}
@@ -19,8 +18,8 @@ use Rattle.route_tree.specs.Copies.{may_copy}
 use Rattle.proxy_core.specs.declared.state.Command.{Command}
 use Rattle.proxy_core.specs.declared.client.Client.{Client}
 use Rattle.proxy_core.specs.declared.proxy.Core.{Core}
-use Rattle.proxy_core.specs.Standing.{tree_of, words, Bars, View, Servers, AreUnseen, front_by, output_by, dropped_by, command_by, owner_by, left_by, standing_with, IsAtKey, IsQueueBy, IsQueue, ticket_at, IsViewOf, Keeps, GoesBy, Feeds, Gives, Opens, Closes, IsUnderWay}
-use Rattle.proxy_core.proofs.Changing.{Changes, Moves, moved, moved_command, at_one, by_one, same_by, put_by, number_of, view_moves, same_tickets, same_command, some_is, no_some, unequal, differ}
+use Rattle.proxy_core.specs.Standing.{words, Bars, View, front_by, output_by, dropped_by, command_by, owner_by, left_by, standing_with, IsAtKey, IsQueueBy, IsQueue, ticket_at, IsViewOf, GoesBy, Feeds}
+use Rattle.proxy_core.proofs.Changing.{Changes, Moves, moved, moved_command, same_by, put_by, number_of, view_moves, same_tickets, same_command, some_is, no_some, unequal, differ}
 
 -- its stream took a piece
 pub record Takes (x : Client) (bytes : List ℕ) (y : Client) : Type 0 where
@@ -320,5 +319,16 @@ placed_roomy core roomy slab client x y same was u =
       was = sym (slots client) ∙ was;
       is = u.changed;
       others = λ c differs. u.others c (λ same. unequal client c (sym same) differs) ∙ slots c;
+      keeps = record { tree = refl; sharing = refl; limits = refl; servers = refl; number = omega arith };
+    }
+
+-- the same, and a number was given out
+pub written_next : (core : Core) (client : ℕ) (x y : Client) → get core.clients client ≡ Some x → Changes core (record core { clients = with_value core.clients client y; number = core.number + 1 }) client (Some x) (Some y)
+written_next core client x y was =
+    let u = Updates-with_value core.clients client y (subst IsSome (sym was) refl) in
+    record {
+      was = was;
+      is = u.changed;
+      others = λ c differs. u.others c (λ same. unequal client c (sym same) differs);
       keeps = record { tree = refl; sharing = refl; limits = refl; servers = refl; number = omega arith };
     }

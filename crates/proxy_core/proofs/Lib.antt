@@ -1,2 +1,10 @@
 pub mod Changing
 pub mod Bytes
+pub mod Fronts
+pub mod Steps
+pub mod Breaking
+pub mod Beginning
+pub mod Calling
+pub mod KeptOut
+pub mod Ending
+pub mod Sending

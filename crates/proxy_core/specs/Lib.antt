@@ -1,2 +1,3 @@
 pub mod Jobs
+pub mod Clients
 pub mod Standing

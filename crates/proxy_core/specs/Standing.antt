@@ -1,13 +1,19 @@
 -- What the core's clients and commands stand for, and what each of its calls does. Source: mcgate's own.
-use Rattle.std.specs.Prelude.{◌≡◌, ◌≢◌, ℕ, ◌+◌, ◌<◌, ◌≤◌, Bool, true, false, not, ◌&&◌, ◌||◌, List, [], ◌∷◌, ◌++◌, length, Option, Some, None, if◌then◌else◌, nat_eq, bytes_eq, slice_get, ◌⊎◌}
+use Rattle.std.specs.Prelude.{◌≡◌, ◌≢◌, ℕ, ◌+◌, ◌<◌, ◌≤◌, Bool, true, false, not, ◌&&◌, ◌||◌, List, [], ◌∷◌, ◌++◌, length, drop, Option, Some, None, if◌then◌else◌, nat_eq, bytes_eq, slice_get, ◌⊎◌, ◌↔◌, IsTrue}
 use Rattle.slab.specs.Slab.{get}
-use Rattle.mc_types.specs.declared.ask.Op.{Op}
-use Rattle.mc_types.specs.declared.ask.Op.TheVariants.{Delete}
 use Rattle.mc_types.specs.declared.ask.Ask.{Ask}
 use Rattle.mc_types.specs.declared.answer.Answer.{Answer}
 use Rattle.mc_types.specs.declared.call.Origin.{Origin}
+use Rattle.mc_types.specs.declared.call.Origin.TheVariants.{Client as OfClient}
+use Rattle.mc_types.specs.Asks.{IsAsk}
+use Rattle.mc_types.specs.declared.call.Outcome.{Outcome}
+use Rattle.mc_types.specs.Acknowledged.{Acknowledges}
 use Rattle.mc_types.specs.Items.{Item}
-use Rattle.mc_runs.specs.Run.{Words, Call, End}
+use Rattle.mc_runs.specs.Run.{Words, Call, End, outcome_of}
+use Rattle.mc_runs.specs.Fleet.{EndsIn}
+use Rattle.mc_runs.specs.Log.{Part}
+use Rattle.mc_runs.specs.Stale.{is_delete_op}
+use Rattle.mc_runs.specs.Protocol.{IsStuck}
 use Rattle.mc_runs.specs.Sharing.{Calls, after_event}
 use Rattle.mc_runs.specs.Overlap as log
 use Rattle.mc_runs.specs.Overlap.{Front, Slot, Owner, Entry, is_last_slot, start_front}
@@ -16,20 +22,30 @@ use Rattle.route_tree.specs.Route.{Route}
 use Rattle.route_tree.specs.At.{tree_at}
 use Rattle.route_tree.specs.Copies.{may_copy, copy_bars}
 use Rattle.route_tree.specs.Direct.{words_of}
-use Rattle.route_tree.specs.Word.{Given}
-use Rattle.request_parts.specs.Stream.{Place, Closed}
-use Rattle.text_requests.specs.Asks.{quiet_of}
-use Rattle.text_codec.specs.Held.{held_at}
+use Rattle.route_tree.specs.Word.{Given, Word}
+use Rattle.text_requests.specs.Stream.{Place, Stands, Closed}
+use Rattle.text_requests.specs.Asks.{quiet_of, asks_of}
+use Rattle.text_requests.specs.Message.{IsReadFrom, message_in}
+use Rattle.text_requests.specs.declared.command.Read.TheVariants as reads
+use Rattle.text_requests.specs.declared.command.Request.{Request}
+use Rattle.text_requests.specs.declared.command.Skip.TheVariants.{Nothing}
+use Rattle.text_requests.specs.declared.command.Read.{Read}
+use Rattle.text_codec.specs.Held.{held_at, IsReadAt}
 use Rattle.text_codec.specs.Classic.{classic, Said, Whole, LongLine, ReadsNext, asks_in}
 use Rattle.proxy_core.specs.declared.state.Sharing.{Sharing}
 use Rattle.proxy_core.specs.declared.state.Sharing.TheVariants.{Alone, Apart}
 use Rattle.proxy_core.specs.declared.state.Command.{Command}
+use Rattle.proxy_core.specs.declared.state.Ticket.{Ticket}
+use Rattle.proxy_core.specs.declared.state.Note.{Note}
+use Rattle.proxy_core.specs.declared.state.Poll.{Poll}
+use Rattle.proxy_core.specs.declared.state.Poll.TheVariants as polls
 use Rattle.proxy_core.specs.declared.state.CoreFault.{CoreFault}
 use Rattle.proxy_core.specs.declared.state.CoreFault.TheVariants as faults
 use Rattle.proxy_core.specs.declared.client.Client.{Client}
-use Rattle.proxy_core.specs.declared.job.Job.{Job}
+use Rattle.proxy_core.specs.declared.job.Shown.{Shown}
 use Rattle.proxy_core.specs.declared.proxy.Core.{Core}
-use Rattle.proxy_core.specs.Jobs.{Comes, server_of, ask_of, origin_of}
+use Rattle.proxy_core.specs.Clients.{AsksNothing}
+use Rattle.proxy_core.specs.Jobs.{Comes, IsCalling, server_of, ask_of, origin_of}
 
 -- the tree that commands go through, and their words
 abbrev pub tree_of : Core → Route
@@ -123,6 +139,7 @@ pub record IsSlot (x : Command) (slot : Slot classic) : Type 0 where
   pub reply : slot.reply ≡ None
   pub quiet : quiet_in slot.message ≡ x.quiet
   pub last : is_last_slot slot ≡ x.last
+  pub next : slot.index + 1 ≡ x.next
   pub asks : slice_get (asks_in slot.message) slot.index ≡ Some x.job.ask
 
 -- the next key of a client is the first of its message, or the message at its front has it
@@ -202,6 +219,201 @@ IsFeedFault core client piece faults.Spent = ⊥
 IsFeedFault core client piece faults.NoTicket = ⊥
 IsFeedFault core client piece faults.UnderWay = ⊥
 
+-- nothing more is read of the client
+abbrev pub IsClosed : Option Client → Type 0
+IsClosed None = Unit {0}
+IsClosed (Some x) = (x.dropped ≡ true) ⊎ (x.stream ≡ Closed)
+
+-- The entries of what a poll answered stand on the begin of a command, if it began one.
+abbrev pub BeginsAtMost : ℕ → List (Entry classic) → Type 0
+BeginsAtMost client [] = Unit {0}
+BeginsAtMost client (entry ∷ []) = (number : ℕ) × (part : Part classic) × (entry ≡ log.Starts client number part)
+BeginsAtMost client (entry ∷ next ∷ entries) = ⊥
+
+-- a message that asks no server was done
+pub record IsPassed (client : ℕ) (entries : List (Entry classic)) : Type 0 where
+  pub message : Said
+  pub next : Place
+  pub entries_are : entries ≡ log.Passes client message next ∷ []
+
+-- a call went out
+abbrev pub IsSent : Ticket → List (Entry classic) → List (Entry classic) → Type 0
+IsSent ticket begun entries = entries ≡ log.Sends ticket.number ticket.server ticket.ask ticket.origin ∷ begun
+
+-- a command ended, and its reply was shown
+pub record IsEnded (client : ℕ) (note : Note) (begun entries : List (Entry classic)) : Type 0 where
+  pub part : Part classic
+  pub slot : Slot classic
+  pub reply : Answer
+  pub entries_are : entries ≡ log.Shows client slot reply ∷ log.Ends client note.number part reply note.from ∷ begun
+  pub key : note.key ≡ part.ask.key
+  pub acknowledged : IsTrue note.acknowledged ↔ Acknowledges part.ask reply
+
+abbrev pub IsPolledAfter : List (Entry classic) → ℕ → Poll → List (Entry classic) → Type 0
+IsPolledAfter begun client polls.Idle entries = ⊥
+IsPolledAfter begun client polls.Own entries = ⊥
+IsPolledAfter begun client polls.Refused entries = ⊥
+IsPolledAfter begun client (polls.Call ticket) entries = IsSent ticket begun entries
+IsPolledAfter begun client polls.Waiting entries = ⊥
+IsPolledAfter begun client polls.Busy entries = entries ≡ begun
+IsPolledAfter begun client (polls.Did note) entries = IsEnded client note begun entries
+
+-- the entries of what a poll of a client answered
+abbrev pub IsPolled : ℕ → Poll → List (Entry classic) → Type 0
+IsPolled client polls.Idle entries = entries ≡ []
+IsPolled client polls.Own entries = IsPassed client entries
+IsPolled client polls.Refused entries = IsPassed client entries
+IsPolled client polls.Waiting entries = entries ≡ []
+IsPolled client poll entries = (begun : List (Entry classic)) × BeginsAtMost client begun × IsPolledAfter begun client poll entries
+
+-- a server has as many calls out as it may have
+abbrev pub IsFull : Core → ℕ → Type 0
+IsFull core server = (count : ℕ) × (slice_get core.counts.items server ≡ Some count) × (core.limits.window ≤ count)
+
+-- a command under way keeps this one, of the same key, from beginning
+abbrev pub keeps_out : Sharing → Bool → Ask → Command → Bool
+keeps_out Alone copies ask x = bytes_eq x.job.ask.key ask.key
+keeps_out Apart copies ask x = bytes_eq x.job.ask.key ask.key && ((copies && is_delete_op x.job.ask.op) || (x.copies && is_delete_op ask.op))
+
+-- some client's command does
+abbrev pub IsKeptOut : Core → Bool → Ask → Type 0
+IsKeptOut core copies ask = (c : ℕ) × (x : Client) × (command : Command) × (get core.clients c ≡ Some x) × (x.command ≡ Some command) × (keeps_out core.sharing copies ask command ≡ true)
+
+-- the client's next key may begin, but for others on its key
+pub record IsNextKey (core : Core) (x : Client) (ask : Ask) : Type 0 where
+  pub idle : x.command ≡ None
+  pub message : Said
+  pub next : Place
+  pub reads : ReadsNext x.stream message next
+  pub asks : slice_get (asks_in message) x.index ≡ Some ask
+
+-- why nothing more could be done for a client
+abbrev pub IsIdle : Option Client → Type 0
+IsIdle None = ⊥
+IsIdle (Some x) = (x.dropped ≡ true) ⊎ ((x.command ≡ None) × IsStuck classic x.stream)
+
+abbrev pub IsWaiting : Option Client → Type 0
+IsWaiting None = ⊥
+IsWaiting (Some x) = (command : Command) × (x.command ≡ Some command) × (command.is_out ≡ true)
+
+abbrev pub IsBusy : Core → Option Client → Type 0
+IsBusy core None = ⊥
+IsBusy core (Some x) =
+    ((ask : Ask) × IsNextKey core x ask × IsKeptOut core (may_copy ask.op (tree_at (tree_of core) ask.key)) ask)
+    ⊎ ((command : Command) × (x.command ≡ Some command) × (command.is_out ≡ false) × IsCalling command.job × IsFull core (server_of command.job))
+
+abbrev pub IsWhy : Core → ℕ → Poll → Type 0
+IsWhy core client polls.Idle = IsIdle (get core.clients client)
+IsWhy core client polls.Waiting = IsWaiting (get core.clients client)
+IsWhy core client polls.Busy = IsBusy core (get core.clients client)
+IsWhy core client polls.Own = Unit {0}
+IsWhy core client polls.Refused = Unit {0}
+IsWhy core client (polls.Call ticket) = Unit {0}
+IsWhy core client (polls.Did note) = Unit {0}
+
+-- for want of memory nothing more is done for the client, and its command is broken off
+abbrev pub IsBroken : ℕ → List (Entry classic) → Type 0
+IsBroken client entries = (entries ≡ log.Drops client ∷ []) ⊎ ((n : ℕ) × (entries ≡ log.Frees n ∷ log.Drops client ∷ []))
+
+-- no call of its command is out
+abbrev pub IsStill : Option Client → Type 0
+IsStill None = ⊥
+IsStill (Some x) = (command : Command) → x.command ≡ Some command → command.is_out ≡ false
+
+-- its command isn't out
+abbrev pub HasStill : Option Client → Type 0
+HasStill None = ⊥
+HasStill (Some x) = (x.dropped ≡ false) × ((command : Command) × (x.command ≡ Some command) × (command.is_out ≡ false))
+
+-- its command's next call is at this server
+abbrev pub HasCall : Option Client → ℕ → Type 0
+HasCall None server = ⊥
+HasCall (Some x) server = (x.dropped ≡ false) × ((command : Command) × (x.command ≡ Some command) × (command.is_out ≡ false) × IsCalling command.job × (server ≡ server_of command.job))
+
+-- its command has its reply
+abbrev pub HasReply : Option Client → Type 0
+HasReply None = ⊥
+HasReply (Some x) = (x.dropped ≡ false) × ((command : Command) × (shown : Shown) × (x.command ≡ Some command) × (command.is_out ≡ false) × (command.job.shown ≡ Some shown))
+
+-- this command may begin, of the next key of the message at the client's front, which takes so many bytes
+pub record MayBegin (core : Core) (client : ℕ) (b : Command) (used : ℕ) (x : Client) (message : Said) (next : Place) : Type 0 where
+  pub was : get core.clients client ≡ Some x
+  pub reads : ReadsNext x.stream message next
+  pub goes : (held : List ℕ) → x.stream ≡ Stands Nothing held → next ≡ Stands Nothing (drop used held)
+  pub stands : (held : List ℕ) × (x.stream ≡ Stands Nothing held)
+  pub within : used ≤ length (held_at x.stream)
+  pub asks : slice_get (asks_in message) x.index ≡ Some b.job.ask
+  pub idle : x.command ≡ None
+  pub served : x.dropped ≡ false
+  pub number : b.number ≡ core.number + 1
+  pub client_is : b.client ≡ client
+  pub still : b.is_out ≡ false
+  pub copies : b.copies ≡ may_copy b.job.ask.op (tree_at (tree_of core) b.job.ask.key)
+  pub quiet : quiet_in message ≡ b.quiet
+  pub last : nat_eq (x.index + 1) (length (asks_in message)) ≡ b.last
+  pub next_is : x.index + 1 ≡ b.next
+  pub comes : (calls : List Call) (given : Given) → Comes b.job calls given → Word (tree_at (tree_of core) b.job.ask.key) b.job.ask OfClient 0 calls given
+  pub asked : IsAsk b.job.ask
+  pub apart : IsKeptOut core b.copies b.job.ask → ⊥
+
+abbrev pub IsStarting : Core → ℕ → Command → ℕ → Type 0
+IsStarting core client b used = (x : Client) × (message : Said) × (next : Place) × MayBegin core client b used x message next
+
+-- at most a begin
+abbrev pub IsBegun : ℕ → List (Entry classic) → Type 0
+IsBegun client entries = (m : ℕ) × (p : Part classic) × (entries ≡ log.Starts client m p ∷ [])
+
+-- a request that asks servers is read at the front of an idle client, and its next key is there
+abbrev pub IsAsking : Option Client → Request → Type 0
+IsAsking None request = ⊥
+IsAsking (Some x) request =
+    (x.dropped ≡ false) × (x.command ≡ None) × IsReadAt x.stream (reads.Request request)
+    × ((bytes : List ℕ) → IsReadFrom bytes request → x.index < length (asks_of (message_in bytes request)))
+
+-- what is read at the front of an idle client asks no server
+abbrev pub IsPassing : Option Client → Read → Type 0
+IsPassing None read = ⊥
+IsPassing (Some x) read = (x.dropped ≡ false) × (x.command ≡ None) × IsReadAt x.stream read × AsksNothing read
+
+abbrev pub IsOwn : Poll → Type 0
+IsOwn polls.Idle = ⊥
+IsOwn polls.Own = Unit {0}
+IsOwn polls.Refused = Unit {0}
+IsOwn (polls.Call ticket) = ⊥
+IsOwn polls.Waiting = ⊥
+IsOwn polls.Busy = ⊥
+IsOwn (polls.Did note) = ⊥
+
+-- after the begin of a command, if it began one
+abbrev pub IsBrokenOff : ℕ → List (Entry classic) → Type 0
+IsBrokenOff client entries = (begun last : List (Entry classic)) × BeginsAtMost client begun × IsBroken client last × (entries ≡ last ++ begun)
+
+-- why a poll did nothing
+abbrev pub PollFails : Core → ℕ → CoreFault → Core → Type 0
+PollFails old client faults.NoClient new = (get old.clients client ≡ None) × (new ≡ old)
+PollFails old client faults.Spent new = (old.number ≡ 18446744073709551615) × (new ≡ old)
+PollFails old client faults.NoMemory new = GoesBy old (IsBrokenOff client) new × IsClosed (get new.clients client)
+PollFails old client faults.InputFull new = ⊥
+PollFails old client faults.TooManyClients new = ⊥
+PollFails old client faults.NoTicket new = ⊥
+PollFails old client faults.UnderWay new = ⊥
+
+-- the core's own call of the ticket's number has this result, whatever its server holds, if that agrees
+abbrev pub Settles : Core → Ticket → Outcome → Core → Type 0
+Settles old ticket outcome new =
+    (x : Client) × (command : Command) × (get old.clients ticket.client ≡ Some x) × (x.command ≡ Some command) × (command.number ≡ ticket.number)
+    × ((view : View) (servers : Servers) (end : End) → IsViewOf old view → AreUnseen old servers → outcome ≡ outcome_of end
+    → EndsIn (servers.holds (server_of command.job) (ask_of command.job).key) (servers.found command.number) command.number (ask_of command.job) (origin_of command.job) end
+    → (view' : View) × IsViewOf new view' × Keeps old new
+    × AreUnseen new (after_result command.number (server_of command.job) (ask_of command.job) (origin_of command.job) end servers)
+    × Leads (words old) (Bars old) (standing_with old view servers) (log.Happens (Calls command.number (server_of command.job) (ask_of command.job) (origin_of command.job) end) ∷ [])
+    (standing_with new view' (after_result command.number (server_of command.job) (ask_of command.job) (origin_of command.job) end servers)))
+
+-- the call of the ticket's number is out
+abbrev pub IsTicketOut : Core → Ticket → Type 0
+IsTicketOut core ticket =
+    (x : Client) × (command : Command) × (get core.clients ticket.client ≡ Some x) × (x.command ≡ Some command) × (command.number ≡ ticket.number) × (command.is_out ≡ true) × IsCalling command.job
+
 -- the client is given its output, and nothing is left of it
 abbrev pub Gives : Core → ℕ → List ℕ → Core → Type 0
 Gives old client bytes new = GoesBy old (λ entries. entries ≡ log.Gives client bytes ∷ []) new
@@ -230,11 +442,6 @@ IsCloseFault core client faults.NoMemory = ⊥
 IsCloseFault core client faults.TooManyClients = ⊥
 IsCloseFault core client faults.Spent = ⊥
 IsCloseFault core client faults.NoTicket = ⊥
-
--- nothing more is read of the client
-abbrev pub IsClosed : Option Client → Type 0
-IsClosed None = Unit {0}
-IsClosed (Some x) = (x.dropped ≡ true) ⊎ (x.stream ≡ Closed)
 
 -- a command is under way
 abbrev pub IsOut : Core → Type 0

@@ -1,17 +1,19 @@
 //! The core: its clients, and what is done for them.
 
-ghost use Rattle.std.specs.Prelude.{◌≡◌, ◌≢◌, ◌≤◌, ◌<◌, ◌↔◌, ℕ, false, true, length, IfOk, IfErr, OnOk, OnErr, IsTrue};
+ghost use Rattle.std.specs.Prelude.{◌≡◌, ◌≢◌, ◌≤◌, ◌<◌, ◌↔◌, ℕ, false, true, length, IfOk, IfErr, OnOk, OnErr, IsTrue, []};
 ghost use Rattle.slab.specs.Slab.{get, slab_len};
 ghost use Rattle.proxy_core.specs.declared.state.CoreFault.TheVariants as faults;
-ghost use Rattle.proxy_core.specs.Standing.{Feeds, IsTooMuch, IsFeedFault, Gives, Opens, Closes, IsAsBefore, IsCloseFault, IsUnderWay, IsClosed, IsOut, IsViewOf, start_view};
+ghost use Rattle.proxy_core.specs.Standing.{GoesBy, IsStill, IsBroken, IsPassing, IsOwn, IsPassed, IsKeptOut, keeps_out, IsStarting, IsBegun, HasReply, IsEnded, Feeds, IsTooMuch, IsFeedFault, Gives, Opens, Closes, IsAsBefore, IsCloseFault, IsUnderWay, IsClosed, IsOut, IsViewOf, start_view};
 
 use crate::client::Client;
 use crate::job::DirectTree;
-use crate::state::{CoreFault, Limits, Sharing};
+use crate::state::{Command, CoreFault, Limits, Note, Poll, Sharing};
 use bytes::BytesMut;
+use mc_types::{Ask, Op};
 use slab::Slab;
 use std::alloc::{AllocError, Global};
-use text_codec::TextStream;
+use std::mem::replace;
+use text_codec::{Read, TextStream};
 
 /// A client, by its place among those that are open. The place of a closed client is given out again.
 pub type ClientId = usize;
@@ -25,6 +27,34 @@ fn copied(alloc: Global, bytes: &[u8]) -> Result<Vec<u8>, AllocError>
 
 // A drop that is a call keeps the proof of a caller short.
 fn let_go(_client: Option<Client>) {}
+
+fn drop_command(_command: Option<Command>) {}
+
+// What is answered for a message that asks no server.
+fn own_poll(read: Read) -> Poll
+    ensures { IsOwn result }
+{
+    match read {
+        Read::Request(_) => Poll::Own,
+        _ => Poll::Refused,
+    }
+}
+
+// Whether a command that is under way keeps one of this ask from beginning.
+fn keeps_out(sharing: Sharing, copies: bool, ask: &Ask, command: &Command) -> bool
+    ensures { result ≡ keeps_out sharing copies ask.now command.now }
+{
+    let other = &command.job.ask;
+    if other.key.as_bytes() != ask.key.as_bytes() {
+        return false;
+    }
+    match sharing {
+        Sharing::Alone => true,
+        Sharing::Apart => {
+            (copies && other.op == Op::Delete) || (command.copies && ask.op == Op::Delete)
+        }
+    }
+}
 
 /// Clients, their commands under way, and how many calls are out at each server.
 #[derive(Drop)]
@@ -151,6 +181,83 @@ impl Core {
         }
         let_go(self.clients.try_remove(client));
         Ok(())
+    }
+
+    // For want of memory nothing more is done for the client, and its command is broken off. The caller sees to it that
+    // no call of it is out.
+    fn break_off(&mut self, client: ClientId)
+        requires { IsStill (get self.old.clients client) }
+        ensures broken { GoesBy self.old (IsBroken client) self.new }
+        ensures closed { IsClosed (get self.new.clients client) }
+    {
+        let Some(x) = self.clients.get_mut(client) else {
+            unreachable!();
+        };
+        x.dropped = true;
+        drop_command(replace(&mut x.command, None));
+    }
+
+    // A message at the front of the client's stream, which asks no server, is answered and done.
+    fn pass(&mut self, client: ClientId, read: Read) -> Result<Poll, CoreFault>
+        requires { IsPassing (get self.old.clients client) read }
+        ensures ok { IfOk result (λ poll. IsOwn poll × GoesBy self.old (IsPassed client) self.new) }
+        ensures err { IfErr result (λ fault. (fault ≡ faults.NoMemory) × GoesBy self.old (IsBroken client) self.new × IsClosed (get self.new.clients client)) }
+    {
+        let Some(x) = self.clients.get_mut(client) else {
+            unreachable!();
+        };
+        match x.pass(read) {
+            Ok(()) => Ok(own_poll(read)),
+            Err(_) => {
+                x.dropped = true;
+                Err(CoreFault::NoMemory)
+            }
+        }
+    }
+
+    // A command of the client begins: it has the next number.
+    fn start(&mut self, client: ClientId, command: Command, used: usize)
+        requires begins { IsStarting self.old client command used }
+        requires number { self.old.number < 18446744073709551615 }
+        ensures { GoesBy self.old (IsBegun client) self.new }
+    {
+        let Some(x) = self.clients.get_mut(client) else {
+            unreachable!();
+        };
+        x.start(command, used);
+        self.number += 1;
+    }
+
+    // The client's command has its reply, which is shown.
+    fn finish(&mut self, client: ClientId) -> Result<Note, CoreFault>
+        requires { HasReply (get self.old.clients client) }
+        ensures ok { IfOk result (λ note. GoesBy self.old (IsEnded client note []) self.new) }
+        ensures err { IfErr result (λ fault. (fault ≡ faults.NoMemory) × GoesBy self.old (IsBroken client) self.new × IsClosed (get self.new.clients client)) }
+    {
+        let Some(x) = self.clients.get_mut(client) else {
+            unreachable!();
+        };
+        match x.finish() {
+            Ok(note) => Ok(note),
+            Err(_) => {
+                x.dropped = true;
+                Err(CoreFault::NoMemory)
+            }
+        }
+    }
+
+    // Whether a command of some client keeps one of this ask from beginning.
+    fn is_kept_out(&self, copies: bool, ask: &Ask) -> bool
+        ensures { IsTrue result ↔ IsKeptOut self.now copies ask.now }
+    {
+        for (_, x) in self.clients.iter() {
+            if let Some(command) = &x.command {
+                if keeps_out(self.sharing, copies, ask, command) {
+                    return true;
+                }
+            }
+        }
+        false
     }
 
     /// Whether nothing more is read of the client: there is no such client, or it said `quit`, sent a line that is too

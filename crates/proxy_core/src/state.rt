@@ -35,6 +35,8 @@ pub struct Command {
     pub quiet: bool,
     /// Whether it is of the last key of its message.
     pub last: bool,
+    /// Which key of its message follows it.
+    pub next: usize,
     /// Whether it may copy an item from one server to another.
     pub copies: bool,
     /// Whether its next call is out.

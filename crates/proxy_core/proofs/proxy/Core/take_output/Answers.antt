@@ -1,4 +1,4 @@
-use Rattle.std.proofs.Common.{sym, ap, ◌∙◌, refl, Some}
+use Rattle.std.proofs.Common.{sym, ◌∙◌, refl}
 use Rattle.proxy_core.specs.declared.client.Client.{Client}
 use Rattle.proxy_core.proofs.Bytes.{written, gives}
 use Rattle.proxy_core.proofs.proxy.Core.take_output.Goals as goal
