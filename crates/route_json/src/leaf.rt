@@ -20,11 +20,7 @@ use route_tree::{Tree, TreeForm};
 use std::alloc::Global;
 
 /// A default error route, among the children of a route.
-pub fn error_leaf(
-    alloc: Global,
-    count: &mut RouteCount,
-    below: Below,
-) -> Result<Tree, ConfigFault>
+pub fn error_leaf(alloc: Global, count: &mut RouteCount, below: Below) -> Result<Tree, ConfigFault>
     ensures gives { Gives (λ t. (t, count.new.routes)) result (leaf below.levels below.weight Failing count.old.routes) }
     ensures fits { IfOk result (λ t. (bound : ℕ) → Fits bound below.levels below.weight count.old.routes t count.new.routes) }
 {
