@@ -16,7 +16,7 @@ use Rattle.mc_runs.proofs.LogSteps.{nothing_yet}
 use Rattle.mc_runs.proofs.LogTaking.{settled}
 use Rattle.mc_runs.proofs.Fresh.{fresh}
 use Rattle.request_parts.specs.declared.skip.Skip.TheVariants.{Nothing}
-use Rattle.text_requests.specs.Stream as stream
+use Rattle.request_parts.specs.Stream as stream
 use Rattle.request_parts.proofs.Streams.{used_within}
 use Rattle.text_requests.specs.Grammar.{classic_grammar}
 use Rattle.text_codec.specs.Classic.{Whole, LongLine, classic}
