@@ -196,7 +196,7 @@ fn scripts_that_are_run(rt: HostRuntime) {
             "script: bad line 4\n",
         ),
         (
-            "pool 1\n\nat 1 restart 0\n",
+            "pool 1\n\nat 0 restart 0\n",
             BAD_INPUT,
             "script: bad line 3\n",
         ),
