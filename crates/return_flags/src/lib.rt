@@ -4,6 +4,3 @@
 mod wanted;
 
 pub use wanted::Wanted;
-
-#[cfg(test)]
-mod tests;
