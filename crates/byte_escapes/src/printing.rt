@@ -1,3 +1,5 @@
+//! Bytes as they are printed: each on its own, and a whole text of them.
+
 ghost use Rattle.std.specs.Prelude.{◌≡◌, ◌<◌, Some};
 ghost use Rattle.byte_escapes.specs.Escapes.{hex_digit, escape, escaped};
 

@@ -1,3 +1,5 @@
+//! Tests: bytes as they are printed.
+
 use super::*;
 use std::test::Fail;
 

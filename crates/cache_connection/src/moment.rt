@@ -1,3 +1,5 @@
+//! The moment at which a cache answers, with its bound.
+
 ghost use Rattle.std.specs.Prelude.{◌≡◌, pos, ◌≤ℤ◌};
 
 /// The moment at which asks are answered, in seconds, 0 or later.

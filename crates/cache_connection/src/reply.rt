@@ -1,3 +1,5 @@
+//! What a cache answers to one ask of a connection, want of memory among it.
+
 // The reply to one ask.
 
 ghost use Rattle.std.specs.Prelude.{◌≡◌, nat_abs, IfOk, OnErr};

@@ -1,3 +1,5 @@
+//! All complete messages of a connection, answered by the cache.
+
 // What a client sent is served, message by message and key by key.
 
 ghost use Rattle.std.specs.Prelude.{◌≡◌, ◌+◌, ◌<◌, ◌≤◌, length, IfOk, OnOk, OnErr};

@@ -1,3 +1,5 @@
+//! One connection of a cache server: pieces in, replies out.
+
 ghost use Rattle.std.specs.Prelude.{◌≡◌, ◌↔◌, pos, ◌≤ℤ◌, [], IsOk, IsTrue, IfOk, OnOk, OnErr};
 ghost use Rattle.request_parts.specs.declared.skip.Skip.TheVariants.{Nothing};
 ghost use Rattle.request_parts.specs.Stream.{Stands, Closed, extended};

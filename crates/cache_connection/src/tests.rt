@@ -1,3 +1,5 @@
+//! Tests: what one connection is answered, in any pieces.
+
 use crate::{Cache, Served};
 use std::alloc::Global;
 use std::test::Fail;

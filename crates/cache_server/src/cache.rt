@@ -1,3 +1,5 @@
+//! One server: the items that it holds, and the answer to an ask.
+
 ghost use Rattle.std.specs.Prelude.{◌≡◌, ◌<◌, ◌≤◌, ◌^◌, pos, ◌≤ℤ◌, nat_abs, [], ◌∷◌, length, None, IfOk, IfSome, OnOk, OnErr, option_copied, IsOk, IsErr};
 ghost use Rattle.std.specs.List.{IsDistinct};
 ghost use Rattle.std.specs.Map.{keys_of};

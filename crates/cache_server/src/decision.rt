@@ -1,3 +1,5 @@
+//! What a call finds, and what it does to what is held.
+
 ghost use Rattle.std.specs.Prelude.{◌≡◌, Some, None, if◌then◌else◌};
 ghost use Rattle.cache_server.specs.Table.{classic_answer, finds, needs_number, settled, shown_cas};
 

@@ -1,3 +1,5 @@
+//! Expiry times: when an item is gone, and how long it has left.
+
 ghost use Rattle.std.specs.Prelude.{◌≡◌, ◌<◌, ◌^◌, IfSome};
 ghost use Rattle.cache_server.specs.Expiry.{moment_of, expiry_after, ttl_of};
 

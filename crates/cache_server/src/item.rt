@@ -1,3 +1,5 @@
+//! What is kept of a key.
+
 ghost use Rattle.std.specs.Prelude.{◌≡◌, IfOk};
 ghost use Rattle.cache_server.specs.Expiry.{has_come};
 

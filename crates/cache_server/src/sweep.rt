@@ -1,3 +1,5 @@
+//! Dropping the items whose time has come.
+
 ghost use Rattle.std.specs.Prelude.{◌≡◌, ◌≤◌, [], ◌∷◌, ◌++◌};
 ghost use Rattle.lru.specs.LruCache.{lru_cache};
 ghost use Rattle.cache_server.specs.declared.item.Entry.{Entry};

@@ -1,3 +1,5 @@
+//! Tests: the server's table, row by row.
+
 ghost use Rattle.std.specs.Prelude.{◌≡◌, ◌≤◌, [], ◌∷◌, length, IfOk};
 ghost use Rattle.mc_types.specs.Asks.{IsAsk};
 ghost use Rattle.mc_types.specs.declared.token.Token.TheVariants as tokens;

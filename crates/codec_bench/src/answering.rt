@@ -1,3 +1,5 @@
+//! Answers for the asks of the mix.
+
 use mc_types::{Answer, Ask, Body, Op};
 use std::alloc::{AllocError, Global};
 

@@ -1,3 +1,5 @@
+//! What was met in the bytes of a client, counted.
+
 use text_codec::Request;
 
 /// What was met in the bytes of a client.

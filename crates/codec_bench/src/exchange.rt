@@ -1,3 +1,5 @@
+//! An ask and its answer, kept for what is written.
+
 ghost use Rattle.text_requests.specs.Asks.{IsClassicAsk};
 ghost use Rattle.codec_bench.specs.Once.{IsClassicAsk-prop};
 

@@ -1,3 +1,5 @@
+//! The times of reading and writing the mix.
+
 use crate::counts::Counts;
 use crate::mix::{Data, large_mix};
 use crate::passes::{

@@ -1,3 +1,5 @@
+//! The messages that are read and written, with their lengths worked out by hand.
+
 use bytes::BytesMut;
 use itoa::Buffer;
 use std::alloc::{AllocError, Global};

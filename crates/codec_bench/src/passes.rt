@@ -1,3 +1,5 @@
+//! One pass over some bytes: lines alone, messages, asks, answers.
+
 ghost use Rattle.text_requests.specs.Message.{IsReadFrom, Begins};
 ghost use Rattle.request_parts.specs.Message.{Refusal};
 

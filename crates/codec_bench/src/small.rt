@@ -1,3 +1,5 @@
+//! The small run, whose counts are known.
+
 use crate::mix::small_mix;
 use crate::passes::{exchanges_of, read_answers, read_asks, write_answers, write_asks};
 use bytes::BytesMut;

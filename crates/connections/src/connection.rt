@@ -1,3 +1,5 @@
+//! One client: what it sent and was not done yet, and the output that it was not given yet.
+
 ghost use Rattle.std.specs.Prelude.{◌≡◌, ◌≤◌, ℕ, List, [], false, drop, length, OnOk, OnErr, IfOk};
 ghost use Rattle.request_parts.specs.declared.skip.Skip.TheVariants.{Nothing};
 ghost use Rattle.request_parts.specs.Stream.{Stands, Closed, skipped, extended};

@@ -1,3 +1,5 @@
+//! What a script holds, and what comes of driving it.
+
 use mc_types::{Key, ServerId};
 use memory_fleet::{Loss, Manner};
 

@@ -1,3 +1,5 @@
+//! FNV-1a in 32 bits.
+
 ghost use Rattle.std.specs.Prelude.{◌≡◌};
 ghost use Rattle.key_hash.specs.Fnv.{fnv1a};
 

@@ -1,3 +1,5 @@
+//! The part of a key that is hashed, and its hash.
+
 ghost use Rattle.std.specs.Prelude.{◌≡◌, ◌<◌, true, false, IfSome, IfNone};
 ghost use Rattle.key_hash.specs.Tag.{hash_part, key_hash, slot_of, has_tag, tag_of};
 

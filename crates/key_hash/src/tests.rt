@@ -1,3 +1,5 @@
+//! Tests: hashes and hash parts that are known from outside.
+
 use crate::hash::fnv1a_32;
 use crate::tag::{hash_part, slot};
 use mc_types::Key;

@@ -1,3 +1,5 @@
+//! Laws of logs: they have runs, and read each stream whole.
+
 // The laws of a log, for every protocol, all words and all opening items.
 
 ghost use Rattle.std.specs.Prelude.{ℕ, List, Option, None};

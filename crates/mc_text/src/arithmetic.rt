@@ -1,3 +1,5 @@
+//! What `incr` and `decr` make of the digits that a server holds.
+
 ghost use Rattle.std.specs.Prelude.{◌≡◌, option_map};
 ghost use Rattle.mc_text.specs.Arithmetic.{without_spaces, number_held, changed};
 

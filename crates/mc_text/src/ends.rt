@@ -1,3 +1,5 @@
+//! What the front of a stream holds.
+
 /// What the front of a stream holds: the answer of [`crate::line`].
 #[derive(Clone, Copy, Debug, PartialEq, Eq)]
 pub enum Line {

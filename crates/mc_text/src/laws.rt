@@ -1,3 +1,5 @@
+//! Laws of reading back: words, lines and numbers.
+
 ghost use Rattle.mc_text.specs.ReadBack.{WordsAreReadBack, LinesAreReadBack, NumbersAreReadBack, SignedAreReadBack};
 ghost use Rattle.mc_text.specs.Stays.{LinesStay, LinesAreDetermined};
 

@@ -1,3 +1,5 @@
+//! Numbers written in decimal digits.
+
 ghost use Rattle.std.specs.Prelude.{◌≡◌, ◌+◌, ◌*◌, ◌^◌, ◌<◌};
 ghost use Rattle.std.specs.Option.{SomeIff};
 ghost use Rattle.std.specs.Char.{IsAsciiDigit, digit_value};

@@ -1,3 +1,5 @@
+//! The first line of a stream.
+
 ghost use Rattle.std.specs.Prelude.{take, MatchOption};
 ghost use Rattle.mc_text.specs.Line.{IsLineOf, IsOneLine, IsLineAt};
 

@@ -1,3 +1,5 @@
+//! Where a byte stands first.
+
 ghost use Rattle.std.specs.Prelude.{◌≡◌, ◌<◌, ◌==◌, MatchOption, length};
 ghost use Rattle.std.specs.List.{position_or_len};
 

@@ -1,3 +1,5 @@
+//! Tests: lines, words and numbers.
+
 use super::*;
 use crate::arithmetic::change;
 use crate::number::{number, signed, small_number};

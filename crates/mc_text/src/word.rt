@@ -1,3 +1,5 @@
+//! The words of a line.
+
 ghost use Rattle.std.specs.Prelude.{◌≡◌, [], drop, length, ◌≤◌, MatchOption, position};
 ghost use Rattle.std.specs.List.{position_or_len};
 ghost use Rattle.mc_text.specs.Word.{IsNextWord, words, is_space, is_no_space};

@@ -1,3 +1,5 @@
+//! What a server answers, in both dialects.
+
 ghost use Rattle.std.specs.Prelude.{◌≡◌, ◌↔◌, IfOk, IsTrue};
 ghost use Rattle.mc_types.specs.Rank.{rank_of, code_rank};
 ghost use Rattle.mc_types.specs.Shows.{shows, fields_show};

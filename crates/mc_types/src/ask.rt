@@ -1,3 +1,5 @@
+//! What is asked of a server, in both dialects.
+
 ghost use Rattle.std.specs.Prelude.{◌≡◌, IfOk};
 
 use crate::body::Body;

@@ -1,3 +1,5 @@
+//! An item's data: shared bytes that never change.
+
 ghost use Rattle.std.specs.Prelude.{◌≡◌, [], IfOk, length};
 
 use std::alloc::{AllocError, Global};

@@ -1,3 +1,5 @@
+//! Servers by their numbers, and whose data a call carries.
+
 ghost use Rattle.std.specs.Prelude.{◌≡◌, IfOk};
 
 use crate::answer::Answer;

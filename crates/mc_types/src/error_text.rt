@@ -1,3 +1,5 @@
+//! The texts of error lines.
+
 ghost use Rattle.std.specs.Prelude.{◌≡◌, IfOk, codes};
 ghost use Rattle.mc_types.specs.ErrorTexts.{own_text};
 

@@ -1,3 +1,5 @@
+//! Keys, and why a text is none.
+
 ghost use Rattle.std.specs.Prelude.{◌≡◌, ℕ, ◌≤◌, ◌<◌, [], length, IsTrue, IfOk, IsOk, ◌↔◌, OnErr, refl, Some, nat_eq, position};
 ghost use Rattle.std.specs.List.{list_all};
 ghost use Rattle.std.specs.Ordering.{nat_cmp};

@@ -1,3 +1,5 @@
+//! Tests: keys, opaque texts, bodies and copies.
+
 use crate::answer::{Answer, Code, Fields};
 use crate::ask::{Ask, Dialect, Op};
 use crate::body::Body;

@@ -1,3 +1,5 @@
+//! The flags of a meta command, and the text of an opaque one.
+
 ghost use Rattle.std.specs.Prelude.{◌≡◌, [], ◌∷◌, ◌++◌, IsTrue, ◌↔◌, IfSome, IsSome, IfOk, OnOk, OnErr, length, vec_len};
 ghost use Rattle.std.specs.List.{list_all};
 ghost use Rattle.mc_types.specs.OpaqueText.{IsOpaque, is_opaque_byte};

@@ -1,3 +1,5 @@
+//! A script run to its end: its lines, and the exit status.
+
 ghost use Rattle.std.specs.Prelude.{◌≡◌, ◌≤◌, IfOk, IfErr, length};
 ghost use Rattle.mcgate.specs.Replay.{Replays, RunsScript, BreaksScriptOff, IsBrokenOff, BreaksOff};
 ghost use Rattle.mcgate.specs.declared.replay.RunFault.TheVariants.{NoMemory, Writer};

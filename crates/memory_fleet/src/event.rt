@@ -1,3 +1,5 @@
+//! How a call fails, what a server loses, and what stops the servers.
+
 ghost use Rattle.std.specs.Prelude.{◌≡◌, None};
 
 use mc_types::{Key, Outcome, ServerId};

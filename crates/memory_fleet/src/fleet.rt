@@ -1,3 +1,5 @@
+//! Servers in memory, with the failures and losses that were named beforehand.
+
 ghost use Rattle.std.specs.Prelude.{◌≡◌, ◌+◌, ◌-◌, ◌<◌, ◌≤◌, ◌^◌, ◌↔◌, pos, ◌≤ℤ◌, List, [], length, Some, option_map, Err, IfOk, IfErr, OnOk, OnErr};
 ghost use Rattle.mc_types.specs.Asks.{IsAsk, data_limit};
 ghost use Rattle.mc_types.specs.declared.ask.Dialect.TheVariants.{Classic};

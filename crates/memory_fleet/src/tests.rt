@@ -1,3 +1,5 @@
+//! Tests: failures, losses and the count of calls.
+
 ghost use Rattle.std.specs.Prelude.{◌≡◌, ◌<◌, ◌≤◌, length, IfOk};
 ghost use Rattle.mc_types.specs.KeyText.{IsKey};
 ghost use Rattle.memory_fleet.specs.Fleets.{count_of};

@@ -1,3 +1,5 @@
+//! Which return flags an ask has.
+
 ghost use Rattle.std.specs.Prelude.{◌≡◌};
 ghost use Rattle.return_flags.specs.Wanted.{wanted_of, wanting};
 

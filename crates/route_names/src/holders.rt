@@ -1,3 +1,5 @@
+//! Which fields an object of a configuration may have.
+
 // Kinds of objects, and the fields that each may have.
 
 ghost use Rattle.std.specs.Prelude.{◌≡◌};

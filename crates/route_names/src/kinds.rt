@@ -1,3 +1,5 @@
+//! The kinds of routes and their names.
+
 // Kinds of routes.
 
 ghost use Rattle.std.specs.Prelude.{◌≡◌};

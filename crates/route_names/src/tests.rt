@@ -1,3 +1,5 @@
+//! Tests: names of routes, fields and operations.
+
 use super::*;
 use mc_types::Op;
 

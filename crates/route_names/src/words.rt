@@ -1,3 +1,5 @@
+//! Operations by their names, and texts behind a front.
+
 // Names of operations, and the fronts of short texts.
 
 ghost use Rattle.std.specs.Prelude.{◌≡◌, option_map};

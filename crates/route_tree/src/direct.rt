@@ -1,3 +1,5 @@
+//! Trees in which each key has one server.
+
 ghost use Rattle.std.specs.Prelude.{◌≡◌};
 ghost use Rattle.route_tree.specs.Form.{prefixes_of};
 ghost use Rattle.route_tree.specs.Direct.{is_direct, are_direct};

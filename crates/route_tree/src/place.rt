@@ -1,3 +1,5 @@
+//! Places: keys that have one plain tree.
+
 use mc_types::Key;
 
 /// A place of a tree: the keys that the longest of the tree's prefixes begins, or none of them, and whose hash has this

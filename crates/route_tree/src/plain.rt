@@ -1,3 +1,5 @@
+//! Plain trees: what is left of a tree for one key.
+
 ghost use Rattle.std.specs.Prelude.{◌≡◌, IfOk};
 ghost use Rattle.route_tree.specs.Plan.{Plan, IsPlan};
 ghost use Rattle.route_tree.specs.Form.{plan_of_form};

@@ -1,3 +1,5 @@
+//! A script with the configuration that it runs over.
+
 ghost use Rattle.std.specs.Prelude.{◌≡◌, MatchOption, length, slice_get};
 ghost use Rattle.route_json.specs.Fault.{fault_of};
 ghost use Rattle.script_text.specs.declared.configured.ScriptFault.TheVariants.{Config as ConfigFaulty, NoMemory};

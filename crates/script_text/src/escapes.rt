@@ -1,3 +1,5 @@
+//! The bytes that an escaped text spells.
+
 ghost use Rattle.std.specs.Prelude.{◌≡◌, ◌<◌, ◌≤◌, Some, None, length, drop, IfSome, MatchOption};
 ghost use Rattle.script_text.specs.Escapes.{hex_value, hex_byte, letter_value, unescaped, onto};
 ghost use Rattle.script_text.specs.Reads.{Reads};

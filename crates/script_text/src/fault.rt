@@ -1,3 +1,5 @@
+//! Why a part of a line was not read.
+
 ghost use Rattle.std.specs.Prelude.{◌≡◌};
 ghost use Rattle.script_text.specs.declared.fault.LineFault.TheVariants.{NoMemory};
 

@@ -1,3 +1,5 @@
+//! What a line of a script says, and what all lines say together.
+
 use fleet_run::Event;
 
 /// What a line of a script is.

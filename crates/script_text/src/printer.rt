@@ -1,3 +1,5 @@
+//! The lines that a run prints.
+
 ghost use Rattle.std.specs.Prelude.{OnOk, IsSome};
 ghost use Rattle.std.specs.Io.KnownBytes.{Appends};
 ghost use Rattle.fleet_run.specs.Scripted.{transcript_of};

@@ -1,3 +1,5 @@
+//! Tests: the lines of scripts.
+
 use crate::configured::ScriptFault;
 use crate::escapes::unescape;
 use crate::event::read_event;

@@ -1,3 +1,5 @@
+//! The words of a line of a script, and their numbers.
+
 ghost use Rattle.std.specs.Prelude.{◌≡◌, ◌^◌, option_map, position, IfSome, ◌<◌};
 ghost use Rattle.mc_text.specs.Number.{number_below};
 ghost use Rattle.mc_text.specs.Word.{is_space};

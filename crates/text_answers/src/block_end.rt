@@ -1,3 +1,5 @@
+//! What ends a data block.
+
 ghost use Rattle.std.specs.Prelude.{◌≡◌, ◌↔◌, IsTrue, [], ◌∷◌, codes};
 ghost use Rattle.mc_text.specs.Word.{words};
 ghost use Rattle.text_answers.specs.Reading.{TellsDataEnd, TellsEnd, TellsEndLine};

@@ -1,3 +1,5 @@
+//! What the first line of an answer says to an ask.
+
 ghost use Rattle.std.specs.Prelude.{◌≡◌, ◌≤◌, ◌+◌, drop, length, position, IfOk};
 ghost use Rattle.std.specs.List.{after_first, list_all};
 ghost use Rattle.mc_text.specs.Number.{number_below};

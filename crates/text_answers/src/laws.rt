@@ -1,3 +1,5 @@
+//! Laws of answers: what is written is read back, and nothing else.
+
 ghost use Rattle.text_answers.specs.Laws.{
   AnswersAreReadBack,
   OneAnswer,

@@ -1,3 +1,5 @@
+//! An answer, read at the front of some bytes.
+
 ghost use Rattle.std.specs.Prelude.{◌≡◌, length, IfOk};
 ghost use Rattle.text_answers.specs.Reading.{Reads, ReadsBehind, LiesWithin, is_data};
 ghost use Rattle.text_answers.specs.FirstLine.{said};

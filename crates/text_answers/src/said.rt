@@ -1,3 +1,5 @@
+//! What a first line may say: the whole answer, or a hit whose data follow.
+
 use mc_types::Answer;
 use meta_answers::ValueLine;
 

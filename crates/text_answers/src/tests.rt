@@ -1,3 +1,5 @@
+//! Tests: each answer to each ask, whole and cut.
+
 use super::*;
 use bytes::BytesMut;
 use mc_types::{Answer, Ask, Body, Dialect, Key, Op, Tokens};

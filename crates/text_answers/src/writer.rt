@@ -1,3 +1,5 @@
+//! The one spelling of each answer.
+
 ghost use Rattle.std.specs.Prelude.{◌≡◌, ◌++◌, ◌∷◌, [], take, length, OnOk, OnErr, decimal, codes};
 ghost use Rattle.mc_text.specs.Spelling.{spaced, line_of};
 ghost use Rattle.text_answers.specs.Spelling.{

@@ -1,3 +1,5 @@
+//! What a client is shown of the reply to one key.
+
 ghost use Rattle.std.specs.Prelude.{◌≡◌, ◌++◌, ◌||◌, [], take, length, OnOk, OnErr, if◌then◌else◌};
 ghost use Rattle.text_answers.specs.Spelling.{value_of, end_text};
 ghost use Rattle.text_codec.specs.Replies.{is_fetch, is_failure, part_text, shown_text, own_answer, refusal_text, long_line_text};

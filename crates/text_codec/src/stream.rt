@@ -1,3 +1,5 @@
+//! One client's bytes, from which messages are read.
+
 ghost use Rattle.std.specs.Prelude.{◌≡◌, ◌≤◌, ◌↔◌, IsTrue, ℕ, List, [], drop, length, OnOk, OnErr};
 ghost use Rattle.request_parts.specs.declared.skip.Skip.TheVariants.{Nothing};
 ghost use Rattle.request_parts.specs.Stream.{Stands, Closed, skipped, extended};

@@ -1,3 +1,5 @@
+//! Tests: streams of messages, in any pieces.
+
 use super::*;
 use bytes::BytesMut;
 use mc_types::{Answer, Ask, Body, Dialect, ErrorText, Key, Op, OwnText, Tokens};

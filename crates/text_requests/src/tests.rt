@@ -1,3 +1,5 @@
+//! Tests: each request and each refusal, whole and cut.
+
 use super::*;
 use bytes::BytesMut;
 use std::test::Fail;
