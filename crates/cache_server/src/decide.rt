@@ -9,11 +9,8 @@ use crate::expiry::expiry_after_ask;
 use crate::item::{CacheItem, Entry};
 use itoa::Buffer;
 use mc_text::arithmetic::change;
-use mc_types::{Ask, Body, Op};
+use mc_types::{Ask, Body, DATA_LIMIT, Op};
 use std::alloc::{AllocError, Global};
-
-/// The most bytes of data.
-const DATA_LIMIT: usize = 1_048_576;
 
 fn store(now: u64, stamp: u64, ask: &Ask) -> Result<Decision, AllocError>
     requires { now < 2 ^ 63 }
@@ -34,7 +31,7 @@ fn store(now: u64, stamp: u64, ask: &Ask) -> Result<Decision, AllocError>
 fn join(alloc: Global, item: &CacheItem, front: &[u8], back: &[u8]) -> Result<Decision, AllocError>
     ensures { IfOk result (λ decision. decision ≡ joins item.now (front.now ++ back.now)) }
 {
-    if front.len() + back.len() > DATA_LIMIT {
+    if front.len() + back.len() > DATA_LIMIT as usize {
         return Ok(Decision::finds(Verdict::TooLarge));
     }
     let mut bytes = Vec::with_capacity(alloc, front.len() + back.len())?;

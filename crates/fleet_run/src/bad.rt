@@ -6,6 +6,7 @@ ghost use Rattle.fleet_run.specs.Scripted.{Scripted, scripted_of};
 ghost use Rattle.fleet_run.specs.Bad.{len_of, begins_run, has_begun, bad_in, first_bad};
 
 use crate::script::{Event, Script};
+use mc_types::DATA_LIMIT;
 use memory_fleet::Loss;
 
 /// How many clients a script has.
@@ -13,9 +14,6 @@ pub const CLIENTS: usize = 64;
 
 /// The most bytes that all pieces of a script have together.
 pub const PIECE_LIMIT: usize = 16_777_216;
-
-/// The most bytes that a server holds under a key.
-pub const DATA_LIMIT: usize = 1_048_576;
 
 /// What came before an event: how many bytes the pieces had, and whether the run has begun.
 #[derive(Clone, Copy)]
@@ -43,7 +41,7 @@ fn is_bad(servers: u32, before: Before, event: &Event) -> bool
             *client as usize >= CLIENTS || bytes.len() > PIECE_LIMIT - before.bytes
         }
         Event::Hold(server, _, content) => {
-            server.number() >= servers || content.len() > DATA_LIMIT || before.begun
+            server.number() >= servers || content.len() > DATA_LIMIT as usize || before.begun
         }
         Event::Fail(turn, _) => *turn == 0,
         Event::At(turn, loss) => *turn == 0 || server_of(loss) >= servers,

@@ -1,4 +1,5 @@
 -- The asks that a client can write: numbers in their ranges, and the fields that an operation has. Source: memcached's protocol.txt, the lines of each command; which meta flags are served is mcgate's own.
+use Rattle.mc_types.specs.declared.limits.TheConstants.{DATA_LIMIT}
 use Rattle.std.specs.Prelude.{◌≡◌, ℕ, ◌<◌, ◌≤◌, ◌^◌, ℤ, pos, neg_ℤ, ◌≤ℤ◌, ◌<ℤ◌, Bool, true, false, List, [], ◌∷◌, Option, Some, None, IsSome, IfSome, length}
 use Rattle.mc_types.specs.KeyText.{IsKey}
 use Rattle.mc_types.specs.Tokens.{Letter, LetterC, LetterF, LetterK, LetterS, LetterT, LetterV, LetterO, are_served}
@@ -10,7 +11,7 @@ use Rattle.mc_types.specs.declared.ask.Ask.{Ask}
 
 -- the most bytes of data
 abbrev pub data_limit : ℕ
-data_limit = 1048576
+data_limit = DATA_LIMIT
 
 -- an exptime is a signed number of 64 bits
 abbrev pub IsExptime : ℤ → Type 0

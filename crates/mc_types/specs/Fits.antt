@@ -1,4 +1,5 @@
 -- Which answers a server may give to an ask. Source: memcached's protocol.txt, what is said of the answers of each command; which meta codes are taken is mcgate's own.
+use Rattle.mc_types.specs.declared.limits.TheConstants.{ERROR_TEXT_LIMIT}
 use Rattle.std.specs.Prelude.{◌≡◌, ℕ, ◌<◌, ◌≤◌, ◌^◌, ◌&&◌, ℤ, pos, negsuc, ◌≤ℤ◌, ◌<ℤ◌, Bool, true, false, List, [], Option, Some, None, is_some, IsSome, IfSome, length, nat_le, not, ◌==◌}
 use Rattle.std.specs.List.{list_all}
 use Rattle.mc_text.specs.Number.{number_below}
@@ -22,7 +23,7 @@ is_text_byte b = nat_le 32 b && nat_le b 255 && not (b == 127)
 
 -- the text of an error line: at most 1,024 bytes
 pub record IsErrorText (text : List ℕ) : Type 0 where
-  pub short : length text ≤ 1024
+  pub short : length text ≤ ERROR_TEXT_LIMIT
   pub bytes : list_all is_text_byte text ≡ true
 
 -- the seconds left: -1 for never

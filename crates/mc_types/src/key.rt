@@ -10,23 +10,25 @@ ghost use Rattle.std.specs.Cmp.Rules.{hashing};
 ghost use Rattle.std.proofs.Common.{rules};
 ghost use Rattle.mc_types.specs.KeyText.{IsKey, is_bad_byte};
 
+use crate::limits::KEY_LIMIT;
 use std::cmp::Ordering;
 use std::hash::{Hash, Hasher};
 use std::marker::Model;
 
-/// A key: 1 to 250 bytes, none of them a space, a control character or 127. Its bytes are kept inside.
+/// A key: 1 to [`KEY_LIMIT`] bytes, none of them a space, a control character or 127. Its bytes are kept inside.
 ///
 /// Source: memcached's protocol.txt, "Keys".
 #[derive(Clone, Copy)]
 pub struct Key {
     len: u8,
-    bytes: [u8; 250],
+    bytes: [u8; KEY_LIMIT],
 }
 
 impl Model for Key {
     ghost use Rattle.std.specs.Prelude.{List, ℕ, length, take};
     ghost use Rattle.mc_types.specs.KeyText.{HoldsKey};
     ghost use Rattle.mc_types.specs.Padded.{padded};
+    ghost use Rattle.mc_types.specs.declared.limits.TheConstants.{KEY_LIMIT};
 
     ghost Value = { List ℕ };
 
@@ -34,7 +36,7 @@ impl Model for Key {
 
     ghost invariant = { λ k. HoldsKey k.len k.bytes };
 
-    ghost inverse = { λ text. record { len = length text; bytes = padded 250 text } };
+    ghost inverse = { λ text. record { len = length text; bytes = padded KEY_LIMIT text } };
 
     ghost use Rattle.mc_types.specs.Inverse.{inverse_is};
 
@@ -46,7 +48,7 @@ impl Model for Key {
 pub enum KeyFault {
     /// There is no byte.
     Empty,
-    /// There are more than 250 bytes.
+    /// There are more than [`KEY_LIMIT`] bytes.
     TooLong,
     /// The first byte that no key has stands at this place.
     BadByte(usize),
@@ -62,7 +64,7 @@ fn key_of(text: &[u8]) -> Key
     requires { IsKey text.now }
     ensures { result ≡ text.now }
 {
-    let mut bytes = [0; 250];
+    let mut bytes = [0; KEY_LIMIT];
     bytes[..text.len()].copy_from_slice(text);
     Key {
         len: text.len() as u8,
@@ -81,7 +83,7 @@ impl Key {
         if text.is_empty() {
             return Err(KeyFault::Empty);
         }
-        if text.len() > 250 {
+        if text.len() > KEY_LIMIT {
             return Err(KeyFault::TooLong);
         }
         match first_bad_byte(text) {

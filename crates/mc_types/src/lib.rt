@@ -7,6 +7,7 @@ pub mod body;
 pub mod call;
 pub mod error_text;
 pub mod key;
+pub mod limits;
 pub mod token;
 
 pub use answer::{Answer, Code, Fields};
@@ -15,6 +16,7 @@ pub use body::Body;
 pub use call::{Origin, Outcome, ServerId};
 pub use error_text::{ErrorText, OwnText};
 pub use key::{Key, KeyFault};
+pub use limits::{DATA_LIMIT, ERROR_TEXT_LIMIT, KEY_LIMIT};
 pub use token::{Opaque, Token, Tokens};
 
 #[cfg(test)]

@@ -13,11 +13,8 @@ ghost use Rattle.meta_answers.specs.Tokens.{ttl_in, is_opaque, asks_opaque, with
 use crate::told::Told;
 use mc_text::number::{number, small_number};
 use mc_text::word::next_word;
-use mc_types::{Ask, Token};
+use mc_types::{Ask, DATA_LIMIT, Token};
 use return_flags::Wanted;
-
-/// The most bytes of data.
-const DATA_LIMIT: u32 = 1_048_576;
 
 /// The length of data that a word writes: at most 1,048,576.
 pub fn data_size(text: &[u8]) -> Option<u32>

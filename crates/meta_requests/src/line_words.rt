@@ -9,8 +9,7 @@ use crate::command::{Command, Kind, Values, Verb};
 use crate::flags::flags;
 use crate::verbs::verb;
 use mc_text::word::{Span, next_word};
-use mc_types::Op;
-use request_parts::block::DATA_LIMIT;
+use mc_types::{DATA_LIMIT, Op};
 use request_parts::parts::{key, length_at, small, word};
 use request_parts::{Own, Skip, Why};
 

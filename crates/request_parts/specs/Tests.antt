@@ -1,4 +1,5 @@
 -- The tests of a request line's words. Source: memcached's protocol.txt, "Keys" and the lines of each command; the order of the tests is mcgate's own.
+use Rattle.mc_types.specs.declared.limits.TheConstants.{KEY_LIMIT}
 use Rattle.std.specs.Prelude.{ℕ, ◌+◌, ◌^◌, ◌&&◌, ℤ, Bool, List, ◌++◌, length, Option, Some, None, Result, Ok, Err, nat_le, if◌then◌else◌, codes, ok_or}
 use Rattle.std.specs.List.{list_all}
 use Rattle.mc_text.specs.Number.{number_below, signed_number}
@@ -21,7 +22,7 @@ abbrev pub ◌>>=◌ : {A B : Type 0} → Result A Why → (A → Result B Why) 
 
 -- 1 to 250 bytes, each 33..=126 or 128..=255
 abbrev pub is_key : Word → Bool
-is_key word = nat_le 1 (length word) && nat_le (length word) 250 && list_all is_key_byte word
+is_key word = nat_le 1 (length word) && nat_le (length word) KEY_LIMIT && list_all is_key_byte word
 
 -- a key
 abbrev pub key_of : Word → Result Word Why

@@ -2,9 +2,6 @@
 ghost use Rattle.std.specs.Prelude.{◌≡◌};
 ghost use Rattle.request_parts.specs.Message.{end_of};
 
-/// The most bytes of a data block.
-pub const DATA_LIMIT: u32 = 1_048_576;
-
 /// How a data block ends, by the bytes behind it.
 #[derive(Clone, Copy)]
 pub enum End {

@@ -10,13 +10,13 @@ use crate::key_bytes::are_key_bytes;
 use crate::refusal::Why;
 use mc_text::number::{number, signed, small_number};
 use mc_text::word::{Span, next_word};
-use mc_types::Key;
+use mc_types::{KEY_LIMIT, Key};
 
 /// Whether a word is a key.
 pub fn is_key(word: &[u8]) -> bool
     ensures { result ≡ is_key word.now }
 {
-    1 <= word.len() && word.len() <= 250 && are_key_bytes(word)
+    1 <= word.len() && word.len() <= KEY_LIMIT && are_key_bytes(word)
 }
 
 /// The next word, which must be there.

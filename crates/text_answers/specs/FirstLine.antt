@@ -1,4 +1,5 @@
 -- What the first line of an answer says to its ask. Source: memcached's protocol.txt, "Retrieval command", "Meta Commands" and "Error strings"; that a line may have more spaces, and the limits, are mcgate's own.
+use Rattle.mc_types.specs.declared.limits.TheConstants.{ERROR_TEXT_LIMIT}
 use Rattle.std.specs.Prelude.{ℕ, ◌+◌, ◌^◌, ◌&&◌, Bool, true, false, List, [], ◌∷◌, length, Option, Some, None, option_map, nat_le, codes, if◌then◌else◌}
 use Rattle.std.specs.Option.{option_and_then}
 use Rattle.std.specs.List.{list_all, after_first}
@@ -36,7 +37,7 @@ behind_word line = after_first is_space (from_first_word line)
 
 -- the text of an error line has at most 1,024 bytes, each 32..=126 or 128..=255
 abbrev pub is_error_text : List ℕ → Bool
-is_error_text text = nat_le (length text) 1024 && list_all is_text_byte text
+is_error_text text = nat_le (length text) ERROR_TEXT_LIMIT && list_all is_text_byte text
 
 -- the text of an error line is all that stands behind its word and one space
 abbrev pub error_text : List ℕ → Option (List ℕ)

@@ -35,15 +35,11 @@ ghost use Rattle.text_answers.specs.FirstLine.{
 use crate::said::{HitLine, Said};
 use mc_text::number::{number, small_number};
 use mc_text::word::next_word;
-use mc_types::{Answer, Ask, Body, Code, Dialect, ErrorText, Fields, Op};
+use mc_types::{
+    Answer, Ask, Body, Code, DATA_LIMIT, Dialect, ERROR_TEXT_LIMIT, ErrorText, Fields, Op,
+};
 use meta_answers::{MetaLine, meta_line};
 use std::alloc::{AllocError, Global};
-
-/// The most bytes of data in a hit.
-pub const DATA_LIMIT: u64 = 1_048_576;
-
-/// The most bytes in the text of an error line.
-pub const TEXT_LIMIT: usize = 1_024;
 
 fn of_store(word: &[u8]) -> Option<Answer>
     ensures { result ≡ looked_up of_store word.now }
@@ -144,7 +140,7 @@ fn data_len(word: &[u8]) -> Option<usize>
     ensures { result ≡ number_below (data_limit + 1) word.now }
 {
     match number(word)? {
-        len if len <= DATA_LIMIT => Some(len as usize),
+        len if len <= DATA_LIMIT as u64 => Some(len as usize),
         _ => None,
     }
 }
@@ -221,7 +217,7 @@ fn are_text_bytes(text: &[u8]) -> bool
 fn is_error_text(text: &[u8]) -> bool
     ensures { result ≡ is_error_text text.now }
 {
-    text.len() <= TEXT_LIMIT && are_text_bytes(text)
+    text.len() <= ERROR_TEXT_LIMIT && are_text_bytes(text)
 }
 
 fn error_text(alloc: Global, line: &[u8]) -> Result<Option<ErrorText>, AllocError>

@@ -5,6 +5,7 @@ ghost use Rattle.mc_text.specs.Word.{is_no_space};
 ghost use Rattle.text_requests.specs.KeysOfLine.{IsNextKey, ends_word};
 
 use mc_text::word::Span;
+use mc_types::KEY_LIMIT;
 use request_parts::key_bytes::key_len;
 
 /// What stands next on a line where keys stand.
@@ -32,9 +33,9 @@ fn spaces_len(text: &[u8]) -> usize
 
 // whether so many bytes that a key may have are a whole word, by what stands behind them
 fn are_key(len: usize, behind: &[u8]) -> bool
-    ensures { result ≡ (nat_le len 250 && ends_word behind.now) }
+    ensures { result ≡ (nat_le len KEY_LIMIT && ends_word behind.now) }
 {
-    len <= 250 && matches!(behind, [] | [b' ', ..])
+    len <= KEY_LIMIT && matches!(behind, [] | [b' ', ..])
 }
 
 /// The next key of a line from the place `at` on. Each byte of the key is looked at once, as a line may have many.

@@ -8,8 +8,8 @@ ghost use Rattle.request_parts.specs.Places.{Gives};
 use crate::command::{Command, StoreKind, Stored};
 use crate::parts::noreply;
 use mc_text::word::Span;
+use mc_types::DATA_LIMIT;
 use request_parts::Why;
-use request_parts::block::DATA_LIMIT;
 use request_parts::parts::{exptime, key, small, wide, word};
 
 /// The words that each store has, in order.
