@@ -496,11 +496,25 @@ fn meta_flags_in_order(rt: HostRuntime) -> Result<(), Fail> {
     Ok(())
 }
 
-// What is read of these bytes as the answer to the ask of `ms a 1 c ME`: its code, its cas number and its length.
-fn read_meta(
-    alloc: Global,
-    bytes: &[u8],
-) -> Result<Option<(Code, Option<u64>, usize)>, AllocError> {
+// The code of a meta answer, its cas number and its length.
+type Told = (Code, Option<u64>, usize);
+
+fn told(answer: Answer, used: usize) -> Option<Told> {
+    match &answer {
+        Answer::Meta(code, fields) => Some((*code, fields.cas, used)),
+        _ => None,
+    }
+}
+
+fn read_told(alloc: Global, ask: &Ask, bytes: &[u8]) -> Result<Option<Told>, AllocError> {
+    Ok(match read_answer(alloc, ask, bytes)? {
+        AnswerRead::Answer(answer, used) => told(answer, used),
+        AnswerRead::More | AnswerRead::Foreign => None,
+    })
+}
+
+// What is read of these bytes as the answer to the ask of `ms a 1 c ME`.
+fn read_meta(alloc: Global, bytes: &[u8]) -> Result<Option<Told>, AllocError> {
     let asked = b"ms a 1 c ME\r\nx\r\n".as_slice();
     let Read::Request(request) = read_request(asked) else {
         return Ok(None);
@@ -509,12 +523,9 @@ fn read_meta(
     let Some(ask) = asks.next(alloc, asked)? else {
         return Ok(None);
     };
-    let read = read_answer(alloc, &ask, bytes);
+    let read = read_told(alloc, &ask, bytes);
     drop_ask(ask);
-    Ok(match read? {
-        AnswerRead::Answer(Answer::Meta(code, fields), used) => Some((code, fields.cas, used)),
-        _ => None,
-    })
+    read
 }
 
 #[test]
