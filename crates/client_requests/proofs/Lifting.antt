@@ -10,7 +10,7 @@ use Rattle.request_parts.specs.declared.skip.Skip.TheVariants.{Nothing}
 use Rattle.request_parts.specs.declared.block.End.{End}
 use Rattle.request_parts.specs.declared.block.End.TheVariants.{Open, Good, Bad}
 use Rattle.request_parts.specs.Tests.{Word}
-use Rattle.request_parts.specs.Message.{Refusal, Found, meaning, meaning_of, with_rest, with_block, end_of}
+use Rattle.request_parts.specs.Message.{Refusal, meaning, meaning_of, with_rest, with_block, end_of}
 use Rattle.request_parts.proofs.Fronts.{line_text, begins_meant, none_begins}
 use Rattle.text_requests.specs.Order as texts
 use Rattle.text_requests.specs.Grammar.{classic_grammar}
@@ -21,7 +21,7 @@ use Rattle.meta_requests.specs.CommandWords.{verb_of}
 use Rattle.client_requests.specs.declared.reader.Read.{Read}
 use Rattle.client_requests.specs.declared.reader.Read.TheVariants as reads
 use Rattle.client_requests.specs.Both.{Order, Classic, Meta, both_grammar, order_by, order_of, skip_by, skip_of, mapped, lift_found}
-use Rattle.client_requests.specs.Message.{IsMeant, Reads, IsReadFrom, message_in, used_of}
+use Rattle.client_requests.specs.Message.{IsMeant, Reads, message_in, used_of}
 
 block_lifted : {A B : Type 0} (f : A → B) (o : A) (used : ℕ) (block : List ℕ) (end : End) → with_block (f o) used block end ≡ lift_found f (with_block o used block end)
 block_lifted f o used block Open = refl

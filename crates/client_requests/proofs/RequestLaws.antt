@@ -1,9 +1,9 @@
 -- The laws of requests, by those of their dialects.
-use Rattle.std.proofs.Common.{◌≡◌, ℕ, ◌<◌, true, false, List, [], ◌∷◌, ◌++◌, length, slice_get, Option, Some, None, refl, sym, ap, subst, ◌∙◌, arith}
+use Rattle.std.proofs.Common.{◌≡◌, ℕ, true, false, List, [], ◌∷◌, ◌++◌, length, Option, Some, None, refl, sym, ap, subst}
 use Rattle.std.specs.List.{AllByRecursion}
 use Rattle.std.specs.Prelude.{Result, Ok, Err, IfOk, IfSome}
 use Rattle.mc_types.specs.Tokens.{are_served}
-use Rattle.mc_types.specs.Asks.{IsAsk, HasShape, classic_shape}
+use Rattle.mc_types.specs.Asks.{HasShape, classic_shape}
 use Rattle.mc_types.specs.declared.ask.Ask.{Ask}
 use Rattle.mc_types.specs.declared.ask.Op.{Op}
 use Rattle.mc_types.specs.declared.ask.Op.TheVariants.{Get, Gat, Set, Add, Replace, Append, Prepend, Cas, Delete, Incr, Decr, Touch}
@@ -16,8 +16,6 @@ use Rattle.text_requests.specs.declared.command.Request as text_requests
 use Rattle.text_requests.specs.Message as texts
 use Rattle.text_requests.specs.Asks as text_asks
 use Rattle.text_requests.specs.Asks.{IsClassicAsk}
-use Rattle.text_requests.specs.Places as text_places
-use Rattle.text_requests.specs.Spelling as text_spelling
 use Rattle.text_requests.proofs.StreamLemmas as text_streams
 use Rattle.text_requests.proofs.WalkLemmas as text_walks
 use Rattle.text_requests.proofs.Back as text_back
@@ -26,16 +24,15 @@ use Rattle.meta_requests.specs.declared.command.Request as meta_requests
 use Rattle.meta_requests.specs.Message as metas
 use Rattle.meta_requests.specs.Asks as meta_asks
 use Rattle.meta_requests.specs.Asks.{IsText, IsMetaAsk}
-use Rattle.meta_requests.specs.Spelling as meta_spelling
 use Rattle.meta_requests.proofs.Front as meta_front
 use Rattle.meta_requests.proofs.Back as meta_back
 use Rattle.meta_requests.proofs.Sound as meta_sound
 use Rattle.client_requests.specs.declared.request.Request.TheVariants as requests
 use Rattle.client_requests.specs.declared.request.Asks.TheVariants as walks
-use Rattle.client_requests.specs.Both.{Order, Classic, Meta, both_grammar, lift_message}
+use Rattle.client_requests.specs.Both.{Classic, Meta, both_grammar, lift_message}
 use Rattle.client_requests.specs.Message.{Message, Begins, IsReadFrom, message_in}
 use Rattle.client_requests.specs.Asks.{asks_of, quiet_of, IsClientAsk}
-use Rattle.client_requests.specs.Spelling.{spelling_of, message_of, spelled_in, message_by}
+use Rattle.client_requests.specs.Spelling.{spelled_in, message_by}
 use Rattle.client_requests.specs.Laws.{ReadStill, WalkStill, AsksAreWellFormed, AsksAreReadBack, MessagesAreOneAsk}
 use Rattle.client_requests.proofs.Dialects.{classic_begins, meta_begins, begins_classic, begins_meta}
 

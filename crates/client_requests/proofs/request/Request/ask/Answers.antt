@@ -1,6 +1,3 @@
-use Rattle.std.proofs.Common.{refl}
-use Rattle.std.specs.Prelude.{IfOk}
-use Rattle.client_requests.specs.Message.{IsReadFrom}
 use Rattle.client_requests.proofs.RequestLaws.{classic_read, meta_read, ok_as}
 use Rattle.client_requests.proofs.request.Request.ask.Goals as goal
 

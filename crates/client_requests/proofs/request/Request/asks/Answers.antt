@@ -1,4 +1,3 @@
-use Rattle.client_requests.specs.Message.{IsReadFrom}
 use Rattle.client_requests.proofs.RequestLaws.{classic_read, meta_read}
 use Rattle.client_requests.proofs.request.Request.asks.Goals as goal
 

@@ -1,4 +1,3 @@
-use Rattle.client_requests.specs.Message.{IsReadFrom}
 use Rattle.client_requests.proofs.RequestLaws.{meta_read}
 use Rattle.client_requests.proofs.request.Request.quiet.Goals as goal
 
