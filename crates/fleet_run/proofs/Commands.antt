@@ -1,12 +1,9 @@
 -- One command of a tree: what it may ask, and what came of it.
-use Rattle.std.proofs.Common.{◌≡◌, ℕ, ◌+◌, ◌<◌, ◌&&◌, Bool, true, false, cond, List, [], ◌∷◌, ◌++◌, inl, inr, Option, Some, None, option_map, MatchOption, refl, sym, ap, ◌∙◌, subst, slice_get, bytes_eq, nat_le}
-use Rattle.std.specs.Prelude.{Vec}
-use Rattle.std.specs.declared.alloc.Global.{Global}
+use Rattle.std.proofs.Common.{◌≡◌, ℕ, ◌+◌, ◌<◌, ◌&&◌, false, cond, List, [], ◌∷◌, ◌++◌, inl, inr, Option, Some, None, option_map, MatchOption, refl, sym, ap, ◌∙◌, subst, bytes_eq}
 use Rattle.mc_types.specs.Items.{Item}
 use Rattle.mc_types.specs.declared.ask.Dialect.{Dialect}
 use Rattle.mc_types.specs.declared.ask.Ask.{Ask}
 use Rattle.mc_types.specs.declared.answer.Answer.{Answer}
-use Rattle.mc_types.specs.declared.call.Origin.{Origin}
 use Rattle.mc_types.specs.declared.call.Origin.TheVariants.{Client}
 use Rattle.mc_types.specs.Shows.{shows}
 use Rattle.mc_types.specs.Asks.{IsAsk}
@@ -17,15 +14,13 @@ use Rattle.mc_runs.specs.Stale.{is_delete_op, stale_since}
 use Rattle.mc_runs.specs.Standing.{MakesNamed, ShownIn}
 use Rattle.memory_fleet.specs.declared.fleet.MemoryFleet.{MemoryFleet}
 use Rattle.memory_fleet.specs.Fleets.{holds_of, turn_of, named_of, count_of, begun_of}
-use Rattle.memory_fleet.specs.Law.{stamp_at, AreFound, AreNamed, CallsAreNamed}
+use Rattle.memory_fleet.specs.Law.{AreFound, AreNamed, CallsAreNamed}
 use Rattle.memory_fleet.proofs.Naming.{shown_found}
-use Rattle.route_tree.specs.Route.{Route, Routes, Policies, Prefixes, Pool, Server, Null, Failing, AllSync, Failover, MissFailover, WarmUp, ByOperation, ByPrefix, End, More, Otherwise, Policy, Wildcard, Prefix, IsTree}
+use Rattle.route_tree.specs.Route.{Route, Routes, Policies, Prefixes, Pool, Server, Null, Failing, AllSync, Failover, MissFailover, WarmUp, ByOperation, ByPrefix, End, More, Otherwise, Policy, Wildcard, Prefix}
 use Rattle.route_tree.specs.Each.{Each, IsIn}
-use Rattle.route_tree.specs.Plan.{Plan}
 use Rattle.route_tree.specs.At.{tree_at}
 use Rattle.route_tree.specs.Servers.{servers, tree_servers, tree_servers_of_all, tree_servers_of_policies, tree_servers_of_prefixes, ServersStay, CallsStay}
 use Rattle.route_tree.specs.Sources.{IsFormed, AreAsked, CallsAreAsked}
-use Rattle.route_tree.specs.Word.{Given, Word}
 use Rattle.route_tree.specs.WordLaws.{RepliesShowWhatWasFound}
 use Rattle.route_tree.proofs.Parts.{each_weaker}
 use Rattle.route_json.specs.Fits.{IsBelow, AreBelow, ArePoliciesBelow, ArePrefixesBelow}
