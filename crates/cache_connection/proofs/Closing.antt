@@ -1,14 +1,14 @@
 -- Which messages close a stream.
-use Rattle.std.proofs.Common.{◌≡◌, ℕ, ◌-◌, Bool, true, false, cond, eqb, List, [], ◌∷◌, length, drop, refl, sym, ◌∙◌, ◌↔◌}
+use Rattle.std.proofs.Common.{◌≡◌, ℕ, ◌-◌, Bool, true, false, cond, eqb, List, [], ◌∷◌, length, drop, Option, Some, None, refl, sym, ◌∙◌, ◌↔◌}
 use Rattle.mc_text.specs.Line.{LF}
+use Rattle.request_parts.specs.declared.own.Own.{Own}
 use Rattle.request_parts.specs.declared.own.Own.TheVariants.{Version, Quit, Noop}
 use Rattle.request_parts.specs.declared.skip.Skip.{Skip}
 use Rattle.request_parts.specs.declared.skip.Skip.TheVariants.{Nothing, Bytes, ThroughNewline}
-use Rattle.text_requests.specs.Order.{Order, Retrieval, Storage, Swapping, Deletion, Touching, Counting, OfItself}
 use Rattle.request_parts.specs.Message.{Served, Refusal}
-use Rattle.request_parts.specs.Stream.{Stands, Closed, skipped, through_newline}
-use Rattle.text_requests.specs.Stream.{behind_order}
-use Rattle.text_codec.specs.Classic.{Whole, LongLine}
+use Rattle.request_parts.specs.Stream.{Stands, Closed, skipped, through_newline, behind_own}
+use Rattle.client_requests.specs.Both.{own_by}
+use Rattle.text_codec.specs.TextProtocol.{Whole, LongLine}
 use Rattle.cache_connection.specs.Laws.{ClosesBehindLast}
 
 stands : (skip : Skip) (held : List ℕ) → Stands skip held ≡ Closed → ⊥
@@ -30,20 +30,15 @@ skipped_stands Nothing bytes e = stands Nothing bytes e
 skipped_stands (Bytes n) bytes e = passing_stands _ n bytes e
 skipped_stands ThroughNewline bytes e = through_stands bytes e
 
-order_closes : (order : Order) (rest : List ℕ) → (behind_order order rest ≡ Closed) ↔ (order ≡ OfItself Quit)
-order_closes (OfItself Quit) rest = (λ e. refl, λ e. refl)
-order_closes (OfItself Version) rest = (λ e. absurd (stands Nothing rest e), λ e. absurd (cc))
-order_closes (OfItself Noop) rest = (λ e. absurd (stands Nothing rest e), λ e. absurd (cc))
-order_closes (Retrieval exptime with_cas keys) rest = (λ e. absurd (stands Nothing rest e), λ e. absurd (cc))
-order_closes (Storage kind stored quiet) rest = (λ e. absurd (stands Nothing rest e), λ e. absurd (cc))
-order_closes (Swapping stored cas quiet) rest = (λ e. absurd (stands Nothing rest e), λ e. absurd (cc))
-order_closes (Deletion key quiet) rest = (λ e. absurd (stands Nothing rest e), λ e. absurd (cc))
-order_closes (Touching key exptime quiet) rest = (λ e. absurd (stands Nothing rest e), λ e. absurd (cc))
-order_closes (Counting up key delta quiet) rest = (λ e. absurd (stands Nothing rest e), λ e. absurd (cc))
+own_closes : (own : Option Own) (rest : List ℕ) → (behind_own own rest ≡ Closed) ↔ (own ≡ Some Quit)
+own_closes None rest = (λ e. absurd (stands Nothing rest e), λ e. absurd (cc))
+own_closes (Some Version) rest = (λ e. absurd (stands Nothing rest e), λ e. absurd (cc))
+own_closes (Some Noop) rest = (λ e. absurd (stands Nothing rest e), λ e. absurd (cc))
+own_closes (Some Quit) rest = (λ e. refl, λ e. refl)
 
 pub closes : ClosesBehindLast
 closes (Stands Nothing held) next (Whole (Served order block)) r =
-    let is = order_closes order (drop r.0 held) in
+    let is = own_closes (own_by order) (drop r.0 held) in
     (λ e. is.0 (sym r.2 ∙ e), λ e. r.2 ∙ is.1 e)
 closes (Stands Nothing held) next (Whole (Refusal why skip)) r = (λ e. skipped_stands skip (drop r.0 held) (sym r.2 ∙ e), λ e. absurd e)
 closes (Stands Nothing held) next LongLine r = (λ e. tt, λ e. r.1)

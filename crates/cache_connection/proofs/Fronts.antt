@@ -6,17 +6,16 @@ use Rattle.request_parts.specs.declared.own.Own.{Own}
 use Rattle.request_parts.specs.declared.refusal.Why.{Why}
 use Rattle.request_parts.specs.declared.skip.Skip.{Skip}
 use Rattle.request_parts.specs.declared.skip.Skip.TheVariants.{Nothing}
-use Rattle.text_requests.specs.declared.command.Read.TheVariants as reads
-use Rattle.text_requests.specs.declared.command.Request.{Request}
-use Rattle.text_requests.specs.Message.{Message, Begins, IsReadFrom}
+use Rattle.client_requests.specs.declared.reader.Read.TheVariants as reads
+use Rattle.client_requests.specs.declared.request.Request.{Request}
+use Rattle.client_requests.specs.Message.{Message, Begins, IsReadFrom, used_of}
 use Rattle.request_parts.specs.Message.{Refusal}
-use Rattle.text_requests.specs.Places.{order_in}
-use Rattle.text_requests.specs.Asks.{asks_of, own_of}
+use Rattle.client_requests.specs.Asks.{asks_of, own_of}
 use Rattle.request_parts.specs.Stream.{Place, Stands, Closed, skipped}
-use Rattle.text_requests.specs.Stream.{behind}
+use Rattle.client_requests.specs.Stream.{behind}
 use Rattle.text_codec.specs.Held.{held_at, IsReadAt}
 use Rattle.text_codec.specs.Replies.{refusal_text, long_line_text}
-use Rattle.text_codec.specs.Classic.{Said, Whole, LongLine, ReadsNext, classic, own_passed, asks_in, passed_text}
+use Rattle.text_codec.specs.TextProtocol.{Said, Whole, LongLine, ReadsNext, memcached_text, own_passed, asks_in, passed_text}
 use Rattle.connections.specs.declared.connection.Connection.{Connection}
 use Rattle.connections.specs.Steps.{output_of, held_len, GoesTo}
 use Rattle.request_parts.specs.Stream.{behind_own}
@@ -24,14 +23,15 @@ use Rattle.cache_server.specs.Contents.{Contents}
 use Rattle.cache_connection.specs.Serving.{BreaksOff}
 use Rattle.cache_connection.specs.Steps.{message_at, IsFront, GoesOn, ServesFront}
 use Rattle.connections.proofs.Shorter.{fewer, skipped_len}
-use Rattle.connections.proofs.Fronts.{empty_is, own_len, own_behind, shorter_by, read_front, request_is_some}
+use Rattle.connections.proofs.Fronts.{empty_is, own_len, shorter_by, read_front, request_is_some}
+use Rattle.connections.proofs.Requests.{own_next, own_text}
 use Rattle.cache_connection.proofs.Joined.{serves_one, serves_behind}
 use Rattle.cache_connection.proofs.Keys.{reads_front}
 
 -- a message that asks no server
 passes : (moment : ℤ) (old new : Connection) (c : Contents) (said : Said) (next : Place) → ReadsNext old.stream said next → asks_in said ≡ [] → GoesTo old next (passed_text said) new → held_len new < held_len old → ServesFront moment old c new c
 passes moment old new c said next reads none g shorter =
-    let done : Done classic = record { message = said; replies = [] } in
+    let done : Done memcached_text = record { message = said; replies = [] } in
     record {
       goes = record {
         text = passed_text said;
@@ -46,17 +46,18 @@ pub breaks_first : (moment : ℤ) (place next : Place) (c : Contents) (said : Sa
 breaks_first moment place next c said reads = record { said = said; next = next; reads = reads; answers = []; left = c; answered = refl; new_is = inl refl }
 
 -- a request without an ask: what mcgate itself was asked
-pub own_done : (moment : ℤ) (old new : Connection) (c : Contents) (request : Request) (own : Option Own) → IsFront old request → length (asks_of (message_at old request)) ≡ 0 → own ≡ own_of (message_at old request)
-    → GoesTo old (behind_own own (drop request.used (held_at old.stream))) (own_passed own) new → ServesFront moment old c new c
-own_done moment old new c request own front none own_is g =
+pub own_done : (moment : ℤ) (old new : Connection) (c : Contents) (request : Request) (own : Option Own) (used : ℕ) → used ≡ used_of request → IsFront old request → length (asks_of (message_at old request)) ≡ 0 → own ≡ own_of (message_at old request)
+    → GoesTo old (behind_own own (drop used (held_at old.stream))) (own_passed own) new → ServesFront moment old c new c
+own_done moment old new c request own used used_is front none own_is told =
     let held : List ℕ = held_at old.stream in
+    let g : GoesTo old (behind_own own (drop (used_of request) held)) (own_passed own) new = subst (λ (n : ℕ). GoesTo old (behind_own own (drop n held)) (own_passed own) new) used_is told in
     let m : Message = message_at old request in
-    let rest : List ℕ = drop request.used held in
-    let next : behind_own own rest ≡ behind m rest = ap (λ (o : Option Own). behind_own o rest) own_is ∙ sym (own_behind (order_in held request.command) rest) in
-    let text : own_passed own ≡ passed_text (Whole m) = ap own_passed own_is in
+    let rest : List ℕ = drop (used_of request) held in
+    let next : behind_own own rest ≡ behind m rest = ap (λ (o : Option Own). behind_own o rest) own_is ∙ own_next held request rest in
+    let text : own_passed own ≡ passed_text (Whole m) = ap own_passed own_is ∙ own_text held request in
     passes moment old new c (Whole m) (behind m rest) (reads_front old request front) (empty_is (asks_of m) none)
     (subst (λ (p : Place). GoesTo old p (passed_text (Whole m)) new) next (subst (λ (l : List ℕ). GoesTo old (behind_own own rest) l new) text g))
-    (shorter_by old new held rest (behind_own own rest) front.place g.place_is (own_len own rest) (fewer held m request.used front.read.begins))
+    (shorter_by old new held rest (behind_own own rest) front.place g.place_is (own_len own rest) (fewer held m (used_of request) front.read.begins))
 
 refused_reads : (place : Place) (held : List ℕ) (why : Why) (used : ℕ) (skip : Skip) → place ≡ Stands Nothing held → Begins held (Refusal why skip) used → ReadsNext place (Whole (Refusal why skip)) (skipped skip (drop used held))
 refused_reads place held why used skip at begins = subst (λ (p : Place). ReadsNext p (Whole (Refusal why skip)) (skipped skip (drop used held))) (sym at) (used, begins, refl)

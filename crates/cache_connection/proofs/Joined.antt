@@ -4,43 +4,43 @@ use Rattle.std.proofs.lemmas.List.{map-append}
 use Rattle.mc_runs.specs.Protocol.{Goes}
 use Rattle.mc_runs.specs.Stream.{Done, AreWhole, IsWhole, written, written_all}
 use Rattle.request_parts.specs.Stream.{Place, extended}
-use Rattle.text_codec.specs.Classic.{Said, classic, ReadsNext}
+use Rattle.text_codec.specs.TextProtocol.{Said, memcached_text, ReadsNext}
 use Rattle.text_codec.proofs.ReaderLaws.{reader_is}
 use Rattle.cache_server.specs.Contents.{Contents}
 use Rattle.cache_connection.specs.Serving.{AnswersEach, ServesEach, ServesTo}
 use Rattle.cache_connection.specs.Laws.{PiecesAreOne}
 
-abbrev pub messages : List (Done classic) → List Said
-messages done = map (λ (d : Done classic). d.message) done
+abbrev pub messages : List (Done memcached_text) → List Said
+messages done = map (λ (d : Done memcached_text). d.message) done
 
-goes_behind : (a b c : Place) (ms ns : List Said) → Goes classic a ms b → Goes classic b ns c → Goes classic a (ms ++ ns) c
-goes_behind a b c [] ns g h = subst (λ (p : Place). Goes classic p ns c) (sym g) h
+goes_behind : (a b c : Place) (ms ns : List Said) → Goes memcached_text a ms b → Goes memcached_text b ns c → Goes memcached_text a (ms ++ ns) c
+goes_behind a b c [] ns g h = subst (λ (p : Place). Goes memcached_text p ns c) (sym g) h
 goes_behind a b c (m ∷ ms) ns g h = (g.0, g.1, goes_behind g.0 b c ms ns g.2 h)
 
 -- what was read stays read when more comes
-goes_still : (a b : Place) (ms : List Said) (more : List ℕ) → Goes classic a ms b → Goes classic (extended a more) ms (extended b more)
+goes_still : (a b : Place) (ms : List Said) (more : List ℕ) → Goes memcached_text a ms b → Goes memcached_text (extended a more) ms (extended b more)
 goes_still a b [] more g = ap (λ (p : Place). extended p more) g
 goes_still a b (m ∷ ms) more g = (extended g.0 more, reader_is.goes_on a m g.0 more g.1, goes_still g.0 b ms more g.2)
 
-served_behind : (moment : ℤ) (a b c : Contents) (ds es : List (Done classic)) → ServesEach moment a ds b → ServesEach moment b es c → ServesEach moment a (ds ++ es) c
+served_behind : (moment : ℤ) (a b c : Contents) (ds es : List (Done memcached_text)) → ServesEach moment a ds b → ServesEach moment b es c → ServesEach moment a (ds ++ es) c
 served_behind moment a b c [] es s t = subst (λ (p : Contents). ServesEach moment p es c) (sym s) t
 served_behind moment a b c (d ∷ ds) es s t = (s.0, s.1, served_behind moment s.0 b c ds es s.2 t)
 
-whole_behind : (ds es : List (Done classic)) → AreWhole classic ds → AreWhole classic es → AreWhole classic (ds ++ es)
+whole_behind : (ds es : List (Done memcached_text)) → AreWhole memcached_text ds → AreWhole memcached_text es → AreWhole memcached_text (ds ++ es)
 whole_behind [] es a b = b
 whole_behind (d ∷ ds) es a b = (a.0, whole_behind ds es a.1 b)
 
-written_behind : (ds es : List (Done classic)) → written_all classic (ds ++ es) ≡ written_all classic ds ++ written_all classic es
+written_behind : (ds es : List (Done memcached_text)) → written_all memcached_text (ds ++ es) ≡ written_all memcached_text ds ++ written_all memcached_text es
 written_behind [] es = refl
 written_behind (d ∷ ds) es =
-    ap (λ (l : List ℕ). written classic d.message d.replies ++ l) (written_behind ds es) ∙ sym (append_assoc (written classic d.message d.replies) (written_all classic ds) (written_all classic es))
+    ap (λ (l : List ℕ). written memcached_text d.message d.replies ++ l) (written_behind ds es) ∙ sym (append_assoc (written memcached_text d.message d.replies) (written_all memcached_text ds) (written_all memcached_text es))
 
 -- messages, and then others
 pub serves_behind : (moment : ℤ) (p q r : Place) (c d e : Contents) (s t : List ℕ) → ServesTo moment p c s q d → ServesTo moment q d t r e → ServesTo moment p c (s ++ t) r e
 serves_behind moment p q r c d e s t a b =
     record {
       done = a.done ++ b.done;
-      goes = subst (λ (ms : List Said). Goes classic p ms r) (sym (map-append (λ (x : Done classic). x.message) a.done b.done)) (goes_behind p q r (messages a.done) (messages b.done) a.goes b.goes);
+      goes = subst (λ (ms : List Said). Goes memcached_text p ms r) (sym (map-append (λ (x : Done memcached_text). x.message) a.done b.done)) (goes_behind p q r (messages a.done) (messages b.done) a.goes b.goes);
       whole = whole_behind a.done b.done a.whole b.whole;
       served = served_behind moment c d e a.done b.done a.served b.served;
       text_is = ap₂ (λ (l m : List ℕ). l ++ m) a.text_is b.text_is ∙ sym (written_behind a.done b.done);
@@ -50,9 +50,9 @@ pub serves_nothing : (moment : ℤ) (p : Place) (c : Contents) → ServesTo mome
 serves_nothing moment p c = record { done = []; goes = refl; whole = tt; served = refl; text_is = refl }
 
 -- one message with its replies
-pub serves_one : (moment : ℤ) (p q : Place) (c d : Contents) (x : Done classic) → ReadsNext p x.message q → IsWhole classic x.message x.replies → AnswersEach moment (classic.asks_of x.message) c x.replies d → ServesTo moment p c (written classic x.message x.replies) q d
+pub serves_one : (moment : ℤ) (p q : Place) (c d : Contents) (x : Done memcached_text) → ReadsNext p x.message q → IsWhole memcached_text x.message x.replies → AnswersEach moment (memcached_text.asks_of x.message) c x.replies d → ServesTo moment p c (written memcached_text x.message x.replies) q d
 serves_one moment p q c d x reads is answered =
-    record { done = x ∷ []; goes = (q, reads, refl); whole = (is, tt); served = (d, answered, refl); text_is = sym (append-nil (written classic x.message x.replies)) }
+    record { done = x ∷ []; goes = (q, reads, refl); whole = (is, tt); served = (d, answered, refl); text_is = sym (append-nil (written memcached_text x.message x.replies)) }
 
 serves_still : (moment : ℤ) (p q : Place) (c d : Contents) (s more : List ℕ) → ServesTo moment p c s q d → ServesTo moment (extended p more) c s (extended q more) d
 serves_still moment p q c d s more a =

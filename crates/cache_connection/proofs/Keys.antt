@@ -5,17 +5,17 @@ use Rattle.mc_types.specs.declared.ask.Ask.{Ask}
 use Rattle.mc_types.specs.declared.answer.Answer.{Answer}
 use Rattle.mc_runs.specs.Stream.{Done, written, written_from, NoneEnds, LastEnds, IsWhole}
 use Rattle.request_parts.specs.declared.skip.Skip.TheVariants.{Nothing}
-use Rattle.text_requests.specs.declared.command.Request.{Request}
-use Rattle.text_requests.specs.Message.{Message, IsReadFrom, message_in}
-use Rattle.text_requests.specs.declared.request.Asks.{Asks}
-use Rattle.text_requests.specs.Asks.{asks_of, quiet_of, IsWalk, counted}
+use Rattle.client_requests.specs.declared.request.Request.{Request}
+use Rattle.client_requests.specs.Message.{Message, IsReadFrom, message_in, used_of}
+use Rattle.client_requests.specs.declared.request.Asks.{Asks}
+use Rattle.client_requests.specs.Asks.{asks_of, quiet_of, IsWalk, counted, request_of, taken_of}
 use Rattle.request_parts.specs.Stream.{Place, Stands}
-use Rattle.text_requests.specs.Stream.{behind}
+use Rattle.client_requests.specs.Stream.{behind}
 use Rattle.request_parts.proofs.Streams.{used_within}
-use Rattle.text_requests.specs.Grammar.{classic_grammar}
+use Rattle.client_requests.specs.Both.{both_grammar}
 use Rattle.text_codec.specs.Held.{held_at}
 use Rattle.text_codec.specs.Replies.{is_failure, is_last, shown_text}
-use Rattle.text_codec.specs.Classic.{Said, Whole, classic, ReadsNext, shown_by, shown_of, ends_at}
+use Rattle.text_codec.specs.TextProtocol.{Said, Whole, memcached_text, ReadsNext, shown_by, shown_of, ends_at}
 use Rattle.connections.specs.declared.connection.Connection.{Connection}
 use Rattle.connections.specs.Steps.{output_of, held_len, GoesTo}
 use Rattle.cache_server.specs.Contents.{Contents}
@@ -23,27 +23,28 @@ use Rattle.cache_connection.specs.Serving.{AnswersAsk, AnswersEach, BreaksOff}
 use Rattle.connections.specs.Steps.{place_behind, Shows}
 use Rattle.cache_connection.specs.Steps.{message_at, IsFront, IsOnWay, IsAskAt, ServesAsk, ServesKey, StopsAtKey, HasBegun, ServesFront}
 use Rattle.connections.proofs.Shorter.{fewer}
-use Rattle.connections.proofs.Fronts.{served_behind}
+use Rattle.connections.proofs.Requests.{request_behind}
 use Rattle.cache_connection.proofs.Joined.{serves_one}
 
 -- what a request uses is held
-pub used_held : (x : Connection) (request : Request) → IsFront x request → request.used ≤ length (held_at x.stream)
-used_held x request front = used_within classic_grammar (held_at x.stream) (message_at x request) request.used front.read.begins
+pub used_held : (x : Connection) (request : Request) → IsFront x request → used_of request ≤ length (held_at x.stream)
+used_held x request front = used_within both_grammar (held_at x.stream) (message_at x request) (used_of request) front.read.begins
 
 -- a request at the front is the next message
-pub reads_front : (x : Connection) (request : Request) → IsFront x request → ReadsNext x.stream (Whole (message_at x request)) (behind (message_at x request) (drop request.used (held_at x.stream)))
+pub reads_front : (x : Connection) (request : Request) → IsFront x request → ReadsNext x.stream (Whole (message_at x request)) (behind (message_at x request) (drop (used_of request) (held_at x.stream)))
 reads_front x request front =
     let m = message_at x request in
-    let next : Place = behind m (drop request.used (held_at x.stream)) in
-    subst (λ (p : Place). ReadsNext p (Whole m) next) (sym front.place) (request.used, front.read.begins, refl)
+    let next : Place = behind m (drop (used_of request) (held_at x.stream)) in
+    subst (λ (p : Place). ReadsNext p (Whole m) next) (sym front.place) (used_of request, front.read.begins, refl)
 
 -- one ask was answered and shown
-pub serves_ask : (moment : ℤ) (old new : Connection) (request : Request) (i : ℕ) (ask : Ask) (contents contents' : Contents) (reply : Answer) (quiet last ended : Bool)
-    → IsAskAt old request i ask → AnswersAsk moment ask contents reply contents' → quiet ≡ quiet_of (message_at old request) → last ≡ is_last (asks_of (message_at old request)) i
-    → Shows old request.used quiet last ask reply ended new → ServesAsk moment old request i ask contents ended new contents'
-serves_ask moment old new request i ask contents contents' reply quiet last ended at answered quiet_is last_is shows =
+pub serves_ask : (moment : ℤ) (old new : Connection) (request : Request) (i : ℕ) (ask : Ask) (contents contents' : Contents) (reply : Answer) (used : ℕ) (quiet last ended : Bool)
+    → used ≡ used_of request → IsAskAt old request i ask → AnswersAsk moment ask contents reply contents' → quiet ≡ quiet_of (message_at old request) → last ≡ is_last (asks_of (message_at old request)) i
+    → Shows old used quiet last ask reply ended new → ServesAsk moment old request i ask contents ended new contents'
+serves_ask moment old new request i ask contents contents' reply used quiet last ended used_is at answered quiet_is last_is told =
+    let shows : Shows old (used_of request) quiet last ask reply ended new = subst (λ (n : ℕ). Shows old n quiet last ask reply ended new) used_is told in
     let m : Message = message_at old request in
-    let place : Place = place_behind ended old (drop request.used (held_at old.stream)) in
+    let place : Place = place_behind ended old (drop (used_of request) (held_at old.stream)) in
     let text : shown_text quiet last ask reply ≡ shown_of (Whole m) i reply =
     ap (λ (q : Bool). shown_text q last ask reply) quiet_is ∙ ap (λ (l : Bool). shown_text (quiet_of m) l ask reply) last_is ∙ ap (λ (o : Option Ask). shown_by (quiet_of m) (asks_of m) i o reply) (sym at.at) in
     record {
@@ -55,12 +56,12 @@ serves_ask moment old new request i ask contents contents' reply quiet last ende
 
 -- the walk's next ask is the one that is served
 pub ask_at : (x : Connection) (request : Request) (asks : Asks) (i : ℕ) (bytes : List ℕ) (next : Option Ask) (ask : Ask) → IsOnWay x request asks i → bytes ≡ held_at x.stream → next ≡ Some ask
-    → next ≡ slice_get (asks_of (message_in bytes asks.request)) asks.taken → IsAskAt x request i ask
+    → next ≡ slice_get (asks_of (message_in bytes (request_of asks))) (taken_of asks) → IsAskAt x request i ask
 ask_at x request asks i bytes next ask way bytes_are is value =
     let at : slice_get (asks_of (message_at x request)) i ≡ Some ask =
     subst (λ (n : ℕ). slice_get (asks_of (message_at x request)) n ≡ Some ask) way.taken
-    (subst (λ (r : Request). slice_get (asks_of (message_at x r)) asks.taken ≡ Some ask) way.request_is
-    (subst (λ (b : List ℕ). slice_get (asks_of (message_in b asks.request)) asks.taken ≡ Some ask) bytes_are (sym value ∙ is))) in
+    (subst (λ (r : Request). slice_get (asks_of (message_at x r)) (taken_of asks) ≡ Some ask) way.request_is
+    (subst (λ (b : List ℕ). slice_get (asks_of (message_in b (request_of asks))) (taken_of asks) ≡ Some ask) bytes_are (sym value ∙ is))) in
     record { front = way.front; at = at; there = way.there }
 
 none_past : {A : Type 0} (xs : List A) (i : ℕ) → slice_get xs i ≡ None → i < length xs → ⊥
@@ -70,12 +71,12 @@ none_past (x ∷ xs) (suc i) e lt = none_past xs i e (omega (arith, lt))
 
 -- and there is one
 pub ask_there : (x : Connection) (request : Request) (asks : Asks) (i : ℕ) (bytes : List ℕ) (next : Option Ask) → IsOnWay x request asks i → bytes ≡ held_at x.stream → next ≡ None
-    → next ≡ slice_get (asks_of (message_in bytes asks.request)) asks.taken → ⊥
+    → next ≡ slice_get (asks_of (message_in bytes (request_of asks))) (taken_of asks) → ⊥
 ask_there x request asks i bytes next way bytes_are is value =
     none_past (asks_of (message_at x request)) i
     (subst (λ (n : ℕ). slice_get (asks_of (message_at x request)) n ≡ None) way.taken
-    (subst (λ (r : Request). slice_get (asks_of (message_at x r)) asks.taken ≡ None) way.request_is
-    (subst (λ (b : List ℕ). slice_get (asks_of (message_in b asks.request)) asks.taken ≡ None) bytes_are (sym value ∙ is))))
+    (subst (λ (r : Request). slice_get (asks_of (message_at x r)) (taken_of asks) ≡ None) way.request_is
+    (subst (λ (b : List ℕ). slice_get (asks_of (message_in b (request_of asks))) (taken_of asks) ≡ None) bytes_are (sym value ∙ is))))
     way.there
 
 right_false : (a b : Bool) → (a || b) ≡ false → b ≡ false
@@ -96,10 +97,10 @@ not_last reply i n last is none lt =
 
 -- where the message isn't done, the walk has come to the next ask
 pub way_on : (moment : ℤ) (x y : Connection) (request : Request) (asks asks' : Asks) (i : ℕ) (bytes : List ℕ) (next : Option Ask) (ask : Ask) (contents contents' : Contents) (ended : Bool)
-    → IsOnWay x request asks i → bytes ≡ held_at x.stream → next ≡ Some ask → asks'.request ≡ asks.request → asks'.taken ≡ counted next asks.taken → IsWalk bytes asks'
+    → IsOnWay x request asks i → bytes ≡ held_at x.stream → next ≡ Some ask → request_of asks' ≡ request_of asks → taken_of asks' ≡ counted next (taken_of asks) → IsWalk bytes asks'
     → ServesAsk moment x request i ask contents ended y contents' → ended ≡ false → IsOnWay y request asks' (i + 1)
 way_on moment x y request asks asks' i bytes next ask contents contents' ended way bytes_are is request_is taken walk served e =
-    let stays : y.stream ≡ x.stream = served.goes.place_is ∙ stays_behind ended x (drop request.used (held_at x.stream)) e in
+    let stays : y.stream ≡ x.stream = served.goes.place_is ∙ stays_behind ended x (drop (used_of request) (held_at x.stream)) e in
     let held : held_at x.stream ≡ held_at y.stream = ap held_at (sym stays) in
     let front : IsFront y request = record {
       place = subst (λ (p : Place). p ≡ Stands Nothing (held_at p)) (sym stays) way.front.place;
@@ -109,7 +110,7 @@ way_on moment x y request asks asks' i bytes next ask contents contents' ended w
       front = front;
       walk = subst (λ (b : List ℕ). IsWalk b asks') (bytes_are ∙ held) walk;
       request_is = request_is ∙ way.request_is;
-      taken = taken ∙ ap (λ (o : Option Ask). counted o asks.taken) is ∙ ap (λ (n : ℕ). n + 1) way.taken;
+      taken = taken ∙ ap (λ (o : Option Ask). counted o (taken_of asks)) is ∙ ap (λ (n : ℕ). n + 1) way.taken;
       there = subst (λ (b : List ℕ). i + 1 < length (asks_of (message_in b request))) held
           (not_last served.reply i (length (asks_of (message_at x request))) (is_last (asks_of (message_at x request)) i) refl (sym served.ended_is ∙ e) way.there);
     }
@@ -125,27 +126,27 @@ answers_more moment (a ∷ asks) c d e [] ask reply each at one =
     some_is a b e = cc
 answers_more moment (a ∷ asks) c d e (r ∷ replies) ask reply each at one = (each.0, each.1, answers_more moment asks each.0 d e replies ask reply each.2 at one)
 
-written_more : (m : Said) (i : ℕ) (rs : List Answer) (r : Answer) → written_from classic m i (rs ++ r ∷ []) ≡ written_from classic m i rs ++ shown_of m (i + length rs) r
+written_more : (m : Said) (i : ℕ) (rs : List Answer) (r : Answer) → written_from memcached_text m i (rs ++ r ∷ []) ≡ written_from memcached_text m i rs ++ shown_of m (i + length rs) r
 written_more m i [] r = append-nil (shown_of m i r) ∙ ap (λ n. shown_of m n r) (omega arith)
 written_more m i (x ∷ rs) r =
     let at : i + 1 + length rs ≡ i + length (x ∷ rs) = omega arith in
-    ap (λ (l : List ℕ). shown_of m i x ++ l) (written_more m (i + 1) rs r ∙ ap (λ n. written_from classic m (i + 1) rs ++ shown_of m n r) at)
-    ∙ sym (append_assoc (shown_of m i x) (written_from classic m (i + 1) rs) (shown_of m (i + length (x ∷ rs)) r))
+    ap (λ (l : List ℕ). shown_of m i x ++ l) (written_more m (i + 1) rs r ∙ ap (λ n. written_from memcached_text m (i + 1) rs ++ shown_of m n r) at)
+    ∙ sym (append_assoc (shown_of m i x) (written_from memcached_text m (i + 1) rs) (shown_of m (i + length (x ∷ rs)) r))
 
-none_more : (m : Said) (i : ℕ) (rs : List Answer) (r : Answer) → NoneEnds classic m i rs → ends_at m (i + length rs) r ≡ false → NoneEnds classic m i (rs ++ r ∷ [])
+none_more : (m : Said) (i : ℕ) (rs : List Answer) (r : Answer) → NoneEnds memcached_text m i rs → ends_at m (i + length rs) r ≡ false → NoneEnds memcached_text m i (rs ++ r ∷ [])
 none_more m i [] r h e = let at : i + 0 ≡ i = omega arith in (subst (λ n. ends_at m n r ≡ false) at e, tt)
 none_more m i (x ∷ rs) r h e = let at : i + length (x ∷ rs) ≡ i + 1 + length rs = omega arith in (h.0, none_more m (i + 1) rs r h.1 (subst (λ n. ends_at m n r ≡ false) at e))
 
-last_more : (m : Said) (i : ℕ) (rs : List Answer) (r : Answer) → NoneEnds classic m i rs → ends_at m (i + length rs) r ≡ true → LastEnds classic m i (rs ++ r ∷ [])
+last_more : (m : Said) (i : ℕ) (rs : List Answer) (r : Answer) → NoneEnds memcached_text m i rs → ends_at m (i + length rs) r ≡ true → LastEnds memcached_text m i (rs ++ r ∷ [])
 last_more m i [] r h e = let at : i + 0 ≡ i = omega arith in subst (λ n. ends_at m n r ≡ true) at e
 last_more m i (x ∷ []) r h e = let at : i + length (x ∷ []) ≡ i + 1 + 0 = omega arith in (h.0, last_more m (i + 1) [] r h.1 (subst (λ n. ends_at m n r ≡ true) at e))
 last_more m i (x ∷ y ∷ rs) r h e = let at : i + length (x ∷ y ∷ rs) ≡ i + 1 + length (y ∷ rs) = omega arith in (h.0, last_more m (i + 1) (y ∷ rs) r h.1 (subst (λ n. ends_at m n r ≡ true) at e))
 
-whole_by : (m : Said) (rs : List Answer) (r : Answer) → LastEnds classic m 0 (rs ++ r ∷ []) → IsWhole classic m (rs ++ r ∷ [])
+whole_by : (m : Said) (rs : List Answer) (r : Answer) → LastEnds memcached_text m 0 (rs ++ r ∷ []) → IsWhole memcached_text m (rs ++ r ∷ [])
 whole_by m [] r h = h
 whole_by m (x ∷ rs) r h = h
 
-written_is : (m : Said) (rs : List Answer) (r : Answer) → written classic m (rs ++ r ∷ []) ≡ written_from classic m 0 (rs ++ r ∷ [])
+written_is : (m : Said) (rs : List Answer) (r : Answer) → written memcached_text m (rs ++ r ∷ []) ≡ written_from memcached_text m 0 (rs ++ r ∷ [])
 written_is m [] r = refl
 written_is m (x ∷ rs) r = refl
 
@@ -159,10 +160,10 @@ record Adds (moment : ℤ) (old : Connection) (request : Request) (contents : Co
   reply : Answer
   count : length replies ≡ i
   answered : AnswersEach moment (asks_of (message_at old request)) contents (replies ++ reply ∷ []) contents'
-  none : NoneEnds classic (Whole (message_at old request)) 0 replies
+  none : NoneEnds memcached_text (Whole (message_at old request)) 0 replies
   ended_is : ended ≡ ends_at (Whole (message_at old request)) (0 + length replies) reply
-  output_is : output_of new ≡ output_of old ++ written_from classic (Whole (message_at old request)) 0 (replies ++ reply ∷ [])
-  place_is : new.stream ≡ place_behind ended old (drop request.used (held_at old.stream))
+  output_is : output_of new ≡ output_of old ++ written_from memcached_text (Whole (message_at old request)) 0 (replies ++ reply ∷ [])
+  place_is : new.stream ≡ place_behind ended old (drop (used_of request) (held_at old.stream))
 
 place_same : (ended : Bool) (x y : Connection) (used : ℕ) → x.stream ≡ y.stream → place_behind ended x (drop used (held_at x.stream)) ≡ place_behind ended y (drop used (held_at y.stream))
 place_same true x y used e = ap (λ (p : Place). Stands Nothing (drop used (held_at p))) e
@@ -183,10 +184,10 @@ adds moment old x y request asks' i c d e ended b k =
       none = b.none;
       ended_is = k.served.ended_is ∙ ap (λ (n : Message). ends_at (Whole n) i k.served.reply) same ∙ ap (λ n. ends_at (Whole m) n k.served.reply) count;
       output_is = k.served.goes.output_is ∙ ap (λ (l : List ℕ). l ++ shown_of (Whole (message_at x request)) i k.served.reply) b.output_is
-          ∙ append_assoc (output_of old) (written_from classic (Whole m) 0 b.replies) (shown_of (Whole (message_at x request)) i k.served.reply)
-          ∙ ap (λ (l : List ℕ). output_of old ++ (written_from classic (Whole m) 0 b.replies ++ l)) text
+          ∙ append_assoc (output_of old) (written_from memcached_text (Whole m) 0 b.replies) (shown_of (Whole (message_at x request)) i k.served.reply)
+          ∙ ap (λ (l : List ℕ). output_of old ++ (written_from memcached_text (Whole m) 0 b.replies ++ l)) text
           ∙ ap (λ (l : List ℕ). output_of old ++ l) (sym (written_more (Whole m) 0 b.replies k.served.reply));
-      place_is = k.served.goes.place_is ∙ place_same ended x old request.used b.stays;
+      place_is = k.served.goes.place_is ∙ place_same ended x old (used_of request) b.stays;
     }
 
 -- the message isn't done with it
@@ -200,7 +201,7 @@ begins_more moment old x y request asks' i c d e ended b k goes =
       answered = a.answered;
       none = none_more (Whole (message_at old request)) 0 a.replies a.reply a.none (sym a.ended_is ∙ goes);
       output_is = a.output_is;
-      stays = a.place_is ∙ stays_behind ended old (drop request.used (held_at old.stream)) goes;
+      stays = a.place_is ∙ stays_behind ended old (drop (used_of request) (held_at old.stream)) goes;
     }
 
 ended_behind : (ended : Bool) (x : Connection) (rest : List ℕ) → ended ≡ true → place_behind ended x rest ≡ Stands Nothing rest
@@ -212,27 +213,27 @@ pub begins_last : (moment : ℤ) (old x y : Connection) (request : Request) (ask
 begins_last moment old x y request asks' i c d e ended front b k ends =
     let a = adds moment old x y request asks' i c d e ended b k in
     let m : Message = message_at old request in
-    let rest : List ℕ = drop request.used (held_at old.stream) in
+    let rest : List ℕ = drop (used_of request) (held_at old.stream) in
     let same : message_at x request ≡ m = ap (λ (p : Place). message_in (held_at p) request) b.stays in
     let at : slice_get (asks_of m) i ≡ Some k.ask = subst (λ (n : Message). slice_get (asks_of n) i ≡ Some k.ask) same k.at.at in
     let place : y.stream ≡ Stands Nothing rest = a.place_is ∙ ended_behind ended old rest ends in
-    let next : behind m rest ≡ y.stream = served_behind _ _ rest i k.ask at ∙ sym place in
-    let done : Done classic = record { message = Whole m; replies = a.replies ++ a.reply ∷ [] } in
+    let next : behind m rest ≡ y.stream = request_behind (held_at old.stream) request rest i k.ask at ∙ sym place in
+    let done : Done memcached_text = record { message = Whole m; replies = a.replies ++ a.reply ∷ [] } in
     record {
       goes = record {
-        text = written classic (Whole m) (a.replies ++ a.reply ∷ []);
+        text = written memcached_text (Whole m) (a.replies ++ a.reply ∷ []);
         serves = serves_one moment old.stream y.stream c e done (subst (ReadsNext old.stream (Whole m)) next (reads_front old request front))
             (whole_by (Whole m) a.replies a.reply (last_more (Whole m) 0 a.replies a.reply a.none (sym a.ended_is ∙ ends))) a.answered;
         output_is = a.output_is ∙ ap (λ (l : List ℕ). output_of old ++ l) (sym (written_is (Whole m) a.replies a.reply));
       };
-      shorter = subst (λ (p : Place). length (held_at p) < held_len old) (sym place) (fewer (held_at old.stream) m request.used front.read.begins);
+      shorter = subst (λ (p : Place). length (held_at p) < held_len old) (sym place) (fewer (held_at old.stream) m (used_of request) front.read.begins);
     }
 
 -- want of memory at the next ask breaks the message off
 pub begins_stops : (moment : ℤ) (old x : Connection) (request : Request) (i : ℕ) (c d e : Contents) → IsFront old request → HasBegun moment old request c i x d → StopsAtKey moment x request i d e → BreaksOff moment old.stream c e
 begins_stops moment old x request i c d e front b stops =
     let m : Message = message_at old request in
-    let next : Place = behind m (drop request.used (held_at old.stream)) in
+    let next : Place = behind m (drop (used_of request) (held_at old.stream)) in
     let same : message_at x request ≡ m = ap (λ (p : Place). message_in (held_at p) request) b.stays in
     let reads = reads_front old request front in
     elim stops [

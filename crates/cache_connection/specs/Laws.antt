@@ -1,12 +1,12 @@
 -- What the serving of a connection gives. Source: mcgate's own.
-use Rattle.std.specs.Prelude.{◌≡◌, ◌≢◌, ℕ, ℤ, ◌↔◌, List, [], ◌∷◌, ◌++◌}
+use Rattle.std.specs.Prelude.{◌≡◌, ◌≢◌, ℕ, ℤ, ◌↔◌, List, [], ◌∷◌, ◌++◌, Some}
 use Rattle.mc_types.specs.declared.answer.Answer.{Answer}
 use Rattle.mc_runs.specs.Stream.{Done}
 use Rattle.request_parts.specs.declared.own.Own.TheVariants.{Quit}
-use Rattle.text_requests.specs.Order.{OfItself}
+use Rattle.client_requests.specs.Both.{own_by}
 use Rattle.request_parts.specs.Message.{Served, Refusal}
 use Rattle.request_parts.specs.Stream.{Place, Closed}
-use Rattle.text_codec.specs.Classic.{Said, Whole, LongLine, ReadsNext, classic}
+use Rattle.text_codec.specs.TextProtocol.{Said, Whole, LongLine, ReadsNext, memcached_text}
 use Rattle.cache_server.specs.Contents.{Contents}
 use Rattle.cache_connection.specs.Serving.{out_of_memory, Feeds}
 
@@ -19,7 +19,7 @@ PiecesAreOne =
 
 -- `quit`, or a line that is too long
 abbrev pub IsLast : Said → Type 0
-IsLast (Whole (Served order block)) = order ≡ OfItself Quit
+IsLast (Whole (Served order block)) = own_by order ≡ Some Quit
 IsLast (Whole (Refusal why skip)) = ⊥
 IsLast LongLine = Unit {0}
 
@@ -39,7 +39,7 @@ NoneWants [] = Unit {0}
 NoneWants (reply ∷ replies) = (reply ≢ out_of_memory) × NoneWants replies
 
 -- nor any of the replies to these messages
-abbrev pub AllHadMemory : List (Done classic) → Type 0
+abbrev pub AllHadMemory : List (Done memcached_text) → Type 0
 AllHadMemory [] = Unit {0}
 AllHadMemory (done ∷ more) = NoneWants done.replies × AllHadMemory more
 

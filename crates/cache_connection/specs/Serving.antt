@@ -10,7 +10,7 @@ use Rattle.mc_types.specs.ErrorTexts.{own_text}
 use Rattle.mc_runs.specs.Protocol.{Goes, IsStuck}
 use Rattle.mc_runs.specs.Stream.{Done, AreWhole, written_all}
 use Rattle.request_parts.specs.Stream.{Place, extended}
-use Rattle.text_codec.specs.Classic.{Said, classic, ReadsNext, asks_in}
+use Rattle.text_codec.specs.TextProtocol.{Said, memcached_text, ReadsNext, asks_in}
 use Rattle.cache_server.specs.Contents.{Contents, at_moment}
 use Rattle.cache_server.specs.Table.{Applies}
 
@@ -55,23 +55,23 @@ AnswersEach moment (ask ∷ asks) old (answer ∷ answers) new =
     (between : Contents) × AnswersAsk moment ask old answer between × AnswersEach moment asks between answers new
 
 -- messages are served with these replies, one after another
-abbrev pub ServesEach : ℤ → Contents → List (Done classic) → Contents → Type 0
+abbrev pub ServesEach : ℤ → Contents → List (Done memcached_text) → Contents → Type 0
 ServesEach moment old [] new = old ≡ new
 ServesEach moment old (done ∷ more) new =
     (between : Contents) × AnswersEach moment (asks_in done.message) old done.replies between × ServesEach moment between more new
 
 -- The messages from one place to another are served, each to its end, and this is the text of their replies.
 pub record ServesTo (moment : ℤ) (place : Place) (old : Contents) (text : List ℕ) (next : Place) (new : Contents) : Type 0 where
-  pub done : List (Done classic)
-  pub goes : Goes classic place (map (λ (d : Done classic). d.message) done) next
-  pub whole : AreWhole classic done
+  pub done : List (Done memcached_text)
+  pub goes : Goes memcached_text place (map (λ (d : Done memcached_text). d.message) done) next
+  pub whole : AreWhole memcached_text done
   pub served : ServesEach moment old done new
-  pub text_is : text ≡ written_all classic done
+  pub text_is : text ≡ written_all memcached_text done
 
 -- A piece came: all messages that are complete then are served.
 pub record Feeds (moment : ℤ) (place : Place) (bytes : List ℕ) (old : Contents) (text : List ℕ) (next : Place) (new : Contents) : Type 0 where
   pub serves : ServesTo moment (extended place bytes) old text next new
-  pub stuck : IsStuck classic next
+  pub stuck : IsStuck memcached_text next
 
 -- The message at this place was broken off: the first of its asks were answered, and then what has expired may be gone.
 pub record BreaksOff (moment : ℤ) (place : Place) (old : Contents) (new : Contents) : Type 0 where

@@ -5,13 +5,13 @@ use Rattle.mc_types.specs.declared.answer.Answer.{Answer}
 use Rattle.mc_runs.specs.Protocol.{IsStuck}
 use Rattle.mc_runs.specs.Stream.{written_from, NoneEnds}
 use Rattle.request_parts.specs.declared.skip.Skip.TheVariants.{Nothing}
-use Rattle.text_requests.specs.declared.command.Request.{Request}
-use Rattle.text_requests.specs.declared.request.Asks.{Asks}
-use Rattle.text_requests.specs.Message.{Message, IsReadFrom, message_in}
-use Rattle.text_requests.specs.Asks.{asks_of, IsWalk}
+use Rattle.client_requests.specs.declared.request.Request.{Request}
+use Rattle.client_requests.specs.declared.request.Asks.{Asks}
+use Rattle.client_requests.specs.Message.{Message, IsReadFrom, message_in, used_of}
+use Rattle.client_requests.specs.Asks.{asks_of, IsWalk, request_of, taken_of}
 use Rattle.request_parts.specs.Stream.{Stands}
 use Rattle.text_codec.specs.Held.{held_at}
-use Rattle.text_codec.specs.Classic.{Whole, classic, shown_of, ends_at}
+use Rattle.text_codec.specs.TextProtocol.{Whole, memcached_text, shown_of, ends_at}
 use Rattle.connections.specs.declared.connection.Connection.{Connection}
 use Rattle.connections.specs.Steps.{output_of, held_len, place_behind, GoesTo}
 use Rattle.cache_server.specs.Contents.{Contents, at_moment}
@@ -30,8 +30,8 @@ pub record IsFront (x : Connection) (request : Request) : Type 0 where
 pub record IsOnWay (x : Connection) (request : Request) (asks : Asks) (i : ℕ) : Type 0 where
   pub front : IsFront x request
   pub walk : IsWalk (held_at x.stream) asks
-  pub request_is : asks.request ≡ request
-  pub taken : asks.taken ≡ i
+  pub request_is : request_of asks ≡ request
+  pub taken : taken_of asks ≡ i
   pub there : i < length (asks_of (message_at x request))
 
 -- the i-th ask of the request at the front
@@ -45,7 +45,7 @@ pub record ServesAsk (moment : ℤ) (old : Connection) (request : Request) (i : 
   pub reply : Answer
   pub answered : AnswersAsk moment ask contents reply contents'
   pub ended_is : ended ≡ ends_at (Whole (message_at old request)) i reply
-  pub goes : GoesTo old (place_behind ended old (drop request.used (held_at old.stream))) (shown_of (Whole (message_at old request)) i reply) new
+  pub goes : GoesTo old (place_behind ended old (drop (used_of request) (held_at old.stream))) (shown_of (Whole (message_at old request)) i reply) new
 
 -- want of memory at an ask: what has expired is gone, or else it was answered, and the reply not shown
 abbrev pub StopsAtAsk : ℤ → Ask → Contents → Contents → Type 0
@@ -68,8 +68,8 @@ pub record HasBegun (moment : ℤ) (old : Connection) (request : Request) (conte
   pub replies : List Answer
   pub count : length replies ≡ i
   pub answered : AnswersEach moment (asks_of (message_at old request)) contents replies contents'
-  pub none : NoneEnds classic (Whole (message_at old request)) 0 replies
-  pub output_is : output_of new ≡ output_of old ++ written_from classic (Whole (message_at old request)) 0 replies
+  pub none : NoneEnds memcached_text (Whole (message_at old request)) 0 replies
+  pub output_is : output_of new ≡ output_of old ++ written_from memcached_text (Whole (message_at old request)) 0 replies
   pub stays : new.stream ≡ old.stream
 
 -- messages were served, and their text shown
@@ -86,4 +86,4 @@ pub record ServesFront (moment : ℤ) (old : Connection) (contents : Contents) (
 -- all that was complete was served
 pub record ServesAll (moment : ℤ) (old : Connection) (contents : Contents) (new : Connection) (contents' : Contents) : Type 0 where
   pub goes : GoesOn moment old contents new contents'
-  pub stuck : IsStuck classic new.stream
+  pub stuck : IsStuck memcached_text new.stream

@@ -3,7 +3,7 @@
 // The reply to one ask.
 
 ghost use Rattle.std.specs.Prelude.{◌≡◌, nat_abs, IfOk, OnErr};
-ghost use Rattle.text_requests.specs.Asks.{IsClassicAsk};
+ghost use Rattle.mc_types.specs.Asks.{IsAsk};
 ghost use Rattle.cache_server.specs.Contents.{at_moment};
 ghost use Rattle.cache_connection.specs.Serving.{can_store, out_of_memory, AnswersAsk};
 
@@ -37,7 +37,7 @@ fn out_of_memory() -> Answer
 /// What the cache answers to an ask at this moment. A new item has stamp 0. Want of memory is an answer where the ask may
 /// store an item, and the only error of the others; then nothing changes but that expired items are gone.
 pub fn reply_to(cache: &mut Cache, moment: Moment, ask: &Ask) -> Result<Answer, AllocError>
-    requires { IsClassicAsk ask.now }
+    requires { IsAsk ask.now }
     ensures ok { IfOk result (λ reply. AnswersAsk moment.seconds ask.now cache.old reply cache.new) }
     ensures err { OnErr result (cache.new ≡ at_moment (nat_abs moment.seconds) cache.old) }
 {

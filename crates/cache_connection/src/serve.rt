@@ -3,7 +3,7 @@
 // What a client sent is served, message by message and key by key.
 
 ghost use Rattle.std.specs.Prelude.{◌≡◌, ◌+◌, ◌<◌, ◌≤◌, length, IfOk, OnOk, OnErr};
-ghost use Rattle.text_requests.specs.Asks.{IsClassicAsk};
+ghost use Rattle.mc_types.specs.Asks.{IsAsk};
 ghost use Rattle.cache_connection.specs.Serving.{BreaksOff, Stops};
 ghost use Rattle.cache_connection.specs.Steps.{IsFront, IsOnWay, IsAskAt, ServesAsk, StopsAtAsk, ServesKey, StopsAtKey, ServesFront, ServesAll};
 
@@ -30,14 +30,14 @@ fn serve_ask(
     moment: Moment,
 ) -> Result<bool, AllocError>
     requires at { IsAskAt connection.old request.now index ask.now }
-    requires ask { IsClassicAsk ask.now }
+    requires ask { IsAsk ask.now }
     ensures ok { IfOk result (λ ended. ServesAsk moment.seconds connection.old request.now index ask.now cache.old ended connection.new cache.new) }
     ensures err { OnErr result (StopsAtAsk moment.seconds ask.now cache.old cache.new) }
 {
     let count = request.asks();
     let last = index + 1 == count;
     let reply = reply_to(cache, moment, ask)?;
-    let shown = connection.show(request.quiet(), last, ask, &reply, request.used);
+    let shown = connection.show(request.quiet(), last, ask, &reply, request.used());
     drop_answer(reply);
     shown
 }
@@ -78,7 +78,7 @@ fn serve_request(
 {
     let count = request.asks();
     if count == 0 {
-        connection.answer_own(request.own(), request.used)?;
+        connection.answer_own(request.own(), request.used())?;
         return Ok(());
     }
     let mut asks = request.walk();

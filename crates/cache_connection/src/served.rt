@@ -31,7 +31,7 @@ fn feed_connection(
     connection.take_output(alloc)
 }
 
-/// One connection of a cache server, for the classic dialect: where its client's stream stands.
+/// One connection of a cache server, for both dialects, mixed as the client likes: where its client's stream stands.
 #[derive(Drop)]
 pub struct Served {
     connection: Connection,
@@ -72,8 +72,9 @@ impl Served {
 
     /// A piece of the client's bytes comes. All messages that are complete then are answered by the cache, one ask after
     /// another, at this moment, in seconds, 0 or later; the reply texts are given, in order. Stores have stamp 0. A
-    /// client that wrote `noreply` is shown no reply. `quit` ends the connection, and so does a line without an end in
-    /// its first 65,536 bytes, which is answered. Behind the end bytes are dropped, and nothing is given.
+    /// client that wrote `noreply` is shown no reply, and one that wrote `q` none of those that `q` hides. `quit` ends the
+    /// connection, and so does a line without an end in its first 65,536 bytes, which is answered. Behind the end bytes
+    /// are dropped, and nothing is given.
     ///
     /// Where the cache wants memory to store an item, the reply is `SERVER_ERROR out of memory storing object`. Want of
     /// memory anywhere else is the only error; then the connection has ended, and what wasn't given is lost.

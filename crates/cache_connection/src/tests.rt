@@ -178,6 +178,106 @@ fn each_operation_on_one_connection(rt: HostRuntime) -> Result<(), Fail> {
     Ok(())
 }
 
+#[test]
+fn each_meta_operation_on_one_connection(rt: HostRuntime) -> Result<(), Fail> {
+    let alloc = rt.alloc();
+    let mut cache = Cache::new(alloc, 16)?;
+    let mut served = Served::new(alloc);
+    // The cas numbers are 1 for the first store, 2 for the replace, and so on: each change takes the next.
+    let cases = [
+        ("ms a 1 F1 c\r\n5\r\n", "HD c1\r\n"),
+        ("ms a 1 ME\r\n1\r\n", "NS\r\n"),
+        ("ms a 1 MR F2 k\r\n7\r\n", "HD ka\r\n"),
+        ("ms a 1 MA\r\n1\r\n", "HD\r\n"),
+        ("ms a 1 Mp\r\n1\r\n", "HD\r\n"),
+        (
+            "mg a v f c s t k O7\r\n",
+            "VA 3 f2 c4 s3 t-1 ka O7\r\n171\r\n",
+        ),
+        ("ms a 2 C4\r\n10\r\n", "HD\r\n"),
+        ("ms a 2 C4 k\r\n11\r\n", "EX ka\r\n"),
+        ("ms b 1 C1\r\n1\r\n", "NF\r\n"),
+        ("ma a D5 v\r\n", "VA 2\r\n15\r\n"),
+        ("ma a M- D20 v c\r\n", "VA 1 c7\r\n0\r\n"),
+        ("ma b O8\r\n", "NF O8\r\n"),
+        ("ma a C1\r\n", "EX\r\n"),
+        ("mg a T100 t\r\n", "HD t100\r\n"),
+        ("mg a t T0 v\r\n", "VA 1 t-1\r\n0\r\n"),
+        ("mg b v k\r\n", "EN kb\r\n"),
+        ("md a C1\r\n", "EX\r\n"),
+        ("md a k O9\r\n", "HD ka O9\r\n"),
+        ("md a\r\n", "NF\r\n"),
+        ("mg a\r\n", "EN\r\n"),
+        ("mn\r\n", "MN\r\n"),
+    ];
+    for (piece, text) in cases {
+        assert!(rt;
+            answers(
+                &mut served,
+                &mut cache,
+                0,
+                piece.as_bytes(),
+                text.as_bytes()
+            )?,
+            "{piece}"
+        );
+    }
+    Ok(())
+}
+
+// `q` hides a miss of `mg`, `HD` of `ms`, `HD` and `NF` of `md` and `ma`, and nothing else.
+#[test]
+fn quiet_meta_replies(rt: HostRuntime) -> Result<(), Fail> {
+    let alloc = rt.alloc();
+    let mut cache = Cache::new(alloc, 16)?;
+    let mut served = Served::new(alloc);
+    let cases = [
+        ("md b q\r\nmg b q v\r\nma b q\r\n", ""),
+        ("ms b 1 q\r\n1\r\nma b q\r\n", ""),
+        ("mg b q\r\n", "HD\r\n"),
+        ("mg b q v\r\n", "VA 1\r\n2\r\n"),
+        ("ma b q v\r\n", "VA 1\r\n3\r\n"),
+        ("ms b 1 q ME\r\n1\r\n", "NS\r\n"),
+        ("ms b 1 q C9\r\n1\r\n", "EX\r\n"),
+        ("ms c 1 q C9\r\n1\r\n", "NF\r\n"),
+        ("md b q C9\r\n", "EX\r\n"),
+        ("md b q\r\nmn\r\n", "MN\r\n"),
+        ("ms b 1 q\r\nx\r\n", ""),
+        (
+            "ma b q\r\n",
+            "CLIENT_ERROR cannot increment or decrement non-numeric value\r\n",
+        ),
+        ("mg b q z\r\n", "CLIENT_ERROR flag not served\r\n"),
+    ];
+    for (piece, text) in cases {
+        assert!(rt;
+            answers(
+                &mut served,
+                &mut cache,
+                0,
+                piece.as_bytes(),
+                text.as_bytes()
+            )?,
+            "{piece}"
+        );
+    }
+    Ok(())
+}
+
+// Both dialects on one connection see the same items.
+#[test]
+fn dialects_mixed_in_any_cut(rt: HostRuntime) -> Result<(), Fail> {
+    let bytes =
+        b"set a 5 0 2\r\nhi\r\nmg a v f\r\nms b 1 c\r\n1\r\ngets b\r\nmd a\r\nget a\r\n".as_slice();
+    let text =
+        b"STORED\r\nVA 2 f5\r\nhi\r\nHD c2\r\nVALUE b 0 1 2\r\n1\r\nEND\r\nHD\r\nEND\r\n".as_slice();
+    for at in 0..bytes.len() {
+        let given = joined(rt.alloc(), &bytes[..at], &bytes[at..])?;
+        assert_eq!(rt; given.as_slice(), text, "cut at {at}");
+    }
+    Ok(())
+}
+
 // A set of 5,000 bytes of data.
 fn large_set(alloc: Global) -> Result<Vec<u8>, Fail> {
     let mut piece = Vec::new(alloc);

@@ -1,2 +1,3 @@
 pub mod Shorter
 pub mod Fronts
+pub mod Requests

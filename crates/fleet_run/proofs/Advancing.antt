@@ -1,5 +1,5 @@
 -- What is done for one client is more of every log.
-use Rattle.std.proofs.Common.{◌≡◌, ℕ, ◌+◌, ◌<◌, ◌≤◌, Bool, true, false, cond, List, [], ◌∷◌, ◌++◌, length, drop, Option, Some, None, nat_le, refl, sym, ap, ◌∙◌, subst, arith, nat_eq, slice_get, ◌||◌, inl, inr}
+use Rattle.std.proofs.Common.{◌≡◌, ℕ, ◌+◌, ◌<◌, ◌≤◌, Bool, true, false, cond, List, [], ◌++◌, length, drop, Option, Some, None, nat_le, refl, sym, ap, ◌∙◌, subst, arith, nat_eq, slice_get, ◌||◌, inl, inr}
 use Rattle.std.proofs.lemmas.Bool.{eq-eqb, cases_eq}
 use Rattle.mc_types.specs.declared.ask.Ask.{Ask}
 use Rattle.mc_types.specs.declared.answer.Answer.{Answer}
@@ -12,17 +12,17 @@ use Rattle.mc_runs.specs.Log.{Part, Point, after_reply}
 use Rattle.mc_runs.specs.Standing.{Standing, Works, Moves}
 use Rattle.mc_runs.proofs.LogWorks.{works_nothing, works_on, works_passed, works_each}
 use Rattle.request_parts.specs.declared.skip.Skip.TheVariants.{Nothing}
-use Rattle.text_requests.specs.declared.command.Request.{Request}
-use Rattle.text_requests.specs.Message.{Message, IsReadFrom, message_in}
-use Rattle.text_requests.specs.declared.request.Asks.{Asks}
-use Rattle.text_requests.specs.Asks.{asks_of, quiet_of, IsWalk, counted}
+use Rattle.client_requests.specs.declared.request.Request.{Request}
+use Rattle.client_requests.specs.Message.{Message, IsReadFrom, message_in, used_of}
+use Rattle.client_requests.specs.declared.request.Asks.{Asks}
+use Rattle.client_requests.specs.Asks.{asks_of, quiet_of, IsWalk, counted, request_of, taken_of}
 use Rattle.request_parts.proofs.Streams.{used_within}
-use Rattle.text_requests.specs.Grammar.{classic_grammar}
+use Rattle.client_requests.specs.Both.{both_grammar}
 use Rattle.text_codec.specs.Held.{held_at}
 use Rattle.request_parts.specs.Stream.{Place, Stands}
-use Rattle.text_requests.specs.Stream.{behind}
+use Rattle.client_requests.specs.Stream.{behind}
 use Rattle.text_codec.specs.Replies.{shown_text, is_last, is_failure, ends_with}
-use Rattle.text_codec.specs.Classic.{Said, Whole, ReadsNext, classic, shown_by}
+use Rattle.text_codec.specs.TextProtocol.{Said, Whole, ReadsNext, memcached_text, shown_by}
 use Rattle.connections.specs.declared.connection.Connection.{Connection}
 use Rattle.connections.specs.Steps.{output_of, GoesTo}
 use Rattle.memory_fleet.specs.declared.fleet.MemoryFleet.{MemoryFleet}
@@ -32,7 +32,7 @@ use Rattle.route_tree.specs.At.{tree_at}
 use Rattle.route_tree.specs.Servers.{CallsStay}
 use Rattle.route_tree.specs.Direct.{words_of}
 use Rattle.fleet_run.specs.Gone.{number_in}
-use Rattle.connections.proofs.Fronts.{served_behind}
+use Rattle.connections.proofs.Requests.{request_behind}
 use Rattle.fleet_run.specs.declared.router.Router.{Router}
 use Rattle.connections.specs.Steps.{place_behind, Shows}
 use Rattle.fleet_run.specs.Serving.{tree_of, point_at, placed, Advances, Asked, next_index, IsOnWay, IsAskAt, ServesAsk}
@@ -45,11 +45,11 @@ twice true x y z = refl
 twice false x y z = refl
 
 -- the client's part of what is moved
-pub placed_moves : (base : Standing classic) (c i j : ℕ) (old new : Connection) (router router' : Router) (fleet fleet' : MemoryFleet) (place : Place) (more : List ℕ) → GoesTo old place more new → Moves (placed base c old i router fleet) c (record { place = place; index = j }) more (placed base c new j router' fleet')
+pub placed_moves : (base : Standing memcached_text) (c i j : ℕ) (old new : Connection) (router router' : Router) (fleet fleet' : MemoryFleet) (place : Place) (more : List ℕ) → GoesTo old place more new → Moves (placed base c old i router fleet) c (record { place = place; index = j }) more (placed base c new j router' fleet')
 placed_moves base c i j old new router router' fleet fleet' place more g =
-    let there : point_at new j ≡ record { place = place; index = j } = ap (λ (p : Place). let q : Point classic = record { place = p; index = j } in q) g.place_is in
+    let there : point_at new j ≡ record { place = place; index = j } = ap (λ (p : Place). let q : Point memcached_text = record { place = p; index = j } in q) g.place_is in
     record {
-      point_is = λ d. ap (λ (p : Point classic). cond (nat_eq c d) p (base.point d)) there ∙ twice (nat_eq c d) _ (point_at old i) (base.point d);
+      point_is = λ d. ap (λ (p : Point memcached_text). cond (nat_eq c d) p (base.point d)) there ∙ twice (nat_eq c d) _ (point_at old i) (base.point d);
       output_is = λ d. more_at (nat_eq c d) (base.output d);
     }
   where
@@ -58,12 +58,12 @@ placed_moves base c i j old new router router' fleet fleet' place more g =
     more_at false o = refl
 
 -- a message that asks no server
-pub passes : (old new : Connection) (router : Router) (fleet : MemoryFleet) (said : Said) (next : Place) → ReadsNext old.stream said next → classic.asks_of said ≡ [] → GoesTo old next (classic.passed said) new → Advances old 0 router fleet new 0 router fleet
+pub passes : (old new : Connection) (router : Router) (fleet : MemoryFleet) (said : Said) (next : Place) → ReadsNext old.stream said next → memcached_text.asks_of said ≡ [] → GoesTo old next (memcached_text.passed said) new → Advances old 0 router fleet new 0 router fleet
 passes old new router fleet said next reads none g =
     record {
-      works = λ base c. works_passed classic (words_of (tree_of router)) (placed base c old 0 router fleet) (placed base c new 0 router fleet) c said next
+      works = λ base c. works_passed memcached_text (words_of (tree_of router)) (placed base c old 0 router fleet) (placed base c new 0 router fleet) c said next
           (record {
-            reads = subst (λ (p : Point classic). ReadsNext p.place said next) (sym (same c (point_at old 0) (base.point c))) reads;
+            reads = subst (λ (p : Point memcached_text). ReadsNext p.place said next) (sym (same c (point_at old 0) (base.point c))) reads;
             asks = none;
             moves = placed_moves base c 0 0 old new router router fleet fleet next _ g;
             rests = record { number = refl; holds = λ s k. refl; turn = refl; named = λ t. refl; stale = refl; gone = λ k. refl };
@@ -74,25 +74,25 @@ passes old new router fleet said next reads none g =
     }
 
 pub advances_nothing : (x : Connection) (i : ℕ) (router : Router) (fleet : MemoryFleet) → Advances x i router fleet x i router fleet
-advances_nothing x i router fleet = record { works = λ base c. works_nothing classic (words_of (tree_of router)) (placed base c x i router fleet) c; tree = refl; count = refl; few = λ e. e }
+advances_nothing x i router fleet = record { works = λ base c. works_nothing memcached_text (words_of (tree_of router)) (placed base c x i router fleet) c; tree = refl; count = refl; few = λ e. e }
 
 pub advances_on : (x y z : Connection) (i j k : ℕ) (p q r : Router) (f g h : MemoryFleet) → Advances x i p f y j q g → Advances y j q g z k r h → Advances x i p f z k r h
 advances_on x y z i j k p q r f g h a b =
     record {
-      works = λ base c. works_on classic (words_of (tree_of p)) (placed base c x i p f) (placed base c y j q g) (placed base c z k r h) c (a.works base c) (subst (λ (n : Route). Works (words_of n) (placed base c y j q g) c (placed base c z k r h)) a.tree (b.works base c));
+      works = λ base c. works_on memcached_text (words_of (tree_of p)) (placed base c x i p f) (placed base c y j q g) (placed base c z k r h) c (a.works base c) (subst (λ (n : Route). Works (words_of n) (placed base c y j q g) c (placed base c z k r h)) a.tree (b.works base c));
       tree = b.tree ∙ a.tree;
       count = b.count ∙ a.count;
       few = λ e. b.few (a.few e);
     }
 
-point_behind : (ended done : Bool) (old : Connection) (i : ℕ) (point : Point classic) (next : Place) (rest : List ℕ) → ended ≡ done → point.place ≡ old.stream → next ≡ Stands Nothing rest
-    → ◌≡◌ {A = Point classic} (record { place = place_behind ended old rest; index = next_index ended i }) (cond {A = Point classic} done (record { place = next; index = 0 }) (record { place = point.place; index = i + 1 }))
+point_behind : (ended done : Bool) (old : Connection) (i : ℕ) (point : Point memcached_text) (next : Place) (rest : List ℕ) → ended ≡ done → point.place ≡ old.stream → next ≡ Stands Nothing rest
+    → ◌≡◌ {A = Point memcached_text} (record { place = place_behind ended old rest; index = next_index ended i }) (cond {A = Point memcached_text} done (record { place = next; index = 0 }) (record { place = point.place; index = i + 1 }))
 point_behind true done old i point next rest e at is =
-    subst (λ (b : Bool). ◌≡◌ {A = Point classic} (record { place = Stands Nothing rest; index = 0 }) (cond {A = Point classic} b (record { place = next; index = 0 }) (record { place = point.place; index = i + 1 }))) e
-    (ap (λ (p : Place). let q : Point classic = record { place = p; index = 0 } in q) (sym is))
+    subst (λ (b : Bool). ◌≡◌ {A = Point memcached_text} (record { place = Stands Nothing rest; index = 0 }) (cond {A = Point memcached_text} b (record { place = next; index = 0 }) (record { place = point.place; index = i + 1 }))) e
+    (ap (λ (p : Place). let q : Point memcached_text = record { place = p; index = 0 } in q) (sym is))
 point_behind false done old i point next rest e at is =
-    subst (λ (b : Bool). ◌≡◌ {A = Point classic} (record { place = old.stream; index = i + 1 }) (cond {A = Point classic} b (record { place = next; index = 0 }) (record { place = point.place; index = i + 1 }))) e
-    (ap (λ (p : Place). let q : Point classic = record { place = p; index = i + 1 } in q) (sym at))
+    subst (λ (b : Bool). ◌≡◌ {A = Point memcached_text} (record { place = old.stream; index = i + 1 }) (cond {A = Point memcached_text} b (record { place = next; index = 0 }) (record { place = point.place; index = i + 1 }))) e
+    (ap (λ (p : Place). let q : Point memcached_text = record { place = p; index = i + 1 } in q) (sym at))
 
 at_most_one : (last : Option ℕ) (item : Option Item) → stale_since last item ≤ 1
 at_most_one last None = omega arith
@@ -107,34 +107,34 @@ at_most_one (Some n) (Some item) = one_or_none (nat_le item.stamp n)
 pub replied : CallsStay → (old new : Connection) (router router' : Router) (fleet fleet' : MemoryFleet) (held : List ℕ) (request : Request) (i : ℕ) (ask : Ask) (reply : Answer) (ended : Bool)
     → old.stream ≡ Stands Nothing held → IsReadFrom held request → slice_get (asks_of (message_in held request)) i ≡ Some ask → IsAsk ask → Asked router fleet ask reply router' fleet'
     → ended ≡ ends_with (asks_of (message_in held request)) i reply
-    → GoesTo old (place_behind ended old (drop request.used held)) (shown_text (quiet_of (message_in held request)) (is_last (asks_of (message_in held request)) i) ask reply) new
+    → GoesTo old (place_behind ended old (drop (used_of request) held)) (shown_text (quiet_of (message_in held request)) (is_last (asks_of (message_in held request)) i) ask reply) new
     → Advances old i router fleet new (next_index ended i) router' fleet'
 replied law old new router router' fleet fleet' held request i ask reply ended place read at is asked done g =
     let m : Message = message_in held request in
-    let rest : List ℕ = drop request.used held in
+    let rest : List ℕ = drop (used_of request) held in
     let next : Place = behind m rest in
-    let behind_is : next ≡ Stands Nothing rest = served_behind _ _ rest i ask at in
-    let part : Part classic = record { message = Whole m; next = next; index = i; ask = ask } in
+    let behind_is : next ≡ Stands Nothing rest = request_behind held request rest i ask at in
+    let part : Part memcached_text = record { message = Whole m; next = next; index = i; ask = ask } in
     let words = words_of (tree_of router) in
     let on_key : AreOn ask.key asked.calls = (law (tree_at (tree_of router) ask.key) ask Client 0 asked.calls (record { reply = reply; from = asked.from }) asked.word).0 in
     record {
       works = λ base c.
-          let before : Standing classic = placed base c old i router fleet in
-          let after : Standing classic = placed base c new (next_index ended i) router' fleet' in
+          let before : Standing memcached_text = placed base c old i router fleet in
+          let after : Standing memcached_text = placed base c new (next_index ended i) router' fleet' in
           let at_front : before.point c ≡ point_at old i = same c (point_at old i) (base.point c) in
-          let reads : ReadsNext old.stream (Whole m) next = subst (λ (p : Place). ReadsNext p (Whole m) next) (sym place) (request.used, read.begins, refl) in
-          let shown : shown_text (quiet_of m) (is_last (asks_of m) i) ask reply ≡ classic.shown (Whole m) i reply = ap (λ (o : Option Ask). shown_by (quiet_of m) (asks_of m) i o reply) (sym at) in
-          let point : ◌≡◌ {A = Point classic} (record { place = place_behind ended old rest; index = next_index ended i }) (after_reply (before.point c) part reply) =
-          point_behind ended (ends_with (asks_of m) i reply) old i (before.point c) next rest done (ap (λ (p : Point classic). p.place) at_front) behind_is in
-          let moves : Moves before c (after_reply (before.point c) part reply) (classic.shown (Whole m) i reply) after =
-          subst (λ (p : Point classic). Moves before c p (classic.shown (Whole m) i reply) after) point
+          let reads : ReadsNext old.stream (Whole m) next = subst (λ (p : Place). ReadsNext p (Whole m) next) (sym place) (used_of request, read.begins, refl) in
+          let shown : shown_text (quiet_of m) (is_last (asks_of m) i) ask reply ≡ memcached_text.shown (Whole m) i reply = ap (λ (o : Option Ask). shown_by (quiet_of m) (asks_of m) i o reply) (sym at) in
+          let point : ◌≡◌ {A = Point memcached_text} (record { place = place_behind ended old rest; index = next_index ended i }) (after_reply (before.point c) part reply) =
+          point_behind ended (ends_with (asks_of m) i reply) old i (before.point c) next rest done (ap (λ (p : Point memcached_text). p.place) at_front) behind_is in
+          let moves : Moves before c (after_reply (before.point c) part reply) (memcached_text.shown (Whole m) i reply) after =
+          subst (λ (p : Point memcached_text). Moves before c p (memcached_text.shown (Whole m) i reply) after) point
           (subst (λ (l : List ℕ). Moves before c (record { place = place_behind ended old rest; index = next_index ended i }) l after) shown
           (placed_moves base c i (next_index ended i) old new router router' fleet fleet' _ _ g)) in
-          works_each classic words before after c (begun_of fleet + 1) part asked.calls reply asked.from
+          works_each memcached_text words before after c (begun_of fleet + 1) part asked.calls reply asked.from
           (record {
             next = record {
-              reads = subst (λ (p : Point classic). ReadsNext p.place (Whole m) next) (sym at_front) reads;
-              index = sym (ap (λ (p : Point classic). p.index) at_front);
+              reads = subst (λ (p : Point memcached_text). ReadsNext p.place (Whole m) next) (sym at_front) reads;
+              index = sym (ap (λ (p : Point memcached_text). p.index) at_front);
               asks = at;
             };
             moves = moves;
@@ -163,15 +163,16 @@ replied law old new router router' fleet fleet' held request i ask reply ended p
     }
 
 -- the same, as the code serves an ask
-pub serves_ask : CallsStay → (old new : Connection) (router router' : Router) (fleet fleet' : MemoryFleet) (request : Request) (i : ℕ) (ask : Ask) (reply : Answer) (quiet last ended : Bool)
-    → (front : IsAskAt old request i ask) → IsAsk ask → Asked router fleet ask reply router' fleet'
+pub serves_ask : CallsStay → (old new : Connection) (router router' : Router) (fleet fleet' : MemoryFleet) (request : Request) (i : ℕ) (ask : Ask) (reply : Answer) (used : ℕ) (quiet last ended : Bool)
+    → used ≡ used_of request → (front : IsAskAt old request i ask) → IsAsk ask → Asked router fleet ask reply router' fleet'
     → quiet ≡ quiet_of (message_in front.held request) → last ≡ is_last (asks_of (message_in front.held request)) i
-    → Shows old request.used quiet last ask reply ended new → ServesAsk old request i router fleet ended new router' fleet'
-serves_ask law old new router router' fleet fleet' request i ask reply quiet last ended front is asked quiet_is last_is shows =
+    → Shows old used quiet last ask reply ended new → ServesAsk old request i router fleet ended new router' fleet'
+serves_ask law old new router router' fleet fleet' request i ask reply used quiet last ended used_is front is asked quiet_is last_is told =
+    let shows : Shows old (used_of request) quiet last ask reply ended new = subst (λ (n : ℕ). Shows old n quiet last ask reply ended new) used_is told in
     let asks : List Ask = asks_of (message_in front.held request) in
-    let goes : GoesTo old (place_behind ended old (drop request.used front.held)) (shown_text (quiet_of (message_in front.held request)) (is_last asks i) ask reply) new =
-    subst (λ (q : Bool). GoesTo old (place_behind ended old (drop request.used front.held)) (shown_text q (is_last asks i) ask reply) new) quiet_is
-    (subst (λ (l : Bool). GoesTo old (place_behind ended old (drop request.used front.held)) (shown_text quiet l ask reply) new) last_is (shows.goes front.held front.place)) in
+    let goes : GoesTo old (place_behind ended old (drop (used_of request) front.held)) (shown_text (quiet_of (message_in front.held request)) (is_last asks i) ask reply) new =
+    subst (λ (q : Bool). GoesTo old (place_behind ended old (drop (used_of request) front.held)) (shown_text q (is_last asks i) ask reply) new) quiet_is
+    (subst (λ (l : Bool). GoesTo old (place_behind ended old (drop (used_of request) front.held)) (shown_text quiet l ask reply) new) last_is (shows.goes front.held front.place)) in
     record {
       advances = replied law old new router router' fleet fleet' front.held request i ask reply ended front.place front.read front.at is asked (shows.ended_is ∙ ap (λ (l : Bool). is_failure reply || l) last_is) goes;
       place = λ held at. (shows.goes held at).place_is;
@@ -196,31 +197,31 @@ serves_ask law old new router router' fleet fleet' request i ask reply quiet las
 
 -- the walk's next ask is the one that is served
 pub ask_at : (x : Connection) (request : Request) (asks : Asks) (i : ℕ) (bytes : List ℕ) (next : Option Ask) (ask : Ask) → IsOnWay x request asks i → bytes ≡ held_at x.stream → next ≡ Some ask
-    → next ≡ slice_get (asks_of (message_in bytes asks.request)) asks.taken → IsAskAt x request i ask
+    → next ≡ slice_get (asks_of (message_in bytes (request_of asks))) (taken_of asks) → IsAskAt x request i ask
 ask_at x request asks i bytes next ask way bytes_are is value =
     let held_is : bytes ≡ way.held = bytes_are ∙ ap held_at way.place in
     let at : slice_get (asks_of (message_in way.held request)) i ≡ Some ask =
     subst (λ (n : ℕ). slice_get (asks_of (message_in way.held request)) n ≡ Some ask) way.taken
-    (subst (λ (r : Request). slice_get (asks_of (message_in way.held r)) asks.taken ≡ Some ask) way.request_is
-    (subst (λ (b : List ℕ). slice_get (asks_of (message_in b asks.request)) asks.taken ≡ Some ask) held_is (sym value ∙ is))) in
+    (subst (λ (r : Request). slice_get (asks_of (message_in way.held r)) (taken_of asks) ≡ Some ask) way.request_is
+    (subst (λ (b : List ℕ). slice_get (asks_of (message_in b (request_of asks))) (taken_of asks) ≡ Some ask) held_is (sym value ∙ is))) in
     record { held = way.held; place = way.place; read = way.read; at = at; there = way.there }
 
 -- and where the message isn't done, the walk has come to the next one
 pub way_on : (x y : Connection) (request : Request) (asks asks' : Asks) (i : ℕ) (bytes : List ℕ) (next : Option Ask) (ask : Ask) (router router' : Router) (fleet fleet' : MemoryFleet) (ended : Bool) → IsOnWay x request asks i → bytes ≡ held_at x.stream → next ≡ Some ask
-    → asks'.request ≡ asks.request → asks'.taken ≡ counted next asks.taken → IsWalk bytes asks' → ServesAsk x request i router fleet ended y router' fleet' → ended ≡ false → IsOnWay y request asks' (i + 1)
+    → request_of asks' ≡ request_of asks → taken_of asks' ≡ counted next (taken_of asks) → IsWalk bytes asks' → ServesAsk x request i router fleet ended y router' fleet' → ended ≡ false → IsOnWay y request asks' (i + 1)
 way_on x y request asks asks' i bytes next ask router router' fleet fleet' ended way bytes_are is request_is taken walk served e =
     let held_is : bytes ≡ way.held = bytes_are ∙ ap held_at way.place in
-    let stays : y.stream ≡ x.stream = subst (λ (b : Bool). y.stream ≡ place_behind b x (drop request.used way.held)) e (served.place way.held way.place) in
+    let stays : y.stream ≡ x.stream = subst (λ (b : Bool). y.stream ≡ place_behind b x (drop (used_of request) way.held)) e (served.place way.held way.place) in
     record {
       held = way.held;
       place = stays ∙ way.place;
       read = way.read;
       walk = subst (λ (b : List ℕ). IsWalk b asks') held_is walk;
       request_is = request_is ∙ way.request_is;
-      taken = taken ∙ ap (λ (o : Option Ask). counted o asks.taken) is ∙ ap (λ (n : ℕ). n + 1) way.taken;
+      taken = taken ∙ ap (λ (o : Option Ask). counted o (taken_of asks)) is ∙ ap (λ (n : ℕ). n + 1) way.taken;
       there = served.more e way.held way.place way.read;
     }
 
 -- what a request uses is held
-pub used_held : (x : Connection) (held : List ℕ) (request : Request) → x.stream ≡ Stands Nothing held → IsReadFrom held request → request.used ≤ length (held_at x.stream)
-used_held x held request place read = subst (λ (p : Place). request.used ≤ length (held_at p)) (sym place) (used_within classic_grammar held (message_in held request) request.used read.begins)
+pub used_held : (x : Connection) (held : List ℕ) (request : Request) → x.stream ≡ Stands Nothing held → IsReadFrom held request → used_of request ≤ length (held_at x.stream)
+used_held x held request place read = subst (λ (p : Place). (used_of request) ≤ length (held_at p)) (sym place) (used_within both_grammar held (message_in held request) (used_of request) read.begins)

@@ -10,7 +10,7 @@ use Rattle.mc_runs.specs.Taking.{TakesUp}
 use Rattle.mc_runs.proofs.LogTaking.{piece_up}
 use Rattle.request_parts.specs.declared.skip.Skip.TheVariants.{Nothing}
 use Rattle.request_parts.specs.Stream.{Place, Stands}
-use Rattle.text_codec.specs.Classic.{classic}
+use Rattle.text_codec.specs.TextProtocol.{memcached_text}
 use Rattle.connections.specs.declared.connection.Connection.{Connection}
 use Rattle.connections.specs.Steps.{output_of}
 use Rattle.memory_fleet.specs.declared.fleet.MemoryFleet.{MemoryFleet}
@@ -45,7 +45,7 @@ output_set (z ∷ xs) (suc c) y lt (suc d) = output_set xs c y (omega arith) d �
 
 -- one of the clients that said nothing is put behind the others
 pub point_more : (xs : List Connection) (x : Connection) → x.stream ≡ Stands Nothing [] → ((d : ℕ) → point_in xs d ≡ record { place = Stands Nothing []; index = 0 }) → (d : ℕ) → point_in (xs ++ x ∷ []) d ≡ record { place = Stands Nothing []; index = 0 }
-point_more [] x e h zero = ap (λ (p : Place). let q : Point classic = record { place = p; index = 0 } in q) e
+point_more [] x e h zero = ap (λ (p : Place). let q : Point memcached_text = record { place = p; index = 0 } in q) e
 point_more [] x e h (suc d) = refl
 point_more (y ∷ xs) x e h zero = h zero
 point_more (y ∷ xs) x e h (suc d) = point_more xs x e (λ i. h (suc i)) d
@@ -75,23 +75,23 @@ over false x y z w e = refl
 pub piece_taken : (clients : List Connection) (c : ℕ) (x y : Connection) (bytes out : List ℕ) (router router' : Router) (fleet fleet' : MemoryFleet) (given given' : List Shown) → c < length clients → x ≡ get_or clients c x → ServesPiece x router fleet bytes out y router' fleet' → given' ≡ given ++ one_shown c out
     → TakesUp (words_of (tree_of router)) (standing_of clients router fleet) given (Piece c bytes) (standing_of (set clients c y) router' fleet') given'
 piece_taken clients c x y bytes out router router' fleet fleet' given given' lt is s handed =
-    let old : Standing classic = standing_of clients router fleet in
-    let mid : Standing classic = placed old c s.fed 0 router fleet in
-    let served : Standing classic = placed old c s.served 0 router' fleet' in
-    let taken : Standing classic = standing_of (set clients c y) router' fleet' in
-    let fed_is : point_at s.fed 0 ≡ fed_point (point_at x 0) bytes = ap (λ (p : Place). let q : Point classic = record { place = p; index = 0 } in q) s.feeds.place_is in
+    let old : Standing memcached_text = standing_of clients router fleet in
+    let mid : Standing memcached_text = placed old c s.fed 0 router fleet in
+    let served : Standing memcached_text = placed old c s.served 0 router' fleet' in
+    let taken : Standing memcached_text = standing_of (set clients c y) router' fleet' in
+    let fed_is : point_at s.fed 0 ≡ fed_point (point_at x 0) bytes = ap (λ (p : Place). let q : Point memcached_text = record { place = p; index = 0 } in q) s.feeds.place_is in
     let fed : IsFed old c bytes mid = record {
       point = λ d. where_same (nat_eq c d) (point_at s.fed 0) (fed_point (point_in clients d) bytes) (point_in clients d) (λ e.
-          fed_is ∙ ap (λ (p : Point classic). fed_point p bytes) (sym (at_point clients c x lt is) ∙ ap (point_in clients) (eqb-true c d e)));
+          fed_is ∙ ap (λ (p : Point memcached_text). fed_point p bytes) (sym (at_point clients c x lt is) ∙ ap (point_in clients) (eqb-true c d e)));
       output = λ d. where_other (nat_eq c d) (output_of s.fed) (output_in clients d) (λ e.
           s.feeds.output_is ∙ append-nil (output_of x) ∙ sym (at_output clients c x lt is) ∙ ap (output_in clients) (eqb-true c d e));
       rests = record { number = refl; holds = λ a k. refl; turn = refl; named = λ t. refl; stale = refl; gone = λ k. refl };
     } in
     let took : IsGiven served c out taken = record {
       bytes_are = s.out_is ∙ sym (same c (output_of s.served) (output_in clients c));
-      stuck = subst (λ (p : Point classic). IsStuck classic p.place) (sym (same c (point_at s.served 0) (point_in clients c))) s.serves.stuck;
+      stuck = subst (λ (p : Point memcached_text). IsStuck memcached_text p.place) (sym (same c (point_at s.served 0) (point_in clients c))) s.serves.stuck;
       output = λ d. output_set clients c y lt d ∙ over (nat_eq c d) (output_of y) (output_of s.served) (output_in clients d) [] s.output;
-      point = λ d. point_set clients c y lt d ∙ where_same (nat_eq c d) (point_at y 0) (point_at s.served 0) (point_in clients d) (λ e. ap (λ (p : Place). let q : Point classic = record { place = p; index = 0 } in q) s.stream);
+      point = λ d. point_set clients c y lt d ∙ where_same (nat_eq c d) (point_at y 0) (point_at s.served 0) (point_in clients d) (λ e. ap (λ (p : Place). let q : Point memcached_text = record { place = p; index = 0 } in q) s.stream);
       rests = record { number = refl; holds = λ a k. refl; turn = refl; named = λ t. refl; stale = refl; gone = λ k. refl };
     } in
-    piece_up classic (words_of (tree_of router)) old mid served taken given given' c bytes out fed (s.serves.advances.works old c) took handed
+    piece_up memcached_text (words_of (tree_of router)) old mid served taken given given' c bytes out fed (s.serves.advances.works old c) took handed

@@ -1,13 +1,9 @@
 -- One command of a tree: what it may ask, and what came of it.
-use Rattle.std.proofs.Common.{◌≡◌, ℕ, ◌+◌, ◌<◌, ◌&&◌, Bool, true, false, cond, List, [], ◌∷◌, ◌++◌, inl, inr, Option, Some, None, option_map, MatchOption, refl, sym, ap, ◌∙◌, subst, slice_get, bytes_eq, nat_le}
-use Rattle.std.specs.Prelude.{Vec}
-use Rattle.std.specs.declared.alloc.Global.{Global}
+use Rattle.std.proofs.Common.{◌≡◌, ℕ, ◌+◌, ◌<◌, ◌&&◌, false, cond, List, [], ◌∷◌, ◌++◌, inl, inr, Option, Some, None, option_map, MatchOption, refl, sym, ap, ◌∙◌, subst, bytes_eq}
 use Rattle.mc_types.specs.Items.{Item}
 use Rattle.mc_types.specs.declared.ask.Dialect.{Dialect}
-use Rattle.mc_types.specs.declared.ask.Dialect.TheVariants.{Classic}
 use Rattle.mc_types.specs.declared.ask.Ask.{Ask}
 use Rattle.mc_types.specs.declared.answer.Answer.{Answer}
-use Rattle.mc_types.specs.declared.call.Origin.{Origin}
 use Rattle.mc_types.specs.declared.call.Origin.TheVariants.{Client}
 use Rattle.mc_types.specs.Shows.{shows}
 use Rattle.mc_types.specs.Asks.{IsAsk}
@@ -16,18 +12,15 @@ use Rattle.mc_runs.specs.Run.{Call}
 use Rattle.mc_runs.specs.Cover.{IsAnswerOf}
 use Rattle.mc_runs.specs.Stale.{is_delete_op, stale_since}
 use Rattle.mc_runs.specs.Standing.{MakesNamed, ShownIn}
-use Rattle.text_requests.specs.Asks.{IsClassicAsk}
 use Rattle.memory_fleet.specs.declared.fleet.MemoryFleet.{MemoryFleet}
 use Rattle.memory_fleet.specs.Fleets.{holds_of, turn_of, named_of, count_of, begun_of}
-use Rattle.memory_fleet.specs.Law.{stamp_at, AreFound, AreNamed, CallsAreNamed}
+use Rattle.memory_fleet.specs.Law.{AreFound, AreNamed, CallsAreNamed}
 use Rattle.memory_fleet.proofs.Naming.{shown_found}
-use Rattle.route_tree.specs.Route.{Route, Routes, Policies, Prefixes, Pool, Server, Null, Failing, AllSync, Failover, MissFailover, WarmUp, ByOperation, ByPrefix, End, More, Otherwise, Policy, Wildcard, Prefix, IsTree}
+use Rattle.route_tree.specs.Route.{Route, Routes, Policies, Prefixes, Pool, Server, Null, Failing, AllSync, Failover, MissFailover, WarmUp, ByOperation, ByPrefix, End, More, Otherwise, Policy, Wildcard, Prefix}
 use Rattle.route_tree.specs.Each.{Each, IsIn}
-use Rattle.route_tree.specs.Plan.{Plan}
 use Rattle.route_tree.specs.At.{tree_at}
 use Rattle.route_tree.specs.Servers.{servers, tree_servers, tree_servers_of_all, tree_servers_of_policies, tree_servers_of_prefixes, ServersStay, CallsStay}
 use Rattle.route_tree.specs.Sources.{IsFormed, AreAsked, CallsAreAsked}
-use Rattle.route_tree.specs.Word.{Given, Word}
 use Rattle.route_tree.specs.WordLaws.{RepliesShowWhatWasFound}
 use Rattle.route_tree.proofs.Parts.{each_weaker}
 use Rattle.route_json.specs.Fits.{IsBelow, AreBelow, ArePoliciesBelow, ArePrefixesBelow}
@@ -84,19 +77,19 @@ each_in P (x ∷ xs) h s (inl e) = subst P (sym e) h.0
 each_in P (x ∷ xs) h s (inr k) = each_in P xs h.1 s k
 
 -- each call has what each of two says
-both : (count : ℕ) (dialect : Dialect) (before calls : List Call) → dialect ≡ Classic → Each (λ (call : Call). call.server < count) calls → AreAsked dialect Client 0 before calls → Each (λ (call : Call). (call.server < count) × IsFormed call.ask × (call.ask.dialect ≡ Classic)) calls
-both count dialect before [] c h k = tt
-both count dialect before (call ∷ calls) c h k = ((h.0, k.0, k.1 c), both count dialect (before ++ call ∷ []) calls c h.1 k.3)
+both : (count : ℕ) (dialect : Dialect) (before calls : List Call) → Each (λ (call : Call). call.server < count) calls → AreAsked dialect Client 0 before calls → Each (λ (call : Call). (call.server < count) × IsFormed call.ask) calls
+both count dialect before [] h k = tt
+both count dialect before (call ∷ calls) h k = ((h.0, k.0), both count dialect (before ++ call ∷ []) calls h.1 k.3)
 
 -- whatever comes of a command of the tree, its calls can be made
-pub can_be_asked : ServersStay → CallsStay → CallsAreAsked → (tree : Route) (fleet begun : MemoryFleet) (ask : Ask) → IsServed tree (count_of fleet) → IsClassicAsk ask → count_of begun ≡ count_of fleet → CanBeAsked tree ask begun
+pub can_be_asked : ServersStay → CallsStay → CallsAreAsked → (tree : Route) (fleet begun : MemoryFleet) (ask : Ask) → IsServed tree (count_of fleet) → IsAsk ask → count_of begun ≡ count_of fleet → CanBeAsked tree ask begun
 can_be_asked stay calls_stay asked tree fleet begun ask served is count calls given w =
     let plain = tree_at tree ask.key in
     let among : Each (λ (call : Call). IsIn call.server (servers plain)) calls = (calls_stay plain ask Client 0 calls given w).1 in
     let there : Each (λ (call : Call). call.server < count_of begun) calls =
     each_weaker (λ (call : Call). IsIn call.server (servers plain)) (λ (call : Call). call.server < count_of begun) calls
     (λ call k. subst (λ n. call.server < n) (sym count) (below (count_of fleet) tree served.below call.server (each_in (λ s. IsIn s (tree_servers tree)) (servers plain) ((stay tree served.good).0 ask.key) call.server k))) among in
-    both (count_of begun) ask.dialect [] calls is.classic there (asked plain ask calls given is.well_formed w)
+    both (count_of begun) ask.dialect [] calls there (asked plain ask calls given is w)
 
 -- ---- what came of it
 
@@ -119,13 +112,13 @@ as_old_is (Some n) None = refl
 as_old_is (Some n) (Some item) = refl
 
 pub asked_by : CallsAreNamed → CallsAreAsked → RepliesShowWhatWasFound → (router router' : Router) (fleet begun fleet' : MemoryFleet) (number : ℕ) (ask : Ask) (done : Done) (shown : Option ℕ)
-    → begun ≡ record fleet { begun = number; found = begun.found } → begun.found.items ≡ [] → number ≡ begun_of fleet + 1 → IsClassicAsk ask → RunsBy number (tree_of router) ask begun done fleet' → shown ≡ stamp_shown done.from fleet' → Counts router number ask done.reply shown router' → Asked router fleet ask done.reply router' fleet'
+    → begun ≡ record fleet { begun = number; found = begun.found } → begun.found.items ≡ [] → number ≡ begun_of fleet + 1 → IsAsk ask → RunsBy number (tree_of router) ask begun done fleet' → shown ≡ stamp_shown done.from fleet' → Counts router number ask done.reply shown router' → Asked router fleet ask done.reply router' fleet'
 asked_by named asked shows_found router router' fleet begun fleet' number ask done shown kept none next is run stamp counts =
     let plain = tree_at (tree_of router) ask.key in
     let calls = run.0 in
-    let n = named number ask.dialect begun calls fleet' none (asked plain ask calls (given_of done) is.well_formed run.1) run.2 in
+    let n = named number ask.dialect begun calls fleet' none (asked plain ask calls (given_of done) is run.1) run.2 in
     let m : AreNamed number (record fleet { begun = number; found = begun.found }) calls fleet' = subst (λ (f : MemoryFleet). AreNamed number f calls fleet') kept n in
-    let answer = shows_found (λ number key. tree_at (tree_of router) key) number ask calls done.reply done.from (is.well_formed, run.1) in
+    let answer = shows_found (λ number key. tree_at (tree_of router) key) number ask calls done.reply done.from (is, run.1) in
     let s = is_shown calls m.found fleet' done.from done.reply m.found_are answer in
     record {
       calls = calls;

@@ -18,8 +18,8 @@ use Rattle.mc_runs.proofs.Fresh.{fresh}
 use Rattle.request_parts.specs.declared.skip.Skip.TheVariants.{Nothing}
 use Rattle.request_parts.specs.Stream as stream
 use Rattle.request_parts.proofs.Streams.{used_within}
-use Rattle.text_requests.specs.Grammar.{classic_grammar}
-use Rattle.text_codec.specs.Classic.{Whole, LongLine, classic}
+use Rattle.client_requests.specs.Both.{both_grammar}
+use Rattle.text_codec.specs.TextProtocol.{Whole, LongLine, memcached_text}
 use Rattle.text_codec.proofs.ReaderLaws.{reader_is}
 use Rattle.connections.specs.declared.connection.Connection.{Connection}
 use Rattle.memory_fleet.specs.declared.event.Loss.{Loss}
@@ -47,13 +47,13 @@ use Rattle.fleet_run.proofs.BadEvents.{map_more, one_begun, left_false, is_held}
 use Rattle.fleet_run.proofs.Openings.{same_opening, opened_new, AreTaken, nothing_happened, reopened, holds_opened, opened_same, opened_more}
 use Rattle.fleet_run.proofs.Wording.{direct_covered}
 
-quiet_start : IsStuck classic (stream.Stands Nothing [])
-quiet_start (Whole message) next r = let some = takes_some [] message r.0 r.1 in let all = used_within classic_grammar [] message r.0 r.1 in absurd (omega (arith, some, all))
+quiet_start : IsStuck memcached_text (stream.Stands Nothing [])
+quiet_start (Whole message) next r = let some = takes_some [] message r.0 r.1 in let all = used_within both_grammar [] message r.0 r.1 in absurd (omega (arith, some, all))
 quiet_start LongLine next r = absurd (omega (arith, r.0.long))
 
 -- how far a script has come: a log of the events so far leads to where clients and servers stand, over what those events put on the servers
-pub record Comes (words : Words) (before : List Scripted) (now : Standing classic) (given : List Shown) (fleet : MemoryFleet) : Type 0 where
-  pub log : List (Entry classic)
+pub record Comes (words : Words) (before : List Scripted) (now : Standing memcached_text) (given : List Shown) (fleet : MemoryFleet) : Type 0 where
+  pub log : List (Entry memcached_text)
   pub stands : Stands words (opening_of before) log now given
   pub script : script_of log ≡ before
   -- before the run nothing but the script's events is in the log
@@ -65,9 +65,9 @@ starts words clients router fleet t servers new stale gone none empty =
     record {
       log = [];
       stands = record {
-        leads = nothing_yet classic words (opening_of []) (standing_of clients router fleet) new.point new.output none.begun (λ s k. none.holds s k) none.turn none.named stale gone;
+        leads = nothing_yet memcached_text words (opening_of []) (standing_of clients router fleet) new.point new.output none.begun (λ s k. none.holds s k) none.turn none.named stale gone;
         given_is = ap (map shown_by) empty;
-        stuck = λ c. subst (λ (p : Point classic). IsStuck classic p.place) (sym (new.point c)) quiet_start;
+        stuck = λ c. subst (λ (p : Point memcached_text). IsStuck memcached_text p.place) (sym (new.point c)) quiet_start;
         taken = new.output;
       };
       script = refl;
@@ -105,7 +105,7 @@ fail_event clients router fleet fleet' t event turn manner is f =
     record {
       takes = subst (TakesBy (words_of (tree_of router)) (standing_of clients router fleet) (transcript_of t) fleet (standing_of clients router fleet') (transcript_of t) fleet') (sym is)
           (record {
-            goes = fail_alone classic (words_of (tree_of router)) (standing_of clients router fleet) (standing_of clients router fleet') (transcript_of t) turn manner (record { named = f.named; point = λ c. refl; output = λ c. refl; number = f.begun_is; holds = f.holds; turn_is = f.turn_is; stale = refl; gone = λ k. refl });
+            goes = fail_alone memcached_text (words_of (tree_of router)) (standing_of clients router fleet) (standing_of clients router fleet') (transcript_of t) turn manner (record { named = f.named; point = λ c. refl; output = λ c. refl; number = f.begun_is; holds = f.holds; turn_is = f.turn_is; stale = refl; gone = λ k. refl });
             caches = f.caches_are;
           });
       tree = refl;
@@ -122,7 +122,7 @@ pub lost_event : (clients : List Connection) (router : Router) (fleet fleet' : M
 lost_event clients router fleet fleet' t event loss is f =
     record {
       takes = subst (TakesBy (words_of (tree_of router)) (standing_of clients router fleet) (transcript_of t) fleet (standing_of clients router fleet') (transcript_of t) fleet') (sym is)
-          (lost_up classic (words_of (tree_of router)) (standing_of clients router fleet) (standing_of clients router fleet') (transcript_of t) (scripted.loss_of loss) (record { point = λ c. refl; output = λ c. refl; number = f.begun_is; turn = f.turn_is; named = f.named_is; stale = refl; gone = λ k. refl }) (rw (loss_event loss) f.holds));
+          (lost_up memcached_text (words_of (tree_of router)) (standing_of clients router fleet) (standing_of clients router fleet') (transcript_of t) (scripted.loss_of loss) (record { point = λ c. refl; output = λ c. refl; number = f.begun_is; turn = f.turn_is; named = f.named_is; stale = refl; gone = λ k. refl }) (rw (loss_event loss) f.holds));
       tree = refl;
       count = f.count_is;
       few = λ e. few_same f.begun_is e;
@@ -134,7 +134,7 @@ at_event clients router fleet fleet' t event turn loss is f =
     record {
       takes = subst (TakesBy (words_of (tree_of router)) (standing_of clients router fleet) (transcript_of t) fleet (standing_of clients router fleet') (transcript_of t) fleet') (sym is)
           (record {
-            goes = at_alone classic (words_of (tree_of router)) (standing_of clients router fleet) (standing_of clients router fleet') (transcript_of t) turn (scripted.loss_of loss) (record { point = λ c. refl; output = λ c. refl; number = f.begun_is; turn = f.turn_is; named = f.named_is; stale = refl; gone = λ k. refl }) f.holds;
+            goes = at_alone memcached_text (words_of (tree_of router)) (standing_of clients router fleet) (standing_of clients router fleet') (transcript_of t) turn (scripted.loss_of loss) (record { point = λ c. refl; output = λ c. refl; number = f.begun_is; turn = f.turn_is; named = f.named_is; stale = refl; gone = λ k. refl }) f.holds;
             caches = f.caches_are;
           });
       tree = refl;
@@ -148,7 +148,7 @@ moment_event clients router fleet fleet' t event moment is f =
     record {
       takes = subst (TakesBy (words_of (tree_of router)) (standing_of clients router fleet) (transcript_of t) fleet (standing_of clients router fleet') (transcript_of t) fleet') (sym is)
           (record {
-            goes = moment_alone classic (words_of (tree_of router)) (standing_of clients router fleet) (standing_of clients router fleet') (transcript_of t) moment (record { point = λ c. refl; output = λ c. refl; number = f.begun_is; turn = f.turn_is; named = f.named_is; stale = refl; gone = λ k. refl }) f.holds;
+            goes = moment_alone memcached_text (words_of (tree_of router)) (standing_of clients router fleet) (standing_of clients router fleet') (transcript_of t) moment (record { point = λ c. refl; output = λ c. refl; number = f.begun_is; turn = f.turn_is; named = f.named_is; stale = refl; gone = λ k. refl }) f.holds;
             caches = f.caches_are;
           });
       tree = refl;
@@ -171,7 +171,7 @@ begun_before : (before : List Scripted) (event : Scripted) → has_begun (before
 begun_before before event none = left_false (has_begun before) (begins_run event) (sym (one_begun before event) ∙ none)
 
 -- a log that goes on by an event with which the run goes on
-comes_up : (words : Words) (before : List Scripted) (event : Scripted) (old new : Standing classic) (given given' : List Shown) (fleet fleet' : MemoryFleet) → begins_run event ≡ true → ((s : ℕ) (c : Contents) → put_by s c event ≡ c) → TakesUp words old given event new given' → Comes words before old given fleet → Comes words (before ++ event ∷ []) new given' fleet'
+comes_up : (words : Words) (before : List Scripted) (event : Scripted) (old new : Standing memcached_text) (given given' : List Shown) (fleet fleet' : MemoryFleet) → begins_run event ≡ true → ((s : ℕ) (c : Contents) → put_by s c event ≡ c) → TakesUp words old given event new given' → Comes words before old given fleet → Comes words (before ++ event ∷ []) new given' fleet'
 comes_up words before event old new given given' fleet fleet' begins nothing up c =
     let more = up (opening_of before) c.log c.stands in
     record {
@@ -182,7 +182,7 @@ comes_up words before event old new given given' fleet fleet' begins nothing up 
     }
 
 -- by one with which nothing happens
-comes_alone : (words : Words) (before : List Scripted) (event : Scripted) (old new : Standing classic) (given given' : List Shown) (fleet fleet' : MemoryFleet) → ((s : ℕ) (c : Contents) → put_by s c event ≡ c) → TakesAlone words old given fleet new given' fleet' event → Comes words before old given fleet → Comes words (before ++ event ∷ []) new given' fleet'
+comes_alone : (words : Words) (before : List Scripted) (event : Scripted) (old new : Standing memcached_text) (given given' : List Shown) (fleet fleet' : MemoryFleet) → ((s : ℕ) (c : Contents) → put_by s c event ≡ c) → TakesAlone words old given fleet new given' fleet' event → Comes words before old given fleet → Comes words (before ++ event ∷ []) new given' fleet'
 comes_alone words before event old new given given' fleet fleet' nothing alone c =
     record {
       log = Takes event ∷ c.log;
@@ -192,7 +192,7 @@ comes_alone words before event old new given given' fleet fleet' nothing alone c
     }
 
 -- by one that puts an item on a server before the run
-comes_put : (words : Words) (before : List Scripted) (server : ℕ) (key content : List ℕ) (old new : Standing classic) (given given' : List Shown) (fleet fleet' : MemoryFleet) → bad_in (count_of fleet) before (log.Hold server key content) ≡ false → IsPut words old given fleet new given' fleet' server key content → Comes words before old given fleet → Comes words (before ++ log.Hold server key content ∷ []) new given' fleet'
+comes_put : (words : Words) (before : List Scripted) (server : ℕ) (key content : List ℕ) (old new : Standing memcached_text) (given given' : List Shown) (fleet fleet' : MemoryFleet) → bad_in (count_of fleet) before (log.Hold server key content) ≡ false → IsPut words old given fleet new given' fleet' server key content → Comes words before old given fleet → Comes words (before ++ log.Hold server key content ∷ []) new given' fleet'
 comes_put words before server key content old new given given' fleet fleet' good put c =
     let event : Scripted = log.Hold server key content in
     let after : List Scripted = before ++ event ∷ [] in
@@ -204,7 +204,7 @@ comes_put words before server key content old new given given' fleet fleet' good
       log = Takes event ∷ c.log;
       stands = record {
         leads = record {
-          follows = (settled classic words (opening_of before) c.log old given s, reopened words (opening_of before) (opening_of after) c.log q.0 s.leads.follows);
+          follows = (settled memcached_text words (opening_of before) c.log old given s, reopened words (opening_of before) (opening_of after) c.log q.0 s.leads.follows);
           point = λ d. put.point d ∙ s.leads.point d;
           output = λ d. ap (λ (l : List ℕ). log.given_of c.log d ++ l) (put.output d) ∙ s.leads.output d;
           new = subst (λ (n : ℕ). IsNewNumber (n + 1) (run_of c.log)) (sym put.number) s.leads.new;
@@ -217,14 +217,14 @@ comes_put words before server key content old new given given' fleet fleet' good
           gone = λ k. put.gone k ∙ s.leads.gone k;
         };
         given_is = put.given_is ∙ s.given_is;
-        stuck = λ d. subst (λ (p : Point classic). IsStuck classic p.place) (sym (put.point d)) (s.stuck d);
+        stuck = λ d. subst (λ (p : Point memcached_text). IsStuck memcached_text p.place) (sym (put.point d)) (s.stuck d);
         taken = λ d. put.output d ∙ s.taken d;
       };
       script = ap (λ l. l ++ event ∷ []) c.script;
       quiet = λ none. (q.0, opened);
     }
 
-comes_by : (words : Words) (before : List Scripted) (event : Scripted) (old new : Standing classic) (given given' : List Shown) (fleet fleet' : MemoryFleet) → bad_in (count_of fleet) before event ≡ false → TakesBy words old given fleet new given' fleet' event → Comes words before old given fleet → Comes words (before ++ event ∷ []) new given' fleet'
+comes_by : (words : Words) (before : List Scripted) (event : Scripted) (old new : Standing memcached_text) (given given' : List Shown) (fleet fleet' : MemoryFleet) → bad_in (count_of fleet) before event ≡ false → TakesBy words old given fleet new given' fleet' event → Comes words before old given fleet → Comes words (before ++ event ∷ []) new given' fleet'
 comes_by words before (log.Piece client bytes) old new given given' fleet fleet' good takes c = comes_up words before (log.Piece client bytes) old new given given' fleet fleet' refl (λ s c. refl) takes c
 comes_by words before (log.Now loss) old new given given' fleet fleet' good takes c = comes_up words before (log.Now loss) old new given given' fleet fleet' refl (λ s c. refl) takes c
 comes_by words before (log.At turn loss) old new given given' fleet fleet' good takes c = comes_alone words before (log.At turn loss) old new given given' fleet fleet' (λ s c. refl) takes c
@@ -248,8 +248,8 @@ drives law tree fleet clients router events t report c commands calls stale =
     let words = words_of tree in
     let opening = opening_of events in
     let s = c.stands in
-    let done = settled classic words opening c.log (standing_of clients router fleet) (transcript_of t) s in
-    let run = runs classic words opening c.log s.leads.follows in
+    let done = settled memcached_text words opening c.log (standing_of clients router fleet) (transcript_of t) s in
+    let run = runs memcached_text words opening c.log s.leads.follows in
     let counted : report.stale ≡ stale_in opening (run_of c.log) = stale ∙ s.leads.stale ∙ sym (last_counts words opening (run_of c.log) run) in
     record {
       log = c.log;
@@ -257,7 +257,7 @@ drives law tree fleet clients router events t report c commands calls stale =
       script_is = c.script;
       settled = done;
       shown = s.given_is;
-      streams = λ d. splits classic words opening reader_is c.log s.leads.follows done d;
+      streams = λ d. splits memcached_text words opening reader_is c.log s.leads.follows done d;
       commands = commands ∙ s.leads.count;
       calls = calls ∙ s.leads.turn;
       run = run;
@@ -285,9 +285,9 @@ drives_part law tree count fleet clients router events t t' came same =
       count = count;
       follows = s.leads.follows;
       script_is = c.script;
-      settled = settled classic words opening c.log (standing_of clients router fleet) (transcript_of t) s;
+      settled = settled memcached_text words opening c.log (standing_of clients router fleet) (transcript_of t) s;
       shown = ap (map shown_by) same ∙ s.given_is;
-      fresh = λ direct. fresh words (direct_covered law tree direct) opening (run_of c.log) (runs classic words opening c.log s.leads.follows);
+      fresh = λ direct. fresh words (direct_covered law tree direct) opening (run_of c.log) (runs memcached_text words opening c.log s.leads.follows);
     }
 
 -- where nothing was taken up

@@ -5,17 +5,15 @@ use Rattle.request_parts.specs.declared.own.Own.{Own}
 use Rattle.request_parts.specs.declared.refusal.Why.{Why}
 use Rattle.request_parts.specs.declared.skip.Skip.{Skip}
 use Rattle.request_parts.specs.declared.skip.Skip.TheVariants.{Nothing}
-use Rattle.text_requests.specs.declared.command.Request.{Request}
-use Rattle.text_requests.specs.declared.request.Asks.{Asks}
-use Rattle.text_requests.specs.Message.{Message, Begins, message_in}
+use Rattle.client_requests.specs.declared.request.Request.{Request}
+use Rattle.client_requests.specs.declared.request.Asks.{Asks}
+use Rattle.client_requests.specs.Message.{Message, Begins, message_in, used_of}
 use Rattle.request_parts.specs.Message.{Refusal}
-use Rattle.text_requests.specs.Places.{order_in}
-use Rattle.text_requests.specs.Asks.{asks_of}
-use Rattle.text_requests.specs.Grammar.{own_by}
+use Rattle.client_requests.specs.Asks.{asks_of, own_of}
 use Rattle.request_parts.specs.Stream.{Place, Stands, Closed, skipped}
-use Rattle.text_requests.specs.Stream.{behind}
+use Rattle.client_requests.specs.Stream.{behind}
 use Rattle.text_codec.specs.Replies.{refusal_text, long_line_text}
-use Rattle.text_codec.specs.Classic.{Said, Whole, LongLine, ReadsNext, classic, own_passed}
+use Rattle.text_codec.specs.TextProtocol.{Said, Whole, LongLine, ReadsNext, memcached_text, own_passed}
 use Rattle.connections.specs.declared.connection.Connection.{Connection}
 use Rattle.request_parts.specs.Stream.{behind_own}
 use Rattle.connections.specs.Steps.{GoesTo}
@@ -23,22 +21,24 @@ use Rattle.memory_fleet.specs.declared.fleet.MemoryFleet.{MemoryFleet}
 use Rattle.fleet_run.specs.declared.router.Router.{Router}
 use Rattle.fleet_run.specs.Serving.{Advances, IsFront, IsOnWay, ServesKey, ServesRequest}
 use Rattle.connections.proofs.Shorter.{fewer, skipped_len}
-use Rattle.connections.proofs.Fronts.{empty_is, own_len, own_behind, shorter_by}
+use Rattle.connections.proofs.Fronts.{empty_is, own_len, shorter_by}
+use Rattle.connections.proofs.Requests.{own_next, own_text}
 use Rattle.fleet_run.proofs.Advancing.{passes, advances_on}
 
 -- a request without an ask: what mcgate itself was asked
-pub own_done : (old new : Connection) (router : Router) (fleet : MemoryFleet) (request : Request) (own : Option Own) → (front : IsFront old request) → length (asks_of (message_in front.held request)) ≡ 0 → own ≡ own_by (order_in front.held request.command)
-    → GoesTo old (behind_own own (drop request.used front.held)) (own_passed own) new → ServesRequest old router fleet new router fleet
-own_done old new router fleet request own front none own_is g =
+pub own_done : (old new : Connection) (router : Router) (fleet : MemoryFleet) (request : Request) (own : Option Own) (used : ℕ) → used ≡ used_of request → (front : IsFront old request) → length (asks_of (message_in front.held request)) ≡ 0 → own ≡ own_of (message_in front.held request)
+    → GoesTo old (behind_own own (drop used front.held)) (own_passed own) new → ServesRequest old router fleet new router fleet
+own_done old new router fleet request own used used_is front none own_is told =
     let held : List ℕ = front.held in
+    let g : GoesTo old (behind_own own (drop (used_of request) held)) (own_passed own) new = subst (λ (n : ℕ). GoesTo old (behind_own own (drop n held)) (own_passed own) new) used_is told in
     let m : Message = message_in held request in
-    let rest : List ℕ = drop request.used held in
-    let next : behind_own own rest ≡ behind m rest = ap (λ (o : Option Own). behind_own o rest) own_is ∙ sym (own_behind (order_in held request.command) rest) in
-    let text : own_passed own ≡ classic.passed (Whole m) = ap own_passed own_is in
-    let reads : ReadsNext old.stream (Whole m) (behind m rest) = subst (λ (p : Place). ReadsNext p (Whole m) (behind m rest)) (sym front.place) (request.used, front.read.begins, refl) in
+    let rest : List ℕ = drop (used_of request) held in
+    let next : behind_own own rest ≡ behind m rest = ap (λ (o : Option Own). behind_own o rest) own_is ∙ own_next held request rest in
+    let text : own_passed own ≡ memcached_text.passed (Whole m) = ap own_passed own_is ∙ own_text held request in
+    let reads : ReadsNext old.stream (Whole m) (behind m rest) = subst (λ (p : Place). ReadsNext p (Whole m) (behind m rest)) (sym front.place) (used_of request, front.read.begins, refl) in
     record {
-      advances = passes old new router fleet (Whole m) (behind m rest) reads (empty_is (asks_of m) none) (subst (λ (p : Place). GoesTo old p (classic.passed (Whole m)) new) next (subst (λ (l : List ℕ). GoesTo old (behind_own own rest) l new) text g));
-      shorter = shorter_by old new held rest (behind_own own rest) front.place g.place_is (own_len own rest) (fewer held m request.used front.read.begins);
+      advances = passes old new router fleet (Whole m) (behind m rest) reads (empty_is (asks_of m) none) (subst (λ (p : Place). GoesTo old p (memcached_text.passed (Whole m)) new) next (subst (λ (l : List ℕ). GoesTo old (behind_own own rest) l new) text g));
+      shorter = shorter_by old new held rest (behind_own own rest) front.place g.place_is (own_len own rest) (fewer held m (used_of request) front.read.begins);
     }
 
 -- a refused message
@@ -74,7 +74,7 @@ key_last old x y request asks asks' i p q r f g h false a way same s e = absurd 
 key_last old x y request asks asks' i p q r f g h true a way same s e =
     record {
       advances = advances_on old x y 0 i 0 p q r f g h a s.served.advances;
-      shorter = shorter_by old y way.held (drop request.used way.held) (Stands Nothing (drop request.used way.held)) (sym same ∙ way.place) (s.served.place way.held way.place) (omega arith) (fewer way.held (message_in way.held request) request.used way.read.begins);
+      shorter = shorter_by old y way.held (drop (used_of request) way.held) (Stands Nothing (drop (used_of request) way.held)) (sym same ∙ way.place) (s.served.place way.held way.place) (omega arith) (fewer way.held (message_in way.held request) (used_of request) way.read.begins);
     }
 
 -- a message more was done

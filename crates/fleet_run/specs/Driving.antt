@@ -12,7 +12,7 @@ use Rattle.mc_runs.specs.Taking as Follow
 use Rattle.mc_runs.specs.Taking.{TakesUp}
 use Rattle.request_parts.specs.declared.skip.Skip.TheVariants.{Nothing}
 use Rattle.request_parts.specs.Stream.{Stands, extended}
-use Rattle.text_codec.specs.Classic.{classic}
+use Rattle.text_codec.specs.TextProtocol.{memcached_text}
 use Rattle.connections.specs.declared.connection.Connection.{Connection}
 use Rattle.connections.specs.Steps.{output_of, GoesTo}
 use Rattle.memory_fleet.specs.declared.fleet.MemoryFleet.{MemoryFleet}
@@ -34,7 +34,7 @@ use Rattle.fleet_run.specs.Scripted.{Scripted, Piece, Fail, Hold, At, Now, Momen
 use Rattle.fleet_run.specs.Opening.{opening_of}
 
 -- how far each client was served; a client that isn't there said nothing
-abbrev pub point_in : List Connection → ℕ → Point classic
+abbrev pub point_in : List Connection → ℕ → Point memcached_text
 point_in [] c = record { place = Stands Nothing []; index = 0 }
 point_in (x ∷ xs) zero = point_at x 0
 point_in (x ∷ xs) (suc c) = point_in xs c
@@ -46,7 +46,7 @@ output_in (x ∷ xs) zero = output_of x
 output_in (x ∷ xs) (suc c) = output_in xs c
 
 -- clients, the last number and servers at one moment
-abbrev pub standing_of : List Connection → Router → MemoryFleet → Standing classic
+abbrev pub standing_of : List Connection → Router → MemoryFleet → Standing memcached_text
 standing_of clients router fleet =
     record {
       point = point_in clients;
@@ -71,12 +71,12 @@ pub record ServesPiece (old : Connection) (router : Router) (fleet : MemoryFleet
 
 -- there is one log of the script, with a run of the tree from what the script put on the servers, one command at a time, whose outputs are those given out, and the count of its stale replies
 pub record Drives (tree : Route) (events : List Scripted) (given : List Shown) (report : Report) : Type 0 where
-  pub log : List (Entry classic)
+  pub log : List (Entry memcached_text)
   pub follows : Follows (words_of tree) (opening_of events) log
   pub script_is : script_of log ≡ events
   pub settled : IsSettled log
   pub shown : given ≡ shown_of log
-  pub streams : (c : ℕ) → Splits classic (stream_of log c) (messages_of log c) (point_of log c).place
+  pub streams : (c : ℕ) → Splits memcached_text (stream_of log c) (messages_of log c) (point_of log c).place
   pub commands : report.commands ≡ commands_in (run_of log)
   pub calls : report.calls ≡ calls_in (run_of log)
   pub run : Run (words_of tree) (opening_of events) (run_of log)
@@ -86,7 +86,7 @@ pub record Drives (tree : Route) (events : List Scripted) (given : List Shown) (
 
 -- after want of memory: the same of the first events, up to the one that was broken off
 pub record DrivesPart (tree : Route) (events : List Scripted) (given : List Shown) : Type 0 where
-  pub log : List (Entry classic)
+  pub log : List (Entry memcached_text)
   pub count : ℕ
   pub follows : Follows (words_of tree) (opening_of (take count events)) log
   pub script_is : script_of log ≡ take count events
@@ -114,10 +114,10 @@ IsSpent Spent fleet = (last_turn < turn_of fleet + 2 ^ 32) ⊎ (begun_of fleet �
 abbrev pub HandsOut : ℕ → List ℕ → Transcript → Transcript → Type 0
 HandsOut client bytes old new = transcript_of new ≡ transcript_of old ++ log.one_shown client bytes
 
-module _ (words : Words) (old : Standing classic) (given : List Shown) (fleet : MemoryFleet) (new : Standing classic) (given' : List Shown) (fleet' : MemoryFleet) where
+module _ (words : Words) (old : Standing memcached_text) (given : List Shown) (fleet : MemoryFleet) (new : Standing memcached_text) (given' : List Shown) (fleet' : MemoryFleet) where
   -- each log that led there goes on by the event alone, and the servers stay as they are
   pub record TakesAlone (event : Scripted) : Type 0 where
-    pub goes : (opening : ℕ → List ℕ → Option Item) (log : List (Entry classic)) → Follow.Stands words opening log old given → Follow.Stands words opening (Takes event ∷ log) new given'
+    pub goes : (opening : ℕ → List ℕ → Option Item) (log : List (Entry memcached_text)) → Follow.Stands words opening log old given → Follow.Stands words opening (Takes event ∷ log) new given'
     pub caches : fleet'.caches.items ≡ fleet.caches.items
 
   -- a server holds more before the run, and nothing else changes

@@ -2,7 +2,6 @@
 use Rattle.std.specs.Prelude.{◌≡◌, ℕ, ◌+◌, ◌^◌, ◌<◌, ◌≤◌, ◌⊎◌, ◌&&◌, Bool, true, false, List, [], length, drop, Option, Some, None, if◌then◌else◌, nat_eq, bytes_eq, slice_get}
 use Rattle.mc_types.specs.declared.ask.Ask.{Ask}
 use Rattle.mc_types.specs.declared.answer.Answer.{Answer}
-use Rattle.mc_types.specs.declared.ask.Dialect.TheVariants.{Classic}
 use Rattle.mc_types.specs.declared.call.Origin.TheVariants.{Client}
 use Rattle.mc_types.specs.Acknowledged.{says_gone}
 use Rattle.mc_types.specs.Items.{Item}
@@ -12,12 +11,12 @@ use Rattle.mc_runs.specs.Protocol.{IsStuck}
 use Rattle.mc_runs.specs.Log.{Point}
 use Rattle.mc_runs.specs.Standing.{Standing, Works, MakesNamed, ShownIn}
 use Rattle.request_parts.specs.declared.skip.Skip.TheVariants.{Nothing}
-use Rattle.text_requests.specs.declared.command.Request.{Request}
-use Rattle.text_requests.specs.declared.request.Asks.{Asks}
-use Rattle.text_requests.specs.Message.{IsReadFrom, message_in}
-use Rattle.text_requests.specs.Asks.{asks_of, IsWalk}
+use Rattle.client_requests.specs.declared.request.Request.{Request}
+use Rattle.client_requests.specs.declared.request.Asks.{Asks}
+use Rattle.client_requests.specs.Message.{IsReadFrom, message_in, used_of}
+use Rattle.client_requests.specs.Asks.{asks_of, IsWalk, request_of, taken_of}
 use Rattle.request_parts.specs.Stream.{Stands}
-use Rattle.text_codec.specs.Classic.{classic}
+use Rattle.text_codec.specs.TextProtocol.{memcached_text}
 use Rattle.connections.specs.declared.connection.Connection.{Connection}
 use Rattle.connections.specs.Steps.{output_of, held_len, place_behind}
 use Rattle.memory_fleet.specs.declared.fleet.MemoryFleet.{MemoryFleet}
@@ -43,11 +42,11 @@ abbrev pub tree_of : Router → Route
 tree_of router = router.tree.now
 
 -- how far the client was served: this key of the message at its front is next
-abbrev pub point_at : Connection → ℕ → Point classic
+abbrev pub point_at : Connection → ℕ → Point memcached_text
 point_at x i = record { place = x.stream; index = i }
 
 -- clients and servers, where this client is at its place among others
-abbrev pub placed : Standing classic → ℕ → Connection → ℕ → Router → MemoryFleet → Standing classic
+abbrev pub placed : Standing memcached_text → ℕ → Connection → ℕ → Router → MemoryFleet → Standing memcached_text
 placed base c x i router fleet =
     record {
       point = λ d. if nat_eq c d then point_at x i else base.point d;
@@ -62,7 +61,7 @@ placed base c x i router fleet =
 
 -- what was done for the client is more of every log, whoever the others are
 pub record Advances (old : Connection) (i : ℕ) (router : Router) (fleet : MemoryFleet) (new : Connection) (j : ℕ) (router' : Router) (fleet' : MemoryFleet) : Type 0 where
-  pub works : (base : Standing classic) (c : ℕ) → Works (words_of (tree_of router)) (placed base c old i router fleet) c (placed base c new j router' fleet')
+  pub works : (base : Standing memcached_text) (c : ℕ) → Works (words_of (tree_of router)) (placed base c old i router fleet) c (placed base c new j router' fleet')
   pub tree : tree_of router' ≡ tree_of router
   pub count : count_of fleet' ≡ count_of fleet
   -- each command is stale once at most
@@ -82,7 +81,7 @@ pub record IsServed (tree : Route) (count : ℕ) : Type 0 where
 abbrev pub CanBeAsked : Route → Ask → MemoryFleet → Type 0
 CanBeAsked tree ask fleet =
     (calls : List Call) (given : Given) → Word (tree_at tree ask.key) ask Client 0 calls given
-    → Each (λ call. (call.server < count_of fleet) × IsFormed call.ask × (call.ask.dialect ≡ Classic)) calls
+    → Each (λ call. (call.server < count_of fleet) × IsFormed call.ask) calls
 
 -- the command's calls were made, one after the other, and this came of them
 abbrev pub RunsBy : ℕ → Route → Ask → MemoryFleet → Done → MemoryFleet → Type 0
@@ -106,8 +105,8 @@ pub record IsOnWay (x : Connection) (request : Request) (asks : Asks) (i : ℕ) 
   pub place : x.stream ≡ Stands Nothing held
   pub read : IsReadFrom held request
   pub walk : IsWalk held asks
-  pub request_is : asks.request ≡ request
-  pub taken : asks.taken ≡ i
+  pub request_is : request_of asks ≡ request
+  pub taken : taken_of asks ≡ i
   pub there : i < length (asks_of (message_in held request))
 
 -- which key is next behind a reply
@@ -126,7 +125,7 @@ pub record IsAskAt (x : Connection) (request : Request) (i : ℕ) (ask : Ask) : 
 -- its command was done
 pub record ServesAsk (old : Connection) (request : Request) (i : ℕ) (router : Router) (fleet : MemoryFleet) (ended : Bool) (new : Connection) (router' : Router) (fleet' : MemoryFleet) : Type 0 where
   pub advances : Advances old i router fleet new (next_index ended i) router' fleet'
-  pub place : (held : List ℕ) → old.stream ≡ Stands Nothing held → new.stream ≡ place_behind ended old (drop request.used held)
+  pub place : (held : List ℕ) → old.stream ≡ Stands Nothing held → new.stream ≡ place_behind ended old (drop (used_of request) held)
   -- where the message isn't done, another key is there
   pub more : ended ≡ false → (held : List ℕ) → old.stream ≡ Stands Nothing held → IsReadFrom held request → i + 1 < length (asks_of (message_in held request))
 
@@ -161,4 +160,4 @@ pub record ServesRequest (old : Connection) (router : Router) (fleet : MemoryFle
 -- all that was complete was done
 pub record ServesAll (old : Connection) (router : Router) (fleet : MemoryFleet) (new : Connection) (router' : Router) (fleet' : MemoryFleet) : Type 0 where
   pub advances : Advances old 0 router fleet new 0 router' fleet'
-  pub stuck : IsStuck classic new.stream
+  pub stuck : IsStuck memcached_text new.stream

@@ -1,7 +1,7 @@
 //! What one client sent is served, message by message and key by key.
 
 ghost use Rattle.std.specs.Prelude.{◌≡◌, ◌≤◌, IfOk, IfErr, OnOk};
-ghost use Rattle.text_requests.specs.Asks.{IsClassicAsk};
+ghost use Rattle.mc_types.specs.Asks.{IsAsk};
 ghost use Rattle.memory_fleet.specs.Fleets.{count_of, begun_of};
 ghost use Rattle.fleet_run.specs.Serving.{IsServed, SpentBy, CanBeAsked, RunsBy, stamp_shown, tree_of, IsFront, IsOnWay, IsAskAt, Asked, ServesAsk, ServesKey, ServesRequest, ServesAll};
 
@@ -63,7 +63,7 @@ fn command(
 ) -> Result<Answer, FleetFault>
     requires served { IsServed (tree_of router.old) (count_of fleet.old) }
     requires few { router.old.stale ≤ begun_of fleet.old }
-    requires ask { IsClassicAsk ask.now }
+    requires ask { IsAsk ask.now }
     ensures ok { IfOk result (λ reply. Asked router.old fleet.old ask.now reply router.new fleet.new) }
     ensures spent { IfErr result (λ fault. SpentBy fault fleet.new) }
 {
@@ -101,7 +101,7 @@ fn serve_ask(
     requires served { IsServed (tree_of router.old) (count_of fleet.old) }
     requires few { router.old.stale ≤ begun_of fleet.old }
     requires at { IsAskAt connection.old request.now index ask.now }
-    requires ask { IsClassicAsk ask.now }
+    requires ask { IsAsk ask.now }
     ensures ok { IfOk result (λ ended. ServesAsk connection.old request.now index router.old fleet.old ended connection.new router.new fleet.new) }
     ensures spent { IfErr result (λ fault. SpentBy fault fleet.new) }
 {
@@ -109,7 +109,7 @@ fn serve_ask(
     let count = request.asks();
     let last = index + 1 == count;
     let reply = command(alloc, router, fleet, ask)?;
-    let shown = connection.show(request.quiet(), last, ask, &reply, request.used);
+    let shown = connection.show(request.quiet(), last, ask, &reply, request.used());
     drop_answer(reply);
     match shown {
         Ok(ended) => Ok(ended),
@@ -157,7 +157,7 @@ fn serve_request(
 {
     let count = request.asks();
     if count == 0 {
-        connection.answer_own(request.own(), request.used)?;
+        connection.answer_own(request.own(), request.used())?;
         return Ok(());
     }
     let mut asks = request.walk();

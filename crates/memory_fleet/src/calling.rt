@@ -45,7 +45,6 @@ impl MemoryFleet {
 }
 
 impl Fleet for MemoryFleet {
-    ghost use Rattle.mc_types.specs.declared.ask.Dialect.TheVariants.{Classic};
     ghost use Rattle.route_tree.specs.Sources.{IsFormed};
     ghost use Rattle.memory_fleet.specs.Fleets.{count_of};
     ghost use Rattle.memory_fleet.specs.Law.{KeepsLaw, BreaksLaw, failures_of};
@@ -56,7 +55,7 @@ impl Fleet for MemoryFleet {
 
     ghost breaks = { BreaksLaw };
 
-    ghost serves = { λ fleet server ask. (server < count_of fleet) × IsFormed ask × (ask.dialect ≡ Classic) };
+    ghost serves = { λ fleet server ask. (server < count_of fleet) × IsFormed ask };
 
     ghost failures = { failures_of };
 

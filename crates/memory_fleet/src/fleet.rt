@@ -2,7 +2,6 @@
 
 ghost use Rattle.std.specs.Prelude.{◌≡◌, ◌+◌, ◌-◌, ◌<◌, ◌≤◌, ◌^◌, ◌↔◌, pos, ◌≤ℤ◌, List, [], length, Some, option_map, Err, IfOk, IfErr, OnOk, OnErr};
 ghost use Rattle.mc_types.specs.Asks.{IsAsk, data_limit};
-ghost use Rattle.mc_types.specs.declared.ask.Dialect.TheVariants.{Classic};
 
 use crate::event::{FleetFault, Loss, Made, Manner};
 use crate::losses::{add_loss, lose_all};
@@ -96,7 +95,6 @@ impl MemoryFleet {
     ) -> Result<(Answer, Option<u64>), AllocError>
         requires there { server < count_of self.old }
         requires ask { IsAsk ask.now }
-        requires dialect { ask.now.dialect ≡ Classic }
         ensures ok { IfOk result (λ r. Serves number self.old server ask.now r.0 r.1 self.new) }
         ensures err { OnErr result (LosesAtMost self.old self.new) }
         ensures stops { OnErr result (AppliesNothing self.old server self.new) }
@@ -115,7 +113,6 @@ impl MemoryFleet {
     ) -> Result<Made, AllocError>
         requires there { server < count_of self.old }
         requires ask { IsAsk ask.now }
-        requires dialect { ask.now.dialect ≡ Classic }
         ensures ok { IfOk result (λ made. Attempts (Some (manner_of manner)) number self.old server ask.now made self.new) }
         ensures err { OnErr result (LosesAtMost self.old self.new) }
         ensures stops { OnErr result (AppliesNothing self.old server self.new) }
@@ -140,7 +137,6 @@ impl MemoryFleet {
     ) -> Result<Made, AllocError>
         requires there { server < count_of self.old }
         requires ask { IsAsk ask.now }
-        requires dialect { ask.now.dialect ≡ Classic }
         ensures ok { IfOk result (λ made. Attempts (option_map manner_of named) number self.old server ask.now made self.new) }
         ensures err { OnErr result (LosesAtMost self.old self.new) }
         ensures stops { OnErr result (AppliesNothing self.old server self.new) }
@@ -178,7 +174,6 @@ impl MemoryFleet {
     pub fn call_as(&mut self, stamp: u64, server: ServerId, ask: &Ask) -> Result<Made, FleetFault>
         requires there { server < count_of self.old }
         requires ask { IsAsk ask.now }
-        requires dialect { ask.now.dialect ≡ Classic }
         ensures ok { IfOk result (λ made. FleetCalls stamp self.old server ask.now made self.new) }
         ensures exact { IfOk result (λ made. IsMadeAfter stamp self.old server ask.now made self.new) }
         ensures err { OnErr result (LosesAtMost self.old self.new) }

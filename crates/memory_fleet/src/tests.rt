@@ -1,12 +1,16 @@
 //! Tests: failures, losses and the count of calls.
 
-ghost use Rattle.std.specs.Prelude.{◌≡◌, ◌<◌, ◌≤◌, length, IfOk};
+ghost use Rattle.std.specs.Prelude.{◌≡◌, ◌<◌, ◌≤◌, [], ◌∷◌, length, IfOk};
 ghost use Rattle.mc_types.specs.KeyText.{IsKey};
+ghost use Rattle.mc_types.specs.declared.token.Token.TheVariants as tokens;
 ghost use Rattle.memory_fleet.specs.Fleets.{count_of};
 
 use crate::event::{Loss, Manner};
 use crate::fleet::MemoryFleet;
-use mc_types::{Answer, Ask, Body, Dialect, Key, Op, Outcome, ServerId, Tokens};
+use mc_types::{
+    Answer, Ask, Body, Code, Dialect, Fields, Key, Op, Origin, Outcome, ServerId, Token, Tokens,
+};
+use route_job::Fleet;
 use std::alloc::Global;
 use std::test::Fail;
 
@@ -145,5 +149,127 @@ fn expiry_by_the_moment(rt: HostRuntime) -> Result<(), Fail> {
     assert_eq!(rt; hit(&mut fleet, alloc, 0, b"a", b"1")?, Some(3));
     fleet.set_moment(10);
     assert_eq!(rt; hit(&mut fleet, alloc, 0, b"a", b"1")?, None);
+    Ok(())
+}
+
+// The flag `v`.
+fn value_flag(alloc: Global) -> Result<Tokens, Fail>
+    ensures { IfOk result (λ flags. flags ≡ tokens.Value ∷ []) }
+{
+    let mut tokens = Tokens::new(alloc);
+    tokens.push(Token::Value)?;
+    Ok(tokens)
+}
+
+macro_rules! meta {
+    ($op:expr, $text:expr, $tokens:expr) => {
+        Ask {
+            key: key($text)?,
+            op: $op,
+            dialect: Dialect::Meta,
+            with_cas: false,
+            flags: 0,
+            exptime: None,
+            body: Body::empty(),
+            cas: None,
+            delta: 0,
+            tokens: $tokens,
+        }
+    };
+}
+
+// The code of a meta answer, where the call was answered with one.
+fn code_of(outcome: &Outcome) -> Option<Code> {
+    match outcome {
+        Outcome::Answered(Answer::Meta(code, _)) => Some(*code),
+        _ => None,
+    }
+}
+
+fn has_data(fields: &Fields, data: &[u8]) -> bool {
+    match &fields.body {
+        Some(body) => body.as_slice() == data,
+        None => false,
+    }
+}
+
+fn is_value(outcome: &Outcome, data: &[u8]) -> bool {
+    match outcome {
+        Outcome::Answered(Answer::Meta(Code::Va, fields)) => has_data(fields, data),
+        _ => false,
+    }
+}
+
+// The code of the answer to `md`.
+fn meta_delete(
+    fleet: &mut MemoryFleet,
+    alloc: Global,
+    at: u32,
+    text: &[u8],
+) -> Result<Option<Code>, Fail> {
+    let ask = meta!(Op::Delete, text, Tokens::new(alloc));
+    let at = server(fleet, at)?;
+    let made = fleet.call_as(98, at, &ask).ok().ok_or("a delete")?;
+    Ok(code_of(&made.outcome))
+}
+
+// The stamp of what `mg v` shows, where that has these data.
+fn meta_value(
+    fleet: &mut MemoryFleet,
+    alloc: Global,
+    at: u32,
+    text: &[u8],
+    data: &[u8],
+) -> Result<Option<u64>, Fail> {
+    let ask = meta!(Op::Get, text, value_flag(alloc)?);
+    let at = server(fleet, at)?;
+    let made = fleet.call_as(99, at, &ask).ok().ok_or("a get")?;
+    Ok(if is_value(&made.outcome, data) {
+        made.stamp
+    } else {
+        None
+    })
+}
+
+#[test]
+fn failed_meta_calls(rt: HostRuntime) -> Result<(), Fail> {
+    let alloc = rt.alloc();
+    let mut fleet = MemoryFleet::new(alloc, 1)?;
+    let first = server(&fleet, 0)?;
+    fleet.hold(first, &key(b"a")?, b"1")?;
+    fleet.fail(1, Manner::Before).ok().ok_or("a failure")?;
+    fleet.fail(3, Manner::After).ok().ok_or("a failure")?;
+    assert!(rt; meta_delete(&mut fleet, alloc, 0, b"a")?.is_none());
+    assert_eq!(rt; meta_value(&mut fleet, alloc, 0, b"a", b"1")?, Some(0));
+    assert!(rt; meta_delete(&mut fleet, alloc, 0, b"a")?.is_none());
+    assert!(rt; meta_delete(&mut fleet, alloc, 0, b"a")? == Some(Code::Nf));
+    Ok(())
+}
+
+// Whether the key that is held at server 1 was copied to server 0 by the next command: that one's own stamp is another.
+fn copies(fleet: &mut MemoryFleet, alloc: Global, text: &[u8]) -> Result<bool, Fail> {
+    let number = fleet.begin().ok().ok_or("a command")?;
+    let get = meta!(Op::Get, text, value_flag(alloc)?);
+    let from = server(fleet, 1)?;
+    let found = fleet
+        .call(number, from, &get, Origin::Client)
+        .ok()
+        .ok_or("a get")?;
+    let add = classic!(alloc, Op::Add, text, Some(0), short(alloc, b"1")?);
+    let to = server(fleet, 0)?;
+    let added = fleet
+        .call(number, to, &add, Origin::CopyOf(0))
+        .ok()
+        .ok_or("an add")?;
+    Ok(is_value(&found, b"1") && matches!(added, Outcome::Answered(Answer::Stored)))
+}
+
+#[test]
+fn a_copy_has_the_stamp_of_its_item(rt: HostRuntime) -> Result<(), Fail> {
+    let alloc = rt.alloc();
+    let mut fleet = MemoryFleet::new(alloc, 2)?;
+    assert!(rt; set(&mut fleet, alloc, 5, 1, b"a", 0, b"1")?);
+    assert!(rt; copies(&mut fleet, alloc, b"a")?);
+    assert_eq!(rt; meta_value(&mut fleet, alloc, 0, b"a", b"1")?, Some(5));
     Ok(())
 }

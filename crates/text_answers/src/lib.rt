@@ -12,4 +12,6 @@ pub use reader::{AnswerRead, read_answer};
 pub use writer::{write_answer, write_end, write_value};
 
 #[cfg(test)]
+mod meta_tests;
+#[cfg(test)]
 mod tests;

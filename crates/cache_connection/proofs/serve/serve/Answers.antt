@@ -1,9 +1,9 @@
 use Rattle.std.proofs.Common.{sym, subst, ◌≤◌, length}
-use Rattle.text_requests.specs.declared.command.Read.TheVariants as reads
+use Rattle.client_requests.specs.declared.reader.Read.TheVariants as reads
 use Rattle.request_parts.specs.Message.{Refusal}
 use Rattle.request_parts.specs.Stream.{Place}
 use Rattle.request_parts.proofs.Streams.{used_within}
-use Rattle.text_requests.specs.Grammar.{classic_grammar}
+use Rattle.client_requests.specs.Both.{both_grammar}
 use Rattle.text_codec.specs.Held.{held_at}
 use Rattle.connections.proofs.Fronts.{read_front, refused_is_some, long_is_some, more_stuck}
 use Rattle.cache_connection.proofs.Fronts.{refused_done, long_line_done, front_is, goes_more}
@@ -23,7 +23,7 @@ pub refuse-requires : goal.refuse-requires
 refuse-requires c =
     let x = c.loop-connection.connection in
     let front = read_front x.stream _ c.in-Refused.ensures (refused_is_some c.in-Refused.why c.in-Refused.used c.in-Refused.skip) in
-    subst (λ (p : Place). c.in-Refused.used ≤ length (held_at p)) (sym front.1) (used_within classic_grammar front.0 (Refusal c.in-Refused.why c.in-Refused.skip) c.in-Refused.used front.2)
+    subst (λ (p : Place). c.in-Refused.used ≤ length (held_at p)) (sym front.1) (used_within both_grammar front.0 (Refusal c.in-Refused.why c.in-Refused.skip) c.in-Refused.used front.2)
 
 pub loop-connection-smaller-in-Continue-branch-2 : goal.loop-connection-smaller-in-Continue-branch-2
 loop-connection-smaller-in-Continue-branch-2 c =

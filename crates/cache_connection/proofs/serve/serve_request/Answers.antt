@@ -1,11 +1,13 @@
-use Rattle.std.proofs.Common.{sym, ◌∙◌}
+use Rattle.std.proofs.Common.{ℕ, ◌≤◌, length, sym, ◌∙◌, subst}
+use Rattle.text_codec.specs.Held.{held_at}
 use Rattle.cache_connection.proofs.Exits.{on_err}
 use Rattle.cache_connection.proofs.Keys.{used_held, reads_front, begins_more, begins_last, begins_stops}
 use Rattle.cache_connection.proofs.Fronts.{own_done, breaks_first}
 use Rattle.cache_connection.proofs.serve.serve_request.Goals as goal
 
 pub answer_own-requires : goal.answer_own-requires
-answer_own-requires c = used_held c.args.connection.now c.args.request.now c.requires
+answer_own-requires c =
+    subst (λ (n : ℕ). n ≤ length (held_at c.args.connection.now.stream)) (sym c.used.ensures) (used_held c.args.connection.now c.args.request.now c.requires)
 
 pub returns-in_err-answer_own-clause-err : goal.returns-in_err-answer_own-clause-err
 returns-in_err-answer_own-clause-err c =
@@ -13,7 +15,7 @@ returns-in_err-answer_own-clause-err c =
 
 pub returns-then-count-eq0-clause-ok : goal.returns-then-count-eq0-clause-ok
 returns-then-count-eq0-clause-ok c =
-    own_done c.args.moment.seconds c.args.connection.now c.answer_own.new.self c.args.cache.now c.args.request.now c.own.result c.requires (sym (c.asks-count.ensures _ c.requires.read) ∙ c.if-count-eq0.true) (c.own.ensures _)
+    own_done c.args.moment.seconds c.args.connection.now c.answer_own.new.self c.args.cache.now c.args.request.now c.own.result c.used.result c.used.ensures c.requires (sym (c.asks-count.ensures _ c.requires.read) ∙ c.if-count-eq0.true) (c.own.ensures _)
     (c.in_ok-answer_own.ensures _ c.requires.place)
 
 pub returns-in_err-serve_key-clause-err : goal.returns-in_err-serve_key-clause-err

@@ -1,5 +1,5 @@
 use Rattle.std.proofs.Common.{◌-◌, length}
-use Rattle.text_requests.specs.Asks.{asks_of}
+use Rattle.client_requests.specs.Asks.{asks_of}
 use Rattle.cache_connection.specs.Steps.{message_at, IsOnWay, HasBegun}
 use Rattle.cache_connection.proofs.serve.serve_request.Given as goal
 

@@ -1,14 +1,16 @@
-use Rattle.std.proofs.Common.{sym, ◌∙◌}
+use Rattle.std.proofs.Common.{ℕ, ◌≤◌, length, sym, ◌∙◌, subst}
+use Rattle.text_codec.specs.Held.{held_at}
 use Rattle.fleet_run.proofs.Advancing.{used_held}
 use Rattle.fleet_run.proofs.Messages.{own_done, key_more, key_same, key_last}
 use Rattle.fleet_run.proofs.serve.serve_request.Goals as goal
 
 pub answer_own-requires : goal.answer_own-requires
-answer_own-requires c = used_held c.args.connection.now c.requires.front.held c.args.request.now c.requires.front.place c.requires.front.read
+answer_own-requires c =
+    subst (λ (n : ℕ). n ≤ length (held_at c.args.connection.now.stream)) (sym c.used.ensures) (used_held c.args.connection.now c.requires.front.held c.args.request.now c.requires.front.place c.requires.front.read)
 
 pub returns-then-count-eq0-clause-ok : goal.returns-then-count-eq0-clause-ok
 returns-then-count-eq0-clause-ok c =
-    own_done c.args.connection.now c.answer_own.new.self c.args.router.now c.args.fleet.now c.args.request.now c.own.result c.requires.front (sym (c.asks-count.ensures c.requires.front.held c.requires.front.read) ∙ c.if-count-eq0.true) (c.own.ensures c.requires.front.held) (c.in_ok-answer_own.ensures c.requires.front.held c.requires.front.place)
+    own_done c.args.connection.now c.answer_own.new.self c.args.router.now c.args.fleet.now c.args.request.now c.own.result c.used.result c.used.ensures c.requires.front (sym (c.asks-count.ensures c.requires.front.held c.requires.front.read) ∙ c.if-count-eq0.true) (c.own.ensures c.requires.front.held) (c.in_ok-answer_own.ensures c.requires.front.held c.requires.front.place)
 
 pub loop-index-preserved : goal.loop-index-preserved
 loop-index-preserved c =

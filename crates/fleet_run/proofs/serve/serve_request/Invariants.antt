@@ -1,6 +1,6 @@
 use Rattle.std.proofs.Common.{◌≡◌, ◌-◌, length}
-use Rattle.text_requests.specs.Message.{message_in}
-use Rattle.text_requests.specs.Asks.{asks_of}
+use Rattle.client_requests.specs.Message.{message_in}
+use Rattle.client_requests.specs.Asks.{asks_of}
 use Rattle.text_codec.specs.Held.{held_at}
 use Rattle.fleet_run.specs.Serving.{Advances, IsOnWay}
 use Rattle.fleet_run.proofs.serve.serve_request.Given as goal
