@@ -1,1 +1,3 @@
 pub mod Lifting
+pub mod Dialects
+pub mod RequestLaws

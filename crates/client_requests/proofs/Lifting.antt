@@ -10,7 +10,7 @@ use Rattle.request_parts.specs.declared.skip.Skip.TheVariants.{Nothing}
 use Rattle.request_parts.specs.declared.block.End.{End}
 use Rattle.request_parts.specs.declared.block.End.TheVariants.{Open, Good, Bad}
 use Rattle.request_parts.specs.Tests.{Word}
-use Rattle.request_parts.specs.Message.{Refusal, Found, meaning, meaning_of, with_rest, with_block, end_of}
+use Rattle.request_parts.specs.Message.{Refusal, meaning, meaning_of, with_rest, with_block, end_of}
 use Rattle.request_parts.proofs.Fronts.{line_text, begins_meant, none_begins}
 use Rattle.text_requests.specs.Order as texts
 use Rattle.text_requests.specs.Grammar.{classic_grammar}
@@ -21,7 +21,7 @@ use Rattle.meta_requests.specs.CommandWords.{verb_of}
 use Rattle.client_requests.specs.declared.reader.Read.{Read}
 use Rattle.client_requests.specs.declared.reader.Read.TheVariants as reads
 use Rattle.client_requests.specs.Both.{Order, Classic, Meta, both_grammar, order_by, order_of, skip_by, skip_of, mapped, lift_found}
-use Rattle.client_requests.specs.Reading.{IsMeant, Reads, classic_in, meta_in}
+use Rattle.client_requests.specs.Message.{IsMeant, Reads, message_in, used_of}
 
 block_lifted : {A B : Type 0} (f : A → B) (o : A) (used : ℕ) (block : List ℕ) (end : End) → with_block (f o) used block end ≡ lift_found f (with_block o used block end)
 block_lifted f o used block Open = refl
@@ -32,11 +32,11 @@ rest_lifted : {A B : Type 0} (f : A → B) (o : A) (used : ℕ) (rest : List ℕ
 rest_lifted f o used rest None = refl
 rest_lifted f o used rest (Some n) = block_lifted f o used (take n rest) (end_of (drop n rest))
 
-classic_lifted : (r : Result texts.Order Why) (skip : Skip) (used : ℕ) (rest : List ℕ) → meaning_of both_grammar (mapped Classic r) skip used rest ≡ lift_found Classic (meaning_of classic_grammar r skip used rest)
+pub classic_lifted : (r : Result texts.Order Why) (skip : Skip) (used : ℕ) (rest : List ℕ) → meaning_of both_grammar (mapped Classic r) skip used rest ≡ lift_found Classic (meaning_of classic_grammar r skip used rest)
 classic_lifted (Err why) skip used rest = refl
 classic_lifted (Ok o) skip used rest = rest_lifted Classic o used rest _
 
-meta_lifted : (r : Result metas.Order Why) (skip : Skip) (used : ℕ) (rest : List ℕ) → meaning_of both_grammar (mapped Meta r) skip used rest ≡ lift_found Meta (meaning_of meta_grammar r skip used rest)
+pub meta_lifted : (r : Result metas.Order Why) (skip : Skip) (used : ℕ) (rest : List ℕ) → meaning_of both_grammar (mapped Meta r) skip used rest ≡ lift_found Meta (meaning_of meta_grammar r skip used rest)
 meta_lifted (Err why) skip used rest = refl
 meta_lifted (Ok o) skip used rest = rest_lifted Meta o used rest _
 
@@ -70,8 +70,7 @@ module _ (bytes : List ℕ) (end used : ℕ) (line : TakesLine bytes end used) w
 
   -- what is read behind the first line is what the bytes begin with
   pub reads_meant : (r : Read) → IsMeant bytes r (meaning both_grammar (take (used - 1) bytes) (drop used bytes)) → Reads bytes r
-  reads_meant (reads.Classic r) h = (h.0, begins_meant both_grammar bytes end used (classic_in bytes r) r.used line h.1)
-  reads_meant (reads.Meta r) h = (h.0, begins_meant both_grammar bytes end used (meta_in bytes r) r.used line h.1)
+  reads_meant (reads.Request r) h = record { placed = h.0; begins = begins_meant both_grammar bytes end used (message_in bytes r) (used_of r) line h.1 }
   reads_meant (reads.Refused why n skip) h = begins_meant both_grammar bytes end used (Refusal why skip) n line h
   reads_meant reads.TooLong h = absurd h
   reads_meant reads.More h = none_begins both_grammar bytes end used line h

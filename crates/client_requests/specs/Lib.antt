@@ -1,2 +1,6 @@
 pub mod Both
-pub mod Reading
+pub mod Message
+pub mod Asks
+pub mod Stream
+pub mod Spelling
+pub mod Laws

@@ -3,8 +3,9 @@ ghost use Rattle.std.specs.Prelude.{◌≡◌, ℕ, List};
 ghost use Rattle.text_requests.specs.Message as texts;
 ghost use Rattle.meta_requests.specs.Message as metas;
 ghost use Rattle.client_requests.specs.Both.{Classic, Meta, lift_found};
-ghost use Rattle.client_requests.specs.Reading.{IsMeant, Reads};
+ghost use Rattle.client_requests.specs.Message.{IsMeant, Reads};
 
+use crate::request::Request;
 use mc_text::ends::Line;
 use mc_text::reading::line;
 use mc_text::word::next_word;
@@ -17,10 +18,8 @@ pub enum Read {
     More,
     /// A line without an end in the first 65,536 bytes.
     TooLong,
-    /// A message of the classic dialect that is served.
-    Classic(text_requests::Request),
-    /// A message of the meta dialect that is served.
-    Meta(meta_requests::Request),
+    /// A message that is served.
+    Request(Request),
     /// A message that is refused: it takes `used` bytes, and what `skip` says is passed over behind them.
     Refused { why: Why, used: usize, skip: Skip },
 }
@@ -31,7 +30,7 @@ fn of_classic(read: text_requests::Read) -> Read
     match read {
         text_requests::Read::More => Read::More,
         text_requests::Read::TooLong => Read::TooLong,
-        text_requests::Read::Request(request) => Read::Classic(request),
+        text_requests::Read::Request(request) => Read::Request(Request::Classic(request)),
         text_requests::Read::Refused { why, used, skip } => Read::Refused { why, used, skip },
     }
 }
@@ -42,7 +41,7 @@ fn of_meta(read: meta_requests::Read) -> Read
     match read {
         meta_requests::Read::More => Read::More,
         meta_requests::Read::TooLong => Read::TooLong,
-        meta_requests::Read::Request(request) => Read::Meta(request),
+        meta_requests::Read::Request(request) => Read::Request(Request::Meta(request)),
         meta_requests::Read::Refused { why, used, skip } => Read::Refused { why, used, skip },
     }
 }

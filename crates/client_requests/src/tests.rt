@@ -4,9 +4,19 @@ use request_parts::{Skip, Why};
 
 #[test]
 fn dialects_mixed(rt: HostRuntime) {
-    assert!(rt; matches!(read_request(b"get a\r\nmg a\r\n"), Read::Classic(_)));
-    assert!(rt; matches!(read_request(b"mg a v\r\nget a\r\n"), Read::Meta(_)));
-    assert!(rt; matches!(read_request(b"mn\r\n"), Read::Meta(_)));
+    assert!(rt;
+        matches!(
+            read_request(b"get a\r\nmg a\r\n"),
+            Read::Request(Request::Classic(_))
+        )
+    );
+    assert!(rt;
+        matches!(
+            read_request(b"mg a v\r\nget a\r\n"),
+            Read::Request(Request::Meta(_))
+        )
+    );
+    assert!(rt; matches!(read_request(b"mn\r\n"), Read::Request(Request::Meta(_))));
     assert!(rt; matches!(read_request(b"ms a 1\r\n"), Read::More));
     for (bytes, want) in [
         (b"me a\r\n".as_slice(), Why::Unknown),

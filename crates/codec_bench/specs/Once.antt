@@ -2,8 +2,7 @@
 use Rattle.std.specs.Prelude.{ℕ, ℤ, Bool, List, Option, Some, None}
 use Rattle.std.proofs.Props.{props}
 use Rattle.mc_types.specs.declared.ask.Ask.{Ask}
-use Rattle.mc_types.specs.Asks.{Presence, Absent, Optional, Required, FlagIs, NumberIs, OptionIs, BytesAre, Shape, HasShapeOf}
-use Rattle.text_requests.specs.Asks.{IsClassicAsk}
+use Rattle.mc_types.specs.Asks.{Presence, Absent, Optional, Required, FlagIs, NumberIs, OptionIs, BytesAre, Shape, HasShapeOf, IsAsk}
 
 pub FlagIs-prop : (p : Presence) (flag : Bool) → IsProp (FlagIs p flag)
 FlagIs-prop Absent flag = Prim.hlevel props
@@ -34,5 +33,5 @@ pub HasShapeOf-prop : (ask : Ask) (shape : Option Shape) → IsProp (HasShapeOf 
 HasShapeOf-prop ask None = Prim.hlevel props
 HasShapeOf-prop ask (Some shape) = Prim.hlevel (props, FlagIs-prop, NumberIs-prop, OptionIs-prop, SignedIs-prop, BytesAre-prop)
 
-pub IsClassicAsk-prop : (ask : Ask) → IsProp (IsClassicAsk ask)
-IsClassicAsk-prop ask = Prim.hlevel (props, HasShapeOf-prop)
+pub IsAsk-prop : (ask : Ask) → IsProp (IsAsk ask)
+IsAsk-prop ask = Prim.hlevel (props, HasShapeOf-prop)

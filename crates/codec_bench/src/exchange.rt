@@ -1,5 +1,5 @@
-ghost use Rattle.text_requests.specs.Asks.{IsClassicAsk};
-ghost use Rattle.codec_bench.specs.Once.{IsClassicAsk-prop};
+ghost use Rattle.mc_types.specs.Asks.{IsAsk};
+ghost use Rattle.codec_bench.specs.Once.{IsAsk-prop};
 
 use mc_types::{Answer, Ask};
 
@@ -8,5 +8,5 @@ use mc_types::{Answer, Ask};
 pub struct Exchange {
     pub ask: Ask,
     pub answer: Answer,
-    ghost classic: { IsClassicAsk ask } by { IsClassicAsk-prop ask },
+    ghost well_formed: { IsAsk ask } by { IsAsk-prop ask },
 }

@@ -1,5 +1,5 @@
 use crate::counts::Counts;
-use crate::mix::{Data, large_mix};
+use crate::mix::{Mix, large_mix};
 use crate::passes::{
     exchanges_of, read_answers, read_asks, read_messages, split_lines, write_answers, write_asks,
 };
@@ -72,8 +72,8 @@ struct Reading {
 }
 
 // The three ways take turns, so that what else the machine does strikes them alike.
-fn measure_reading<R: AllocGlobal + CpuClock>(rt: &R, data: Data) -> io::Result<Reading> {
-    let mix = large_mix(rt.alloc(), data, BLOCK)?;
+fn measure_reading<R: AllocGlobal + CpuClock>(rt: &R, kind: Mix) -> io::Result<Reading> {
+    let mix = large_mix(rt.alloc(), kind, BLOCK)?;
     let bytes = mix.as_slice();
     let mut reading = Reading {
         split: Fastest::new(),
@@ -109,9 +109,9 @@ fn clear(out: &mut BytesMut) {
     out.truncate(0);
 }
 
-fn measure_exchanging<R: AllocGlobal + CpuClock>(rt: &R) -> io::Result<Exchanging> {
+fn measure_exchanging<R: AllocGlobal + CpuClock>(rt: &R, kind: Mix) -> io::Result<Exchanging> {
     let alloc = rt.alloc();
-    let mix = large_mix(alloc, Data::Mixed, SMALL_BLOCK)?;
+    let mix = large_mix(alloc, kind, SMALL_BLOCK)?;
     let exchanges = exchanges_of(alloc, mix.as_slice())?;
     let mut out = BytesMut::new(alloc);
     let mut exchanging = Exchanging {
@@ -179,10 +179,15 @@ fn print_exchanging<R: Print>(rt: &R, exchanging: &Exchanging) -> io::Result<()>
 
 /// Reads and writes large mixes of requests, and prints the rates: each of the fastest pass, in processor time.
 pub fn print_measures<R: AllocGlobal + Print + CpuClock>(rt: &R) -> io::Result<()> {
-    let mixed = measure_reading(rt, Data::Mixed)?;
+    let mixed = measure_reading(rt, Mix::Mixed)?;
     print_reading(rt, "requests with some data of 1 KiB", &mixed)?;
-    let short = measure_reading(rt, Data::Short)?;
+    let short = measure_reading(rt, Mix::Short)?;
     print_reading(rt, "requests with short data alone", &short)?;
-    let exchanging = measure_exchanging(rt)?;
+    let meta = measure_reading(rt, Mix::Meta)?;
+    print_reading(rt, "meta requests with some data of 1 KiB", &meta)?;
+    let exchanging = measure_exchanging(rt, Mix::Mixed)?;
+    print_exchanging(rt, &exchanging)?;
+    println!(rt; "the same of the meta dialect")?;
+    let exchanging = measure_exchanging(rt, Mix::Meta)?;
     print_exchanging(rt, &exchanging)
 }

@@ -1,4 +1,4 @@
-ghost use Rattle.text_requests.specs.Message.{IsReadFrom, Begins};
+ghost use Rattle.client_requests.specs.Message.{IsReadFrom, Begins};
 ghost use Rattle.request_parts.specs.Message.{Refusal};
 
 use crate::answering::answer_to;
@@ -52,7 +52,7 @@ fn behind_refused(bytes: &[u8], why: Why, used: usize, skip: Skip) -> &[u8]
 fn behind_request<'a>(bytes: &'a [u8], request: &Request) -> &'a [u8]
     requires { IsReadFrom bytes.now request.now }
 {
-    &bytes[request.used..]
+    &bytes[request.used()..]
 }
 
 /// Reads all messages of the bytes, and makes no asks.

@@ -1,20 +1,19 @@
-use crate::mix::small_mix;
+use crate::mix::{small_meta_mix, small_mix};
 use crate::passes::{exchanges_of, read_answers, read_asks, write_answers, write_asks};
 use bytes::BytesMut;
 use std::io;
 
-/// Reads and writes the small mix once, and prints what was counted.
-pub fn print_counts<R: AllocGlobal + Print>(rt: &R) -> io::Result<()> {
+// Reads and writes these bytes once, and prints what was counted.
+fn print_counts_of<R: AllocGlobal + Print>(rt: &R, name: &str, bytes: &[u8]) -> io::Result<()> {
     let alloc = rt.alloc();
-    let bytes = small_mix(alloc)?;
-    let counts = read_asks(alloc, bytes.as_slice())?;
-    let exchanges = exchanges_of(alloc, bytes.as_slice())?;
+    let counts = read_asks(alloc, bytes)?;
+    let exchanges = exchanges_of(alloc, bytes)?;
     let mut asks = BytesMut::new(alloc);
     write_asks(exchanges.as_slice(), &mut asks)?;
     let mut answers = BytesMut::new(alloc);
     write_answers(exchanges.as_slice(), &mut answers)?;
     let read = read_answers(alloc, exchanges.as_slice(), answers.as_slice())?;
-    println!(rt; "messages {}", counts.messages)?;
+    println!(rt; "{name} messages {}", counts.messages)?;
     println!(rt; "refused {}", counts.refused)?;
     println!(rt; "own {}", counts.own)?;
     println!(rt; "quiet {}", counts.quiet)?;
@@ -23,4 +22,12 @@ pub fn print_counts<R: AllocGlobal + Print>(rt: &R) -> io::Result<()> {
     println!(rt; "bytes of asks {}", asks.len())?;
     println!(rt; "bytes of answers {}", answers.len())?;
     println!(rt; "answers read {read}")
+}
+
+/// Reads and writes the small mix of each dialect once, and prints what was counted.
+pub fn print_counts<R: AllocGlobal + Print>(rt: &R) -> io::Result<()> {
+    let classic = small_mix(rt.alloc())?;
+    print_counts_of(rt, "classic", classic.as_slice())?;
+    let meta = small_meta_mix(rt.alloc())?;
+    print_counts_of(rt, "meta", meta.as_slice())
 }

@@ -7,17 +7,18 @@ use Rattle.request_parts.specs.declared.own.Own.TheVariants.{Version, Quit, Noop
 use Rattle.request_parts.specs.declared.refusal.Why.{Why}
 use Rattle.request_parts.specs.declared.skip.Skip.{Skip}
 use Rattle.request_parts.specs.declared.skip.Skip.TheVariants.{Nothing, Bytes, ThroughNewline}
-use Rattle.text_requests.specs.declared.command.Read.{Read}
-use Rattle.text_requests.specs.declared.command.Read.TheVariants as reads
-use Rattle.text_requests.specs.declared.command.Request.{Request}
-use Rattle.text_requests.specs.Order.{Order, Retrieval, Storage, Swapping, Deletion, Touching, Counting, OfItself}
-use Rattle.text_requests.specs.Message.{Reads}
-use Rattle.text_requests.specs.Asks.{asks_by}
-use Rattle.text_requests.specs.Grammar.{own_by}
+use Rattle.text_requests.specs.Order.{Retrieval, Storage, Swapping, Deletion, Touching, Counting, OfItself}
+use Rattle.meta_requests.specs.Order as metas
+use Rattle.client_requests.specs.declared.reader.Read.{Read}
+use Rattle.client_requests.specs.declared.reader.Read.TheVariants as reads
+use Rattle.client_requests.specs.declared.request.Request.{Request}
+use Rattle.client_requests.specs.Both.{Order, Classic, Meta, own_by}
+use Rattle.client_requests.specs.Message.{Reads}
+use Rattle.client_requests.specs.Asks.{asks_by}
+use Rattle.client_requests.specs.Stream.{behind_order}
 use Rattle.request_parts.specs.Stream.{Place, Stands, Closed}
-use Rattle.text_requests.specs.Stream.{behind_order}
 use Rattle.text_codec.specs.Held.{held_at, IsReadAt}
-use Rattle.text_codec.specs.Classic.{Whole, LongLine, classic}
+use Rattle.text_codec.specs.TextProtocol.{Whole, LongLine, memcached_text}
 use Rattle.connections.specs.declared.connection.Connection.{Connection}
 use Rattle.connections.specs.Steps.{held_len}
 use Rattle.request_parts.specs.Stream.{behind_own}
@@ -43,25 +44,19 @@ shorter_by old new held rest place at goes within less =
 
 -- a request with an ask is no `quit`: behind it the stream goes on
 pub served_behind : (order : Order) (block rest : List ℕ) (i : ℕ) (ask : Ask) → slice_get (asks_by order block) i ≡ Some ask → behind_order order rest ≡ Stands Nothing rest
-served_behind (OfItself own) block rest i ask e = absurd (cc)
-served_behind (Retrieval exptime with_cas keys) block rest i ask e = refl
-served_behind (Storage kind stored quiet) block rest i ask e = refl
-served_behind (Swapping stored cas quiet) block rest i ask e = refl
-served_behind (Deletion key quiet) block rest i ask e = refl
-served_behind (Touching key exptime quiet) block rest i ask e = refl
-served_behind (Counting up key delta quiet) block rest i ask e = refl
+served_behind (Classic (OfItself own)) block rest i ask e = absurd (cc)
+served_behind (Classic (Retrieval exptime with_cas keys)) block rest i ask e = refl
+served_behind (Classic (Storage kind stored quiet)) block rest i ask e = refl
+served_behind (Classic (Swapping stored cas quiet)) block rest i ask e = refl
+served_behind (Classic (Deletion key quiet)) block rest i ask e = refl
+served_behind (Classic (Touching key exptime quiet)) block rest i ask e = refl
+served_behind (Classic (Counting up key delta quiet)) block rest i ask e = refl
+served_behind (Meta (metas.OfItself own)) block rest i ask e = absurd (cc)
+served_behind (Meta (metas.Asking kind key n flags)) block rest i ask e = refl
 
 -- behind what mcgate itself was asked
 pub own_behind : (order : Order) (rest : List ℕ) → behind_order order rest ≡ behind_own (own_by order) rest
-own_behind (OfItself Version) rest = refl
-own_behind (OfItself Quit) rest = refl
-own_behind (OfItself Noop) rest = refl
-own_behind (Retrieval exptime with_cas keys) rest = refl
-own_behind (Storage kind stored quiet) rest = refl
-own_behind (Swapping stored cas quiet) rest = refl
-own_behind (Deletion key quiet) rest = refl
-own_behind (Touching key exptime quiet) rest = refl
-own_behind (Counting up key delta quiet) rest = refl
+own_behind order rest = refl
 
 -- where something is read, the stream stands before it
 pub read_front : (place : Place) (read : Read) → IsReadAt place read → (read ≡ reads.More → ⊥) → (held : List ℕ) × (place ≡ Stands Nothing held) × Reads held read
@@ -80,7 +75,7 @@ pub long_is_some : reads.TooLong ≡ reads.More → ⊥
 long_is_some e = cc
 
 -- where nothing is read, no message is there
-pub more_stuck : (place : Place) → IsReadAt place reads.More → IsStuck classic place
+pub more_stuck : (place : Place) → IsReadAt place reads.More → IsStuck memcached_text place
 more_stuck (Stands Nothing held) is (Whole message) next r = is.1 message r.0 r.1
 more_stuck (Stands Nothing held) is LongLine next r = is.0 r.0
 more_stuck (Stands (Bytes n) held) is said next r = r

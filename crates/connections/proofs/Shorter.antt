@@ -6,17 +6,17 @@ use Rattle.request_parts.specs.declared.skip.Skip.{Skip}
 use Rattle.request_parts.specs.declared.skip.Skip.TheVariants.{Nothing, Bytes, ThroughNewline}
 use Rattle.request_parts.specs.Stream.{skipped, through_newline}
 use Rattle.request_parts.proofs.Streams.{some_taken, fewer_left}
-use Rattle.text_requests.specs.Grammar.{classic_grammar}
-use Rattle.text_requests.specs.Message.{Message, Begins}
+use Rattle.client_requests.specs.Both.{both_grammar}
+use Rattle.client_requests.specs.Message.{Message, Begins}
 use Rattle.text_codec.specs.Held.{held_at}
 
 -- a message takes a byte at least
 pub takes_some : (bytes : List ℕ) (message : Message) (used : ℕ) → Begins bytes message used → 1 ≤ used
-takes_some = some_taken classic_grammar
+takes_some = some_taken both_grammar
 
 -- so fewer are left
 pub fewer : (held : List ℕ) (message : Message) (used : ℕ) → Begins held message used → length (drop used held) < length held
-fewer = fewer_left classic_grammar
+fewer = fewer_left both_grammar
 
 through_len : (bytes : List ℕ) → length (held_at (through_newline bytes)) ≤ length bytes
 through_len [] = omega arith

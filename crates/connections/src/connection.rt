@@ -3,7 +3,7 @@ ghost use Rattle.request_parts.specs.declared.skip.Skip.TheVariants.{Nothing};
 ghost use Rattle.request_parts.specs.Stream.{Stands, Closed, skipped, extended};
 ghost use Rattle.text_codec.specs.Held.{held_at};
 ghost use Rattle.text_codec.specs.Replies.{refusal_text, long_line_text, shown_text};
-ghost use Rattle.text_codec.specs.Classic.{own_passed};
+ghost use Rattle.text_codec.specs.TextProtocol.{own_passed};
 ghost use Rattle.connections.specs.Steps.{output_of, GoesTo, Shows};
 ghost use Rattle.request_parts.specs.Stream.{behind_own};
 

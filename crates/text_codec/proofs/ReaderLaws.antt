@@ -4,20 +4,20 @@ use Rattle.std.proofs.lemmas.List.{drop-append-le}
 use Rattle.mc_text.proofs.Stays.{too_long_stays}
 use Rattle.request_parts.specs.declared.skip.Skip.TheVariants.{Nothing, Bytes, ThroughNewline}
 use Rattle.request_parts.specs.Stream.{Place, Stands, Closed, extended, skipped}
-use Rattle.text_requests.specs.Stream.{behind}
+use Rattle.client_requests.specs.Stream.{behind}
 use Rattle.request_parts.proofs.Streams.{begins_still, one_message, used_within, behind-append, too_long_begins_nothing}
-use Rattle.text_requests.specs.Grammar.{classic_grammar}
+use Rattle.client_requests.specs.Both.{both_grammar}
 use Rattle.request_parts.proofs.Streams.{skipped-append}
-use Rattle.text_codec.specs.Classic.{Said, Whole, LongLine, ReadsNext, ClassicIsReader}
+use Rattle.text_codec.specs.TextProtocol.{Said, Whole, LongLine, ReadsNext, TextIsReader}
 
 -- there is one next message at most
 one_next : (place : Place) (m n : Said) (p q : Place) → ReadsNext place m p → ReadsNext place n q → (m ≡ n) × (p ≡ q)
 one_next (Stands Nothing held) (Whole m) (Whole n) p q a b =
-    let same = one_message classic_grammar held m n a.0 b.0 a.1 b.1 in
+    let same = one_message both_grammar held m n a.0 b.0 a.1 b.1 in
     let next : behind m (drop a.0 held) ≡ behind n (drop b.0 held) = rw (same.0, same.1) refl in
     (ap Whole same.0, a.2 ∙ next ∙ sym b.2)
-one_next (Stands Nothing held) (Whole m) LongLine p q a b = absurd (too_long_begins_nothing classic_grammar held [] m a.0 b.0 (begins_still classic_grammar held [] m a.0 a.1))
-one_next (Stands Nothing held) LongLine (Whole n) p q a b = absurd (too_long_begins_nothing classic_grammar held [] n b.0 a.0 (begins_still classic_grammar held [] n b.0 b.1))
+one_next (Stands Nothing held) (Whole m) LongLine p q a b = absurd (too_long_begins_nothing both_grammar held [] m a.0 b.0 (begins_still both_grammar held [] m a.0 a.1))
+one_next (Stands Nothing held) LongLine (Whole n) p q a b = absurd (too_long_begins_nothing both_grammar held [] n b.0 a.0 (begins_still both_grammar held [] n b.0 b.1))
 one_next (Stands Nothing held) LongLine LongLine p q a b = (refl, a.1 ∙ sym b.1)
 one_next (Stands (Bytes k) held) m n p q a b = absurd a
 one_next (Stands ThroughNewline held) m n p q a b = absurd a
@@ -26,9 +26,9 @@ one_next Closed m n p q a b = absurd a
 -- what is read stays read when more comes
 next_stays : (place : Place) (m : Said) (p : Place) (more : List ℕ) → ReadsNext place m p → ReadsNext (extended place more) m (extended p more)
 next_stays (Stands Nothing held) (Whole m) p more a =
-    let within = used_within classic_grammar held m a.0 a.1 in
-    let next : behind m (drop a.0 (held ++ more)) ≡ extended (behind m (drop a.0 held)) more = ap (behind m) (drop-append-le a.0 held more within) ∙ behind-append classic_grammar m (drop a.0 held) more in
-    (a.0, begins_still classic_grammar held more m a.0 a.1, ap (λ (q : Place). extended q more) a.2 ∙ sym next)
+    let within = used_within both_grammar held m a.0 a.1 in
+    let next : behind m (drop a.0 (held ++ more)) ≡ extended (behind m (drop a.0 held)) more = ap (behind m) (drop-append-le a.0 held more within) ∙ behind-append both_grammar m (drop a.0 held) more in
+    (a.0, begins_still both_grammar held more m a.0 a.1, ap (λ (q : Place). extended q more) a.2 ∙ sym next)
 next_stays (Stands Nothing held) LongLine p more a = (too_long_stays held more a.0, ap (λ (q : Place). extended q more) a.1)
 next_stays (Stands (Bytes k) held) m p more a = absurd a
 next_stays (Stands ThroughNewline held) m p more a = absurd a
@@ -39,5 +39,5 @@ fed_twice : (place : Place) (a b : List ℕ) → extended (extended place a) b �
 fed_twice (Stands skip held) a b = sym (skipped-append skip (held ++ a) b) ∙ ap (skipped skip) (append_assoc held a b)
 fed_twice Closed a b = refl
 
-pub reader_is : ClassicIsReader
+pub reader_is : TextIsReader
 reader_is = record { one_message = one_next; goes_on = next_stays; fed_append = fed_twice; fed_nothing = refl }

@@ -2,9 +2,9 @@
 use Rattle.std.specs.Prelude.{◌≡◌, ℕ, Bool, true, false, List, []}
 use Rattle.request_parts.specs.declared.skip.Skip.{Skip}
 use Rattle.request_parts.specs.declared.skip.Skip.TheVariants.{Nothing, Bytes, ThroughNewline}
-use Rattle.text_requests.specs.declared.command.Read.{Read}
-use Rattle.text_requests.specs.declared.command.Read.TheVariants as reads
-use Rattle.text_requests.specs.Message.{Reads}
+use Rattle.client_requests.specs.declared.reader.Read.{Read}
+use Rattle.client_requests.specs.declared.reader.Read.TheVariants as reads
+use Rattle.client_requests.specs.Message.{Reads}
 use Rattle.request_parts.specs.Stream.{Place, Stands, Closed}
 
 abbrev pub place_in : Bool → Skip → List ℕ → Place

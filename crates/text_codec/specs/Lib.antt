@@ -1,3 +1,3 @@
 pub mod Replies
 pub mod Held
-pub mod Classic
+pub mod TextProtocol

@@ -1,6 +1,6 @@
-//! The classic dialect of memcached's text protocol, in one place: one client's stream of requests and what it is shown
-//! for them ([`stream`], [`replies`]), and the requests and answers themselves, which are read and written on both sides
-//! of the proxy.
+//! Memcached's text protocol in both its dialects, in one place: one client's stream of requests, mixed as it likes, and what
+//! it is shown for them ([`stream`], [`replies`]), and the requests and answers themselves, which are read and written on
+//! both sides of the proxy.
 //!
 //! | | from a client | to a server | from a server | to a client |
 //! |---|---|---|---|---|
@@ -12,11 +12,12 @@ pub mod laws;
 pub mod replies;
 pub mod stream;
 
+pub use client_requests::{Asks, Read, Request, read_request, write_ask};
 pub use mc_text::{Line, line};
 pub use replies::{ends_message, write_long_line, write_own, write_part, write_refusal};
+pub use request_parts::{Own, Skip, Why};
 pub use stream::TextStream;
 pub use text_answers::{AnswerRead, read_answer, write_answer, write_end, write_value};
-pub use text_requests::{Asks, Own, Read, Request, Skip, Why, read_request, write_ask};
 
 #[cfg(test)]
 mod tests;

@@ -1,20 +1,52 @@
 ghost use Rattle.std.specs.Prelude.{◌≡◌, ◌++◌, ◌||◌, [], take, length, OnOk, OnErr, if◌then◌else◌};
 ghost use Rattle.text_answers.specs.Spelling.{value_of, end_text};
-ghost use Rattle.text_codec.specs.Replies.{is_fetch, is_failure, part_text, shown_text, own_answer, refusal_text, long_line_text};
+ghost use Rattle.text_codec.specs.Replies.{shows_values, hidden_code, hidden_answer, is_hidden, is_failure, part_text, shown_text, own_answer, refusal_text, long_line_text};
 
 use bytes::BytesMut;
-use mc_types::{Answer, Ask, Op};
+use mc_types::{Answer, Ask, Code, Dialect, Op};
+use request_parts::{Own, Why};
 use std::alloc::AllocError;
 use text_answers::{write_answer, write_end, write_value};
-use text_requests::{Own, Why};
 
-fn is_fetch(op: Op) -> bool
-    ensures { result ≡ is_fetch op }
+// whether the reply is a value, and has `END` behind the last key
+fn shows_values(dialect: Dialect, op: Op) -> bool
+    ensures { result ≡ shows_values dialect op }
 {
-    match op {
-        Op::Get | Op::Gat => true,
+    match (dialect, op) {
+        (Dialect::Classic, Op::Get) | (Dialect::Classic, Op::Gat) => true,
         _ => false,
     }
+}
+
+// whether `q` hides this code of an answer
+fn hidden_code(op: Op, code: Code) -> bool
+    ensures { result ≡ hidden_code op code }
+{
+    match op {
+        Op::Get | Op::Gat => code == Code::En,
+        Op::Set | Op::Add | Op::Replace | Op::Append | Op::Prepend | Op::Cas => code == Code::Hd,
+        Op::Delete | Op::Incr | Op::Decr => code == Code::Hd || code == Code::Nf,
+        Op::Touch => false,
+    }
+}
+
+fn hidden_answer(op: Op, reply: &Answer) -> bool
+    ensures { result ≡ hidden_answer op reply.now }
+{
+    match reply {
+        Answer::Meta(code, _) => hidden_code(op, *code),
+        _ => false,
+    }
+}
+
+fn is_hidden(quiet: bool, ask: &Ask, reply: &Answer) -> bool
+    ensures { result ≡ is_hidden quiet ask.now reply.now }
+{
+    quiet
+        && match ask.dialect {
+            Dialect::Classic => true,
+            Dialect::Meta => hidden_answer(ask.op, reply),
+        }
 }
 
 fn is_failure(reply: &Answer) -> bool
@@ -38,9 +70,12 @@ fn put_fetched(last: bool, ask: &Ask, reply: &Answer, out: &mut BytesMut) -> Res
     if last { write_end(out) } else { Ok(()) }
 }
 
-/// Appends what the reply to one key of a message shows: of a get its value, and `END` behind the last key; an error
-/// line stands in place of `END`; of the other operations the answer. Nothing is appended where the client wants no
-/// answer.
+/// Appends what the reply to one key of a message shows: of a classic get its value, and `END` behind the last key; an
+/// error line stands in place of `END`; of the other operations the answer, that of a meta command with its return tokens
+/// in the order of the client's flags.
+///
+/// Where the client is quiet, a classic command shows nothing, and a meta one hides what it expects: `EN` of `mg`, `HD` of
+/// `ms`, `HD` and `NF` of `md` and `ma`. Error lines of meta commands are always shown.
 ///
 /// The only error is want of memory, which leaves the buffer as it was.
 ///
@@ -55,10 +90,10 @@ pub fn write_part(
     ensures ok { OnOk result (out.new.items ≡ out.old.items ++ shown_text quiet last ask.now reply.now) }
     ensures err { OnErr result (out.new.items ≡ out.old.items) }
 {
-    if quiet {
+    if is_hidden(quiet, ask, reply) {
         return Ok(());
     }
-    if !is_fetch(ask.op) || is_failure(reply) {
+    if !shows_values(ask.dialect, ask.op) || is_failure(reply) {
         return write_answer(ask, reply, out);
     }
     let len = out.len();

@@ -4,10 +4,11 @@ ghost use Rattle.request_parts.specs.Stream.{Stands, Closed, skipped, extended};
 ghost use Rattle.text_codec.specs.Held.{held_at, HoldsNone, IsReadAt};
 
 use bytes::BytesMut;
+use client_requests::{Read, read_request};
 use mc_text::search::first_byte;
+use request_parts::Skip;
 use std::alloc::{AllocError, Global};
 use std::marker::Model;
-use text_requests::{Read, Skip, read_request};
 
 /// The bytes of one client that were not yet done: what isn't a whole message stays until more comes.
 #[derive(Drop)]

@@ -1,6 +1,6 @@
 use super::*;
 use bytes::BytesMut;
-use mc_types::{Answer, Ask, Body, Dialect, ErrorText, Key, Op, OwnText, Tokens};
+use mc_types::{Answer, Ask, Body, Code, Dialect, ErrorText, Fields, Key, Op, OwnText, Tokens};
 use std::alloc::{AllocError, Global};
 use std::test::Fail;
 
@@ -14,9 +14,9 @@ fn given(alloc: Global, bytes: &[u8]) -> Result<TextStream, AllocError> {
 // How many bytes the request at the front takes, which is then done; 0 where there is none.
 fn take_request(stream: &mut TextStream) -> usize {
     match stream.read() {
-        Read::Request(request) if request.used <= stream.held().len() => {
-            stream.pass_request(request.used);
-            request.used
+        Read::Request(request) if request.used() <= stream.held().len() => {
+            stream.pass_request(request.used());
+            request.used()
         }
         _ => 0,
     }
@@ -97,6 +97,13 @@ fn requests_byte_by_byte(rt: HostRuntime) -> Result<(), Fail> {
         b"decr a 1 noreply\r\n".as_slice(),
         b"version\r\n".as_slice(),
         b"quit\r\n".as_slice(),
+        b"mg a\r\n".as_slice(),
+        b"mg a c f k q s t v Oxy T30\r\n".as_slice(),
+        b"ms a 3 c k q C1 F2 Oz T-1 MS\r\n\r\n\n\r\n".as_slice(),
+        b"ms a 0\r\n\r\n".as_slice(),
+        b"md a q k C9 Ox\n".as_slice(),
+        b"ma a v D5 M-\r\n".as_slice(),
+        b"mn\r\n".as_slice(),
     ];
     for bytes in requests {
         assert!(rt; is_read_at_its_end(rt.alloc(), bytes)?);
@@ -131,14 +138,13 @@ fn large_data_are_passed_over(alloc: Global) -> Result<bool, AllocError> {
     )
 }
 
-// A length that is no number says nothing of what follows: the next line is a message, of an unknown word.
+// A length that is no number says nothing of what follows: the next line is a message.
 fn nothing_is_passed_over(alloc: Global) -> Result<bool, AllocError> {
     let mut stream = given(alloc, b"set a 0 0 4294967296\r\nmn\r\n")?;
-    let first = take_refused(alloc, &mut stream)?;
-    let second = take_refused(alloc, &mut stream)?;
+    let out = take_refused(alloc, &mut stream)?;
     Ok(
-        first.as_slice() == b"CLIENT_ERROR bad number\r\n".as_slice()
-            && second.as_slice() == b"ERROR\r\n".as_slice()
+        out.as_slice() == b"CLIENT_ERROR bad number\r\n".as_slice()
+            && take_request(&mut stream) == 4
             && waits(&stream)
             && stream.held().is_empty()
             && !stream.is_closed(),
@@ -231,7 +237,8 @@ fn answers_of_its_own(rt: HostRuntime) -> Result<(), Fail> {
     let mut out = BytesMut::new(rt.alloc());
     write_own(Own::Version, &mut out)?;
     write_own(Own::Quit, &mut out)?;
-    assert_eq!(rt; out.as_slice(), b"VERSION mcgate-1\r\n".as_slice());
+    write_own(Own::Noop, &mut out)?;
+    assert_eq!(rt; out.as_slice(), b"VERSION mcgate-1\r\nMN\r\n".as_slice());
     Ok(())
 }
 
@@ -301,5 +308,230 @@ fn nothing_is_shown_where_no_answer_is_wanted(rt: HostRuntime) -> Result<(), Fai
     assert!(rt; out.is_empty());
     write_part(false, true, &delete, &Answer::NotFound, &mut out)?;
     assert_eq!(rt; out.as_slice(), b"NOT_FOUND\r\n".as_slice());
+    Ok(())
+}
+
+fn mixed() -> &'static [u8] {
+    b"get a b\r\nmg a v q\r\nms a 3 T0\r\nx\r\n\r\nmg a z\r\nset b 0 0 1 noreply\r\ny\r\nmn\r\nms a 1\r\nxyz\r\nversion\r\nmd b q\r\nquit\r\n".as_slice()
+}
+
+// A letter for each message that is held: `c` of a classic request, `m` of a meta one, `r` of a refused one. They are done.
+fn take_kinds(stream: &mut TextStream, kinds: &mut BytesMut) -> Result<(), AllocError> {
+    for _ in 0..stream.held().len() {
+        match stream.read() {
+            Read::Request(request) if request.used() <= stream.held().len() => {
+                kinds.extend_from_slice(match request {
+                    Request::Classic(_) => b"c".as_slice(),
+                    Request::Meta(_) => b"m".as_slice(),
+                })?;
+                stream.pass_request(request.used());
+            }
+            Read::Refused { used, skip, .. } if used <= stream.held().len() => {
+                kinds.extend_from_slice(b"r")?;
+                stream.pass_refused(used, skip);
+            }
+            _ => return Ok(()),
+        }
+    }
+    Ok(())
+}
+
+fn kinds_in_two(alloc: Global, first: &[u8], rest: &[u8]) -> Result<BytesMut, AllocError> {
+    let mut stream = TextStream::new(alloc);
+    let mut kinds = BytesMut::new(alloc);
+    stream.feed(first)?;
+    take_kinds(&mut stream, &mut kinds)?;
+    stream.feed(rest)?;
+    take_kinds(&mut stream, &mut kinds)?;
+    Ok(kinds)
+}
+
+// Both dialects on one stream, with refusals and data blocks between, cut at each byte.
+#[test]
+fn mixed_dialects_cut_anywhere(rt: HostRuntime) -> Result<(), Fail> {
+    let bytes = mixed();
+    for at in 0..bytes.len() {
+        let kinds = kinds_in_two(rt.alloc(), &bytes[..at], &bytes[at..])?;
+        assert_eq!(rt; kinds.as_slice(), b"cmmrcmrcmc".as_slice());
+    }
+    Ok(())
+}
+
+#[test]
+fn flag_not_served(rt: HostRuntime) -> Result<(), Fail> {
+    let mut stream = given(rt.alloc(), b"md a I\r\n")?;
+    let out = take_refused(rt.alloc(), &mut stream)?;
+    assert_eq!(rt;
+        out.as_slice(),
+        b"CLIENT_ERROR flag not served\r\n".as_slice()
+    );
+    assert!(rt; stream.held().is_empty() && waits(&stream));
+    Ok(())
+}
+
+fn drop_ask(_ask: Ask) {}
+
+fn drop_answer(_answer: Answer) {}
+
+// What the client of this one request is shown for its answer.
+fn shown(alloc: Global, bytes: &[u8], answer: &Answer) -> Result<BytesMut, AllocError> {
+    let mut out = BytesMut::new(alloc);
+    let Read::Request(request) = read_request(bytes) else {
+        return Ok(out);
+    };
+    let mut asks = request.walk();
+    if let Some(ask) = asks.next(alloc, bytes)? {
+        let written = write_part(request.quiet(), true, &ask, answer, &mut out);
+        drop_ask(ask);
+        written?;
+    }
+    Ok(out)
+}
+
+fn shows(alloc: Global, bytes: &[u8], answer: Answer, want: &[u8]) -> Result<bool, AllocError> {
+    let out = shown(alloc, bytes, &answer);
+    drop_answer(answer);
+    Ok(out?.as_slice() == want)
+}
+
+// An answer with this code and nothing beside it.
+fn coded(code: Code) -> Answer {
+    Answer::Meta(code, Fields::none())
+}
+
+fn valued(alloc: Global, data: &[u8]) -> Result<Answer, AllocError> {
+    let mut fields = Fields::none();
+    fields.body = Some(Body::from_slice(alloc, data)?);
+    Ok(Answer::Meta(Code::Va, fields))
+}
+
+// The code of each answer that `q` hides shows nothing, each other one its line.
+fn hides(alloc: Global, bytes: &[u8], code: Code) -> Result<bool, AllocError> {
+    shows(alloc, bytes, coded(code), b"".as_slice())
+}
+
+#[test]
+fn hidden_by_q(rt: HostRuntime) -> Result<(), Fail> {
+    for (bytes, code, want) in [
+        (b"mg a q\r\n".as_slice(), Code::En, true),
+        (b"mg a q T5\r\n".as_slice(), Code::En, true),
+        (b"mg a q\r\n".as_slice(), Code::Hd, false),
+        (b"mg a\r\n".as_slice(), Code::En, false),
+        (b"ms a 1 q\r\nx\r\n".as_slice(), Code::Hd, true),
+        (b"ms a 1 q ME\r\nx\r\n".as_slice(), Code::Ns, false),
+        (b"ms a 1 q C1\r\nx\r\n".as_slice(), Code::Hd, true),
+        (b"ms a 1 q C1\r\nx\r\n".as_slice(), Code::Ex, false),
+        (b"ms a 1 q C1\r\nx\r\n".as_slice(), Code::Nf, false),
+        (b"md a q\r\n".as_slice(), Code::Hd, true),
+        (b"md a q\r\n".as_slice(), Code::Nf, true),
+        (b"md a q C1\r\n".as_slice(), Code::Ex, false),
+        (b"md a\r\n".as_slice(), Code::Nf, false),
+        (b"ma a q\r\n".as_slice(), Code::Hd, true),
+        (b"ma a q MD\r\n".as_slice(), Code::Nf, true),
+        (b"ma a q\r\n".as_slice(), Code::Ns, false),
+        (b"ma a q C1\r\n".as_slice(), Code::Ex, false),
+        (b"ma a\r\n".as_slice(), Code::Hd, false),
+    ] {
+        assert_eq!(rt; hides(rt.alloc(), bytes, code)?, want);
+    }
+    Ok(())
+}
+
+#[test]
+fn shown_in_spite_of_q(rt: HostRuntime) -> Result<(), Fail> {
+    let counted = valued(rt.alloc(), b"8")?;
+    assert!(rt; shows(rt.alloc(), b"ma a q v\r\n", counted, b"VA 1\r\n8\r\n")?);
+    assert!(rt; shows(rt.alloc(), b"md a q\r\n", Answer::Error, b"ERROR\r\n")?);
+    let failed = Answer::ServerError(ErrorText::own(OwnText::CallFailed));
+    assert!(rt;
+        shows(
+            rt.alloc(),
+            b"mg a q\r\n",
+            failed,
+            b"SERVER_ERROR call failed\r\n"
+        )?
+    );
+    Ok(())
+}
+
+fn hit_fields(alloc: Global) -> Result<Fields, AllocError> {
+    let mut fields = Fields::none();
+    fields.body = Some(Body::from_slice(alloc, b"hi")?);
+    fields.cas = Some(1);
+    fields.flags = Some(5);
+    fields.size = Some(2);
+    Ok(fields)
+}
+
+// Return tokens come in the order of the client's flags; `k` and `O` stand on each meta line.
+#[test]
+fn meta_flags_in_order(rt: HostRuntime) -> Result<(), Fail> {
+    let hit = Answer::Meta(Code::Va, hit_fields(rt.alloc())?);
+    assert!(rt;
+        shows(
+            rt.alloc(),
+            b"mg a s v f c k O7\r\n",
+            hit,
+            b"VA 2 s2 f5 c1 ka O7\r\nhi\r\n"
+        )?
+    );
+    assert!(rt;
+        shows(
+            rt.alloc(),
+            b"mg b O7 s k v\r\n",
+            coded(Code::En),
+            b"EN O7 kb\r\n"
+        )?
+    );
+    assert!(rt;
+        shows(
+            rt.alloc(),
+            b"md b k Ox\r\n",
+            coded(Code::Nf),
+            b"NF kb Ox\r\n"
+        )?
+    );
+    Ok(())
+}
+
+// The code of a meta answer, its cas number and its length.
+type Told = (Code, Option<u64>, usize);
+
+fn told(answer: Answer, used: usize) -> Option<Told> {
+    match &answer {
+        Answer::Meta(code, fields) => Some((*code, fields.cas, used)),
+        _ => None,
+    }
+}
+
+fn read_told(alloc: Global, ask: &Ask, bytes: &[u8]) -> Result<Option<Told>, AllocError> {
+    Ok(match read_answer(alloc, ask, bytes)? {
+        AnswerRead::Answer(answer, used) => told(answer, used),
+        AnswerRead::More | AnswerRead::Foreign => None,
+    })
+}
+
+// What is read of these bytes as the answer to the ask of `ms a 1 c ME`.
+fn read_meta(alloc: Global, bytes: &[u8]) -> Result<Option<Told>, AllocError> {
+    let asked = b"ms a 1 c ME\r\nx\r\n".as_slice();
+    let Read::Request(request) = read_request(asked) else {
+        return Ok(None);
+    };
+    let mut asks = request.walk();
+    let Some(ask) = asks.next(alloc, asked)? else {
+        return Ok(None);
+    };
+    let read = read_told(alloc, &ask, bytes);
+    drop_ask(ask);
+    read
+}
+
+#[test]
+fn meta_answers_read(rt: HostRuntime) -> Result<(), Fail> {
+    let alloc = rt.alloc();
+    assert!(rt; read_meta(alloc, b"NS c0\r\n")? == Some((Code::Ns, None, 7)));
+    assert!(rt; read_meta(alloc, b"NS\r\n")? == Some((Code::Ns, None, 4)));
+    assert!(rt; read_meta(alloc, b"HD c4\r\n")? == Some((Code::Hd, Some(4), 7)));
+    assert!(rt; read_meta(alloc, b"HD\r\n")?.is_none());
     Ok(())
 }

@@ -1,7 +1,7 @@
 use Rattle.std.proofs.Common.{◌∙◌, sym, subst}
 use Rattle.request_parts.proofs.Fronts.{nothing_begins}
 use Rattle.client_requests.specs.Both.{both_grammar}
-use Rattle.client_requests.specs.Reading.{IsMeant}
+use Rattle.client_requests.specs.Message.{IsMeant}
 use Rattle.client_requests.proofs.Lifting.{means_classic, means_meta, reads_meant}
 use Rattle.client_requests.proofs.reader.read_request.Goals as goal
 

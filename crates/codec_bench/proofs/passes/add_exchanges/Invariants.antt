@@ -1,4 +1,4 @@
-use Rattle.text_requests.specs.Asks.{IsWalk}
+use Rattle.client_requests.specs.Asks.{IsWalk}
 use Rattle.codec_bench.proofs.passes.add_exchanges.Given as goal
 
 abbrev pub invariant-loop : goal.invariant-loop

@@ -1,10 +1,10 @@
 use Rattle.request_parts.specs.Message.{Refusal}
 use Rattle.request_parts.proofs.Streams.{used_within}
-use Rattle.text_requests.specs.Grammar.{classic_grammar}
+use Rattle.client_requests.specs.Both.{both_grammar}
 use Rattle.codec_bench.proofs.passes.behind_refused.Goals as goal
 
 pub slice_bounds-passed-start : goal.slice_bounds-passed-start
-slice_bounds-passed-start c = used_within classic_grammar c.args.bytes.now (Refusal c.args.why c.args.skip) c.args.used c.requires
+slice_bounds-passed-start c = used_within both_grammar c.args.bytes.now (Refusal c.args.why c.args.skip) c.args.used c.requires
 
 pub slice_bounds-passed-count : goal.slice_bounds-passed-count
-slice_bounds-passed-count c = used_within classic_grammar c.args.bytes.now (Refusal c.args.why c.args.skip) c.args.used c.requires
+slice_bounds-passed-count c = used_within both_grammar c.args.bytes.now (Refusal c.args.why c.args.skip) c.args.used c.requires

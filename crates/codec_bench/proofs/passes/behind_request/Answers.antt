@@ -1,10 +1,10 @@
-use Rattle.text_requests.specs.Message.{message_in}
+use Rattle.client_requests.specs.Message.{message_in, used_of}
 use Rattle.request_parts.proofs.Streams.{used_within}
-use Rattle.text_requests.specs.Grammar.{classic_grammar}
+use Rattle.client_requests.specs.Both.{both_grammar}
 use Rattle.codec_bench.proofs.passes.behind_request.Goals as goal
 
 pub slice_bounds-result-start : goal.slice_bounds-result-start
-slice_bounds-result-start c = used_within classic_grammar c.args.bytes.now (message_in c.args.bytes.now c.args.request.now) c.args.request.now.used c.requires.begins
+slice_bounds-result-start c = used_within both_grammar c.args.bytes.now (message_in c.args.bytes.now c.args.request.now) (used_of c.args.request.now) c.requires.begins
 
 pub slice_bounds-result-count : goal.slice_bounds-result-count
-slice_bounds-result-count c = used_within classic_grammar c.args.bytes.now (message_in c.args.bytes.now c.args.request.now) c.args.request.now.used c.requires.begins
+slice_bounds-result-count c = used_within both_grammar c.args.bytes.now (message_in c.args.bytes.now c.args.request.now) (used_of c.args.request.now) c.requires.begins

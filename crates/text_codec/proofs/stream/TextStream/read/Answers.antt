@@ -1,7 +1,7 @@
 use Rattle.std.proofs.Common.{◌≡◌, refl, sym, subst, ◌∙◌}
 use Rattle.request_parts.specs.declared.skip.Skip.TheVariants.{Nothing}
 use Rattle.request_parts.specs.Stream.{Place, Stands}
-use Rattle.text_requests.specs.Message.{Reads}
+use Rattle.client_requests.specs.Message.{Reads}
 use Rattle.text_codec.specs.Held.{IsReadAt}
 use Rattle.text_codec.proofs.stream.TextStream.read.Goals as goal
 

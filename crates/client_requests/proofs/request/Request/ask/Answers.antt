@@ -1,0 +1,11 @@
+use Rattle.client_requests.proofs.RequestLaws.{classic_read, meta_read, ok_as}
+use Rattle.client_requests.proofs.request.Request.ask.Goals as goal
+
+pub ask-requires-clause-read : goal.ask-requires-clause-read
+ask-requires-clause-read c = classic_read c.args.bytes.now c.in-Classic.request (rw c.in-Classic.is at c.requires.read)
+
+pub ask-requires-in-Meta-clause-read : goal.ask-requires-in-Meta-clause-read
+ask-requires-in-Meta-clause-read c = meta_read c.args.bytes.now c.in-Meta.request (rw c.in-Meta.is at c.requires.read)
+
+pub returns-in-Classic-clause-ask : goal.returns-in-Classic-clause-ask
+returns-in-Classic-clause-ask c = ok_as _ c.ask.ensures.ask
