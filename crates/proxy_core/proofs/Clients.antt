@@ -1,0 +1,285 @@
+-- A step of one client is a step of the core.
+use Rattle.std.proofs.Common.{◌≡◌, ℕ, Bool, true, false, cond, List, [], ◌∷◌, map, Option, Some, None, option_map, ◌||◌, slice_index_or, slice_set, zero, suc, refl, sym, ap, ◌∙◌, subst, ◌<◌, nat_eq}
+use Rattle.std.proofs.lemmas.Bool.{eqb-true, eq-eqb}
+use Rattle.std.specs.Prelude.{IsSome, ◌≢◌, MatchBool}
+use Rattle.std.specs.List.{list_any}
+use Rattle.std.specs.Map as assoc
+use Rattle.slab.proofs.SlabLemmas.{Updates-with_value}
+use Rattle.slab.specs.Slab as slab
+use Rattle.indexmap.specs.IndexMap as map
+use Rattle.mc_runs.specs.Overlap as log
+use Rattle.mc_runs.specs.Overlap.{Slot, Owner, Resets, start_front, fed_front}
+use Rattle.mc_runs.proofs.OverlapSteps.{walks_lead}
+use Rattle.request_parts.specs.Stream.{extended}
+use Rattle.route_tree.specs.At.{tree_at}
+use Rattle.route_tree.specs.Word.{tree_words}
+use Rattle.text_codec.proofs.ReaderLaws.{reader_is}
+use Rattle.proxy_core.specs.declared.client.Client.{Client}
+use Rattle.proxy_core.specs.declared.command.Command.{Command}
+use Rattle.proxy_core.specs.declared.proxy.Core.{Core}
+use Rattle.proxy_core.specs.Clients.{IsNew, Takes, TakesPiece, LosesOutput}
+use Rattle.proxy_core.specs.Faults.{has_commands}
+use Rattle.proxy_core.specs.Standing.{dialect, Alone, client_at, command_at, Beside, front_by, output_by, dropped_by, owner_by, LeftBy, standing_of, AreSlots, IsAtFront, IsQueue, ticket_by, Fits, GoesByOne, Opens, Feeds, FeedsOpen, Gives, Closes}
+
+-- one client's place changed, and nothing else of the core but the room for clients
+pub record Turns (old new : Core) (client : ℕ) (a b : Option Client) : Type 0 where
+  pub was : client_at old client ≡ a
+  pub is : client_at new client ≡ b
+  pub others : (c : ℕ) → nat_eq client c ≡ false → client_at new c ≡ client_at old c
+  pub commands : new.commands ≡ old.commands
+  pub tree : new.tree ≡ old.tree
+  pub number : new.number ≡ old.number
+
+-- a fact of each client, by whether it is the one
+by_client : (client c : ℕ) (A : ℕ → Type 0) → A client → (nat_eq client c ≡ false → A c) → A c
+by_client client c A here there =
+    (elim (nat_eq client c) as (λ b. nat_eq client c ≡ b → A c) [
+      | true ↦ λ same. subst A (eqb-true client c same) here
+      | false ↦ λ differs. there differs
+    ]) refl
+
+module _ (old new : Core) (client : ℕ) (a b : Option Client) (t : Turns old new client a b) where
+  -- what a client stands for, where an entry changes that of one
+  changed : {A : Type 0} (f : Option Client → A) (g : A → A) → f b ≡ g (f a) → (c : ℕ) → f (client_at new c) ≡ cond (nat_eq client c) (g (f (client_at old c))) (f (client_at old c))
+  changed f g e c =
+      (elim (nat_eq client c) as (λ z. nat_eq client c ≡ z → f (client_at new c) ≡ cond z (g (f (client_at old c))) (f (client_at old c))) [
+        | true ↦ λ same. subst (λ d. f (client_at new d) ≡ g (f (client_at old d))) (eqb-true client c same) (ap f t.is ∙ e ∙ ap (λ o. g (f o)) (sym t.was))
+        | false ↦ λ differs. ap f (t.others c differs)
+      ]) refl
+
+  -- what stays of each client
+  stays : {A : Type 0} (f : Option Client → A) → f b ≡ f a → (c : ℕ) → f (client_at new c) ≡ f (client_at old c)
+  stays f e c = by_client client c (λ d. f (client_at new d) ≡ f (client_at old d)) (ap f t.is ∙ e ∙ ap f (sym t.was)) (λ differs. ap f (t.others c differs))
+
+  command_stays : (n : ℕ) → command_at new n ≡ command_at old n
+  command_stays n = ap (λ m. map.get nat_eq m n) t.commands
+
+  -- the same stands beside it, where the client's commands in the log are still those that it keeps
+  still_fits : (beside : Beside) → Fits old beside → ((slots : List (Slot dialect)) → IsQueue a slots → IsQueue b slots) → Fits new beside
+  still_fits beside fits queue =
+      record {
+        queues = λ c. by_client client c (λ d. IsQueue (client_at new d) (beside.queue d))
+            (subst (λ o. IsQueue o (beside.queue client)) (sym t.is) (queue (beside.queue client) (subst (λ o. IsQueue o (beside.queue client)) t.was (fits.queues client))))
+            (λ differs. subst (λ o. IsQueue o (beside.queue c)) (sym (t.others c differs)) (fits.queues c));
+        tickets = λ s n. fits.tickets s n ∙ ap (λ o. ticket_by o n s) (sym (command_stays n));
+        unseen = λ n lt. fits.unseen n (subst (λ m. m < n) t.number lt);
+        trees = λ n key lt. fits.trees n key (subst (λ m. m < n) t.number lt) ∙ ap (λ r. tree_at r key) (sym t.tree);
+      }
+
+  owners : (n : ℕ) → option_map owner_by (command_at new n) ≡ option_map owner_by (command_at old n)
+  owners n = ap (option_map owner_by) (command_stays n)
+
+-- where a client's commands stay, and where the starting of them stands goes on by bytes at most
+same_slots : (x y : Client) (slots : List (Slot dialect)) → y.queue.items ≡ x.queue.items → AreSlots x.queue.items slots → AreSlots y.queue.items slots
+same_slots x y slots e h = subst (λ l. AreSlots l slots) (sym e) h
+
+fed_at_front : (x y : Client) (bytes : List ℕ) (slots : List (Slot dialect)) → TakesPiece x bytes y → IsAtFront x slots → IsAtFront y slots
+fed_at_front x y bytes [] t h = t.waits ∙ h
+fed_at_front x y bytes (slot ∷ []) t h = λ waits.
+    let a = h (sym t.waits ∙ waits) in (a.0, a.1, a.2 ∙ sym t.index, (extended a.3.0 bytes, subst (λ p. dialect.Reads p slot.message (extended a.3.0 bytes)) (sym t.stream) (reader_is.goes_on x.stream slot.message a.3.0 bytes a.3.1)))
+fed_at_front x y bytes (slot ∷ next ∷ slots) t h = fed_at_front x y bytes (next ∷ slots) t h
+
+-- a piece was taken
+pub feeds : (old new : Core) (client : ℕ) (x y : Client) (bytes : List ℕ) → Turns old new client (Some x) (Some y) → x.dropped ≡ false → TakesPiece x bytes y → GoesByOne old (log.Feeds client bytes) new
+feeds old new client x y bytes t served p = λ beside fits. (
+  beside,
+  log.Feeds client bytes ∷ [],
+  still_fits old new client (Some x) (Some y) t beside fits (λ slots q. (same_slots x y slots p.queue q.0, fed_at_front x y bytes slots p q.1)),
+  record { at = refl; holds = refl; found = refl; turn = refl },
+  refl,
+  walks_lead (tree_words beside.at) Alone (standing_of old beside) (standing_of new beside) (log.Feeds client bytes ∷ []) (record {
+    may = (ap dropped_by t.was ∙ served, tt);
+    like = record {
+      front = changed old new client (Some x) (Some y) t front_by (λ f. fed_front f bytes) (λ i. record { place = p.stream i; index = p.index i; waits = p.waits i });
+      queue = λ c. refl;
+      output = stays old new client (Some x) (Some y) t output_by p.output;
+      dropped = stays old new client (Some x) (Some y) t dropped_by p.dropped;
+      number = t.number;
+      owner = owners old new client (Some x) (Some y) t;
+      left = λ n o e calls reply from l. subst (λ m. LeftBy m calls reply from) (command_stays old new client (Some x) (Some y) t n) l;
+      out = λ s. refl;
+      holds = λ s k. refl;
+      found = λ n o e. refl;
+      turn = refl;
+    };
+  }),
+)
+
+same_at_front : (x y : Client) (slots : List (Slot dialect)) → LosesOutput x y → IsAtFront x slots → IsAtFront y slots
+same_at_front x y [] t h = t.waits ∙ h
+same_at_front x y (slot ∷ []) t h = λ waits. let a = h (sym t.waits ∙ waits) in (a.0, a.1, a.2 ∙ sym t.index, (a.3.0, subst (λ p. dialect.Reads p slot.message a.3.0) (sym t.stream) a.3.1))
+same_at_front x y (slot ∷ next ∷ slots) t h = same_at_front x y (next ∷ slots) t h
+
+-- its output was taken
+pub gives : (old new : Core) (client : ℕ) (x y : Client) (bytes : List ℕ) → Turns old new client (Some x) (Some y) → bytes ≡ x.output.items → LosesOutput x y → Gives old client bytes new
+gives old new client x y bytes t taken p = (
+  taken ∙ ap output_by (sym t.was),
+  λ beside fits. (
+    beside,
+    log.Gives client bytes ∷ [],
+    still_fits old new client (Some x) (Some y) t beside fits (λ slots q. (same_slots x y slots p.queue q.0, same_at_front x y slots p q.1)),
+    record { at = refl; holds = refl; found = refl; turn = refl },
+    refl,
+    walks_lead (tree_words beside.at) Alone (standing_of old beside) (standing_of new beside) (log.Gives client bytes ∷ []) (record {
+      may = (taken ∙ ap output_by (sym t.was), tt);
+      like = record {
+        front = stays old new client (Some x) (Some y) t front_by (λ i. record { place = p.stream i; index = p.index i; waits = p.waits i });
+        queue = λ c. refl;
+        output = changed old new client (Some x) (Some y) t output_by (λ l. []) p.output;
+        dropped = stays old new client (Some x) (Some y) t dropped_by p.dropped;
+        number = t.number;
+        owner = owners old new client (Some x) (Some y) t;
+        left = λ n o e calls reply from l. subst (λ m. LeftBy m calls reply from) (command_stays old new client (Some x) (Some y) t n) l;
+        out = λ s. refl;
+        holds = λ s k. refl;
+        found = λ n o e. refl;
+        turn = refl;
+      };
+    }),
+  ),
+)
+
+new_front : (x : Client) → IsNew x → front_by (Some x) ≡ start_front
+new_front x n i = record { place = n.stream i; index = n.index i; waits = n.waits i }
+
+new_queue : (x : Client) → IsNew x → (slots : List (Slot dialect)) → IsQueue None slots → IsQueue (Some x) slots
+new_queue x n [] e = (subst (λ l. AreSlots l []) (sym n.queue) tt, n.waits)
+new_queue x n (slot ∷ slots) e = absurd cc
+
+-- a new client has a place that was free
+pub opens : (old new : Core) (client : ℕ) (x : Client) → Turns old new client None (Some x) → IsNew x → Opens old client new
+opens old new client x t n =
+    record {
+      free = t.was;
+      opened = (x, t.is);
+      others = t.others;
+      goes = λ beside fits. (
+        beside,
+        [],
+        still_fits old new client None (Some x) t beside fits (new_queue x n),
+        record { at = refl; holds = refl; found = refl; turn = refl },
+        refl,
+        walks_lead (tree_words beside.at) Alone (standing_of old beside) (standing_of new beside) [] (record {
+          may = tt;
+          like = record {
+            front = stays old new client None (Some x) t front_by (new_front x n);
+            queue = λ c. refl;
+            output = stays old new client None (Some x) t output_by n.output;
+            dropped = stays old new client None (Some x) t dropped_by n.dropped;
+            number = t.number;
+            owner = owners old new client None (Some x) t;
+            left = λ n o e calls reply from l. subst (λ m. LeftBy m calls reply from) (command_stays old new client None (Some x) t n) l;
+            out = λ s. refl;
+            holds = λ s k. refl;
+            found = λ n o e. refl;
+            turn = refl;
+          };
+        }),
+      );
+    }
+
+-- none of its commands is under way
+none_is : (client : ℕ) (entries : List (ℕ × Command)) (n : ℕ) (o : Owner) → list_any (λ (x : Command). nat_eq x.client client) (map (λ e. e.1) entries) ≡ false → option_map owner_by (assoc.lookup (nat_eq n) entries) ≡ Some o → nat_eq client o.client ≡ false
+none_is client [] n o e f = absurd cc
+none_is client (x ∷ rest) n o e f =
+    (elim (nat_eq n x.0) as (λ b. option_map owner_by (cond b (Some x.1) (assoc.lookup (nat_eq n) rest)) ≡ Some o → nat_eq client o.client ≡ false) [
+      | true ↦ λ f. differs (nat_eq x.1.client client) _ e (λ d. other x.1.client o.client d (ap client_in f))
+      | false ↦ λ f. differs (nat_eq x.1.client client) _ e (λ d. none_is client rest n o (rest_false (nat_eq x.1.client client) _ d e) f)
+    ]) f
+  where
+    client_in : Option Owner → ℕ
+    client_in None = 0
+    client_in (Some o) = o.client
+
+    differs : (b r : Bool) {A : Type 0} → (b || r) ≡ false → (b ≡ false → A) → A
+    differs true r e f = absurd cc
+    differs false r e f = f refl
+
+    rest_false : (b r : Bool) → b ≡ false → (b || r) ≡ false → r ≡ false
+    rest_false true r d e = absurd cc
+    rest_false false r d e = e
+
+    other : (c d : ℕ) → nat_eq c client ≡ false → c ≡ d → nat_eq client d ≡ false
+    other c d e f =
+        (elim (nat_eq client d) as (λ b. nat_eq client d ≡ b → b ≡ false) [
+          | true ↦ λ same. absurd (let s = eq-eqb c client (f ∙ sym (eqb-true client d same)) in no s e)
+          | false ↦ λ same. refl
+        ]) refl
+      where
+        no : {b : Bool} → b ≡ true → b ≡ false → ⊥
+        no e f = absurd cc
+
+-- its place was freed
+pub closes : (old new : Core) (client : ℕ) (x : Client) → Turns old new client (Some x) None → has_commands client old.commands ≡ false → Closes old client new
+closes old new client x t none = (
+  t.is,
+  λ beside fits.
+      let queue : ℕ → List (Slot dialect) = λ c. cond (nat_eq client c) [] (beside.queue c) in
+      let beside' : Beside = record beside { queue = queue } in (
+        beside',
+        Resets client ∷ [],
+        record {
+          queues = λ c. (elim (nat_eq client c) as (λ b. nat_eq client c ≡ b → IsQueue (client_at new c) (cond b [] (beside.queue c))) [
+            | true ↦ λ same. subst (λ d. IsQueue (client_at new d) []) (eqb-true client c same) (subst (λ o. IsQueue o []) (sym t.is) refl)
+            | false ↦ λ differs. subst (λ o. IsQueue o (beside.queue c)) (sym (t.others c differs)) (fits.queues c)
+          ]) refl;
+          tickets = λ s n. fits.tickets s n ∙ ap (λ o. ticket_by o n s) (sym (command_stays old new client (Some x) None t n));
+          unseen = λ n lt. fits.unseen n (subst (λ m. m < n) t.number lt);
+          trees = λ n key lt. fits.trees n key (subst (λ m. m < n) t.number lt) ∙ ap (λ r. tree_at r key) (sym t.tree);
+        },
+        record { at = refl; holds = refl; found = refl; turn = refl },
+        refl,
+        walks_lead (tree_words beside.at) Alone (standing_of old beside) (standing_of new beside') (Resets client ∷ []) (record {
+          may = (λ n o e. none_is client old.commands.entries n o none e, tt);
+          like = record {
+            front = changed old new client (Some x) None t front_by (λ f. start_front) refl;
+            queue = λ c. refl;
+            output = changed old new client (Some x) None t output_by (λ l. []) refl;
+            dropped = changed old new client (Some x) None t dropped_by (λ b. false) refl;
+            number = t.number;
+            owner = owners old new client (Some x) None t;
+            left = λ n o e calls reply from l. subst (λ m. LeftBy m calls reply from) (command_stays old new client (Some x) None t n) l;
+            out = λ s. refl;
+            holds = λ s k. refl;
+            found = λ n o e. refl;
+            turn = refl;
+          };
+        }),
+      ),
+)
+
+-- other clients are those of other places
+pub others_by : (client : ℕ) (old new : slab.Slab Client) → ((other : ℕ) → other ≢ client → slab.get new other ≡ slab.get old other) → (c : ℕ) → nat_eq client c ≡ false → slab.get new c ≡ slab.get old c
+others_by client old new others c differs = others c (λ same. differ (nat_eq client c) (eq-eqb client c (sym same)) differs)
+  where
+    differ : (b : Bool) → b ≡ true → b ≡ false → ⊥
+    differ true e f = absurd cc
+    differ false e f = absurd cc
+
+-- a client was written through its place
+pub written : (core : Core) (client : ℕ) (x y : Client) → client_at core client ≡ Some x → Turns core (record core { clients = slab.with_value core.clients client y }) client (Some x) (Some y)
+written core client x y was =
+    let u = Updates-with_value core.clients client y (subst IsSome (sym was) refl) in
+    record {
+      was = was;
+      is = u.changed;
+      others = others_by client core.clients (slab.with_value core.clients client y) u.others;
+      commands = refl;
+      tree = refl;
+      number = refl;
+    }
+
+-- what was there, written back, changes nothing
+set_same : {T : Type 0} (xs : List (Option T)) (i : ℕ) (x : T) → slice_index_or xs i None ≡ Some x → slice_set xs i (Some x) ≡ xs
+set_same [] i x e = absurd cc
+set_same (y ∷ ys) zero x e = ap (λ z. z ∷ ys) (sym e)
+set_same (y ∷ ys) (suc i) x e = ap (λ l. y ∷ l) (set_same ys i x e)
+
+-- a client took a piece, or none
+pub fed : (old : Core) (client : ℕ) (x y : Client) (bytes : List ℕ) → client_at old client ≡ Some x → Takes x bytes y → Feeds old client bytes (record old { clients = slab.with_value old.clients client y })
+fed old client x y bytes was takes =
+    subst (λ b. FeedsOpen b old client bytes (record old { clients = slab.with_value old.clients client y })) (sym (ap dropped_by was)) (by_drop x.dropped refl takes)
+  where
+    by_drop : (b : Bool) → x.dropped ≡ b → MatchBool b (y ≡ x) (TakesPiece x bytes y) → FeedsOpen b old client bytes (record old { clients = slab.with_value old.clients client y })
+    by_drop true e same = ap (λ z. record old { clients = slab.with_value old.clients client z }) same ∙ ap (λ l. record old { clients = record old.clients { slots = l } }) (set_same old.clients.slots client x was)
+    by_drop false e takes = feeds old (record old { clients = slab.with_value old.clients client y }) client x y bytes (written old client x y was) e takes

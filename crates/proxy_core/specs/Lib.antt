@@ -1,0 +1,3 @@
+pub mod Clients
+pub mod Standing
+pub mod Faults

@@ -1,0 +1,196 @@
+-- What the core's clients, commands and calls stand for in the log of all that happened, and what each of its calls does. Source: mcgate's own.
+use Rattle.std.specs.Prelude.{◌≡◌, ℕ, ◌<◌, Bool, true, false, List, [], ◌∷◌, Option, Some, None, option_map, if◌then◌else◌, nat_eq, slice_get}
+use Rattle.slab.specs.Slab as slab
+use Rattle.indexmap.specs.IndexMap as map
+use Rattle.mc_types.specs.declared.ask.Ask.{Ask}
+use Rattle.mc_types.specs.declared.answer.Answer.{Answer}
+use Rattle.mc_types.specs.declared.call.Origin.TheVariants.{Client as OfClient}
+use Rattle.mc_types.specs.Items.{Item}
+use Rattle.mc_runs.specs.Run.{Call}
+use Rattle.mc_runs.specs.Protocol.{Protocol}
+use Rattle.mc_runs.specs.Overlap as log
+use Rattle.mc_runs.specs.Overlap.{Front, Slot, Owner, Ticket, Entry, Resets, ticket_in, is_last_slot, start_front}
+use Rattle.mc_runs.specs.OverlapStanding.{Standing, LeadsTo, Leads}
+use Rattle.request_parts.specs.Stream.{Place}
+use Rattle.text_requests.specs.Asks.{quiet_of}
+use Rattle.text_codec.specs.Classic.{classic, Said, Whole, LongLine}
+use Rattle.route_tree.specs.At.{tree_at}
+use Rattle.route_tree.specs.Route.{Route}
+use Rattle.route_tree.specs.Plan.{Plan}
+use Rattle.route_tree.specs.Word.{tree_words}
+use Rattle.route_job.specs.Jobs.{Comes}
+use Rattle.route_job.specs.Rest.{ask_under, origin_under}
+use Rattle.route_job.specs.Jobs.{server_in}
+use Rattle.proxy_core.specs.declared.client.Pending.{Pending}
+use Rattle.proxy_core.specs.declared.client.Client.{Client}
+use Rattle.proxy_core.specs.declared.command.Command.{Command}
+use Rattle.proxy_core.specs.declared.limits.Limits.{Limits}
+use Rattle.proxy_core.specs.declared.proxy.Core.{Core}
+
+-- what clients say, and what they are shown for it
+abbrev pub dialect : Protocol
+dialect = classic
+
+abbrev pub Message : Type 0
+Message = Said
+
+abbrev pub quiet_in : Message → Bool
+quiet_in (Whole message) = quiet_of message
+quiet_in LongLine = false
+
+-- each command has its key alone
+abbrev pub Alone : ℕ → Ask → ℕ → Ask → Type 0
+Alone number ask other client = ask.key ≡ client.key
+
+abbrev pub client_at : Core → ℕ → Option Client
+client_at core c = slab.get core.clients c
+
+abbrev pub command_at : Core → ℕ → Option Command
+command_at core n = map.get nat_eq core.commands n
+
+-- what no type of the core keeps: the plain trees that commands run by, the commands of each client as the log has them, the calls that are out at each server in
+-- order, what servers hold, what the calls of a command found, and how many calls had their results
+pub record Beside : Type 0 where
+  pub at : ℕ → List ℕ → Plan
+  pub queue : ℕ → List (Slot dialect)
+  pub out : ℕ → List Ticket
+  pub holds : ℕ → List ℕ → Option Item
+  pub found : ℕ → List (Option Item)
+  pub turn : ℕ
+
+-- a client that isn't there said nothing
+abbrev pub front_by : Option Client → Front dialect
+front_by None = start_front
+front_by (Some x) = record { place = x.stream; index = x.index; waits = x.waits }
+
+abbrev pub output_by : Option Client → List ℕ
+output_by None = []
+output_by (Some x) = x.output.items
+
+abbrev pub dropped_by : Option Client → Bool
+dropped_by None = false
+dropped_by (Some x) = x.dropped
+
+abbrev pub owner_by : Command → Owner
+owner_by command = record { client = command.client; ask = command.ask }
+
+-- what may still come of a command
+abbrev pub LeftBy : Option Command → List Call → Answer → Option ℕ → Type 0
+LeftBy None calls reply from = ⊥
+LeftBy (Some command) calls reply from = Comes command.job calls (record { reply = reply; from = from })
+
+-- the core and what stands beside it, as the log has them
+abbrev pub standing_of : Core → Beside → Standing dialect
+standing_of core beside =
+    record {
+      front = λ c. front_by (client_at core c);
+      queue = beside.queue;
+      output = λ c. output_by (client_at core c);
+      dropped = λ c. dropped_by (client_at core c);
+      number = core.number;
+      owner = λ n. option_map owner_by (command_at core n);
+      left = λ n calls reply from. LeftBy (command_at core n) calls reply from;
+      out = beside.out;
+      holds = beside.holds;
+      found = beside.found;
+      turn = beside.turn;
+    }
+
+-- what the core keeps of a command of a client's queue
+pub record IsSlot (pending : Pending) (slot : Slot dialect) : Type 0 where
+  pub number : slot.number ≡ pending.number
+  pub ask : slot.ask ≡ pending.ask
+  pub reply : slot.reply ≡ pending.reply
+  pub quiet : quiet_in slot.message ≡ pending.quiet
+  pub last : is_last_slot slot ≡ pending.last
+  pub asks : slice_get (dialect.asks_of slot.message) slot.index ≡ Some pending.ask
+
+abbrev pub AreSlots : List Pending → List (Slot dialect) → Type 0
+AreSlots [] [] = Unit {0}
+AreSlots [] (slot ∷ slots) = ⊥
+AreSlots (pending ∷ rest) [] = ⊥
+AreSlots (pending ∷ rest) (slot ∷ slots) = IsSlot pending slot × AreSlots rest slots
+
+-- where a client waits for a reply, it is that of the last command of its queue, which asks a key of the message at its front
+abbrev pub IsAtFront : Client → List (Slot dialect) → Type 0
+IsAtFront x [] = x.waits ≡ false
+IsAtFront x (slot ∷ []) =
+    x.waits ≡ true → (slot.reply ≡ None) × (is_last_slot slot ≡ false) × (slot.index ≡ x.index) × ((next : Place) × dialect.Reads x.stream slot.message next)
+IsAtFront x (slot ∷ next ∷ slots) = IsAtFront x (next ∷ slots)
+
+-- these can be the commands of a client
+abbrev pub IsQueue : Option Client → List (Slot dialect) → Type 0
+IsQueue None slots = slots ≡ []
+IsQueue (Some x) slots = AreSlots x.queue.items slots × IsAtFront x slots
+
+-- the ticket at this server of a command of this number
+abbrev pub ticket_by : Option Command → ℕ → ℕ → Option Ticket
+ticket_by None n s = None
+ticket_by (Some command) n s =
+    if command.is_out
+    then if nat_eq (server_in command.job.pending) s
+    then Some (record { number = n; ask = ask_under command.job.frames.items command.job.ask; origin = origin_under command.job.frames.items OfClient })
+    else None
+    else None
+
+-- these can stand beside the core: it keeps of clients' commands and of calls that are out what agrees with them, commands to come found nothing, and run by its tree
+pub record Fits (core : Core) (beside : Beside) : Type 0 where
+  pub queues : (c : ℕ) → IsQueue (client_at core c) (beside.queue c)
+  pub tickets : (s n : ℕ) → ticket_in (beside.out s) n ≡ ticket_by (command_at core n) n s
+  pub unseen : (n : ℕ) → core.number < n → beside.found n ≡ []
+  pub trees : (n : ℕ) (key : List ℕ) → core.number < n → beside.at n key ≡ tree_at core.tree key
+
+-- nothing happened yet: all servers hold their opening items
+abbrev pub nothing_beside : (ℕ → List ℕ → Plan) → (ℕ → List ℕ → Option Item) → Beside
+nothing_beside at opening = record { at = at; queue = λ c. []; out = λ s. []; holds = opening; found = λ n. []; turn = 0 }
+
+-- a core on this tree where nothing happened yet: the empty log leads to it
+pub record IsFresh (tree : Route) (limits : Limits) (core : Core) : Type 0 where
+  pub clients : (c : ℕ) → client_at core c ≡ None
+  pub commands : (n : ℕ) → command_at core n ≡ None
+  pub limits_are : core.limits ≡ limits
+  pub tree_is : core.tree ≡ tree
+  pub number : core.number ≡ 0
+  pub fits : (at : ℕ → List ℕ → Plan) (opening : ℕ → List ℕ → Option Item) → ((n : ℕ) (key : List ℕ) → 0 < n → at n key ≡ tree_at tree key) → Fits core (nothing_beside at opening)
+  pub leads : (at : ℕ → List ℕ → Plan) (opening : ℕ → List ℕ → Option Item) → LeadsTo (tree_words at) Alone opening [] (standing_of core (nothing_beside at opening))
+
+-- servers and trees are the same
+pub record IsBeside (old new : Beside) : Type 0 where
+  pub at : new.at ≡ old.at
+  pub holds : new.holds ≡ old.holds
+  pub found : new.found ≡ old.found
+  pub turn : new.turn ≡ old.turn
+
+-- by entries of this kind, the latest first, each log that led to the core before, with whatever stood beside it, leads to the core after. Servers stay
+abbrev pub GoesBy : Core → (List (Entry dialect) → Type 0) → Core → Type 0
+GoesBy old IsKind new =
+    (beside : Beside) → Fits old beside
+    → (beside' : Beside) × (entries : List (Entry dialect)) × Fits new beside' × IsBeside beside beside' × IsKind entries
+    × Leads (tree_words beside.at) Alone (standing_of old beside) entries (standing_of new beside')
+
+-- this entry comes
+abbrev pub GoesByOne : Core → Entry dialect → Core → Type 0
+GoesByOne old entry new = GoesBy old (λ entries. entries ≡ entry ∷ []) new
+
+-- a place that was free is that of a new client, which said nothing
+pub record Opens (old : Core) (client : ℕ) (new : Core) : Type 0 where
+  pub free : client_at old client ≡ None
+  pub opened : (x : Client) × (client_at new client ≡ Some x)
+  pub others : (c : ℕ) → nat_eq client c ≡ false → client_at new c ≡ client_at old c
+  pub goes : GoesBy old (λ entries. entries ≡ []) new
+
+-- a client for whom nothing is done any more takes no piece; every other client's stream goes on by it
+abbrev pub FeedsOpen : Bool → Core → ℕ → List ℕ → Core → Type 0
+FeedsOpen true old client bytes new = new ≡ old
+FeedsOpen false old client bytes new = GoesByOne old (log.Feeds client bytes) new
+
+abbrev pub Feeds : Core → ℕ → List ℕ → Core → Type 0
+Feeds old client bytes new = FeedsOpen (dropped_by (client_at old client)) old client bytes new
+
+-- it is given all its new output
+abbrev pub Gives : Core → ℕ → List ℕ → Core → Type 0
+Gives old client bytes new = (bytes ≡ output_by (client_at old client)) × GoesByOne old (log.Gives client bytes) new
+
+-- its place is free
+abbrev pub Closes : Core → ℕ → Core → Type 0
+Closes old client new = (client_at new client ≡ None) × GoesByOne old (Resets client) new

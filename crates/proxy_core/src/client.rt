@@ -1,0 +1,108 @@
+//! One client of the core, and its commands whose replies were not shown yet.
+
+ghost use Rattle.std.specs.Prelude.{◌≡◌, false, ◌↔◌, IsTrue, OnOk, OnErr, IfOk, IfErr};
+ghost use Rattle.proxy_core.specs.Clients.{IsNew, IsEnded, TakesPiece, Takes, HasRoom, RoomFault, LosesOutput};
+
+use crate::fault::CoreFault;
+use bytes::BytesMut;
+use mc_types::{Answer, Ask};
+use std::alloc::{AllocError, Global};
+use std::collections::VecDeque;
+use text_codec::TextStream;
+
+/// A command of a client whose reply was not shown yet.
+#[derive(Drop)]
+pub struct Pending {
+    pub ask: Ask,
+    pub reply: Option<Answer>,
+    pub number: u64,
+    /// Whether its message wants no answer.
+    pub quiet: bool,
+    /// Whether it asks the last key of its message.
+    pub last: bool,
+}
+
+/// One client: what it sent and is not done, what it was not given yet, and its commands that have begun and whose replies
+/// were not shown yet, in its own order.
+#[derive(Drop)]
+pub struct Client {
+    pub stream: TextStream,
+    pub output: BytesMut,
+    pub queue: VecDeque<Pending>,
+    /// Which key of the message at the front is next.
+    pub index: usize,
+    /// Whether the key before it has no reply yet.
+    pub waits: bool,
+    /// Whether nothing is done for it any more, as memory was refused.
+    pub dropped: bool,
+}
+
+fn copied(alloc: Global, bytes: &[u8]) -> Result<Vec<u8>, AllocError>
+    ensures { IfOk result (λ copy. copy.items ≡ bytes.now) }
+{
+    bytes.to_vec(alloc)
+}
+
+impl Client {
+    /// A client that said nothing yet. It takes no memory.
+    pub fn new(alloc: Global) -> Client
+        ensures { IsNew result }
+    {
+        Client {
+            stream: TextStream::new(alloc),
+            output: BytesMut::new(alloc),
+            queue: VecDeque::new(alloc),
+            index: 0,
+            waits: false,
+            dropped: false,
+        }
+    }
+
+    /// Whether nothing is read of it any more. It takes no memory.
+    pub fn is_ended(&self) -> bool
+        ensures { IsTrue result ↔ IsEnded self.now }
+    {
+        self.dropped || self.stream.is_closed()
+    }
+
+    /// A piece came. The only error is want of memory, which leaves the client as it was.
+    pub fn feed(&mut self, piece: &[u8]) -> Result<(), AllocError>
+        ensures ok { OnOk result (TakesPiece self.old piece.now self.new) }
+        ensures err { OnErr result (self.new ≡ self.old) }
+    {
+        self.stream.feed(piece)
+    }
+
+    /// A piece came; a client that has ended takes none of it.
+    ///
+    /// `InputFull` where what is held and the piece are more bytes than may be held; `NoMemory`. Both leave the client as
+    /// it was.
+    pub fn feed_within(&mut self, limit: usize, piece: &[u8]) -> Result<(), CoreFault>
+        ensures ok { OnOk result (HasRoom limit self.old piece.now × Takes self.old piece.now self.new) }
+        ensures err { IfErr result (λ fault. RoomFault limit self.old piece.now fault) }
+        ensures same { OnErr result (self.new ≡ self.old) }
+    {
+        if self.is_ended() {
+            return Ok(());
+        }
+        let held = self.stream.held().len();
+        if limit < held || limit - held < piece.len() {
+            return Err(CoreFault::InputFull);
+        }
+        match self.feed(piece) {
+            Ok(()) => Ok(()),
+            Err(_) => Err(CoreFault::NoMemory),
+        }
+    }
+
+    /// The output so far, a copy, which is then empty. The only error is want of memory, which leaves the client as it was.
+    pub fn take_output(&mut self, alloc: Global) -> Result<Vec<u8>, AllocError>
+        ensures bytes { IfOk result (λ bytes. bytes.items ≡ self.old.output.items) }
+        ensures ok { OnOk result (LosesOutput self.old self.new) }
+        ensures err { OnErr result (self.new ≡ self.old) }
+    {
+        let bytes = copied(alloc, self.output.as_slice())?;
+        self.output.clear();
+        Ok(bytes)
+    }
+}

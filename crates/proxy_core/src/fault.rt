@@ -1,0 +1,16 @@
+//! Why a call of the core did nothing.
+
+/// Why a call of the core did nothing. The core is then as it was.
+#[derive(Clone, Copy)]
+pub enum CoreFault {
+    /// As many clients are open as may be.
+    TooManyClients,
+    /// There is no client of this id.
+    NoClient,
+    /// The bytes that are held of the client and the piece are together more than may be held.
+    InputFull,
+    /// A command of the client has begun and not ended.
+    UnderWay,
+    /// Memory was refused.
+    NoMemory,
+}

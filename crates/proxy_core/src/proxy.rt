@@ -1,0 +1,118 @@
+//! The core and its calls.
+
+ghost use Rattle.slab.specs.Slab.{get};
+ghost use Rattle.std.specs.Prelude.{◌≡◌, ◌↔◌, IsTrue, IfOk, IfErr, OnOk};
+ghost use Rattle.proxy_core.specs.Standing.{IsFresh, Opens, Feeds, Gives, Closes};
+ghost use Rattle.proxy_core.specs.Faults.{IsClosed, CanOpen, CanFeed, CanClose, OpenFault, FeedFault, OutputFault, CloseFault};
+
+use crate::client::Client;
+use crate::command::Command;
+use crate::fault::CoreFault;
+use crate::limits::Limits;
+use crate::looking::has_commands;
+use indexmap::IndexMap;
+use route_tree::Tree;
+use slab::Slab;
+use std::alloc::Global;
+
+/// Clients, their commands that are under way, and the tree that those run by which begin.
+#[derive(Drop)]
+pub struct Core {
+    clients: Slab<Client>,
+    /// The commands that have begun and have not ended, by number.
+    commands: IndexMap<u64, Command>,
+    tree: Tree,
+    /// The last number that was given to a command.
+    number: u64,
+    limits: Limits,
+    alloc: Global,
+}
+
+impl Core {
+    /// A core without clients, on a tree that no gate was asked about. It takes no memory.
+    pub fn unchecked(alloc: Global, tree: Tree, limits: Limits) -> Core
+        ensures { IsFresh tree limits result }
+    {
+        Core {
+            clients: Slab::new(alloc),
+            commands: IndexMap::new(alloc),
+            tree,
+            number: 0,
+            limits,
+            alloc,
+        }
+    }
+
+    /// A new client, by its id: the id of a client that was closed may be given out again.
+    ///
+    /// `TooManyClients` where as many are open as may be; `NoMemory`.
+    pub fn open_client(&mut self) -> Result<usize, CoreFault>
+        ensures ok { IfOk result (λ client. CanOpen self.old × Opens self.old client self.new) }
+        ensures err { IfErr result (λ fault. OpenFault self.old fault self.new) }
+    {
+        if self.limits.clients <= self.clients.len() {
+            return Err(CoreFault::TooManyClients);
+        }
+        match self.clients.insert(Client::new(self.alloc)) {
+            Ok(client) => Ok(client),
+            Err(_) => Err(CoreFault::NoMemory),
+        }
+    }
+
+    /// A piece of a client's bytes came. A client that is closed takes none of it.
+    ///
+    /// `NoClient`; `InputFull` where what is held of the client and the piece are more bytes than may be held; `NoMemory`.
+    pub fn feed(&mut self, client: usize, piece: &[u8]) -> Result<(), CoreFault>
+        ensures ok { OnOk result (CanFeed self.old client piece.now × Feeds self.old client piece.now self.new) }
+        ensures err { IfErr result (λ fault. FeedFault self.old client piece.now fault × (self.new ≡ self.old)) }
+    {
+        match self.clients.get_mut(client) {
+            None => Err(CoreFault::NoClient),
+            Some(x) => x.feed_within(self.limits.held, piece),
+        }
+    }
+
+    /// A client's new output, a copy, which is then empty.
+    ///
+    /// `NoClient`; `NoMemory`.
+    pub fn take_output(&mut self, client: usize) -> Result<Vec<u8>, CoreFault>
+        ensures ok { IfOk result (λ bytes. Gives self.old client bytes.items self.new) }
+        ensures err { IfErr result (λ fault. OutputFault self.old client fault × (self.new ≡ self.old)) }
+    {
+        match self.clients.get_mut(client) {
+            None => Err(CoreFault::NoClient),
+            Some(x) => match x.take_output(self.alloc) {
+                Ok(bytes) => Ok(bytes),
+                Err(_) => Err(CoreFault::NoMemory),
+            },
+        }
+    }
+
+    /// The client is gone, and with it what it sent and was not given.
+    ///
+    /// `NoClient`; `UnderWay` where a command of it has begun and not ended.
+    pub fn close(&mut self, client: usize) -> Result<(), CoreFault>
+        ensures ok { OnOk result (CanClose self.old client × Closes self.old client self.new) }
+        ensures err { IfErr result (λ fault. CloseFault self.old client fault × (self.new ≡ self.old)) }
+    {
+        if !self.clients.contains(client) {
+            return Err(CoreFault::NoClient);
+        }
+        if has_commands(client, &self.commands) {
+            return Err(CoreFault::UnderWay);
+        }
+        self.clients.remove(client);
+        Ok(())
+    }
+
+    /// Whether there is no client of this id, or nothing is read of it any more: behind `quit`, behind a line that was too
+    /// long, and where memory was refused. It takes no memory.
+    pub fn is_closed(&self, client: usize) -> bool
+        ensures { IsTrue result ↔ IsClosed self.now client }
+    {
+        match self.clients.get(client) {
+            None => true,
+            Some(x) => x.is_ended(),
+        }
+    }
+}
