@@ -1,0 +1,41 @@
+//! A script, run through the configuration that the gate accepted last.
+
+ghost use Rattle.std.specs.Prelude.{◌≡◌, [], length, map, None, IfOk, IfErr, MatchResult};
+ghost use Rattle.memory_fleet.specs.Fleets.{IsNewFleet};
+ghost use Rattle.fleet_run.specs.Scripted.{scripted_of, transcript_of};
+ghost use Rattle.fleet_run.specs.Bad.{first_bad, Refuses};
+ghost use Rattle.fleet_run.specs.Driving.{IsSpent};
+ghost use Rattle.accepted_run.specs.Freshly.{InUse, DrivesFreshly, EndsFreshly};
+
+use fleet_run::{DriveFault, MemoryFleet, Report, Script, Transcript, drive_any};
+use fresh_gate::Accepted;
+use fresh_gate::laws::generations_are_fresh;
+use std::alloc::Global;
+
+/// Runs a script through the tree of the configuration in use, one command at a time, on servers in memory.
+///
+/// All holds that [`drive_any`] says, its faults too; and **the run is fresh**: once a delete of a key was acknowledged, no later
+/// reply shows data that descend from a store of that key made before that delete. So the report's `stale` is 0. That holds
+/// for every script, whichever calls fail and whatever is lost, also of what was handed out before a fault.
+///
+/// The fleet is a new one with a server for each of the configuration's; a fleet that was driven isn't driven again.
+///
+/// Source: mcgate's own.
+pub fn drive(
+    alloc: Global,
+    accepted: &Accepted,
+    fleet: &mut MemoryFleet,
+    script: &Script,
+    transcript: &mut Transcript,
+) -> Result<Report, DriveFault>
+    requires fleet { InUse accepted.now (λ config. IsNewFleet (length config.servers) fleet.old) }
+    requires transcript { transcript.old.shown.items ≡ [] }
+    ensures refuses { InUse accepted.now (λ config. MatchResult result (λ _. first_bad (length config.servers) (map scripted_of script.now.events.items) ≡ None) (Refuses (length config.servers) script.now)) }
+    ensures ok { InUse accepted.now (λ config. IfOk result (DrivesFreshly config.tree (map scripted_of script.now.events.items) (transcript_of transcript.new))) }
+    ensures fault { InUse accepted.now (λ config. IfErr result (EndsFreshly config.tree (map scripted_of script.now.events.items) transcript.new)) }
+    ensures spent { IfErr result (λ fault. IsSpent fault fleet.new) }
+{
+    generations_are_fresh();
+    let config = accepted.config();
+    drive_any(alloc, config, fleet, script, transcript)
+}
