@@ -1,0 +1,5 @@
+use Rattle.refusal_words.proofs.Leaking as lemmas
+use Rattle.refusal_words.proofs.laws.gaps_leak.Goals as goal
+
+pub returns : goal.returns
+returns c = lemmas.gaps_leak
