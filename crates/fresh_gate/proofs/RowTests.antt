@@ -93,18 +93,16 @@ module _ (plain : Plan) (good : IsGood plain) where
   of_clear (x ∷ xs) f = both (cleared plain x) _ ((cleared_is_exact plain kinds.Delete x good).1 (f x (inl refl) kinds.Delete)) (of_clear xs (λ s i kind. f s (inr i) kind))
 
 -- pools that aren't doubted are cleared
+sure_more : (text : List ℕ) (tree : Route) (hash : ℕ) (p : List ℕ) (ps : List (List ℕ)) (b : Bool) → doubts text p tree ≡ b → (all_cleared (left_of hash text tree) (servers_at hash (doubted_pools text tree ps)) ≡ true → all_cleared (left_of hash text tree) (servers_at hash ps) ≡ true) → all_cleared (left_of hash text tree) (servers_at hash (cond b (p ∷ doubted_pools text tree ps) (doubted_pools text tree ps))) ≡ true → all_cleared (left_of hash text tree) (servers_at hash (p ∷ ps)) ≡ true
+sure_more text tree hash p ps true e rest k =
+    let plain = left_of hash text tree in
+    let two = both_split (cleared plain (server_at hash p)) (all_cleared plain (servers_at hash (doubted_pools text tree ps))) k in
+    both (cleared plain (server_at hash p)) _ two.0 (rest two.1)
+sure_more text tree hash p ps false e rest k = both (cleared (left_of hash text tree) (server_at hash p)) _ (ap not (sure text p hash tree e)) (rest k)
+
 all_sure : (text : List ℕ) (tree : Route) (hash : ℕ) (pools : List (List ℕ)) → all_cleared (left_of hash text tree) (servers_at hash (doubted_pools text tree pools)) ≡ true → all_cleared (left_of hash text tree) (servers_at hash pools) ≡ true
 all_sure text tree hash [] h = refl
-all_sure text tree hash (p ∷ ps) h = step (doubts text p tree) refl h
-  where
-    plain : Plan
-    plain = left_of hash text tree
-
-    step : (b : Bool) → doubts text p tree ≡ b → all_cleared plain (servers_at hash (cond b (p ∷ doubted_pools text tree ps) (doubted_pools text tree ps))) ≡ true → all_cleared plain (servers_at hash (p ∷ ps)) ≡ true
-    step true e k =
-        let two = both_split (cleared plain (server_at hash p)) (all_cleared plain (servers_at hash (doubted_pools text tree ps))) k in
-        both (cleared plain (server_at hash p)) _ two.0 (all_sure text tree hash ps two.1)
-    step false e k = both (cleared plain (server_at hash p)) _ (ap not (sure text p hash tree e)) (all_sure text tree hash ps k)
+all_sure text tree hash (p ∷ ps) h = sure_more text tree hash p ps (doubts text p tree) refl (all_sure text tree hash ps) h
 
 -- where the doubted pools of what is taken are cleared, there is no gap
 pub cleared_covers : (text : List ℕ) (residue : ℕ) (earlier later : Route) → IsTree earlier → IsTree later → all_cleared (left_of residue text earlier) (servers_at residue (doubted_pools text earlier (taken_pools text later))) ≡ true → Covers (left_of residue text earlier) (left_of residue text later)

@@ -17,3 +17,19 @@ returns-then-are_pools_cleared c =
     let l = c.args.later.now in
     let all : all_cleared (left_of r text e) (servers_at r c.args.doubted.now) ≡ true = sym (c.are_pools_cleared.ensures ∙ ap (λ (x : List ℕ). all_cleared (left_of r x e) (servers_at r c.args.doubted.now)) c.text.ensures) ∙ c.if-are_pools_cleared.true in
     cleared_covers text r e l c.form-earlier.ensures.tree c.form-later.ensures.tree (subst (λ (ps : List (List ℕ)). all_cleared (left_of r text e) (servers_at r ps) ≡ true) c.requires all)
+
+pub first_gap-requires : goal.first_gap-requires
+first_gap-requires c =
+    let r = c.args.residue in
+    let text = prefix_text c.args.class.now.prefix in
+    let l = c.args.later.now in
+    let row : IsTakenRow (left_of r text l) c.deref-2.result.now =
+    subst (λ (x : List ℕ). IsTakenRow (left_of r text l) x) (sym c.deref-2.ensures.value) (subst (λ (x : List ℕ). IsTakenRow (left_of r x l) c.take_row.new.row.items) c.text-3.ensures c.in_ok-take_row.ensures) in
+    subst (λ (p : Plan). HoldsTaken p c.deref-2.result.now) (sym c.in_ok-second.ensures) (holds_what_is_taken (left_of r text l) (good_left l text r c.form-later.ensures.tree) c.deref-2.result.now row)
+
+pub returns : goal.returns
+returns c =
+    let r = c.args.residue in
+    let text = prefix_text c.args.class.now.prefix in
+    subst (λ (p : Plan). IfGap p (left_of r text c.args.later.now) c.first_gap.result) c.in_ok-first.ensures
+    (subst (λ (p : Plan). IfGap c.in_ok-first.first p c.first_gap.result) c.in_ok-second.ensures c.first_gap.ensures)
