@@ -57,8 +57,8 @@ fn pair_class(
     Ok(PairEnd::Covered)
 }
 
-// The first class with a gap.
-fn pair_classes(
+/// The first class with a gap.
+pub fn pair_classes(
     alloc: Global,
     earlier: &Tree,
     later: &Tree,
