@@ -21,3 +21,4 @@ pub mod Proposals
 pub mod RunLists
 pub mod SameStanding
 pub mod TakenPools
+pub mod SurePools

@@ -28,7 +28,7 @@ not_same : (n k : ℕ) → nat_eq n k ≡ false → n ≡ k → ⊥
 not_same n k e h = let t = eq-eqb n k h in cc
 
 -- the three ways that a number goes in
-by_place : (P : List ℕ → Type 0) (x : ℕ) (xs : List ℕ) (s : ℕ) → (s < x → P (s ∷ x ∷ xs)) → (s ≡ x → P (x ∷ xs)) → (x < s → P (x ∷ with_number xs s)) → P (with_number (x ∷ xs) s)
+pub by_place : (P : List ℕ → Type 0) (x : ℕ) (xs : List ℕ) (s : ℕ) → (s < x → P (s ∷ x ∷ xs)) → (s ≡ x → P (x ∷ xs)) → (x < s → P (x ∷ with_number xs s)) → P (with_number (x ∷ xs) s)
 by_place P x xs s a b c = step (nat_lt s x) refl
   where
     other : nat_lt s x ≡ false → (t : Bool) → nat_eq s x ≡ t → P (put_number (x ∷ xs) s (cond t None (one_more (number_in xs s))))
@@ -46,7 +46,7 @@ kept_all : (P : ℕ → Type 0) (xs : List ℕ) (s : ℕ) → Each P xs → P s 
 kept_all P [] s h p = (p, tt)
 kept_all P (x ∷ xs) s h p = by_place (Each P) x xs s (λ _. (p, h)) (λ _. h) (λ _. (h.0, kept_all P xs s h.1 p))
 
-stay_rising : (xs : List ℕ) (s : ℕ) → IsRising xs → IsRising (with_number xs s)
+pub stay_rising : (xs : List ℕ) (s : ℕ) → IsRising xs → IsRising (with_number xs s)
 stay_rising [] s h = (tt, tt)
 stay_rising (x ∷ xs) s h = by_place IsRising x xs s (λ lt. ((lt, each_weaker (λ y. x < y) (λ y. s < y) xs (λ y k. omega (arith, lt, k)) h.0), h)) (λ _. h) (λ lt. (kept_all (λ y. x < y) xs s h.0 lt, stay_rising xs s h.1))
 
@@ -97,7 +97,7 @@ or_twice : (a b : Bool) → (a || b) ≡ (a || (a || b))
 or_twice true b = refl
 or_twice false b = refl
 
-has_with : (xs : List ℕ) (s t : ℕ) → has (with_number xs s) t ≡ (nat_eq s t || has xs t)
+pub has_with : (xs : List ℕ) (s t : ℕ) → has (with_number xs s) t ≡ (nat_eq s t || has xs t)
 has_with [] s t = refl
 has_with (x ∷ xs) s t =
     by_place (λ l. has l t ≡ (nat_eq s t || has (x ∷ xs) t)) x xs s (λ _. refl)

@@ -129,7 +129,7 @@ table_once tree table t = record {
   moduli = each_weaker (IsClass (tree ∷ tree ∷ [])) (IsClass (tree ∷ [])) table.classes.items (λ c h. multiple_once (sizes (resolved (prefix_text c.prefix) tree)) c.modulus h) t.moduli;
 }
 
-table_twice : (tree : Route) (table : PlaceTable) → IsTableOf (tree ∷ []) table → IsTableOf (tree ∷ tree ∷ []) table
+pub table_twice : (tree : Route) (table : PlaceTable) → IsTableOf (tree ∷ []) table → IsTableOf (tree ∷ tree ∷ []) table
 table_twice tree table t = record {
   modulus = multiple_twice (sizes tree) table.modulus t.modulus;
   texts = t.texts;

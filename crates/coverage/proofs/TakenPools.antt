@@ -259,7 +259,7 @@ regroup true b c = refl
 regroup false true c = refl
 regroup false false c = refl
 
-same_pool : (p q : List ℕ) → bytes_eq p q ≡ true → p ≡ q
+pub same_pool : (p q : List ℕ) → bytes_eq p q ≡ true → p ≡ q
 same_pool p q e = (bytes_eq-Decides p q).0 e
 
 module _ (hash s : ℕ) where

@@ -11,3 +11,4 @@ pub mod Lookup
 pub mod Rows
 pub mod Proposed
 pub mod Pools
+pub mod Doubted

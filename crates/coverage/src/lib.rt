@@ -5,6 +5,7 @@ pub mod clearing;
 pub mod clearing_at;
 pub mod collecting;
 pub mod deleting;
+pub mod doubts;
 pub mod laws;
 pub mod lookup;
 pub mod making;

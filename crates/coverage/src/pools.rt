@@ -40,7 +40,7 @@ impl<'a> Pool<'a> {
     }
 
     /// The same pool once more. It takes no memory.
-    fn again(&self) -> Pool<'a>
+    pub fn again(&self) -> Pool<'a>
         ensures { result ≡ self.now }
     {
         Pool {
@@ -53,6 +53,13 @@ impl<'a> Pool<'a> {
         ensures { result ≡ bytes_eq self.now other.now }
     {
         self.servers == other.servers
+    }
+
+    /// Whether these are the pool's servers.
+    pub fn has_servers(&self, servers: &[ServerId]) -> bool
+        ensures { result ≡ bytes_eq servers.now self.now }
+    {
+        servers == self.servers
     }
 
     /// The server at the hash modulo the pool's size.

@@ -8,3 +8,5 @@ pub mod Reasons
 pub mod Answering
 pub mod Two
 pub mod Following
+pub mod PoolCounts
+pub mod Certifying

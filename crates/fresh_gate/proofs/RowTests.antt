@@ -1,5 +1,5 @@
 -- Rows of servers that are taken, and the tests of a row.
-use Rattle.std.proofs.Common.{◌≡◌, ◌↔◌, IsTrue, ℕ, ◌<◌, Bool, true, ◌&&◌, List, [], ◌∷◌, inl, inr, ⊎_elim, refl, sym, ◌∙◌, subst, arith, nat_eq, nat_lt, Result, Ok, Err, IfOk}
+use Rattle.std.proofs.Common.{◌≡◌, ◌↔◌, IsTrue, ℕ, ◌<◌, Bool, true, false, cond, not, ap, ◌&&◌, List, [], ◌∷◌, inl, inr, ⊎_elim, refl, sym, ◌∙◌, subst, arith, nat_eq, nat_lt, Result, Ok, Err, IfOk}
 use Rattle.std.proofs.lemmas.Bool.{eqb-true, eq-eqb, leb-true, le-leb}
 use Rattle.route_tree.specs.At.{left_of}
 use Rattle.route_tree.specs.Each.{Each, IsIn}
@@ -10,8 +10,9 @@ use Rattle.route_tree.proofs.Parts.{each_weaker}
 use Rattle.coverage.specs.declared.deleting.Deleting.{Deleting}
 use Rattle.coverage.specs.declared.deleting.Deleting.TheVariants as kinds
 use Rattle.coverage.specs.Computed.{cleared}
-use Rattle.coverage.specs.Pools.{has, taken_pools}
-use Rattle.coverage.specs.Rows.{IsRowOf}
+use Rattle.coverage.specs.Pools.{has, server_at, servers_at, taken_pools}
+use Rattle.coverage.specs.Doubted.{doubts, doubted_pools}
+use Rattle.coverage.specs.Rows.{IsRowOf, is_taken}
 use Rattle.coverage.specs.Taking.{Clears, Covers}
 use Rattle.coverage.specs.Valid.{IsValidRow, IsRising}
 use Rattle.coverage.proofs.Choices.{both, both_split, either_left, either_right, either_split}
@@ -19,6 +20,7 @@ use Rattle.coverage.proofs.Keeping.{cleared_is_exact}
 use Rattle.coverage.proofs.Finding.{taken_is_exact}
 use Rattle.coverage.proofs.RowTests.{takes, taken_takes}
 use Rattle.coverage.proofs.TakenPools.{pools_are_taken}
+use Rattle.coverage.proofs.SurePools.{sure}
 use Rattle.fresh_gate.specs.Rows.{rises_above, rises, holds_all, all_cleared, HoldsTaken, IsTakenRow}
 
 above : (x : ℕ) (ys : List ℕ) → rises_above x ys ≡ true → Each (λ y. x < y) ys × IsRising ys
@@ -73,8 +75,11 @@ taken_row text tree residue row h = record {
   holds = λ s. h.holds s ∙ pools_are_taken text residue s tree;
 }
 
+holds_those : (plain : Plan) → IsGood plain → (row : List ℕ) → ((s : ℕ) → has row s ≡ is_taken plain s) → HoldsTaken plain row
+holds_those plain good row those op taking s h = has_in row s (those s ∙ takes plain good op s taking ((taken_is_exact plain op s good).1 h))
+
 pub holds_what_is_taken : (plain : Plan) → IsGood plain → (row : List ℕ) → IsTakenRow plain row → HoldsTaken plain row
-holds_what_is_taken plain good row t op taking s h = has_in row s (t.holds s ∙ takes plain good op s taking ((taken_is_exact plain op s good).1 h))
+holds_what_is_taken plain good row t = holds_those plain good row t.holds
 
 module _ (plain : Plan) (good : IsGood plain) where
   clear_of : (row : List ℕ) → all_cleared plain row ≡ true → (s : ℕ) → IsIn s row → (kind : Deleting) → Clears plain kind s
@@ -87,9 +92,26 @@ module _ (plain : Plan) (good : IsGood plain) where
   of_clear [] f = refl
   of_clear (x ∷ xs) f = both (cleared plain x) _ ((cleared_is_exact plain kinds.Delete x good).1 (f x (inl refl) kinds.Delete)) (of_clear xs (λ s i kind. f s (inr i) kind))
 
--- where all that is taken is cleared, there is no gap, and the other way round
-pub cleared_covers : (earlier later : Plan) → IsGood earlier → IsGood later → (row : List ℕ) → IsTakenRow later row → all_cleared earlier row ≡ true → Covers earlier later
-cleared_covers earlier later good is row t h op taking s takes_it kind = clear_of earlier good row h s (holds_what_is_taken later is row t op taking s takes_it) kind
+-- pools that aren't doubted are cleared
+sure_more : (text : List ℕ) (tree : Route) (hash : ℕ) (p : List ℕ) (ps : List (List ℕ)) (b : Bool) → doubts text p tree ≡ b → (all_cleared (left_of hash text tree) (servers_at hash (doubted_pools text tree ps)) ≡ true → all_cleared (left_of hash text tree) (servers_at hash ps) ≡ true) → all_cleared (left_of hash text tree) (servers_at hash (cond b (p ∷ doubted_pools text tree ps) (doubted_pools text tree ps))) ≡ true → all_cleared (left_of hash text tree) (servers_at hash (p ∷ ps)) ≡ true
+sure_more text tree hash p ps true e rest k =
+    let plain = left_of hash text tree in
+    let two = both_split (cleared plain (server_at hash p)) (all_cleared plain (servers_at hash (doubted_pools text tree ps))) k in
+    both (cleared plain (server_at hash p)) _ two.0 (rest two.1)
+sure_more text tree hash p ps false e rest k = both (cleared (left_of hash text tree) (server_at hash p)) _ (ap not (sure text p hash tree e)) (rest k)
+
+all_sure : (text : List ℕ) (tree : Route) (hash : ℕ) (pools : List (List ℕ)) → all_cleared (left_of hash text tree) (servers_at hash (doubted_pools text tree pools)) ≡ true → all_cleared (left_of hash text tree) (servers_at hash pools) ≡ true
+all_sure text tree hash [] h = refl
+all_sure text tree hash (p ∷ ps) h = sure_more text tree hash p ps (doubts text p tree) refl (all_sure text tree hash ps) h
+
+-- where the doubted pools of what is taken are cleared, there is no gap
+pub cleared_covers : (text : List ℕ) (residue : ℕ) (earlier later : Route) → IsTree earlier → IsTree later → all_cleared (left_of residue text earlier) (servers_at residue (doubted_pools text earlier (taken_pools text later))) ≡ true → Covers (left_of residue text earlier) (left_of residue text later)
+cleared_covers text residue earlier later is was h op taking s takes_it kind =
+    let row = servers_at residue (taken_pools text later) in
+    clear_of (left_of residue text earlier) (good_left earlier text residue is) row (all_sure text earlier residue (taken_pools text later) h) s
+    (holds_those (left_of residue text later) (good_left later text residue was) row (λ t. pools_are_taken text residue t later) op taking s takes_it) kind
+
+-- where there is no gap, all that is taken is cleared
 
 pub covers_cleared : (earlier later : Plan) → IsGood earlier → IsGood later → (row : List ℕ) → IsTakenRow later row → Covers earlier later → all_cleared earlier row ≡ true
 covers_cleared earlier later good is row t covers =

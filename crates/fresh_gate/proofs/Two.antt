@@ -86,7 +86,7 @@ module _ (earlier later : Route) (table : PlaceTable) (t : IsTableOf (earlier �
         subst (λ (o : Option (List ℕ)). IsCoveredAt earlier later table.modulus o residue) (sym c.3) (covered_at c.0 c.1 c.2 (end c.0 (get_within table.classes.items c.0 c.1 c.2)) residue);
   }
 
-  class_within : (i : ℕ) (c : Class) → slice_get table.classes.items i ≡ Some c → c.modulus ≤ table.modulus
+  pub class_within : (i : ℕ) (c : Class) → slice_get table.classes.items i ≡ Some c → c.modulus ≤ table.modulus
   class_within i c e =
       let is : IsClass (earlier ∷ later ∷ []) c = each_at (IsClass (earlier ∷ later ∷ [])) table.classes.items i c t.moduli e in
       let text = prefix_text c.prefix in

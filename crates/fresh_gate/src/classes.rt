@@ -3,13 +3,16 @@
 ghost use Rattle.std.specs.Prelude.{◌≡◌, ◌≤◌, ℕ, IfOk, length};
 ghost use Rattle.route_tree.specs.At.{left_of};
 ghost use Rattle.route_tree.specs.Place.{prefix_text};
+ghost use Rattle.coverage.specs.Doubted.{doubted_pools};
+ghost use Rattle.coverage.specs.Pools.{taken_pools};
 ghost use Rattle.coverage.specs.Valid.{run_at};
 ghost use Rattle.fresh_gate.specs.Rows.{IsTakenRow};
 ghost use Rattle.fresh_gate.specs.Ends.{plain_of, IsLook, IsClassEnd, IsTableEnd};
 
 use crate::finding::{Found, gap_at};
 use crate::validity::{is_valid_at, take_row};
-use coverage::pools::taken_pools;
+use coverage::doubts::doubted_pools;
+use coverage::pools::{Pool, taken_pools};
 use coverage::{Class, ClassRows, Run};
 use mc_types::ServerId;
 use route_tree::Tree;
@@ -64,14 +67,16 @@ fn look_at(
     class: &Class,
     modulus: u32,
     residue: u32,
+    doubted: &[Pool],
     taken: &[ServerId],
     row: &[ServerId],
 ) -> Result<Look, AllocError>
-    requires { IsTakenRow (left_of residue (prefix_text class.now.prefix) tree.now) taken.now }
+    requires doubted { doubted.now ≡ doubted_pools (prefix_text class.now.prefix) tree.now (taken_pools (prefix_text class.now.prefix) tree.now) }
+    requires taken { IsTakenRow (left_of residue (prefix_text class.now.prefix) tree.now) taken.now }
     ensures { IfOk result (λ seen. IsLook (plain_of tree.now class.now.prefix modulus residue) row.now seen) }
 {
     let _form = tree.form();
-    match gap_at(alloc, tree, tree, class, modulus, residue, taken)? {
+    match gap_at(alloc, tree, tree, class, modulus, residue, doubted)? {
         Some(found) => Ok(Look::Gap(found)),
         None => {
             if is_valid_at(tree, class.text(), residue, taken, row) {
@@ -94,6 +99,7 @@ pub fn check_class(
     ensures { IfOk result (λ end. IsClassEnd tree.now class.now.prefix modulus rows.now end) }
 {
     let pools = taken_pools(alloc, tree, class.text())?;
+    let doubted = doubted_pools(alloc, tree, class.text(), &pools)?;
     let mut taken = Vec::new(alloc);
     let mut servers: &[ServerId] = &[];
     let mut runs: &[Run] = &rows.runs;
@@ -102,7 +108,8 @@ pub fn check_class(
         servers = own;
         runs = rest;
         take_row(tree, class.text(), &pools, residue, &mut taken)?;
-        match look_at(alloc, tree, class, modulus, residue, &taken, own)? {
+        let look = look_at(alloc, tree, class, modulus, residue, &doubted, &taken, own)?;
+        match look {
             Look::Good => {}
             Look::Gap(found) => return Ok(ClassEnd::Gap(residue, found)),
             Look::Bad => return Ok(ClassEnd::Bad(residue)),

@@ -68,8 +68,8 @@ fn verdict_by(
     }
 }
 
-/// Whether all rows of a certificate of the right shape are valid, or the first reason why not.
-pub fn verdict_on_rows(
+// Whether all rows of a certificate of the right shape are valid, or the first reason why not.
+fn verdict_on_rows(
     alloc: Global,
     tree: &Tree,
     table: &PlaceTable,

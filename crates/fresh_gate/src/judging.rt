@@ -1,4 +1,4 @@
-//! Configurations judged by a certificate of mcgate's own making.
+//! Configurations judged without a certificate: by looks at all places, of which none is written down.
 
 ghost use Rattle.std.specs.Prelude.{[], ◌∷◌, ◌≡◌, IfErr, IfOk, MatchResult, OnOk};
 ghost use Rattle.mc_runs.specs.Freshness.{RunsAreFresh};
@@ -9,15 +9,15 @@ ghost use Rattle.fresh_gate.specs.Shapes.{IsJudgedBy};
 
 use crate::accepted::{Accepted, accept};
 use crate::gap::{Reason, Refused};
-use crate::gate::verdict_on_rows;
+use crate::gate::gap_of;
 use crate::laws::certified_is_fresh;
-use coverage::proposing::propose_by;
+use crate::pairs::{TwoEnd, pair_classes};
 use coverage::{PlaceFault, PlaceTable, places};
 use route_json::Config;
-use route_tree::Tree;
+use route_tree::{Place, Tree};
 use std::alloc::Global;
 
-/// Proposes a certificate for the configuration's tree, and checks it.
+/// Looks at all places of the configuration's tree, and takes no memory for them.
 ///
 /// Memory aside, it accepts exactly the trees of at most 262,144 places for which some certificate is valid, and never
 /// answers `BadCertificate`. Else the configuration is given back with the reason.
@@ -34,7 +34,7 @@ pub fn judge(alloc: Global, config: Config) -> Result<Accepted, Refused>
     }
 }
 
-// Whether the proposed certificate is valid for the tree.
+// Whether some certificate is valid for the tree.
 fn judgement(alloc: Global, tree: &Tree) -> Result<(), Reason>
     ensures { MatchResult result (λ _. IsCertified tree.now) (λ reason. IsJudged tree.now reason) }
 {
@@ -45,13 +45,23 @@ fn judgement(alloc: Global, tree: &Tree) -> Result<(), Reason>
     }
 }
 
-// The same by the tree's table.
+// The same by the tree's table: where each place is covered, the servers that are taken make a valid certificate, which
+// isn't written down.
 fn judgement_by(alloc: Global, tree: &Tree, table: &PlaceTable) -> Result<(), Reason>
     requires { IsTable (tree.now ∷ []) table.now }
     ensures { MatchResult result (λ _. IsCertifiedBy tree.now table.now) (λ reason. IsJudgedBy tree.now table.now reason) }
 {
-    match propose_by(alloc, tree, table) {
-        Ok(certificate) => verdict_on_rows(alloc, tree, table, &certificate),
+    let _form = tree.form();
+    match pair_classes(alloc, tree, tree, &table.classes, table.modulus) {
         Err(_) => Err(Reason::NoMemory),
+        Ok(TwoEnd::Covered) => Ok(()),
+        Ok(TwoEnd::Gap(index, residue, found)) => {
+            let place = Place {
+                prefix: table.classes[index].prefix,
+                residue,
+                modulus: table.modulus,
+            };
+            Err(Reason::Uncovered(gap_of(place, found)))
+        }
     }
 }

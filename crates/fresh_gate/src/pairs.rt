@@ -8,7 +8,7 @@ ghost use Rattle.fresh_gate.specs.Pairs.{IsPairEnd, IsTwoEnd, IsPairFault};
 use crate::finding::{Found, gap_at};
 use crate::gap::Gap;
 use crate::gate::gap_of;
-use crate::validity::take_row;
+use coverage::doubts::doubted_pools;
 use coverage::pools::taken_pools;
 use coverage::{Class, PlaceFault, PlaceTable, places_of_two};
 use route_tree::{Place, Tree};
@@ -47,10 +47,9 @@ fn pair_class(
     ensures { IfOk result (IsPairEnd earlier.now later.now modulus class.now) }
 {
     let pools = taken_pools(alloc, later, class.text())?;
-    let mut taken = Vec::new(alloc);
+    let doubted = doubted_pools(alloc, earlier, class.text(), &pools)?;
     for residue in 0..class.modulus {
-        take_row(later, class.text(), &pools, residue, &mut taken)?;
-        match gap_at(alloc, earlier, later, class, modulus, residue, &taken)? {
+        match gap_at(alloc, earlier, later, class, modulus, residue, &doubted)? {
             None => {}
             Some(found) => return Ok(PairEnd::Gap(residue, found)),
         }
@@ -58,8 +57,8 @@ fn pair_class(
     Ok(PairEnd::Covered)
 }
 
-// The first class with a gap.
-fn pair_classes(
+/// The first class with a gap.
+pub fn pair_classes(
     alloc: Global,
     earlier: &Tree,
     later: &Tree,

@@ -24,6 +24,7 @@ delete_never_acknowledged: {"type":"OperationSelectorRoute","default_policy":"Po
 fn whole_verdicts() -> &'static str {
     r#"pools_of_two_and_three: {"pools":{"D":{"servers":["h:1","h:2","h:3"]},"R":{"servers":["h:1","h:2"]}},"route":{"type":"OperationSelectorRoute","default_policy":"PoolRoute|R","operation_policies":{"delete":"PoolRoute|D"}}} => refused: server=h:1 read=get delete=delete residue=2/6
 certificate_by_runs: {"pools":{"D":{"servers":["h:1","h:2","h:3"]},"R":{"servers":["h:1","h:2"]}},"route":{"type":"PrefixSelectorRoute","policies":{"d:":"PoolRoute|D"},"wildcard":"PoolRoute|R"}} => accepted places=12
+one_server_in_two_slots: {"pools":{"D":{"servers":["h:1"]},"R":{"servers":["h:1:2"]}},"route":{"type":"OperationSelectorRoute","default_policy":"PoolRoute|R","operation_policies":{"delete":"PoolRoute|D"}}} => accepted places=2
 weighted_slots: {"pools":{"W":{"servers":["h:1:2","h:2"]}},"route":"PoolRoute|W"} => accepted places=3"#
 }
 

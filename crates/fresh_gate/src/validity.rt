@@ -1,9 +1,9 @@
 //! Whether a row is valid at a residue. No plain tree is built: the servers that are taken come from pools that are found
-//! once a class, and deletes are looked at on the tree itself.
+//! once a class, and deletes are looked at on the tree itself, for pools that they aren't known to clear.
 
 ghost use Rattle.std.specs.Prelude.{◌≡◌, ◌↔◌, ◌&&◌, IfOk, IsTrue, true};
 ghost use Rattle.route_tree.specs.At.{left_of};
-ghost use Rattle.coverage.specs.Pools.{has, taken_pools};
+ghost use Rattle.coverage.specs.Pools.{has, servers_at, taken_pools};
 ghost use Rattle.coverage.specs.Valid.{IsValidRow};
 ghost use Rattle.fresh_gate.specs.Rows.{IsTakenRow, rises_above, rises, holds_all, all_cleared};
 
@@ -58,12 +58,24 @@ fn passes(tree: &Tree, text: &[u8], hash: u32, taken: &[ServerId], row: &[Server
     rises(row) && holds_all(row, taken) && are_cleared_at(tree, text, hash, row)
 }
 
-/// Whether each server of the row is cleared for this hash and text. It takes no memory.
-pub fn are_cleared_at(tree: &Tree, text: &[u8], hash: u32, row: &[ServerId]) -> bool
+// Whether each server of the row is cleared for this hash and text.
+fn are_cleared_at(tree: &Tree, text: &[u8], hash: u32, row: &[ServerId]) -> bool
     ensures { result ≡ all_cleared (left_of hash text.now tree.now) row.now }
 {
     for server in row {
         if !is_cleared_at(tree, text, hash, *server) {
+            return false;
+        }
+    }
+    true
+}
+
+/// Whether each of the pools' servers is cleared for this hash and text. It takes no memory.
+pub fn are_pools_cleared(tree: &Tree, text: &[u8], hash: u32, pools: &[Pool]) -> bool
+    ensures { result ≡ all_cleared (left_of hash text.now tree.now) (servers_at hash pools.now) }
+{
+    for pool in pools {
+        if !is_cleared_at(tree, text, hash, pool.at(hash)) {
             return false;
         }
     }

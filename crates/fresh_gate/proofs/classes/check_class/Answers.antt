@@ -15,6 +15,6 @@ loop-residue-preserved c =
     record {
       valid = below_more (λ (q : ℕ). IsValidRow (plain_of tree prefix m q) (row_of rows q)) r c.loop-residue.invariant.valid
           (subst (λ (l : List ℕ). IsValidRow (plain_of tree prefix m r) l) row
-          (subst (λ (x : Look). IsLook (plain_of tree prefix m r) c.run_of.result.0.now x) c.in-Good.is c.in_ok-look_at.ensures));
+          (subst (λ (x : Look). IsLook (plain_of tree prefix m r) c.run_of.result.0.now x) c.in-Good.is c.in_ok-look.ensures));
       ahead = λ q le. c.run_of.ensures.later q (omega arith) ∙ c.loop-residue.invariant.ahead q (omega arith);
     }

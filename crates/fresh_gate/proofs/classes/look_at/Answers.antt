@@ -16,4 +16,4 @@ is_valid_at-requires-clause-cleared c =
     let plain = left_of r text tree in
     let good = good_left tree text r c.form-form.ensures.tree in
     let covers : Covers plain plain = subst (λ (x : Option Found). IfGap plain plain x) c.in-None.is c.in_ok-found.ensures in
-    subst (λ (x : List ℕ). all_cleared (left_of r x tree) c.args.taken.now ≡ true) (sym c.text.ensures) (covers_cleared plain plain good good c.args.taken.now c.requires covers)
+    subst (λ (x : List ℕ). all_cleared (left_of r x tree) c.args.taken.now ≡ true) (sym c.text.ensures) (covers_cleared plain plain good good c.args.taken.now c.requires.taken covers)
