@@ -11,6 +11,7 @@ ghost use Rattle.route_tree.specs.Each.{Each};
 ghost use Rattle.route_tree.specs.Word.{Given, Word};
 ghost use Rattle.route_job.specs.Given.{given_of};
 ghost use Rattle.route_job.specs.Executing.{MakesAll, BreaksOff};
+ghost use Rattle.route_tree.specs.declared.limits.TheConstants.{ROUTE_LIMIT};
 
 use crate::done::Done;
 use crate::job::{Job, Step};
@@ -53,7 +54,7 @@ pub trait Fleet {
 
 /// The client command of this number: its calls, one after the other, and how it ended.
 ///
-/// The calls and the reply are a word of the key's plain tree for the ask, of at most 4,096 calls, and the fleet did each call
+/// The calls and the reply are a word of the key's plain tree for the ask, of at most [`route_tree::ROUTE_LIMIT`] calls, and the fleet did each call
 /// by its law. After a fault, the fleet's or a refusal of memory, the calls made are the front of a word, all of them made by
 /// the law, or all but the last, which had the fault; there is no reply.
 ///
@@ -66,7 +67,7 @@ pub fn execute<F: Fleet>(
     fleet: &mut F,
 ) -> Result<Done, F::Fault>
     requires { (calls : List Call) (given : Given) → Word (tree_at tree.now ask.key) ask Client 0 calls given → Each (λ call. F.serves fleet.old call.server call.ask) calls }
-    ensures ok { IfOk result (λ done. (calls : List Call) × Word (tree_at tree.now ask.key) ask Client 0 calls (given_of done) × MakesAll (F.law number) fleet.old calls fleet.new × (length calls ≤ 4096)) }
+    ensures ok { IfOk result (λ done. (calls : List Call) × Word (tree_at tree.now ask.key) ask Client 0 calls (given_of done) × MakesAll (F.law number) fleet.old calls fleet.new × (length calls ≤ ROUTE_LIMIT)) }
     ensures err { OnErr result ((calls rest : List Call) × (given : Given) × Word (tree_at tree.now ask.key) ask Client 0 (calls ++ rest) given × BreaksOff (F.law number) (F.breaks number) fleet.old calls fleet.new) }
 {
     let _form = tree.form();

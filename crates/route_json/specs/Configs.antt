@@ -1,5 +1,6 @@
 -- What a configuration means: the tree and the servers that a JSON value stands for, or its first fault.
 -- Source: mcgate's own, under mcrouter's names of routes.
+use Rattle.route_tree.specs.declared.limits.TheConstants.{DEPTH_LIMIT}
 use Rattle.std.specs.Prelude.{[], codes, Option, Some, None, Result, Ok, Err}
 use Rattle.serde_json.specs.Data.{Data, object}
 use Rattle.serde_json.specs.Find.{get}
@@ -17,9 +18,9 @@ abbrev pub result_of : {S A : Type 0} → Result (A × S) Fault → Result A Fau
 result_of (Ok x) = Ok x.0
 result_of (Err e) = Err e
 
--- the route of the whole tree: 32 levels, counted from 0, of weight 1
+-- the route of the whole tree: its levels, counted from 0, of weight 1
 abbrev pub tree_of : Pools → Data → Result Route Fault
-tree_of pools d = result_of (route pools 32 1 (codes "route") d 0)
+tree_of pools d = result_of (route pools DEPTH_LIMIT 1 (codes "route") d 0)
 
 -- the tree of an object, and the servers after these
 abbrev pub object_after : Data → Reading Addresses Route

@@ -1,4 +1,5 @@
 -- Pools of servers. Source: mcgate's own.
+use Rattle.route_tree.specs.declared.limits.TheConstants.{SLOT_LIMIT, POOL_LIMIT}
 use Rattle.std.specs.Prelude.{ℕ, ◌<◌, ◌≤◌, ◌==◌, List, [], ◌∷◌, codes, length, replicate, nat_lt, Option, Some, None, Result, Ok, Err, if◌then◌else◌, string_bytes}
 use Rattle.std.specs.List.{flat_map}
 use Rattle.std.specs.Str.{bytes_eq}
@@ -37,7 +38,7 @@ AreWeighted bound (s ∷ ss) = (s.server < bound) × (0 < s.weight) × (s.weight
 
 -- a pool isn't empty and doesn't have more than 2,048 slots, and its servers are some of so many
 abbrev pub IsPool : ℕ → List WeightedServer → Type 0
-IsPool bound servers = (0 < length servers) × (length (slots_of servers) ≤ 2048) × AreWeighted bound servers
+IsPool bound servers = (0 < length servers) × (length (slots_of servers) ≤ SLOT_LIMIT) × AreWeighted bound servers
 
 -- each is such a pool
 abbrev pub ArePools : ℕ → Pools → Type 0
@@ -56,7 +57,7 @@ server_of pool _ = fail (BadField (codes "servers"))
 
 -- these servers, if they don't have more than 2,048 slots
 abbrev pub few_slots : List ℕ → List WeightedServer → Result (List WeightedServer) Fault
-few_slots pool servers = if nat_lt 2048 (length (slots_of servers)) then Err (TooManySlots pool) else Ok servers
+few_slots pool servers = if nat_lt SLOT_LIMIT (length (slots_of servers)) then Err (TooManySlots pool) else Ok servers
 
 -- the servers of a pool, from texts that are neither none nor too many
 abbrev pub servers_in : List ℕ → List Data → Reading Addresses (List WeightedServer)
@@ -68,7 +69,7 @@ servers_in pool ds = do
 abbrev pub pool_list : List ℕ → List Data → Reading Addresses (List WeightedServer)
 pool_list pool ds known =
     if length ds == 0 then Err (EmptyPool pool)
-    else if nat_lt 1024 (length ds) then Err (TooManyServers pool)
+    else if nat_lt POOL_LIMIT (length ds) then Err (TooManyServers pool)
     else servers_in pool ds known
 
 -- the servers of a pool, from its object

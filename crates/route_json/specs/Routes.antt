@@ -1,4 +1,5 @@
 -- Routes, read while they are counted. Source: mcgate's own, under mcrouter's names of routes.
+use Rattle.route_tree.specs.declared.limits.TheConstants.{ROUTE_LIMIT}
 use Rattle.std.specs.Prelude.{ℕ, zero, suc, ◌+◌, ◌*◌, List, codes, nat_le, Option, Some, None, Result, Ok, Err, if◌then◌else◌}
 use Rattle.std.specs.Str.{bytes_eq}
 use Rattle.mc_types.specs.Fault.{read_key}
@@ -21,9 +22,9 @@ use Rattle.route_json.specs.declared.pools.WeightedServer.{WeightedServer}
 use Rattle.route_json.specs.Pools.{Pools, servers_of, slots_of}
 use Rattle.route_json.specs.Reading.{Reading, ◌>>=◌, give, fail, pure, each, values, members, named}
 
--- one route of this weight more, of at most 4,096
+-- one route of this weight more, of at most ROUTE_LIMIT
 abbrev pub counts : ℕ → Reading ℕ (Unit {0})
-counts weight count = if nat_le (count + weight) 4096 then Ok (tt, count + weight) else Err TooManyNodes
+counts weight count = if nat_le (count + weight) ROUTE_LIMIT then Ok (tt, count + weight) else Err TooManyNodes
 
 -- a route below this many levels that no value stands for
 abbrev pub leaf : ℕ → ℕ → Route → Reading ℕ Route

@@ -13,14 +13,11 @@ use crate::place::{Place, RouteCount};
 use crate::pools::Pools;
 use crate::route::route;
 use route_names::Holder;
-use route_tree::Tree;
+use route_tree::{DEPTH_LIMIT, Tree};
 use serde_json::Value;
 use server_addresses::Servers;
 use std::alloc::{AllocError, Global};
 use std::marker::Model;
-
-/// How deep routes may be nested.
-const MAX_DEPTH: u32 = 32;
 
 /// What a configuration means: a tree of routes, and the servers, among which is each that the tree names.
 #[derive(Drop)]
@@ -118,7 +115,7 @@ fn object_after(alloc: Global, servers: Servers, value: &Value) -> Result<Config
     let pools = Pools::read(alloc, servers, map)?;
     let mut count = RouteCount { routes: 0 };
     let place = Place {
-        levels: MAX_DEPTH,
+        levels: DEPTH_LIMIT,
         weight: 1,
     };
     let tree = route(alloc, &pools, &mut count, place, "route", root)?;

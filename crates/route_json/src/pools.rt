@@ -11,16 +11,11 @@ use crate::fields::{list_field, only};
 use crate::numbering::server_of_text;
 use mc_types::ServerId;
 use route_names::Holder;
+use route_tree::{POOL_LIMIT, SLOT_LIMIT};
 use serde_json::{Map, Value};
 use server_addresses::Servers;
 use std::alloc::{AllocError, Global};
 use std::marker::Model;
-
-/// The most texts of servers that a pool may have.
-const MAX_POOL: usize = 1024;
-
-/// The most slots that a pool may have.
-const MAX_SLOTS: u32 = 2048;
 
 /// A server of a pool, as one of its texts says it: it has so many slots in a row.
 #[derive(Clone, Copy)]
@@ -116,7 +111,7 @@ fn push_slots(slots: &mut Vec<ServerId>, server: WeightedServer) -> Result<(), A
 }
 
 fn slot_count(servers: &[WeightedServer]) -> u32
-    requires few { length servers.now ≤ 1024 }
+    requires few { length servers.now ≤ POOL_LIMIT }
     requires light { (bound : ℕ) × AreWeighted bound servers.now }
     ensures { result ≡ length (slots_of servers.now) }
 {
@@ -187,7 +182,7 @@ fn read_list(
     if items.is_empty() {
         return Err(ConfigFault::EmptyPool(String::from_str(alloc, name)?));
     }
-    if items.len() > MAX_POOL {
+    if items.len() > POOL_LIMIT as usize {
         return Err(ConfigFault::TooManyServers(String::from_str(alloc, name)?));
     }
     read_servers(alloc, servers, name, items)
@@ -200,13 +195,13 @@ fn read_servers(
     items: &[Value],
 ) -> Result<Vec<WeightedServer>, ConfigFault>
     requires some { 0 < length items.now }
-    requires few { length items.now ≤ 1024 }
+    requires few { length items.now ≤ POOL_LIMIT }
     ensures gives { Gives (λ v. (v.items, servers.new)) result (servers_in name.now (values (items_view items.now)) servers.old) }
     ensures good { IfOk result (λ v. IsPool (length servers.new) v.items) }
     ensures more { length servers.old ≤ length servers.new }
 {
     let pool = read_each(alloc, servers, name, items)?;
-    if slot_count(&pool) > MAX_SLOTS {
+    if slot_count(&pool) > SLOT_LIMIT {
         return Err(ConfigFault::TooManySlots(String::from_str(alloc, name)?));
     }
     Ok(pool)

@@ -1,4 +1,5 @@
 -- Plain trees: what is left of a tree of routes for one key. Source: mcgate's own, under mcrouter's names of routes.
+use Rattle.route_tree.specs.declared.limits.TheConstants.{ROUTE_LIMIT, DEPTH_LIMIT}
 use Rattle.std.specs.Prelude.{ℕ, ◌+◌, ◌*◌, ◌≤◌, max}
 use Rattle.mc_types.specs.declared.ask.Op.{Op}
 
@@ -98,5 +99,5 @@ abbrev mutual
 -- what every plain tree keeps
 pub record IsPlan (p : Plan) : Type 0 where
   pub good : IsGood p
-  pub deep : depth p ≤ 32
-  pub many : count p ≤ 4096
+  pub deep : depth p ≤ DEPTH_LIMIT
+  pub many : count p ≤ ROUTE_LIMIT

@@ -1,4 +1,5 @@
 -- Trees of routes: what a configuration means. Source: mcgate's own, under mcrouter's names of routes.
+use Rattle.route_tree.specs.declared.limits.TheConstants.{ROUTE_LIMIT, DEPTH_LIMIT, SLOT_LIMIT}
 use Rattle.std.specs.Prelude.{ℕ, ◌+◌, ◌*◌, ◌<◌, ◌≤◌, max, List, length}
 use Rattle.mc_types.specs.declared.ask.Op.{Op}
 use Rattle.mc_types.specs.KeyText.{IsKey}
@@ -40,7 +41,7 @@ IsNotEmpty (More r rs) = Unit {0}
 abbrev mutual
   -- no list of children and no pool is empty, no pool has more than 2,048 slots, and each prefix is a key
   pub IsGood : Route → Type 0
-  IsGood (Pool servers) = (0 < length servers) × (length servers ≤ 2048)
+  IsGood (Pool servers) = (0 < length servers) × (length servers ≤ SLOT_LIMIT)
   IsGood (Server s) = Unit {0}
   IsGood Null = Unit {0}
   IsGood Failing = Unit {0}
@@ -127,5 +128,5 @@ abbrev mutual
 -- what every tree keeps
 pub record IsTree (r : Route) : Type 0 where
   pub good : IsGood r
-  pub deep : depth r ≤ 32
-  pub many : count r ≤ 4096
+  pub deep : depth r ≤ DEPTH_LIMIT
+  pub many : count r ≤ ROUTE_LIMIT

@@ -1,4 +1,5 @@
 -- What holds of every word of a plain tree.
+use Rattle.route_tree.specs.declared.limits.TheConstants.{ROUTE_LIMIT}
 use Rattle.std.specs.Prelude.{◌≡◌, ◌≢◌, ◌↔◌, ℕ, ◌≤◌, List, ◌∷◌, ◌++◌, Option, length}
 use Rattle.mc_types.specs.declared.ask.Op.TheVariants.{Get, Delete}
 use Rattle.mc_types.specs.declared.ask.Ask.{Ask}
@@ -44,7 +45,7 @@ EachOutcomeGoesOn =
 abbrev pub CallsAreWithin : Type 0
 CallsAreWithin =
     (plain : Plan) (ask : Ask) (origin : Origin) (b : ℕ) (calls : List Call) (given : Given)
-    → Word plain ask origin b calls given → (length calls ≤ count plain) × (IsPlan plain → length calls ≤ 4096)
+    → Word plain ask origin b calls given → (length calls ≤ count plain) × (IsPlan plain → length calls ≤ ROUTE_LIMIT)
 
 -- each reply shows no part of an item, or is the answer of the call that it names
 abbrev pub RepliesShowWhatWasFound : Type 0

@@ -10,7 +10,7 @@ use std::marker::Model;
 
 /// What is left of a tree for one key: no choice by key is left in it.
 ///
-/// No list of children is empty, it is nested at most 32 levels deep, and it has at most 4,096 routes, each counted
+/// No list of children is empty, it has at most [`crate::DEPTH_LIMIT`] levels, and at most [`crate::ROUTE_LIMIT`] routes, each counted
 /// three times for every `cold` that it stands in.
 #[cycle(plain)]
 #[derive(Drop)]

@@ -10,8 +10,8 @@ use std::rc::Rc;
 
 /// A tree of routes. It is shared: a copy of it or of a child takes no memory, and the parts live as long as any copy.
 ///
-/// No list of children and no pool is empty, a pool has at most 2,048 slots, it is nested at most 32 levels deep, and
-/// it has at most 4,096 routes, each counted three times for every `cold` that it stands in.
+/// No list of children and no pool is empty, a pool has at most [`crate::SLOT_LIMIT`] slots, it has at most [`crate::DEPTH_LIMIT`] levels, and
+/// at most [`crate::ROUTE_LIMIT`] routes, each counted three times for every `cold` that it stands in.
 #[cycle(tree)]
 #[derive(Drop)]
 pub struct Tree {

@@ -17,13 +17,14 @@ use crate::meaning::{Meaning, Reading};
 use crate::words::{cut, number_under};
 use fleet_run::{Script, first_bad_event};
 use route_json::{Config, read_config};
+use route_tree::POOL_LIMIT;
 use std::alloc::{AllocError, Global};
 
 fn read_size(word: &[u8]) -> Option<u32>
     ensures size { result ≡ size_said word.now }
-    ensures limits { IfSome result (λ size. (0 < size) × (size ≤ 1024)) }
+    ensures limits { IfSome result (λ size. (0 < size) × (size ≤ POOL_LIMIT)) }
 {
-    match number_under(1025, word) {
+    match number_under(POOL_LIMIT as u64 + 1, word) {
         Some(0) | None => None,
         Some(size) => Some(size as u32),
     }
@@ -31,7 +32,7 @@ fn read_size(word: &[u8]) -> Option<u32>
 
 fn read_pool(line: &[u8]) -> Option<u32>
     ensures size { result ≡ pool_said line.now }
-    ensures limits { IfSome result (λ size. (0 < size) × (size ≤ 1024)) }
+    ensures limits { IfSome result (λ size. (0 < size) × (size ≤ POOL_LIMIT)) }
 {
     match cut(line) {
         Some(parts) if parts.word == b"pool".as_slice() => read_size(parts.rest),

@@ -7,8 +7,8 @@ use Rattle.route_json.proofs.Numbers.{list_many, list_some}
 use Rattle.std.proofs.lemmas.Bool.Decides.{nat_tests}
 use Rattle.route_json.proofs.pools.read_list.Goals as goal
 
-pub returns-then-items-gt-MAX_POOL-clause-gives : goal.returns-then-items-gt-MAX_POOL-clause-gives
-returns-then-items-gt-MAX_POOL-clause-gives c =
+pub returns-then-items-clause-gives : goal.returns-then-items-clause-gives
+returns-then-items-clause-gives c =
     let more : 1024 < length c.args.items.now = omega arith in
     list_many c.args.name.now c.args.items.now c.args.servers.now more
     ∙ ap (λ (name : List ℕ). let r : Result (List WeightedServer × Addresses) Fault = Err (TooManyServers name) in r) (sym c.in_ok-from_str-2.ensures.ok)
