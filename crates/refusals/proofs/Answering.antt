@@ -1,0 +1,118 @@
+-- What a refusal run is, and that a gap without an all-sync and a warm-up has one.
+use Rattle.std.proofs.Common.{◌≡◌, ℕ, Bool, true, false, not, cond, nat_eq, List, [], ◌∷◌, map, Option, Some, None, IsSome, IfSome, inl, inr, refl, sym, ap, ◌∙◌, subst}
+use Rattle.mc_types.specs.declared.ask.Op.{Op}
+use Rattle.mc_types.specs.declared.ask.Op.TheVariants.{Delete}
+use Rattle.std.proofs.lemmas.Bool.{eq-eqb}
+use Rattle.mc_runs.specs.Log.{Scripted, Shown}
+use Rattle.request_parts.specs.declared.skip.Skip.TheVariants.{Nothing}
+use Rattle.request_parts.specs.Stream.{Stands}
+use Rattle.text_requests.specs.Spelling.{message_of}
+use Rattle.text_codec.specs.Classic.{Whole, classic}
+use Rattle.route_tree.specs.At.{tree_at}
+use Rattle.route_tree.specs.Direct.{words_of}
+use Rattle.route_tree.specs.Place.{tree_at_place}
+use Rattle.route_tree.specs.Plan.{Plan, IsGood}
+use Rattle.route_tree.specs.Route.{Route, IsTree}
+use Rattle.route_tree.specs.Word.{answer_of_nothing, tree_words}
+use Rattle.route_tree.proofs.Places.{place_is_enough}
+use Rattle.coverage.specs.declared.deleting.Deleting.TheVariants as kinds
+use Rattle.coverage.specs.Taking.{IsTaking, Takes, Clears, dialect_of}
+use Rattle.coverage.proofs.Choices.{not_false}
+use Rattle.fresh_gate.specs.declared.gap.Gap.{Gap}
+use Rattle.fleet_run.specs.declared.script.Report.{Report}
+use Rattle.fleet_run.specs.declared.script.Script.{Script}
+use Rattle.fleet_run.specs.Scripted.{scripted_of}
+use Rattle.fleet_run.specs.Driving.{Drives}
+use Rattle.fleet_run.specs.Opening.{opening_of}
+use Rattle.refusal_words.specs.Turns.{acks, finds}
+use Rattle.refusal_words.specs.Beside.{IsDirect}
+use Rattle.refusal_words.specs.Bait.{delete_of, read_of, answer_of}
+use Rattle.refusal_words.specs.Scripts.{Leaks}
+use Rattle.refusal_words.proofs.Beside.{gaps_have_words}
+use Rattle.refusal_words.proofs.Gaps.{numbers_have_script, stale_is_leak}
+use Rattle.refusals.specs.declared.failures.Failures.{Failures}
+use Rattle.refusals.specs.Tried.{IsFirstKey}
+use Rattle.refusals.specs.Commands.{script_for, delete_text, read_text}
+use Rattle.refusals.specs.Failing.{both, failures_of}
+use Rattle.refusals.specs.Refusals.{IsRealGap, IsRefusalRun, IsRoundabout, MayLack, IsAnswer}
+use Rattle.refusals.proofs.OneAsk.{quiet_start, one_delete, one_read}
+use Rattle.refusals.proofs.Baited.{baited}
+
+both_are : (d r : Option ℕ) (f : Failures) → both d r ≡ Some f → (d ≡ Some f.delete) × (r ≡ Some f.read)
+both_are None r f e = absurd (cc)
+both_are (Some d) None f e = absurd (cc)
+both_are (Some d) (Some r) f e =
+    let is : record { delete = d; read = r } ≡ f = cc in
+    (ap (λ (x : Failures). Some x.delete) is, ap (λ (x : Failures). Some x.read) is)
+
+both_none : (d r : Option ℕ) → both d r ≡ None → IsSome d → IsSome r → ⊥
+both_none None r e a b = absurd (cc)
+both_none (Some d) None e a b = absurd (cc)
+both_none (Some d) (Some r) e a b = cc
+
+-- the computed script
+module _ (tree : Route) (gap : Gap) (key : List ℕ) (f : Failures) (taking : IsTaking gap.op) (first : IsFirstKey tree gap.place key) (computed : failures_of gap.op gap.server (tree_at tree key) ≡ Some f) (good : IsGood (tree_at tree key)) where
+  numbers : (acks gap.server (tree_at tree key) ≡ Some f.delete) × (finds gap.op gap.server (tree_at tree key) ≡ Some f.read)
+  numbers = both_are (acks gap.server (tree_at tree key)) (finds gap.op gap.server (tree_at tree key)) f computed
+
+  abbrev events : List Scripted
+  events = script_for gap.server key gap.op f.delete f.read
+
+  leaks : Leaks classic (words_of tree) (opening_of events) events
+  leaks = numbers_have_script classic (λ n k. tree_at tree k) (opening_of events) key gap.op kinds.Delete gap.server (delete_text key) (read_text gap.op key) (Whole (message_of (delete_of kinds.Delete key))) (Whole (message_of (read_of gap.op key))) (Stands Nothing []) (Stands Nothing []) first.is_key.key_is taking good good (baited gap.server key f.delete f.read (delete_text key) (read_text gap.op key)) quiet_start (one_delete key (answer_of_nothing (dialect_of kinds.Delete) Delete) first.is_key.key_is) (one_read gap.op key (answer_of gap.op) taking first.is_key.key_is) f.delete f.read numbers.0 numbers.1
+
+  same_failures : (g : Failures) → failures_of gap.op gap.server (tree_at tree key) ≡ Some g → f ≡ g
+  same_failures g e = some_is f g (sym computed ∙ e)
+    where
+      some_is : (x y : Failures) → Some x ≡ Some y → x ≡ y
+      some_is x y e = cc
+
+  pub computed_run : (script : List Scripted) → script ≡ events → IsRefusalRun tree gap script
+  computed_run script is = subst (IsRefusalRun tree gap) (sym is) (record {
+    key = key;
+    first = first;
+    delete = f.delete;
+    read = f.read;
+    script_is = refl;
+    failing = λ g e. (ap (λ (x : Failures). x.delete) (same_failures g e), ap (λ (x : Failures). x.read) (same_failures g e));
+    leaks = leaks;
+  })
+
+-- a driven script
+pub driven_run : (tree : Route) (gap : Gap) (key : List ℕ) (script : List Scripted) → IsFirstKey tree gap.place key → failures_of gap.op gap.server (tree_at tree key) ≡ None → script ≡ script_for gap.server key gap.op 0 0 → Leaks classic (words_of tree) (opening_of script) script → IsRefusalRun tree gap script
+driven_run tree gap key script first none is leaks = record {
+  key = key;
+  first = first;
+  delete = 0;
+  read = 0;
+  script_is = is;
+  failing = λ g e. absurd (let a = none in cc);
+  leaks = leaks;
+}
+
+-- where no script is computed for a gap, an all-sync or a warm-up stands in the way
+pub none_roundabout : (tree : Route) (gap : Gap) (key : List ℕ) → IsTree tree → IsFirstKey tree gap.place key → IsGood (tree_at tree key) → failures_of gap.op gap.server (tree_at tree key) ≡ None → IsRealGap tree gap → IsRoundabout tree gap
+none_roundabout tree gap key is_tree first good none real direct1 direct2 =
+    let plain = tree_at_place tree gap.place in
+    let same : tree_at tree key ≡ plain = place_is_enough tree key gap.place is_tree first.is_key.at in
+    let good' : IsGood plain = subst IsGood same good in
+    both_none (acks gap.server plain) (finds gap.op gap.server plain) (subst (λ (p : Plan). failures_of gap.op gap.server p ≡ None) same none)
+    (gaps_have_words.kept plain gap.server gap.deleting good' direct1 real.gap_at.uncleared)
+    (gaps_have_words.taken plain gap.op gap.server good' direct2 real.gap_at.taken)
+
+pub none_answer : (tree t : Route) (gap : Gap) (key : List ℕ) (f : Option Failures) → t ≡ tree → IsTree t → IsFirstKey tree gap.place key → IsGood (tree_at t key) → f ≡ failures_of gap.op gap.server (tree_at t key) → f ≡ None → IsRealGap tree gap → MayLack tree gap
+none_answer tree t gap key f e is_tree first good computed none real =
+    inr (none_roundabout tree gap key (subst IsTree e is_tree) first (subst (λ (r : Route). IsGood (tree_at r key)) e good) (subst (λ (r : Route). failures_of gap.op gap.server (tree_at r key) ≡ None) e (sym computed ∙ none)) real)
+
+pub answered : (tree : Route) (gap : Gap) (found : Option Script) → IfSome found (λ script. IsRefusalRun tree gap (map scripted_of script.events.items)) → (IsRealGap tree gap → MayLack tree gap) → IsAnswer tree gap found
+answered tree gap None h n = n
+answered tree gap (Some script) h n = h
+
+-- a driver that counts a stale reply shows a leak
+pub drives_leak : (tree : Route) (events : List Scripted) (given : List Shown) (report : Report) → Drives tree events given report → not (nat_eq report.stale 0) ≡ true → Leaks classic (words_of tree) (opening_of events) events
+drives_leak tree events given report d t =
+    stale_is_leak classic (words_of tree) (opening_of events) events d.log d.follows d.script_is d.settled (λ e. not_false (nat_eq report.stale 0) t (eq-eqb report.stale 0 (d.stale ∙ e)))
+
+pub by_stale : (stale : Bool) (script : Script) (P : Script → Type 0) → (stale ≡ true → P script) → IfSome (cond stale (Some script) None) P
+by_stale true script P h = h refl
+by_stale false script P h = tt

@@ -1,0 +1,4 @@
+pub mod OneAsk
+pub mod Baited
+pub mod Placed
+pub mod Answering

@@ -1,0 +1,9 @@
+use Rattle.std.proofs.Common.{map}
+use Rattle.cache_server.proofs.CallLemmas.{if_ok}
+use Rattle.fleet_run.specs.Scripted.{scripted_of}
+use Rattle.refusals.proofs.Answering.{computed_run}
+use Rattle.refusals.proofs.run.computed_run.Goals as goal
+
+pub returns : goal.returns
+returns c =
+    if_ok c.script_for.result _ _ (λ script e. computed_run c.args.config.now.tree c.args.gap.now c.args.key.now c.args.failures c.requires.taking c.requires.first c.requires.computed c.requires.good (map scripted_of script.events.items) e) c.script_for.ensures

@@ -1,0 +1,14 @@
+use Rattle.std.proofs.Common.{Option, IfSome, map, sym, subst}
+use Rattle.fleet_run.specs.declared.script.Script.{Script}
+use Rattle.fleet_run.specs.Scripted.{scripted_of}
+use Rattle.refusals.specs.Refusals.{IsRefusalRun}
+use Rattle.refusals.proofs.Answering.{by_stale, driven_run}
+use Rattle.refusals.proofs.run.driven_run.Goals as goal
+
+pub returns : goal.returns
+returns c =
+    let tree = c.args.config.now.tree in
+    let gap = c.args.gap.now in
+    let script = c.in_ok-script.script in
+    subst (λ (found : Option Script). IfSome found (λ s. IsRefusalRun tree gap (map scripted_of s.events.items))) (sym c.only_if.ensures)
+    (by_stale c.in_ok-stale.stale script (λ s. IsRefusalRun tree gap (map scripted_of s.events.items)) (λ t. driven_run tree gap c.args.key.now (map scripted_of script.events.items) c.requires.first c.requires.none c.in_ok-script.ensures (c.in_ok-stale.ensures t)))

@@ -1,0 +1,4 @@
+pub mod Tried
+pub mod Commands
+pub mod Failing
+pub mod Refusals

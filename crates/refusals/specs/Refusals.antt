@@ -1,0 +1,58 @@
+-- Scripts that leak for a gap, and when there may be none. Source: mcgate's own.
+use Rattle.std.specs.Prelude.{◌≡◌, ℕ, ◌<◌, [], ◌∷◌, List, Option, Some, MatchOption, map, slice_get, ◌⊎◌}
+use Rattle.mc_types.specs.declared.ask.Op.{Op}
+use Rattle.mc_types.specs.declared.ask.Op.TheVariants.{Delete}
+use Rattle.mc_runs.specs.Log.{Scripted}
+use Rattle.route_tree.specs.Place.{tree_at_place}
+use Rattle.route_tree.specs.At.{tree_at}
+use Rattle.route_tree.specs.Route.{Route}
+use Rattle.route_tree.specs.Direct.{words_of}
+use Rattle.coverage.specs.declared.table.Class.{Class}
+use Rattle.coverage.specs.declared.table.PlaceTable.{PlaceTable}
+use Rattle.coverage.specs.Places.{place_at}
+use Rattle.coverage.specs.Tables.{IsTable}
+use Rattle.fresh_gate.specs.declared.gap.Gap.{Gap}
+use Rattle.fresh_gate.specs.Gate.{IsGapAt}
+use Rattle.text_codec.specs.Classic.{classic}
+use Rattle.fleet_run.specs.declared.script.Script.{Script}
+use Rattle.fleet_run.specs.Scripted.{scripted_of}
+use Rattle.fleet_run.specs.Opening.{opening_of}
+use Rattle.refusal_words.specs.Beside.{IsDirect}
+use Rattle.refusal_words.specs.Scripts.{Leaks}
+use Rattle.refusals.specs.declared.failures.Failures.{Failures}
+use Rattle.refusals.specs.Tried.{tried, NoneBefore, IsFirstKey}
+use Rattle.refusals.specs.Commands.{script_for}
+use Rattle.refusals.specs.Failing.{failures_of}
+
+-- the gap is one of the tree, at a place of its table
+pub record IsRealGap (tree : Route) (gap : Gap) : Type 0 where
+  pub table : PlaceTable
+  pub is_table : IsTable (tree ∷ []) table
+  pub index : ℕ
+  pub class : Class
+  pub is_class : slice_get table.classes.items index ≡ Some class
+  pub below : gap.place.residue < table.modulus
+  pub at : gap.place ≡ place_at class.prefix gap.place.residue table.modulus
+  pub gap_at : IsGapAt (tree_at_place tree gap.place) (tree_at_place tree gap.place) gap.server gap.op gap.deleting
+
+-- the script, over the first key that is tried and stands at the gap's place, has a run of the tree that isn't fresh, none of whose commands is broken; the failed calls are those that it names, not applied. Where each call but one of the delete and one of the read can fail, so many do before it
+pub record IsRefusalRun (tree : Route) (gap : Gap) (events : List Scripted) : Type 0 where
+  pub key : List ℕ
+  pub first : IsFirstKey tree gap.place key
+  pub delete : ℕ
+  pub read : ℕ
+  pub script_is : events ≡ script_for gap.server key gap.op delete read
+  pub failing : (f : Failures) → failures_of gap.op gap.server (tree_at tree key) ≡ Some f → (delete ≡ f.delete) × (read ≡ f.read)
+  pub leaks : Leaks classic (words_of tree) (opening_of events) events
+
+-- an all-sync or a warm-up stands in the plain tree of the delete or of the read, children for other operations aside
+abbrev pub IsRoundabout : Route → Gap → Type 0
+IsRoundabout tree gap = IsDirect Delete (tree_at_place tree gap.place) → IsDirect gap.op (tree_at_place tree gap.place) → ⊥
+
+-- why a gap of the tree may have no such script: no key that is tried is at its place, or an all-sync or a warm-up stands in the way
+abbrev pub MayLack : Route → Gap → Type 0
+MayLack tree gap = NoneBefore tree gap.place tried ⊎ IsRoundabout tree gap
+
+-- a script that leaks, or a reason for a gap to have none
+abbrev pub IsAnswer : Route → Gap → Option Script → Type 0
+IsAnswer tree gap found = MatchOption found (IsRealGap tree gap → MayLack tree gap) (λ script. IsRefusalRun tree gap (map scripted_of script.events.items))

@@ -1,0 +1,94 @@
+//! The keys that are tried for a place.
+ghost use Rattle.std.specs.Prelude.{◌≡◌, ◌↔◌, ◌++◌, [], ◌∷◌, IfOk, IsTrue};
+ghost use Rattle.route_tree.specs.Place.{prefix_text};
+ghost use Rattle.coverage.specs.Tables.{IsTable};
+ghost use Rattle.refusals.specs.Tried.{tried_text, IsTried, IsFirstTried};
+
+use coverage::PlaceTable;
+use itoa::Buffer;
+use mc_types::Key;
+use route_tree::{Place, Tree};
+use std::alloc::{AllocError, Global};
+
+/// How many keys are tried.
+pub const TRIED: u32 = 65_536;
+
+fn prefix_bytes(prefix: &Option<Key>) -> &[u8]
+    ensures { result.now ≡ prefix_text prefix.now }
+{
+    match prefix {
+        Some(prefix) => prefix.as_bytes(),
+        None => &[],
+    }
+}
+
+// The prefix, `k`, and the number.
+fn tried_text(alloc: Global, prefix: &Option<Key>, number: u32) -> Result<Vec<u8>, AllocError>
+    ensures { IfOk result (λ text. text.items ≡ tried_text prefix.now number) }
+{
+    let mut buffer = Buffer::new();
+    let mut text = Vec::from_slice(alloc, prefix_bytes(prefix))?;
+    text.extend_from_slice(b"k")?;
+    text.extend_from_slice(buffer.format(number).as_bytes())?;
+    Ok(text)
+}
+
+fn is_same_prefix(own: &Option<Key>, other: &Option<Key>) -> bool
+    ensures { IsTrue result ↔ (own.now ≡ other.now) }
+{
+    match (own, other) {
+        (None, None) => true,
+        (Some(own), Some(other)) => own.as_bytes() == other.as_bytes(),
+        _ => false,
+    }
+}
+
+fn is_same_place(own: &Place, other: &Place) -> bool
+    ensures { IsTrue result ↔ (own.now ≡ other.now) }
+{
+    own.residue == other.residue
+        && own.modulus == other.modulus
+        && is_same_prefix(&own.prefix, &other.prefix)
+}
+
+// The key of this number, where its text is a key at the place.
+fn tried_at(
+    alloc: Global,
+    tree: &Tree,
+    table: &PlaceTable,
+    place: &Place,
+    number: u32,
+) -> Result<Option<Key>, AllocError>
+    requires { IsTable (tree.now ∷ []) table.now }
+    ensures { IfOk result (IsTried tree.now place.now number) }
+{
+    let _tree = tree;
+    let text = tried_text(alloc, &place.prefix, number)?;
+    let Ok(key) = Key::read(text.as_slice()) else {
+        return Ok(None);
+    };
+    if is_same_place(&table.of(&key), place) {
+        Ok(Some(key))
+    } else {
+        Ok(None)
+    }
+}
+
+/// The first key at the place among the place's prefix followed by `k0`, `k1`, .. `k65535`; texts that are no key are
+/// passed over. The only error is want of memory.
+pub fn key_at(
+    alloc: Global,
+    tree: &Tree,
+    table: &PlaceTable,
+    place: &Place,
+) -> Result<Option<Key>, AllocError>
+    requires { IsTable (tree.now ∷ []) table.now }
+    ensures { IfOk result (IsFirstTried tree.now place.now) }
+{
+    for number in 0..TRIED {
+        if let Some(key) = tried_at(alloc, tree, table, place, number)? {
+            return Ok(Some(key));
+        }
+    }
+    Ok(None)
+}

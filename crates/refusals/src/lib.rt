@@ -1,0 +1,13 @@
+//! Refusal runs: for a gap of a configuration, a script whose run shows an item that is older than a delete.
+#![tactic(auto)]
+
+pub mod commands;
+pub mod failures;
+pub mod keys;
+pub mod run;
+pub mod script;
+
+pub use run::refusal_run;
+
+#[cfg(test)]
+mod tests;

@@ -1,0 +1,151 @@
+//! Scripts that leak, for gaps.
+ghost use Rattle.std.specs.Prelude.{◌≡◌, ◌↔◌, [], ◌∷◌, List, Some, None, true, map, MatchOption, IfOk, IfSome, IfNone, IsTrue, if◌then◌else◌};
+ghost use Rattle.mc_runs.specs.Log.{Scripted};
+ghost use Rattle.route_tree.specs.Plan.{IsGood};
+ghost use Rattle.route_tree.specs.At.{tree_at};
+ghost use Rattle.route_tree.specs.Direct.{words_of};
+ghost use Rattle.coverage.specs.Taking.{IsTaking};
+ghost use Rattle.coverage.specs.Tables.{IsTable};
+ghost use Rattle.text_codec.specs.Classic.{classic};
+ghost use Rattle.fleet_run.specs.Scripted.{scripted_of};
+ghost use Rattle.fleet_run.specs.Opening.{opening_of};
+ghost use Rattle.refusal_words.specs.Scripts.{Leaks};
+ghost use Rattle.refusals.specs.Tried.{IsFirstKey};
+ghost use Rattle.refusals.specs.Failing.{failures_of};
+ghost use Rattle.refusals.specs.Refusals.{MayLack, IsRefusalRun, IsRealGap, IsAnswer};
+
+use crate::failures::{Failures, failures_at};
+use crate::keys::key_at;
+use crate::script::script_for;
+use coverage::{PlaceFault, PlaceTable, places};
+use fleet_run::{DriveFault, MemoryFleet, Script, Transcript, drive_any};
+use fresh_gate::Gap;
+use mc_types::{Key, Op};
+use route_json::Config;
+use std::alloc::{AllocError, Global};
+
+// Whether the replies to the operation show items.
+fn is_read(op: Op) -> bool
+    ensures { IsTrue result ↔ IsTaking op }
+{
+    match op {
+        Op::Get | Op::Gat | Op::Incr | Op::Decr => true,
+        _ => false,
+    }
+}
+
+// Whether the script shows an item that is older than a delete, where it is driven.
+fn is_stale(alloc: Global, config: &Config, script: &Script) -> Result<bool, AllocError>
+    ensures { IfOk result (λ stale. stale ≡ true → Leaks classic (words_of config.now.tree) (opening_of (map scripted_of script.now.events.items)) (map scripted_of script.now.events.items)) }
+{
+    let servers = config.servers().len();
+    let mut fleet = MemoryFleet::new(alloc, servers as u32)?;
+    let mut transcript = Transcript {
+        shown: Vec::new(alloc),
+    };
+    match drive_any(alloc, config, &mut fleet, script, &mut transcript) {
+        Ok(report) => Ok(report.stale != 0),
+        Err(DriveFault::NoMemory) => Err(AllocError),
+        Err(DriveFault::BadEvent(_) | DriveFault::Spent) => Ok(false),
+    }
+}
+
+// The script in which the computed calls fail.
+fn computed_run(
+    alloc: Global,
+    config: &Config,
+    gap: &Gap,
+    key: &Key,
+    failures: Failures,
+) -> Result<Script, AllocError>
+    requires taking { IsTaking gap.now.op }
+    requires first { IsFirstKey config.now.tree gap.now.place key.now }
+    requires computed { failures_of gap.now.op gap.now.server (tree_at config.now.tree key.now) ≡ Some failures }
+    requires good { IsGood (tree_at config.now.tree key.now) }
+    ensures { IfOk result (λ script. IsRefusalRun config.now.tree gap.now (map scripted_of script.events.items)) }
+{
+    let _config = config;
+    script_for(alloc, gap.server, key, gap.op, failures)
+}
+
+fn only_if(stale: bool, script: Script) -> Option<Script>
+    ensures { result ≡ (if stale then Some script else None) }
+{
+    if stale { Some(script) } else { None }
+}
+
+// The script in which no call fails, where it leaks.
+fn driven_run(
+    alloc: Global,
+    config: &Config,
+    gap: &Gap,
+    key: &Key,
+) -> Result<Option<Script>, AllocError>
+    requires first { IsFirstKey config.now.tree gap.now.place key.now }
+    requires none { failures_of gap.now.op gap.now.server (tree_at config.now.tree key.now) ≡ None }
+    ensures { IfOk result (λ found. IfSome found (λ script. IsRefusalRun config.now.tree gap.now (map scripted_of script.events.items))) }
+{
+    let none = Failures { delete: 0, read: 0 };
+    let script = script_for(alloc, gap.server, key, gap.op, none)?;
+    let stale = is_stale(alloc, config, &script)?;
+    Ok(only_if(stale, script))
+}
+
+// The script over this key.
+fn run_over(
+    alloc: Global,
+    config: &Config,
+    gap: &Gap,
+    key: &Key,
+) -> Result<Option<Script>, AllocError>
+    requires taking { IsTaking gap.now.op }
+    requires first { IsFirstKey config.now.tree gap.now.place key.now }
+    ensures { IfOk result (IsAnswer config.now.tree gap.now) }
+{
+    let tree = config.tree();
+    let _form = tree.form();
+    match failures_at(alloc, tree, key, gap.op, gap.server)? {
+        Some(failures) => Ok(Some(computed_run(alloc, config, gap, key, failures)?)),
+        None => driven_run(alloc, config, gap, key),
+    }
+}
+
+// The script, by the tree's table.
+fn run_by(
+    alloc: Global,
+    config: &Config,
+    table: &PlaceTable,
+    gap: &Gap,
+) -> Result<Option<Script>, AllocError>
+    requires table { IsTable (config.now.tree ∷ []) table.now }
+    requires taking { IsTaking gap.now.op }
+    ensures { IfOk result (IsAnswer config.now.tree gap.now) }
+{
+    match key_at(alloc, config.tree(), table, &gap.place)? {
+        Some(key) => run_over(alloc, config, gap, &key),
+        None => Ok(None),
+    }
+}
+
+/// For a gap of the configuration's tree, a script that shows it: the gap's server holds `1` under a key at the gap's place, the
+/// key is deleted, and a read of the gap's operation shows that item all the same. Some calls of the delete and of the read
+/// may fail, not applied. The key is the first at the place among the gap's prefix followed by `k0`, `k1`, .. `k65535`; the
+/// delete is the classic one, which leaves the server whenever the delete of the meta dialect does.
+///
+/// `None` comes for a gap of the tree only where no key that is tried is at its place, or an all-sync or a warm-up stands in the
+/// plain tree of the delete or of the read, children for other operations aside. The only error is want of memory.
+///
+/// Source: mcgate's own.
+pub fn refusal_run(alloc: Global, config: &Config, gap: &Gap) -> Result<Option<Script>, AllocError>
+    ensures some { IfOk result (λ found. IfSome found (λ script. IsRefusalRun config.now.tree gap.now (map scripted_of script.events.items))) }
+    ensures none { IfOk result (λ found. IfNone found (IsRealGap config.now.tree gap.now → MayLack config.now.tree gap.now)) }
+{
+    if !is_read(gap.op) {
+        return Ok(None);
+    }
+    match places(alloc, config.tree()) {
+        Ok(table) => run_by(alloc, config, &table, gap),
+        Err(PlaceFault::TooManyPlaces) => Ok(None),
+        Err(PlaceFault::NoMemory) => Err(AllocError),
+    }
+}
