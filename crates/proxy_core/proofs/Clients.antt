@@ -62,6 +62,8 @@ module _ (old new : Core) (client : ℕ) (a b : Option Client) (t : Turns old ne
             (subst (λ o. IsQueue o (beside.queue client)) (sym t.is) (queue (beside.queue client) (subst (λ o. IsQueue o (beside.queue client)) t.was (fits.queues client))))
             (λ differs. subst (λ o. IsQueue o (beside.queue c)) (sym (t.others c differs)) (fits.queues c));
         tickets = λ s n. fits.tickets s n ∙ ap (λ o. ticket_by o n s) (sym (command_stays n));
+        single = fits.single;
+        numbers = λ n lt. command_stays n ∙ fits.numbers n (subst (λ m. m < n) t.number lt);
         unseen = λ n lt. fits.unseen n (subst (λ m. m < n) t.number lt);
         trees = λ n key lt. fits.trees n key (subst (λ m. m < n) t.number lt) ∙ ap (λ r. tree_at r key) (sym t.tree);
       }
@@ -224,6 +226,8 @@ closes old new client x t none = (
             | false ↦ λ differs. subst (λ o. IsQueue o (beside.queue c)) (sym (t.others c differs)) (fits.queues c)
           ]) refl;
           tickets = λ s n. fits.tickets s n ∙ ap (λ o. ticket_by o n s) (sym (command_stays old new client (Some x) None t n));
+          single = fits.single;
+          numbers = λ n lt. command_stays old new client (Some x) None t n ∙ fits.numbers n (subst (λ m. m < n) t.number lt);
           unseen = λ n lt. fits.unseen n (subst (λ m. m < n) t.number lt);
           trees = λ n key lt. fits.trees n key (subst (λ m. m < n) t.number lt) ∙ ap (λ r. tree_at r key) (sym t.tree);
         },

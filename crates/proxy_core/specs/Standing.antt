@@ -1,5 +1,5 @@
 -- What the core's clients, commands and calls stand for in the log of all that happened, and what each of its calls does. Source: mcgate's own.
-use Rattle.std.specs.Prelude.{◌≡◌, ℕ, ◌<◌, Bool, true, false, List, [], ◌∷◌, Option, Some, None, option_map, if◌then◌else◌, nat_eq, slice_get}
+use Rattle.std.specs.Prelude.{◌≡◌, ℕ, ◌+◌, ◌<◌, ◌≤◌, Bool, true, false, List, [], ◌∷◌, Option, Some, None, option_map, if◌then◌else◌, nat_eq, slice_get}
 use Rattle.slab.specs.Slab as slab
 use Rattle.indexmap.specs.IndexMap as map
 use Rattle.mc_types.specs.declared.ask.Ask.{Ask}
@@ -9,11 +9,11 @@ use Rattle.mc_types.specs.Items.{Item}
 use Rattle.mc_runs.specs.Run.{Call}
 use Rattle.mc_runs.specs.Protocol.{Protocol}
 use Rattle.mc_runs.specs.Overlap as log
-use Rattle.mc_runs.specs.Overlap.{Front, Slot, Owner, Ticket, Entry, Resets, ticket_in, is_last_slot, start_front}
+use Rattle.mc_runs.specs.Overlap.{Front, Slot, Owner, Ticket, Entry, Resets, ticket_in, without, is_last_slot, start_front}
 use Rattle.mc_runs.specs.OverlapStanding.{Standing, LeadsTo, Leads}
 use Rattle.request_parts.specs.Stream.{Place}
-use Rattle.text_requests.specs.Asks.{quiet_of}
-use Rattle.text_codec.specs.Classic.{classic, Said, Whole, LongLine}
+use Rattle.client_requests.specs.Asks.{quiet_of}
+use Rattle.text_codec.specs.TextProtocol.{memcached_text, Said, Whole, LongLine}
 use Rattle.route_tree.specs.At.{tree_at}
 use Rattle.route_tree.specs.Route.{Route}
 use Rattle.route_tree.specs.Plan.{Plan}
@@ -29,7 +29,7 @@ use Rattle.proxy_core.specs.declared.proxy.Core.{Core}
 
 -- what clients say, and what they are shown for it
 abbrev pub dialect : Protocol
-dialect = classic
+dialect = memcached_text
 
 abbrev pub Message : Type 0
 Message = Said
@@ -133,10 +133,12 @@ ticket_by (Some command) n s =
     else None
     else None
 
--- these can stand beside the core: it keeps of clients' commands and of calls that are out what agrees with them, commands to come found nothing, and run by its tree
+-- these can stand beside the core: it keeps of clients' commands and of calls that are out what agrees with them, a command has one call out at most, and commands to come have not begun, found nothing, and run by its tree
 pub record Fits (core : Core) (beside : Beside) : Type 0 where
   pub queues : (c : ℕ) → IsQueue (client_at core c) (beside.queue c)
   pub tickets : (s n : ℕ) → ticket_in (beside.out s) n ≡ ticket_by (command_at core n) n s
+  pub single : (s n : ℕ) → ticket_in (without n (beside.out s)) n ≡ None
+  pub numbers : (n : ℕ) → core.number < n → command_at core n ≡ None
   pub unseen : (n : ℕ) → core.number < n → beside.found n ≡ []
   pub trees : (n : ℕ) (key : List ℕ) → core.number < n → beside.at n key ≡ tree_at core.tree key
 
@@ -151,6 +153,7 @@ pub record IsFresh (tree : Route) (limits : Limits) (core : Core) : Type 0 where
   pub limits_are : core.limits ≡ limits
   pub tree_is : core.tree ≡ tree
   pub number : core.number ≡ 0
+  pub generation : core.generation ≡ 1
   pub fits : (at : ℕ → List ℕ → Plan) (opening : ℕ → List ℕ → Option Item) → ((n : ℕ) (key : List ℕ) → 0 < n → at n key ≡ tree_at tree key) → Fits core (nothing_beside at opening)
   pub leads : (at : ℕ → List ℕ → Plan) (opening : ℕ → List ℕ → Option Item) → LeadsTo (tree_words at) Alone opening [] (standing_of core (nothing_beside at opening))
 
@@ -171,6 +174,10 @@ GoesBy old IsKind new =
 -- this entry comes
 abbrev pub GoesByOne : Core → Entry dialect → Core → Type 0
 GoesByOne old entry new = GoesBy old (λ entries. entries ≡ entry ∷ []) new
+
+-- commands are under way
+abbrev pub IsOut : Core → Type 0
+IsOut core = 0 < map.index_map_len core.commands
 
 -- a place that was free is that of a new client, which said nothing
 pub record Opens (old : Core) (client : ℕ) (new : Core) : Type 0 where
@@ -194,3 +201,16 @@ Gives old client bytes new = (bytes ≡ output_by (client_at old client)) × Goe
 -- its place is free
 abbrev pub Closes : Core → ℕ → Core → Type 0
 Closes old client new = (client_at new client ≡ None) × GoesByOne old (Resets client) new
+
+-- these are the plain trees of what has begun, and behind that of this tree
+pub record IsTakenOver (old : Core) (tree : Route) (beside : Beside) (at : ℕ → List ℕ → Plan) : Type 0 where
+  pub begun : (n : ℕ) (key : List ℕ) → n ≤ old.number → at n key ≡ beside.at n key
+  pub coming : (n : ℕ) (key : List ℕ) → old.number < n → at n key ≡ tree_at tree key
+
+-- commands that begin from now on run by this tree, and all else is as it was. Whatever trees commands ran by, each log that led to the core before leads to the core after, with the plain trees of this one for numbers to come
+pub record Reloads (old : Core) (tree : Route) (new : Core) : Type 0 where
+  pub core_is : new ≡ record old { tree = tree; generation = old.generation + 1 }
+  pub fits : (beside : Beside) (at : ℕ → List ℕ → Plan) → Fits old beside → IsTakenOver old tree beside at → Fits new (record beside { at = at })
+  pub leads :
+      (beside : Beside) (at : ℕ → List ℕ → Plan) → IsTakenOver old tree beside at
+      → (opening : ℕ → List ℕ → Option Item) (log : List (Entry dialect)) → LeadsTo (tree_words beside.at) Alone opening log (standing_of old beside) → LeadsTo (tree_words at) Alone opening log (standing_of new (record beside { at = at }))

@@ -1,5 +1,12 @@
 //! Why a call of the core did nothing.
 
+/// Why a tree was not taken. The core is then as it was.
+#[derive(Clone, Copy)]
+pub enum ReloadFault {
+    /// The generation in use is the last that has a number.
+    TooManyGenerations,
+}
+
 /// Why a call of the core did nothing. The core is then as it was.
 #[derive(Clone, Copy)]
 pub enum CoreFault {

@@ -10,7 +10,7 @@ pub mod proxy;
 
 pub use client::Client;
 pub use command::Command;
-pub use fault::CoreFault;
+pub use fault::{CoreFault, ReloadFault};
 pub use limits::Limits;
 pub use proxy::Core;
 

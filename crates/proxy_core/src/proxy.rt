@@ -1,13 +1,13 @@
 //! The core and its calls.
 
 ghost use Rattle.slab.specs.Slab.{get};
-ghost use Rattle.std.specs.Prelude.{◌≡◌, ◌↔◌, IsTrue, IfOk, IfErr, OnOk};
-ghost use Rattle.proxy_core.specs.Standing.{IsFresh, Opens, Feeds, Gives, Closes};
+ghost use Rattle.std.specs.Prelude.{◌≡◌, ◌↔◌, IsTrue, IfOk, IfErr, OnOk, OnErr};
+ghost use Rattle.proxy_core.specs.Standing.{IsFresh, IsOut, Opens, Feeds, Gives, Closes, Reloads};
 ghost use Rattle.proxy_core.specs.Faults.{IsClosed, CanOpen, CanFeed, CanClose, OpenFault, FeedFault, OutputFault, CloseFault};
 
 use crate::client::Client;
 use crate::command::Command;
-use crate::fault::CoreFault;
+use crate::fault::{CoreFault, ReloadFault};
 use crate::limits::Limits;
 use crate::looking::has_commands;
 use indexmap::IndexMap;
@@ -25,6 +25,8 @@ pub struct Core {
     /// The last number that was given to a command.
     number: u64,
     limits: Limits,
+    /// How many trees were in use so far.
+    generation: u32,
     alloc: Global,
 }
 
@@ -39,6 +41,7 @@ impl Core {
             tree,
             number: 0,
             limits,
+            generation: 1,
             alloc,
         }
     }
@@ -114,5 +117,28 @@ impl Core {
             None => true,
             Some(x) => x.is_ended(),
         }
+    }
+
+    /// Whether a command has begun and not ended. It takes no memory.
+    pub fn is_out(&self) -> bool
+        ensures { IsTrue result ↔ IsOut self.now }
+    {
+        0 < self.commands.len()
+    }
+
+    /// Commands that begin from now on run by this tree, of which no gate is asked, and those that are under way end on
+    /// the tree on which they began. It gives the number of the tree's generation; the first tree is generation 1.
+    ///
+    /// `TooManyGenerations` where generation 4,294,967,295 is in use; then the core is as it was.
+    pub fn reload(&mut self, tree: Tree) -> Result<u32, ReloadFault>
+        ensures ok { IfOk result (λ generation. (generation ≡ self.new.generation) × Reloads self.old tree self.new) }
+        ensures err { OnErr result ((self.old.generation ≡ 4294967295) × (self.new ≡ self.old)) }
+    {
+        if self.generation == 4_294_967_295 {
+            return Err(ReloadFault::TooManyGenerations);
+        }
+        self.generation += 1;
+        self.tree = tree;
+        Ok(self.generation)
     }
 }

@@ -1,4 +1,5 @@
 use super::*;
+use bytes::BytesMut;
 use route_tree::{Tree, TreeForm};
 use std::alloc::{AllocError, Global};
 use std::test::Fail;
@@ -49,13 +50,23 @@ fn at_most_64_clients(rt: HostRuntime) -> Result<(), Fail> {
     Ok(())
 }
 
+// 2,097,152 letters.
+fn two_mebibytes(alloc: Global) -> Result<BytesMut, AllocError> {
+    let mut piece = BytesMut::new(alloc);
+    for _ in 0..64 {
+        piece.extend_from_slice(&[b'a'; 32_768])?;
+    }
+    Ok(piece)
+}
+
 // A fresh client takes a piece of 2,097,152 bytes, and then no byte more.
 fn is_full_behind_two_mebibytes(alloc: Global) -> Result<bool, AllocError> {
     let mut core = core(alloc)?;
     let Ok(client) = core.open_client() else {
         return Ok(false);
     };
-    let taken = core.feed(client, &[b'a'; 2_097_152]).is_ok();
+    let piece = two_mebibytes(alloc)?;
+    let taken = core.feed(client, piece.as_slice()).is_ok();
     Ok(taken && is(core.feed(client, b"a"), CoreFault::InputFull) && core.feed(client, b"").is_ok())
 }
 

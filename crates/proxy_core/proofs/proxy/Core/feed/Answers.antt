@@ -1,6 +1,5 @@
 use Rattle.std.proofs.Common.{sym, subst, MatchOption}
 use Rattle.indexmap.proofs.MapLemmas.{OnOk-map}
-use Rattle.proxy_core.specs.declared.proxy.Core.{Core}
 use Rattle.proxy_core.specs.Clients.{HasRoom}
 use Rattle.proxy_core.proofs.Clients.{fed}
 use Rattle.proxy_core.proofs.proxy.Core.feed.Goals as goal
