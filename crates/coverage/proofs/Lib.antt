@@ -22,3 +22,4 @@ pub mod RunLists
 pub mod SameStanding
 pub mod TakenPools
 pub mod SurePools
+pub mod SortedRows

@@ -1,5 +1,5 @@
 -- The servers that are taken make a valid row where the place has no gap.
-use Rattle.std.proofs.Common.{◌≡◌, zero, suc, ◌+◌, length, take, get_or, ℕ, ◌<◌, ◌≤◌, Bool, true, false, cond, ◌||◌, List, [], ◌∷◌, ◌++◌, nat_eq, nat_lt, Option, Some, None, ◌⊎◌, inl, inr, ⊎_elim, refl, sym, ap, ◌∙◌, subst, arith}
+use Rattle.std.proofs.Common.{◌≡◌, zero, suc, ◌+◌, length, ℕ, ◌<◌, ◌≤◌, Bool, true, false, cond, ◌||◌, List, [], ◌∷◌, nat_eq, nat_lt, Option, Some, None, ◌⊎◌, inl, inr, ⊎_elim, refl, sym, ap, ◌∙◌, subst, arith}
 use Rattle.std.specs.Prelude.{slice_index_or}
 use Rattle.std.proofs.lemmas.Bool.{eqb-true, eq-eqb, leb-true}
 use Rattle.route_tree.specs.Each.{Each, IsIn}
@@ -10,10 +10,10 @@ use Rattle.coverage.specs.Valid.{IsRising}
 use Rattle.coverage.proofs.Choices.{bool_is, either_left, either_right, either_split}
 use Rattle.coverage.proofs.Finding.{taken_is_exact}
 use Rattle.coverage.specs.Rows.{is_taken, number_in, put_number, with_number, IsRowOf}
-use Rattle.coverage.specs.Pools.{has, server_at, servers_at, taken_pools}
+use Rattle.coverage.specs.Pools.{has, taken_pools}
 use Rattle.coverage.specs.Proposed.{IsValidIfCovered}
 use Rattle.coverage.proofs.RowTests.{takes, taken_takes}
-use Rattle.coverage.proofs.TakenPools.{has_append, at_append, pools_are_taken}
+use Rattle.coverage.proofs.TakenPools.{pools_are_taken}
 use Rattle.route_tree.specs.Route.{Route}
 use Rattle.route_tree.specs.At.{left_of}
 
@@ -71,12 +71,6 @@ below_last (x ∷ y ∷ xs) (suc n) s last h e is lt =
     let b : y < s = r.0 in
     (omega (arith, a, b), r)
 
-pub put_last : (xs : List ℕ) (s : ℕ) → Each (λ y. y < s) xs → with_number xs s ≡ xs ++ s ∷ []
-put_last [] s h = refl
-put_last (x ∷ xs) s h =
-    let below : x < s = h.0 in
-    by_place (λ l. l ≡ x ∷ (xs ++ s ∷ [])) x xs s (λ lt. absurd (omega (arith, below, lt))) (λ e. absurd (omega (arith, below, e))) (λ _. ap (λ l. x ∷ l) (put_last xs s h.1))
-
 -- ---- membership
 
 pub has_in : (xs : List ℕ) (s : ℕ) → has xs s ≡ true → IsIn s xs
@@ -103,26 +97,6 @@ has_with (x ∷ xs) s t =
     by_place (λ l. has l t ≡ (nat_eq s t || has (x ∷ xs) t)) x xs s (λ _. refl)
     (λ e. subst (λ n. has (x ∷ xs) t ≡ (nat_eq n t || has (x ∷ xs) t)) (sym e) (or_twice (nat_eq x t) (has xs t)))
     (λ _. ap (λ b. nat_eq x t || b) (has_with xs s t) ∙ or_swap (nat_eq x t) (nat_eq s t) (has xs t))
-
--- ---- a row, pool by pool
-
-pub row_begins : (residue : ℕ) → IsRowOf residue [] []
-row_begins residue = record { rising = tt; holds = λ s. refl }
-
-or_last : (a b : Bool) → (a || b) ≡ (b || (a || false))
-or_last true true = refl
-or_last true false = refl
-or_last false true = refl
-or_last false false = refl
-
-pub row_next : (residue : ℕ) (pools : List (List ℕ)) (pool row : List ℕ) → IsRowOf residue pools row → IsRowOf residue (pools ++ pool ∷ []) (with_number row (server_at residue pool))
-row_next residue pools pool row h = record {
-  rising = stay_rising row (server_at residue pool) h.rising;
-  holds = λ s.
-      has_with row (server_at residue pool) s ∙ ap (λ b. nat_eq (server_at residue pool) s || b) (h.holds s)
-      ∙ or_last (nat_eq (server_at residue pool) s) (has (servers_at residue pools) s)
-      ∙ sym (ap (λ l. has l s) (at_append residue pools (pool ∷ [])) ∙ has_append (servers_at residue pools) (server_at residue pool ∷ []) s);
-}
 
 -- ---- what is proposed
 

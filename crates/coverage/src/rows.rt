@@ -1,39 +1,17 @@
 //! The servers from which reads take at a residue, as a row.
 
-ghost use Rattle.std.specs.Prelude.{◌≡◌, ◌≤◌, [], ◌∷◌, ◌++◌, true, IfOk, IfSome, length};
+ghost use Rattle.std.specs.Prelude.{◌≡◌, [], ◌∷◌, ◌++◌, true, IfOk};
+ghost use Rattle.coverage.specs.Pools.{servers_at};
 ghost use Rattle.coverage.specs.Valid.{IsRising};
-ghost use Rattle.coverage.specs.Rows.{number_in, with_number, IsRowOf};
+ghost use Rattle.coverage.specs.Rows.{IsRowOf};
 
 use crate::pools::Pool;
 use mc_types::ServerId;
 use std::alloc::AllocError;
 
-// Where the server goes in, unless it is there.
-fn number_in(row: &[ServerId], server: ServerId) -> Option<usize>
-    ensures place { result ≡ number_in row.now server }
-    ensures within { IfSome result (λ i. i ≤ length row.now) }
-{
-    match row {
-        [] => Some(0),
-        [first, rest @ ..] => {
-            if server.number() < first.number() {
-                Some(0)
-            } else if server.number() == first.number() {
-                None
-            } else {
-                match number_in(rest, server) {
-                    None => None,
-                    Some(index) => Some(index + 1),
-                }
-            }
-        }
-    }
-}
-
-// Whether the server goes after all others: a quick test of what mostly holds, as a pool's servers follow those before.
+// Whether a row that rises still does with this server behind it.
 fn goes_last(row: &[ServerId], server: ServerId) -> bool
-    requires { IsRising row.now }
-    ensures { result ≡ true → with_number row.now server ≡ row.now ++ server ∷ [] }
+    ensures { result ≡ true → IsRising row.now → IsRising (row.now ++ server ∷ []) }
 {
     if row.is_empty() {
         return true;
@@ -42,22 +20,26 @@ fn goes_last(row: &[ServerId], server: ServerId) -> bool
     last.number() < server.number()
 }
 
-// Puts the server in its place, unless it is there.
-fn put_in(row: &mut Vec<ServerId>, server: ServerId) -> Result<(), AllocError>
-    requires { IsRising row.now.items }
-    ensures { IfOk result (λ _. row.new.items ≡ with_number row.old.items server) }
+// The same of a row that is only thought to rise.
+fn still_rises(rises: bool, row: &[ServerId], server: ServerId) -> bool
+    ensures { (rises ≡ true → IsRising row.now) → result ≡ true → IsRising (row.now ++ server ∷ []) }
 {
-    if goes_last(row, server) {
+    rises && goes_last(row, server)
+}
+
+// Puts in the pools' servers at the residue, one after another, and answers whether they rise, as they mostly do.
+fn put_servers(pools: &[Pool], residue: u32, row: &mut Vec<ServerId>) -> Result<bool, AllocError>
+    ensures servers { IfOk result (λ _. row.new.items ≡ servers_at residue pools.now) }
+    ensures rising { IfOk result (λ rises. rises ≡ true → IsRising row.new.items) }
+{
+    row.clear();
+    let mut rises = true;
+    for pool in pools {
+        let server = pool.at(residue);
+        rises = still_rises(rises, row, server);
         row.push(server)?;
-        return Ok(());
     }
-    match number_in(row, server) {
-        None => Ok(()),
-        Some(index) => {
-            row.insert(index, server)?;
-            Ok(())
-        }
-    }
+    Ok(rises)
 }
 
 /// Puts into the row, for what it held, the servers of the pools at the residue, each once and rising. The only error is
@@ -65,9 +47,10 @@ fn put_in(row: &mut Vec<ServerId>, server: ServerId) -> Result<(), AllocError>
 pub fn put_row(pools: &[Pool], residue: u32, row: &mut Vec<ServerId>) -> Result<(), AllocError>
     ensures { IfOk result (λ _. IsRowOf residue pools.now row.new.items) }
 {
-    row.clear();
-    for pool in pools {
-        put_in(row, pool.at(residue))?;
+    if put_servers(pools, residue, row)? {
+        return Ok(());
     }
+    row.sort_unstable_by_key(|server| server.number());
+    row.dedup();
     Ok(())
 }

@@ -1,5 +1,5 @@
 -- Where each place of a table is covered, some certificate is valid: at each residue a run of the servers that are taken.
-use Rattle.std.proofs.Common.{◌≡◌, ℕ, zero, suc, ◌+◌, ◌*◌, ◌^◌, ◌<◌, ◌≤◌, Bool, true, false, cond, ◌||◌, List, [], ◌∷◌, ◌++◌, length, map, nat_eq, nat_le, slice_get, Option, Some, None, Result, Ok, Err, MatchResult, refl, sym, ap, ◌∙◌, subst, arith}
+use Rattle.std.proofs.Common.{◌≡◌, ℕ, zero, suc, ◌+◌, ◌*◌, ◌^◌, ◌<◌, ◌≤◌, Bool, true, false, cond, ◌||◌, List, [], ◌∷◌, length, nat_eq, nat_le, slice_get, Option, Some, refl, sym, ap, ◌∙◌, subst, arith}
 use Rattle.std.proofs.lemmas.Bool.{leb-true, le-leb}
 use Rattle.route_tree.specs.Each.{Each}
 use Rattle.route_tree.specs.At.{left_of}
@@ -10,7 +10,7 @@ use Rattle.coverage.specs.declared.table.Run.{Run}
 use Rattle.coverage.specs.declared.table.ClassRows.{ClassRows}
 use Rattle.coverage.specs.declared.table.PlaceTable.{PlaceTable}
 use Rattle.coverage.specs.declared.table.Certificate.{Certificate}
-use Rattle.coverage.specs.Pools.{has, server_at, servers_at, taken_pools}
+use Rattle.coverage.specs.Pools.{has, servers_at, taken_pools}
 use Rattle.coverage.specs.Rows.{with_number, IsRowOf}
 use Rattle.coverage.specs.Tables.{IsTable}
 use Rattle.coverage.specs.Valid.{EachClass, IsClass, IsShaped, IsRising, IsValidRow, AreBehind, AreRuns, AreValidRows, run_at}

@@ -2,8 +2,7 @@ use Rattle.std.proofs.Common.{◌≡◌, ◌∙◌, List, ℕ, true, ap, sym, su
 use Rattle.route_tree.specs.At.{left_of}
 use Rattle.route_tree.specs.Place.{prefix_text}
 use Rattle.route_tree.specs.Plan.{Plan}
-use Rattle.coverage.specs.Pools.{servers_at, taken_pools}
-use Rattle.coverage.specs.Doubted.{doubted_pools}
+use Rattle.coverage.specs.Pools.{servers_at}
 use Rattle.fresh_gate.specs.Looking.{IfGap}
 use Rattle.fresh_gate.specs.Rows.{HoldsTaken, IsTakenRow, all_cleared}
 use Rattle.fresh_gate.proofs.RowTests.{cleared_covers, good_left, holds_what_is_taken}
