@@ -1,0 +1,74 @@
+-- What is printed of a configuration's text. Source: mcgate's own.
+use Rattle.std.specs.Prelude.{◌≡◌, ℕ, ◌⊎◌, List, [], ◌∷◌, Option, Ok, IsSome}
+use Rattle.std.specs.Io.KnownBytes.{Appends}
+use Rattle.serde_json.specs.Read.{read}
+use Rattle.route_tree.specs.Route.{Route}
+use Rattle.route_json.specs.declared.fault.ConfigFault.{ConfigFault}
+use Rattle.route_json.specs.Fault.{Fails, fault_of}
+use Rattle.route_json.specs.Configs.{read_or}
+use Rattle.route_json.specs.Configuration.{Configuration}
+use Rattle.coverage.specs.declared.table.PlaceTable.{PlaceTable}
+use Rattle.coverage.specs.Tables.{IsTable, row_count}
+use Rattle.fresh_gate.specs.declared.gap.Reason.{Reason}
+use Rattle.fresh_gate.specs.declared.gap.Reason.TheVariants as reasons
+use Rattle.fresh_gate.specs.Gate.{IsCertified, IsJudged}
+use Rattle.script_text.specs.Printed.{config_fault_line}
+use Rattle.config_check.specs.Verdict.{accepted_line, refusal_line}
+use Rattle.config_check.specs.declared.status.RunFault.{RunFault}
+use Rattle.config_check.specs.declared.status.RunFault.TheVariants.{NoMemory, Writer}
+
+-- the tree's table of places has so many
+abbrev pub HasPlaces : Route → ℕ → Type 0
+HasPlaces tree n = (table : PlaceTable) × IsTable (tree ∷ []) table × (n ≡ row_count table)
+
+-- some certificate is valid for the tree, and that and the number of its places were written
+pub record PrintsAccepted (tree : Route) (old new : Option (List ℕ)) : Type 0 where
+  pub certified : IsCertified tree
+  pub places : ℕ
+  pub counted : HasPlaces tree places
+  pub printed : Appends old new (accepted_line places)
+
+-- a reason that has a line
+abbrev pub IsTold : Reason → Type 0
+IsTold reasons.TooManyPlaces = Unit {0}
+IsTold (reasons.BadCertificate row) = Unit {0}
+IsTold (reasons.Uncovered gap) = Unit {0}
+IsTold reasons.NoMemory = ⊥
+
+-- the tree is refused for this reason, and that was written
+pub record PrintsRefused (config : Configuration) (old new : Option (List ℕ)) : Type 0 where
+  pub reason : Reason
+  pub told : IsTold reason
+  pub judged : IsJudged config.tree reason
+  pub printed : Appends old new (refusal_line config.servers reason)
+
+-- the verdict on a configuration was written; status 0: it is accepted; status 1: it is refused
+abbrev pub ChecksConfig : Configuration → Option (List ℕ) → Option (List ℕ) → ℕ → Type 0
+ChecksConfig config old new status = ((status ≡ 0) × PrintsAccepted config.tree old new) ⊎ ((status ≡ 1) × PrintsRefused config old new)
+
+-- the text is a configuration, and the verdict on it was written
+pub record PrintsVerdict (text : List ℕ) (old new : Option (List ℕ)) (status : ℕ) : Type 0 where
+  pub config : Configuration
+  pub said : read_or (read text) ≡ Ok (config.tree, config.servers)
+  pub checks : ChecksConfig config old new status
+
+-- the text is none: reading it fails by this fault, which isn't want of memory, and that was written
+pub record PrintsFault (text : List ℕ) (old new : Option (List ℕ)) : Type 0 where
+  pub fault : ConfigFault
+  pub told : IsSome (fault_of fault)
+  pub said : Fails (fault_of fault) (read_or (read text))
+  pub printed : Appends old new (config_fault_line fault)
+
+-- status 2: the text is no configuration
+abbrev pub Checks : List ℕ → Option (List ℕ) → Option (List ℕ) → ℕ → Type 0
+Checks text old new status = PrintsVerdict text old new status ⊎ ((status ≡ 2) × PrintsFault text old new)
+
+-- the answer where a run was broken off
+abbrev pub answer_of : RunFault → ℕ
+answer_of NoMemory = 3
+answer_of Writer = 4
+
+-- where memory was refused nothing was written; nothing is said of a writer that failed
+abbrev pub StopsUnwritten : Option (List ℕ) → Option (List ℕ) → RunFault → Type 0
+StopsUnwritten old new NoMemory = new ≡ old
+StopsUnwritten old new Writer = Unit {0}

@@ -1,0 +1,115 @@
+//! A configuration's text, checked.
+
+ghost use Rattle.std.specs.Prelude.{◌≡◌, ◌≤◌, IfOk, IfErr};
+ghost use Rattle.serde_json.specs.Read.{read};
+ghost use Rattle.route_json.specs.Configs.{read_or};
+ghost use Rattle.route_json.specs.Fault.{Fails, fault_of};
+ghost use Rattle.fresh_gate.specs.Gate.{IsCertified, IsJudged};
+ghost use Rattle.config_check.specs.Checking.{Checks, ChecksConfig, PrintsAccepted, PrintsRefused, StopsUnwritten, HasPlaces};
+
+use crate::status::{BAD_INPUT, DONE, REFUSED, RunFault, answer_of};
+use crate::verdict::{write_accepted, write_refusal};
+use coverage::places;
+use fresh_gate::{Reason, judge};
+use route_json::{Config, ConfigFault, read_config};
+use route_tree::Tree;
+use script_text::printer::write_config_fault;
+use std::alloc::{AllocError, Global};
+use std::io::Write;
+
+// How many places an accepted tree has.
+fn place_count(alloc: Global, tree: &Tree) -> Result<u32, AllocError>
+    requires { IsCertified tree.now }
+    ensures { IfOk result (HasPlaces tree.now) }
+{
+    match places(alloc, tree) {
+        Ok(table) => Ok(table.rows()),
+        Err(_) => Err(AllocError),
+    }
+}
+
+// Writes that a tree is accepted, with the number of its places.
+fn print_accepted<W: Write>(alloc: Global, tree: &Tree, out: &mut W) -> Result<u8, RunFault>
+    requires { IsCertified tree.now }
+    ensures ok { IfOk result (λ status. (status ≡ 0) × PrintsAccepted tree.now (W.contents out.old) (W.contents out.new)) }
+    ensures err { IfErr result (StopsUnwritten (W.contents out.old) (W.contents out.new)) }
+{
+    let count = place_count(alloc, tree)?;
+    write_accepted(count, out)?;
+    Ok(DONE)
+}
+
+/// Writes why a configuration is refused; where that is want of memory, it is the error, and nothing was written.
+pub fn print_refused<W: Write>(
+    config: &Config,
+    reason: &Reason,
+    out: &mut W,
+) -> Result<u8, RunFault>
+    requires { IsJudged config.now.tree reason.now }
+    ensures ok { IfOk result (λ status. (status ≡ 1) × PrintsRefused config.now (W.contents out.old) (W.contents out.new)) }
+    ensures err { IfErr result (StopsUnwritten (W.contents out.old) (W.contents out.new)) }
+{
+    match reason {
+        Reason::NoMemory => Err(RunFault::NoMemory),
+        told => {
+            write_refusal(config.servers(), told, out)?;
+            Ok(REFUSED)
+        }
+    }
+}
+
+// Judges a configuration, and writes the verdict.
+fn check_config<W: Write>(alloc: Global, config: Config, out: &mut W) -> Result<u8, RunFault>
+    ensures ok { IfOk result (ChecksConfig config (W.contents out.old) (W.contents out.new)) }
+    ensures err { IfErr result (StopsUnwritten (W.contents out.old) (W.contents out.new)) }
+{
+    match judge(alloc, config) {
+        Ok(accepted) => print_accepted(alloc, accepted.config().tree(), out),
+        Err(refused) => print_refused(&refused.config, &refused.reason, out),
+    }
+}
+
+// Writes the fault of a text that is no configuration, unless that is want of memory.
+fn print_fault<W: Write>(text: &str, fault: &ConfigFault, out: &mut W) -> Result<u8, RunFault>
+    requires { Fails (fault_of fault.now) (read_or (read text.now)) }
+    ensures ok { IfOk result (Checks text.now (W.contents out.old) (W.contents out.new)) }
+    ensures err { IfErr result (StopsUnwritten (W.contents out.old) (W.contents out.new)) }
+{
+    let _text = text;
+    match fault {
+        ConfigFault::NoMemory => Err(RunFault::NoMemory),
+        told => {
+            write_config_fault(told, out)?;
+            Ok(BAD_INPUT)
+        }
+    }
+}
+
+// Judges the configuration of a text, or writes why it is none.
+fn check_text<W: Write>(alloc: Global, text: &str, out: &mut W) -> Result<u8, RunFault>
+    ensures ok { IfOk result (Checks text.now (W.contents out.old) (W.contents out.new)) }
+    ensures err { IfErr result (StopsUnwritten (W.contents out.old) (W.contents out.new)) }
+{
+    match read_config(alloc, text) {
+        Ok(config) => check_config(alloc, config, out),
+        Err(fault) => print_fault(text, &fault, out),
+    }
+}
+
+/// Judges the configuration that a JSON text means, and prints the verdict: `accepted places=N`, or `refused: ` and why; or the
+/// first fault of a text that is no configuration.
+///
+/// The answer is the exit status of what was printed, [`DONE`], [`REFUSED`] or [`BAD_INPUT`]; or else `NO_MEMORY` where memory
+/// was refused: then nothing was printed; or `WRITER` where the output could not be written: then a part of the line may have been.
+///
+/// Source: mcgate's own.
+pub fn run_check<W: Write>(alloc: Global, text: &str, out: &mut W) -> u8
+    ensures status { result ≤ 4 }
+    ensures wrote { result ≤ 2 → Checks text.now (W.contents out.old) (W.contents out.new) result }
+    ensures refused { result ≡ 3 → W.contents out.new ≡ W.contents out.old }
+{
+    match check_text(alloc, text, out) {
+        Ok(status) => status,
+        Err(fault) => answer_of(fault),
+    }
+}

@@ -1,0 +1,14 @@
+//! What `mcgate check` prints: the gate's verdict on a configuration, or the configuration's fault.
+#![tactic(auto)]
+
+pub mod checking;
+pub mod names;
+pub mod status;
+pub mod verdict;
+
+pub use checking::run_check;
+pub use status::RunFault;
+pub use verdict::{write_accepted, write_refusal};
+
+#[cfg(test)]
+mod tests;
