@@ -35,13 +35,13 @@ pub quiet_start : IsStuck classic (Stands Nothing [])
 quiet_start (Whole message) next r = let some = takes_some [] message r.0 r.1 in let all = used_within classic_grammar [] message r.0 r.1 in absurd (omega (arith, some, all))
 quiet_start LongLine next r = absurd (omega (arith, r.0.long))
 
-module _ (ask : Ask) (text : List ℕ) (reply : Answer) (is : IsClassicAsk ask) (spelled : spelling_of ask ≡ text) (no_own : own_by (order_for ask.op ask) ≡ None) where
+module _ (ask : Ask) (text : List ℕ) (reply : Answer) (is : IsClassicAsk ask) (spelled : spelling_of ask ≡ text) (goes_on : behind (message_of ask) [] ≡ Stands Nothing []) where
   begins : Begins text (message_of ask) (length text)
   begins = subst (λ (t : List ℕ). Begins t (message_of ask) (length t)) spelled
       (subst (λ (t : List ℕ). Begins t (message_of ask) (length (spelling_of ask))) (append-nil (spelling_of ask)) (asks_are_read_back ask [] is))
 
   left : Stands Nothing [] ≡ behind (message_of ask) (drop (length text) text)
-  left = sym (ap (behind (message_of ask)) (drop-length text) ∙ ap (λ o. behind_own o []) no_own)
+  left = sym (ap (behind (message_of ask)) (drop-length text) ∙ goes_on)
 
   alone : asks_of (message_of ask) ≡ ask ∷ []
   alone = (messages_are_one_ask ask is).0
@@ -72,19 +72,19 @@ read_spelled Cas key t = absurd t
 read_spelled Delete key t = absurd t
 read_spelled Touch key t = absurd t
 
-no_own_read : (op : Op) (key : List ℕ) → IsTaking op → own_by (order_for op (read_of op key)) ≡ None
-no_own_read Get key t = refl
-no_own_read Gat key t = refl
-no_own_read Incr key t = refl
-no_own_read Decr key t = refl
-no_own_read Set key t = absurd t
-no_own_read Add key t = absurd t
-no_own_read Replace key t = absurd t
-no_own_read Append key t = absurd t
-no_own_read Prepend key t = absurd t
-no_own_read Cas key t = absurd t
-no_own_read Delete key t = absurd t
-no_own_read Touch key t = absurd t
+goes_on_read : (op : Op) (key : List ℕ) → IsTaking op → behind (message_of (read_of op key)) [] ≡ Stands Nothing []
+goes_on_read Get key t = refl
+goes_on_read Gat key t = refl
+goes_on_read Incr key t = refl
+goes_on_read Decr key t = refl
+goes_on_read Set key t = absurd t
+goes_on_read Add key t = absurd t
+goes_on_read Replace key t = absurd t
+goes_on_read Append key t = absurd t
+goes_on_read Prepend key t = absurd t
+goes_on_read Cas key t = absurd t
+goes_on_read Delete key t = absurd t
+goes_on_read Touch key t = absurd t
 
 pub one_read : (op : Op) (key : List ℕ) (reply : Answer) → IsTaking op → IsKey key → IsOneAsk classic (Stands Nothing []) (read_text op key) (read_of op key) reply (Whole (message_of (read_of op key))) (Stands Nothing [])
-one_read op key reply t k = one_ask (read_of op key) (read_text op key) reply (record { well_formed = (read_is op key t k).is; classic = refl }) (read_spelled op key t) (no_own_read op key t)
+one_read op key reply t k = one_ask (read_of op key) (read_text op key) reply (record { well_formed = (read_is op key t k).is; classic = refl }) (read_spelled op key t) (goes_on_read op key t)
