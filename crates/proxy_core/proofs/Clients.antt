@@ -19,16 +19,8 @@ use Rattle.proxy_core.specs.declared.command.Command.{Command}
 use Rattle.proxy_core.specs.declared.proxy.Core.{Core}
 use Rattle.proxy_core.specs.Clients.{IsNew, Takes, TakesPiece, LosesOutput}
 use Rattle.proxy_core.specs.Faults.{has_commands}
+use Rattle.proxy_core.specs.Steps.{Turns}
 use Rattle.proxy_core.specs.Standing.{dialect, Alone, client_at, command_at, Beside, front_by, output_by, dropped_by, owner_by, LeftBy, standing_of, AreSlots, IsAtFront, IsQueue, ticket_by, Fits, GoesByOne, Opens, Feeds, FeedsOpen, Gives, Closes}
-
--- one client's place changed, and nothing else of the core but the room for clients
-pub record Turns (old new : Core) (client : ℕ) (a b : Option Client) : Type 0 where
-  pub was : client_at old client ≡ a
-  pub is : client_at new client ≡ b
-  pub others : (c : ℕ) → nat_eq client c ≡ false → client_at new c ≡ client_at old c
-  pub commands : new.commands ≡ old.commands
-  pub tree : new.tree ≡ old.tree
-  pub number : new.number ≡ old.number
 
 -- a fact of each client, by whether it is the one
 by_client : (client c : ℕ) (A : ℕ → Type 0) → A client → (nat_eq client c ≡ false → A c) → A c
@@ -40,7 +32,7 @@ by_client client c A here there =
 
 module _ (old new : Core) (client : ℕ) (a b : Option Client) (t : Turns old new client a b) where
   -- what a client stands for, where an entry changes that of one
-  changed : {A : Type 0} (f : Option Client → A) (g : A → A) → f b ≡ g (f a) → (c : ℕ) → f (client_at new c) ≡ cond (nat_eq client c) (g (f (client_at old c))) (f (client_at old c))
+  pub changed : {A : Type 0} (f : Option Client → A) (g : A → A) → f b ≡ g (f a) → (c : ℕ) → f (client_at new c) ≡ cond (nat_eq client c) (g (f (client_at old c))) (f (client_at old c))
   changed f g e c =
       (elim (nat_eq client c) as (λ z. nat_eq client c ≡ z → f (client_at new c) ≡ cond z (g (f (client_at old c))) (f (client_at old c))) [
         | true ↦ λ same. subst (λ d. f (client_at new d) ≡ g (f (client_at old d))) (eqb-true client c same) (ap f t.is ∙ e ∙ ap (λ o. g (f o)) (sym t.was))
@@ -48,14 +40,14 @@ module _ (old new : Core) (client : ℕ) (a b : Option Client) (t : Turns old ne
       ]) refl
 
   -- what stays of each client
-  stays : {A : Type 0} (f : Option Client → A) → f b ≡ f a → (c : ℕ) → f (client_at new c) ≡ f (client_at old c)
+  pub stays : {A : Type 0} (f : Option Client → A) → f b ≡ f a → (c : ℕ) → f (client_at new c) ≡ f (client_at old c)
   stays f e c = by_client client c (λ d. f (client_at new d) ≡ f (client_at old d)) (ap f t.is ∙ e ∙ ap f (sym t.was)) (λ differs. ap f (t.others c differs))
 
-  command_stays : (n : ℕ) → command_at new n ≡ command_at old n
+  pub command_stays : (n : ℕ) → command_at new n ≡ command_at old n
   command_stays n = ap (λ m. map.get nat_eq m n) t.commands
 
   -- the same stands beside it, where the client's commands in the log are still those that it keeps
-  still_fits : (beside : Beside) → Fits old beside → ((slots : List (Slot dialect)) → IsQueue a slots → IsQueue b slots) → Fits new beside
+  pub still_fits : (beside : Beside) → Fits old beside → ((slots : List (Slot dialect)) → IsQueue a slots → IsQueue b slots) → Fits new beside
   still_fits beside fits queue =
       record {
         queues = λ c. by_client client c (λ d. IsQueue (client_at new d) (beside.queue d))
@@ -68,7 +60,7 @@ module _ (old new : Core) (client : ℕ) (a b : Option Client) (t : Turns old ne
         trees = λ n key lt. fits.trees n key (subst (λ m. m < n) t.number lt) ∙ ap (λ r. tree_at r key) (sym t.tree);
       }
 
-  owners : (n : ℕ) → option_map owner_by (command_at new n) ≡ option_map owner_by (command_at old n)
+  pub owners : (n : ℕ) → option_map owner_by (command_at new n) ≡ option_map owner_by (command_at old n)
   owners n = ap (option_map owner_by) (command_stays n)
 
 -- where a client's commands stay, and where the starting of them stands goes on by bytes at most

@@ -1,3 +1,4 @@
 pub mod Clients
 pub mod Standing
 pub mod Faults
+pub mod Steps

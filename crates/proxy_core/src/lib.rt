@@ -4,6 +4,7 @@
 pub mod client;
 pub mod command;
 pub mod fault;
+pub mod laws;
 pub mod limits;
 pub mod looking;
 pub mod proxy;

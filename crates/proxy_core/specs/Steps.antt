@@ -1,0 +1,149 @@
+-- What changes in the core when a command of a client begins, its call goes out and has its result, and its reply is shown; that each of these is a step of the core is a law. Source: mcgate's own.
+use Rattle.std.specs.Prelude.{◌≡◌, ℕ, ◌+◌, true, false, List, [], ◌∷◌, ◌++◌, Option, Some, if◌then◌else◌, nat_eq}
+use Rattle.mc_types.specs.Asks.{IsAsk}
+use Rattle.mc_types.specs.declared.answer.Answer.{Answer}
+use Rattle.mc_types.specs.declared.call.Outcome.{Outcome}
+use Rattle.mc_types.specs.declared.call.Origin.TheVariants.{Client as OfClient}
+use Rattle.mc_runs.specs.Run.{Call, End, outcome_of}
+use Rattle.mc_runs.specs.Fleet.{EndsIn}
+use Rattle.mc_runs.specs.Log.{Part}
+use Rattle.mc_runs.specs.Sharing.{Event, Calls, after_event}
+use Rattle.mc_runs.specs.Overlap.{Slot, Starts, Sends, Happens, Shows, Passes, after_start, slot_of, IsNext, out_after}
+use Rattle.mc_runs.specs.OverlapStanding.{Leads, found_after}
+use Rattle.request_parts.specs.Stream.{Place}
+use Rattle.text_codec.specs.Replies.{shown_text}
+use Rattle.route_tree.specs.At.{tree_at}
+use Rattle.route_tree.specs.Word.{Given, Word, tree_words}
+use Rattle.route_job.specs.Rest.{ask_under, origin_under}
+use Rattle.route_job.specs.Jobs.{server_in, call_of, Comes}
+use Rattle.proxy_core.specs.declared.client.Pending.{Pending}
+use Rattle.proxy_core.specs.declared.client.Client.{Client}
+use Rattle.proxy_core.specs.declared.command.Command.{Command}
+use Rattle.proxy_core.specs.declared.proxy.Core.{Core}
+use Rattle.proxy_core.specs.Standing.{dialect, Message, Alone, client_at, command_at, Beside, front_by, owner_by, standing_of, IsSlot, Fits, GoesBy, GoesByOne}
+
+-- one client's place changed, and nothing else of the core but the room for clients
+pub record Turns (old new : Core) (client : ℕ) (a b : Option Client) : Type 0 where
+  pub was : client_at old client ≡ a
+  pub is : client_at new client ≡ b
+  pub others : (c : ℕ) → nat_eq client c ≡ false → client_at new c ≡ client_at old c
+  pub commands : new.commands ≡ old.commands
+  pub tree : new.tree ≡ old.tree
+  pub number : new.number ≡ old.number
+
+-- a client without commands under way passed a message that asks no server
+pub record PassesOne (x : Client) (message : Message) (next : Place) (y : Client) : Type 0 where
+  pub reads : dialect.Reads x.stream message next
+  pub asks : dialect.asks_of message ≡ []
+  pub served : x.dropped ≡ false
+  pub none : x.queue.items ≡ []
+  pub queue : y.queue.items ≡ []
+  pub stream : y.stream ≡ next
+  pub index : y.index ≡ 0
+  pub waits : y.waits ≡ false
+  pub output : y.output.items ≡ x.output.items ++ dialect.passed message
+  pub dropped : y.dropped ≡ x.dropped
+
+-- the core began a command of a client: this key of the message at its front
+pub record Begins (old new : Core) (client : ℕ) (x y : Client) (part : Part dialect) (pending : Pending) (command : Command) : Type 0 where
+  pub was : client_at old client ≡ Some x
+  pub is : client_at new client ≡ Some y
+  pub others : (c : ℕ) → nat_eq client c ≡ false → client_at new c ≡ client_at old c
+  pub next : IsNext (front_by (Some x)) part
+  pub served : x.dropped ≡ false
+  pub alone : (n : ℕ) (c : Command) → command_at old n ≡ Some c → c.ask.key ≡ part.ask.key → ⊥
+  -- the client goes on, with one command more
+  pub front : front_by (Some y) ≡ after_start (front_by (Some x)) part
+  pub queue : y.queue.items ≡ x.queue.items ++ pending ∷ []
+  pub output : y.output.items ≡ x.output.items
+  pub dropped : y.dropped ≡ x.dropped
+  pub slot : IsSlot pending (slot_of (old.number + 1) part)
+  -- the command is under way, and no call of it is out
+  pub owner : owner_by command ≡ record { client = client; ask = part.ask }
+  pub job : (calls : List Call) (given : Given) → Comes command.job calls given → IsAsk part.ask × Word (tree_at old.tree part.ask.key) part.ask OfClient 0 calls given
+  pub idle : command.is_out ≡ false
+  pub commands : (n : ℕ) → command_at new n ≡ (if nat_eq (old.number + 1) n then Some command else command_at old n)
+  pub tree : new.tree ≡ old.tree
+  pub number : new.number ≡ old.number + 1
+
+-- a command's next call goes out
+pub record SendsOut (old new : Core) (number : ℕ) (a : Command) : Type 0 where
+  pub was : command_at old number ≡ Some a
+  pub idle : a.is_out ≡ false
+  pub commands : (n : ℕ) → command_at new n ≡ (if nat_eq number n then Some (record a { is_out = true }) else command_at old n)
+  pub key : (ask_under a.job.frames.items a.job.ask).key ≡ a.ask.key
+  pub clients : (c : ℕ) → client_at new c ≡ client_at old c
+  pub tree : new.tree ≡ old.tree
+  pub number_is : new.number ≡ old.number
+
+-- the command of this number took the outcome of its call, which is out no more
+pub record Resolves (old new : Core) (number : ℕ) (a b : Command) (outcome : Outcome) : Type 0 where
+  pub was : command_at old number ≡ Some a
+  pub waiting : a.is_out ≡ true
+  pub commands : (n : ℕ) → command_at new n ≡ (if nat_eq number n then Some b else command_at old n)
+  pub idle : b.is_out ≡ false
+  pub owner : owner_by b ≡ owner_by a
+  pub rest : (calls : List Call) (given : Given) → Comes b.job calls given → Comes a.job (call_of a.job outcome ∷ calls) given
+  pub some : (calls : List Call) × (given : Given) × Comes b.job calls given
+  pub key : (ask_under a.job.frames.items a.job.ask).key ≡ a.ask.key
+  pub clients : (c : ℕ) → client_at new c ≡ client_at old c
+  pub tree : new.tree ≡ old.tree
+  pub number_is : new.number ≡ old.number
+
+-- the head of its commands was shown
+pub record ShowsHead (x : Client) (pending : Pending) (reply : Answer) (y : Client) : Type 0 where
+  pub rest : List Pending
+  pub head : x.queue.items ≡ pending ∷ rest
+  pub replied : pending.reply ≡ Some reply
+  pub served : x.dropped ≡ false
+  pub queue : y.queue.items ≡ rest
+  pub output : y.output.items ≡ x.output.items ++ shown_text pending.quiet pending.last pending.ask reply
+  pub stream : y.stream ≡ x.stream
+  pub index : y.index ≡ x.index
+  pub waits : y.waits ≡ x.waits
+  pub dropped : y.dropped ≡ x.dropped
+
+-- a message that asks no server is passed
+abbrev pub PassingIsAStep : Type 0
+PassingIsAStep =
+    (old new : Core) (client : ℕ) (x y : Client) (message : Message) (next : Place) → Turns old new client (Some x) (Some y) → PassesOne x message next y → GoesByOne old (Passes client message next) new
+
+-- a command begins
+abbrev pub BeginningIsAStep : Type 0
+BeginningIsAStep =
+    (old new : Core) (client : ℕ) (x y : Client) (part : Part dialect) (pending : Pending) (command : Command) → Begins old new client x y part pending command → GoesByOne old (Starts client (old.number + 1) part) new
+
+-- its call goes out
+abbrev pub SendingIsAStep : Type 0
+SendingIsAStep =
+    (old new : Core) (number : ℕ) (a : Command) → SendsOut old new number a
+    → GoesByOne old (Sends number (server_in a.job.pending) (ask_under a.job.frames.items a.job.ask) (origin_under a.job.frames.items OfClient)) new
+
+-- what the call of a command is, with this end
+abbrev pub event_of : ℕ → Command → End → Event
+event_of number a end = Calls number (server_in a.job.pending) (ask_under a.job.frames.items a.job.ask) (origin_under a.job.frames.items OfClient) end
+
+-- what stands beside the core after it
+abbrev pub settled : Event → Beside → Beside
+settled event beside =
+    record beside {
+      out = λ s. out_after event s (beside.out s);
+      holds = after_event event beside.holds;
+      found = found_after event beside.holds beside.found;
+      turn = beside.turn + 1;
+    }
+
+-- its call has its result, where what the server held agrees with that
+abbrev pub SettlingIsAStep : Type 0
+SettlingIsAStep =
+    (old new : Core) (number : ℕ) (a b : Command) (outcome : Outcome) → Resolves old new number a b outcome
+    → (beside : Beside) (end : End) → Fits old beside → outcome ≡ outcome_of end
+    → EndsIn (beside.holds (server_in a.job.pending) (ask_under a.job.frames.items a.job.ask).key) (beside.found number) number (ask_under a.job.frames.items a.job.ask) (origin_under a.job.frames.items OfClient) end
+    → Fits new (settled (event_of number a end) beside)
+    × Leads (tree_words beside.at) Alone (standing_of old beside) (Happens (event_of number a end) ∷ []) (standing_of new (settled (event_of number a end) beside))
+
+-- the reply at the head of a client's commands is shown
+abbrev pub ShowingIsAStep : Type 0
+ShowingIsAStep =
+    (old new : Core) (client : ℕ) (x y : Client) (pending : Pending) (reply : Answer) → Turns old new client (Some x) (Some y) → ShowsHead x pending reply y
+    → GoesBy old (λ entries. (slot : Slot dialect) × (slot.number ≡ pending.number) × (entries ≡ Shows client slot reply ∷ [])) new
