@@ -6,8 +6,8 @@ use Rattle.std.proofs.lemmas.Bool.{eq-eqb}
 use Rattle.mc_runs.specs.Log.{Scripted, Shown}
 use Rattle.request_parts.specs.declared.skip.Skip.TheVariants.{Nothing}
 use Rattle.request_parts.specs.Stream.{Stands}
-use Rattle.text_requests.specs.Spelling.{message_of}
-use Rattle.text_codec.specs.Classic.{Whole, classic}
+use Rattle.client_requests.specs.Spelling.{message_of}
+use Rattle.text_codec.specs.TextProtocol.{Whole, memcached_text}
 use Rattle.route_tree.specs.At.{tree_at}
 use Rattle.route_tree.specs.Direct.{words_of}
 use Rattle.route_tree.specs.Place.{tree_at_place}
@@ -58,8 +58,8 @@ module _ (tree : Route) (gap : Gap) (key : List ℕ) (f : Failures) (taking : Is
   abbrev events : List Scripted
   events = script_for gap.server key gap.op f.delete f.read
 
-  leaks : Leaks classic (words_of tree) (opening_of events) events
-  leaks = numbers_have_script classic (λ n k. tree_at tree k) (opening_of events) key gap.op kinds.Delete gap.server (delete_text key) (read_text gap.op key) (Whole (message_of (delete_of kinds.Delete key))) (Whole (message_of (read_of gap.op key))) (Stands Nothing []) (Stands Nothing []) first.is_key.key_is taking good good (baited gap.server key f.delete f.read (delete_text key) (read_text gap.op key)) quiet_start (one_delete key (answer_of_nothing (dialect_of kinds.Delete) Delete) first.is_key.key_is) (one_read gap.op key (answer_of gap.op) taking first.is_key.key_is) f.delete f.read numbers.0 numbers.1
+  leaks : Leaks memcached_text (words_of tree) (opening_of events) events
+  leaks = numbers_have_script memcached_text (λ n k. tree_at tree k) (opening_of events) key gap.op kinds.Delete gap.server (delete_text key) (read_text gap.op key) (Whole (message_of (delete_of kinds.Delete key))) (Whole (message_of (read_of gap.op key))) (Stands Nothing []) (Stands Nothing []) first.is_key.key_is taking good good (baited gap.server key f.delete f.read (delete_text key) (read_text gap.op key)) quiet_start (one_delete key (answer_of_nothing (dialect_of kinds.Delete) Delete) first.is_key.key_is) (one_read gap.op key (answer_of gap.op) taking first.is_key.key_is) f.delete f.read numbers.0 numbers.1
 
   same_failures : (g : Failures) → failures_of gap.op gap.server (tree_at tree key) ≡ Some g → f ≡ g
   same_failures g e = some_is f g (sym computed ∙ e)
@@ -79,7 +79,7 @@ module _ (tree : Route) (gap : Gap) (key : List ℕ) (f : Failures) (taking : Is
   })
 
 -- a driven script
-pub driven_run : (tree : Route) (gap : Gap) (key : List ℕ) (script : List Scripted) → IsFirstKey tree gap.place key → failures_of gap.op gap.server (tree_at tree key) ≡ None → script ≡ script_for gap.server key gap.op 0 0 → Leaks classic (words_of tree) (opening_of script) script → IsRefusalRun tree gap script
+pub driven_run : (tree : Route) (gap : Gap) (key : List ℕ) (script : List Scripted) → IsFirstKey tree gap.place key → failures_of gap.op gap.server (tree_at tree key) ≡ None → script ≡ script_for gap.server key gap.op 0 0 → Leaks memcached_text (words_of tree) (opening_of script) script → IsRefusalRun tree gap script
 driven_run tree gap key script first none is leaks = record {
   key = key;
   first = first;
@@ -109,9 +109,9 @@ answered tree gap None h n = n
 answered tree gap (Some script) h n = h
 
 -- a driver that counts a stale reply shows a leak
-pub drives_leak : (tree : Route) (events : List Scripted) (given : List Shown) (report : Report) → Drives tree events given report → not (nat_eq report.stale 0) ≡ true → Leaks classic (words_of tree) (opening_of events) events
+pub drives_leak : (tree : Route) (events : List Scripted) (given : List Shown) (report : Report) → Drives tree events given report → not (nat_eq report.stale 0) ≡ true → Leaks memcached_text (words_of tree) (opening_of events) events
 drives_leak tree events given report d t =
-    stale_is_leak classic (words_of tree) (opening_of events) events d.log d.follows d.script_is d.settled (λ e. not_false (nat_eq report.stale 0) t (eq-eqb report.stale 0 (d.stale ∙ e)))
+    stale_is_leak memcached_text (words_of tree) (opening_of events) events d.log d.follows d.script_is d.settled (λ e. not_false (nat_eq report.stale 0) t (eq-eqb report.stale 0 (d.stale ∙ e)))
 
 pub by_stale : (stale : Bool) (script : Script) (P : Script → Type 0) → (stale ≡ true → P script) → IfSome (cond stale (Some script) None) P
 by_stale true script P h = h refl

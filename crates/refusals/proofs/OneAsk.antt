@@ -11,17 +11,16 @@ use Rattle.mc_types.specs.Asks.{IsAsk}
 use Rattle.mc_types.specs.KeyText.{IsKey}
 use Rattle.mc_runs.specs.Protocol.{IsStuck}
 use Rattle.request_parts.specs.declared.skip.Skip.TheVariants.{Nothing}
-use Rattle.request_parts.specs.Stream.{Stands, behind_own}
+use Rattle.request_parts.specs.Stream.{Stands}
 use Rattle.request_parts.proofs.Streams.{used_within}
-use Rattle.text_requests.specs.Grammar.{classic_grammar, own_by}
-use Rattle.text_requests.specs.Message.{Begins}
-use Rattle.text_requests.specs.Stream.{behind}
-use Rattle.text_requests.specs.Asks.{asks_of, IsClassicAsk}
-use Rattle.text_requests.specs.Spelling.{spelling_of, message_of, order_for}
-use Rattle.text_requests.proofs.Back.{asks_are_read_back}
-use Rattle.text_requests.proofs.OneAsk.{messages_are_one_ask}
+use Rattle.client_requests.specs.Both.{both_grammar}
+use Rattle.client_requests.specs.Message.{Begins}
+use Rattle.client_requests.specs.Stream.{behind}
+use Rattle.client_requests.specs.Asks.{asks_of, IsClientAsk}
+use Rattle.client_requests.specs.Spelling.{spelling_of, message_of}
+use Rattle.client_requests.proofs.RequestLaws.{asks_are_read_back, messages_are_one_ask}
 use Rattle.text_codec.specs.Replies.{is_failure, is_last, ends_with}
-use Rattle.text_codec.specs.Classic.{Whole, LongLine, classic}
+use Rattle.text_codec.specs.TextProtocol.{Whole, LongLine, memcached_text}
 use Rattle.connections.proofs.Shorter.{takes_some}
 use Rattle.coverage.specs.declared.deleting.Deleting.TheVariants as kinds
 use Rattle.coverage.specs.Taking.{IsTaking}
@@ -31,17 +30,17 @@ use Rattle.refusal_words.specs.Scripts.{IsOneAsk}
 use Rattle.refusal_words.proofs.Bait.{read_is, delete_is}
 use Rattle.refusals.specs.Commands.{read_text, delete_text}
 
-pub quiet_start : IsStuck classic (Stands Nothing [])
-quiet_start (Whole message) next r = let some = takes_some [] message r.0 r.1 in let all = used_within classic_grammar [] message r.0 r.1 in absurd (omega (arith, some, all))
+pub quiet_start : IsStuck memcached_text (Stands Nothing [])
+quiet_start (Whole message) next r = let some = takes_some [] message r.0 r.1 in let all = used_within both_grammar [] message r.0 r.1 in absurd (omega (arith, some, all))
 quiet_start LongLine next r = absurd (omega (arith, r.0.long))
 
-module _ (ask : Ask) (text : List ℕ) (reply : Answer) (is : IsClassicAsk ask) (spelled : spelling_of ask ≡ text) (goes_on : behind (message_of ask) [] ≡ Stands Nothing []) where
+module _ (ask : Ask) (text : List ℕ) (reply : Answer) (is : IsClientAsk ask) (spelled : spelling_of ask ≡ text) (stands : behind (message_of ask) [] ≡ Stands Nothing []) where
   begins : Begins text (message_of ask) (length text)
   begins = subst (λ (t : List ℕ). Begins t (message_of ask) (length t)) spelled
       (subst (λ (t : List ℕ). Begins t (message_of ask) (length (spelling_of ask))) (append-nil (spelling_of ask)) (asks_are_read_back ask [] is))
 
   left : Stands Nothing [] ≡ behind (message_of ask) (drop (length text) text)
-  left = sym (ap (behind (message_of ask)) (drop-length text) ∙ goes_on)
+  left = sym (ap (behind (message_of ask)) (drop-length text) ∙ stands)
 
   alone : asks_of (message_of ask) ≡ ask ∷ []
   alone = (messages_are_one_ask ask is).0
@@ -49,14 +48,14 @@ module _ (ask : Ask) (text : List ℕ) (reply : Answer) (is : IsClassicAsk ask) 
   ends : ends_with (asks_of (message_of ask)) 0 reply ≡ true
   ends = subst (λ (l : List Ask). ends_with l 0 reply ≡ true) (sym alone) (either_right (is_failure reply) (is_last (ask ∷ []) 0) refl)
 
-  pub one_ask : IsOneAsk classic (Stands Nothing []) text ask reply (Whole (message_of ask)) (Stands Nothing [])
+  pub one_ask : IsOneAsk memcached_text (Stands Nothing []) text ask reply (Whole (message_of ask)) (Stands Nothing [])
   one_ask = record { reads = (length text, begins, left); asks = alone; ends = ends; stuck = quiet_start }
 
 delete_spelled : (key : List ℕ) → spelling_of (delete_of kinds.Delete key) ≡ delete_text key
 delete_spelled key = append-nil (delete_text key)
 
-pub one_delete : (key : List ℕ) (reply : Answer) → IsKey key → IsOneAsk classic (Stands Nothing []) (delete_text key) (delete_of kinds.Delete key) reply (Whole (message_of (delete_of kinds.Delete key))) (Stands Nothing [])
-one_delete key reply k = one_ask (delete_of kinds.Delete key) (delete_text key) reply (record { well_formed = delete_is kinds.Delete key k; classic = refl }) (delete_spelled key) refl
+pub one_delete : (key : List ℕ) (reply : Answer) → IsKey key → IsOneAsk memcached_text (Stands Nothing []) (delete_text key) (delete_of kinds.Delete key) reply (Whole (message_of (delete_of kinds.Delete key))) (Stands Nothing [])
+one_delete key reply k = one_ask (delete_of kinds.Delete key) (delete_text key) reply (record { well_formed = delete_is kinds.Delete key k; texts = tt }) (delete_spelled key) refl
 
 read_spelled : (op : Op) (key : List ℕ) → IsTaking op → spelling_of (read_of op key) ≡ read_text op key
 read_spelled Get key t = append-nil (read_text Get key)
@@ -72,19 +71,19 @@ read_spelled Cas key t = absurd t
 read_spelled Delete key t = absurd t
 read_spelled Touch key t = absurd t
 
-goes_on_read : (op : Op) (key : List ℕ) → IsTaking op → behind (message_of (read_of op key)) [] ≡ Stands Nothing []
-goes_on_read Get key t = refl
-goes_on_read Gat key t = refl
-goes_on_read Incr key t = refl
-goes_on_read Decr key t = refl
-goes_on_read Set key t = absurd t
-goes_on_read Add key t = absurd t
-goes_on_read Replace key t = absurd t
-goes_on_read Append key t = absurd t
-goes_on_read Prepend key t = absurd t
-goes_on_read Cas key t = absurd t
-goes_on_read Delete key t = absurd t
-goes_on_read Touch key t = absurd t
+stands_read : (op : Op) (key : List ℕ) → IsTaking op → behind (message_of (read_of op key)) [] ≡ Stands Nothing []
+stands_read Get key t = refl
+stands_read Gat key t = refl
+stands_read Incr key t = refl
+stands_read Decr key t = refl
+stands_read Set key t = absurd t
+stands_read Add key t = absurd t
+stands_read Replace key t = absurd t
+stands_read Append key t = absurd t
+stands_read Prepend key t = absurd t
+stands_read Cas key t = absurd t
+stands_read Delete key t = absurd t
+stands_read Touch key t = absurd t
 
-pub one_read : (op : Op) (key : List ℕ) (reply : Answer) → IsTaking op → IsKey key → IsOneAsk classic (Stands Nothing []) (read_text op key) (read_of op key) reply (Whole (message_of (read_of op key))) (Stands Nothing [])
-one_read op key reply t k = one_ask (read_of op key) (read_text op key) reply (record { well_formed = (read_is op key t k).is; classic = refl }) (read_spelled op key t) (goes_on_read op key t)
+pub one_read : (op : Op) (key : List ℕ) (reply : Answer) → IsTaking op → IsKey key → IsOneAsk memcached_text (Stands Nothing []) (read_text op key) (read_of op key) reply (Whole (message_of (read_of op key))) (Stands Nothing [])
+one_read op key reply t k = one_ask (read_of op key) (read_text op key) reply (record { well_formed = (read_is op key t k).is; texts = tt }) (read_spelled op key t) (stands_read op key t)

@@ -13,7 +13,7 @@ use Rattle.coverage.specs.Places.{place_at}
 use Rattle.coverage.specs.Tables.{IsTable}
 use Rattle.fresh_gate.specs.declared.gap.Gap.{Gap}
 use Rattle.fresh_gate.specs.Gate.{IsGapAt}
-use Rattle.text_codec.specs.Classic.{classic}
+use Rattle.text_codec.specs.TextProtocol.{memcached_text}
 use Rattle.fleet_run.specs.declared.script.Script.{Script}
 use Rattle.fleet_run.specs.Scripted.{scripted_of}
 use Rattle.fleet_run.specs.Opening.{opening_of}
@@ -43,7 +43,7 @@ pub record IsRefusalRun (tree : Route) (gap : Gap) (events : List Scripted) : Ty
   pub read : ℕ
   pub script_is : events ≡ script_for gap.server key gap.op delete read
   pub failing : (f : Failures) → failures_of gap.op gap.server (tree_at tree key) ≡ Some f → (delete ≡ f.delete) × (read ≡ f.read)
-  pub leaks : Leaks classic (words_of tree) (opening_of events) events
+  pub leaks : Leaks memcached_text (words_of tree) (opening_of events) events
 
 -- an all-sync or a warm-up stands in the plain tree of the delete or of the read, children for other operations aside
 abbrev pub IsRoundabout : Route → Gap → Type 0

@@ -6,7 +6,7 @@ ghost use Rattle.route_tree.specs.At.{tree_at};
 ghost use Rattle.route_tree.specs.Direct.{words_of};
 ghost use Rattle.coverage.specs.Taking.{IsTaking};
 ghost use Rattle.coverage.specs.Tables.{IsTable};
-ghost use Rattle.text_codec.specs.Classic.{classic};
+ghost use Rattle.text_codec.specs.TextProtocol.{memcached_text};
 ghost use Rattle.fleet_run.specs.Scripted.{scripted_of};
 ghost use Rattle.fleet_run.specs.Opening.{opening_of};
 ghost use Rattle.refusal_words.specs.Scripts.{Leaks};
@@ -36,7 +36,7 @@ fn is_read(op: Op) -> bool
 
 // Whether the script shows an item that is older than a delete, where it is driven.
 fn is_stale(alloc: Global, config: &Config, script: &Script) -> Result<bool, AllocError>
-    ensures { IfOk result (λ stale. stale ≡ true → Leaks classic (words_of config.now.tree) (opening_of (map scripted_of script.now.events.items)) (map scripted_of script.now.events.items)) }
+    ensures { IfOk result (λ stale. stale ≡ true → Leaks memcached_text (words_of config.now.tree) (opening_of (map scripted_of script.now.events.items)) (map scripted_of script.now.events.items)) }
 {
     let servers = config.servers().len();
     let mut fleet = MemoryFleet::new(alloc, servers as u32)?;
