@@ -53,18 +53,21 @@ fn of_meta(read: meta_requests::Read) -> Read
 pub fn read_request(bytes: &[u8]) -> Read
     ensures { Reads bytes.now result }
 {
+    // Each arm returns by itself: the value of a match in a match is copied at each level.
     match line(bytes) {
-        Line::More => Read::More,
-        Line::TooLong => Read::TooLong,
+        Line::More => return Read::More,
+        Line::TooLong => return Read::TooLong,
         Line::At { end, used } => match next_word(&bytes[..end], 0) {
-            None => Read::Refused {
-                why: Why::Unknown,
-                used,
-                skip: Skip::Nothing,
-            },
+            None => {
+                return Read::Refused {
+                    why: Why::Unknown,
+                    used,
+                    skip: Skip::Nothing,
+                };
+            }
             Some(first) => match meta_requests::verbs::verb(&bytes[..end][first.start..first.end]) {
-                None => of_classic(text_requests::read_behind(bytes, end, used, first)),
-                Some(_) => of_meta(meta_requests::read_behind(bytes, end, used, first)),
+                None => return of_classic(text_requests::read_behind(bytes, end, used, first)),
+                Some(_) => return of_meta(meta_requests::read_behind(bytes, end, used, first)),
             },
         },
     }
