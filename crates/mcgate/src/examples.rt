@@ -317,6 +317,53 @@ fn unknown_words_and_noreply(rt: HostRuntime) {
 }
 
 #[test]
+fn flag_not_served(rt: HostRuntime) {
+    let script = "pool 1\n> 0 md a I\\r\\n\n";
+    let lines = "< 0 CLIENT_ERROR flag not served\\r\\n\ndone 0 commands 0 calls 0 stale\n";
+    assert!(rt; prints(rt.alloc(), script, lines));
+}
+
+#[test]
+fn meta_flags_in_order(rt: HostRuntime) {
+    let script = r#"pool 1
+> 0 ms a 2 T0 F5\r\nhi\r\nmg a s v f c k O7\r\n
+> 0 md b q\r\nmg b q v\r\nmn\r\n
+"#;
+    let lines = r#"< 0 HD\r\nVA 2 s2 f5 c1 ka O7\r\nhi\r\n
+< 0 MN\r\n
+done 4 commands 4 calls 0 stale
+"#;
+    assert!(rt; prints(rt.alloc(), script, lines));
+}
+
+#[test]
+fn meta_arithmetic(rt: HostRuntime) {
+    let script = r#"pool 1
+> 0 ms n 1\r\n5\r\nma n v D3\r\nma n v MD D9\r\nma p v\r\n
+"#;
+    let lines = r#"< 0 HD\r\nVA 1\r\n8\r\nVA 1\r\n0\r\nNF\r\n
+done 4 commands 4 calls 0 stale
+"#;
+    assert!(rt; prints(rt.alloc(), script, lines));
+}
+
+// Both dialects see the same items.
+#[test]
+fn dialects_mixed(rt: HostRuntime) {
+    let script = r#"pool 1
+> 0 set a 5 0 2\r\nhi\r\n
+> 1 mg a v f c\r\nms a 1 C9\r\nx\r\nmd a\r\n
+> 0 get a\r\n
+"#;
+    let lines = r#"< 0 STORED\r\n
+< 1 VA 2 f5 c1\r\nhi\r\nEX\r\nHD\r\n
+< 0 END\r\n
+done 5 commands 5 calls 0 stale
+"#;
+    assert!(rt; prints(rt.alloc(), script, lines));
+}
+
+#[test]
 fn expiry_by_the_moment(rt: HostRuntime) {
     let script =
         "pool 1\n> 0 set a 0 10 1\\r\\n1\\r\\n\nmoment 9\n> 0 get a\\r\\n\nmoment 10\n> 0 get a\\r\\n\n";
@@ -377,7 +424,38 @@ fn all_sync_delete_over_failover(rt: HostRuntime) -> Result<(), Fail> {
     Ok(())
 }
 
-/// The meta example of the name has `mg` in place of `get`, which asks the cold side again once the item was added there.
+// Server 0 doesn't hold the key, and server 1 holds another cas number.
+#[test]
+fn exists_outranks_not_found(rt: HostRuntime) -> Result<(), Fail> {
+    let line = with_deletes(rt.alloc(), FIRST, ALL)?;
+    assert!(rt;
+        prints_over(
+            rt.alloc(),
+            line,
+            "hold 1 a 7\n> 0 md a C9\\r\\n\n",
+            "< 0 EX\\r\\n\ndone 1 commands 2 calls 0 stale\n"
+        )?
+    );
+    Ok(())
+}
+
+// An `mg` asks the cold side and the warm one, adds to the cold side what it found, and asks that again. The first add
+// fails.
+#[test]
+fn warm_up_accepted(rt: HostRuntime) -> Result<(), Fail> {
+    let line = with_deletes(rt.alloc(), WARM_UP, ALL)?;
+    assert!(rt;
+        prints_over(
+            rt.alloc(),
+            line,
+            "hold 1 a 7\nfail 3 before\n> 0 mg a v\\r\\n\n> 0 mg a v\\r\\n\n",
+            "< 0 EN\\r\\n\n< 0 VA 1\\r\\n7\\r\\n\ndone 2 commands 8 calls 0 stale\n"
+        )?
+    );
+    Ok(())
+}
+
+/// The same with `get`, which is answered by the warm side, and doesn't ask the cold side again.
 #[test]
 fn warm_up_accepted_with_classic_gets(rt: HostRuntime) -> Result<(), Fail> {
     let line = with_deletes(rt.alloc(), WARM_UP, ALL)?;
