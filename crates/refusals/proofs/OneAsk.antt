@@ -1,5 +1,5 @@
 -- The commands of a refusal run are read as the asks that they are.
-use Rattle.std.proofs.Common.{◌≡◌, ℕ, true, ◌||◌, ◌+◌, List, [], ◌∷◌, ◌++◌, length, drop, codes, None, refl, sym, ap, ◌∙◌, subst, arith, append-nil, append_assoc}
+use Rattle.std.proofs.Common.{◌≡◌, ℕ, true, List, [], ◌∷◌, ◌++◌, length, drop, codes, refl, sym, ap, ◌∙◌, subst, arith, append-nil, append_assoc}
 use Rattle.std.proofs.Math.Seq.{drop-length}
 use Rattle.std.proofs.lemmas.Fmt.{decimal_digit}
 use Rattle.mc_text.specs.Spelling.{line_of}
@@ -7,17 +7,16 @@ use Rattle.mc_types.specs.declared.ask.Op.{Op}
 use Rattle.mc_types.specs.declared.ask.Op.TheVariants.{Get, Gat, Set, Add, Replace, Append, Prepend, Cas, Delete, Incr, Decr, Touch}
 use Rattle.mc_types.specs.declared.ask.Ask.{Ask}
 use Rattle.mc_types.specs.declared.answer.Answer.{Answer}
-use Rattle.mc_types.specs.Asks.{IsAsk}
 use Rattle.mc_types.specs.KeyText.{IsKey}
 use Rattle.mc_runs.specs.Protocol.{IsStuck}
 use Rattle.request_parts.specs.declared.skip.Skip.TheVariants.{Nothing}
-use Rattle.request_parts.specs.Stream.{Stands, behind_own}
+use Rattle.request_parts.specs.Stream.{Stands}
 use Rattle.request_parts.proofs.Streams.{used_within}
-use Rattle.text_requests.specs.Grammar.{classic_grammar, own_by}
+use Rattle.text_requests.specs.Grammar.{classic_grammar}
 use Rattle.text_requests.specs.Message.{Begins}
 use Rattle.text_requests.specs.Stream.{behind}
 use Rattle.text_requests.specs.Asks.{asks_of, IsClassicAsk}
-use Rattle.text_requests.specs.Spelling.{spelling_of, message_of, order_for}
+use Rattle.text_requests.specs.Spelling.{spelling_of, message_of}
 use Rattle.text_requests.proofs.Back.{asks_are_read_back}
 use Rattle.text_requests.proofs.OneAsk.{messages_are_one_ask}
 use Rattle.text_codec.specs.Replies.{is_failure, is_last, ends_with}
