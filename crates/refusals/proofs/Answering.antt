@@ -1,6 +1,5 @@
 -- What a refusal run is, and that a gap without an all-sync and a warm-up has one.
-use Rattle.std.proofs.Common.{◌≡◌, ℕ, Bool, true, false, not, cond, nat_eq, List, [], ◌∷◌, map, Option, Some, None, IsSome, IfSome, inl, inr, refl, sym, ap, ◌∙◌, subst}
-use Rattle.mc_types.specs.declared.ask.Op.{Op}
+use Rattle.std.proofs.Common.{◌≡◌, ℕ, Bool, true, false, not, cond, nat_eq, List, [], map, Option, Some, None, IsSome, IfSome, inr, refl, sym, ap, ◌∙◌, subst}
 use Rattle.mc_types.specs.declared.ask.Op.TheVariants.{Delete}
 use Rattle.std.proofs.lemmas.Bool.{eq-eqb}
 use Rattle.mc_runs.specs.Log.{Scripted, Shown}
@@ -13,10 +12,10 @@ use Rattle.route_tree.specs.Direct.{words_of}
 use Rattle.route_tree.specs.Place.{tree_at_place}
 use Rattle.route_tree.specs.Plan.{Plan, IsGood}
 use Rattle.route_tree.specs.Route.{Route, IsTree}
-use Rattle.route_tree.specs.Word.{answer_of_nothing, tree_words}
+use Rattle.route_tree.specs.Word.{answer_of_nothing}
 use Rattle.route_tree.proofs.Places.{place_is_enough}
 use Rattle.coverage.specs.declared.deleting.Deleting.TheVariants as kinds
-use Rattle.coverage.specs.Taking.{IsTaking, Takes, Clears, dialect_of}
+use Rattle.coverage.specs.Taking.{IsTaking, dialect_of}
 use Rattle.coverage.proofs.Choices.{not_false}
 use Rattle.fresh_gate.specs.declared.gap.Gap.{Gap}
 use Rattle.fleet_run.specs.declared.script.Report.{Report}
@@ -25,7 +24,6 @@ use Rattle.fleet_run.specs.Scripted.{scripted_of}
 use Rattle.fleet_run.specs.Driving.{Drives}
 use Rattle.fleet_run.specs.Opening.{opening_of}
 use Rattle.refusal_words.specs.Turns.{acks, finds}
-use Rattle.refusal_words.specs.Beside.{IsDirect}
 use Rattle.refusal_words.specs.Bait.{delete_of, read_of, answer_of}
 use Rattle.refusal_words.specs.Scripts.{Leaks}
 use Rattle.refusal_words.proofs.Beside.{gaps_have_words}

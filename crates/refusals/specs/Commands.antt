@@ -1,7 +1,7 @@
 -- The events of a refusal run. Source: the commands are memcached's protocol.txt, "Deletion", "Retrieval command", "Get And Touch", "Increment/Decrement".
 use Rattle.std.specs.Prelude.{ℕ, List, ◌++◌, codes}
 use Rattle.mc_types.specs.declared.ask.Op.{Op}
-use Rattle.mc_types.specs.declared.ask.Op.TheVariants.{Get, Gat, Set, Add, Replace, Append, Prepend, Cas, Delete, Incr, Decr, Touch}
+use Rattle.mc_types.specs.declared.ask.Op.TheVariants.{Gat, Incr, Decr}
 use Rattle.mc_runs.specs.Log.{Scripted}
 use Rattle.refusal_words.specs.Scripts.{leaking_script}
 

@@ -1,6 +1,5 @@
 -- Scripts that leak for a gap, and when there may be none. Source: mcgate's own.
 use Rattle.std.specs.Prelude.{◌≡◌, ℕ, ◌<◌, [], ◌∷◌, List, Option, Some, MatchOption, map, slice_get, ◌⊎◌}
-use Rattle.mc_types.specs.declared.ask.Op.{Op}
 use Rattle.mc_types.specs.declared.ask.Op.TheVariants.{Delete}
 use Rattle.mc_runs.specs.Log.{Scripted}
 use Rattle.route_tree.specs.Place.{tree_at_place}

@@ -8,6 +8,3 @@ pub mod run;
 pub mod script;
 
 pub use run::refusal_run;
-
-#[cfg(test)]
-mod tests;

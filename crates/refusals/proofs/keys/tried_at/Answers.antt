@@ -1,6 +1,5 @@
-use Rattle.std.proofs.Common.{◌≡◌, ◌∙◌, ℕ, List, Result, Ok, sym, subst}
+use Rattle.std.proofs.Common.{◌≡◌, ◌∙◌, ℕ, List, sym, subst}
 use Rattle.mc_types.specs.Fault.{read_key}
-use Rattle.mc_types.specs.declared.key.KeyFault.{KeyFault}
 use Rattle.request_parts.proofs.KeyTexts.{is_read}
 use Rattle.route_tree.specs.Place.{IsPlaceOf}
 use Rattle.refusals.specs.Tried.{tried_text}
