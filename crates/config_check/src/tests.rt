@@ -165,12 +165,13 @@ fn routes_too_deep_and_too_many(rt: HostRuntime) -> Result<(), Fail> {
 
 // So many servers of a host, as a list.
 fn servers_of(alloc: Global, host: &str, count: u32) -> Result<String, Fail> {
-    let mut text = format!(in alloc; "[\"{host}:1\"")?;
-    for port in 2..count + 1 {
-        let server = format!(in alloc; ",\"{host}:{port}\"")?;
+    let mut text = String::from_str(alloc, "[")?;
+    for port in 1..count {
+        let server = format!(in alloc; "\"{host}:{port}\",")?;
         text.push_str(server.as_str())?;
     }
-    text.push(']')?;
+    let last = format!(in alloc; "\"{host}:{count}\"]")?;
+    text.push_str(last.as_str())?;
     Ok(text)
 }
 

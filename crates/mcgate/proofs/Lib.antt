@@ -1,3 +1,2 @@
-pub mod Replaying
 pub mod InputLemmas
 pub mod StopLemmas

@@ -1,4 +1,3 @@
 pub mod Input
-pub mod Replay
 pub mod Stops
 pub mod Program

@@ -1,8 +1,11 @@
 -- What the program prints on standard output of an input, and how it ends. Source: mcgate's own.
-use Rattle.std.specs.Prelude.{◌≡◌, ℕ, ◌++◌, List, codes, Option, Result, Ok, Err, String, string_bytes}
+use Rattle.std.specs.Prelude.{◌≡◌, ℕ, ◌≤◌, ◌++◌, List, codes, Option, Result, Ok, Err, String, string_bytes}
 use Rattle.std.specs.Io.KnownBytes.{Appends}
 use Rattle.std.specs.declared.alloc.Global.{Global}
-use Rattle.mcgate.specs.Replay.{Replays}
+use Rattle.config_check.specs.Checking.{Checks}
+use Rattle.replay.specs.Replay.{Replays}
+use Rattle.mcgate.specs.declared.arguments.Task.{Task}
+use Rattle.mcgate.specs.declared.arguments.Task.TheVariants as tasks
 use Rattle.mcgate.specs.declared.input.InputFault.{InputFault}
 use Rattle.mcgate.specs.declared.input.InputFault.TheVariants.{TooLarge, NotUtf8, NoMemory, Device}
 use Rattle.mcgate.specs.declared.program.Stop.{Stop}
@@ -23,15 +26,25 @@ Tells line old new (Err stop) = IsBrokenOff stop
 abbrev pub StopsBy : Stop → Option (List ℕ) → Option (List ℕ) → Result ℕ Stop → Type 0
 StopsBy stop old new ended = (ended ≡ Err stop) × (new ≡ old)
 
--- a text was replayed; or memory or the writer failed
-abbrev pub Runs : List ℕ → Option (List ℕ) → Option (List ℕ) → Result ℕ Stop → Type 0
-Runs text old new (Ok status) = Replays text old new status
-Runs text old new (Err stop) = IsBrokenOff stop
+-- what a task does with a text, and the status of that
+abbrev pub Does : Task → List ℕ → Option (List ℕ) → Option (List ℕ) → ℕ → Type 0
+Does tasks.Check text old new status = Checks text old new status
+Does (tasks.Replay any) text old new status = Replays any text old new status
+
+-- what its call answers: a status, or that memory or the writer failed
+pub record Answers (task : Task) (text : List ℕ) (old new : Option (List ℕ)) (answer : ℕ) : Type 0 where
+  pub few : answer ≤ 4
+  pub does : answer ≤ 2 → Does task text old new answer
+
+-- the task was done with a text; or memory or the writer failed
+abbrev pub Runs : Task → List ℕ → Option (List ℕ) → Option (List ℕ) → Result ℕ Stop → Type 0
+Runs task text old new (Ok status) = Does task text old new status
+Runs task text old new (Err stop) = IsBrokenOff stop
 
 -- an input that was read or not, what was written of it, and how that ended
-abbrev pub AnswersInput : Result (String Global) InputFault → Option (List ℕ) → Option (List ℕ) → Result ℕ Stop → Type 0
-AnswersInput (Ok text) old new ended = Runs (string_bytes text) old new ended
-AnswersInput (Err TooLarge) old new ended = Tells (codes "input: too large" ++ codes "\n") old new ended
-AnswersInput (Err NotUtf8) old new ended = Tells (codes "input: not UTF-8" ++ codes "\n") old new ended
-AnswersInput (Err NoMemory) old new ended = StopsBy stops.Memory old new ended
-AnswersInput (Err Device) old new ended = StopsBy stops.Device old new ended
+abbrev pub AnswersInput : Task → Result (String Global) InputFault → Option (List ℕ) → Option (List ℕ) → Result ℕ Stop → Type 0
+AnswersInput task (Ok text) old new ended = Runs task (string_bytes text) old new ended
+AnswersInput task (Err TooLarge) old new ended = Tells (codes "input: too large" ++ codes "\n") old new ended
+AnswersInput task (Err NotUtf8) old new ended = Tells (codes "input: not UTF-8" ++ codes "\n") old new ended
+AnswersInput task (Err NoMemory) old new ended = StopsBy stops.Memory old new ended
+AnswersInput task (Err Device) old new ended = StopsBy stops.Device old new ended

@@ -5,14 +5,25 @@ ghost use Rattle.clap.specs.Values.{kind_of};
 ghost use Rattle.mcgate.specs.Stops.{arguments_fault_at};
 
 use clap::error::ErrorKind;
-use clap::{Arg, ArgAction, Command, Error};
+use clap::{Arg, ArgAction, ArgMatches, Command, Error};
 use std::alloc::{AllocError, Global};
+
+/// What is done with an input.
+#[derive(Clone, Copy, PartialEq, Eq)]
+pub enum Task {
+    /// It is a configuration, and the gate's verdict on it is printed.
+    Check,
+    /// It is a script, and it is run: with `any` whatever the gate says of its tree.
+    Replay { any: bool },
+}
 
 /// What the arguments ask for.
 #[derive(Clone, Copy)]
 pub enum Job<'a> {
-    /// Run a script, of a file or of standard input.
-    Replay { any: bool, file: Option<&'a str> },
+    /// Do this with a file, or with standard input.
+    Run { task: Task, file: Option<&'a str> },
+    /// Print this text.
+    Print(&'static str),
 }
 
 /// Why the arguments ask for nothing.
@@ -35,21 +46,120 @@ impl From<Error> for ArgumentsFault {
     }
 }
 
-fn command<'a>(alloc: Global) -> Result<Command<'a>, AllocError> {
+const VERSION: &str = "mcgate 1\n";
+
+const HELP: &str =
+    "mcgate sends memcached commands through a tree of routes, and asks of a tree whether it can show deleted data.
+
+usage: mcgate check [FILE]           print the gate's verdict on a configuration
+       mcgate replay [--any] [FILE]  run a script, and print what each client gets
+       mcgate [WORD] --help          print this, or more of a word
+       mcgate --version              print the version
+
+Without FILE the input is standard input. Without any words mcgate is mcgate replay.
+Exit status: 0 accepted or done, 1 refused by the gate, 2 bad arguments or input, 3 memory or a device failed.
+";
+
+const CHECK_HELP: &str = "usage: mcgate check [FILE]
+
+Reads a configuration in JSON, of FILE or of standard input, and prints the gate's verdict:
+  accepted places=N      no run of the tree shows deleted data; the keys have N places
+  refused: server=A read=OP delete=D prefix=P residue=R/L
+                         at this place a read OP may be answered from server A, which a delete D may leave as it was
+  refused: too many places
+                         there are more than 262,144
+  config: ..             the first fault of what is no configuration
+Exit status: 0 accepted, 1 refused, 2 no configuration, 3 memory or a device failed.
+";
+
+const REPLAY_HELP: &str = "usage: mcgate replay [--any] [FILE]
+
+Reads a script, of FILE or of standard input: a configuration on its first line, or pool N, and then one event a line.
+Runs it over servers in memory, and prints what each client gets and a report:
+  < C TEXT               new output of client C
+  done N commands M calls K stale
+                         K replies showed what had been deleted
+A tree that the gate refuses isn't run, and its refused: line is printed; with --any every tree is run.
+Exit status: 0 done, 1 refused by the gate, 2 bad script, 3 memory or a device failed.
+";
+
+fn help_flag<'a>(alloc: Global) -> Arg<'a> {
+    Arg::new(alloc, "help")
+        .long("help")
+        .action(ArgAction::SetTrue)
+}
+
+fn check_command<'a>(alloc: Global) -> Result<Command<'a>, AllocError> {
+    Command::new(alloc, "check")
+        .disable_help_flag(true)
+        .arg(help_flag(alloc))?
+        .arg(Arg::new(alloc, "FILE"))
+}
+
+fn replay_command<'a>(alloc: Global) -> Result<Command<'a>, AllocError> {
     let any = Arg::new(alloc, "any")
         .long("any")
         .action(ArgAction::SetTrue);
-    let replay = Command::new(alloc, "replay")
+    Command::new(alloc, "replay")
         .disable_help_flag(true)
+        .arg(help_flag(alloc))?
         .arg(any)?
-        .arg(Arg::new(alloc, "FILE"))?;
+        .arg(Arg::new(alloc, "FILE"))
+}
+
+fn command<'a>(alloc: Global) -> Result<Command<'a>, AllocError> {
+    let version = Arg::new(alloc, "version")
+        .long("version")
+        .action(ArgAction::SetTrue);
     Command::new(alloc, "mcgate")
         .disable_help_flag(true)
         .disable_help_subcommand(true)
-        .subcommand(replay)
+        .arg(help_flag(alloc))?
+        .arg(version)?
+        .subcommand(check_command(alloc)?)?
+        .subcommand(replay_command(alloc)?)
 }
 
-/// What the arguments ask for, the program's name first: none at all after it, or `replay [--any] [FILE]`.
+// What the words behind `check` ask for.
+fn check_job<'a>(given: &ArgMatches<'a>) -> Job<'a> {
+    if given.get_flag("help") {
+        return Job::Print(CHECK_HELP);
+    }
+    Job::Run {
+        task: Task::Check,
+        file: given.get_str("FILE"),
+    }
+}
+
+// What the words behind `replay` ask for.
+fn replay_job<'a>(given: &ArgMatches<'a>) -> Job<'a> {
+    if given.get_flag("help") {
+        return Job::Print(REPLAY_HELP);
+    }
+    Job::Run {
+        task: Task::Replay {
+            any: given.get_flag("any"),
+        },
+        file: given.get_str("FILE"),
+    }
+}
+
+// What arguments without a word of a task ask for.
+fn plain_job<'a>(given: &ArgMatches<'a>) -> Job<'a> {
+    if given.get_flag("help") {
+        return Job::Print(HELP);
+    }
+    if given.get_flag("version") {
+        return Job::Print(VERSION);
+    }
+    Job::Run {
+        task: Task::Replay { any: false },
+        file: None,
+    }
+}
+
+/// What the arguments ask for, the program's name first: `check [FILE]`, `replay [--any] [FILE]`, or none at all after it, which
+/// is `replay`. Also `--help`, before or behind a word, and `--version`.
 ///
 /// Any other arguments are [`ArgumentsFault::Refused`].
 pub fn read_arguments<'a>(
@@ -61,13 +171,8 @@ pub fn read_arguments<'a>(
     };
     let matches = command.try_get_matches_from(arguments)?;
     match matches.subcommand() {
-        None => Ok(Job::Replay {
-            any: false,
-            file: None,
-        }),
-        Some((_, given)) => Ok(Job::Replay {
-            any: given.get_flag("any"),
-            file: given.get_str("FILE"),
-        }),
+        Some(("check", given)) => Ok(check_job(given)),
+        Some((_, given)) => Ok(replay_job(given)),
+        None => Ok(plain_job(&matches)),
     }
 }

@@ -2,15 +2,13 @@
 #![tactic(auto)]
 
 mod arguments;
-#[cfg(test)]
-mod examples;
 mod input;
 mod program;
-mod replay;
 #[cfg(test)]
 mod tests;
 
 use arguments::{Job, read_arguments};
+use config_check::status::DONE;
 use input::{InputFault, fault_of, read_input};
 use program::{Stop, end_of, run_input};
 use std::fs::File;
@@ -49,8 +47,13 @@ fn arguments_of<R: AllocGlobal + Env>(rt: &R) -> Result<Vec<String>, Stop> {
 /// Runs what the arguments ask for, and answers the exit status.
 fn run<R: Files + Input + AllocGlobal + Env, W: Write>(rt: &R, out: &mut W) -> Result<u8, Stop> {
     let arguments = arguments_of(rt)?;
-    let Job::Replay { any, file } = read_arguments(rt.alloc(), arguments.as_slice())?;
-    run_input(rt.alloc(), any, text_of(rt, file), out)
+    match read_arguments(rt.alloc(), arguments.as_slice())? {
+        Job::Run { task, file } => run_input(rt.alloc(), task, text_of(rt, file), out),
+        Job::Print(text) => {
+            out.write_all(text.as_bytes())?;
+            Ok(DONE)
+        }
+    }
 }
 
 /// Runs, and gives out what was written, also what was written before a fault.

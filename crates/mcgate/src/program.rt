@@ -2,12 +2,14 @@
 
 ghost use Rattle.std.specs.Prelude.{◌≡◌, option_map};
 ghost use Rattle.std.specs.IoError.{error_kind};
-ghost use Rattle.mcgate.specs.Program.{Runs, AnswersInput};
+ghost use Rattle.mcgate.specs.Program.{Answers, Runs, AnswersInput};
 ghost use Rattle.mcgate.specs.Stops.{stop_at, stop_of, end_of};
 
-use crate::arguments::ArgumentsFault;
+use crate::arguments::{ArgumentsFault, Task};
 use crate::input::InputFault;
-use crate::replay::{BAD_INPUT, NO_MEMORY, WRITER, run_replay};
+use config_check::run_check;
+use config_check::status::{BAD_INPUT, NO_MEMORY, WRITER};
+use replay::run_replay;
 use std::alloc::Global;
 use std::io;
 use std::io::{ErrorKind, Write};
@@ -78,30 +80,40 @@ pub fn end_of(ended: Result<u8, Stop>) -> End
     }
 }
 
-fn run_text<W: Write>(alloc: Global, any: bool, text: &str, out: &mut W) -> Result<u8, Stop>
-    ensures { Runs text.now (W.contents out.old) (W.contents out.new) result }
+// What a task answers of a text.
+fn answer<W: Write>(alloc: Global, task: Task, text: &str, out: &mut W) -> u8
+    ensures { Answers task text.now (W.contents out.old) (W.contents out.new) result }
 {
-    match run_replay(alloc, any, text, out) {
+    match task {
+        Task::Check => run_check(alloc, text, out),
+        Task::Replay { any } => run_replay(alloc, any, text, out),
+    }
+}
+
+fn run_text<W: Write>(alloc: Global, task: Task, text: &str, out: &mut W) -> Result<u8, Stop>
+    ensures { Runs task text.now (W.contents out.old) (W.contents out.new) result }
+{
+    match answer(alloc, task, text, out) {
         NO_MEMORY => Err(Stop::Memory),
         WRITER => Err(Stop::Device),
         status => Ok(status),
     }
 }
 
-/// Replays an input, or prints why it is none. The answer is the exit status where all that was to be printed was written.
+/// Does the task with an input, or prints why it is none. The answer is the exit status where all that was to be printed was written.
 ///
 /// `Stop::Memory` and `Stop::Device` come where the input could not be read for that cause, and then nothing was written; also
 /// where the run was refused memory, or the output could not be written.
 pub fn run_input<W: Write>(
     alloc: Global,
-    any: bool,
+    task: Task,
     input: Result<String, InputFault>,
     out: &mut W,
 ) -> Result<u8, Stop>
-    ensures { AnswersInput input (W.contents out.old) (W.contents out.new) result }
+    ensures { AnswersInput task input (W.contents out.old) (W.contents out.new) result }
 {
     match input {
-        Ok(text) => run_text(alloc, any, text.as_str(), out),
+        Ok(text) => run_text(alloc, task, text.as_str(), out),
         Err(InputFault::TooLarge) => {
             writeln!(out, "input: too large")?;
             Ok(BAD_INPUT)

@@ -1,13 +1,12 @@
 //! The program from its arguments to its exit status.
 
-use crate::arguments::{ArgumentsFault, Job, read_arguments};
+use crate::arguments::{ArgumentsFault, Job, Task, read_arguments};
 use crate::input::{INPUT_LIMIT, InputFault, read_input};
 use crate::program::{End, Stop, end_of, run_input};
-use crate::replay::{BAD_INPUT, DONE, WRITER, run_replay};
 use crate::text_of;
 use std::alloc::{AllocError, Global};
 use std::io;
-use std::io::{ErrorKind, Write};
+use std::io::ErrorKind;
 use std::test::Fail;
 
 fn arguments_of(alloc: Global, words: &[&str]) -> Result<Vec<String>, AllocError> {
@@ -18,32 +17,70 @@ fn arguments_of(alloc: Global, words: &[&str]) -> Result<Vec<String>, AllocError
     Ok(given)
 }
 
+// The task and the file that words ask for.
+fn asked(
+    alloc: Global,
+    words: &[&str],
+    want_task: Task,
+    want_file: Option<&str>,
+) -> Result<bool, Fail> {
+    let given = arguments_of(alloc, words)?;
+    match read_arguments(alloc, given.as_slice()) {
+        Ok(Job::Run { task, file }) => Ok(task == want_task && file == want_file),
+        _ => Ok(false),
+    }
+}
+
 #[test]
 fn arguments_that_ask_for_a_replay(rt: HostRuntime) -> Result<(), Fail> {
-    let cases = [
-        (["mcgate"].as_slice(), false, None),
-        (["mcgate", "replay"].as_slice(), false, None),
-        (["mcgate", "replay", "f"].as_slice(), false, Some("f")),
-        (["mcgate", "replay", "--any"].as_slice(), true, None),
-        (
-            ["mcgate", "replay", "--any", "f"].as_slice(),
-            true,
-            Some("f"),
-        ),
-        (
-            ["mcgate", "replay", "f", "--any"].as_slice(),
-            true,
-            Some("f"),
-        ),
-    ];
-    for (words, want_any, want_file) in cases {
-        let given = arguments_of(rt.alloc(), words)?;
-        let Ok(Job::Replay { any, file }) = read_arguments(rt.alloc(), given.as_slice()) else {
-            return Err(Fail::from("refused"));
-        };
-        assert_eq!(rt; any, want_any);
-        assert_eq!(rt; file, want_file);
+    let alloc = rt.alloc();
+    let gated = Task::Replay { any: false };
+    let any = Task::Replay { any: true };
+    assert!(rt; asked(alloc, &["mcgate"], gated, None)?);
+    assert!(rt; asked(alloc, &["mcgate", "replay"], gated, None)?);
+    assert!(rt; asked(alloc, &["mcgate", "replay", "f"], gated, Some("f"))?);
+    assert!(rt; asked(alloc, &["mcgate", "replay", "--any"], any, None)?);
+    assert!(rt; asked(alloc, &["mcgate", "replay", "--any", "f"], any, Some("f"))?);
+    assert!(rt; asked(alloc, &["mcgate", "replay", "f", "--any"], any, Some("f"))?);
+    Ok(())
+}
+
+#[test]
+fn arguments_that_ask_for_a_check(rt: HostRuntime) -> Result<(), Fail> {
+    let alloc = rt.alloc();
+    assert!(rt; asked(alloc, &["mcgate", "check"], Task::Check, None)?);
+    assert!(rt; asked(alloc, &["mcgate", "check", "f"], Task::Check, Some("f"))?);
+    Ok(())
+}
+
+// Whether words ask to print a text that begins so.
+fn asks_to_print(alloc: Global, words: &[&str], front: &str) -> Result<bool, Fail> {
+    let given = arguments_of(alloc, words)?;
+    match read_arguments(alloc, given.as_slice()) {
+        Ok(Job::Print(text)) => Ok(text.starts_with(front)),
+        _ => Ok(false),
     }
+}
+
+#[test]
+fn help_and_version(rt: HostRuntime) -> Result<(), Fail> {
+    let alloc = rt.alloc();
+    assert!(rt; asks_to_print(alloc, &["mcgate", "--help"], "mcgate sends")?);
+    assert!(rt;
+        asks_to_print(
+            alloc,
+            &["mcgate", "check", "--help"],
+            "usage: mcgate check "
+        )?
+    );
+    assert!(rt;
+        asks_to_print(
+            alloc,
+            &["mcgate", "replay", "--help"],
+            "usage: mcgate replay "
+        )?
+    );
+    assert!(rt; asks_to_print(alloc, &["mcgate", "--version"], "mcgate 1\n")?);
     Ok(())
 }
 
@@ -53,11 +90,10 @@ fn words_that_are_refused(rt: HostRuntime) -> Result<(), Fail> {
         ["mcgate", "play"].as_slice(),
         ["mcgate", ""].as_slice(),
         ["mcgate", "--any"].as_slice(),
-        ["mcgate", "--help"].as_slice(),
         ["mcgate", "-h"].as_slice(),
         ["mcgate", "help"].as_slice(),
-        ["mcgate", "--version"].as_slice(),
-        ["mcgate", "replay", "--help"].as_slice(),
+        ["mcgate", "check", "--any"].as_slice(),
+        ["mcgate", "check", "f", "g"].as_slice(),
         ["mcgate", "replay", "--any", "--any"].as_slice(),
         ["mcgate", "replay", "--any=yes"].as_slice(),
         ["mcgate", "replay", "f", "g"].as_slice(),
@@ -126,7 +162,12 @@ fn ends_of_runs(rt: HostRuntime) -> Result<(), Fail> {
     ];
     for (input, (want_status, want_complaint), want) in cases {
         let mut out = Vec::new(alloc);
-        let End { status, complaint } = end_of(run_input(alloc, false, input, &mut out));
+        let End { status, complaint } = end_of(run_input(
+            alloc,
+            Task::Replay { any: false },
+            input,
+            &mut out,
+        ));
         assert_eq!(rt; status, want_status);
         assert_eq!(rt; complaint, want_complaint);
         assert_eq!(rt; out.as_slice(), want.as_bytes());
@@ -154,90 +195,5 @@ fn ends_without_a_run(rt: HostRuntime) {
         let end = end_of(Err(Stop::from(io::Error::from(kind))));
         assert_eq!(rt; end.status, 3);
         assert_eq!(rt; end.complaint, want);
-    }
-}
-
-#[test]
-fn scripts_that_are_run(rt: HostRuntime) {
-    let cases = [
-        ("pool 1", DONE, "done 0 commands 0 calls 0 stale\n"),
-        (
-            "pool 1024\n\n# none\n",
-            DONE,
-            "done 0 commands 0 calls 0 stale\n",
-        ),
-        ("", BAD_INPUT, "config: not JSON\n"),
-        ("# pool 1\npool 1", BAD_INPUT, "config: not JSON\n"),
-        ("pool 0", BAD_INPUT, "script: bad line 1\n"),
-        ("pools", BAD_INPUT, "script: bad line 1\n"),
-        (
-            "{\"pools\":{}}\n> 64 \n",
-            BAD_INPUT,
-            "config: bad field route\n",
-        ),
-        (
-            "{\"pools\":{},\"route\":\"NullRoute\"}\n",
-            DONE,
-            "done 0 commands 0 calls 0 stale\n",
-        ),
-        (
-            "pool 1\nhold 0 a 1\nhold 1 a 1\n",
-            BAD_INPUT,
-            "script: bad line 3\n",
-        ),
-        (
-            "pool 1\n> 0 get a\\r\\n\nhold 0 a 1\n",
-            BAD_INPUT,
-            "script: bad line 3\n",
-        ),
-        (
-            "pool 1\nlose 0 a\n\nhold 0 a 1\nx\n",
-            BAD_INPUT,
-            "script: bad line 4\n",
-        ),
-        (
-            "pool 1\n\nat 0 restart 0\n",
-            BAD_INPUT,
-            "script: bad line 3\n",
-        ),
-        ("pool 1\nreload {}", BAD_INPUT, "script: bad line 2\n"),
-    ];
-    for (text, want_status, want) in cases {
-        for any in [false, true] {
-            let mut out = Vec::new(rt.alloc());
-            assert_eq!(rt; run_replay(rt.alloc(), any, text, &mut out), want_status);
-            assert_eq!(rt; out.as_slice(), want.as_bytes());
-        }
-    }
-}
-
-/// Takes so many bytes, and then fails.
-#[derive(Drop)]
-struct Full {
-    room: usize,
-}
-
-impl Write for Full {
-    fn write(&mut self, bytes: &[u8]) -> io::Result<usize> {
-        let count = bytes.len().min(self.room);
-        if count == 0 {
-            return Err(io::Error::from(ErrorKind::StorageFull));
-        }
-        self.room -= count;
-        Ok(count)
-    }
-
-    fn flush(&mut self) -> io::Result<()> {
-        Ok(())
-    }
-}
-
-#[test]
-fn writers_that_fail(rt: HostRuntime) {
-    for room in 0..10 {
-        let mut out = Full { room };
-        assert_eq!(rt; run_replay(rt.alloc(), false, "pool 1", &mut out), WRITER);
-        let mut bad = Full { room };
-        assert_eq!(rt; run_replay(rt.alloc(), false, "", &mut bad), WRITER);
     }
 }

@@ -1,5 +1,7 @@
 //! Scripts with known transcripts: what clients of memcached see, and what failures, losses and time do to it.
-use crate::replay::{BAD_INPUT, DONE, run_replay};
+use crate::run_replay;
+use config_check::run_check;
+use config_check::status::{BAD_INPUT, DONE};
 use std::alloc::{AllocError, Global};
 use std::test::Fail;
 
@@ -9,7 +11,7 @@ fn prints(alloc: Global, script: &str, lines: &str) -> bool {
     run_replay(alloc, false, script, &mut out) == DONE && out.as_slice() == lines.as_bytes()
 }
 
-/// The same, whatever a gate says of the tree.
+/// The same, whatever the gate says of the tree.
 fn prints_any(alloc: Global, script: &str, lines: &str) -> bool {
     let mut out = Vec::new(alloc);
     run_replay(alloc, true, script, &mut out) == DONE && out.as_slice() == lines.as_bytes()
@@ -399,8 +401,19 @@ fn with_deletes(alloc: Global, others: &str, deletes: &str) -> Result<String, Al
     two_servers(alloc, route.as_str())
 }
 
-/// Whether the events print these lines, behind the route of that line.
+/// Whether the events print these lines, behind the route of that line, which the gate accepts.
 fn prints_over(
+    alloc: Global,
+    mut line: String,
+    events: &str,
+    lines: &str,
+) -> Result<bool, AllocError> {
+    line.push_str(events)?;
+    Ok(prints(alloc, line.as_str(), lines))
+}
+
+/// The same, whatever the gate says of the route.
+fn prints_over_any(
     alloc: Global,
     mut line: String,
     events: &str,
@@ -484,7 +497,7 @@ fn failover_leak(rt: HostRuntime) -> Result<(), Fail> {
     let lines = leaked(rt.alloc(), "done 2 commands 3 calls 1 stale\n")?;
     let line = two_servers(rt.alloc(), FIRST)?;
     assert!(rt;
-        prints_over(
+        prints_over_any(
             rt.alloc(),
             line,
             "hold 0 k0 1\nfail 1 before\n> 0 delete k0\\r\\n\n> 0 get k0\\r\\n\n",
@@ -493,7 +506,7 @@ fn failover_leak(rt: HostRuntime) -> Result<(), Fail> {
     );
     let line = two_servers(rt.alloc(), FIRST)?;
     assert!(rt;
-        prints_over(
+        prints_over_any(
             rt.alloc(),
             line,
             "hold 1 k0 1\n> 0 delete k0\\r\\n\nfail 1 before\n> 0 get k0\\r\\n\n",
@@ -508,7 +521,7 @@ fn warm_up_leak(rt: HostRuntime) -> Result<(), Fail> {
     let lines = leaked(rt.alloc(), "done 2 commands 4 calls 1 stale\n")?;
     let line = two_servers(rt.alloc(), WARM_UP)?;
     assert!(rt;
-        prints_over(
+        prints_over_any(
             rt.alloc(),
             line,
             "hold 1 k0 1\n> 0 delete k0\\r\\n\n> 0 get k0\\r\\n\n",
@@ -523,7 +536,7 @@ fn null_delete_and_first_of_worst(rt: HostRuntime) -> Result<(), Fail> {
     let lines = leaked(rt.alloc(), "done 2 commands 1 calls 1 stale\n")?;
     let line = with_deletes(rt.alloc(), "\"PoolRoute|A\"", "\"NullRoute\"")?;
     assert!(rt;
-        prints_over(
+        prints_over_any(
             rt.alloc(),
             line,
             "hold 0 k0 1\n> 0 delete k0\\r\\n\n> 0 get k0\\r\\n\n",
@@ -558,20 +571,27 @@ fn losses_just_before_a_call(rt: HostRuntime) {
 const SESSION: &str =
     "> 0 set session:a 0 0 1\\r\\n1\\r\\n\n> 0 get session:a\\r\\n\n> 0 delete session:a\\r\\n\n";
 
-/// Whether a configuration runs that session: its delete has this reply, and the report this number of calls.
-fn runs_session(alloc: Global, config: &str, reply: &str, calls: &str) -> Result<bool, AllocError> {
-    let mut script = String::from_str(alloc, config)?;
-    script.push('\n')?;
-    script.push_str(SESSION)?;
-    let mut lines = String::from_str(
-        alloc,
-        "< 0 STORED\\r\\n\n< 0 VALUE session:a 0 1\\r\\n1\\r\\nEND\\r\\n\n< 0 ",
+/// Whether a configuration is accepted with so many places, and runs that session: its delete has this reply, and the report this
+/// number of calls.
+fn runs_session(
+    alloc: Global,
+    config: &str,
+    places: u32,
+    reply: &str,
+    calls: u32,
+) -> Result<bool, Fail> {
+    let script = format!(in alloc; "{config}\n{SESSION}")?;
+    let lines = format!(in alloc;
+        "< 0 STORED\\r\\n\n< 0 VALUE session:a 0 1\\r\\n1\\r\\nEND\\r\\n\n< 0 {reply}\\r\\n\ndone 3 commands {calls} calls 0 stale\n"
     )?;
-    lines.push_str(reply)?;
-    lines.push_str("\\r\\n\ndone 3 commands ")?;
-    lines.push_str(calls)?;
-    lines.push_str(" calls 0 stale\n")?;
-    Ok(prints_any(alloc, script.as_str(), lines.as_str()))
+    let verdict = format!(in alloc; "accepted places={places}\n")?;
+    let mut out = Vec::new(alloc);
+    let is_accepted = run_check(alloc, config, &mut out) == DONE;
+    Ok(
+        is_accepted
+            && out.as_slice() == verdict.as_bytes()
+            && prints(alloc, script.as_str(), lines.as_str()),
+    )
 }
 
 /// The configurations that the README shows, each on one line.
@@ -580,15 +600,15 @@ fn usual_set_ups(rt: HostRuntime) -> Result<(), Fail> {
     let alloc = rt.alloc();
     let pool =
         "{\"pools\": {\"A\": {\"servers\": [\"10.0.0.1:11211\", \"10.0.0.2:11211\"]}}, \"route\": \"PoolRoute|A\"}";
-    assert!(rt; runs_session(alloc, pool, "DELETED", "3")?);
+    assert!(rt; runs_session(alloc, pool, 2, "DELETED", 3)?);
     let replicas =
         "{\"pools\": {\"A\": {\"servers\": [\"10.0.0.1:11211\"]}, \"B\": {\"servers\": [\"10.0.0.2:11211\"]}}, \"route\": {\"type\": \"OperationSelectorRoute\", \"default_policy\": {\"type\": \"FailoverRoute\", \"children\": [\"PoolRoute|A\", \"PoolRoute|B\"]}, \"operation_policies\": {\"delete\": {\"type\": \"AllSyncRoute\", \"children\": [\"PoolRoute|A\", \"PoolRoute|B\"]}}}}";
-    assert!(rt; runs_session(alloc, replicas, "NOT_FOUND", "4")?);
+    assert!(rt; runs_session(alloc, replicas, 1, "NOT_FOUND", 4)?);
     let warm_up =
         "{\"pools\": {\"cold\": {\"servers\": [\"10.0.0.3:11211\"]}, \"warm\": {\"servers\": [\"10.0.0.1:11211\"]}}, \"route\": {\"type\": \"OperationSelectorRoute\", \"default_policy\": {\"type\": \"WarmUpRoute\", \"cold\": \"PoolRoute|cold\", \"warm\": \"PoolRoute|warm\", \"exptime\": 3600}, \"operation_policies\": {\"delete\": {\"type\": \"AllSyncRoute\", \"children\": [\"PoolRoute|cold\", \"PoolRoute|warm\"]}}}}";
-    assert!(rt; runs_session(alloc, warm_up, "NOT_FOUND", "4")?);
+    assert!(rt; runs_session(alloc, warm_up, 1, "NOT_FOUND", 4)?);
     let prefixes =
         "{\"pools\": {\"sessions\": {\"servers\": [\"10.0.1.1:11211\"]}, \"rest\": {\"servers\": [\"10.0.2.1:11211\", \"10.0.2.2:11211\"]}}, \"route\": {\"type\": \"PrefixSelectorRoute\", \"policies\": {\"session:\": \"PoolRoute|sessions\"}, \"wildcard\": \"PoolRoute|rest\"}}";
-    assert!(rt; runs_session(alloc, prefixes, "DELETED", "3")?);
+    assert!(rt; runs_session(alloc, prefixes, 4, "DELETED", 3)?);
     Ok(())
 }

@@ -1,19 +1,19 @@
 use Rattle.std.proofs.Common.{inr, refl}
 use Rattle.std.proofs.lemmas.Result.{IfOk-weaker, IfErr-weaker}
 use Rattle.script_text.specs.Script.{told}
-use Rattle.mcgate.proofs.Replaying.{replays, breaks_off, paired}
-use Rattle.mcgate.proofs.replay.replay.Goals as goal
+use Rattle.replay.proofs.Printing.{replays, breaks_off, paired}
+use Rattle.replay.proofs.replaying.replay_text.Goals as goal
 
 pub run_script-requires : goal.run_script-requires
 run_script-requires g c = paired (told c.args.text.now) c.in-Ok.configured c.in-Ok.ensures
 
 pub returns-in-Ok-clause-ok : goal.returns-in-Ok-clause-ok
 returns-in-Ok-clause-ok g c =
-    IfOk-weaker c.run_script.result _ _ (λ status. replays c.args.text.now (told c.args.text.now) c.in-Ok.configured _ _ status refl c.in-Ok.ensures) c.run_script.ensures.ok
+    IfOk-weaker c.run_script.result _ _ (λ status. replays c.args.any c.args.text.now (told c.args.text.now) c.in-Ok.configured _ _ status refl c.in-Ok.ensures) c.run_script.ensures.ok
 
 pub returns-in-Ok-clause-err : goal.returns-in-Ok-clause-err
 returns-in-Ok-clause-err g c =
-    IfErr-weaker c.run_script.result _ _ (λ fault. breaks_off c.args.text.now (told c.args.text.now) c.in-Ok.configured _ _ fault refl c.in-Ok.ensures) c.run_script.ensures.err
+    IfErr-weaker c.run_script.result _ _ (λ fault. breaks_off c.args.any c.args.text.now (told c.args.text.now) c.in-Ok.configured _ _ fault refl c.in-Ok.ensures) c.run_script.ensures.err
 
 pub returns-in_ok-write_bad_line-in-Err-BadLine-clause-ok : goal.returns-in_ok-write_bad_line-in-Err-BadLine-clause-ok
 returns-in_ok-write_bad_line-in-Err-BadLine-clause-ok g c =

@@ -1,0 +1,120 @@
+//! Scripts that run, that are refused, and that can't be read.
+
+use crate::run_replay;
+use config_check::status::{BAD_INPUT, DONE, REFUSED, WRITER};
+use std::io;
+use std::io::{ErrorKind, Write};
+use std::test::Fail;
+
+#[test]
+fn scripts_that_are_run(rt: HostRuntime) {
+    let cases = [
+        ("pool 1", DONE, "done 0 commands 0 calls 0 stale\n"),
+        (
+            "pool 1024\n\n# none\n",
+            DONE,
+            "done 0 commands 0 calls 0 stale\n",
+        ),
+        ("", BAD_INPUT, "config: not JSON\n"),
+        ("# pool 1\npool 1", BAD_INPUT, "config: not JSON\n"),
+        ("pool 0", BAD_INPUT, "script: bad line 1\n"),
+        ("pools", BAD_INPUT, "script: bad line 1\n"),
+        (
+            "{\"pools\":{}}\n> 64 \n",
+            BAD_INPUT,
+            "config: bad field route\n",
+        ),
+        (
+            "{\"pools\":{},\"route\":\"NullRoute\"}\n",
+            DONE,
+            "done 0 commands 0 calls 0 stale\n",
+        ),
+        (
+            "pool 1\nhold 0 a 1\nhold 1 a 1\n",
+            BAD_INPUT,
+            "script: bad line 3\n",
+        ),
+        (
+            "pool 1\n> 0 get a\\r\\n\nhold 0 a 1\n",
+            BAD_INPUT,
+            "script: bad line 3\n",
+        ),
+        (
+            "pool 1\nlose 0 a\n\nhold 0 a 1\nx\n",
+            BAD_INPUT,
+            "script: bad line 4\n",
+        ),
+        (
+            "pool 1\n\nat 0 restart 0\n",
+            BAD_INPUT,
+            "script: bad line 3\n",
+        ),
+        ("pool 1\nreload {}", BAD_INPUT, "script: bad line 2\n"),
+    ];
+    for (text, want_status, want) in cases {
+        for any in [false, true] {
+            let mut out = Vec::new(rt.alloc());
+            assert_eq!(rt; run_replay(rt.alloc(), any, text, &mut out), want_status);
+            assert_eq!(rt; out.as_slice(), want.as_bytes());
+        }
+    }
+}
+
+const LEAKING: &str =
+    r#"{"pools":{"A":{"servers":["127.0.0.1:5001"]},"B":{"servers":["127.0.0.1:5002"]}},"route":{"type":"FailoverRoute","children":["PoolRoute|A","PoolRoute|B"]}}
+"#;
+
+// The gate refuses the tree, unless it isn't asked; a bad line comes first.
+#[test]
+fn trees_that_are_refused(rt: HostRuntime) -> Result<(), Fail> {
+    let refusal = "refused: server=127.0.0.1:5001 read=get delete=delete prefix= residue=0/1\n";
+    let cases = [
+        ("", false, REFUSED, refusal),
+        ("> 0 get a\\r\\n\n", false, REFUSED, refusal),
+        ("", true, DONE, "done 0 commands 0 calls 0 stale\n"),
+        ("fail 0 before", false, BAD_INPUT, "script: bad line 2\n"),
+        ("x", false, BAD_INPUT, "script: bad line 2\n"),
+    ];
+    for (events, any, want_status, want) in cases {
+        let mut text = String::from_str(rt.alloc(), LEAKING)?;
+        text.push_str(events)?;
+        let mut out = Vec::new(rt.alloc());
+        assert_eq!(rt;
+            run_replay(rt.alloc(), any, text.as_str(), &mut out),
+            want_status
+        );
+        assert_eq!(rt; out.as_slice(), want.as_bytes());
+    }
+    Ok(())
+}
+
+// Takes so many bytes, and then fails.
+#[derive(Drop)]
+struct Full {
+    room: usize,
+}
+
+impl Write for Full {
+    fn write(&mut self, bytes: &[u8]) -> io::Result<usize> {
+        let count = bytes.len().min(self.room);
+        if count == 0 {
+            return Err(io::Error::from(ErrorKind::StorageFull));
+        }
+        self.room -= count;
+        Ok(count)
+    }
+
+    fn flush(&mut self) -> io::Result<()> {
+        Ok(())
+    }
+}
+
+#[test]
+fn writers_that_fail(rt: HostRuntime) {
+    for room in 0..10 {
+        let mut out = Full { room };
+        assert_eq!(rt; run_replay(rt.alloc(), false, "pool 1", &mut out), WRITER);
+        let mut bad = Full { room };
+        assert_eq!(rt; run_replay(rt.alloc(), false, "", &mut bad), WRITER);
+    }
+}
