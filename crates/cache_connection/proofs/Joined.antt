@@ -1,4 +1,4 @@
--- Messages that are served behind others.
+-- Messages that are served after others.
 use Rattle.std.proofs.Common.{◌≡◌, ℕ, ℤ, List, [], ◌∷◌, ◌++◌, refl, sym, ap, ap₂, ◌∙◌, subst, map, append_assoc, append-nil}
 use Rattle.std.proofs.lemmas.List.{map-append}
 use Rattle.mc_runs.specs.Protocol.{Goes}

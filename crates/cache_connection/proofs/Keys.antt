@@ -154,7 +154,7 @@ written_is m (x ∷ rs) r = refl
 pub begins_nothing : (moment : ℤ) (x : Connection) (request : Request) (contents : Contents) → HasBegun moment x request contents 0 x contents
 begins_nothing moment x request contents = record { replies = []; count = refl; answered = refl; none = tt; output_is = sym (append-nil (output_of x)); stays = refl }
 
--- One more ask behind those before it: its reply is the next, and its text stands behind theirs.
+-- One more ask after those before it: its reply is the next, and its text stands after theirs.
 record Adds (moment : ℤ) (old : Connection) (request : Request) (contents : Contents) (i : ℕ) (ended : Bool) (new : Connection) (contents' : Contents) : Type 0 where
   replies : List Answer
   reply : Answer
@@ -229,7 +229,7 @@ begins_last moment old x y request asks' i c d e ended front b k ends =
       shorter = subst (λ (p : Place). length (held_at p) < held_len old) (sym place) (fewer (held_at old.stream) m (used_of request) front.read.begins);
     }
 
--- want of memory at the next ask breaks the message off
+-- running out of memory at the next ask breaks the message off
 pub begins_stops : (moment : ℤ) (old x : Connection) (request : Request) (i : ℕ) (c d e : Contents) → IsFront old request → HasBegun moment old request c i x d → StopsAtKey moment x request i d e → BreaksOff moment old.stream c e
 begins_stops moment old x request i c d e front b stops =
     let m : Message = message_at old request in

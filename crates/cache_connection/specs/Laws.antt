@@ -27,13 +27,13 @@ IsLast LongLine = Unit {0}
 abbrev pub ClosesBehindLast : Type 0
 ClosesBehindLast = (place next : Place) (said : Said) → ReadsNext place said next → (next ≡ Closed) ↔ IsLast said
 
--- behind the end nothing is served, and nothing is given
+-- after the end nothing is served, and nothing is given
 abbrev pub NothingBehindEnd : Type 0
 NothingBehindEnd =
     (moment : ℤ) (next : Place) (bytes text : List ℕ) (old new : Contents)
     → Feeds moment Closed bytes old text next new → (text ≡ []) × (next ≡ Closed) × (new ≡ old)
 
--- none of these replies is for want of memory
+-- none of these replies is for lack of memory
 abbrev pub NoneWants : List Answer → Type 0
 NoneWants [] = Unit {0}
 NoneWants (reply ∷ replies) = (reply ≢ out_of_memory) × NoneWants replies
@@ -43,7 +43,7 @@ abbrev pub AllHadMemory : List (Done memcached_text) → Type 0
 AllHadMemory [] = Unit {0}
 AllHadMemory (done ∷ more) = NoneWants done.replies × AllHadMemory more
 
--- where memory suffices, there is one text that may be given, one place behind it, and one state of the cache
+-- where memory suffices, there is one text that may be given, one place after it, and one state of the cache
 abbrev pub FeedIsDetermined : Type 0
 FeedIsDetermined =
     (moment : ℤ) (place p q : Place) (bytes s t : List ℕ) (old c d : Contents)

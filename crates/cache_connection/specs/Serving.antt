@@ -1,4 +1,4 @@
--- How a cache answers what the client of a connection sends. Source: memcached's protocol.txt, "Commands" and "Error strings"; what is done for want of memory is mcgate's own.
+-- How a cache answers what the client of a connection sends. Source: memcached's protocol.txt, "Commands" and "Error strings"; what is done for lack of memory is mcgate's own.
 use Rattle.std.specs.Prelude.{◌≡◌, ℕ, ℤ, nat_abs, Bool, true, false, ◌⊎◌, List, [], ◌∷◌, Option, map}
 use Rattle.mc_types.specs.declared.ask.Ask.{Ask}
 use Rattle.mc_types.specs.declared.ask.Op.{Op}
@@ -83,7 +83,7 @@ pub record BreaksOff (moment : ℤ) (place : Place) (old : Contents) (new : Cont
   pub answered : AnswersEach moment (asks_in said) old answers left
   pub new_is : (new ≡ left) ⊎ (new ≡ at_moment (nat_abs moment) left)
 
--- Some messages were served, and the one behind them wasn't, or was broken off.
+-- Some messages were served, and the one after them wasn't, or was broken off.
 pub record Stops (moment : ℤ) (place : Place) (old : Contents) (new : Contents) : Type 0 where
   pub text : List ℕ
   pub next : Place

@@ -47,7 +47,7 @@ pub record ServesAsk (moment : ℤ) (old : Connection) (request : Request) (i : 
   pub ended_is : ended ≡ ends_at (Whole (message_at old request)) i reply
   pub goes : GoesTo old (place_behind ended old (drop (used_of request) (held_at old.stream))) (shown_of (Whole (message_at old request)) i reply) new
 
--- want of memory at an ask: what has expired is gone, or else it was answered, and the reply not shown
+-- running out of memory at an ask: what has expired is gone, or else it was answered, and the reply not shown
 abbrev pub StopsAtAsk : ℤ → Ask → Contents → Contents → Type 0
 StopsAtAsk moment ask old new = ((reply : Answer) × AnswersAsk moment ask old reply new) ⊎ (new ≡ at_moment (nat_abs moment) old)
 
@@ -58,7 +58,7 @@ pub record ServesKey (moment : ℤ) (old : Connection) (request : Request) (i : 
   pub served : ServesAsk moment old request i ask contents ended new contents'
   pub way : ended ≡ false → IsOnWay new request asks' (i + 1)
 
--- want of memory at the walk's next ask, or before it
+-- running out of memory at the walk's next ask, or before it
 abbrev pub StopsAtKey : ℤ → Connection → Request → ℕ → Contents → Contents → Type 0
 StopsAtKey moment x request i old new =
     (new ≡ old) ⊎ ((ask : Ask) × (slice_get (asks_of (message_at x request)) i ≡ Some ask) × StopsAtAsk moment ask old new)

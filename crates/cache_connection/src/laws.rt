@@ -12,12 +12,12 @@ pub fn closes_behind_last()
     ensures { ClosesBehindLast }
 {}
 
-/// Behind the end of a connection nothing is served, and nothing is given.
+/// After the end of a connection nothing is served, and nothing is given.
 pub fn nothing_behind_end()
     ensures { NothingBehindEnd }
 {}
 
-/// Where no reply is for want of memory, the definition leaves no choice: what is given, where the stream stands then,
+/// Where no reply is for lack of memory, the definition leaves no choice: what is given, where the stream stands then,
 /// and what the cache holds follow from what came and what it held.
 pub fn feed_is_determined()
     ensures { FeedIsDetermined }

@@ -1,4 +1,4 @@
-//! What a cache answers to one ask of a connection, want of memory among it.
+//! What a cache answers to one ask of a connection, running out of memory among it.
 
 // The reply to one ask.
 
@@ -34,7 +34,7 @@ fn out_of_memory() -> Answer
     Answer::ServerError(ErrorText::own(OwnText::OutOfMemory))
 }
 
-/// What the cache answers to an ask at this moment. A new item has stamp 0. Want of memory is an answer where the ask may
+/// What the cache answers to an ask at this moment. A new item has stamp 0. Running out of memory is an answer where the ask may
 /// store an item, and the only error of the others; then nothing changes but that expired items are gone.
 pub fn reply_to(cache: &mut Cache, moment: Moment, ask: &Ask) -> Result<Answer, AllocError>
     requires { IsAsk ask.now }

@@ -90,7 +90,7 @@ fn serve_request(
 }
 
 /// All messages that are complete are answered by the cache at this moment, into the connection's output.
-/// The only error is want of memory, which may break off a message.
+/// The only error is running out of memory, which may break off a message.
 pub fn serve(
     alloc: Global,
     connection: &mut Connection,

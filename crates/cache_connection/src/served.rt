@@ -62,7 +62,7 @@ impl Served {
         }
     }
 
-    /// Whether the connection has ended: behind `quit`, a line that is too long, or an error of `feed`. It takes no
+    /// Whether the connection has ended: after `quit`, a line that is too long, or an error of `feed`. It takes no
     /// memory.
     pub fn is_closed(&self) -> bool
         ensures { IsTrue result ↔ self.now ≡ Closed }
@@ -73,7 +73,7 @@ impl Served {
     /// A piece of the client's bytes comes. All messages that are complete then are answered by the cache, one ask after
     /// another, at this moment, in seconds, 0 or later; the reply texts are given, in order. Stores have stamp 0. A
     /// client that wrote `noreply` is shown no reply, and one that wrote `q` none of those that `q` hides. `quit` ends the
-    /// connection, and so does a line without an end in its first 65,536 bytes, which is answered. Behind the end bytes
+    /// connection, and so does a line without an end in its first 65,536 bytes, which is answered. After the end bytes
     /// are dropped, and nothing is given.
     ///
     /// Where the cache wants memory to store an item, the reply is `SERVER_ERROR out of memory storing object`. Want of

@@ -87,7 +87,7 @@ impl Cache {
     ghost use Rattle.cache_server.specs.Sound.{IsItem};
     ghost use Rattle.cache_server.specs.Table.{Applies, Serves, changed};
 
-    /// A server that holds nothing yet, and then at most `capacity` items. The only error is want of memory.
+    /// A server that holds nothing yet, and then at most `capacity` items. The only error is running out of memory.
     pub fn new(alloc: Global, capacity: usize) -> Result<Cache, AllocError>
         requires { 0 < capacity }
         ensures { IfOk result (λ cache. cache ≡ empty capacity) }
@@ -179,7 +179,7 @@ impl Cache {
     /// those after a new expiry was set.
     ///
     /// All items that have expired are dropped before, for good. What the call stores as a new item has the stamp that
-    /// is given here. The only error is want of memory: then nothing changes but that expired items are gone.
+    /// is given here. The only error is running out of memory: then nothing changes but that expired items are gone.
     ///
     /// Source: memcached's protocol.txt.
     pub fn apply(
@@ -202,7 +202,7 @@ impl Cache {
     }
 
     /// Holds these data under the key, without flags and expiry, with stamp 0 and the next cas number (after the last
-    /// one, the last again). The key is the most recently used then. The only error is want of memory, which changes
+    /// one, the last again). The key is the most recently used then. The only error is running out of memory, which changes
     /// nothing.
     pub fn hold(&mut self, key: &Key, body: &[u8]) -> Result<(), AllocError>
         requires { length body.now ≤ data_limit }

@@ -142,7 +142,7 @@ fn decide_held(
     }
 }
 
-/// What a call finds and changes, by what is held of its key at that moment. The only error is want of memory.
+/// What a call finds and changes, by what is held of its key at that moment. The only error is running out of memory.
 pub fn decide(
     alloc: Global,
     now: u64,

@@ -68,7 +68,7 @@ module _ (bytes : List ℕ) (end used : ℕ) (line : TakesLine bytes end used) w
   pub means_meta : (first : Span) (verb : Verb) → IsNextWord (take end bytes) 0 first → verb_of (text_at (take end bytes) first) ≡ Some verb → meaning both_grammar (take (used - 1) bytes) (drop used bytes) ≡ lift_found Meta (meaning meta_grammar (take (used - 1) bytes) (drop used bytes))
   means_meta first verb h some = meta_by _ (text_at (take end bytes) first) (words (drop first.end (take end bytes))) verb (length (take (used - 1) bytes) + 1) (drop used bytes) (line_words first h) some
 
-  -- what is read behind the first line is what the bytes begin with
+  -- what is read after the first line is what the bytes begin with
   pub reads_meant : (r : Read) → IsMeant bytes r (meaning both_grammar (take (used - 1) bytes) (drop used bytes)) → Reads bytes r
   reads_meant (reads.Request r) h = record { placed = h.0; begins = begins_meant both_grammar bytes end used (message_in bytes r) (used_of r) line h.1 }
   reads_meant (reads.Refused why n skip) h = begins_meant both_grammar bytes end used (Refusal why skip) n line h

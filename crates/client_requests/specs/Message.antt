@@ -14,7 +14,7 @@ use Rattle.client_requests.specs.declared.reader.Read.{Read}
 use Rattle.client_requests.specs.declared.reader.Read.TheVariants as reads
 use Rattle.client_requests.specs.Both.{Order, Classic, Meta, both_grammar}
 
--- a message: one that is served, with its data block, or one that is refused, with what is passed over behind it
+-- a message: one that is served, with its data block, or one that is refused, with what is passed over after it
 abbrev pub Message : Type 0
 Message = parts.Message Order
 
@@ -46,7 +46,7 @@ pub record IsReadFrom (bytes : List ℕ) (r : Request) : Type 0 where
   pub placed : IsPlaced bytes r
   pub begins : Begins bytes (message_in bytes r) (used_of r)
 
--- what was read behind a line is what it means
+-- what was read after a line is what it means
 abbrev pub IsMeant : List ℕ → Read → Found → Type 0
 IsMeant bytes (reads.Request r) found = IsPlaced bytes r × (found ≡ Some (message_in bytes r, used_of r))
 IsMeant bytes (reads.Refused why used skip) found = found ≡ Some (Refusal why skip, used)

@@ -5,10 +5,10 @@ use Rattle.request_parts.specs.Stream.{Place, behind_own}
 use Rattle.client_requests.specs.Both.{Order, both_grammar, own_by}
 use Rattle.client_requests.specs.Message.{Message}
 
--- where a reader stands behind a request
+-- where a reader stands after a request
 abbrev pub behind_order : Order → List ℕ → Place
 behind_order order rest = behind_own (own_by order) rest
 
--- where a reader stands behind a message, with these bytes behind it
+-- where a reader stands after a message, with these bytes after it
 abbrev pub behind : Message → List ℕ → Place
 behind = streams.behind both_grammar

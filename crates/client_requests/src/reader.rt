@@ -20,7 +20,7 @@ pub enum Read {
     TooLong,
     /// A message that is served.
     Request(Request),
-    /// A message that is refused: it takes `used` bytes, and what `skip` says is passed over behind them.
+    /// A message that is refused: it takes `used` bytes, and what `skip` says is passed over after them.
     Refused { why: Why, used: usize, skip: Skip },
 }
 

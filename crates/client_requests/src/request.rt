@@ -90,7 +90,7 @@ impl Request {
     }
 
     /// The ask of this number, counted from 0: a copy. It walks over the keys before it; a walk over all asks is
-    /// `walk`. The only error is want of memory.
+    /// `walk`. The only error is running out of memory.
     pub fn ask(&self, alloc: Global, bytes: &[u8], i: usize) -> Result<Ask, AllocError>
         requires read { IsReadFrom bytes.now self.now }
         requires there { i < length (asks_of (message_in bytes.now self.now)) }
@@ -123,7 +123,7 @@ impl MetaAsks {
 }
 
 impl Asks {
-    /// The next ask, a copy, or `None` behind the last one. The only error is want of memory, after which the walk
+    /// The next ask, a copy, or `None` after the last one. The only error is running out of memory, after which the walk
     /// stands where it stood.
     pub fn next(&mut self, alloc: Global, bytes: &[u8]) -> Result<Option<Ask>, AllocError>
         requires { IsWalk bytes.now self.old }

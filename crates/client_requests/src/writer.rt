@@ -9,7 +9,7 @@ use std::alloc::AllocError;
 
 /// Appends the one spelling of an ask, in its dialect: without `noreply` and without `q`, since an answer is awaited.
 ///
-/// The only error is want of memory, which leaves the buffer as it was.
+/// The only error is running out of memory, which leaves the buffer as it was.
 pub fn write_ask(ask: &Ask, out: &mut BytesMut) -> Result<(), AllocError>
     requires { IsAsk ask.now }
     ensures ok { OnOk result (out.new.items ≡ out.old.items ++ spelling_of ask.now) }

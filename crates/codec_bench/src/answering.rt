@@ -52,7 +52,7 @@ fn meta_answer(alloc: Global, ask: &Ask) -> Result<Answer, AllocError> {
 }
 
 /// An answer that a server may give to the ask: a get is a hit of 100 bytes, and a meta ask is done. The only error is
-/// want of memory.
+/// running out of memory.
 pub fn answer_to(alloc: Global, ask: &Ask) -> Result<Answer, AllocError> {
     match ask.dialect {
         Dialect::Classic => classic_answer(alloc, ask),

@@ -36,8 +36,8 @@ fn joined(alloc: Global, messages: &[&[u8]]) -> Result<BytesMut, AllocError> {
 /// | `quit` | 6 | 0 | | |
 /// | 16 | 211 | 14 | 157 | 920 |
 ///
-/// A hit is `VALUE a 0 100`, with `gets` ` 77` behind it, 100 bytes, and `END`, each with its line end. The only error
-/// is want of memory.
+/// A hit is `VALUE a 0 100`, with `gets` ` 77` after it, 100 bytes, and `END`, each with its line end. The only error
+/// is running out of memory.
 pub fn small_mix(alloc: Global) -> Result<BytesMut, AllocError> {
     let messages = [
         b"get a\r\n".as_slice(),
@@ -229,7 +229,7 @@ fn put_message(out: &mut BytesMut, mix: Mix, number: u64) -> Result<(), AllocErr
     }
 }
 
-/// So many bytes of mixed requests, and the rest of the last one. The only error is want of memory.
+/// So many bytes of mixed requests, and the rest of the last one. The only error is running out of memory.
 pub fn large_mix(alloc: Global, mix: Mix, bytes: usize) -> Result<BytesMut, AllocError> {
     let mut out = BytesMut::new(alloc);
     for number in 0..u64::MAX {

@@ -14,7 +14,7 @@ use text_codec::{
     AnswerRead, Read, Request, Skip, Why, read_answer, read_request, write_answer, write_ask,
 };
 
-// what stands behind the first line, if it ends
+// what stands after the first line, if it ends
 fn behind_line(bytes: &[u8]) -> Option<&[u8]> {
     let end = first_byte(b'\n', bytes)?;
     Some(&bytes[end + 1..])
@@ -34,7 +34,7 @@ pub fn split_lines(bytes: &[u8]) -> u64 {
     lines
 }
 
-// what stands behind bytes that are passed over
+// what stands after bytes that are passed over
 fn passed(rest: &[u8], skip: Skip) -> &[u8] {
     match skip {
         Skip::Nothing => rest,
@@ -96,7 +96,7 @@ fn make_asks(alloc: Global, request: &Request, bytes: &[u8]) -> Result<u64, Allo
     Ok(count)
 }
 
-/// Reads all messages of the bytes, and makes their asks. The only error is want of memory.
+/// Reads all messages of the bytes, and makes their asks. The only error is running out of memory.
 pub fn read_asks(alloc: Global, bytes: &[u8]) -> Result<Counts, AllocError> {
     let mut counts = Counts::new();
     let mut rest = bytes;
@@ -137,7 +137,7 @@ fn add_exchanges(
     Ok(())
 }
 
-/// The asks of all messages of the bytes, in order, each with an answer to it. The only error is want of memory.
+/// The asks of all messages of the bytes, in order, each with an answer to it. The only error is running out of memory.
 pub fn exchanges_of(alloc: Global, bytes: &[u8]) -> Result<Vec<Exchange>, AllocError> {
     let mut exchanges = Vec::new(alloc);
     let mut rest = bytes;
@@ -154,7 +154,7 @@ pub fn exchanges_of(alloc: Global, bytes: &[u8]) -> Result<Vec<Exchange>, AllocE
     Ok(exchanges)
 }
 
-/// Appends each ask, as a server is sent it. The only error is want of memory.
+/// Appends each ask, as a server is sent it. The only error is running out of memory.
 pub fn write_asks(exchanges: &[Exchange], out: &mut BytesMut) -> Result<(), AllocError> {
     for exchange in exchanges {
         write_ask(&exchange.ask, out)?;
@@ -162,7 +162,7 @@ pub fn write_asks(exchanges: &[Exchange], out: &mut BytesMut) -> Result<(), Allo
     Ok(())
 }
 
-/// Appends each answer, as a client is sent it. The only error is want of memory.
+/// Appends each answer, as a client is sent it. The only error is running out of memory.
 pub fn write_answers(exchanges: &[Exchange], out: &mut BytesMut) -> Result<(), AllocError> {
     for exchange in exchanges {
         write_answer(&exchange.ask, &exchange.answer, out)?;
@@ -170,7 +170,7 @@ pub fn write_answers(exchanges: &[Exchange], out: &mut BytesMut) -> Result<(), A
     Ok(())
 }
 
-/// Reads the answers to the asks, one behind another, and answers how many there are. The only error is want of
+/// Reads the answers to the asks, one after another, and answers how many there are. The only error is want of
 /// memory.
 pub fn read_answers(
     alloc: Global,

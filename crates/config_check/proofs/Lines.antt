@@ -1,4 +1,4 @@
--- Equal fields make equal lines, and one part of a line stands behind the other.
+-- Equal fields make equal lines, and one part of a line stands after the other.
 use Rattle.std.proofs.Common.{◌≡◌, ℕ, ◌++◌, List, Option, Some, None, ap, ◌∙◌, append_assoc}
 use Rattle.std.specs.Io.KnownBytes.{Appends}
 use Rattle.config_check.specs.Verdict.{fields_line}

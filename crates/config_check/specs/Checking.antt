@@ -52,7 +52,7 @@ pub record PrintsVerdict (text : List ℕ) (old new : Option (List ℕ)) (status
   pub said : read_or (read text) ≡ Ok (config.tree, config.servers)
   pub checks : ChecksConfig config old new status
 
--- the text is none: reading it fails by this fault, which isn't want of memory, and that was written
+-- the text is none: reading it fails by this fault, which isn't running out of memory, and that was written
 pub record PrintsFault (text : List ℕ) (old new : Option (List ℕ)) : Type 0 where
   pub fault : ConfigFault
   pub told : IsSome (fault_of fault)

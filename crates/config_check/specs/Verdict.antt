@@ -59,7 +59,7 @@ fields_line address read delete prefix residue modulus = line_front address read
 abbrev pub gap_line : Addresses → Gap → List ℕ
 gap_line servers gap = fields_line (address_of servers gap.server) (op_name gap.op) (delete_name gap.deleting) (prefix_text gap.place.prefix) gap.place.residue gap.place.modulus
 
--- the line of a refused tree; want of memory has none
+-- the line of a refused tree; running out of memory has none
 abbrev pub refusal_line : Addresses → Reason → List ℕ
 refusal_line servers reasons.TooManyPlaces = codes "refused: too many places\n"
 refusal_line servers (reasons.BadCertificate row) = codes "refused: bad certificate row " ++ decimal row ++ codes "\n"

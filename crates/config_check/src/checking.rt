@@ -39,7 +39,7 @@ fn print_accepted<W: Write>(alloc: Global, tree: &Tree, out: &mut W) -> Result<u
     Ok(DONE)
 }
 
-/// Writes why a configuration is refused; where that is want of memory, it is the error, and nothing was written.
+/// Writes why a configuration is refused; where that is running out of memory, it is the error, and nothing was written.
 pub fn print_refused<W: Write>(
     config: &Config,
     reason: &Reason,
@@ -69,7 +69,7 @@ fn check_config<W: Write>(alloc: Global, config: Config, out: &mut W) -> Result<
     }
 }
 
-// Writes the fault of a text that is no configuration, unless that is want of memory.
+// Writes the fault of a text that is no configuration, unless that is running out of memory.
 fn print_fault<W: Write>(text: &str, fault: &ConfigFault, out: &mut W) -> Result<u8, RunFault>
     requires { Fails (fault_of fault.now) (read_or (read text.now)) }
     ensures ok { IfOk result (Checks text.now (W.contents out.old) (W.contents out.new)) }

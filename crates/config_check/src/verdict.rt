@@ -92,7 +92,7 @@ fn write_gap<W: Write>(servers: &Servers, gap: &Gap, out: &mut W) -> io::Result<
 }
 
 /// Writes the line of a configuration that was refused: `refused: server=A read=OP delete=D prefix=P residue=R/L` for a gap,
-/// `refused: too many places` or `refused: bad certificate row N`. Want of memory has no line. The format is mcgate's own.
+/// `refused: too many places` or `refused: bad certificate row N`. Running out of memory has no line. The format is mcgate's own.
 pub fn write_refusal<W: Write>(servers: &Servers, reason: &Reason, out: &mut W) -> io::Result<()>
     ensures { OnOk result (Appends (W.contents out.old) (W.contents out.new) (refusal_line servers.now reason.now)) }
 {

@@ -1,4 +1,4 @@
--- What stands at the front of a connection's stream, and where it stands behind it.
+-- What stands at the front of a connection's stream, and where it stands after it.
 use Rattle.std.proofs.Common.{◌≡◌, ℕ, ◌<◌, ◌≤◌, List, [], ◌∷◌, length, Option, Some, None, refl, ap, arith, slice_get}
 use Rattle.mc_types.specs.declared.ask.Ask.{Ask}
 use Rattle.mc_runs.specs.Protocol.{IsStuck}
@@ -28,21 +28,21 @@ pub empty_is : (asks : List Ask) → length asks ≡ 0 → asks ≡ []
 empty_is [] e = refl
 empty_is (ask ∷ asks) e = absurd (omega arith)
 
--- behind what mcgate itself was asked no more is held
+-- after what mcgate itself was asked no more is held
 pub own_len : (own : Option Own) (rest : List ℕ) → length (held_at (behind_own own rest)) ≤ length rest
 own_len None rest = omega arith
 own_len (Some Version) rest = omega arith
 own_len (Some Quit) rest = omega arith
 own_len (Some Noop) rest = omega arith
 
--- fewer bytes are held behind a message
+-- fewer bytes are held after a message
 pub shorter_by : (old new : Connection) (held rest : List ℕ) (place : Place) → old.stream ≡ Stands Nothing held → new.stream ≡ place → length (held_at place) ≤ length rest → length rest < length held → held_len new < held_len old
 shorter_by old new held rest place at goes within less =
     let a : held_len new ≡ length (held_at place) = ap (λ (p : Place). length (held_at p)) goes in
     let b : held_len old ≡ length held = ap (λ (p : Place). length (held_at p)) at in
     omega (arith, a, b)
 
--- a request with an ask is no `quit`: behind it the stream goes on
+-- a request with an ask is no `quit`: after it the stream goes on
 pub served_behind : (order : Order) (block rest : List ℕ) (i : ℕ) (ask : Ask) → slice_get (asks_by order block) i ≡ Some ask → behind_order order rest ≡ Stands Nothing rest
 served_behind (Classic (OfItself own)) block rest i ask e = absurd (cc)
 served_behind (Classic (Retrieval exptime with_cas keys)) block rest i ask e = refl
@@ -54,7 +54,7 @@ served_behind (Classic (Counting up key delta quiet)) block rest i ask e = refl
 served_behind (Meta (metas.OfItself own)) block rest i ask e = absurd (cc)
 served_behind (Meta (metas.Asking kind key n flags)) block rest i ask e = refl
 
--- behind what mcgate itself was asked
+-- after what mcgate itself was asked
 pub own_behind : (order : Order) (rest : List ℕ) → behind_order order rest ≡ behind_own (own_by order) rest
 own_behind order rest = refl
 

@@ -1,4 +1,4 @@
--- What a request of either dialect is: what it asks of mcgate itself, and where the stream stands behind it.
+-- What a request of either dialect is: what it asks of mcgate itself, and where the stream stands after it.
 use Rattle.std.proofs.Common.{◌≡◌, ℕ, List, Some, refl, slice_get}
 use Rattle.mc_text.specs.Word.{text_at}
 use Rattle.mc_types.specs.declared.ask.Ask.{Ask}
@@ -15,12 +15,12 @@ use Rattle.client_requests.specs.Stream.{behind}
 use Rattle.text_codec.specs.TextProtocol.{Whole, own_passed, passed_text}
 use Rattle.connections.proofs.Fronts.{served_behind}
 
--- behind a request with an ask the stream goes on
+-- after a request with an ask the stream goes on
 pub request_behind : (held : List ℕ) (request : Request) (rest : List ℕ) (i : ℕ) (ask : Ask) → slice_get (asks_of (message_in held request)) i ≡ Some ask → behind (message_in held request) rest ≡ Stands Nothing rest
 request_behind held (Classic r) rest i ask at = served_behind (both.Classic (texts.order_in held r.command)) (text_at held r.block) rest i ask at
 request_behind held (Meta r) rest i ask at = served_behind (both.Meta (metas.order_in held r.command)) (text_at held r.block) rest i ask at
 
--- where it stands behind what mcgate itself was asked
+-- where it stands after what mcgate itself was asked
 pub own_next : (held : List ℕ) (request : Request) (rest : List ℕ) → behind_own (own_of (message_in held request)) rest ≡ behind (message_in held request) rest
 own_next held (Classic r) rest = refl
 own_next held (Meta r) rest = refl

@@ -1,4 +1,4 @@
--- Behind a message fewer bytes are held.
+-- After a message fewer bytes are held.
 use Rattle.std.proofs.Common.{◌≡◌, ℕ, ◌<◌, ◌≤◌, true, false, eqb, List, [], ◌∷◌, length, drop, refl, arith, inl, inr, length-drop}
 use Rattle.std.proofs.lemmas.Bool.{cases_lt, lt-ltb, le-ltb}
 use Rattle.mc_text.specs.Line.{LF}

@@ -17,7 +17,7 @@ pub record GoesTo (old : Connection) (place : Place) (more : List ℕ) (new : Co
   pub place_is : new.stream ≡ place
   pub output_is : output_of new ≡ output_of old ++ more
 
--- where it stands behind a reply, with these bytes behind the message: the message is done, or it stands where it stood
+-- where it stands after a reply, with these bytes after the message: the message is done, or it stands where it stood
 abbrev pub place_behind : Bool → Connection → List ℕ → Place
 place_behind true old rest = Stands Nothing rest
 place_behind false old rest = old.stream

@@ -35,7 +35,7 @@ impl Connection {
         }
     }
 
-    /// A piece came. The only error is want of memory, which leaves the connection as it was.
+    /// A piece came. The only error is running out of memory, which leaves the connection as it was.
     pub fn feed(&mut self, piece: &[u8]) -> Result<(), AllocError>
         ensures ok { OnOk result (GoesTo self.old (extended self.old.stream piece.now) [] self.new) }
         ensures err { OnErr result (GoesTo self.old self.old.stream [] self.new) }
@@ -102,7 +102,7 @@ impl Connection {
     }
 
     /// The reply to a key of the message at the front, of so many bytes, is shown: whether the message is done with it,
-    /// as with that of its last key, or with an error line. The only error is want of memory.
+    /// as with that of its last key, or with an error line. The only error is running out of memory.
     pub fn show(
         &mut self,
         quiet: bool,
@@ -123,7 +123,7 @@ impl Connection {
         }
     }
 
-    /// The output so far, a copy, which is then empty. The only error is want of memory, which leaves the output as it
+    /// The output so far, a copy, which is then empty. The only error is running out of memory, which leaves the output as it
     /// was.
     pub fn take_output(&mut self, alloc: Global) -> Result<Vec<u8>, AllocError>
         ensures bytes { IfOk result (λ bytes. bytes.items ≡ output_of self.old) }

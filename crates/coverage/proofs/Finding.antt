@@ -212,7 +212,7 @@ copy_front s b front back h = (h.0, h.1, h.2, get_front front back h.1 h.2 h.3, 
 copy_back : (s b : ℕ) (front back : List Call) → HasCopy s (b + length front) back → HasCopy s b (front ++ back)
 copy_back s b front back h = (h.0, length front + h.1, h.2, get_back front back h.1 h.2 h.3, h.4, has_back (λ c. c.server ≡ s) b front back h.0 h.5)
 
--- a part behind another one
+-- a part after another one
 then_behind : {G H : Type 0} (first : ℕ → List Call → G → Type 0) (second : G → ℕ → List Call → H → Type 0) (b : ℕ) (here more : List Call) (g : G) → first b here g → Rest (second g) (b + length here) more → Rest (Then first second) b (here ++ more)
 then_behind first second b here more g w r = (r.0, r.1, (here, more ++ r.0, append_assoc here more r.0, g, w, r.2))
 
@@ -267,7 +267,7 @@ module _ (cold warm : Plan) (e : ℕ) (good : IsGood cold) (good_warm : IsGood w
   in_cold : (b : ℕ) (calls : List Call) → Rest C b calls → Rest Through b calls
   in_cold b calls r = then_rest C (λ first. AfterCold ask C W A first (rank first)) Any (sure C) (λ first _. after_cold_some ask C W A c_some w_some a_some names first (rank first)) b calls r
 
-  -- behind a miss of the cold side
+  -- after a miss of the cold side
   behind_miss : (b : ℕ) → ((b' : ℕ) (first : Given) → (calls : List Call) × Rest (Then W (λ g. AfterWarm ask C W A first g (rank g))) b' calls × HasCopy s b' calls) → (calls : List Call) × Rest Through b calls × HasCopy s b calls
   behind_miss b f =
       let c = low cold good ask Client b in

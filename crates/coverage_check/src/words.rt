@@ -78,7 +78,7 @@ fn led(first: Outline, second: Outline) -> Outline {
     }
 }
 
-// Puts the outline behind the others, unless it is among them.
+// Puts the outline after the others, unless it is among them.
 fn put(outlines: &mut Vec<Outline>, outline: Outline) -> Result<(), AllocError> {
     for other in outlines.as_slice() {
         if *other == outline {

@@ -43,7 +43,7 @@ output_set (z ∷ xs) zero y lt (suc d) = ap (λ b. cond b (output_of y) (output
 output_set (z ∷ xs) (suc c) y lt zero = ap (λ b. cond b (output_of y) (output_of z)) (sym (eqb-suc-zero c))
 output_set (z ∷ xs) (suc c) y lt (suc d) = output_set xs c y (omega arith) d ∙ ap (λ b. cond b (output_of y) (output_in xs d)) (sym (eqb-suc-suc c d))
 
--- one of the clients that said nothing is put behind the others
+-- one of the clients that said nothing is put after the others
 pub point_more : (xs : List Connection) (x : Connection) → x.stream ≡ Stands Nothing [] → ((d : ℕ) → point_in xs d ≡ record { place = Stands Nothing []; index = 0 }) → (d : ℕ) → point_in (xs ++ x ∷ []) d ≡ record { place = Stands Nothing []; index = 0 }
 point_more [] x e h zero = ap (λ (p : Place). let q : Point memcached_text = record { place = p; index = 0 } in q) e
 point_more [] x e h (suc d) = refl

@@ -59,7 +59,7 @@ long_line_done old new router fleet held place long g =
       shorter = shorter_by old new held [] Closed place g.place_is (omega arith) (omega (arith, long.long));
     }
 
--- a key behind which the message isn't done
+-- a key after which the message isn't done
 pub key_more : (old x y : Connection) (request : Request) (asks' : Asks) (i : ℕ) (p q r : Router) (f g h : MemoryFleet) (ended : Bool) → Advances old 0 p f x i q g → ServesKey x request i q g ended y asks' r h → ended ≡ false → Advances old 0 p f y (i + 1) r h
 key_more old x y request asks' i p q r f g h true a s e = absurd (cc)
 key_more old x y request asks' i p q r f g h false a s e = advances_on old x y 0 i (i + 1) p q r f g h a s.served.advances
@@ -68,7 +68,7 @@ pub key_same : (x y : Connection) (request : Request) (asks asks' : Asks) (i : �
 key_same x y request asks asks' i q r g h true way s e = absurd (cc)
 key_same x y request asks asks' i q r g h false way s e = s.served.place way.held way.place
 
--- the key behind which it is
+-- the key after which it is
 pub key_last : (old x y : Connection) (request : Request) (asks asks' : Asks) (i : ℕ) (p q r : Router) (f g h : MemoryFleet) (ended : Bool) → Advances old 0 p f x i q g → IsOnWay x request asks i → x.stream ≡ old.stream → ServesKey x request i q g ended y asks' r h → ended ≡ true → ServesRequest old p f y r h
 key_last old x y request asks asks' i p q r f g h false a way same s e = absurd (cc)
 key_last old x y request asks asks' i p q r f g h true a way same s e =

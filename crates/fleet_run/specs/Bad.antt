@@ -37,7 +37,7 @@ abbrev pub loser_of : Loss → ℕ
 loser_of (Lose server key) = server
 loser_of (Restart server) = server
 
--- behind these events the event can't be: an unknown client or server, too many bytes, a turn counted 0, a moment below 0, data held that are too long, or once the run has begun
+-- after these events the event can't be: an unknown client or server, too many bytes, a turn counted 0, a moment below 0, data held that are too long, or once the run has begun
 abbrev pub bad_in : ℕ → List Scripted → Scripted → Bool
 bad_in servers before (Piece client bytes) = nat_lt 63 client || nat_lt piece_limit (sum_by len_of before + length bytes)
 bad_in servers before (Fail turn manner) = turn == 0
@@ -46,7 +46,7 @@ bad_in servers before (At turn loss) = turn == 0 || nat_le servers (loser_of los
 bad_in servers before (Now loss) = nat_le servers (loser_of loss)
 bad_in servers before (Moment moment) = int_lt moment (pos 0)
 
--- the place of the first one that can't be, behind those before
+-- the place of the first one that can't be, after those before
 abbrev pub first_from : ℕ → List Scripted → List Scripted → Option ℕ
 first_from servers before [] = None
 first_from servers before (event ∷ events) =

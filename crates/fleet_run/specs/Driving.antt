@@ -84,7 +84,7 @@ pub record Drives (tree : Route) (events : List Scripted) (given : List Shown) (
   -- where each key has one server, the run is fresh
   pub fresh : is_direct tree ≡ true → IsFresh (opening_of events) (run_of log) × (report.stale ≡ 0)
 
--- after want of memory: the same of the first events, up to the one that was broken off
+-- after running out of memory: the same of the first events, up to the one that was broken off
 pub record DrivesPart (tree : Route) (events : List Scripted) (given : List Shown) : Type 0 where
   pub log : List (Entry memcached_text)
   pub count : ℕ

@@ -109,7 +109,7 @@ pub record IsOnWay (x : Connection) (request : Request) (asks : Asks) (i : ℕ) 
   pub taken : taken_of asks ≡ i
   pub there : i < length (asks_of (message_in held request))
 
--- which key is next behind a reply
+-- which key is next after a reply
 abbrev pub next_index : Bool → ℕ → ℕ
 next_index true i = 0
 next_index false i = i + 1

@@ -161,7 +161,7 @@ fn drive_fault(fault: FleetFault) -> DriveFault
 /// driven isn't driven again.
 ///
 /// The error is `BadEvent` exactly where an event can't be, with the place of the first one, and then nothing has
-/// happened. After want of memory the transcript holds what was handed out before, and after `Spent` too, which comes only
+/// happened. After running out of memory the transcript holds what was handed out before, and after `Spent` too, which comes only
 /// where none of the next 2^32 calls could be numbered, or 2^64 - 1 commands have begun.
 ///
 /// Source: mcgate's own.

@@ -29,7 +29,7 @@ impl LastDeletes {
         self.numbers.get(key).copied()
     }
 
-    /// The delete of this number and key was acknowledged. The only error is want of memory.
+    /// The delete of this number and key was acknowledged. The only error is running out of memory.
     pub fn note(&mut self, key: &Key, number: u64) -> Result<(), AllocError>
         ensures { OnOk result ((k : List ℕ) → number_in self.new k ≡ (if bytes_eq key.now k then Some number else number_in self.old k)) }
     {

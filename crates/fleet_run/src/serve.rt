@@ -26,7 +26,7 @@ fn drop_ask(_ask: Ask) {}
 
 fn drop_done(_done: Done) {}
 
-// The calls of the command of this number, and what came of them. Their numbers are there, so want of memory is the only
+// The calls of the command of this number, and what came of them. Their numbers are there, so running out of memory is the only
 // error.
 fn run(
     alloc: Global,

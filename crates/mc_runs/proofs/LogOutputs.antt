@@ -82,7 +82,7 @@ module _ (P : Protocol) (reader : IsReader P) where
         whole = whole_more ds (record { message = message; replies = [] }) w.whole asks;
       }
 
-  -- a reply is shown behind those before it
+  -- a reply is shown after those before it
   shown_behind : (point : Point P) (part : Part P) (rs : List Answer) (rest : List ℕ) (reply : Answer) → IsNext point part → point.index ≡ length rs → IsBegun point.place rs rest → rest ++ P.shown part.message part.index reply ≡ written P part.message (rs ++ reply ∷ [])
   shown_behind point part [] rest reply n index begun =
       ap (λ l. l ++ P.shown part.message part.index reply) begun ∙ ap (λ i. P.shown part.message i reply) (n.index ∙ index) ∙ sym (append-nil (P.shown part.message 0 reply))

@@ -27,7 +27,7 @@ gone_over number turn named (Restarts s ∷ events) past key h = gone_over numbe
 gone_over number turn named (Begins m a ∷ events) past key h = absurd h
 gone_over number turn named (Replies m k r f ∷ events) past key h = absurd h
 
--- the last acknowledged delete of a key, behind a command
+-- the last acknowledged delete of a key, after a command
 pub last_after : (number turn : ℕ) (named : ℕ → Option Manner) (events past : List Event) (ask : Ask) (reply : Answer) (from : Option ℕ) (key : List ℕ) → AreItsCalls number turn named events → last_gone (Replies number ask.key reply from ∷ (events ++ (Begins number ask ∷ past))) key ≡ cond (bytes_eq ask.key key && (is_delete_op ask.op && says_gone reply)) (Some number) (last_gone past key)
 last_after number turn named events past ask reply from key h =
     let begun = Begins number ask ∷ past in

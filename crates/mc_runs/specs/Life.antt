@@ -4,7 +4,7 @@ use Rattle.mc_types.specs.declared.ask.Ask.{Ask}
 use Rattle.mc_types.specs.declared.answer.Answer.{Answer}
 use Rattle.mc_types.specs.Items.{Item, after_call}
 
--- what happened to a server: an applied call with the stamp to give, the server's true answer, read by anybody or not, and the count of spaces put behind a number; a lost key; a restart
+-- what happened to a server: an applied call with the stamp to give, the server's true answer, read by anybody or not, and the count of spaces put after a number; a lost key; a restart
 pub data Mark : Type 0 where
   Applied : (ask : Ask) (stamp : ℕ) (answer : Answer) (spaces : ℕ) → Mark
   Lost : (key : List ℕ) → Mark

@@ -76,7 +76,7 @@ abbrev pub one_shown : ℕ → List ℕ → List Shown
 one_shown client [] = []
 one_shown client (b ∷ bytes) = record { client = client; bytes = b ∷ bytes } ∷ []
 
--- one key of a message: the message, where the reader stands behind it, which of its keys, and its ask
+-- one key of a message: the message, where the reader stands after it, which of its keys, and its ask
 pub record Part (P : Protocol) : Type 0 where
   pub message : P.Message
   pub next : P.Place
@@ -103,7 +103,7 @@ pub data Entry (P : Protocol) : Type 0 where
   Gives : (client : ℕ) (bytes : List ℕ) → Entry P
 
 module _ {P : Protocol} where
-  -- behind a reply: behind the message where it is done, else before its next key
+  -- after a reply: after the message where it is done, else before its next key
   abbrev pub after_reply : Point P → Part P → Answer → Point P
   after_reply point part reply =
       if P.ends part.message part.index reply then record { place = part.next; index = 0 } else record { place = point.place; index = part.index + 1 }

@@ -13,7 +13,7 @@ pub record Protocol : Type 1 where
   pub start : Place
   -- where it stands after a piece came
   pub fed : Place → List ℕ → Place
-  -- the next message, and where the reader stands behind it
+  -- the next message, and where the reader stands after it
   pub Reads : Place → Message → Place → Type 0
   -- the asks of one key each, in order; none for a message that asks no server
   pub asks_of : Message → List Ask
@@ -21,7 +21,7 @@ pub record Protocol : Type 1 where
   pub passed : Message → List ℕ
   -- what is shown when the command of the i-th key, counted from 0, has this reply; nothing where it is hidden
   pub shown : Message → ℕ → Answer → List ℕ
-  -- whether the message is done with that reply: its last key's, or an error behind which no key is asked
+  -- whether the message is done with that reply: its last key's, or an error after which no key is asked
   pub ends : Message → ℕ → Answer → Bool
 
 module _ (P : Protocol) where

@@ -21,7 +21,7 @@ pub enum Mark {
         /// The stamp that it gives to what it stores.
         stamp: u64,
         answer: Answer,
-        /// How many spaces the server put behind the number that it stored.
+        /// How many spaces the server put after the number that it stored.
         spaces: u32,
     },
     /// The key was lost: it expired, or was evicted.
@@ -185,7 +185,7 @@ fn after_call(
 }
 
 /// What the marks, the latest first, leave of the key: where nothing happened, the opening item. The only error is
-/// want of memory.
+/// running out of memory.
 pub fn held(
     alloc: Global,
     opening: &Option<HeldItem>,

@@ -13,7 +13,7 @@ abbrev pub without_spaces : List ℕ → List ℕ
 without_spaces [] = []
 without_spaces (b ∷ bytes) = if is_space b && is_empty (without_spaces bytes) then [] else b ∷ without_spaces bytes
 
--- the number that data is, spaces behind it not counted
+-- the number that data is, spaces after it not counted
 abbrev pub number_held : List ℕ → Option ℕ
 number_held bytes = number_below (2 ^ 64) (without_spaces bytes)
 

@@ -2,10 +2,10 @@
 use Rattle.std.specs.Prelude.{◌≡◌, ℕ, List, ◌++◌}
 use Rattle.mc_text.specs.Line.{IsLine}
 
--- bytes behind it are no part of the first line
+-- bytes after it are no part of the first line
 abbrev pub LinesStay : Type 0
 LinesStay = (bytes text rest more : List ℕ) → IsLine bytes text rest → IsLine (bytes ++ more) text (rest ++ more)
 
--- there is one first line at most, and one rest behind it
+-- there is one first line at most, and one rest after it
 abbrev pub LinesAreDetermined : Type 0
 LinesAreDetermined = (bytes s t x y : List ℕ) → IsLine bytes s x → IsLine bytes t y → (s ≡ t) × (x ≡ y)

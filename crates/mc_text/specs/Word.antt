@@ -1,5 +1,5 @@
 -- The words of a line (memcached's protocol.txt, "Commands": parameters delimited by whitespace; that only the space parts
--- them, and that more than one may stand between, before and behind, is mcgate's own).
+-- them, and that more than one may stand between, before and after, is mcgate's own).
 use Rattle.std.specs.Prelude.{◌≡◌, ℕ, ◌<◌, ◌≤◌, Bool, true, false, not, List, [], ◌∷◌, length, filter, slice_range, drop, ◌==◌}
 use Rattle.std.specs.List.{slice_split}
 use Rattle.mc_text.specs.declared.word.Span.{Span}

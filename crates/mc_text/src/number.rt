@@ -5,7 +5,7 @@ ghost use Rattle.std.specs.Option.{SomeIff};
 ghost use Rattle.std.specs.Char.{IsAsciiDigit, digit_value};
 ghost use Rattle.mc_text.specs.Number.{number_below, signed_number};
 
-// the value with one more digit behind it
+// the value with one more digit after it
 fn with_digit(value: u64, byte: u8) -> Option<u64>
     ensures { SomeIff result (IsAsciiDigit byte × (value * 10 + digit_value byte < 2 ^ 64)) (value * 10 + digit_value byte) }
 {
@@ -42,7 +42,7 @@ pub fn small_number(word: &[u8]) -> Option<u32>
     u32::try_from(number(word)?).ok()
 }
 
-/// The number that a word of 1 to 20 digits writes, which may stand behind one `-`, as an expiry time is written.
+/// The number that a word of 1 to 20 digits writes, which may stand after one `-`, as an expiry time is written.
 ///
 /// `-0` is 0. `None` for any other word, and outside the range of `i64`.
 pub fn signed(word: &[u8]) -> Option<i64>

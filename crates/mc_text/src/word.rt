@@ -39,7 +39,7 @@ fn word_len(text: &[u8]) -> usize
 
 /// The first word of the text from the place `at` on, or `None` where only spaces are left.
 ///
-/// Words are parted by one or more spaces (byte 32); those before the first and behind the last count for nothing. Call it
+/// Words are parted by one or more spaces (byte 32); those before the first and after the last count for nothing. Call it
 /// again at the `end` of the word before.
 pub fn next_word(text: &[u8], at: usize) -> Option<Span>
     requires { at ≤ length text.now }

@@ -117,7 +117,7 @@ IsSizeOf (Some size) (Some body) = size ≡ length body
 IsSizeOf (Some size) None = Unit {0}
 IsSizeOf None body = Unit {0}
 
--- data that are a number of 1 to 20 digits, without spaces behind it
+-- data that are a number of 1 to 20 digits, without spaces after it
 abbrev pub IsNumberText : Option (List ℕ) → Type 0
 IsNumberText None = ⊥
 IsNumberText (Some body) = IsSome (number_below (2 ^ 64) body)

@@ -21,11 +21,11 @@ abbrev pub is_up : Op → Bool
 is_up Decr = false
 is_up _ = true
 
--- the number that the ask makes of these data, where they are one: spaces behind it aren't counted, `incr` wraps at 2^64 and `decr` stops at 0
+-- the number that the ask makes of these data, where they are one: spaces after it aren't counted, `incr` wraps at 2^64 and `decr` stops at 0
 abbrev pub counted : Ask → List ℕ → Option ℕ
 counted ask content = option_map (changed (is_up ask.op) ask.delta) (number_held content)
 
--- the number as data; a server may put spaces behind it
+-- the number as data; a server may put spaces after it
 abbrev pub number_text : ℕ → ℕ → List ℕ
 number_text spaces n = decimal n ++ replicate spaces 32
 

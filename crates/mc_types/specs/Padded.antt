@@ -1,4 +1,4 @@
--- How a short text lies in an array of a fixed size: from the front, with zeros behind it.
+-- How a short text lies in an array of a fixed size: from the front, with zeros after it.
 use Rattle.std.specs.Prelude.{◌≡◌, ℕ, ◌-◌, ◌≤◌, ◌++◌, List, length, take, drop, replicate}
 use Rattle.std.proofs.Common.{sym, ap, ◌∙◌, arith}
 use Rattle.std.proofs.lemmas.List.{length-take-le, take-append-drop}

@@ -58,7 +58,7 @@ pub struct Ask {
 }
 
 impl Ask {
-    /// The same ask once more, with its data shared. The only error is want of memory.
+    /// The same ask once more, with its data shared. The only error is running out of memory.
     pub fn copy(&self) -> Result<Ask, AllocError>
         ensures { IfOk result (λ ask. ask ≡ self.now) }
     {

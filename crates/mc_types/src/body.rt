@@ -32,7 +32,7 @@ impl Body {
         Body { shared: None }
     }
 
-    /// A copy of the bytes. The only error is want of memory, never for an empty slice.
+    /// A copy of the bytes. The only error is running out of memory, never for an empty slice.
     pub fn from_slice(alloc: Global, bytes: &[u8]) -> Result<Body, AllocError>
         ensures { IfOk result (λ body. body ≡ bytes.now) }
     {
@@ -44,7 +44,7 @@ impl Body {
         })
     }
 
-    /// The bytes of the vector, which it takes over. The only error is want of memory.
+    /// The bytes of the vector, which it takes over. The only error is running out of memory.
     pub fn from_vec(bytes: Vec<u8>) -> Result<Body, AllocError>
         ensures { IfOk result (λ body. body ≡ bytes.items) }
     {

@@ -18,7 +18,7 @@ pub enum OwnText {
 }
 
 impl OwnText {
-    /// The text, as it stands behind `SERVER_ERROR ` or `CLIENT_ERROR `.
+    /// The text, as it stands after `SERVER_ERROR ` or `CLIENT_ERROR `.
     pub fn as_bytes(self) -> &'static [u8]
         ensures { result.now ≡ own_text self }
     {

@@ -119,7 +119,7 @@ impl Tokens {
         }
     }
 
-    /// Adds a flag behind the others. The only error is want of memory, which leaves the list as it was.
+    /// Adds a flag after the others. The only error is running out of memory, which leaves the list as it was.
     pub fn push(&mut self, token: Token) -> Result<(), AllocError>
         ensures ok { OnOk result (self.new ≡ self.old ++ token ∷ []) }
         ensures err { OnErr result (self.new ≡ self.old) }
@@ -135,7 +135,7 @@ impl Tokens {
         self.list.as_slice()
     }
 
-    /// The same flags once more. The only error is want of memory.
+    /// The same flags once more. The only error is running out of memory.
     pub fn copy(&self) -> Result<Tokens, AllocError>
         ensures { IfOk result (λ tokens. tokens ≡ self.now) }
     {

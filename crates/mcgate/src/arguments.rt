@@ -120,7 +120,7 @@ fn command<'a>(alloc: Global) -> Result<Command<'a>, AllocError> {
         .subcommand(replay_command(alloc)?)
 }
 
-// What the words behind `check` ask for.
+// What the words after `check` ask for.
 fn check_job<'a>(given: &ArgMatches<'a>) -> Job<'a> {
     if given.get_flag("help") {
         return Job::Print(CHECK_HELP);
@@ -131,7 +131,7 @@ fn check_job<'a>(given: &ArgMatches<'a>) -> Job<'a> {
     }
 }
 
-// What the words behind `replay` ask for.
+// What the words after `replay` ask for.
 fn replay_job<'a>(given: &ArgMatches<'a>) -> Job<'a> {
     if given.get_flag("help") {
         return Job::Print(REPLAY_HELP);
@@ -159,7 +159,7 @@ fn plain_job<'a>(given: &ArgMatches<'a>) -> Job<'a> {
 }
 
 /// What the arguments ask for, the program's name first: `check [FILE]`, `replay [--any] [FILE]`, or none at all after it, which
-/// is `replay`. Also `--help`, before or behind a word, and `--version`.
+/// is `replay`. Also `--help`, before or after a word, and `--version`.
 ///
 /// Any other arguments are [`ArgumentsFault::Refused`].
 pub fn read_arguments<'a>(

@@ -305,7 +305,7 @@ loses_named old new got named losses value is items contents lost turn moment fa
       begun_is = begun;
     }
 
--- want of memory was told as that
+-- running out of memory was told as that
 pub stops_by : {A : Type 0} (r : Result A FleetFault) (old : MemoryFleet) (server : ℕ) (new : MemoryFleet) → IsErrAnd r (λ fault. fault ≡ NoMemory) → Stops NoMemory old server new → IfErr r (λ fault. Stops fault old server new)
 stops_by (Ok a) old server new is h = tt
 stops_by (Err fault) old server new is h = subst (λ f. Stops f old server new) (sym is) h

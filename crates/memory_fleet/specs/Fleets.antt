@@ -156,7 +156,7 @@ pub record LosesNamed (old new : MemoryFleet) : Type 0 where
   pub lost_is : (t : ℕ) → lost_of new t ≡ lost_of old t
   pub begun_is : begun_of new ≡ begun_of old
 
--- a call that was stopped: by want of memory, after the losses named for it, or before anything was done
+-- a call that was stopped: by running out of memory, after the losses named for it, or before anything was done
 abbrev pub Stops : FleetFault → MemoryFleet → ℕ → MemoryFleet → Type 0
 Stops NoMemory old server new = (mid : MemoryFleet) × LosesNamed old mid × AppliesNothing mid server new
 Stops Spent old server new = new.caches.items ≡ old.caches.items

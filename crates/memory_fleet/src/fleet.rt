@@ -169,7 +169,7 @@ impl MemoryFleet {
     /// named to be lost just before it is lost. A call named `Before` isn't applied, and one named `After` is applied and
     /// its answer dropped: both have failed.
     ///
-    /// The errors are `Spent` where 2^64 - 1 calls were made, and want of memory; then nothing changes but that some items
+    /// The errors are `Spent` where 2^64 - 1 calls were made, and running out of memory; then nothing changes but that some items
     /// may be lost.
     pub fn call_as(&mut self, stamp: u64, server: ServerId, ask: &Ask) -> Result<Made, FleetFault>
         requires there { server < count_of self.old }
@@ -215,7 +215,7 @@ impl MemoryFleet {
 
     /// The call of this turn from here, which is 1 for the next one, fails. The last that is said of a call counts.
     ///
-    /// The errors are `Spent` where calls aren't numbered so far, and want of memory; then nothing changes.
+    /// The errors are `Spent` where calls aren't numbered so far, and running out of memory; then nothing changes.
     pub fn fail(&mut self, turn: u32, manner: Manner) -> Result<(), FleetFault>
         requires { 1 ≤ turn }
         ensures ok { OnOk result (FailsFrom self.old turn (manner_of manner) self.new) }
@@ -232,7 +232,7 @@ impl MemoryFleet {
     /// This is lost just before the call of this turn from here, which is 1 for the next one, whether that call fails or not.
     /// Several losses at one call happen in the order in which they were named; of a server that isn't there nothing is lost.
     ///
-    /// The errors are `Spent` where calls aren't numbered so far, and want of memory; then nothing changes.
+    /// The errors are `Spent` where calls aren't numbered so far, and running out of memory; then nothing changes.
     pub fn lose_at(&mut self, alloc: Global, turn: u32, loss: Loss) -> Result<(), FleetFault>
         requires { 1 ≤ turn }
         ensures ok { OnOk result (LosesFrom self.old turn (loss_of loss) self.new) }
@@ -250,7 +250,7 @@ impl MemoryFleet {
     }
 
     /// The server holds these data under the key, without flags and expiry, with stamp 0. What they push out there is
-    /// lost. The only error is want of memory, which changes nothing.
+    /// lost. The only error is running out of memory, which changes nothing.
     pub fn hold(&mut self, server: ServerId, key: &Key, body: &[u8]) -> Result<(), AllocError>
         requires there { server < count_of self.old }
         requires short { length body.now ≤ data_limit }

@@ -40,7 +40,7 @@ pub fn lose_all(caches: &mut Vec<Cache>, losses: &[Loss])
     }
 }
 
-/// One more loss is named for the call of this number, after those that were. The only error is want of memory, which
+/// One more loss is named for the call of this number, after those that were. The only error is running out of memory, which
 /// changes nothing of what is named.
 pub fn add_loss(
     alloc: Global,

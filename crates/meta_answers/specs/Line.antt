@@ -106,7 +106,7 @@ abbrev pub value_said : Ask → ℕ → Told → Option MetaLine
 value_said ask len told =
     if all_stand ask.tokens told && is_size told.size len then Some (Value (record { told = told; len = len; is_number = is_count ask.op })) else None
 
--- the words behind VA: the length of the data, and tokens
+-- the words after VA: the length of the data, and tokens
 abbrev pub value_words : Ask → List (List ℕ) → Option MetaLine
 value_words ask [] = None
 value_words ask (len ∷ words) = option_and_then (λ n. option_and_then (value_said ask n) (with_words ask words none_told)) (number_below (data_limit + 1) len)
@@ -123,7 +123,7 @@ coded ask words Ns = bare_said Ns (with_words ask words none_told)
 coded ask words Ex = bare_said Ex (with_words ask words none_told)
 coded ask words Nf = bare_said Nf (with_words ask words none_told)
 
--- what a line of this first word and these behind it says; None where it says nothing to the ask
+-- what a line of this first word and these after it says; None where it says nothing to the ask
 abbrev pub meta_said : Ask → List ℕ → List (List ℕ) → Option MetaLine
 meta_said ask word words =
     option_and_then (λ code. if takes ask.op (wants ask.tokens LetterV) code then coded ask words code else None) (code_of word)

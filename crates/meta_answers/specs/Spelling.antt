@@ -10,7 +10,7 @@ use Rattle.mc_types.specs.declared.answer.Fields.{Fields}
 use Rattle.meta_answers.specs.Tokens.{letter_c, letter_f, letter_k, letter_s, letter_t, letter_o}
 use Rattle.meta_answers.specs.Line.{code_word}
 
--- a letter and the number behind it, where there is one
+-- a letter and the number after it, where there is one
 abbrev pub number_token : ℕ → Option ℕ → List (List ℕ)
 number_token letter None = []
 number_token letter (Some n) = (letter ∷ decimal n) ∷ []
@@ -51,7 +51,7 @@ data_block (Some body) = body ++ codes "\r\n"
 abbrev pub meta_spelling : Ask → Code → Fields → List ℕ
 meta_spelling ask code fields = line_of (meta_words ask code fields) ++ data_block fields.body
 
--- words that each stand behind a space
+-- words that each stand after a space
 abbrev pub led : List (List ℕ) → List ℕ
 led [] = []
 led (word ∷ words) = 32 ∷ (word ++ led words)

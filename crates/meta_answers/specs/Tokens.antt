@@ -1,4 +1,4 @@
--- The return tokens of a meta answer's line. Source: memcached's protocol.txt, "Meta Commands": a token is its flag and the text behind it. That k and O have to be what was asked, and that no token stands twice, is mcgate's own.
+-- The return tokens of a meta answer's line. Source: memcached's protocol.txt, "Meta Commands": a token is its flag and the text after it. That k and O have to be what was asked, and that no token stands twice, is mcgate's own.
 use Rattle.std.specs.Prelude.{ℕ, ◌+◌, ◌^◌, ◌&&◌, ℤ, pos, negsuc, Bool, false, true, not, List, [], ◌∷◌, ◌||◌, Option, Some, None, option_map, is_some, codes, ◌==◌, if◌then◌else◌}
 use Rattle.std.specs.Option.{option_and_then}
 use Rattle.std.specs.Str.{bytes_eq}

@@ -107,7 +107,7 @@ fn coded(ask: &Ask, wanted: Wanted, line: &[u8], at: usize, code: Code) -> Optio
     }
 }
 
-/// What a line with this first word says to a meta ask; the words behind it begin at `at`. It takes no memory.
+/// What a line with this first word says to a meta ask; the words after it begin at `at`. It takes no memory.
 ///
 /// The code has to be one that answers the operation: `VA` where the data were asked for and `HD` where not. The return
 /// tokens stand in any order. `k` and `O` may be missing, and equal what was asked; each of `c`, `f`, `s` and `t` that was

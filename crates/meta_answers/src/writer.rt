@@ -122,7 +122,7 @@ fn put_block(body: &Option<Body>, out: &mut BytesMut) -> Result<(), AllocError>
 /// flags, and the data. One space stands between two words.
 ///
 /// `k` and `O` stand on the line where they were asked for, and `c`, `f`, `s` and `t` where their field is set too. The only
-/// error is want of memory: then a part may stand behind what the buffer held.
+/// error is running out of memory: then a part may stand after what the buffer held.
 ///
 /// Source: memcached's protocol.txt, "Meta Commands".
 pub fn put_meta(

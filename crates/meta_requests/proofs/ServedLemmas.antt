@@ -181,7 +181,7 @@ then_passed : (r : Result Word Why) (f : Word → Result (List Word) Why) (o : L
 then_passed (Ok x) f o e = (x, refl, e)
 then_passed (Err why) f o e = absurd cc
 
--- flags behind others that were let through
+-- flags after others that were let through
 pub record AreServed (kind : Kind) (before words all : List Word) : Type 0 where
   pub served : are_served (served_by kind) (tokens_in words) ≡ true
   pub texts : AllByRecursion IsText (tokens_in words)

@@ -27,7 +27,7 @@ led-four o c w m e o1 o2 o3 o4 a b d f =
     let group : ((c ++ w ∷ []) ++ m ∷ []) ++ e ≡ c ++ w ∷ m ∷ e = append_assoc (c ++ w ∷ []) (m ∷ []) e ∙ append_assoc c (w ∷ []) (m ∷ e) in
     four ∙ ap (λ (ws : List Word). o ++ led ws) group
 
--- the words behind a command word
+-- the words after a command word
 pub led-words : (o : List ℕ) (key : Word) (n tokens values : List Word) (o1 o2 o3 o4 : List ℕ) → o1 ≡ o ++ led (key ∷ []) → o2 ≡ o1 ++ led n → o3 ≡ o2 ++ led tokens → o4 ≡ o3 ++ led values → o4 ≡ o ++ led (key ∷ n ++ (tokens ++ values))
 led-words o key n tokens values o1 o2 o3 o4 a b d f =
     let two = led-joined o (key ∷ []) n o1 o2 a b in
@@ -35,7 +35,7 @@ led-words o key n tokens values o1 o2 o3 o4 a b d f =
     let four = led-joined o (key ∷ n ++ tokens) values o3 o4 three f in
     four ∙ ap (λ (ws : List Word). o ++ led (key ∷ ws)) (append_assoc n tokens values)
 
--- a word and those behind it
+-- a word and those after it
 spaced-led : (w : Word) (ws : List Word) → w ++ led ws ≡ spaced (w ∷ ws)
 spaced-led w [] = append-nil w
 spaced-led w (v ∷ ws) = ap (λ (t : List ℕ). w ++ 32 ∷ t) (spaced-led v ws)

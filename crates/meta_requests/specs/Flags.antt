@@ -25,7 +25,7 @@ letters_of Count = codes "ckqtvCDOTM"
 abbrev pub letter_of : Word → ℕ
 letter_of word = slice_index word 0
 
--- what stands behind a flag's letter
+-- what stands after a flag's letter
 abbrev pub text_of : Word → Word
 text_of word = drop 1 word
 
@@ -79,7 +79,7 @@ abbrev pub is_empty : Word → Bool
 is_empty [] = true
 is_empty (b ∷ text) = false
 
--- the text behind the letter is a value of its flag: a cas number or how much is counted (`C`, `D`), flags (`F`), an exptime (`T`), a mode (`M`), a text (`O`); the other flags have none
+-- the text after the letter is a value of its flag: a cas number or how much is counted (`C`, `D`), flags (`F`), an exptime (`T`), a mode (`M`), a text (`O`); the other flags have none
 abbrev pub has_value : Kind → ℕ → Word → Bool
 has_value kind letter text =
     if letter == 67 || letter == 68 then is_some (number_below (2 ^ 64) text)
@@ -89,7 +89,7 @@ has_value kind letter text =
     else if letter == 79 then is_opaque text
     else is_empty text
 
--- the tests of one flag, behind those that stand before it: its letter, its having come before, its value
+-- the tests of one flag, after those that stand before it: its letter, its having come before, its value
 abbrev pub flag_of : Kind → List Word → Word → Result Word Why
 flag_of kind before word =
     if not (is_served kind (letter_of word)) then Err FlagNotServed

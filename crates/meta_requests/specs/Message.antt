@@ -1,4 +1,4 @@
--- Meta messages at the front of a stream: a line, and behind that of `ms` its data. Source: memcached's protocol.txt, "Meta Commands".
+-- Meta messages at the front of a stream: a line, and after that of `ms` its data. Source: memcached's protocol.txt, "Meta Commands".
 use Rattle.std.specs.Prelude.{◌≡◌, ℕ, List, length, Option, Some, None}
 use Rattle.mc_text.specs.Line.{IsTooLong}
 use Rattle.mc_text.specs.Word.{text_at}
@@ -14,11 +14,11 @@ use Rattle.meta_requests.specs.Order.{Order}
 use Rattle.meta_requests.specs.Grammar.{meta_grammar}
 use Rattle.meta_requests.specs.Places.{order_in, LiesIn}
 
--- a message: one that is served, with its data block, or one that is refused, with what is passed over behind it
+-- a message: one that is served, with its data block, or one that is refused, with what is passed over after it
 abbrev pub Message : Type 0
 Message = parts.Message Order
 
--- the length of the data block behind a command, where one follows
+-- the length of the data block after a command, where one follows
 abbrev pub command_block_len : Command → Option ℕ
 command_block_len (commands.Keyed key flags n kind) = n
 command_block_len (commands.Own own) = None
@@ -27,7 +27,7 @@ command_block_len (commands.Own own) = None
 abbrev pub Found : Type 0
 Found = parts.Found Order
 
--- what the line of this text and the bytes behind it are, unless more must come
+-- what the line of this text and the bytes after it are, unless more must come
 abbrev pub meaning : List ℕ → List ℕ → Found
 meaning = parts.meaning meta_grammar
 
@@ -49,7 +49,7 @@ pub record IsReadFrom (bytes : List ℕ) (r : Request) : Type 0 where
   pub placed : IsPlaced bytes r
   pub begins : Begins bytes (message_in bytes r) r.used
 
--- what was read behind a line is what it means
+-- what was read after a line is what it means
 abbrev pub IsMeant : List ℕ → Read → Found → Type 0
 IsMeant bytes (reads.Request r) found = IsPlaced bytes r × (found ≡ Some (message_in bytes r, r.used))
 IsMeant bytes (reads.Refused why used skip) found = found ≡ Some (Refusal why skip, used)

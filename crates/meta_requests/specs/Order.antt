@@ -1,4 +1,4 @@
--- What a meta line says, by its words. Source: memcached's protocol.txt, "Meta Commands"; the order of the tests, and what is passed over behind a refused line, are mcgate's own.
+-- What a meta line says, by its words. Source: memcached's protocol.txt, "Meta Commands"; the order of the tests, and what is passed over after a refused line, are mcgate's own.
 use Rattle.std.specs.Prelude.{ℕ, Bool, true, false, List, [], ◌∷◌, Option, Some, None, Result, Ok, Err, if◌then◌else◌, ◌&&◌, not, slice_get}
 use Rattle.mc_types.specs.declared.ask.Op.{Op}
 use Rattle.mc_types.specs.declared.ask.Op.TheVariants as ops
@@ -59,7 +59,7 @@ abbrev pub noop : List Word → Result Order Why
 noop [] = Ok (OfItself owns.Noop)
 noop (word ∷ words) = Err Unknown
 
--- what the words behind a command word ask
+-- what the words after a command word ask
 abbrev pub ordered_by : Option Verb → List Word → Result Order Why
 ordered_by None words = Err Unknown
 ordered_by (Some (Keyed Get)) words = asking Get words
@@ -78,7 +78,7 @@ abbrev pub is_store : Option Verb → Bool
 is_store (Some (Keyed Store)) = true
 is_store _ = false
 
--- what is passed over behind a refused line: the data that the third word of `ms` tells of
+-- what is passed over after a refused line: the data that the third word of `ms` tells of
 abbrev pub skip_of : List Word → Skip
 skip_of [] = Nothing
 skip_of (word ∷ words) = if is_store (verb_of word) then skip_by (length_in (slice_get words 1)) else Nothing

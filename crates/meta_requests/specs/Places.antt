@@ -36,11 +36,11 @@ pub record HasSeen (before : List Word) (seen : List Bool) : Type 0 where
   pub long : length seen ≡ 256
   pub each : (letter : ℕ) → letter < 256 → get_or seen letter false ≡ stands_in letter before
 
--- the flag passes its tests behind those that were seen, and then it was seen too
+-- the flag passes its tests after those that were seen, and then it was seen too
 abbrev pub Passes : Kind → Word → List Bool → Values → List Bool → Values → Type 0
 Passes kind word seen values seen' values' =
     (before : List Word) → HasSeen before seen → (flag_of kind before word ≡ Ok word) × HasSeen (before ++ word ∷ []) seen' × (values' ≡ value_more kind word values)
 
--- the flag fails a test behind those that were seen
+-- the flag fails a test after those that were seen
 abbrev pub Fails : Kind → Word → List Bool → Why → Type 0
 Fails kind word seen why = (before : List Word) → HasSeen before seen → flag_of kind before word ≡ Err why

@@ -91,7 +91,7 @@ length_words Store ask = decimal (length ask.body) ∷ []
 length_words Delete ask = []
 length_words Count ask = []
 
--- the data block behind the line, on `ms` alone
+-- the data block after the line, on `ms` alone
 abbrev pub block_by : Kind → List ℕ → List ℕ
 block_by Get body = []
 block_by Store body = block_text body

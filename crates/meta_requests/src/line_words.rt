@@ -1,4 +1,4 @@
-//! What the words of a line ask, and what is passed over behind it.
+//! What the words of a line ask, and what is passed over after it.
 ghost use Rattle.std.specs.Prelude.{◌≡◌, ◌≤◌, length, drop, IfOk};
 ghost use Rattle.mc_text.specs.Word.{words, IsNextWord};
 ghost use Rattle.request_parts.specs.Places.{Gives};
@@ -116,7 +116,7 @@ fn stores(verb: Option<Verb>) -> bool
     }
 }
 
-/// What is passed over behind the line, if it is refused: the data that the third word of `ms` tells of.
+/// What is passed over after the line, if it is refused: the data that the third word of `ms` tells of.
 pub fn skip(line: &[u8]) -> Skip
     ensures { result ≡ skip_of (words line.now) }
 {

@@ -158,7 +158,7 @@ impl Request {
         }
     }
 
-    /// The ask of this number, counted from 0: a copy. The only error is want of memory.
+    /// The ask of this number, counted from 0: a copy. The only error is running out of memory.
     pub fn ask(&self, alloc: Global, bytes: &[u8], i: usize) -> Result<Ask, AllocError>
         requires read { IsReadFrom bytes.now self.now }
         requires there { i < length (asks_of (message_in bytes.now self.now)) }

@@ -49,7 +49,7 @@ fn mode_text(op: Op) -> &'static [u8]
     }
 }
 
-// a word behind a space, by its first part and the rest
+// a word after a space, by its first part and the rest
 fn put_word(out: &mut BytesMut, letter: &[u8], text: &[u8]) -> Result<(), AllocError>
     ensures ok { OnOk result (out.new.items ≡ out.old.items ++ led ((letter.now ++ text.now) ∷ [])) }
     ensures err { OnErr result (take (length out.old.items) out.new.items ≡ out.old.items) }
@@ -155,7 +155,7 @@ fn put_block(out: &mut BytesMut, kind: Kind, body: &[u8]) -> Result<(), AllocErr
     }
 }
 
-// the words behind the command word
+// the words after the command word
 fn put_words(out: &mut BytesMut, kind: Kind, ask: &Ask) -> Result<(), AllocError>
     ensures ok { OnOk result (out.new.items ≡ out.old.items ++ led (ask.now.key ∷ length_words kind ask.now ++ flag_words kind ask.now)) }
     ensures err { OnErr result (take (length out.old.items) out.new.items ≡ out.old.items) }
@@ -186,9 +186,9 @@ fn put_ask(out: &mut BytesMut, ask: &Ask) -> Result<(), AllocError>
 
 /// Appends the one spelling of a meta ask: its command word, its key, the length of the data of `ms`, its return flags and
 /// `O` in the ask's order, and then those of `C D F M T`, in this order, that it has (`F M T` always on `ms`, `D M` always
-/// on `ma`), without `q`; the line's end, and behind that of `ms` its data and `\r\n`.
+/// on `ma`), without `q`; the line's end, and after that of `ms` its data and `\r\n`.
 ///
-/// The only error is want of memory, which leaves the buffer as it was.
+/// The only error is running out of memory, which leaves the buffer as it was.
 pub fn write_ask(ask: &Ask, out: &mut BytesMut) -> Result<(), AllocError>
     requires { IsAsk ask.now × (ask.now.dialect ≡ Meta) }
     ensures ok { OnOk result (out.new.items ≡ out.old.items ++ spelling_of ask.now) }

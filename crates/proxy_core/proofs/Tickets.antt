@@ -1,4 +1,4 @@
--- Calls that are out at a server: one more behind them, and one less.
+-- Calls that are out at a server: one more after them, and one less.
 use Rattle.std.proofs.Common.{◌≡◌, ℕ, Bool, true, false, cond, List, [], ◌∷◌, ◌++◌, Option, Some, None, refl, sym, ap, ◌∙◌, subst, nat_eq}
 use Rattle.std.proofs.lemmas.Bool.{eqb-true, eq-eqb}
 use Rattle.mc_runs.specs.Overlap.{Ticket, ticket_in, without}

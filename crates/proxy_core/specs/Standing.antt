@@ -202,7 +202,7 @@ Gives old client bytes new = (bytes ≡ output_by (client_at old client)) × Goe
 abbrev pub Closes : Core → ℕ → Core → Type 0
 Closes old client new = (client_at new client ≡ None) × GoesByOne old (Resets client) new
 
--- these are the plain trees of what has begun, and behind that of this tree
+-- these are the plain trees of what has begun, and after that of this tree
 pub record IsTakenOver (old : Core) (tree : Route) (beside : Beside) (at : ℕ → List ℕ → Plan) : Type 0 where
   pub begun : (n : ℕ) (key : List ℕ) → n ≤ old.number → at n key ≡ beside.at n key
   pub coming : (n : ℕ) (key : List ℕ) → old.number < n → at n key ≡ tree_at tree key

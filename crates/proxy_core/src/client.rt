@@ -65,7 +65,7 @@ impl Client {
         self.dropped || self.stream.is_closed()
     }
 
-    /// A piece came. The only error is want of memory, which leaves the client as it was.
+    /// A piece came. The only error is running out of memory, which leaves the client as it was.
     pub fn feed(&mut self, piece: &[u8]) -> Result<(), AllocError>
         ensures ok { OnOk result (TakesPiece self.old piece.now self.new) }
         ensures err { OnErr result (self.new ≡ self.old) }
@@ -95,7 +95,7 @@ impl Client {
         }
     }
 
-    /// The output so far, a copy, which is then empty. The only error is want of memory, which leaves the client as it was.
+    /// The output so far, a copy, which is then empty. The only error is running out of memory, which leaves the client as it was.
     pub fn take_output(&mut self, alloc: Global) -> Result<Vec<u8>, AllocError>
         ensures bytes { IfOk result (λ bytes. bytes.items ≡ self.old.output.items) }
         ensures ok { OnOk result (LosesOutput self.old self.new) }

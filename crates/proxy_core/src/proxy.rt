@@ -108,7 +108,7 @@ impl Core {
         Ok(())
     }
 
-    /// Whether there is no client of this id, or nothing is read of it any more: behind `quit`, behind a line that was too
+    /// Whether there is no client of this id, or nothing is read of it any more: after `quit`, after a line that was too
     /// long, and where memory was refused. It takes no memory.
     pub fn is_closed(&self, client: usize) -> bool
         ensures { IsTrue result ↔ IsClosed self.now client }

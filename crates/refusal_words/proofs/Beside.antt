@@ -150,7 +150,7 @@ module _ (s : ℕ) (ask : Ask) (answer : Answer) (fits : Fits ask answer) (showi
       let q : Some (b + n) ≡ cond (shows answer) (Some b) None = ap Some (let e = z in omega arith) ∙ sym (pick_true (shows answer) (Some b) None showing) in
       λ i. record { reply = answer; from = q i }
 
-  -- behind a part of which all calls failed
+  -- after a part of which all calls failed
   moved : (W : ℕ → List Call → Given → Type 0) (b n m k : ℕ) (calls : List Call) → n ≡ m + k → W b calls (record { reply = answer; from = Some (b + m + k) }) → W b calls (record { reply = answer; from = Some (b + n) })
   moved W b n m k calls e w = subst (λ x. W b calls (record { reply = answer; from = Some x })) (let q = e in omega arith) w
 

@@ -118,7 +118,7 @@ module _ (op : Op) (s : ℕ) where
     finds_policy_few (Policy o p rest) =
         within_pick (same_op o op) (finds op s p) (finds_policy op s rest) _ (within_more (finds op s p) (count p) _ (omega arith) (finds_few p)) (within_more (finds_policy op s rest) (count_of_policies rest) _ (omega arith) (finds_policy_few rest))
 
--- a number within a bound, behind others within it, is still small
+-- a number within a bound, after others within it, is still small
 pub small : (m : ℕ) (x y : Option ℕ) (b : ℕ) → m ≤ 4096 → x ≡ y → IsWithin b y → b ≤ 4096 → IfSome x (λ (n : ℕ). m + n < 4294967296)
 small m x y b h e k l = on x (subst (IsWithin b) (sym e) k)
   where

@@ -118,7 +118,7 @@ module _ (at : ℕ → List ℕ → Plan) (opening : ℕ → List ℕ → Option
     gone : says_gone nothing ≡ true
     gone = ap (λ p. says_gone (answer_of_nothing delete.dialect p)) bait.deletes ∙ none_gone delete.dialect
 
-    -- behind the calls of the delete: server s has no mark
+    -- after the calls of the delete: server s has no mark
     record Deleted (past : List Event) (made : List Call) : Type 0 where
       stage : Stage past 1 delete made
       no_mark : life_of past s ≡ []

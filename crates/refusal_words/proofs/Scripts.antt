@@ -261,7 +261,7 @@ module _ (P : Protocol) (words : Words) (opening : ℕ → List ℕ → Option I
       (tries_end (named_in log1) delete.key 1 (calls_in (run_of log1)) i front h1 (let e = i_is in omega arith) (λ t lt le. fails_named i log0 t (let z = zero1 in let a = lt in omega arith) (let z = zero1 in let a = le in omega arith)))
       (answered_end (named_in log1) 1 (calls_in (run_of log1) + length front) last a1 (λ t lt. fails_other i log0 t (let z = zero1 in let e = i_is in let a = lt in omega arith)))
 
-  -- a run of the delete's calls in one stretch, behind what the log says
+  -- a run of the delete's calls in one stretch, after what the log says
   one_stretch : (n : ℕ) (xs ys : List Call) (past past' : List Event) (event : Event) → past ≡ past' → (event ∷ played n ys (played n xs past)) ≡ (event ∷ played n (xs ++ ys) past')
   one_stretch n xs ys past past' event e = ap (λ l. event ∷ l) (sym (played_append n xs ys past) ∙ ap (played n (xs ++ ys)) e)
 

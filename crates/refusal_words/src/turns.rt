@@ -187,7 +187,7 @@ fn or_else(first: Option<u32>, other: Option<u32>) -> Option<u32>
     }
 }
 
-// Behind so many others.
+// After so many others.
 fn behind(before: u32, number: Option<u32>) -> Option<u32>
     requires { IfSome number (λ (n : ℕ). before + n < 2 ^ 32) }
     ensures { result ≡ turns.behind before number }

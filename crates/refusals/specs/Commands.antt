@@ -12,7 +12,7 @@ before_key Incr = codes "incr "
 before_key Decr = codes "decr "
 before_key _ = codes "get "
 
--- what stands behind it
+-- what stands after it
 abbrev pub behind_key : Op → List ℕ
 behind_key Incr = codes " 1\r\n"
 behind_key Decr = codes " 1\r\n"

@@ -18,7 +18,7 @@ fn before_key(op: Op) -> &'static [u8]
     }
 }
 
-// What stands behind it.
+// What stands after it.
 fn behind_key(op: Op) -> &'static [u8]
     ensures { result.now ≡ texts.behind_key op }
 {
@@ -37,14 +37,14 @@ fn joined(alloc: Global, front: &[u8], key: &[u8], back: &[u8]) -> Result<Vec<u8
     Ok(text)
 }
 
-/// `delete K`, as a line. The only error is want of memory.
+/// `delete K`, as a line. The only error is running out of memory.
 pub fn delete_line(alloc: Global, key: &Key) -> Result<Vec<u8>, AllocError>
     ensures { IfOk result (λ text. text.items ≡ delete_text key.now) }
 {
     joined(alloc, b"delete ", key.as_bytes(), b"\r\n")
 }
 
-/// `get K`, `gat 0 K`, `incr K 1` or `decr K 1`, as a line. The only error is want of memory.
+/// `get K`, `gat 0 K`, `incr K 1` or `decr K 1`, as a line. The only error is running out of memory.
 pub fn read_line(alloc: Global, op: Op, key: &Key) -> Result<Vec<u8>, AllocError>
     ensures { IfOk result (λ text. text.items ≡ read_text op key.now) }
 {

@@ -28,7 +28,7 @@ fn failures_in(plain: &Plain, op: Op, server: ServerId) -> Option<Failures>
     Some(Failures { delete, read })
 }
 
-/// Those of the key's plain tree. The only error is want of memory.
+/// Those of the key's plain tree. The only error is running out of memory.
 pub fn failures_at(
     alloc: Global,
     tree: &Tree,

@@ -75,7 +75,7 @@ fn tried_at(
 }
 
 /// The first key at the place among the place's prefix followed by `k0`, `k1`, .. `k65535`; texts that are no key are
-/// passed over. The only error is want of memory.
+/// passed over. The only error is running out of memory.
 pub fn key_at(
     alloc: Global,
     tree: &Tree,

@@ -133,7 +133,7 @@ fn run_by(
 /// delete is the classic one, which leaves the server whenever the delete of the meta dialect does.
 ///
 /// `None` comes for a gap of the tree only where no key that is tried is at its place, or an all-sync or a warm-up stands in the
-/// plain tree of the delete or of the read, children for other operations aside. The only error is want of memory.
+/// plain tree of the delete or of the read, children for other operations aside. The only error is running out of memory.
 ///
 /// Source: mcgate's own.
 pub fn refusal_run(alloc: Global, config: &Config, gap: &Gap) -> Result<Option<Script>, AllocError>

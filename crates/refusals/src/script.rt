@@ -21,7 +21,7 @@ fn add_failures(events: &mut Vec<Event>, count: u32) -> Result<(), AllocError>
 }
 
 /// The script in which the server holds `1` under the key, so many calls of the delete fail, and so many of the read. The only
-/// error is want of memory.
+/// error is running out of memory.
 pub fn script_for(
     alloc: Global,
     server: ServerId,

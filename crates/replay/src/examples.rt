@@ -75,7 +75,7 @@ done 4 commands 4 calls 0 stale
     assert!(rt; prints(rt.alloc(), script, lines));
 }
 
-/// The two servers of most examples, behind this route, on one line.
+/// The two servers of most examples, after this route, on one line.
 fn two_servers(alloc: Global, route: &str) -> Result<String, AllocError> {
     let mut line = String::from_str(
         alloc,
@@ -401,7 +401,7 @@ fn with_deletes(alloc: Global, others: &str, deletes: &str) -> Result<String, Al
     two_servers(alloc, route.as_str())
 }
 
-/// Whether the events print these lines, behind the route of that line, which the gate accepts.
+/// Whether the events print these lines, after the route of that line, which the gate accepts.
 fn prints_over(
     alloc: Global,
     mut line: String,

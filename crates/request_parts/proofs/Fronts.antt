@@ -61,7 +61,7 @@ not_too_long bytes text rest line long =
     let b = line.short in
     long.one k 0 (omega (arith, length-take 65536 bytes)) (get_or-take 65536 bytes k 0 b ∙ ap (λ (t : List ℕ). get_or t k 0) line.whole ∙ get_or-append_seam text LF rest 0)
 
--- no bytes, behind the line
+-- no bytes, after the line
 pub no_span : (bytes : List ℕ) (end used : ℕ) → TakesLine bytes end used → IsIn (length bytes) (record { start = used; end = used })
 no_span bytes end used line = record { ordered = omega arith; within = omega (arith, line.used_is, line.line.0) }
 

@@ -25,7 +25,7 @@ all_by_fold false (b ∷ bytes) = all_by_fold false bytes
 pub group_more : (len n : ℕ) (text : List ℕ) → list_all is_key_byte (take len text) ≡ true → list_all is_key_byte (take n (drop len text)) ≡ true → list_all is_key_byte (take (len + n) text) ≡ true
 group_more len n text a b = ap (list_all is_key_byte) (take-add len n text) ∙ list_all-append is_key_byte (take len text) (take n (drop len text)) ∙ rw (a, b) refl
 
--- the first other byte stands behind them
+-- the first other byte stands after them
 pub behind_good : (len : ℕ) (text : List ℕ) → len ≤ length text → list_all is_key_byte (take len text) ≡ true → len + position_or_len is_bad_byte (drop len text) ≡ position_or_len is_bad_byte text
 behind_good zero text le e = omega arith
 behind_good (suc len) [] le e = absurd (omega arith)

@@ -10,9 +10,9 @@ pub record Grammar : Type 1 where
   pub Order : Type 0
   -- what the words of a line ask, or the first test that they fail
   pub order_of : List Word → Result Order Why
-  -- what is passed over behind the line, where it is refused
+  -- what is passed over after the line, where it is refused
   pub skip_of : List Word → Skip
-  -- the length of the data block behind the line, where one follows
+  -- the length of the data block after the line, where one follows
   pub block_len : Order → Option ℕ
   -- what is asked of mcgate itself
   pub own_by : Order → Option Own

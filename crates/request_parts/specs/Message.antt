@@ -1,4 +1,4 @@
--- Messages at the front of a stream: a line, and behind a store's line its data. Source: memcached's protocol.txt, "Protocol" and "Storage commands".
+-- Messages at the front of a stream: a line, and after a store's line its data. Source: memcached's protocol.txt, "Protocol" and "Storage commands".
 use Rattle.std.specs.Prelude.{◌≡◌, ℕ, ◌+◌, ◌&&◌, List, [], ◌∷◌, length, take, drop, Option, Some, None, Result, Ok, Err, ◌==◌, if◌then◌else◌}
 use Rattle.mc_text.specs.Line.{IsLine, LF, CR, without_cr}
 use Rattle.mc_text.specs.Word.{words}
@@ -10,7 +10,7 @@ use Rattle.request_parts.specs.declared.block.End.{End}
 use Rattle.request_parts.specs.declared.block.End.TheVariants.{Open, Good, Bad}
 use Rattle.request_parts.specs.Grammar.{Grammar}
 
--- a message: one that is served, with its data block, or one that is refused, with what is passed over behind it
+-- a message: one that is served, with its data block, or one that is refused, with what is passed over after it
 pub data Message (Order : Type 0) : Type 0 where
   Served : (order : Order) (block : List ℕ) → Message Order
   Refusal : (why : Why) (skip : Skip) → Message Order
@@ -25,13 +25,13 @@ end_of (b ∷ c ∷ more) = if b == CR && c == LF then Good else Bad
 abbrev pub Found : Type 0 → Type 0
 Found Order = Option (Message Order × ℕ)
 
--- an order with its data block, behind a line of so many bytes
+-- an order with its data block, after a line of so many bytes
 abbrev pub with_block : {Order : Type 0} → Order → ℕ → List ℕ → End → Found Order
 with_block order used block Open = None
 with_block order used block Good = Some (Served order block, used + length block + 2)
 with_block order used block Bad = Some (Refusal BadChunk ThroughNewline, used + length block)
 
--- an order, behind a line of so many bytes, with what follows it
+-- an order, after a line of so many bytes, with what follows it
 abbrev pub with_rest : {Order : Type 0} → Order → ℕ → List ℕ → Option ℕ → Found Order
 with_rest order used rest None = Some (Served order [], used)
 with_rest order used rest (Some n) = with_block order used (take n rest) (end_of (drop n rest))
@@ -42,7 +42,7 @@ module _ (G : Grammar) where
   meaning_of (Ok order) skip used rest = with_rest order used rest (G.block_len order)
   meaning_of (Err why) skip used rest = Some (Refusal why skip, used)
 
-  -- what the line of this text and the bytes behind it are, unless more must come
+  -- what the line of this text and the bytes after it are, unless more must come
   abbrev pub meaning : List ℕ → List ℕ → Found G.Order
   meaning text rest =
       let line = words (without_cr text) in

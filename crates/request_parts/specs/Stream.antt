@@ -13,7 +13,7 @@ pub data Place : Type 0 where
   Stands : (skip : Skip) (held : List ℕ) → Place
   Closed : Place
 
--- behind the next line end, if there is one
+-- after the next line end, if there is one
 abbrev pub through_newline : List ℕ → Place
 through_newline [] = Stands ThroughNewline []
 through_newline (b ∷ bytes) = if b == LF then Stands Nothing bytes else through_newline bytes
@@ -29,7 +29,7 @@ abbrev pub extended : Place → List ℕ → Place
 extended (Stands skip held) more = skipped skip (held ++ more)
 extended Closed more = Closed
 
--- behind what mcgate itself was asked: `quit` is the last message of its stream
+-- after what mcgate itself was asked: `quit` is the last message of its stream
 abbrev pub behind_own : Option Own → List ℕ → Place
 behind_own None rest = Stands Nothing rest
 behind_own (Some Version) rest = Stands Nothing rest
@@ -37,7 +37,7 @@ behind_own (Some Noop) rest = Stands Nothing rest
 behind_own (Some Quit) rest = Closed
 
 module _ (G : Grammar) where
-  -- where a reader stands behind a message, with these bytes behind it
+  -- where a reader stands after a message, with these bytes after it
   abbrev pub behind : Message G.Order → List ℕ → Place
   behind (Served order block) rest = behind_own (G.own_by order) rest
   behind (Refusal why skip) rest = skipped skip rest

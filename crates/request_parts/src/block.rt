@@ -2,7 +2,7 @@
 ghost use Rattle.std.specs.Prelude.{◌≡◌};
 ghost use Rattle.request_parts.specs.Message.{end_of};
 
-/// How a data block ends, by the bytes behind it.
+/// How a data block ends, by the bytes after it.
 #[derive(Clone, Copy)]
 pub enum End {
     /// The bytes that decide haven't come.
@@ -13,7 +13,7 @@ pub enum End {
     Bad,
 }
 
-/// How a data block ends, by the bytes behind its data.
+/// How a data block ends, by the bytes after its data.
 pub fn block_end(after: &[u8]) -> End
     ensures { result ≡ end_of after.now }
 {

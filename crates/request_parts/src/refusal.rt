@@ -3,7 +3,7 @@ ghost use Rattle.std.specs.Prelude.{◌≡◌};
 ghost use Rattle.request_parts.specs.Refusals.{refusal_line};
 
 /// Why a line is refused. The tests are made in this order, and the first that fails decides; those of one meta flag come
-/// together before the next flag's, and `FlagNotServed` is told once more behind them, of a `C` whose `ms` isn't a set.
+/// together before the next flag's, and `FlagNotServed` is told once more after them, of a `C` whose `ms` isn't a set.
 #[derive(Clone, Copy, PartialEq, Eq)]
 pub enum Why {
     /// No command is spelled so: its word, the number of its words, or another word where `noreply` or `0` may stand.

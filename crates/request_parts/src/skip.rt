@@ -1,6 +1,6 @@
 //! What is passed over after a refused message.
 
-/// What is passed over behind the bytes that a refused message used.
+/// What is passed over after the bytes that a refused message used.
 #[derive(Clone, Copy, PartialEq, Eq)]
 pub enum Skip {
     Nothing,

@@ -9,7 +9,7 @@ use Rattle.route_tree.specs.Plan.{Plan, Plans, End, More, AllSync}
 use Rattle.route_tree.specs.Word.{Given, rank, Gives, Then, Word, WordOfFirst, IsEnd}
 use Rattle.route_job.specs.Parts.{SameAt, worse, WorstWith, AfterFirst}
 
--- ---- one part behind another
+-- ---- one part after another
 
 pub same_refl : (b : ℕ) (X : ℕ → List Call → Given → Type 0) → SameAt b X X
 same_refl b X calls given = ((λ h. h), (λ h. h))

@@ -39,7 +39,7 @@ abbrev pub Fails : {Y : Type 0} → Option Fault → Result Y Fault → Type 0
 Fails None read = Unit {0}
 Fails (Some f) read = read ≡ Err f
 
--- what is answered, seen by `view`, is what reading gives, want of memory aside
+-- what is answered, seen by `view`, is what reading gives, running out of memory aside
 abbrev pub Gives : {X Y : Type 0} → (X → Y) → Result X ConfigFault → Result Y Fault → Type 0
 Gives view (Ok x) read = read ≡ Ok (view x)
 Gives view (Err e) read = Fails (fault_of e) read

@@ -1,4 +1,4 @@
--- What is printed of a fault, behind `config: `. Source: mcgate's own.
+-- What is printed of a fault, after `config: `. Source: mcgate's own.
 use Rattle.std.specs.Prelude.{ℕ, List, ◌++◌, codes, string_bytes}
 use Rattle.route_json.specs.declared.fault.ConfigFault.{ConfigFault}
 use Rattle.route_json.specs.declared.fault.ConfigFault.TheVariants.{NotJson, BadField, BadAddress, EmptyPool, TooManyServers, TooManySlots, TooDeep, TooManyNodes, UnknownType, NoPool, EmptyChildren, BadPrefix, NoMemory}

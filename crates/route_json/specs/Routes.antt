@@ -110,7 +110,7 @@ module _ (pools : Pools) where
       else if bytes_eq text (codes "ErrorRoute") then give Failing
       else short_pool levels weight text (behind (codes "PoolRoute|") text)
 
-  -- the children that a text stands for, by what stands behind `Pool|`
+  -- the children that a text stands for, by what stands after `Pool|`
   abbrev pub text_children : ℕ → ℕ → Option (List ℕ) → Reading ℕ (List Route)
   text_children levels weight (Some name) = server_routes levels weight name
   text_children levels weight None = fail (BadField (codes "children"))

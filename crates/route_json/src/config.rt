@@ -79,7 +79,7 @@ impl Config {
 /// The configuration that a JSON text means, or its first fault.
 ///
 /// Unknown fields are met before missing ones, pools in byte order of their names, and routes from the root down.
-/// `NoMemory` is want of memory, and nothing else is said then.
+/// `NoMemory` is running out of memory, and nothing else is said then.
 pub fn read_config(alloc: Global, text: &str) -> Result<Config, ConfigFault>
     ensures { Gives (λ config. (config.tree, config.servers)) result (read_or (read text.now)) }
 {
@@ -95,7 +95,7 @@ pub fn read_config(alloc: Global, text: &str) -> Result<Config, ConfigFault>
     }
 }
 
-// The servers are numbered behind these.
+// The servers are numbered after these.
 fn config_after(alloc: Global, servers: Servers, value: &Value) -> Result<Config, ConfigFault>
     ensures { Gives (λ config. (config.tree, config.servers)) result (config_after (view value.now) servers) }
 {

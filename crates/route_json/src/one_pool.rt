@@ -11,7 +11,7 @@ use std::alloc::{AllocError, Global};
 
 impl Config {
     /// The configuration of one pool of so many servers, at least one and at most [`route_tree::POOL_LIMIT`]: its addresses are `s0:1`, `s1:1`
-    /// and so on. So a script's line `pool N` is meant. The only error is want of memory.
+    /// and so on. So a script's line `pool N` is meant. The only error is running out of memory.
     pub fn of_pool(alloc: Global, servers: u32) -> Result<Config, AllocError>
         requires some { 0 < servers }
         requires few { servers ≤ POOL_LIMIT }

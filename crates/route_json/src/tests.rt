@@ -93,7 +93,7 @@ fn set_ups() -> &'static str {
 {"type":"PrefixSelectorRoute","policies":{}} => ByPrefix; Error"#
 }
 
-// What stands before and behind the arrow.
+// What stands before and after the arrow.
 fn parts(line: &str) -> (&str, &str) {
     line.split_once(" => ").unwrap_or((line, ""))
 }
@@ -304,7 +304,7 @@ fn depth_and_count(rt: HostRuntime) -> Result<(), Fail> {
     Ok(())
 }
 
-// So many null routes, and behind them routes nested as deep as may be, whose inmost value is no route.
+// So many null routes, and after them routes nested as deep as may be, whose inmost value is no route.
 fn wide_and_deep(alloc: Global, nulls: u32) -> Result<String, Fail> {
     let list = r#"{"type":"AllSyncRoute","children":["#;
     let null = times(alloc, r#""NullRoute","#, nulls)?;

@@ -1,4 +1,4 @@
--- What `strip_prefix` gives is what stands behind the front.
+-- What `strip_prefix` gives is what stands after the front.
 use Rattle.std.proofs.Common.{◌≡◌, ◌≢◌, ℕ, List, [], ◌∷◌, ◌++◌, drop, Option, Some, None, refl, sym, ap, ap₂, ◌∙◌, Bool, true, false, cond, nat_eq, MatchOption, option_map}
 use Rattle.std.proofs.lemmas.Bool.{eq-eqb, eqb-true}
 use Rattle.std.specs.Borrow.{Bor}

@@ -56,7 +56,7 @@ op_of text =
     else if bytes_eq text (codes "touch") then Some ops.Touch
     else None
 
--- what stands behind this front
+-- what stands after this front
 abbrev pub behind : List ℕ → List ℕ → Option (List ℕ)
 behind [] text = Some text
 behind (x ∷ xs) [] = None

@@ -1,4 +1,4 @@
-//! Operations by their names, and texts behind a front.
+//! Operations by their names, and texts after a front.
 
 // Names of operations, and the fronts of short texts.
 
@@ -28,7 +28,7 @@ pub fn op_of(text: &str) -> Option<Op>
     }
 }
 
-/// What stands behind this front; `None` where the text begins otherwise.
+/// What stands after this front; `None` where the text begins otherwise.
 pub fn behind<'a>(front: &str, text: &'a str) -> Option<&'a str>
     ensures { option_map (λ s. s.now) result ≡ behind front.now text.now }
 {

@@ -161,7 +161,7 @@ server_on s ask origin b calls (x ∷ front) call back given outcome e w fits = 
     none [] h = cc
     none (x ∷ xs) h = cc
 
--- where the call stands behind the first child's, that child's calls stay
+-- where the call stands after the first child's, that child's calls stay
 pub behind_first : (p : Plan) (ps : Plans) (limit : ℕ) (ask : Ask) (origin : Origin) (b : ℕ) (front here more : List Call) (call : Call) (g : Given) → front ≡ here ++ more → Word p ask origin b here g → limit ≤ rank g → Rest (WordOfFirst ps limit ask origin) (b + length here) (more ++ call ∷ []) → Rest (WordOfFirst (More p ps) limit ask origin) b (front ++ call ∷ [])
 behind_first p ps limit ask origin b front here more call g e w le r =
     let all : Rest (Then (Word p ask origin) (λ g n l x. (limit ≤ rank g) × WordOfFirst ps limit ask origin n l x)) b (front ++ call ∷ []) =
@@ -178,7 +178,7 @@ first_on p ps limit ask origin some f rest b calls front call back given outcome
     (λ h. behind_first p ps limit ask origin b front w.0 h.0 (ended call outcome) w.3 h.1 w.4 w.5 (rest (b + length w.0) w.1 h.0 call back given outcome h.2 w.6 fits))
     (split w.0 w.1 front call back (sym w.2 ∙ e))
 
--- what the other children give stands behind what the first gives
+-- what the other children give stands after what the first gives
 abbrev All : Plans → Ask → Origin → Given → ℕ → List Call → List Given → Type 0
 All ps ask origin g b calls all = (rest : List Given) × (all ≡ g ∷ rest) × WordOfAll ps ask origin b calls rest
 

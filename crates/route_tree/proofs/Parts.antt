@@ -1,4 +1,4 @@
--- Parts of a command, one behind another.
+-- Parts of a command, one after another.
 use Rattle.std.proofs.Common.{◌≡◌, ℕ, zero, suc, ◌+◌, ◌≤◌, Bool, true, false, List, [], ◌∷◌, ◌++◌, length, Some, ◌⊎◌, inl, inr, ⊎_elim, refl, sym, ap, ◌∙◌, subst, arith, slice_get, MatchBool, append_assoc, length-append}
 use Rattle.mc_types.specs.declared.ask.Op.{Op}
 use Rattle.mc_types.specs.declared.ask.Op.TheVariants.{Get}
@@ -106,7 +106,7 @@ behind first second b front here more call g e w r =
     let same : (here ++ (more ++ call ∷ [])) ++ r.0 ≡ (front ++ call ∷ []) ++ r.0 = ap (λ l. l ++ r.0) (sym (append_assoc here more (call ∷ [])) ∙ ap (λ l. l ++ call ∷ []) (sym e)) in
     (r.0, r.1, (here, (more ++ call ∷ []) ++ r.0, sym same ∙ append_assoc here (more ++ call ∷ []) r.0, g, w, r.2))
 
--- two parts, of which the second has a word behind whatever the first gives
+-- two parts, of which the second has a word after whatever the first gives
 module _ {G H : Type 0} (first : ℕ → List Call → G → Type 0) (second : G → ℕ → List Call → H → Type 0) (Q : G → Type 0) (sure : Replies Q first) (some : (g : G) → Q g → HasSome (second g)) where
   -- what the first part did can be gone on with
   pub then_rest : (b : ℕ) (calls : List Call) → Rest first b calls → Rest (Then first second) b calls

@@ -117,7 +117,7 @@ abbrev pub IsEnd : Plans → Type 0
 IsEnd End = Unit {0}
 IsEnd (More p ps) = ⊥
 
--- one part, and behind it another that may look at what the first gave
+-- one part, and after it another that may look at what the first gave
 abbrev pub Then : {G H : Type 0} → (ℕ → List Call → G → Type 0) → (G → ℕ → List Call → H → Type 0) → ℕ → List Call → H → Type 0
 Then {G} first second b calls given =
     (front back : List Call) × (calls ≡ front ++ back) × (g : G) × first b front g × second g (b + length front) back given

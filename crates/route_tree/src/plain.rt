@@ -88,7 +88,7 @@ impl Plain {
         &self.form
     }
 
-    /// The same plain tree once more. The only error is want of memory.
+    /// The same plain tree once more. The only error is running out of memory.
     #[cycle(copies)]
     pub fn copy(&self, alloc: Global) -> Result<Plain, AllocError>
         ensures { IfOk result (λ plain. plain ≡ self.now) }

@@ -1,4 +1,4 @@
-//! Worked cases of plain trees. The hashes behind them are FNV-1a's published values of `a` (e40c292c) and `b` (e70c2de5),
+//! Worked cases of plain trees. The hashes after them are FNV-1a's published values of `a` (e40c292c) and `b` (e70c2de5),
 //! and that of `k6` (993d8254), by a second program.
 
 ghost use Rattle.std.specs.Prelude.{◌≡◌, ◌<◌, ◌≤◌, ℕ, IfOk, IfSome};

@@ -7,7 +7,7 @@ use Rattle.script_text.specs.Escapes.{unescaped, onto}
 pub rest_is : (text : List ℕ) (at : ℕ) → take (length text - at) (drop at text) ≡ drop at text
 rest_is text at = take_all _ _ (omega (arith, length-drop at text))
 
--- a byte more in front of what is to come is a byte more behind what came
+-- a byte more in front of what is to come is a byte more after what came
 one_more : (bytes : List ℕ) (b : ℕ) (o : Option (List ℕ)) → option_map (λ (more : List ℕ). bytes ++ more) (onto (Some b) o) ≡ option_map (λ (more : List ℕ). (bytes ++ b ∷ []) ++ more) o
 one_more bytes b None = refl
 one_more bytes b (Some more) = ap Some (sym (append_assoc bytes (b ∷ []) more))

@@ -10,7 +10,7 @@ not_false : (b : Bool) → not b ≡ true → b ≡ false
 not_false true e = absurd cc
 not_false false e = refl
 
--- what stands before the first line end is the first line, and what stands behind it has the others
+-- what stands before the first line end is the first line, and what stands after it has the others
 pub lines_found : (text line rest : List ℕ) → position_or_len is_line_end text < length text → line ≡ before_first is_line_end text → rest ≡ after_first is_line_end text
     → lines_of text ≡ line ∷ lines_of rest
 lines_found text line rest lt line-is rest-is = rw (line-is, rest-is) (slice_split_first is_line_end text 0 lt)

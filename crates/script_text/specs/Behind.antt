@@ -1,9 +1,9 @@
--- What is left of a text behind its first line. Source: mcgate's own.
+-- What is left of a text after its first line. Source: mcgate's own.
 use Rattle.std.specs.Prelude.{ℕ, ◌+◌, List, [], length, Option, Some, None}
 use denote.Ref.{Bor}
 use Rattle.script_text.specs.Lines.{lines_of}
 
--- the lines behind a line end; none where there was no line end
+-- the lines after a line end; none where there was no line end
 abbrev pub lines_behind : Option (Bor (List ℕ)) → List (List ℕ)
 lines_behind None = []
 lines_behind (Some text) = lines_of text.now

@@ -11,7 +11,7 @@ hex_value c =
     else if nat_le 65 c && nat_le c 70 then Some (c - 65 + 10)
     else None
 
--- the byte that a letter behind a backslash stands for, `x` aside
+-- the byte that a letter after a backslash stands for, `x` aside
 abbrev pub letter_value : ℕ → Option ℕ
 letter_value c =
     if c == 114 then Some 13
@@ -36,12 +36,12 @@ abbrev mutual
   unescaped [] = Some []
   unescaped (b ∷ text) = if b == 92 then behind_backslash text else onto (Some b) (unescaped text)
 
-  -- the bytes that a text spells behind a backslash
+  -- the bytes that a text spells after a backslash
   pub behind_backslash : List ℕ → Option (List ℕ)
   behind_backslash [] = None
   behind_backslash (c ∷ text) = if c == 120 then behind_x text else onto (letter_value c) (unescaped text)
 
-  -- the bytes that a text spells behind \x
+  -- the bytes that a text spells after \x
   pub behind_x : List ℕ → Option (List ℕ)
   behind_x [] = None
   behind_x (high ∷ []) = None

@@ -40,7 +40,7 @@ key_said text = do
 abbrev pub manner_said : List ℕ → Option Manner
 manner_said word = if bytes_eq word (codes "before") then Some Before else if bytes_eq word (codes "after") then Some After else None
 
--- behind `> `: C TEXT
+-- after `> `: C TEXT
 abbrev pub piece_said : List ℕ → Option Scripted
 piece_said text = do
   parts ← cut text
@@ -48,7 +48,7 @@ piece_said text = do
   bytes ← unescaped parts.rest
   Some (Piece client bytes)
 
--- behind `hold `: S KEY TEXT
+-- after `hold `: S KEY TEXT
 abbrev pub hold_said : List ℕ → Option Scripted
 hold_said text = do
   parts ← cut text
@@ -58,7 +58,7 @@ hold_said text = do
   content ← unescaped held.rest
   Some (Hold server key content)
 
--- behind `fail `: K before, K after
+-- after `fail `: K before, K after
 abbrev pub fail_said : List ℕ → Option Scripted
 fail_said text = do
   parts ← cut text
@@ -105,13 +105,13 @@ at_said text = do
   loss ← loss_said said.word said.rest
   Some (At turn loss)
 
--- behind `moment `: N, 0..=9223372036854775807
+-- after `moment `: N, 0..=9223372036854775807
 abbrev pub moment_said : List ℕ → Option Scripted
 moment_said text = do
   n ← number_below (2 ^ 63) text
   Some (Moment (pos n))
 
--- what a line of this first word says, by what stands behind the word
+-- what a line of this first word says, by what stands after the word
 abbrev pub said_behind : List ℕ → List ℕ → Option Scripted
 said_behind word text =
     if bytes_eq word (codes ">") then piece_said text

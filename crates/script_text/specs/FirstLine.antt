@@ -51,7 +51,7 @@ read_or_fault (Err fault) = Err (HasFault fault)
 abbrev pub first_said : List ℕ → Result Configuration WhyNot
 first_said line = if begins_with_pool line then pool_or_bad (pool_said line) else read_or_fault (read_or (read line))
 
--- the fault that is told is the configuration's, and not want of memory
+-- the fault that is told is the configuration's, and not running out of memory
 pub record TellsFault {A : Type 0} (said : Result A WhyNot) (told : ConfigFault) : Type 0 where
   pub fault : Fault
   pub known : fault_of told ≡ Some fault

@@ -8,11 +8,11 @@ use Rattle.mc_text.specs.Word.{is_space}
 abbrev pub is_line_end : ℕ → Bool
 is_line_end b = b == 10
 
--- the lines of a text: what stands between its line ends, before the first and behind the last
+-- the lines of a text: what stands between its line ends, before the first and after the last
 abbrev pub lines_of : List ℕ → List (List ℕ)
 lines_of text = slice_split is_line_end text
 
--- a word, and what stands behind the one space that ends it
+-- a word, and what stands after the one space that ends it
 pub record Parts : Type 0 where
   pub word : List ℕ
   pub rest : List ℕ

@@ -29,7 +29,7 @@ pub record Numbered : Type 0 where
   pub line : ℕ
   pub event : Scripted
 
--- the line of this number and meaning, and then the events of the lines behind it
+-- the line of this number and meaning, and then the events of the lines after it
 abbrev pub and_then : Meaning → ℕ → List Numbered → List Numbered
 and_then Nothing n behind = behind
 and_then Unreadable n behind = []
@@ -40,7 +40,7 @@ abbrev pub numbered : ℕ → List (List ℕ) → List Numbered
 numbered n [] = []
 numbered n (line ∷ lines) = and_then (line_means line) n (numbered (n + 1) lines)
 
--- the line of this number where it can't be read, else what is found behind it
+-- the line of this number where it can't be read, else what is found after it
 abbrev pub or_behind : Meaning → ℕ → Option ℕ → Option ℕ
 or_behind Nothing n behind = behind
 or_behind Unreadable n behind = Some n

@@ -71,7 +71,7 @@ fn first_byte(text: &[u8]) -> Option<Spelled>
 /// The bytes that a text spells: `\r`, `\n`, `\\` and `\xHH` (either case of letters) stand for one byte, and any byte but the
 /// backslash for itself.
 ///
-/// [`LineFault::Unreadable`] comes exactly where something else stands behind a backslash, and otherwise want of memory is the only
+/// [`LineFault::Unreadable`] comes exactly where something else stands after a backslash, and otherwise running out of memory is the only
 /// error. The escapes are mcgate's own.
 pub fn unescape(alloc: Global, text: &[u8]) -> Result<Vec<u8>, LineFault>
     ensures { Reads (λ v. v.items) (unescaped text.now) result }

@@ -188,7 +188,7 @@ fn read_behind(alloc: Global, word: &[u8], text: &[u8]) -> Result<Event, LineFau
 
 /// The event that a line of a script says.
 ///
-/// [`LineFault::Unreadable`] comes exactly where it says none, and otherwise want of memory is the only error. That such an event
+/// [`LineFault::Unreadable`] comes exactly where it says none, and otherwise running out of memory is the only error. That such an event
 /// can be (that its server is there, say) is not asked here. The lines are mcgate's own.
 pub fn read_event(alloc: Global, line: &[u8]) -> Result<Event, LineFault>
     ensures { Reads scripted_of (event_said line.now) result }

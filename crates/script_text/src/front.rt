@@ -4,7 +4,7 @@ ghost use Rattle.std.specs.Prelude.{◌≡◌, ◌≤◌, ◌+◌, ◌∷◌, le
 ghost use Rattle.script_text.specs.Lines.{lines_of};
 ghost use Rattle.script_text.specs.Behind.{lines_behind};
 
-/// The first line of a text, and what stands behind its line end, where it has one.
+/// The first line of a text, and what stands after its line end, where it has one.
 #[derive(Clone, Copy)]
 pub struct Front<'a> {
     pub line: &'a str,

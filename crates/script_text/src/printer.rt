@@ -41,7 +41,7 @@ pub fn write_bad_line<W: Write>(line: usize, out: &mut W) -> io::Result<()>
     writeln!(out, "script: bad line {line}")
 }
 
-/// Writes the fault of the script's configuration: `config: ` and what [`ConfigFault`] prints. Want of memory is none. The format is
+/// Writes the fault of the script's configuration: `config: ` and what [`ConfigFault`] prints. Running out of memory is none. The format is
 /// mcgate's own.
 pub fn write_config_fault<W: Write>(fault: &ConfigFault, out: &mut W) -> io::Result<()>
     requires { IsSome (fault_of fault.now) }

@@ -127,7 +127,7 @@ fn bad_event_line(script: &ConfiguredScript) -> Option<usize>
 /// A line that begins with `pool` is meant to be the first of these, every other the second. Each further line is one event; empty
 /// lines and those that begin with `#` are none. The format is mcgate's own.
 ///
-/// Faults are looked for in this order, and want of memory is the only other error:
+/// Faults are looked for in this order, and running out of memory is the only other error:
 /// - [`ScriptFault::BadLine`] of 1 where the first line begins with `pool` and is no pool line.
 /// - [`ScriptFault::Config`], the first fault of a configuration.
 /// - [`ScriptFault::BadLine`] where a further line can't be read. It has the number of the first line that is bad: where an event

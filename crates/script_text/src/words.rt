@@ -8,7 +8,7 @@ ghost use Rattle.script_text.specs.Seen.{parts_seen};
 
 use mc_text::number::number;
 
-/// A word, and what stands behind the one space that ends it.
+/// A word, and what stands after the one space that ends it.
 #[derive(Clone, Copy)]
 pub struct Parts<'a> {
     pub word: &'a [u8],

@@ -75,7 +75,7 @@ impl Servers {
         }
     }
 
-    /// Puts an address last that is none of these yet, and gives its number. The only error is want of memory, and nothing
+    /// Puts an address last that is none of these yet, and gives its number. The only error is running out of memory, and nothing
     /// has changed then.
     pub fn push(&mut self, alloc: Global, address: &str) -> Result<ServerId, AllocError>
         requires new { list_any (bytes_eq address.now) self.old ≡ false }
@@ -89,7 +89,7 @@ impl Servers {
         Ok(ServerId::new(index as u32))
     }
 
-    /// The same servers once more. The only error is want of memory.
+    /// The same servers once more. The only error is running out of memory.
     pub fn copy(&self, alloc: Global) -> Result<Servers, AllocError>
         ensures { IfOk result (λ servers. servers ≡ self.now) }
     {

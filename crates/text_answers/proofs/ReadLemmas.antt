@@ -21,14 +21,14 @@ use Rattle.text_answers.specs.declared.reader.AnswerRead.{AnswerRead}
 use Rattle.text_answers.specs.declared.reader.AnswerRead.TheVariants as reads
 use Rattle.text_answers.proofs.EndLemmas.{cut_no_end, cut_no_data_end, line_not_open}
 
--- the bytes behind a body of this length
+-- the bytes after a body of this length
 behind_body : (n : ℕ) (rest body behind : List ℕ) → length body ≡ n → rest ≡ body ++ behind → drop n rest ≡ behind
 behind_body n rest body behind len whole = ap (drop n) whole ∙ subst (λ (k : ℕ). drop k (body ++ behind) ≡ behind) len (drop-append_seam body behind)
 
 pub short_is_cut : (n : ℕ) (rest : List ℕ) → length rest < n → IsCutEnd (drop n rest)
 short_is_cut n rest lt = inl (drop_all n rest (omega arith))
 
--- behind the data stands what is cut
+-- after the data stands what is cut
 pub cut_no_follow : (said : Said) (rest : List ℕ) → IsCutBehind said rest → (answer : Answer) (used : ℕ) → ¬ Follows said rest answer used
 cut_no_follow (Hit hit) rest cut answer used f =
     cut_no_end (drop hit.len rest) cut f.2 (subst (λ (t : List ℕ). IsBlockEnd t f.2) (sym (behind_body hit.len rest f.0 f.1 f.4 f.5)) f.6)
@@ -46,7 +46,7 @@ cut_not_spelled ask bytes (inr h) answer used s =
     (subst (λ (r : List ℕ). Follows (said ask (without_cr s.text)) r answer s.behind) (sym same.1) s.follows) in
     cut_no_follow (said ask (without_cr h.0)) h.1 h.3 answer s.behind follows
 
--- where behind the data the end never comes, no hit does
+-- where after the data the end never comes, no hit does
 pub bad_hit : (hit : HitLine) (rest : List ℕ) → hit.len ≤ length rest → ((more : List ℕ) (used : ℕ) → ¬ IsBlockEnd (take (length rest - hit.len) (drop hit.len rest) ++ more) used)
     → (more : List ℕ) (answer : Answer) (used : ℕ) → ¬ Follows (Hit hit) (rest ++ more) answer used
 bad_hit hit rest le never more answer used f =
@@ -142,7 +142,7 @@ too_long_not_cut ask bytes long (inr h) = not_too_long bytes h.0 h.1 h.2 long
 pub too_long_is : (ask : Ask) (bytes : List ℕ) → IsTooLong bytes → (more : List ℕ) (answer : Answer) (used : ℕ) → ¬ Spells ask (bytes ++ more) answer used
 too_long_is ask bytes long more answer used s = too_long_no_line bytes more s.text s.rest long s.line
 
--- an answer that begins behind the line takes the line's bytes too
+-- an answer that begins after the line takes the line's bytes too
 abbrev pub further : ℕ → AnswerRead → AnswerRead
 further used (reads.Answer answer behind) = reads.Answer answer (used + behind)
 further used reads.More = reads.More

@@ -31,7 +31,7 @@ abbrev pub from_first_word : List ℕ → List ℕ
 from_first_word [] = []
 from_first_word (b ∷ bytes) = if is_space b then from_first_word bytes else b ∷ bytes
 
--- what stands behind a line's first word and one space
+-- what stands after a line's first word and one space
 abbrev pub behind_word : List ℕ → List ℕ
 behind_word line = after_first is_space (from_first_word line)
 
@@ -39,7 +39,7 @@ behind_word line = after_first is_space (from_first_word line)
 abbrev pub is_error_text : List ℕ → Bool
 is_error_text text = nat_le (length text) ERROR_TEXT_LIMIT && list_all is_text_byte text
 
--- the text of an error line is all that stands behind its word and one space
+-- the text of an error line is all that stands after its word and one space
 abbrev pub error_text : List ℕ → Option (List ℕ)
 error_text line = if is_error_text (behind_word line) then Some (behind_word line) else None
 
@@ -48,14 +48,14 @@ abbrev pub error_said : (List ℕ → Answer) → Option (List ℕ) → Said
 error_said error (Some text) = Whole (error text)
 error_said error None = Foreign
 
--- the words behind a hit's length: a cas number, which has to be there where it is asked for, and is dropped where not
+-- the words after a hit's length: a cas number, which has to be there where it is asked for, and is dropped where not
 abbrev pub cas_said : Bool → List (List ℕ) → Option (Option ℕ)
 cas_said true (cas ∷ []) = option_map Some (number_below (2 ^ 64) cas)
 cas_said false (cas ∷ []) = option_map (λ n. None) (number_below (2 ^ 64) cas)
 cas_said false [] = Some None
 cas_said _ _ = None
 
--- the words behind VALUE: the key that was asked, the flags and the length of the data
+-- the words after VALUE: the key that was asked, the flags and the length of the data
 abbrev pub hit_said : List ℕ → Bool → List (List ℕ) → Option HitLine
 hit_said key with_cas (name ∷ flags ∷ len ∷ behind) =
     if bytes_eq name key then

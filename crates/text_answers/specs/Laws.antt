@@ -26,6 +26,6 @@ NoneBeginsAnother = (ask : Ask) (a b : Answer) (more other : List ℕ) → IsAsk
 abbrev pub SpelledAnswersFit : Type 0
 SpelledAnswersFit = (ask : Ask) (bytes : List ℕ) (answer : Answer) (used : ℕ) → IsAsk ask → Spells ask bytes answer used → Fits ask answer
 
--- bytes behind an answer are no part of it
+-- bytes after an answer are no part of it
 abbrev pub AnswersStay : Type 0
 AnswersStay = (ask : Ask) (bytes more : List ℕ) (answer : Answer) (used : ℕ) → Spells ask bytes answer used → Spells ask (bytes ++ more) answer used

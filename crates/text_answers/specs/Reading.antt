@@ -24,7 +24,7 @@ pub record IsEndLine (bytes : List ℕ) (used : ℕ) : Type 0 where
   pub word : words (without_cr text) ≡ codes "END" ∷ []
   pub used_is : used ≡ length text + 1
 
--- behind a hit's data: the end of the data block, and a line END
+-- after a hit's data: the end of the data block, and a line END
 pub record IsBlockEnd (bytes : List ℕ) (used : ℕ) : Type 0 where
   pub behind : List ℕ
   pub len : ℕ
@@ -59,7 +59,7 @@ pub record Spells (ask : Ask) (bytes : List ℕ) (answer : Answer) (used : ℕ) 
   pub follows : Follows (said ask (without_cr text)) rest answer behind
   pub used_is : used ≡ length text + 1 + behind
 
--- the end of a data block, or the line behind it, isn't there yet
+-- the end of a data block, or the line after it, isn't there yet
 abbrev pub IsCutEnd : List ℕ → Type 0
 IsCutEnd bytes = (bytes ≡ []) ⊎ (bytes ≡ CR ∷ []) ⊎ ((behind : List ℕ) × (bytes ≡ CR ∷ LF ∷ behind) × IsOpen behind)
 

@@ -11,7 +11,7 @@ abbrev pub cas_words : Option ℕ → List (List ℕ)
 cas_words None = []
 cas_words (Some cas) = decimal cas ∷ []
 
--- the same as it stands on the line, behind its space
+-- the same as it stands on the line, after its space
 abbrev pub cas_text : Option ℕ → List ℕ
 cas_text None = []
 cas_text (Some cas) = 32 ∷ decimal cas
@@ -30,7 +30,7 @@ value_of ask _ = []
 abbrev pub end_text : List ℕ
 end_text = line_of (codes "END" ∷ [])
 
--- the words of an error line: its text stands as it is behind one space, and an empty one without the space
+-- the words of an error line: its text stands as it is after one space, and an empty one without the space
 abbrev pub error_words : List ℕ → List ℕ → List (List ℕ)
 error_words word [] = word ∷ []
 error_words word (b ∷ text) = word ∷ (b ∷ text) ∷ []

@@ -45,7 +45,7 @@ fn end_line(bytes: &[u8]) -> Ends
     }
 }
 
-/// How a data block ends behind its data.
+/// How a data block ends after its data.
 pub fn data_end(bytes: &[u8]) -> Ends
     ensures { TellsDataEnd bytes.now result }
 {
@@ -56,7 +56,7 @@ pub fn data_end(bytes: &[u8]) -> Ends
     }
 }
 
-/// How a hit ends behind its data: the end of the data block, and the line `END`.
+/// How a hit ends after its data: the end of the data block, and the line `END`.
 pub fn block_end(bytes: &[u8]) -> Ends
     ensures { TellsEnd bytes.now result }
 {

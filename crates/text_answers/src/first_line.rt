@@ -192,7 +192,7 @@ fn first_space(text: &[u8]) -> Option<usize>
     text.iter().position(|b| *b == b' ')
 }
 
-// what stands behind the first space
+// what stands after the first space
 fn behind_space(text: &[u8]) -> &[u8]
     ensures { result.now ≡ after_first is_space text.now }
 {
@@ -297,7 +297,7 @@ fn in_dialect(ask: &Ask, word: &[u8], line: &[u8], at: usize) -> Said
     }
 }
 
-/// What the first line of an answer says to an ask. The only error is want of memory, and only an error line takes any.
+/// What the first line of an answer says to an ask. The only error is running out of memory, and only an error line takes any.
 pub fn said(alloc: Global, ask: &Ask, line: &[u8]) -> Result<Said, AllocError>
     ensures { IfOk result (λ s. s ≡ said ask.now line.now) }
 {

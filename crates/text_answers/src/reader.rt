@@ -87,11 +87,11 @@ fn behind(alloc: Global, said: Said, rest: &[u8]) -> Result<AnswerRead, AllocErr
 /// A line ends at `\n`, and one `\r` before that is no part of it; words are parted by one or more spaces. Which answers
 /// are taken for which ask is a table over the operation. The key of a `VALUE` line has to be the one that was asked, a
 /// cas number stands on it where the ask wants one, and is dropped where not. The text of an error line is what stands
-/// behind its word and one space, at most 1,024 bytes, none of them a control character. What the line of a meta answer
+/// after its word and one space, at most 1,024 bytes, none of them a control character. What the line of a meta answer
 /// may say is told at [`meta_answers::meta_line`]; the data of an `ma` are a number of 1 to 20 digits.
 ///
 /// [`AnswerRead::Foreign`] comes where no answer begins so, whatever follows: another answer than the table has, a second
-/// `VALUE`, more than 1,048,576 bytes of data, a line of more than 65,535 bytes. The only error is want of memory; the
+/// `VALUE`, more than 1,048,576 bytes of data, a line of more than 65,535 bytes. The only error is running out of memory; the
 /// data of a hit are copied once, and only when the answer is whole.
 ///
 /// Source: memcached's protocol.txt, what is said of the answers of each command, and "Meta Commands"; the limits and what

@@ -33,7 +33,7 @@ fn read(alloc: Global, ask: &Ask, bytes: &[u8]) -> Result<BytesMut, Fail> {
     Ok(out)
 }
 
-// The lines of protocol.txt, each whole, cut at each byte, and with more behind it.
+// The lines of protocol.txt, each whole, cut at each byte, and with more after it.
 #[test]
 fn answers_in_any_cut(rt: HostRuntime) -> Result<(), Fail> {
     let alloc = rt.alloc();

@@ -120,7 +120,7 @@ fn put_answer(ask: &Ask, answer: &Answer, out: &mut BytesMut) -> Result<(), Allo
 ///
 /// A hit has its cas number on the line exactly where it carries one, and `END` after its data. A meta answer has its return
 /// tokens in the order of the ask's flags: `k` and `O` on every line, `c`, `f`, `s` and `t` where their field is set. The
-/// only error is want of memory, which leaves the buffer as it was.
+/// only error is running out of memory, which leaves the buffer as it was.
 ///
 /// Source: memcached's protocol.txt, what is said of the answers of each command, and "Meta Commands".
 pub fn write_answer(ask: &Ask, answer: &Answer, out: &mut BytesMut) -> Result<(), AllocError>
@@ -138,7 +138,7 @@ pub fn write_answer(ask: &Ask, answer: &Answer, out: &mut BytesMut) -> Result<()
 /// Appends what a hit adds to the reply of a get of several keys: its `VALUE` line and its data. Nothing is appended
 /// for any other answer; [`write_end`] ends such a reply.
 ///
-/// The only error is want of memory, which leaves the buffer as it was.
+/// The only error is running out of memory, which leaves the buffer as it was.
 ///
 /// Source: memcached's protocol.txt, "Retrieval command".
 pub fn write_value(ask: &Ask, answer: &Answer, out: &mut BytesMut) -> Result<(), AllocError>
@@ -153,9 +153,9 @@ pub fn write_value(ask: &Ask, answer: &Answer, out: &mut BytesMut) -> Result<(),
     written
 }
 
-/// Appends the line `END`, which ends the reply to a get: behind the values of its hits, or alone where there are none.
+/// Appends the line `END`, which ends the reply to a get: after the values of its hits, or alone where there are none.
 ///
-/// The only error is want of memory, which leaves the buffer as it was.
+/// The only error is running out of memory, which leaves the buffer as it was.
 ///
 /// Source: memcached's protocol.txt, "Retrieval command".
 pub fn write_end(out: &mut BytesMut) -> Result<(), AllocError>

@@ -30,7 +30,7 @@ is_fetch Incr = false
 is_fetch Decr = false
 is_fetch Touch = false
 
--- the reply is a value, and has `END` behind the last key: that of a classic get
+-- the reply is a value, and has `END` after the last key: that of a classic get
 abbrev pub shows_values : Dialect → Op → Bool
 shows_values dialects.Classic op = is_fetch op
 shows_values dialects.Meta op = false
@@ -91,11 +91,11 @@ hidden_in dialects.Meta op reply = hidden_answer op reply
 abbrev pub is_hidden : Bool → Ask → Answer → Bool
 is_hidden quiet ask reply = quiet && hidden_in ask.dialect ask.op reply
 
--- an error line, behind which no further key of the message is asked
+-- an error line, after which no further key of the message is asked
 abbrev pub is_failure : Answer → Bool
 is_failure reply = nat_le 3 (rank_of reply)
 
--- what the reply to one key adds: of a classic get the value, and `END` behind the last key; an error line stands in place of `END`
+-- what the reply to one key adds: of a classic get the value, and `END` after the last key; an error line stands in place of `END`
 abbrev pub part_text : Bool → Ask → Answer → List ℕ
 part_text last ask reply =
     if shows_values ask.dialect ask.op && not (is_failure reply)

@@ -10,7 +10,7 @@ use request_parts::{Own, Why};
 use std::alloc::AllocError;
 use text_answers::{write_answer, write_end, write_value};
 
-// whether the reply is a value, and has `END` behind the last key
+// whether the reply is a value, and has `END` after the last key
 fn shows_values(dialect: Dialect, op: Op) -> bool
     ensures { result ≡ shows_values dialect op }
 {
@@ -57,7 +57,7 @@ fn is_failure(reply: &Answer) -> bool
     reply.rank() >= 3
 }
 
-/// Whether a message is done with this reply: that of its last key, or an error line, behind which no key is asked.
+/// Whether a message is done with this reply: that of its last key, or an error line, after which no key is asked.
 pub fn ends_message(last: bool, reply: &Answer) -> bool
     ensures { result ≡ (is_failure reply.now || last) }
 {
@@ -72,14 +72,14 @@ fn put_fetched(last: bool, ask: &Ask, reply: &Answer, out: &mut BytesMut) -> Res
     if last { write_end(out) } else { Ok(()) }
 }
 
-/// Appends what the reply to one key of a message shows: of a classic get its value, and `END` behind the last key; an
+/// Appends what the reply to one key of a message shows: of a classic get its value, and `END` after the last key; an
 /// error line stands in place of `END`; of the other operations the answer, that of a meta command with its return tokens
 /// in the order of the client's flags.
 ///
 /// Where the client is quiet, a classic command shows nothing, and a meta one hides what it expects: `EN` of `mg`, `HD` of
 /// `ms`, `HD` and `NF` of `md` and `ma`. Error lines of meta commands are always shown.
 ///
-/// The only error is want of memory, which leaves the buffer as it was.
+/// The only error is running out of memory, which leaves the buffer as it was.
 ///
 /// Source: memcached's protocol.txt; that an error ends the reply to several keys is mcgate's own.
 pub fn write_part(
@@ -106,7 +106,7 @@ pub fn write_part(
     written
 }
 
-/// Appends what mcgate itself answers: its version, `MN` to `mn`, and nothing to `quit`. The only error is want of memory, which
+/// Appends what mcgate itself answers: its version, `MN` to `mn`, and nothing to `quit`. The only error is running out of memory, which
 /// leaves the buffer as it was.
 pub fn write_own(own: Own, out: &mut BytesMut) -> Result<(), AllocError>
     ensures ok { OnOk result (out.new.items ≡ out.old.items ++ own_answer own) }
@@ -127,7 +127,7 @@ fn put_refusal(why: Why, out: &mut BytesMut) -> Result<(), AllocError>
     out.extend_from_slice(b"\r\n")
 }
 
-/// Appends the line that a refused message is answered. The only error is want of memory, which leaves the buffer as
+/// Appends the line that a refused message is answered. The only error is running out of memory, which leaves the buffer as
 /// it was.
 pub fn write_refusal(why: Why, out: &mut BytesMut) -> Result<(), AllocError>
     ensures ok { OnOk result (out.new.items ≡ out.old.items ++ refusal_text why) }
@@ -141,7 +141,7 @@ pub fn write_refusal(why: Why, out: &mut BytesMut) -> Result<(), AllocError>
     written
 }
 
-/// Appends what a line without an end in its first 65,536 bytes is answered. The only error is want of memory, which
+/// Appends what a line without an end in its first 65,536 bytes is answered. The only error is running out of memory, which
 /// leaves the buffer as it was.
 pub fn write_long_line(out: &mut BytesMut) -> Result<(), AllocError>
     ensures ok { OnOk result (out.new.items ≡ out.old.items ++ long_line_text) }

@@ -79,7 +79,7 @@ impl TextStream {
         }
     }
 
-    /// Whether nothing is read any more: behind `quit`, or a line that was too long.
+    /// Whether nothing is read any more: after `quit`, or a line that was too long.
     pub fn is_closed(&self) -> bool
         ensures { IsTrue result ↔ (self.now ≡ Closed) }
     {
@@ -96,7 +96,7 @@ impl TextStream {
         self.held.as_slice()
     }
 
-    /// A piece came. The only error is want of memory, which leaves the stream as it was.
+    /// A piece came. The only error is running out of memory, which leaves the stream as it was.
     pub fn feed(&mut self, piece: &[u8]) -> Result<(), AllocError>
         ensures ok { OnOk result (self.new ≡ extended self.old piece.now) }
         ensures err { OnErr result (self.new ≡ self.old) }
@@ -135,7 +135,7 @@ impl TextStream {
         }
     }
 
-    /// A refused message of so many bytes is done, and what `skip` says is passed over behind them.
+    /// A refused message of so many bytes is done, and what `skip` says is passed over after them.
     pub fn pass_refused(&mut self, used: usize, skip: Skip)
         requires { used ≤ length (held_at self.old) }
         ensures passed { (held : List ℕ) → self.old ≡ Stands Nothing held → self.new ≡ skipped skip (drop used held) }

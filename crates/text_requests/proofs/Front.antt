@@ -61,7 +61,7 @@ meaning-asked bytes end used command line within asked =
     let order : order_of (words (without_cr (take (used - 1) bytes))) ≡ Ok (order_in bytes command) = ap (λ (t : List ℕ). order_of (words t)) text.0 ∙ asked ∙ ap (λ (o : Order). Ok o) (order_in-take end bytes command within) in
     rw (order, len, block_len-order_in bytes command) refl
 
--- what is read behind the first line is what the stream begins with
+-- what is read after the first line is what the stream begins with
 pub reads-from_line : (bytes : List ℕ) (end used : ℕ) (r : Read) → TakesLine bytes end used → IsMeant bytes r (meaning (take (used - 1) bytes) (drop used bytes)) → Reads bytes r
 reads-from_line bytes end used (reads.Request r) line h = record { placed = h.0; begins = begins_meant classic_grammar bytes end used (message_in bytes r) r.used line h.1 }
 reads-from_line bytes end used (reads.Refused why n skip) line h = begins_meant classic_grammar bytes end used (Refusal why skip) n line h

@@ -4,7 +4,7 @@ use Rattle.request_parts.specs.declared.own.Own.{Own}
 use Rattle.request_parts.specs.Grammar.{Grammar}
 use Rattle.text_requests.specs.Order.{Order, Storage, Swapping, OfItself, order_of, skip_of}
 
--- the length of the data block behind the line, where one follows
+-- the length of the data block after the line, where one follows
 abbrev pub block_len : Order → Option ℕ
 block_len (Storage kind stored quiet) = Some stored.length
 block_len (Swapping stored cas quiet) = Some stored.length

@@ -1,4 +1,4 @@
--- Messages at the front of a stream: a line, and behind a store's line its data. Source: memcached's protocol.txt, "Protocol" and "Storage commands".
+-- Messages at the front of a stream: a line, and after a store's line its data. Source: memcached's protocol.txt, "Protocol" and "Storage commands".
 use Rattle.std.specs.Prelude.{◌≡◌, ℕ, List, length, Option, Some, None}
 use Rattle.mc_text.specs.Line.{IsTooLong}
 use Rattle.mc_text.specs.Word.{text_at}
@@ -14,11 +14,11 @@ use Rattle.text_requests.specs.Order.{Order}
 use Rattle.text_requests.specs.Grammar.{classic_grammar}
 use Rattle.text_requests.specs.Places.{order_in, LiesIn}
 
--- a message: one that is served, with its data block, or one that is refused, with what is passed over behind it
+-- a message: one that is served, with its data block, or one that is refused, with what is passed over after it
 abbrev pub Message : Type 0
 Message = parts.Message Order
 
--- the length of the data block behind a command, where one follows
+-- the length of the data block after a command, where one follows
 abbrev pub command_block_len : Command → Option ℕ
 command_block_len (commands.Storage kind stored quiet) = Some stored.length
 command_block_len (commands.Swapping stored cas quiet) = Some stored.length
@@ -28,7 +28,7 @@ command_block_len _ = None
 abbrev pub Found : Type 0
 Found = parts.Found Order
 
--- what the line of this text and the bytes behind it are, unless more must come
+-- what the line of this text and the bytes after it are, unless more must come
 abbrev pub meaning : List ℕ → List ℕ → Found
 meaning = parts.meaning classic_grammar
 
@@ -50,7 +50,7 @@ pub record IsReadFrom (bytes : List ℕ) (r : Request) : Type 0 where
   pub placed : IsPlaced bytes r
   pub begins : Begins bytes (message_in bytes r) r.used
 
--- what was read behind a line is what it means
+-- what was read after a line is what it means
 abbrev pub IsMeant : List ℕ → Read → Found → Type 0
 IsMeant bytes (reads.Request r) found = IsPlaced bytes r × (found ≡ Some (message_in bytes r, r.used))
 IsMeant bytes (reads.Refused why used skip) found = found ≡ Some (Refusal why skip, used)

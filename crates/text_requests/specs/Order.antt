@@ -1,4 +1,4 @@
--- What a request line says, by its words. Source: memcached's protocol.txt, the lines of each command; the order of the tests, and what is passed over behind a refused line, are mcgate's own.
+-- What a request line says, by its words. Source: memcached's protocol.txt, the lines of each command; the order of the tests, and what is passed over after a refused line, are mcgate's own.
 use Rattle.std.specs.Prelude.{ℕ, ℤ, Bool, true, false, List, [], ◌∷◌, Option, Some, None, Result, Ok, Err, if◌then◌else◌, slice_get, codes}
 use Rattle.std.specs.List.{list_all}
 use Rattle.std.specs.Str.{bytes_eq}
@@ -41,7 +41,7 @@ noreply_of [] = Ok false
 noreply_of (word ∷ []) = if bytes_eq word (codes "noreply") then Ok true else Err Unknown
 noreply_of (word ∷ other ∷ more) = Err Unknown
 
--- the same, behind the 0 that may stand there
+-- the same, after the 0 that may stand there
 abbrev pub delete_tail_of : List Word → Result Bool Why
 delete_tail_of [] = Ok false
 delete_tail_of (word ∷ more) = if bytes_eq word (codes "0") then noreply_of more else noreply_of (word ∷ more)
@@ -82,7 +82,7 @@ storage kind (key ∷ flags ∷ exptime ∷ length ∷ more) = do
   fitting stored.length (Storage kind stored quiet)
 storage kind _ = Err Unknown
 
--- `cas`: the same with a cas number behind the length
+-- `cas`: the same with a cas number after the length
 abbrev pub swapping : List Word → Result Order Why
 swapping (key ∷ flags ∷ exptime ∷ length ∷ cas ∷ more) = do
   quiet ← noreply_of more
@@ -122,7 +122,7 @@ abbrev pub of_itself : Own → List Word → Result Order Why
 of_itself own [] = Ok (OfItself own)
 of_itself own (word ∷ more) = Err Unknown
 
--- what the words behind a command word ask
+-- what the words after a command word ask
 abbrev pub ordered_by : Option Verb → List Word → Result Order Why
 ordered_by None words = Err Unknown
 ordered_by (Some (verbs.Store kind)) words = storage kind words
@@ -144,7 +144,7 @@ is_store (Some (verbs.Store kind)) = true
 is_store (Some verbs.Cas) = true
 is_store _ = false
 
--- what is passed over behind a refused line: the data that a store's fifth word tells of
+-- what is passed over after a refused line: the data that a store's fifth word tells of
 abbrev pub skip_of : List Word → Skip
 skip_of [] = Nothing
 skip_of (word ∷ words) = if is_store (verb_of word) then skip_by (length_in (slice_get words 3)) else Nothing

@@ -43,7 +43,7 @@ cas_in ask = unwrap_or ask.cas 0
 abbrev pub store_words : Ask → List Word → List Word
 store_words ask more = ask.key ∷ decimal ask.flags ∷ signed_decimal (exptime_in ask) ∷ decimal (length ask.body) ∷ more
 
--- the words behind the command word
+-- the words after the command word
 abbrev pub words_behind : Op → Ask → List Word
 words_behind Get ask = ask.key ∷ []
 words_behind Gat ask = signed_decimal (exptime_in ask) ∷ ask.key ∷ []
@@ -58,7 +58,7 @@ words_behind Incr ask = ask.key ∷ decimal ask.delta ∷ []
 words_behind Decr ask = ask.key ∷ decimal ask.delta ∷ []
 words_behind Touch ask = ask.key ∷ signed_decimal (exptime_in ask) ∷ []
 
--- the data block behind the line, where one follows
+-- the data block after the line, where one follows
 abbrev pub block_behind : Op → Ask → List ℕ
 block_behind Set ask = block_text ask.body
 block_behind Add ask = block_text ask.body

@@ -6,11 +6,11 @@ use Rattle.text_requests.specs.Order.{Order}
 use Rattle.text_requests.specs.Grammar.{classic_grammar, own_by}
 use Rattle.text_requests.specs.Message.{Message}
 
--- where a reader stands behind a request
+-- where a reader stands after a request
 abbrev pub behind_order : Order → List ℕ → Place
 behind_order order rest = behind_own (own_by order) rest
 
--- where a reader stands behind a message, with these bytes behind it
+-- where a reader stands after a message, with these bytes after it
 abbrev pub behind : Message → List ℕ → Place
 behind = streams.behind classic_grammar
 

@@ -96,7 +96,7 @@ pub enum Command {
 #[derive(Clone, Copy)]
 pub struct Request {
     pub command: Command,
-    /// The data, without the `\r\n` behind them; empty where none follow.
+    /// The data, without the `\r\n` after them; empty where none follow.
     pub block: Span,
     /// How many bytes the request takes, its data block included.
     pub used: usize,
@@ -111,6 +111,6 @@ pub enum Read {
     TooLong,
     /// A message that is served.
     Request(Request),
-    /// A message that is refused: it takes `used` bytes, and what `skip` says is passed over behind them.
+    /// A message that is refused: it takes `used` bytes, and what `skip` says is passed over after them.
     Refused { why: Why, used: usize, skip: Skip },
 }

@@ -1,4 +1,4 @@
-//! What the words of a line ask, and what is passed over behind it.
+//! What the words of a line ask, and what is passed over after it.
 ghost use Rattle.std.specs.Prelude.{◌≡◌, ◌≤◌, length, drop, IfOk};
 ghost use Rattle.mc_text.specs.Word.{words, IsNextWord};
 ghost use Rattle.text_requests.specs.Order.{order_of, ordered_by, is_store, skip_of};
@@ -49,7 +49,7 @@ fn stores(verb: Option<Verb>) -> bool
     }
 }
 
-/// What is passed over behind the line, if it is refused.
+/// What is passed over after the line, if it is refused.
 pub fn skip(line: &[u8]) -> Skip
     ensures { result ≡ skip_of (words line.now) }
 {

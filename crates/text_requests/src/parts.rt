@@ -1,4 +1,4 @@
-//! What may stand behind the words of a classic line.
+//! What may stand after the words of a classic line.
 ghost use Rattle.std.specs.Prelude.{◌≡◌, ◌≤◌, length, drop};
 ghost use Rattle.mc_text.specs.Word.{words};
 ghost use Rattle.text_requests.specs.Order.{noreply_of, delete_tail_of};
@@ -25,7 +25,7 @@ pub fn noreply(line: &[u8], at: usize) -> Result<bool, Why>
     }
 }
 
-/// The same, behind the 0 that may stand there.
+/// The same, after the 0 that may stand there.
 pub fn delete_tail(line: &[u8], at: usize) -> Result<bool, Why>
     requires { at ≤ length line.now }
     ensures { result ≡ delete_tail_of (words (drop at line.now)) }

@@ -135,9 +135,9 @@ fn put_ask(out: &mut BytesMut, ask: &Ask) -> Result<(), AllocError>
 }
 
 /// Appends the one spelling of an ask: its words with one space between, without `noreply` and without the 0 of
-/// `delete`, the line's end, and behind a store's line its data and `\r\n`.
+/// `delete`, the line's end, and after a store's line its data and `\r\n`.
 ///
-/// The only error is want of memory, which leaves the buffer as it was.
+/// The only error is running out of memory, which leaves the buffer as it was.
 pub fn write_ask(ask: &Ask, out: &mut BytesMut) -> Result<(), AllocError>
     requires { IsClassicAsk ask.now }
     ensures ok { OnOk result (out.new.items ≡ out.old.items ++ spelling_of ask.now) }
