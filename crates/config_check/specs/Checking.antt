@@ -1,5 +1,5 @@
 -- What is printed of a configuration's text. Source: mcgate's own.
-use Rattle.std.specs.Prelude.{◌≡◌, ℕ, ◌⊎◌, List, [], ◌∷◌, Option, Ok, IsSome}
+use Rattle.std.specs.Prelude.{◌≡◌, ℕ, ◌⊎◌, List, [], ◌∷◌, ◌++◌, Option, Some, None, Ok, IsSome, map}
 use Rattle.std.specs.Io.KnownBytes.{Appends}
 use Rattle.serde_json.specs.Read.{read}
 use Rattle.route_tree.specs.Route.{Route}
@@ -9,10 +9,15 @@ use Rattle.route_json.specs.Configs.{read_or}
 use Rattle.route_json.specs.Configuration.{Configuration}
 use Rattle.coverage.specs.declared.table.PlaceTable.{PlaceTable}
 use Rattle.coverage.specs.Tables.{IsTable, row_count}
+use Rattle.fresh_gate.specs.declared.gap.Gap.{Gap}
 use Rattle.fresh_gate.specs.declared.gap.Reason.{Reason}
 use Rattle.fresh_gate.specs.declared.gap.Reason.TheVariants as reasons
 use Rattle.fresh_gate.specs.Gate.{IsCertified, IsJudged}
+use Rattle.fleet_run.specs.declared.script.Script.{Script}
+use Rattle.fleet_run.specs.Scripted.{Scripted, scripted_of}
+use Rattle.refusals.specs.Refusals.{IsRefusalRun, MayLack}
 use Rattle.script_text.specs.Printed.{config_fault_line}
+use Rattle.script_lines.specs.Lines.{script_lines}
 use Rattle.config_check.specs.Verdict.{accepted_line, refusal_line}
 use Rattle.config_check.specs.declared.status.RunFault.{RunFault}
 use Rattle.config_check.specs.declared.status.RunFault.TheVariants.{NoMemory, Writer}
@@ -42,9 +47,35 @@ pub record PrintsRefused (config : Configuration) (old new : Option (List ℕ)) 
   pub judged : IsJudged config.tree reason
   pub printed : Appends old new (refusal_line config.servers reason)
 
+-- the lines of a script, or nothing
+abbrev pub run_lines : Option Script → List ℕ
+run_lines None = []
+run_lines (Some script) = script_lines (map scripted_of script.events.items)
+
+-- the lines are those of a script that shows the gap, or there are none and the gap may have no such script
+abbrev pub ShowsGap : Route → Gap → List ℕ → Type 0
+ShowsGap tree gap lines =
+    ((events : List Scripted) × IsRefusalRun tree gap events × (lines ≡ script_lines events)) ⊎ (MayLack tree gap × (lines ≡ []))
+
+-- so it is where the reason is a gap; for another there are no lines
+abbrev pub ShowsReason : Route → Reason → List ℕ → Type 0
+ShowsReason tree (reasons.Uncovered gap) lines = ShowsGap tree gap lines
+ShowsReason tree reasons.TooManyPlaces lines = lines ≡ []
+ShowsReason tree (reasons.BadCertificate row) lines = lines ≡ []
+ShowsReason tree reasons.NoMemory lines = lines ≡ []
+
+-- the tree is refused for this reason, and that and then the lines of the script that shows it were written
+pub record ChecksRefused (config : Configuration) (old new : Option (List ℕ)) : Type 0 where
+  pub reason : Reason
+  pub told : IsTold reason
+  pub judged : IsJudged config.tree reason
+  pub run : List ℕ
+  pub shows : ShowsReason config.tree reason run
+  pub printed : Appends old new (refusal_line config.servers reason ++ run)
+
 -- the verdict on a configuration was written; status 0: it is accepted; status 1: it is refused
 abbrev pub ChecksConfig : Configuration → Option (List ℕ) → Option (List ℕ) → ℕ → Type 0
-ChecksConfig config old new status = ((status ≡ 0) × PrintsAccepted config.tree old new) ⊎ ((status ≡ 1) × PrintsRefused config old new)
+ChecksConfig config old new status = ((status ≡ 0) × PrintsAccepted config.tree old new) ⊎ ((status ≡ 1) × ChecksRefused config old new)
 
 -- the text is a configuration, and the verdict on it was written
 pub record PrintsVerdict (text : List ℕ) (old new : Option (List ℕ)) (status : ℕ) : Type 0 where

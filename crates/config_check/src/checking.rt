@@ -1,20 +1,26 @@
 //! A configuration's text, checked.
 
-ghost use Rattle.std.specs.Prelude.{◌≡◌, ◌≤◌, IfOk, IfErr};
+ghost use Rattle.std.specs.Prelude.{◌≡◌, ◌≤◌, IfOk, IfErr, OnOk};
+ghost use Rattle.std.specs.Io.KnownBytes.{Appends};
 ghost use Rattle.serde_json.specs.Read.{read};
 ghost use Rattle.route_json.specs.Configs.{read_or};
 ghost use Rattle.route_json.specs.Fault.{Fails, fault_of};
 ghost use Rattle.fresh_gate.specs.Gate.{IsCertified, IsJudged};
-ghost use Rattle.config_check.specs.Checking.{Checks, ChecksConfig, PrintsAccepted, PrintsRefused, StopsUnwritten, HasPlaces};
+ghost use Rattle.config_check.specs.Verdict.{refusal_line};
+ghost use Rattle.config_check.specs.Checking.{Checks, ChecksConfig, ChecksRefused, IsTold, PrintsAccepted, PrintsRefused, ShowsReason, StopsUnwritten, HasPlaces, run_lines};
 
 use crate::status::{BAD_INPUT, DONE, REFUSED, RunFault, answer_of};
 use crate::verdict::{write_accepted, write_refusal};
 use coverage::places;
+use fleet_run::Script;
 use fresh_gate::{Reason, judge};
+use refusals::refusal_run;
 use route_json::{Config, ConfigFault, read_config};
 use route_tree::Tree;
+use script_lines::write_script;
 use script_text::printer::write_config_fault;
 use std::alloc::{AllocError, Global};
+use std::io;
 use std::io::Write;
 
 // How many places an accepted tree has.
@@ -39,14 +45,9 @@ fn print_accepted<W: Write>(alloc: Global, tree: &Tree, out: &mut W) -> Result<u
     Ok(DONE)
 }
 
-/// Writes why a configuration is refused; where that is running out of memory, it is the error, and nothing was written.
-pub fn print_refused<W: Write>(
-    config: &Config,
-    reason: &Reason,
-    out: &mut W,
-) -> Result<u8, RunFault>
-    requires { IsJudged config.now.tree reason.now }
-    ensures ok { IfOk result (λ status. (status ≡ 1) × PrintsRefused config.now (W.contents out.old) (W.contents out.new)) }
+// Writes the line of a reason; where that is running out of memory, it is the error, and nothing was written.
+fn print_reason<W: Write>(config: &Config, reason: &Reason, out: &mut W) -> Result<u8, RunFault>
+    ensures ok { IfOk result (λ status. (status ≡ 1) × IsTold reason.now × Appends (W.contents out.old) (W.contents out.new) (refusal_line config.now.servers reason.now)) }
     ensures err { IfErr result (StopsUnwritten (W.contents out.old) (W.contents out.new)) }
 {
     match reason {
@@ -58,6 +59,58 @@ pub fn print_refused<W: Write>(
     }
 }
 
+/// Writes why a configuration is refused; where that is running out of memory, it is the error, and nothing was written.
+pub fn print_refused<W: Write>(
+    config: &Config,
+    reason: &Reason,
+    out: &mut W,
+) -> Result<u8, RunFault>
+    requires { IsJudged config.now.tree reason.now }
+    ensures ok { IfOk result (λ status. (status ≡ 1) × PrintsRefused config.now (W.contents out.old) (W.contents out.new)) }
+    ensures err { IfErr result (StopsUnwritten (W.contents out.old) (W.contents out.new)) }
+{
+    print_reason(config, reason, out)
+}
+
+// The script that shows why a configuration is refused, if that is a gap that has one.
+fn run_of(alloc: Global, config: &Config, reason: &Reason) -> Result<Option<Script>, AllocError>
+    requires { IsJudged config.now.tree reason.now }
+    ensures { IfOk result (λ found. ShowsReason config.now.tree reason.now (run_lines found)) }
+{
+    match reason {
+        Reason::Uncovered(gap) => refusal_run(alloc, config, gap),
+        _ => Ok(None),
+    }
+}
+
+// Writes the lines of a script, if there is one.
+fn print_run<W: Write>(run: &Option<Script>, out: &mut W) -> io::Result<()>
+    ensures { OnOk result (Appends (W.contents out.old) (W.contents out.new) (run_lines run.now)) }
+{
+    match run {
+        Some(script) => write_script(script, out),
+        None => Ok(()),
+    }
+}
+
+// Writes why a configuration is refused, and the script that shows it. The script is looked for before that, so that nothing was
+// written where memory for it was refused.
+fn check_refused<W: Write>(
+    alloc: Global,
+    config: &Config,
+    reason: &Reason,
+    out: &mut W,
+) -> Result<u8, RunFault>
+    requires { IsJudged config.now.tree reason.now }
+    ensures ok { IfOk result (λ status. (status ≡ 1) × ChecksRefused config.now (W.contents out.old) (W.contents out.new)) }
+    ensures err { IfErr result (StopsUnwritten (W.contents out.old) (W.contents out.new)) }
+{
+    let run = run_of(alloc, config, reason)?;
+    let status = print_reason(config, reason, out)?;
+    print_run(&run, out)?;
+    Ok(status)
+}
+
 // Judges a configuration, and writes the verdict.
 fn check_config<W: Write>(alloc: Global, config: Config, out: &mut W) -> Result<u8, RunFault>
     ensures ok { IfOk result (ChecksConfig config (W.contents out.old) (W.contents out.new)) }
@@ -65,7 +118,7 @@ fn check_config<W: Write>(alloc: Global, config: Config, out: &mut W) -> Result<
 {
     match judge(alloc, config) {
         Ok(accepted) => print_accepted(alloc, accepted.config().tree(), out),
-        Err(refused) => print_refused(&refused.config, &refused.reason, out),
+        Err(refused) => check_refused(alloc, &refused.config, &refused.reason, out),
     }
 }
 
@@ -96,11 +149,12 @@ fn check_text<W: Write>(alloc: Global, text: &str, out: &mut W) -> Result<u8, Ru
     }
 }
 
-/// Judges the configuration that a JSON text means, and prints the verdict: `accepted places=N`, or `refused: ` and why; or the
-/// first fault of a text that is no configuration.
+/// Judges the configuration that a JSON text means, and prints the verdict: `accepted places=N`; or `refused: ` and why, and where
+/// that is a gap the lines of the script that shows it, if [`refusal_run`] finds one; or the first fault of a text that is no
+/// configuration.
 ///
 /// The answer is the exit status of what was printed, [`DONE`], [`REFUSED`] or [`BAD_INPUT`]; or else `NO_MEMORY` where memory
-/// was refused: then nothing was printed; or `WRITER` where the output could not be written: then a part of the line may have been.
+/// was refused: then nothing was printed; or `WRITER` where the output could not be written: then a part of the lines may have been.
 ///
 /// Source: mcgate's own.
 pub fn run_check<W: Write>(alloc: Global, text: &str, out: &mut W) -> u8

@@ -41,7 +41,12 @@ fn key_lengths_and_longest_prefix(rt: HostRuntime) -> Result<(), Fail> {
 #[test]
 fn failover_leak(rt: HostRuntime) -> Result<(), Fail> {
     let route = r#"{"type":"FailoverRoute","children":["PoolRoute|A","PoolRoute|B"]}"#;
-    let printed = "refused: server=127.0.0.1:5001 read=get delete=delete prefix= residue=0/1\n";
+    let printed = r#"refused: server=127.0.0.1:5001 read=get delete=delete prefix= residue=0/1
+hold 0 k0 1
+fail 1 before
+> 0 delete k0\r\n
+> 0 get k0\r\n
+"#;
     assert!(rt; is_printed(rt.alloc(), route, REFUSED, printed)?);
     Ok(())
 }
@@ -57,7 +62,11 @@ fn all_sync_delete_over_failover(rt: HostRuntime) -> Result<(), Fail> {
 #[test]
 fn warm_up_leak(rt: HostRuntime) -> Result<(), Fail> {
     let route = r#"{"type":"WarmUpRoute","cold":"PoolRoute|A","warm":"PoolRoute|B","exptime":0}"#;
-    let printed = "refused: server=127.0.0.1:5002 read=get delete=delete prefix= residue=0/1\n";
+    let printed = r#"refused: server=127.0.0.1:5002 read=get delete=delete prefix= residue=0/1
+hold 1 k0 1
+> 0 delete k0\r\n
+> 0 get k0\r\n
+"#;
     assert!(rt; is_printed(rt.alloc(), route, REFUSED, printed)?);
     Ok(())
 }
@@ -74,7 +83,11 @@ fn warm_up_accepted(rt: HostRuntime) -> Result<(), Fail> {
 fn pools_of_two_and_three(rt: HostRuntime) {
     let text =
         r#"{"pools":{"D":{"servers":["h:1","h:2","h:3"]},"R":{"servers":["h:1","h:2"]}},"route":{"type":"OperationSelectorRoute","default_policy":"PoolRoute|R","operation_policies":{"delete":"PoolRoute|D"}}}"#;
-    let printed = "refused: server=h:1 read=get delete=delete prefix= residue=2/6\n";
+    let printed = r#"refused: server=h:1 read=get delete=delete prefix= residue=2/6
+hold 0 k6 1
+> 0 delete k6\r\n
+> 0 get k6\r\n
+"#;
     assert!(rt; prints(rt.alloc(), text, REFUSED, printed));
 }
 
@@ -82,7 +95,11 @@ fn pools_of_two_and_three(rt: HostRuntime) {
 fn null_delete_and_first_of_worst(rt: HostRuntime) -> Result<(), Fail> {
     let route =
         r#"{"type":"OperationSelectorRoute","default_policy":"PoolRoute|A","operation_policies":{"delete":"NullRoute"}}"#;
-    let printed = "refused: server=127.0.0.1:5001 read=get delete=delete prefix= residue=0/1\n";
+    let printed = r#"refused: server=127.0.0.1:5001 read=get delete=delete prefix= residue=0/1
+hold 0 k0 1
+> 0 delete k0\r\n
+> 0 get k0\r\n
+"#;
     assert!(rt; is_printed(rt.alloc(), route, REFUSED, printed)?);
     let route =
         r#"{"type":"OperationSelectorRoute","default_policy":{"type":"AllSyncRoute","children":["PoolRoute|A","PoolRoute|B"]},"operation_policies":{"delete":"PoolRoute|A"}}"#;

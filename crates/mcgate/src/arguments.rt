@@ -65,7 +65,8 @@ const CHECK_HELP: &str = "usage: mcgate check [FILE]
 Reads a configuration in JSON, of FILE or of standard input, and prints the gate's verdict:
   accepted places=N      no run of the tree shows deleted data; the keys have N places
   refused: server=A read=OP delete=D prefix=P residue=R/L
-                         at this place a read OP may be answered from server A, which a delete D may leave as it was
+                         at this place a read OP may be answered from server A, which a delete D may leave as it was;
+                         the events of a script that shows it follow, where one is found
   refused: too many places
                          there are more than 262,144
   config: ..             the first fault of what is no configuration

@@ -7,5 +7,5 @@ use Rattle.config_check.proofs.checking.check_config.Goals as goal
 pub print_accepted-requires : goal.print_accepted-requires
 print_accepted-requires g c = certified_in_use _ _ _ _ c.in-Ok.ensures.accepted.0 c.config.ensures.config c.tree.ensures.tree c.in-Ok.ensures.accepted.1
 
-pub print_refused-requires : goal.print_refused-requires
-print_refused-requires g c = subst (λ (k : Configuration). IsJudged k.tree c.in-Err.refused.reason) (sym c.in-Err.ensures.refused.0) c.in-Err.ensures.refused.1
+pub check_refused-requires : goal.check_refused-requires
+check_refused-requires g c = subst (λ (k : Configuration). IsJudged k.tree c.in-Err.refused.reason) (sym c.in-Err.ensures.refused.0) c.in-Err.ensures.refused.1
