@@ -4,6 +4,3 @@
 pub mod driving;
 
 pub use driving::drive;
-
-#[cfg(test)]
-mod tests;
