@@ -28,9 +28,10 @@ fn of_classic(read: text_requests::Read) -> Read
     ensures { (bytes : List ℕ) (found : texts.Found) → texts.IsMeant bytes read found → IsMeant bytes result (lift_found Classic found) }
 {
     match read {
+        // It returns by itself: the value of a match is copied once more.
+        text_requests::Read::Request(request) => return Read::Request(Request::Classic(request)),
         text_requests::Read::More => Read::More,
         text_requests::Read::TooLong => Read::TooLong,
-        text_requests::Read::Request(request) => Read::Request(Request::Classic(request)),
         text_requests::Read::Refused { why, used, skip } => Read::Refused { why, used, skip },
     }
 }
@@ -39,9 +40,10 @@ fn of_meta(read: meta_requests::Read) -> Read
     ensures { (bytes : List ℕ) (found : metas.Found) → metas.IsMeant bytes read found → IsMeant bytes result (lift_found Meta found) }
 {
     match read {
+        // It returns by itself: the value of a match is copied once more.
+        meta_requests::Read::Request(request) => return Read::Request(Request::Meta(request)),
         meta_requests::Read::More => Read::More,
         meta_requests::Read::TooLong => Read::TooLong,
-        meta_requests::Read::Request(request) => Read::Request(Request::Meta(request)),
         meta_requests::Read::Refused { why, used, skip } => Read::Refused { why, used, skip },
     }
 }

@@ -134,9 +134,10 @@ impl Asks {
         ensures walk { IsWalk bytes.now self.new }
         ensures err { OnErr result (self.new ≡ self.old) }
     {
+        // Each arm returns by itself: the value of a match is copied once more.
         match self {
-            Asks::Classic(walk) => walk.next(alloc, bytes),
-            Asks::Meta(walk) => walk.next(alloc, bytes),
+            Asks::Classic(walk) => return walk.next(alloc, bytes),
+            Asks::Meta(walk) => return walk.next(alloc, bytes),
         }
     }
 }

@@ -27,18 +27,18 @@ flags_in-take n bytes kind flags h = let front = length-front n bytes in ap word
 
 -- the spans of a command in the front of the bytes
 pub order_in-take : (n : ℕ) (bytes : List ℕ) (command : Command) → LiesIn (take n bytes) command → order_in (take n bytes) command ≡ order_in bytes command
-order_in-take n bytes (commands.Keyed key flags len kind) h = rw (text_at-take n bytes key (IsIn-le _ n key (length-front n bytes) h.0).within, flags_in-take n bytes kind flags h.1) refl
+order_in-take n bytes (commands.Keyed kind len key flags) h = rw (text_at-take n bytes key (IsIn-le _ n key (length-front n bytes) h.0).within, flags_in-take n bytes kind flags h.1) refl
 order_in-take n bytes (commands.Own own) h = refl
 
 pub LiesIn-take : (n : ℕ) (bytes : List ℕ) (command : Command) → LiesIn (take n bytes) command → LiesIn bytes command
-LiesIn-take n bytes (commands.Keyed key flags len kind) h = (
+LiesIn-take n bytes (commands.Keyed kind len key flags) h = (
   IsIn-le _ _ key (length-part n bytes) h.0,
   record { span = IsIn-le _ _ flags.span (length-part n bytes) h.1.span; values = h.1.values ∙ ap (values_of kind) (flags_in-take n bytes kind flags h.1) },
 )
 LiesIn-take n bytes (commands.Own own) h = tt
 
 block_len-order_in : (bytes : List ℕ) (command : Command) → block_len (order_in bytes command) ≡ command_block_len command
-block_len-order_in bytes (commands.Keyed key flags len kind) = refl
+block_len-order_in bytes (commands.Keyed kind len key flags) = refl
 block_len-order_in bytes (commands.Own own) = refl
 
 -- a line that asks something means that, with what follows it

@@ -62,7 +62,7 @@ read-more letter read (first ∷ before) word =
     ap (λ r. or_else r (says letter read first)) (read-more letter read before word) ∙ else_else (says letter read word) (read_in letter read before) (says letter read first)
 
 pub values-more : (kind : Kind) (before : List Word) (word : Word) → values_of kind (before ++ word ∷ []) ≡ value_more kind word (values_of kind before)
-values-more kind before word = rw (read-more 67 _ before word, read-more 68 _ before word, read-more 84 _ before word, read-more 70 _ before word, read-more 77 _ before word, stands-more 113 before word) refl
+values-more kind before word = rw (stands-more 113 before word, read-more 77 _ before word, read-more 70 _ before word, read-more 67 _ before word, read-more 68 _ before word, read-more 84 _ before word) refl
 
 -- the flags before a place of a line were tested, and those from there on are next
 pub record IsAt (kind : Kind) (line : List ℕ) (at from : ℕ) (seen : List Bool) (values : Values) : Type 0 where

@@ -245,9 +245,9 @@ pub request_sound : (bytes : List ℕ) (r : Request) (command : Command) → IsR
 request_sound bytes r command h is = let s = is_served bytes (order_in bytes r.command) (text_at bytes r.block) r.used h.begins in subst (λ (k : Command). IsSound (order_in bytes k)) is s.sound
 
 -- the ask that is made of it
-pub made : (bytes : List ℕ) (r : Request) (key : Span) (flags : Flags) (len : Option ℕ) (kind : Kind) (k : Word) (t : List Token) (b : List ℕ) (ask : Ask) → IsReadFrom bytes r → r.command ≡ commands.Keyed key flags len kind → k ≡ text_at bytes key → t ≡ tokens_in (flags_in bytes flags) → b ≡ text_at bytes r.block → ask ≡ ask_by kind k flags.values t b → IsMetaAsk ask
+pub made : (bytes : List ℕ) (r : Request) (key : Span) (flags : Flags) (len : Option ℕ) (kind : Kind) (k : Word) (t : List Token) (b : List ℕ) (ask : Ask) → IsReadFrom bytes r → r.command ≡ commands.Keyed kind len key flags → k ≡ text_at bytes key → t ≡ tokens_in (flags_in bytes flags) → b ≡ text_at bytes r.block → ask ≡ ask_by kind k flags.values t b → IsMetaAsk ask
 made bytes r key flags len kind k t b ask h is ke te be e =
-    let command = commands.Keyed key flags len kind in
+    let command = commands.Keyed kind len key flags in
     let lies : LiesIn bytes command = subst (LiesIn bytes) is h.placed.command in
     let served = is_served bytes (order_in bytes r.command) (text_at bytes r.block) r.used h.begins in
     let full : ask_by kind k flags.values t b ≡ ask_by kind (text_at bytes key) (values_of kind (flags_in bytes flags)) (tokens_in (flags_in bytes flags)) (text_at bytes r.block) = rw (ke, te, be, lies.1.values) refl in

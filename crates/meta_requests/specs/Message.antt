@@ -20,7 +20,7 @@ Message = parts.Message Order
 
 -- the length of the data block after a command, where one follows
 abbrev pub command_block_len : Command → Option ℕ
-command_block_len (commands.Keyed key flags n kind) = n
+command_block_len (commands.Keyed kind n key flags) = n
 command_block_len (commands.Own own) = None
 
 -- a message, and how many bytes it takes; none where more must come

@@ -18,7 +18,7 @@ flags_in text flags = words (text_at text flags.span)
 
 -- the order that a command with its spans is
 abbrev pub order_in : List ℕ → Command → Order
-order_in text (commands.Keyed key flags n kind) = Asking kind (text_at text key) n (flags_in text flags)
+order_in text (commands.Keyed kind n key flags) = Asking kind (text_at text key) n (flags_in text flags)
 order_in text (commands.Own own) = OfItself own
 
 -- the span lies in the text, and the values are those of its flags
@@ -28,7 +28,7 @@ pub record AreFlags (kind : Kind) (text : List ℕ) (flags : Flags) : Type 0 whe
 
 -- each span of the command lies in the text
 abbrev pub LiesIn : List ℕ → Command → Type 0
-LiesIn text (commands.Keyed key flags n kind) = IsIn (length text) key × AreFlags kind text flags
+LiesIn text (commands.Keyed kind n key flags) = IsIn (length text) key × AreFlags kind text flags
 LiesIn text (commands.Own own) = Unit {0}
 
 -- which letters stand among these flags

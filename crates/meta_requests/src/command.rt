@@ -27,20 +27,22 @@ pub enum Verb {
 }
 
 /// What the flags with a value say, and whether `q` stands among them.
+//
+// The short fields come first, here and in a command: so they share a word, and copying a request is quicker.
 #[derive(Clone, Copy)]
 pub struct Values {
+    /// `q`
+    pub quiet: bool,
+    /// `M`: which store, or whether is counted up or down.
+    pub mode: Option<Op>,
+    /// `F`: the flags that a store keeps beside the data.
+    pub flags: Option<u32>,
     /// `C`: the cas number that has to be equal.
     pub cas: Option<u64>,
     /// `D`: by how much is counted.
     pub delta: Option<u64>,
     /// `T`, as the protocol writes an exptime.
     pub exptime: Option<i64>,
-    /// `F`: the flags that a store keeps beside the data.
-    pub flags: Option<u32>,
-    /// `M`: which store, or whether is counted up or down.
-    pub mode: Option<Op>,
-    /// `q`
-    pub quiet: bool,
 }
 
 /// The flags of a line: where they stand, with the spaces around them, and what they say.
@@ -55,11 +57,11 @@ pub struct Flags {
 pub enum Command {
     /// `mg`, `ms`, `md` and `ma`.
     Keyed {
-        key: Span,
-        flags: Flags,
+        kind: Kind,
         /// How many bytes of data follow the line: of `ms` alone.
         length: Option<u32>,
-        kind: Kind,
+        key: Span,
+        flags: Flags,
     },
     /// `mn`.
     Own(Own),

@@ -1,11 +1,14 @@
 //! Which bytes of a line may stand in a key.
-ghost use Rattle.std.specs.Prelude.{◌≡◌, ◌≤◌, ◌&&◌, true, take, length, fold, position};
+ghost use Rattle.std.specs.Prelude.{◌≡◌, ◌≤◌, ◌<◌, ◌&&◌, true, take, length, fold, position};
 ghost use Rattle.std.specs.List.{position_or_len, list_all};
 ghost use Rattle.mc_types.specs.KeyText.{is_key_byte, is_bad_byte};
 
 // Most bytes of a line are those of keys. So many are tested together, without a branch for each: a processor does that
 // in a few steps.
 const GROUP: usize = 16;
+
+// What is left of a key is tested by so many: most keys end in the middle of a group.
+const PART: usize = 4;
 
 fn tested(group: &[u8]) -> bool
     ensures { result ≡ fold (λ good b. good && is_key_byte b) true group.now }
@@ -21,14 +24,17 @@ fn are_good(group: &[u8]) -> bool
     tested(group)
 }
 
-// the bytes of the groups at the front in which no other byte stands
-fn groups_len(text: &[u8]) -> usize
+// where the groups of this size end that stand from a place on with no other byte in them, if none stands before it
+fn groups_end(text: &[u8], from: usize, size: usize) -> usize
+    requires size { 0 < size }
+    requires within { from ≤ length text.now }
+    requires good { list_all is_key_byte (take from text.now) ≡ true }
     ensures within { result ≤ length text.now }
     ensures good { list_all is_key_byte (take result text.now) ≡ true }
 {
-    let mut len = 0;
-    while text.len() - len >= GROUP && are_good(&text[len..len + GROUP]) {
-        len += GROUP;
+    let mut len = from;
+    while text.len() - len >= size && are_good(&text[len..len + size]) {
+        len += size;
     }
     len
 }
@@ -51,7 +57,8 @@ pub fn key_len(text: &[u8]) -> usize
     ensures value { result ≡ position_or_len is_bad_byte text.now }
     ensures within { result ≤ length text.now }
 {
-    let len = groups_len(text);
+    let groups = groups_end(text, 0, GROUP);
+    let len = groups_end(text, groups, PART);
     len + rest_len(&text[len..])
 }
 

@@ -119,7 +119,7 @@ impl TextStream {
             return Read::More;
         }
         match self.skip {
-            Skip::Nothing => read_request(self.held.as_slice()),
+            Skip::Nothing => return read_request(self.held.as_slice()),
             Skip::Bytes(_) | Skip::ThroughNewline => Read::More,
         }
     }

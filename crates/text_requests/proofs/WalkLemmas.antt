@@ -22,14 +22,14 @@ use Rattle.text_requests.proofs.StreamLemmas.{read_still}
 use Rattle.text_requests.proofs.AskLemmas.{request_sound, keys_line, found, taken_next, taken_all, of_message}
 
 -- a key of a line is one
-pub key_there : (bytes : List ℕ) (r : Request) (e : Option ℤ) (w : Bool) (keys : Keys) (i : ℕ) (text : Word) → IsReadFrom bytes r → r.command ≡ commands.Retrieval e w keys → slice_get (keys_in bytes keys) i ≡ Some text → IsKey text
-key_there bytes r e w keys i text h is there = found IsKey (keys_in bytes keys) i text (request_sound bytes r (commands.Retrieval e w keys) h is).0 there
+pub key_there : (bytes : List ℕ) (r : Request) (e : Option ℤ) (w : Bool) (keys : Keys) (i : ℕ) (text : Word) → IsReadFrom bytes r → r.command ≡ commands.Retrieval w e keys → slice_get (keys_in bytes keys) i ≡ Some text → IsKey text
+key_there bytes r e w keys i text h is there = found IsKey (keys_in bytes keys) i text (request_sound bytes r (commands.Retrieval w e keys) h is).0 there
 
-pub nth_ask : (bytes block : List ℕ) (command : Command) (e : Option ℤ) (w : Bool) (keys : Keys) (i : ℕ) (text : Word) → command ≡ commands.Retrieval e w keys → slice_get (keys_in bytes keys) i ≡ Some text
+pub nth_ask : (bytes block : List ℕ) (command : Command) (e : Option ℤ) (w : Bool) (keys : Keys) (i : ℕ) (text : Word) → command ≡ commands.Retrieval w e keys → slice_get (keys_in bytes keys) i ≡ Some text
     → slice_get (asks_by (order_in bytes command) block) i ≡ Some (retrieval_ask e w text)
 nth_ask bytes block command e w keys i text is there = ap (λ (k : Command). slice_get (asks_by (order_in bytes k) block) i) is ∙ slice_get-map (retrieval_ask e w) (keys_in bytes keys) i ∙ ap (option_map (retrieval_ask e w)) there
 
-pub no_ask : (bytes block : List ℕ) (command : Command) (e : Option ℤ) (w : Bool) (keys : Keys) (i : ℕ) → command ≡ commands.Retrieval e w keys → slice_get (keys_in bytes keys) i ≡ None
+pub no_ask : (bytes block : List ℕ) (command : Command) (e : Option ℤ) (w : Bool) (keys : Keys) (i : ℕ) → command ≡ commands.Retrieval w e keys → slice_get (keys_in bytes keys) i ≡ None
     → slice_get (asks_by (order_in bytes command) block) i ≡ None
 no_ask bytes block command e w keys i is none = ap (λ (k : Command). slice_get (asks_by (order_in bytes k) block) i) is ∙ slice_get-map (retrieval_ask e w) (keys_in bytes keys) i ∙ ap (option_map (retrieval_ask e w)) none
 
@@ -60,7 +60,7 @@ only_ask o block a i is lt =
     let few : i < 1 = omega (arith, ap length one) in
     rw one (first a i few)
 
-pub stands : (bytes : List ℕ) (command : Command) (e : Option ℤ) (w : Bool) (keys : Keys) (at taken : ℕ) → command ≡ commands.Retrieval e w keys → IsAt bytes command at taken → StandsAt bytes keys at taken
+pub stands : (bytes : List ℕ) (command : Command) (e : Option ℤ) (w : Bool) (keys : Keys) (at taken : ℕ) → command ≡ commands.Retrieval w e keys → IsAt bytes command at taken → StandsAt bytes keys at taken
 stands bytes command e w keys at taken is h = subst (λ (k : Command). IsAt bytes k at taken) is h
 
 pub all_taken : (bytes : List ℕ) (keys : Keys) (at taken : ℕ) → StandsAt bytes keys at taken → words (drop at (take keys.span.end bytes)) ≡ [] → slice_get (keys_in bytes keys) taken ≡ None
@@ -80,13 +80,13 @@ few_taken bytes keys at taken word a h next =
     let left = taken_next (keys_in bytes keys) taken (text_at (take keys.span.end bytes) word) (words (drop word.end (take keys.span.end bytes))) (sym next.first ∙ h.rest) in
     omega (arith, left.2, a.count)
 
-pub back_at : (bytes : List ℕ) (command : Command) (e : Option ℤ) (w : Bool) (keys : Keys) (at taken : ℕ) → command ≡ commands.Retrieval e w keys → StandsAt bytes keys at taken → IsAt bytes command at taken
+pub back_at : (bytes : List ℕ) (command : Command) (e : Option ℤ) (w : Bool) (keys : Keys) (at taken : ℕ) → command ≡ commands.Retrieval w e keys → StandsAt bytes keys at taken → IsAt bytes command at taken
 back_at bytes command e w keys at taken is h = subst (λ (k : Command). IsAt bytes k at taken) (sym is) h
 
 pub at_first : (bytes : List ℕ) (keys : Keys) → AreIn bytes keys → StandsAt bytes keys keys.span.start 0
 at_first bytes keys h = record { within = h.span.ordered; rest = keys_line bytes keys h.span }
 
-pub lies : (bytes : List ℕ) (r : Request) (e : Option ℤ) (w : Bool) (keys : Keys) → IsReadFrom bytes r → r.command ≡ commands.Retrieval e w keys → AreIn bytes keys
+pub lies : (bytes : List ℕ) (r : Request) (e : Option ℤ) (w : Bool) (keys : Keys) → IsReadFrom bytes r → r.command ≡ commands.Retrieval w e keys → AreIn bytes keys
 lies bytes r e w keys h is = subst (λ (k : Command). LiesIn bytes k) is h.placed.command
 
 pub first_ask : (o : Order) (block : List ℕ) (a : Ask) (i : ℕ) → single_ask o block ≡ Some a → i ≡ 0 → slice_get (asks_by o block) i ≡ Some a
@@ -94,22 +94,22 @@ first_ask o block a i is e = rw (one_ask o block a is, e) refl
 
 -- a request of one key has no place
 pub single_at : (bytes block : List ℕ) (command : Command) (at taken : ℕ) (a : Ask) → single_ask (order_in bytes command) block ≡ Some a → IsAt bytes command at taken
-single_at bytes block (commands.Retrieval e w keys) at taken a is = absurd cc
-single_at bytes block (commands.Storage kind stored quiet) at taken a is = tt
-single_at bytes block (commands.Swapping stored cas quiet) at taken a is = tt
-single_at bytes block (commands.Deletion key quiet) at taken a is = tt
-single_at bytes block (commands.Touching key exptime quiet) at taken a is = tt
-single_at bytes block (commands.Counting up key delta quiet) at taken a is = tt
+single_at bytes block (commands.Retrieval w e keys) at taken a is = absurd cc
+single_at bytes block (commands.Storage kind quiet stored) at taken a is = tt
+single_at bytes block (commands.Swapping quiet stored cas) at taken a is = tt
+single_at bytes block (commands.Deletion quiet key) at taken a is = tt
+single_at bytes block (commands.Touching quiet key exptime) at taken a is = tt
+single_at bytes block (commands.Counting up quiet key delta) at taken a is = tt
 single_at bytes block (commands.Own own) at taken a is = tt
 
 -- a walk begins at the first ask
 pub at_start : (bytes : List ℕ) (command : Command) → LiesIn bytes command → IsAt bytes command (first_place command) 0
-at_start bytes (commands.Retrieval e w keys) lies = at_first bytes keys lies
-at_start bytes (commands.Storage kind stored quiet) lies = tt
-at_start bytes (commands.Swapping stored cas quiet) lies = tt
-at_start bytes (commands.Deletion key quiet) lies = tt
-at_start bytes (commands.Touching key exptime quiet) lies = tt
-at_start bytes (commands.Counting up key delta quiet) lies = tt
+at_start bytes (commands.Retrieval w e keys) lies = at_first bytes keys lies
+at_start bytes (commands.Storage kind quiet stored) lies = tt
+at_start bytes (commands.Swapping quiet stored cas) lies = tt
+at_start bytes (commands.Deletion quiet key) lies = tt
+at_start bytes (commands.Touching quiet key exptime) lies = tt
+at_start bytes (commands.Counting up quiet key delta) lies = tt
 at_start bytes (commands.Own own) lies = tt
 
 pub starts : (bytes : List ℕ) (r : Request) (at : ℕ) → at ≡ first_place r.command → IsReadFrom bytes r → IsWalk bytes (record { request = r; at = at; taken = 0 })
@@ -120,15 +120,15 @@ front_is bytes more n le = take-append-le n bytes more le
 
 -- a walk goes on when more has come
 still_at : (bytes more : List ℕ) (command : Command) (at taken : ℕ) → LiesIn bytes command → LiesIn (bytes ++ more) command → IsAt bytes command at taken → IsAt (bytes ++ more) command at taken
-still_at bytes more (commands.Retrieval e w keys) at taken a b h =
+still_at bytes more (commands.Retrieval w e keys) at taken a b h =
     let front = front_is bytes more keys.span.end a.span.within in
     let same : keys_in bytes keys ≡ keys_in (bytes ++ more) keys = sym (keys_line bytes keys a.span) ∙ ap (λ (t : List ℕ). words (drop keys.span.start t)) (sym front) ∙ keys_line (bytes ++ more) keys b.span in
     record { within = h.within; rest = ap (λ (t : List ℕ). words (drop at t)) front ∙ h.rest ∙ ap (drop taken) same }
-still_at bytes more (commands.Storage kind stored quiet) at taken a b h = tt
-still_at bytes more (commands.Swapping stored cas quiet) at taken a b h = tt
-still_at bytes more (commands.Deletion key quiet) at taken a b h = tt
-still_at bytes more (commands.Touching key exptime quiet) at taken a b h = tt
-still_at bytes more (commands.Counting up key delta quiet) at taken a b h = tt
+still_at bytes more (commands.Storage kind quiet stored) at taken a b h = tt
+still_at bytes more (commands.Swapping quiet stored cas) at taken a b h = tt
+still_at bytes more (commands.Deletion quiet key) at taken a b h = tt
+still_at bytes more (commands.Touching quiet key exptime) at taken a b h = tt
+still_at bytes more (commands.Counting up quiet key delta) at taken a b h = tt
 still_at bytes more (commands.Own own) at taken a b h = tt
 
 pub walk_still : WalkStill

@@ -115,12 +115,12 @@ pub record StandsAt (bytes : List ℕ) (keys : Keys) (at taken : ℕ) : Type 0 w
 
 -- the same of a command: one with a single key has no place
 abbrev pub IsAt : List ℕ → Command → ℕ → ℕ → Type 0
-IsAt bytes (commands.Retrieval exptime with_cas keys) at taken = StandsAt bytes keys at taken
+IsAt bytes (commands.Retrieval with_cas exptime keys) at taken = StandsAt bytes keys at taken
 IsAt bytes _ at taken = Unit {0}
 
 -- where the keys begin
 abbrev pub first_place : Command → ℕ
-first_place (commands.Retrieval exptime with_cas keys) = keys.span.start
+first_place (commands.Retrieval with_cas exptime keys) = keys.span.start
 first_place _ = 0
 
 -- a walk over the asks of a request of these bytes

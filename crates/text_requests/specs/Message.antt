@@ -20,8 +20,8 @@ Message = parts.Message Order
 
 -- the length of the data block after a command, where one follows
 abbrev pub command_block_len : Command → Option ℕ
-command_block_len (commands.Storage kind stored quiet) = Some stored.length
-command_block_len (commands.Swapping stored cas quiet) = Some stored.length
+command_block_len (commands.Storage kind quiet stored) = Some stored.length
+command_block_len (commands.Swapping quiet stored cas) = Some stored.length
 command_block_len _ = None
 
 -- a message, and how many bytes it takes; none where more must come

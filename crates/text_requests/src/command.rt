@@ -50,43 +50,45 @@ pub struct Keys {
 }
 
 /// What a line asks, by the places of its keys. `quiet` says that `noreply` stands on it.
+//
+// The short fields come first: they stand in the variant's own word, and no further word is half empty.
 #[derive(Clone, Copy)]
 pub enum Command {
     /// `get` and `gets`, with an exptime `gat` and `gats`.
     Retrieval {
-        exptime: Option<i64>,
         with_cas: bool,
+        exptime: Option<i64>,
         keys: Keys,
     },
     /// `set`, `add`, `replace`, `append` and `prepend`.
     Storage {
         kind: StoreKind,
-        stored: Stored,
         quiet: bool,
+        stored: Stored,
     },
     /// `cas`.
     Swapping {
+        quiet: bool,
         stored: Stored,
         cas: u64,
-        quiet: bool,
     },
     /// `delete`.
     Deletion {
-        key: Span,
         quiet: bool,
+        key: Span,
     },
     /// `touch`.
     Touching {
+        quiet: bool,
         key: Span,
         exptime: i64,
-        quiet: bool,
     },
     /// `incr` and `decr`.
     Counting {
         up: bool,
+        quiet: bool,
         key: Span,
         delta: u64,
-        quiet: bool,
     },
     /// `version` and `quit`.
     Own(Own),

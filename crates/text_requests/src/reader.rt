@@ -57,15 +57,16 @@ pub fn read_behind(bytes: &[u8], end: usize, used: usize, first: Span) -> Read
     ensures { IsMeant bytes.now result (meaning (take (used - 1) bytes.now) (drop used bytes.now)) }
 {
     let text = &bytes[..end];
+    // Each arm returns by itself: the value of a match in a match is copied at each level.
     match command(text, first) {
-        Err(why) => Read::Refused {
+        Err(why) => return Read::Refused {
             why,
             used,
             skip: skip(text),
         },
         Ok(command) => match block_len(&command) {
-            Some(len) => with_block(bytes, used, command, len),
-            None => Read::Request(Request {
+            Some(len) => return with_block(bytes, used, command, len),
+            None => return Read::Request(Request {
                 command,
                 block: Span {
                     start: used,

@@ -219,6 +219,7 @@ impl Asks {
         ensures walk { IsWalk bytes.now self.new }
         ensures err { OnErr result (self.new ≡ self.old) }
     {
+        // Each arm returns by itself: the value of a match in a match is copied at each level.
         match self.request.command {
             Command::Retrieval {
                 exptime,
@@ -227,11 +228,11 @@ impl Asks {
             } => {
                 let line = &bytes[..keys.span.end];
                 match next_word(line, self.at) {
-                    None => Ok(None),
+                    None => return Ok(None),
                     Some(word) => {
                         self.at = word.end;
                         self.taken += 1;
-                        Ok(Some(retrieved(alloc, key_at(line, word), exptime, with_cas)))
+                        return Ok(Some(retrieved(alloc, key_at(line, word), exptime, with_cas)));
                     }
                 }
             }
@@ -240,10 +241,10 @@ impl Asks {
                     return Ok(None);
                 }
                 match single(alloc, bytes, &self.request)? {
-                    None => Ok(None),
+                    None => return Ok(None),
                     Some(ask) => {
                         self.taken = 1;
-                        Ok(Some(ask))
+                        return Ok(Some(ask));
                     }
                 }
             }

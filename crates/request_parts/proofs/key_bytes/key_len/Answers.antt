@@ -5,5 +5,5 @@ use Rattle.request_parts.proofs.key_bytes.key_len.Goals as goal
 
 pub returns-clause-value : goal.returns-clause-value
 returns-clause-value c =
-    let len = c.groups_len-len.result in
-    ap (λ n. len + n) (rw (rest_is c.args.text.now len) at c.rest_len.ensures.value) ∙ behind_good len c.args.text.now c.groups_len-len.ensures.within c.groups_len-len.ensures.good
+    let len = c.groups_end-len.result in
+    ap (λ n. len + n) (rw (rest_is c.args.text.now len) at c.rest_len.ensures.value) ∙ behind_good len c.args.text.now c.groups_end-len.ensures.within c.groups_end-len.ensures.good

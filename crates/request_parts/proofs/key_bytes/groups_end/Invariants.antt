@@ -1,7 +1,7 @@
 use Rattle.std.proofs.Common.{◌≡◌, ◌≤◌, ◌-◌, true, length, take}
 use Rattle.std.specs.List.{list_all}
 use Rattle.mc_types.specs.KeyText.{is_key_byte}
-use Rattle.request_parts.proofs.key_bytes.groups_len.Given as goal
+use Rattle.request_parts.proofs.key_bytes.groups_end.Given as goal
 
 abbrev pub invariant-loop-len : goal.invariant-loop-len
 invariant-loop-len l = record {
