@@ -43,29 +43,34 @@ impl Connection {
         self.stream.feed(piece)
     }
 
-    /// A refused message is answered and done.
+    /// A refused message is answered and done. The only error is running out of memory, which leaves the connection as it was.
     pub fn refuse(&mut self, why: Why, used: usize, skip: Skip) -> Result<(), AllocError>
         requires { used ≤ length (held_at self.old.stream) }
-        ensures { OnOk result ((held : List ℕ) → self.old.stream ≡ Stands Nothing held → GoesTo self.old (skipped skip (drop used held)) (refusal_text why) self.new) }
+        ensures ok { OnOk result ((held : List ℕ) → self.old.stream ≡ Stands Nothing held → GoesTo self.old (skipped skip (drop used held)) (refusal_text why) self.new) }
+        ensures err { OnErr result (GoesTo self.old self.old.stream [] self.new) }
     {
         write_refusal(why, &mut self.output)?;
         self.stream.pass_refused(used, skip);
         Ok(())
     }
 
-    /// A line that is too long is answered, and nothing is read any more.
+    /// A line that is too long is answered, and nothing is read any more. The only error is running out of memory, which
+    /// leaves the connection as it was.
     pub fn refuse_long_line(&mut self) -> Result<(), AllocError>
-        ensures { OnOk result (GoesTo self.old Closed long_line_text self.new) }
+        ensures ok { OnOk result (GoesTo self.old Closed long_line_text self.new) }
+        ensures err { OnErr result (GoesTo self.old self.old.stream [] self.new) }
     {
         write_long_line(&mut self.output)?;
         self.stream.close();
         Ok(())
     }
 
-    /// A message that asks mcgate itself, or nothing, is answered and done.
+    /// A message that asks mcgate itself, or nothing, is answered and done. The only error is running out of memory, which
+    /// leaves the connection as it was.
     pub fn answer_own(&mut self, own: Option<Own>, used: usize) -> Result<(), AllocError>
         requires { used ≤ length (held_at self.old.stream) }
-        ensures { OnOk result ((held : List ℕ) → self.old.stream ≡ Stands Nothing held → GoesTo self.old (behind_own own (drop used held)) (own_passed own) self.new) }
+        ensures ok { OnOk result ((held : List ℕ) → self.old.stream ≡ Stands Nothing held → GoesTo self.old (behind_own own (drop used held)) (own_passed own) self.new) }
+        ensures err { OnErr result (GoesTo self.old self.old.stream [] self.new) }
     {
         if let Some(own) = own {
             write_own(own, &mut self.output)?;
@@ -79,7 +84,8 @@ impl Connection {
 
     // The reply to a key of a message is shown, and another key is next.
     fn show_part(&mut self, quiet: bool, ask: &Ask, reply: &Answer) -> Result<(), AllocError>
-        ensures { OnOk result (GoesTo self.old self.old.stream (shown_text quiet false ask.now reply.now) self.new) }
+        ensures ok { OnOk result (GoesTo self.old self.old.stream (shown_text quiet false ask.now reply.now) self.new) }
+        ensures err { OnErr result (GoesTo self.old self.old.stream [] self.new) }
     {
         write_part(quiet, false, ask, reply, &mut self.output)
     }
@@ -94,7 +100,8 @@ impl Connection {
         used: usize,
     ) -> Result<(), AllocError>
         requires { used ≤ length (held_at self.old.stream) }
-        ensures { OnOk result ((held : List ℕ) → self.old.stream ≡ Stands Nothing held → GoesTo self.old (Stands Nothing (drop used held)) (shown_text quiet last ask.now reply.now) self.new) }
+        ensures ok { OnOk result ((held : List ℕ) → self.old.stream ≡ Stands Nothing held → GoesTo self.old (Stands Nothing (drop used held)) (shown_text quiet last ask.now reply.now) self.new) }
+        ensures err { OnErr result (GoesTo self.old self.old.stream [] self.new) }
     {
         write_part(quiet, last, ask, reply, &mut self.output)?;
         self.stream.pass_request(used);
@@ -102,7 +109,8 @@ impl Connection {
     }
 
     /// The reply to a key of the message at the front, of so many bytes, is shown: whether the message is done with it,
-    /// as with that of its last key, or with an error line. The only error is running out of memory.
+    /// as with that of its last key, or with an error line. The only error is running out of memory, which leaves the
+    /// connection as it was.
     pub fn show(
         &mut self,
         quiet: bool,
@@ -112,7 +120,8 @@ impl Connection {
         used: usize,
     ) -> Result<bool, AllocError>
         requires { used ≤ length (held_at self.old.stream) }
-        ensures { IfOk result (λ ended. Shows self.old used quiet last ask.now reply.now ended self.new) }
+        ensures ok { IfOk result (λ ended. Shows self.old used quiet last ask.now reply.now ended self.new) }
+        ensures err { OnErr result (GoesTo self.old self.old.stream [] self.new) }
     {
         if ends_message(last, reply) {
             self.show_last(quiet, last, ask, reply, used)?;

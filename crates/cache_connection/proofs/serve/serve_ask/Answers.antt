@@ -14,4 +14,4 @@ returns-clause-ok c =
     let front = c.requires.at.front in
     IfOk-weaker c.show-shown.result _ _ (λ ended shows.
     serves_ask c.args.moment.seconds x c.show-shown.new.self c.args.request.now c.args.index c.args.ask.now c.args.cache.now c.reply_to.new.cache c.in_ok-reply.reply c.used.result c.quiet.result _ ended
-    c.used.ensures c.requires.at c.in_ok-reply.ensures.ok (c.quiet.ensures _ front.read) (ap (λ n. nat_eq (c.args.index + 1) n) (c.asks-count.ensures _ front.read)) shows) c.show-shown.ensures
+    c.used.ensures c.requires.at c.in_ok-reply.ensures.ok (c.quiet.ensures _ front.read) (ap (λ n. nat_eq (c.args.index + 1) n) (c.asks-count.ensures _ front.read)) shows) c.show-shown.ensures.ok

@@ -16,7 +16,7 @@ returns-in_err-answer_own-clause-err c =
 pub returns-then-count-eq0-clause-ok : goal.returns-then-count-eq0-clause-ok
 returns-then-count-eq0-clause-ok c =
     own_done c.args.moment.seconds c.args.connection.now c.answer_own.new.self c.args.cache.now c.args.request.now c.own.result c.used.result c.used.ensures c.requires (sym (c.asks-count.ensures _ c.requires.read) ∙ c.if-count-eq0.true) (c.own.ensures _)
-    (c.in_ok-answer_own.ensures _ c.requires.place)
+    (c.in_ok-answer_own.ensures.ok _ c.requires.place)
 
 pub returns-in_err-serve_key-clause-err : goal.returns-in_err-serve_key-clause-err
 returns-in_err-serve_key-clause-err c =

@@ -17,7 +17,7 @@ loop-connection-preserved-in-Continue-1 c =
     let x = c.loop-connection.connection in
     let front = read_front x.stream reads.TooLong c.in-TooLong.ensures long_is_some in
     served_more c.args.connection.now x c.refuse_long_line.new.self c.args.router.now c.loop-connection.router c.loop-connection.router c.args.fleet.now c.loop-connection.fleet c.loop-connection.fleet c.loop-connection.invariant
-    (long_line_done x c.refuse_long_line.new.self c.loop-connection.router c.loop-connection.fleet front.0 front.1 front.2 c.in_ok-refuse_long_line-in-TooLong.ensures)
+    (long_line_done x c.refuse_long_line.new.self c.loop-connection.router c.loop-connection.fleet front.0 front.1 front.2 c.in_ok-refuse_long_line-in-TooLong.ensures.ok)
 
 pub refuse-requires : goal.refuse-requires
 refuse-requires c =
@@ -29,14 +29,14 @@ pub loop-connection-smaller-in-Continue-branch-2 : goal.loop-connection-smaller-
 loop-connection-smaller-in-Continue-branch-2 c =
     let x = c.loop-connection.connection in
     let front = read_front x.stream _ c.in-Refused.ensures (refused_is_some c.in-Refused.why c.in-Refused.used c.in-Refused.skip) in
-    (refused_done x c.refuse.new.self c.loop-connection.router c.loop-connection.fleet front.0 c.in-Refused.why c.in-Refused.used c.in-Refused.skip front.1 front.2 (c.in_ok-refuse-in-Refused.ensures front.0 front.1)).shorter
+    (refused_done x c.refuse.new.self c.loop-connection.router c.loop-connection.fleet front.0 c.in-Refused.why c.in-Refused.used c.in-Refused.skip front.1 front.2 (c.in_ok-refuse-in-Refused.ensures.ok front.0 front.1)).shorter
 
 pub loop-connection-preserved-in-Continue-branch-2 : goal.loop-connection-preserved-in-Continue-branch-2
 loop-connection-preserved-in-Continue-branch-2 c =
     let x = c.loop-connection.connection in
     let front = read_front x.stream _ c.in-Refused.ensures (refused_is_some c.in-Refused.why c.in-Refused.used c.in-Refused.skip) in
     served_more c.args.connection.now x c.refuse.new.self c.args.router.now c.loop-connection.router c.loop-connection.router c.args.fleet.now c.loop-connection.fleet c.loop-connection.fleet c.loop-connection.invariant
-    (refused_done x c.refuse.new.self c.loop-connection.router c.loop-connection.fleet front.0 c.in-Refused.why c.in-Refused.used c.in-Refused.skip front.1 front.2 (c.in_ok-refuse-in-Refused.ensures front.0 front.1))
+    (refused_done x c.refuse.new.self c.loop-connection.router c.loop-connection.fleet front.0 c.in-Refused.why c.in-Refused.used c.in-Refused.skip front.1 front.2 (c.in_ok-refuse-in-Refused.ensures.ok front.0 front.1))
 
 pub serve_request-requires-clause-front : goal.serve_request-requires-clause-front
 serve_request-requires-clause-front c =

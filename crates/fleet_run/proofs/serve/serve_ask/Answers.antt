@@ -13,4 +13,4 @@ show-shown-requires c =
 pub returns-in-Ok-clause-ok : goal.returns-in-Ok-clause-ok
 returns-in-Ok-clause-ok c =
     serves_ask c.calls_stay.ensures c.args.connection.now c.show-shown.new.self c.args.router.now c.command.new.router c.args.fleet.now c.command.new.fleet c.args.request.now c.args.index c.args.ask.now c.in_ok-reply.reply c.used.result c.quiet.result _ c.in-Ok.ended
-    c.used.ensures c.requires.at c.requires.ask c.in_ok-reply.ensures.ok (c.quiet.ensures c.requires.at.held c.requires.at.read) (ap (λ n. nat_eq (c.args.index + 1) n) (c.asks-count.ensures c.requires.at.held c.requires.at.read)) c.in-Ok.ensures
+    c.used.ensures c.requires.at c.requires.ask c.in_ok-reply.ensures.ok (c.quiet.ensures c.requires.at.held c.requires.at.read) (ap (λ n. nat_eq (c.args.index + 1) n) (c.asks-count.ensures c.requires.at.held c.requires.at.read)) c.in-Ok.ensures.ok

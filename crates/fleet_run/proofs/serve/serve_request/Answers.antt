@@ -10,7 +10,7 @@ answer_own-requires c =
 
 pub returns-then-count-eq0-clause-ok : goal.returns-then-count-eq0-clause-ok
 returns-then-count-eq0-clause-ok c =
-    own_done c.args.connection.now c.answer_own.new.self c.args.router.now c.args.fleet.now c.args.request.now c.own.result c.used.result c.used.ensures c.requires.front (sym (c.asks-count.ensures c.requires.front.held c.requires.front.read) ∙ c.if-count-eq0.true) (c.own.ensures c.requires.front.held) (c.in_ok-answer_own.ensures c.requires.front.held c.requires.front.place)
+    own_done c.args.connection.now c.answer_own.new.self c.args.router.now c.args.fleet.now c.args.request.now c.own.result c.used.result c.used.ensures c.requires.front (sym (c.asks-count.ensures c.requires.front.held c.requires.front.read) ∙ c.if-count-eq0.true) (c.own.ensures c.requires.front.held) (c.in_ok-answer_own.ensures.ok c.requires.front.held c.requires.front.place)
 
 pub loop-index-preserved : goal.loop-index-preserved
 loop-index-preserved c =
