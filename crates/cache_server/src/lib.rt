@@ -8,7 +8,4 @@ mod expiry;
 mod item;
 mod meta_answer;
 mod sweep;
-#[cfg(test)]
-mod tests;
-
 pub use cache::Cache;

@@ -26,6 +26,3 @@ pub use making::{places, places_of_two};
 pub use proposing::propose;
 pub use table::{Certificate, Class, ClassRows, PlaceFault, PlaceTable, Run};
 pub use taking::taken;
-
-#[cfg(test)]
-mod tests;

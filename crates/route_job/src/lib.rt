@@ -13,6 +13,3 @@ pub mod walk;
 pub use done::Done;
 pub use fleet::{Fleet, execute};
 pub use job::{Job, Step};
-
-#[cfg(test)]
-mod tests;

@@ -16,6 +16,3 @@ mod selector;
 pub use config::{Config, read_config};
 pub use fault::ConfigFault;
 pub use server_addresses::Servers;
-
-#[cfg(test)]
-mod tests;

@@ -1,7 +1,7 @@
-//! Worked examples.
+//! Worked configurations: the tree that each means, or its first fault as it is printed.
 
-use super::*;
 use mc_types::{Op, ServerId};
+use route_json::{Config, ConfigFault, read_config};
 use route_tree::{Tree, TreeForm};
 use std::alloc::Global;
 use std::test::Fail;

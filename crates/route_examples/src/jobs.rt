@@ -7,8 +7,8 @@ ghost use Rattle.mc_types.specs.Fits.{Fits, IsAnswer, FitsFetch, FitsStore, Fits
 ghost use Rattle.mc_runs.specs.Single.{FitsOutcome};
 ghost use Rattle.route_tree.specs.Route as route;
 
-use crate::job::{Job, Step};
 use mc_types::{Answer, Ask, Body, Dialect, Key, Op, Origin, Outcome, ServerId, Tokens};
+use route_job::{Job, Step};
 use route_tree::{Tree, TreeForm};
 use std::alloc::{AllocError, Global};
 use std::test::Fail;

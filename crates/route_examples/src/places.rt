@@ -6,7 +6,7 @@ ghost use Rattle.route_tree.specs.Route as route;
 ghost use Rattle.route_tree.specs.Route.{IsGood, depth, count};
 ghost use Rattle.coverage.specs.Tables.{IsTable};
 
-use crate::{
+use coverage::{
     Certificate, Deleting, PlaceFault, PlaceTable, cleared, places, places_of_two, propose, taken,
 };
 use mc_types::{Key, Op, ServerId};

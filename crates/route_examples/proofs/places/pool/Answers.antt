@@ -1,5 +1,5 @@
 use Rattle.std.proofs.Common.{◌≡◌, length, arith}
-use Rattle.coverage.proofs.tests.pool.Goals as goal
+use Rattle.route_examples.proofs.places.pool.Goals as goal
 
 pub new-requires-2 : goal.new-requires-2
 new-requires-2 c =

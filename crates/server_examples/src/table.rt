@@ -5,7 +5,7 @@ ghost use Rattle.mc_types.specs.Asks.{IsAsk};
 ghost use Rattle.mc_types.specs.declared.token.Token.TheVariants as tokens;
 ghost use Rattle.mc_types.specs.KeyText.{IsKey};
 
-use crate::cache::Cache;
+use cache_server::Cache;
 use mc_types::{Answer, Ask, Body, Code, Dialect, Fields, Key, Op, Token, Tokens};
 use std::alloc::Global;
 use std::test::Fail;
