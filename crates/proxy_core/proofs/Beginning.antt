@@ -1,22 +1,28 @@
 -- A command that the core began is one that begins.
-use Rattle.std.proofs.Common.{◌≡◌, ℕ, ◌+◌, ◌<◌, Bool, true, false, cond, List, [], ◌∷◌, ◌++◌, Option, Some, None, option_map, refl, sym, ap, ◌∙◌, subst, arith, nat_eq}
-use Rattle.std.proofs.lemmas.Bool.{eqb-true}
+use Rattle.std.proofs.Common.{◌≡◌, ◌↔◌, ℕ, ◌+◌, ◌<◌, Bool, true, false, cond, List, [], ◌∷◌, ◌++◌, Option, Some, None, option_map, refl, sym, ap, ◌∙◌, subst, arith, nat_eq}
+use Rattle.std.proofs.lemmas.Bool.{eqb-true, eq-eqb}
 use Rattle.mc_types.specs.declared.answer.Answer.{Answer}
 use Rattle.mc_types.specs.declared.call.Origin.TheVariants.{Client as OfClient}
 use Rattle.mc_runs.specs.Run.{Call}
 use Rattle.mc_runs.specs.Log.{Part}
 use Rattle.request_parts.specs.Stream.{Place}
-use Rattle.mc_runs.specs.Overlap.{Front, Slot, Owner, Starts, is_last, is_last_slot, after_start, slot_of, IsNext, ticket_in}
+use Rattle.mc_runs.specs.Overlap.{Front, Slot, Owner, Starts, is_last, is_last_slot, after_start, slot_of, slot_in, IsNext, ticket_in}
 use Rattle.mc_runs.specs.OverlapStanding.{Either}
 use Rattle.mc_runs.proofs.OverlapSteps.{walks_lead}
 use Rattle.route_tree.specs.At.{tree_at}
-use Rattle.route_tree.specs.Word.{Word, tree_words}
+use Rattle.route_tree.specs.Word.{Given, Word, tree_words}
+use Rattle.route_tree.proofs.Going.{each_ask_has_a_word}
+use Rattle.route_job.specs.Jobs.{Comes}
+use Rattle.route_job.proofs.Executing.{good_at}
+use Rattle.mc_types.specs.declared.ask.Ask.{Ask}
 use Rattle.proxy_core.specs.declared.client.Pending.{Pending}
 use Rattle.proxy_core.specs.declared.client.Client.{Client}
 use Rattle.proxy_core.specs.declared.command.Command.{Command}
 use Rattle.proxy_core.specs.declared.proxy.Core.{Core}
 use Rattle.proxy_core.specs.Steps.{Begins}
-use Rattle.proxy_core.specs.Standing.{dialect, Alone, client_at, command_at, Beside, front_by, output_by, dropped_by, owner_by, LeftBy, standing_of, IsSlot, AreSlots, IsAtFront, IsQueue, ticket_by, Fits, GoesByOne}
+use Rattle.proxy_core.specs.Standing.{dialect, Alone, client_at, command_at, Beside, front_by, output_by, dropped_by, owner_by, LeftBy, standing_of, is_call, IsSlot, AreSlots, IsAtFront, IsWaitedFor, IsQueue, IsHeld, IsLeftOf, ticket_by, Fits, GoesByOne}
+use Rattle.proxy_core.proofs.Commands.{some_command, by_number}
+use Rattle.proxy_core.proofs.Slots.{in_front, at_end, none_more, waited_more, held_then}
 use Rattle.proxy_core.proofs.Tickets.{contrary}
 
 slots_more : (xs : List Pending) (ys : List (Slot dialect)) (x : Pending) (y : Slot dialect) → AreSlots xs ys → IsSlot x y → AreSlots (xs ++ x ∷ []) (ys ++ y ∷ [])
@@ -48,13 +54,16 @@ module _ (old new : Core) (client : ℕ) (x y : Client) (part : Part dialect) (p
         | false ↦ λ more e. (refl, more, r.next.index ∙ ap (λ (f : Front dialect). f.index) (sym e), (part.next, subst (λ p. dialect.Reads p part.message part.next) (ap (λ (f : Front dialect). f.place) (sym e)) r.next.reads))
       ]) refl r.front
 
+  now_waits : is_last part ≡ false → y.waits ≡ true
+  now_waits more = ap (λ (f : Front dialect). f.waits) (r.front ∙ ap (λ b. cond b (record { place = part.next; index = 0; waits = false }) (record { place = before.place; index = before.index; waits = true })) more)
+
   queues_then : (beside : Beside) → Fits old beside → (c : ℕ) → IsQueue (client_at new c) (longer beside.queue c)
   queues_then beside fits c =
       (elim (nat_eq client c) as (λ b. nat_eq client c ≡ b → IsQueue (client_at new c) (cond b (beside.queue c ++ slot ∷ []) (beside.queue c))) [
         | true ↦ λ same. subst (λ d. IsQueue (client_at new d) (beside.queue d ++ slot ∷ [])) (eqb-true client c same)
-            (let a : AreSlots x.queue.items (beside.queue client) × IsAtFront x (beside.queue client) = subst (λ o. IsQueue o (beside.queue client)) r.was (fits.queues client) in
+            (let a : AreSlots x.queue.items (beside.queue client) × IsAtFront x (beside.queue client) × IsWaitedFor x.waits (beside.queue client) = subst (λ o. IsQueue o (beside.queue client)) r.was (fits.queues client) in
             subst (λ o. IsQueue o (beside.queue client ++ slot ∷ [])) (sym r.is)
-            (subst (λ l. AreSlots l (beside.queue client ++ slot ∷ [])) (sym r.queue) (slots_more x.queue.items (beside.queue client) pending slot a.0 r.slot), last_front y (beside.queue client) slot waiting))
+            (subst (λ l. AreSlots l (beside.queue client ++ slot ∷ [])) (sym r.queue) (slots_more x.queue.items (beside.queue client) pending slot a.0 r.slot), last_front y (beside.queue client) slot waiting, waited_more x.waits y.waits (beside.queue client) slot r.next.ready a.2 (λ _ more. now_waits more)))
         | false ↦ λ differs. subst (λ o. IsQueue o (beside.queue c)) (sym (r.others c differs)) (fits.queues c)
       ]) refl
 
@@ -69,11 +78,11 @@ module _ (old new : Core) (client : ℕ) (x y : Client) (part : Part dialect) (p
       ]) refl ∙ ap (λ o. ticket_by o n s) (sym (r.commands n))
     where
       none_out : (n : ℕ) → ticket_by (Some command) n s ≡ None
-      none_out n = by command.is_out _ r.idle
+      none_out n = by command.is_out (is_call command.job.pending) _ r.idle
         where
-          by : (b : Bool) {A : Type 0} (a : Option A) → b ≡ false → cond b a None ≡ None
-          by true a e = contrary true refl e
-          by false a e = refl
+          by : (b c : Bool) {A : Type 0} (a : Option A) → b ≡ false → cond (cond b c false) a None ≡ None
+          by true c a e = contrary true refl e
+          by false c a e = refl
 
   numbers_then : (beside : Beside) → Fits old beside → (n : ℕ) → new.number < n → command_at new n ≡ None
   numbers_then beside fits n lt =
@@ -94,8 +103,8 @@ module _ (old new : Core) (client : ℕ) (x y : Client) (part : Part dialect) (p
   left_like beside fits n calls reply from l =
       (elim (nat_eq (old.number + 1) n) as (λ b. LeftBy (cond b (Some command) (command_at old n)) calls reply from → Either b (tree_words beside.at (old.number + 1) part.ask calls reply from) (LeftBy (command_at old n) calls reply from)) [
         | true ↦ λ l.
-            let w = r.job calls (record { reply = reply; from = from }) l in
-            (w.0, subst (λ plan. Word plan part.ask OfClient 0 calls (record { reply = reply; from = from })) (sym (fits.trees (old.number + 1) part.ask.key just_above)) w.1)
+            let w = (r.job calls (record { reply = reply; from = from })).0 l in
+            (r.asks, subst (λ plan. Word plan part.ask OfClient 0 calls (record { reply = reply; from = from })) (sym (fits.trees (old.number + 1) part.ask.key just_above)) w)
         | false ↦ λ l. l
       ]) (subst (λ o. LeftBy o calls reply from) (r.commands n) l)
 
@@ -121,6 +130,57 @@ module _ (old new : Core) (client : ℕ) (x y : Client) (part : Part dialect) (p
   more_numbers : (n : ℕ) → new.number < n → old.number < n
   more_numbers n lt = let l : old.number + 1 < n = subst (λ m. m < n) r.number lt in omega (arith, l)
 
+  numbered_then : (beside : Beside) → Fits old beside → (c n : ℕ) → new.number < n → slot_in (longer beside.queue c) n ≡ None
+  numbered_then beside fits c n lt =
+      let l : old.number + 1 < n = subst (λ m. m < n) r.number lt in
+      let none = fits.numbered c n (omega (arith, l)) in
+      let other : nat_eq (old.number + 1) n ≡ false =
+      (elim (nat_eq (old.number + 1) n) as (λ b. nat_eq (old.number + 1) n ≡ b → b ≡ false) [
+        | true ↦ λ same. absurd (let e = eqb-true (old.number + 1) n same in omega (arith, e, l))
+        | false ↦ λ _. refl
+      ]) refl in
+      elim (nat_eq client c) as (λ b. slot_in (cond b (beside.queue c ++ slot ∷ []) (beside.queue c)) n ≡ None) [
+        | true ↦ none_more (beside.queue c) slot n none other
+        | false ↦ none
+      ]
+
+  held_then_too : (beside : Beside) → Fits old beside → (n : ℕ) (c : Command) → command_at new n ≡ Some c → IsHeld n c (client_at new c.client) (longer beside.queue c.client)
+  held_then_too beside fits =
+      by_number old new (old.number + 1) (Some command) r.commands (λ n c. IsHeld n c (client_at new c.client) (longer beside.queue c.client))
+      (λ c e. subst (λ (c : Command). IsHeld (old.number + 1) c (client_at new c.client) (longer beside.queue c.client)) (some_command e) mine)
+      (λ n c _ e. held_then (client_at old) (client_at new) client (Some x) (Some y) r.was r.is r.others beside.queue (longer beside.queue) n c
+      (λ same h served. let s = h (sym r.dropped ∙ served) in (s.0, ap (λ b. slot_in (cond b (beside.queue c.client ++ slot ∷ []) (beside.queue c.client)) n) same ∙ in_front (beside.queue c.client) slot s.0 n s.1, s.2, s.3))
+      (λ differs. ap (λ b. cond b (beside.queue c.client ++ slot ∷ []) (beside.queue c.client)) differs) (fits.held n c e))
+    where
+      mine : IsHeld (old.number + 1) command (client_at new command.client) (longer beside.queue command.client)
+      mine = subst (λ d. IsHeld (old.number + 1) command (client_at new d) (longer beside.queue d)) (sym (ap (λ (o : Owner). o.client) r.owner)) (subst (λ o. IsHeld (old.number + 1) command o (longer beside.queue client)) (sym r.is) (λ served. (
+        slot,
+        ap (λ b. slot_in (cond b (beside.queue client ++ slot ∷ []) (beside.queue client)) (old.number + 1)) (eq-eqb client client refl) ∙ at_end (beside.queue client) slot (old.number + 1) (fits.numbered client (old.number + 1) just_above) (eq-eqb (old.number + 1) (old.number + 1) refl),
+        sym (ap (λ (o : Owner). o.ask) r.owner),
+        refl,
+      )))
+
+  left_then : (beside : Beside) → Fits old beside → (n : ℕ) (c : Command) → command_at new n ≡ Some c → IsLeftOf (beside.at n c.ask.key) c
+  left_then beside fits =
+      by_number old new (old.number + 1) (Some command) r.commands (λ n c. IsLeftOf (beside.at n c.ask.key) c)
+      (λ c e. subst (λ (c : Command). IsLeftOf (beside.at (old.number + 1) c.ask.key) c) (some_command e) mine)
+      (λ n c _ e. fits.left n c e)
+    where
+      same : command.ask ≡ part.ask
+      same = ap (λ (o : Owner). o.ask) r.owner
+
+      plan : tree_at old.tree command.ask.key ≡ beside.at (old.number + 1) command.ask.key
+      plan = sym (fits.trees (old.number + 1) command.ask.key just_above)
+
+      comes : (calls : List Call) (given : Given) → Comes command.job calls given ↔ Word (tree_at old.tree command.ask.key) command.ask OfClient 0 calls given
+      comes = subst (λ (k : Ask). (calls : List Call) (given : Given) → Comes command.job calls given ↔ Word (tree_at old.tree k.key) k OfClient 0 calls given) (sym same) r.job
+
+      mine : IsLeftOf (beside.at (old.number + 1) command.ask.key) command
+      mine =
+          let good = (good_at old.tree command.ask.key r.tree_is).good in
+          let w = each_ask_has_a_word (tree_at old.tree command.ask.key) command.ask OfClient 0 good in
+          subst (λ p. IsLeftOf p command) plan (record { good = good; before = []; rest = comes; some = (w.0, w.1, (comes w.0 w.1).1 w.2) })
+
   same_of : {A : Type 0} (f : Option Client → A) → f (Some y) ≡ f (Some x) → (c : ℕ) → f (client_at new c) ≡ f (client_at old c)
   same_of f e c =
       (elim (nat_eq client c) as (λ b. nat_eq client c ≡ b → f (client_at new c) ≡ f (client_at old c)) [
@@ -136,6 +196,9 @@ module _ (old new : Core) (client : ℕ) (x y : Client) (part : Part dialect) (p
         Starts client (old.number + 1) part ∷ [],
         record {
           queues = queues_then beside fits;
+          held = held_then_too beside fits;
+          numbered = numbered_then beside fits;
+          left = left_then beside fits;
           tickets = tickets_then beside fits;
           single = fits.single;
           numbers = numbers_then beside fits;

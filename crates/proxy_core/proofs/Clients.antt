@@ -6,9 +6,8 @@ use Rattle.std.specs.List.{list_any}
 use Rattle.std.specs.Map as assoc
 use Rattle.slab.proofs.SlabLemmas.{Updates-with_value}
 use Rattle.slab.specs.Slab as slab
-use Rattle.indexmap.specs.IndexMap as map
 use Rattle.mc_runs.specs.Overlap as log
-use Rattle.mc_runs.specs.Overlap.{Slot, Owner, Resets, start_front, fed_front}
+use Rattle.mc_runs.specs.Overlap.{Slot, Owner, Resets, slot_in, start_front, fed_front}
 use Rattle.mc_runs.proofs.OverlapSteps.{walks_lead}
 use Rattle.request_parts.specs.Stream.{extended}
 use Rattle.route_tree.specs.At.{tree_at}
@@ -20,10 +19,12 @@ use Rattle.proxy_core.specs.declared.proxy.Core.{Core}
 use Rattle.proxy_core.specs.Clients.{IsNew, Takes, TakesPiece, LosesOutput}
 use Rattle.proxy_core.specs.Faults.{has_commands}
 use Rattle.proxy_core.specs.Steps.{Turns}
-use Rattle.proxy_core.specs.Standing.{dialect, Alone, client_at, command_at, Beside, front_by, output_by, dropped_by, owner_by, LeftBy, standing_of, AreSlots, IsAtFront, IsQueue, ticket_by, Fits, GoesByOne, Opens, Feeds, FeedsOpen, Gives, Closes}
+use Rattle.proxy_core.proofs.Slots.{held_then, same_held}
+use Rattle.proxy_core.proofs.Tickets.{contrary}
+use Rattle.proxy_core.specs.Standing.{dialect, Alone, client_at, command_at, Beside, front_by, output_by, dropped_by, owner_by, LeftBy, standing_of, AreSlots, IsAtFront, IsWaitedFor, IsQueue, IsHeld, ticket_by, Fits, GoesByOne, Opens, Feeds, FeedsOpen, Gives, Closes}
 
 -- a fact of each client, by whether it is the one
-by_client : (client c : ℕ) (A : ℕ → Type 0) → A client → (nat_eq client c ≡ false → A c) → A c
+pub by_client : (client c : ℕ) (A : ℕ → Type 0) → A client → (nat_eq client c ≡ false → A c) → A c
 by_client client c A here there =
     (elim (nat_eq client c) as (λ b. nat_eq client c ≡ b → A c) [
       | true ↦ λ same. subst A (eqb-true client c same) here
@@ -44,15 +45,19 @@ module _ (old new : Core) (client : ℕ) (a b : Option Client) (t : Turns old ne
   stays f e c = by_client client c (λ d. f (client_at new d) ≡ f (client_at old d)) (ap f t.is ∙ e ∙ ap f (sym t.was)) (λ differs. ap f (t.others c differs))
 
   pub command_stays : (n : ℕ) → command_at new n ≡ command_at old n
-  command_stays n = ap (λ m. map.get nat_eq m n) t.commands
+  command_stays n = t.commands n
 
   -- the same stands beside it, where the client's commands in the log are still those that it keeps
-  pub still_fits : (beside : Beside) → Fits old beside → ((slots : List (Slot dialect)) → IsQueue a slots → IsQueue b slots) → Fits new beside
-  still_fits beside fits queue =
+  pub still_fits : (beside : Beside) → Fits old beside → ((slots : List (Slot dialect)) → IsQueue a slots → IsQueue b slots) → ((n : ℕ) (command : Command) (slots : List (Slot dialect)) → IsHeld n command a slots → IsHeld n command b slots) → Fits new beside
+  still_fits beside fits queue held =
       record {
         queues = λ c. by_client client c (λ d. IsQueue (client_at new d) (beside.queue d))
             (subst (λ o. IsQueue o (beside.queue client)) (sym t.is) (queue (beside.queue client) (subst (λ o. IsQueue o (beside.queue client)) t.was (fits.queues client))))
             (λ differs. subst (λ o. IsQueue o (beside.queue c)) (sym (t.others c differs)) (fits.queues c));
+        held = λ n command e.
+            held_then (client_at old) (client_at new) client a b t.was t.is t.others beside.queue beside.queue n command (λ _ h. held n command (beside.queue command.client) h) (λ _. refl) (fits.held n command (sym (command_stays n) ∙ e));
+        numbered = λ c n lt. fits.numbered c n (subst (λ m. m < n) t.number lt);
+        left = λ n command e. fits.left n command (sym (command_stays n) ∙ e);
         tickets = λ s n. fits.tickets s n ∙ ap (λ o. ticket_by o n s) (sym (command_stays n));
         single = fits.single;
         numbers = λ n lt. command_stays n ∙ fits.numbers n (subst (λ m. m < n) t.number lt);
@@ -78,7 +83,7 @@ pub feeds : (old new : Core) (client : ℕ) (x y : Client) (bytes : List ℕ) �
 feeds old new client x y bytes t served p = λ beside fits. (
   beside,
   log.Feeds client bytes ∷ [],
-  still_fits old new client (Some x) (Some y) t beside fits (λ slots q. (same_slots x y slots p.queue q.0, fed_at_front x y bytes slots p q.1)),
+  still_fits old new client (Some x) (Some y) t beside fits (λ slots q. (same_slots x y slots p.queue q.0, fed_at_front x y bytes slots p q.1, subst (λ w. IsWaitedFor w slots) (sym p.waits) q.2)) (λ n command slots h. same_held x y n command slots p.dropped h),
   record { at = refl; holds = refl; found = refl; turn = refl },
   refl,
   walks_lead (tree_words beside.at) Alone (standing_of old beside) (standing_of new beside) (log.Feeds client bytes ∷ []) (record {
@@ -111,7 +116,7 @@ gives old new client x y bytes t taken p = (
   λ beside fits. (
     beside,
     log.Gives client bytes ∷ [],
-    still_fits old new client (Some x) (Some y) t beside fits (λ slots q. (same_slots x y slots p.queue q.0, same_at_front x y slots p q.1)),
+    still_fits old new client (Some x) (Some y) t beside fits (λ slots q. (same_slots x y slots p.queue q.0, same_at_front x y slots p q.1, subst (λ w. IsWaitedFor w slots) (sym p.waits) q.2)) (λ n command slots h. same_held x y n command slots p.dropped h),
     record { at = refl; holds = refl; found = refl; turn = refl },
     refl,
     walks_lead (tree_words beside.at) Alone (standing_of old beside) (standing_of new beside) (log.Gives client bytes ∷ []) (record {
@@ -137,7 +142,7 @@ new_front : (x : Client) → IsNew x → front_by (Some x) ≡ start_front
 new_front x n i = record { place = n.stream i; index = n.index i; waits = n.waits i }
 
 new_queue : (x : Client) → IsNew x → (slots : List (Slot dialect)) → IsQueue None slots → IsQueue (Some x) slots
-new_queue x n [] e = (subst (λ l. AreSlots l []) (sym n.queue) tt, n.waits)
+new_queue x n [] e = (subst (λ l. AreSlots l []) (sym n.queue) tt, n.waits, tt)
 new_queue x n (slot ∷ slots) e = absurd cc
 
 -- a new client has a place that was free
@@ -150,7 +155,7 @@ opens old new client x t n =
       goes = λ beside fits. (
         beside,
         [],
-        still_fits old new client None (Some x) t beside fits (new_queue x n),
+        still_fits old new client None (Some x) t beside fits (new_queue x n) (λ n command slots h. absurd h),
         record { at = refl; holds = refl; found = refl; turn = refl },
         refl,
         walks_lead (tree_words beside.at) Alone (standing_of old beside) (standing_of new beside) [] (record {
@@ -217,6 +222,15 @@ closes old new client x t none = (
             | true ↦ λ same. subst (λ d. IsQueue (client_at new d) []) (eqb-true client c same) (subst (λ o. IsQueue o []) (sym t.is) refl)
             | false ↦ λ differs. subst (λ o. IsQueue o (beside.queue c)) (sym (t.others c differs)) (fits.queues c)
           ]) refl;
+          held = λ n command e.
+              let was = sym (command_stays old new client (Some x) None t n) ∙ e in
+              let differs : nat_eq client command.client ≡ false = none_is client old.commands.entries n (owner_by command) none (ap (option_map owner_by) was) in
+              held_then (client_at old) (client_at new) client (Some x) None t.was t.is t.others beside.queue queue n command (λ same _. contrary (nat_eq client command.client) same differs) (λ d. ap (λ b. cond b [] (beside.queue command.client)) d) (fits.held n command was);
+          numbered = λ c n lt. (elim (nat_eq client c) as (λ b. slot_in (cond b [] (beside.queue c)) n ≡ None) [
+            | true ↦ refl
+            | false ↦ fits.numbered c n (subst (λ m. m < n) t.number lt)
+          ]);
+          left = λ n command e. fits.left n command (sym (command_stays old new client (Some x) None t n) ∙ e);
           tickets = λ s n. fits.tickets s n ∙ ap (λ o. ticket_by o n s) (sym (command_stays old new client (Some x) None t n));
           single = fits.single;
           numbers = λ n lt. command_stays old new client (Some x) None t n ∙ fits.numbers n (subst (λ m. m < n) t.number lt);
@@ -260,7 +274,7 @@ written core client x y was =
       was = was;
       is = u.changed;
       others = others_by client core.clients (slab.with_value core.clients client y) u.others;
-      commands = refl;
+      commands = λ n. refl;
       tree = refl;
       number = refl;
     }

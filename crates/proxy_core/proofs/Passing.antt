@@ -8,7 +8,8 @@ use Rattle.proxy_core.specs.declared.client.Pending.{Pending}
 use Rattle.proxy_core.specs.declared.client.Client.{Client}
 use Rattle.proxy_core.specs.declared.proxy.Core.{Core}
 use Rattle.proxy_core.specs.Steps.{Turns, PassesOne}
-use Rattle.proxy_core.specs.Standing.{dialect, Message, Alone, front_by, output_by, dropped_by, LeftBy, standing_of, AreSlots, IsAtFront, IsQueue, GoesByOne}
+use Rattle.proxy_core.specs.Standing.{dialect, Message, Alone, front_by, output_by, dropped_by, LeftBy, standing_of, AreSlots, IsAtFront, IsWaitedFor, IsQueue, GoesByOne}
+use Rattle.proxy_core.proofs.Slots.{same_held}
 use Rattle.proxy_core.proofs.Clients.{changed, stays, command_stays, still_fits, owners}
 
 no_slots : (ps : List Pending) (slots : List (Slot dialect)) → ps ≡ [] → AreSlots ps slots → slots ≡ []
@@ -22,13 +23,13 @@ no_slots (p ∷ ps) slots e h = absurd (some p ps e)
 empty_queue : (x y : Client) (message : Message) (next : Place) → PassesOne x message next y → (slots : List (Slot dialect)) → IsQueue (Some x) slots → IsQueue (Some y) slots
 empty_queue x y message next t slots q =
     let none = no_slots x.queue.items slots t.none q.0 in
-    (subst (λ l. AreSlots l slots) (sym t.queue) (subst (AreSlots []) (sym none) tt), subst (IsAtFront y) (sym none) t.waits)
+    (subst (λ l. AreSlots l slots) (sym t.queue) (subst (AreSlots []) (sym none) tt), subst (IsAtFront y) (sym none) t.waits, subst (IsWaitedFor y.waits) (sym none) tt)
 
 pub passes : (old new : Core) (client : ℕ) (x y : Client) (message : Message) (next : Place) → Turns old new client (Some x) (Some y) → PassesOne x message next y → GoesByOne old (Passes client message next) new
 passes old new client x y message next t p = λ beside fits. (
   beside,
   Passes client message next ∷ [],
-  still_fits old new client (Some x) (Some y) t beside fits (empty_queue x y message next p),
+  still_fits old new client (Some x) (Some y) t beside fits (empty_queue x y message next p) (λ n command slots h. same_held x y n command slots p.dropped h),
   record { at = refl; holds = refl; found = refl; turn = refl },
   refl,
   walks_lead (tree_words beside.at) Alone (standing_of old beside) (standing_of new beside) (Passes client message next ∷ []) (record {

@@ -1,24 +1,31 @@
 -- A core that takes another tree.
-use Rattle.std.proofs.Common.{ℕ, ◌+◌, List, refl, sym, subst, arith}
+use Rattle.std.proofs.Common.{◌≡◌, ℕ, ◌+◌, ◌≤◌, List, Some, ⊎_elim, refl, sym, ◌∙◌, subst, arith}
+use Rattle.std.proofs.lemmas.Bool.{cases_lt}
 use Rattle.mc_types.specs.declared.call.Origin.TheVariants.{Client as OfClient}
 use Rattle.mc_runs.specs.OverlapLaws.{AreKept}
 use Rattle.mc_runs.proofs.OverlapReload.{reloads}
 use Rattle.route_tree.specs.Route.{Route}
 use Rattle.route_tree.specs.Plan.{Plan}
 use Rattle.route_tree.specs.Word.{Word, tree_words}
+use Rattle.proxy_core.specs.declared.command.Command.{Command}
 use Rattle.proxy_core.specs.declared.proxy.Core.{Core}
-use Rattle.proxy_core.specs.Standing.{Alone, Beside, standing_of, IsTakenOver, Reloads}
+use Rattle.proxy_core.specs.Standing.{Alone, command_at, Beside, standing_of, IsLeftOf, Fits, IsTakenOver, Reloads}
+use Rattle.proxy_core.proofs.Commands.{no_command}
 
 -- the words of commands that have begun stay
 words_stay : (old : Core) (tree : Route) (beside : Beside) (at : ℕ → List ℕ → Plan) → IsTakenOver old tree beside at → AreKept (old.number + 1) (tree_words beside.at) (tree_words at)
 words_stay old tree beside at taken n ask calls reply from lt word =
     (word.0, subst (λ plan. Word plan ask OfClient 0 calls (record { reply = reply; from = from })) (sym (taken.begun n ask.key (let l = lt in omega (arith, l)))) word.1)
 
+-- a command that is under way has begun
+begun : (old : Core) (beside : Beside) → Fits old beside → (n : ℕ) (command : Command) → command_at old n ≡ Some command → n ≤ old.number
+begun old beside fits n command e = ⊎_elim (λ lt. no_command (sym (fits.numbers n lt) ∙ e)) (λ le. le) (cases_lt old.number n)
+
 pub reloaded : (old : Core) (tree : Route) → Reloads old tree (record old { tree = tree; generation = old.generation + 1 })
 reloaded old tree =
     record {
       core_is = refl;
-      fits = λ beside at fits taken. record { queues = fits.queues; tickets = fits.tickets; single = fits.single; numbers = fits.numbers; unseen = fits.unseen; trees = taken.coming };
+      fits = λ beside at fits taken. record { queues = fits.queues; held = fits.held; numbered = fits.numbered; left = λ n command e. subst (λ plan. IsLeftOf plan command) (sym (taken.begun n command.ask.key (begun old beside fits n command e))) (fits.left n command e); tickets = fits.tickets; single = fits.single; numbers = fits.numbers; unseen = fits.unseen; trees = taken.coming };
       leads = λ beside at taken opening log h.
           reloads (tree_words beside.at) Alone opening (tree_words at) Alone log (standing_of old beside) h (words_stay old tree beside at taken) (λ n other ask client lt lt' bars. bars);
     }

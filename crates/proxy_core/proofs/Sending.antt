@@ -15,7 +15,9 @@ use Rattle.route_job.specs.Jobs.{server_in}
 use Rattle.proxy_core.specs.declared.command.Command.{Command}
 use Rattle.proxy_core.specs.declared.proxy.Core.{Core}
 use Rattle.proxy_core.specs.Steps.{SendsOut}
-use Rattle.proxy_core.specs.Standing.{Alone, command_at, Beside, front_by, output_by, dropped_by, owner_by, LeftBy, standing_of, IsQueue, ticket_by, Fits, GoesByOne}
+use Rattle.proxy_core.specs.Standing.{Alone, client_at, command_at, Beside, front_by, output_by, dropped_by, owner_by, LeftBy, standing_of, is_call, IsQueue, IsHeld, IsLeftOf, ticket_by, Fits, GoesByOne}
+use Rattle.proxy_core.proofs.Commands.{some_command, by_number, is_call_true, call_key}
+use Rattle.proxy_core.proofs.Slots.{held_alike}
 use Rattle.proxy_core.proofs.Tickets.{some_none, more_other, more_own, more_single}
 
 module _ (old new : Core) (number : ℕ) (a : Command) (r : SendsOut old new number a) where
@@ -32,7 +34,7 @@ module _ (old new : Core) (number : ℕ) (a : Command) (r : SendsOut old new num
   ticket = record { number = number; ask = ask; origin = origin }
 
   none_out : (beside : Beside) → Fits old beside → (s : ℕ) → ticket_in (beside.out s) number ≡ None
-  none_out beside fits s = fits.tickets s number ∙ ap (λ o. ticket_by o number s) r.was ∙ ap (λ b. cond b (cond (nat_eq server s) (Some ticket) None) None) r.idle
+  none_out beside fits s = fits.tickets s number ∙ ap (λ o. ticket_by o number s) r.was ∙ ap (λ b. cond (cond b (is_call a.job.pending) false) (cond (nat_eq server s) (Some ticket) None) None) r.idle
 
   abbrev out_then : Beside → ℕ → List Ticket
   out_then beside s = cond (nat_eq server s) (beside.out s ++ ticket ∷ []) (beside.out s)
@@ -40,7 +42,8 @@ module _ (old new : Core) (number : ℕ) (a : Command) (r : SendsOut old new num
   tickets_then : (beside : Beside) → Fits old beside → (s n : ℕ) → ticket_in (out_then beside s) n ≡ ticket_by (command_at new n) n s
   tickets_then beside fits s n =
       (elim (nat_eq number n) as (λ b. nat_eq number n ≡ b → ticket_in (out_then beside s) n ≡ ticket_by (cond b (Some (record a { is_out = true })) (command_at old n)) n s) [
-        | true ↦ λ same. subst (λ m. ticket_in (out_then beside s) m ≡ cond (nat_eq server s) (Some (record { number = m; ask = ask; origin = origin })) None) (eqb-true number n same) (own (nat_eq server s))
+        | true ↦ λ same. subst (λ m. ticket_in (out_then beside s) m ≡ cond (is_call a.job.pending) (cond (nat_eq server s) (Some (record { number = m; ask = ask; origin = origin })) None) None) (eqb-true number n same)
+            (own (nat_eq server s) ∙ sym (ap (λ z. cond z (cond (nat_eq server s) (Some ticket) None) None) (is_call_true a.job.pending r.calling)))
         | false ↦ λ differs. other (nat_eq server s) differs ∙ fits.tickets s n
       ]) refl ∙ ap (λ o. ticket_by o n s) (sym (r.commands n))
     where
@@ -66,6 +69,18 @@ module _ (old new : Core) (number : ℕ) (a : Command) (r : SendsOut old new num
         | false ↦ λ differs. fits.numbers n (subst (λ m. m < n) r.number_is lt)
       ]) refl
 
+  held_still : (beside : Beside) → Fits old beside → (n : ℕ) (command : Command) → command_at new n ≡ Some command → IsHeld n command (client_at old command.client) (beside.queue command.client)
+  held_still beside fits =
+      by_number old new number (Some (record a { is_out = true })) r.commands (λ n command. IsHeld n command (client_at old command.client) (beside.queue command.client))
+      (λ command e. subst (λ (c : Command). IsHeld number c (client_at old c.client) (beside.queue c.client)) (some_command e) (held_alike number a (record a { is_out = true }) (client_at old a.client) (beside.queue a.client) refl (fits.held number a r.was)))
+      (λ n command _ e. fits.held n command e)
+
+  left_still : (beside : Beside) → Fits old beside → (n : ℕ) (command : Command) → command_at new n ≡ Some command → IsLeftOf (beside.at n command.ask.key) command
+  left_still beside fits =
+      by_number old new number (Some (record a { is_out = true })) r.commands (λ n command. IsLeftOf (beside.at n command.ask.key) command)
+      (λ command e. subst (λ (c : Command). IsLeftOf (beside.at number c.ask.key) c) (some_command e) (let l = fits.left number a r.was in record { good = l.good; before = l.before; rest = l.rest; some = l.some }))
+      (λ n command _ e. fits.left n command e)
+
   -- so it is out
   pub sends : GoesByOne old (Sends number server ask origin) new
   sends = λ beside fits.
@@ -74,6 +89,9 @@ module _ (old new : Core) (number : ℕ) (a : Command) (r : SendsOut old new num
         Sends number server ask origin ∷ [],
         record {
           queues = λ c. subst (λ o. IsQueue o (beside.queue c)) (sym (r.clients c)) (fits.queues c);
+          held = λ n command e. subst (λ o. IsHeld n command o (beside.queue command.client)) (sym (r.clients command.client)) (held_still beside fits n command e);
+          numbered = λ c n lt. fits.numbered c n (subst (λ m. m < n) r.number_is lt);
+          left = left_still beside fits;
           tickets = tickets_then beside fits;
           single = single_then beside fits;
           numbers = numbers_then beside fits;
@@ -83,7 +101,7 @@ module _ (old new : Core) (number : ℕ) (a : Command) (r : SendsOut old new num
         record { at = refl; holds = refl; found = refl; turn = refl },
         refl,
         walks_lead (tree_words beside.at) Alone (standing_of old beside) (standing_of new beside') (Sends number server ask origin ∷ []) (record {
-          may = (((owner_by a, ap (option_map owner_by) r.was, r.key), none_out beside fits), tt);
+          may = (((owner_by a, ap (option_map owner_by) r.was, call_key (beside.at number a.ask.key) a (fits.left number a r.was) r.calling), none_out beside fits), tt);
           like = record {
             front = λ c. ap front_by (r.clients c);
             queue = λ c. refl;

@@ -1,9 +1,9 @@
 -- A reply that the core wrote for the head of a client's commands is one that is shown.
-use Rattle.std.proofs.Common.{◌≡◌, ℕ, zero, suc, ◌<◌, Bool, true, false, cond, List, [], ◌∷◌, ◌++◌, Option, Some, None, refl, sym, ap, ◌∙◌, subst, nat_eq, slice_get}
+use Rattle.std.proofs.Common.{◌≡◌, ℕ, zero, suc, ◌<◌, Bool, true, false, cond, List, [], ◌∷◌, ◌++◌, Some, None, refl, sym, ap, ◌∙◌, subst, nat_eq, slice_get}
 use Rattle.std.proofs.lemmas.Bool.{eqb-true}
 use Rattle.mc_types.specs.declared.ask.Ask.{Ask}
 use Rattle.mc_types.specs.declared.answer.Answer.{Answer}
-use Rattle.mc_runs.specs.Overlap.{Slot, Shows, behind_head}
+use Rattle.mc_runs.specs.Overlap.{Slot, Shows, slot_in, behind_head}
 use Rattle.mc_runs.proofs.OverlapSteps.{walks_lead}
 use Rattle.client_requests.specs.Asks.{asks_of, quiet_of}
 use Rattle.text_codec.specs.TextProtocol.{Whole, LongLine, asks_in, shown_by, shown_of}
@@ -14,7 +14,8 @@ use Rattle.proxy_core.specs.declared.client.Pending.{Pending}
 use Rattle.proxy_core.specs.declared.client.Client.{Client}
 use Rattle.proxy_core.specs.declared.proxy.Core.{Core}
 use Rattle.proxy_core.specs.Steps.{Turns, ShowsHead}
-use Rattle.proxy_core.specs.Standing.{dialect, Message, Alone, Beside, client_at, quiet_in, front_by, output_by, dropped_by, LeftBy, standing_of, IsSlot, AreSlots, IsAtFront, IsQueue, ticket_by, GoesBy}
+use Rattle.proxy_core.specs.Standing.{dialect, Message, Alone, Beside, client_at, quiet_in, front_by, output_by, dropped_by, LeftBy, standing_of, IsSlot, AreSlots, IsAtFront, IsWaitedFor, IsQueue, ticket_by, GoesBy}
+use Rattle.proxy_core.proofs.Slots.{no_reply, behind, none_behind, held_then}
 use Rattle.proxy_core.proofs.Clients.{changed, stays, command_stays, owners}
 
 -- the text that the core writes is that of the message
@@ -27,13 +28,14 @@ slot_shown : (pending : Pending) (slot : Slot dialect) (reply : Answer) → IsSl
 slot_shown pending slot reply s =
     shown_is slot.message slot.index pending.ask reply s.asks ∙ ap (λ q. shown_text q (is_last (asks_in slot.message) slot.index) pending.ask reply) s.quiet ∙ ap (λ l. shown_text pending.quiet l pending.ask reply) s.last
 
-no_reply : {A : Type 0} (a : Answer) → ◌≡◌ {A = Option Answer} (Some a) None → A
-no_reply a e = absurd cc
-
 -- the slots of a queue with a head
 split : (pending : Pending) (rest : List Pending) (slots : List (Slot dialect)) → AreSlots (pending ∷ rest) slots → (slot : Slot dialect) × (more : List (Slot dialect)) × (slots ≡ slot ∷ more) × IsSlot pending slot × AreSlots rest more
 split pending rest [] h = absurd h
 split pending rest (slot ∷ more) h = (slot, more, refl, h.0, h.1)
+
+less_none : (l : List (Slot dialect)) (n : ℕ) → slot_in l n ≡ None → slot_in (behind_head l) n ≡ None
+less_none [] n e = refl
+less_none (h ∷ l) n e = none_behind h l n e
 
 not_waiting : (b : Bool) → (b ≡ true → ⊥) → b ≡ false
 not_waiting true f = absurd (f refl)
@@ -56,7 +58,7 @@ module _ (old new : Core) (client : ℕ) (x y : Client) (pending : Pending) (rep
   shows = λ beside fits.
       let queue = beside.queue in
       let beside' : Beside = record beside { queue = less queue } in
-      let mine : AreSlots x.queue.items (queue client) × IsAtFront x (queue client) = subst (λ o. IsQueue o (queue client)) t.was (fits.queues client) in
+      let mine : AreSlots x.queue.items (queue client) × IsAtFront x (queue client) × IsWaitedFor x.waits (queue client) = subst (λ o. IsQueue o (queue client)) t.was (fits.queues client) in
       let cut = split pending p.rest (queue client) (subst (λ l. AreSlots l (queue client)) p.head mine.0) in
       let slot = cut.0 in
       let is : queue client ≡ slot ∷ cut.1 = cut.2 in
@@ -64,7 +66,7 @@ module _ (old new : Core) (client : ℕ) (x y : Client) (pending : Pending) (rep
       let text : y.output.items ≡ x.output.items ++ shown_of slot.message slot.index reply = p.output ∙ ap (λ l. x.output.items ++ l) (sym (slot_shown pending slot reply cut.3)) in
       let here : IsQueue (client_at new client) (behind_head (queue client)) =
       subst (λ o. IsQueue o (behind_head (queue client))) (sym t.is)
-      (subst (λ l. AreSlots y.queue.items (behind_head l) × IsAtFront y (behind_head l)) (sym is) (subst (λ l. AreSlots l cut.1) (sym p.queue) cut.4, behind_front x y slot cut.1 reply has p.stream p.index p.waits (subst (IsAtFront x) is mine.1))) in (
+      (subst (λ l. AreSlots y.queue.items (behind_head l) × IsAtFront y (behind_head l) × IsWaitedFor y.waits (behind_head l)) (sym is) (subst (λ l. AreSlots l cut.1) (sym p.queue) cut.4, behind_front x y slot cut.1 reply has p.stream p.index p.waits (subst (IsAtFront x) is mine.1), subst (λ w. IsWaitedFor w cut.1) (sym p.waits) (subst (IsWaitedFor x.waits) is mine.2).1)) in (
         beside',
         Shows client slot reply ∷ [],
         record {
@@ -72,6 +74,22 @@ module _ (old new : Core) (client : ℕ) (x y : Client) (pending : Pending) (rep
             | true ↦ λ same. subst (λ d. IsQueue (client_at new d) (behind_head (queue d))) (eqb-true client c same) here
             | false ↦ λ differs. subst (λ o. IsQueue o (queue c)) (sym (t.others c differs)) (fits.queues c)
           ]) refl;
+          held = λ n command e.
+              held_then (client_at old) (client_at new) client (Some x) (Some y) t.was t.is t.others queue (less queue) n command
+              (λ same h served.
+              let s = h (sym p.dropped ∙ served) in
+              let here : queue command.client ≡ slot ∷ cut.1 = ap queue (sym (eqb-true client command.client same)) ∙ is in (
+                s.0,
+                ap (λ b. slot_in (cond b (behind_head (queue command.client)) (queue command.client)) n) same ∙ ap (λ l. slot_in (behind_head l) n) here ∙ behind slot s.0 cut.1 n reply has s.3 (ap (λ l. slot_in l n) (sym here) ∙ s.1),
+                s.2,
+                s.3,
+              ))
+              (λ differs. ap (λ b. cond b (behind_head (queue command.client)) (queue command.client)) differs) (fits.held n command (sym (command_stays old new client (Some x) (Some y) t n) ∙ e));
+          numbered = λ c n lt. (elim (nat_eq client c) as (λ b. slot_in (cond b (behind_head (queue c)) (queue c)) n ≡ None) [
+            | true ↦ less_none (queue c) n (fits.numbered c n (subst (λ m. m < n) t.number lt))
+            | false ↦ fits.numbered c n (subst (λ m. m < n) t.number lt)
+          ]);
+          left = λ n command e. fits.left n command (sym (command_stays old new client (Some x) (Some y) t n) ∙ e);
           tickets = λ s n. fits.tickets s n ∙ ap (λ o. ticket_by o n s) (sym (command_stays old new client (Some x) (Some y) t n));
           single = fits.single;
           numbers = λ n lt. command_stays old new client (Some x) (Some y) t n ∙ fits.numbers n (subst (λ m. m < n) t.number lt);

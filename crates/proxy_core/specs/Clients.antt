@@ -44,6 +44,8 @@ RoomFault limit x bytes faults.NoMemory = Unit {0}
 RoomFault limit x bytes faults.TooManyClients = ⊥
 RoomFault limit x bytes faults.NoClient = ⊥
 RoomFault limit x bytes faults.UnderWay = ⊥
+RoomFault limit x bytes faults.Spent = ⊥
+RoomFault limit x bytes faults.NoTicket = ⊥
 
 -- its output is taken, and nothing else of it changes
 pub record LosesOutput (x y : Client) : Type 0 where

@@ -12,7 +12,7 @@ use Rattle.proxy_core.specs.Clients.{IsEnded, HasRoom, RoomFault}
 use Rattle.proxy_core.specs.Standing.{client_at}
 
 abbrev pub script_limits : Limits
-script_limits = record { clients = 64; held = 2097152 }
+script_limits = record { clients = 64; held = 2097152; depth = 1; window = 1 }
 
 -- one of the commands is this client's
 abbrev pub has_commands : ℕ → {S : Type 0} → map.IndexMap ℕ Command S → Bool
@@ -40,28 +40,36 @@ IsSame old new = new ≡ record old { clients = record old.clients { capacity = 
 
 abbrev pub OpenFault : Core → CoreFault → Core → Type 0
 OpenFault old faults.TooManyClients new = (old.limits.clients ≤ slab_len old.clients) × (new ≡ old)
+OpenFault old faults.NoTicket new = ⊥
 OpenFault old faults.NoMemory new = IsSame old new
 OpenFault old faults.NoClient new = ⊥
 OpenFault old faults.InputFull new = ⊥
 OpenFault old faults.UnderWay new = ⊥
+OpenFault old faults.Spent new = ⊥
 
 abbrev pub FeedFault : Core → ℕ → List ℕ → CoreFault → Type 0
 FeedFault core client bytes faults.NoClient = client_at core client ≡ None
 FeedFault core client bytes faults.InputFull = MatchOption (client_at core client) ⊥ (λ x. RoomFault core.limits.held x bytes faults.InputFull)
+FeedFault core client bytes faults.NoTicket = ⊥
 FeedFault core client bytes faults.NoMemory = HasClient core client
 FeedFault core client bytes faults.TooManyClients = ⊥
 FeedFault core client bytes faults.UnderWay = ⊥
+FeedFault core client bytes faults.Spent = ⊥
 
 abbrev pub OutputFault : Core → ℕ → CoreFault → Type 0
 OutputFault core client faults.NoClient = client_at core client ≡ None
+OutputFault core client faults.NoTicket = ⊥
 OutputFault core client faults.NoMemory = HasClient core client
 OutputFault core client faults.InputFull = ⊥
 OutputFault core client faults.TooManyClients = ⊥
 OutputFault core client faults.UnderWay = ⊥
+OutputFault core client faults.Spent = ⊥
 
 abbrev pub CloseFault : Core → ℕ → CoreFault → Type 0
 CloseFault core client faults.NoClient = client_at core client ≡ None
 CloseFault core client faults.UnderWay = HasClient core client × (has_commands client core.commands ≡ true)
+CloseFault core client faults.Spent = ⊥
+CloseFault core client faults.NoTicket = ⊥
 CloseFault core client faults.NoMemory = ⊥
 CloseFault core client faults.InputFull = ⊥
 CloseFault core client faults.TooManyClients = ⊥

@@ -2,3 +2,13 @@ pub mod Clients
 pub mod Standing
 pub mod Faults
 pub mod Steps
+pub mod Fronts
+pub mod Heads
+pub mod Ready
+pub mod Begun
+pub mod Polls
+pub mod Ending
+pub mod Replying
+pub mod Finishing
+pub mod Settles
+pub mod Nexts

@@ -1,5 +1,5 @@
 -- What the core's clients, commands and calls stand for in the log of all that happened, and what each of its calls does. Source: mcgate's own.
-use Rattle.std.specs.Prelude.{◌≡◌, ℕ, ◌+◌, ◌<◌, ◌≤◌, Bool, true, false, List, [], ◌∷◌, Option, Some, None, option_map, if◌then◌else◌, nat_eq, slice_get}
+use Rattle.std.specs.Prelude.{◌≡◌, ℕ, ◌+◌, ◌<◌, ◌≤◌, ◌↔◌, Bool, true, false, List, [], ◌∷◌, ◌++◌, Option, Some, None, option_map, if◌then◌else◌, nat_eq, slice_get}
 use Rattle.slab.specs.Slab as slab
 use Rattle.indexmap.specs.IndexMap as map
 use Rattle.mc_types.specs.declared.ask.Ask.{Ask}
@@ -9,18 +9,20 @@ use Rattle.mc_types.specs.Items.{Item}
 use Rattle.mc_runs.specs.Run.{Call}
 use Rattle.mc_runs.specs.Protocol.{Protocol}
 use Rattle.mc_runs.specs.Overlap as log
-use Rattle.mc_runs.specs.Overlap.{Front, Slot, Owner, Ticket, Entry, Resets, ticket_in, without, is_last_slot, start_front}
+use Rattle.mc_runs.specs.Overlap.{Front, Slot, Owner, Ticket, Entry, Resets, ticket_in, without, slot_in, is_last_slot, start_front}
 use Rattle.mc_runs.specs.OverlapStanding.{Standing, LeadsTo, Leads}
 use Rattle.request_parts.specs.Stream.{Place}
 use Rattle.client_requests.specs.Asks.{quiet_of}
 use Rattle.text_codec.specs.TextProtocol.{memcached_text, Said, Whole, LongLine}
 use Rattle.route_tree.specs.At.{tree_at}
 use Rattle.route_tree.specs.Route.{Route}
-use Rattle.route_tree.specs.Plan.{Plan}
-use Rattle.route_tree.specs.Word.{tree_words}
+use Rattle.route_tree.specs.Plan.{Plan, IsGood}
+use Rattle.route_tree.specs.Word.{Given, Word, tree_words}
 use Rattle.route_job.specs.Jobs.{Comes}
 use Rattle.route_job.specs.Rest.{ask_under, origin_under}
 use Rattle.route_job.specs.Jobs.{server_in}
+use Rattle.route_job.specs.declared.frame.Pending.TheVariants.{Enter, Call as Calling, Back}
+use Rattle.route_job.specs.declared.frame.Pending.{Pending as NextStep}
 use Rattle.proxy_core.specs.declared.client.Pending.{Pending}
 use Rattle.proxy_core.specs.declared.client.Client.{Client}
 use Rattle.proxy_core.specs.declared.command.Command.{Command}
@@ -118,16 +120,42 @@ IsAtFront x (slot ∷ []) =
     x.waits ≡ true → (slot.reply ≡ None) × (is_last_slot slot ≡ false) × (slot.index ≡ x.index) × ((next : Place) × dialect.Reads x.stream slot.message next)
 IsAtFront x (slot ∷ next ∷ slots) = IsAtFront x (next ∷ slots)
 
+-- only of the last command of its queue a client waits for the reply: where that isn't of the last key of its message, it does
+abbrev pub IsWaitedFor : Bool → List (Slot dialect) → Type 0
+IsWaitedFor waits [] = Unit {0}
+IsWaitedFor waits (slot ∷ slots) = (slot.reply ≡ None → is_last_slot slot ≡ false → (slots ≡ []) × (waits ≡ true)) × IsWaitedFor waits slots
+
 -- these can be the commands of a client
 abbrev pub IsQueue : Option Client → List (Slot dialect) → Type 0
 IsQueue None slots = slots ≡ []
-IsQueue (Some x) slots = AreSlots x.queue.items slots × IsAtFront x slots
+IsQueue (Some x) slots = AreSlots x.queue.items slots × IsAtFront x slots × IsWaitedFor x.waits slots
+
+-- a command is that of its number in the queue of its client, without a reply; where nothing is done for the client any more, it need not be
+abbrev pub IsHeld : ℕ → Command → Option Client → List (Slot dialect) → Type 0
+IsHeld n command None slots = ⊥
+IsHeld n command (Some x) slots = x.dropped ≡ false → (slot : Slot dialect) × (slot_in slots n ≡ Some slot) × (slot.ask ≡ command.ask) × (slot.reply ≡ None)
+
+-- after some calls, what may still come of a command is what is left of the words of this plain tree, of which each outcome goes on
+pub record IsLeftOf (plan : Plan) (command : Command) : Type 0 where
+  pub good : IsGood plan
+  pub before : List Call
+  pub rest : (calls : List Call) (given : Given) → Comes command.job calls given ↔ Word plan command.ask OfClient 0 (before ++ calls) given
+  pub some : (calls : List Call) × (given : Given) × Comes command.job calls given
+
+abbrev pub is_call : NextStep → Bool
+is_call (Enter tree) = false
+is_call (Calling server) = true
+is_call (Back done) = false
+
+-- a call of the command is out: the one that its job shows
+abbrev pub has_call_out : Command → Bool
+has_call_out command = if command.is_out then is_call command.job.pending else false
 
 -- the ticket at this server of a command of this number
 abbrev pub ticket_by : Option Command → ℕ → ℕ → Option Ticket
 ticket_by None n s = None
 ticket_by (Some command) n s =
-    if command.is_out
+    if has_call_out command
     then if nat_eq (server_in command.job.pending) s
     then Some (record { number = n; ask = ask_under command.job.frames.items command.job.ask; origin = origin_under command.job.frames.items OfClient })
     else None
@@ -136,6 +164,9 @@ ticket_by (Some command) n s =
 -- these can stand beside the core: it keeps of clients' commands and of calls that are out what agrees with them, a command has one call out at most, and commands to come have not begun, found nothing, and run by its tree
 pub record Fits (core : Core) (beside : Beside) : Type 0 where
   pub queues : (c : ℕ) → IsQueue (client_at core c) (beside.queue c)
+  pub held : (n : ℕ) (command : Command) → command_at core n ≡ Some command → IsHeld n command (client_at core command.client) (beside.queue command.client)
+  pub numbered : (c n : ℕ) → core.number < n → slot_in (beside.queue c) n ≡ None
+  pub left : (n : ℕ) (command : Command) → command_at core n ≡ Some command → IsLeftOf (beside.at n command.ask.key) command
   pub tickets : (s n : ℕ) → ticket_in (beside.out s) n ≡ ticket_by (command_at core n) n s
   pub single : (s n : ℕ) → ticket_in (without n (beside.out s)) n ≡ None
   pub numbers : (n : ℕ) → core.number < n → command_at core n ≡ None

@@ -1,11 +1,12 @@
 -- What changes in the core when a command of a client begins, its call goes out and has its result, and its reply is shown; that each of these is a step of the core is a law. Source: mcgate's own.
-use Rattle.std.specs.Prelude.{◌≡◌, ℕ, ◌+◌, true, false, List, [], ◌∷◌, ◌++◌, Option, Some, if◌then◌else◌, nat_eq}
+use Rattle.std.specs.Prelude.{◌≡◌, ◌↔◌, ℕ, ◌+◌, true, false, List, [], ◌∷◌, ◌++◌, Option, Some, if◌then◌else◌, nat_eq}
 use Rattle.mc_types.specs.Asks.{IsAsk}
 use Rattle.mc_types.specs.declared.answer.Answer.{Answer}
 use Rattle.mc_types.specs.declared.call.Outcome.{Outcome}
 use Rattle.mc_types.specs.declared.call.Origin.TheVariants.{Client as OfClient}
 use Rattle.mc_runs.specs.Run.{Call, End, outcome_of}
 use Rattle.mc_runs.specs.Fleet.{EndsIn}
+use Rattle.mc_runs.specs.Single.{FitsOutcome}
 use Rattle.mc_runs.specs.Log.{Part}
 use Rattle.mc_runs.specs.Sharing.{Event, Calls, after_event}
 use Rattle.mc_runs.specs.Overlap.{Slot, Starts, Sends, Happens, Shows, Passes, after_start, slot_of, IsNext, out_after}
@@ -13,9 +14,10 @@ use Rattle.mc_runs.specs.OverlapStanding.{Leads, found_after}
 use Rattle.request_parts.specs.Stream.{Place}
 use Rattle.text_codec.specs.Replies.{shown_text}
 use Rattle.route_tree.specs.At.{tree_at}
+use Rattle.route_tree.specs.Route.{IsTree}
 use Rattle.route_tree.specs.Word.{Given, Word, tree_words}
 use Rattle.route_job.specs.Rest.{ask_under, origin_under}
-use Rattle.route_job.specs.Jobs.{server_in, call_of, Comes}
+use Rattle.route_job.specs.Jobs.{server_in, call_of, Comes, IsCalling}
 use Rattle.proxy_core.specs.declared.client.Pending.{Pending}
 use Rattle.proxy_core.specs.declared.client.Client.{Client}
 use Rattle.proxy_core.specs.declared.command.Command.{Command}
@@ -27,7 +29,7 @@ pub record Turns (old new : Core) (client : ℕ) (a b : Option Client) : Type 0 
   pub was : client_at old client ≡ a
   pub is : client_at new client ≡ b
   pub others : (c : ℕ) → nat_eq client c ≡ false → client_at new c ≡ client_at old c
-  pub commands : new.commands ≡ old.commands
+  pub commands : (n : ℕ) → command_at new n ≡ command_at old n
   pub tree : new.tree ≡ old.tree
   pub number : new.number ≡ old.number
 
@@ -60,7 +62,9 @@ pub record Begins (old new : Core) (client : ℕ) (x y : Client) (part : Part di
   pub slot : IsSlot pending (slot_of (old.number + 1) part)
   -- the command is under way, and no call of it is out
   pub owner : owner_by command ≡ record { client = client; ask = part.ask }
-  pub job : (calls : List Call) (given : Given) → Comes command.job calls given → IsAsk part.ask × Word (tree_at old.tree part.ask.key) part.ask OfClient 0 calls given
+  pub asks : IsAsk part.ask
+  pub tree_is : IsTree old.tree
+  pub job : (calls : List Call) (given : Given) → Comes command.job calls given ↔ Word (tree_at old.tree part.ask.key) part.ask OfClient 0 calls given
   pub idle : command.is_out ≡ false
   pub commands : (n : ℕ) → command_at new n ≡ (if nat_eq (old.number + 1) n then Some command else command_at old n)
   pub tree : new.tree ≡ old.tree
@@ -70,8 +74,8 @@ pub record Begins (old new : Core) (client : ℕ) (x y : Client) (part : Part di
 pub record SendsOut (old new : Core) (number : ℕ) (a : Command) : Type 0 where
   pub was : command_at old number ≡ Some a
   pub idle : a.is_out ≡ false
+  pub calling : IsCalling a.job
   pub commands : (n : ℕ) → command_at new n ≡ (if nat_eq number n then Some (record a { is_out = true }) else command_at old n)
-  pub key : (ask_under a.job.frames.items a.job.ask).key ≡ a.ask.key
   pub clients : (c : ℕ) → client_at new c ≡ client_at old c
   pub tree : new.tree ≡ old.tree
   pub number_is : new.number ≡ old.number
@@ -80,12 +84,12 @@ pub record SendsOut (old new : Core) (number : ℕ) (a : Command) : Type 0 where
 pub record Resolves (old new : Core) (number : ℕ) (a b : Command) (outcome : Outcome) : Type 0 where
   pub was : command_at old number ≡ Some a
   pub waiting : a.is_out ≡ true
+  pub calling : IsCalling a.job
+  pub fits : FitsOutcome (ask_under a.job.frames.items a.job.ask) outcome
   pub commands : (n : ℕ) → command_at new n ≡ (if nat_eq number n then Some b else command_at old n)
   pub idle : b.is_out ≡ false
   pub owner : owner_by b ≡ owner_by a
-  pub rest : (calls : List Call) (given : Given) → Comes b.job calls given → Comes a.job (call_of a.job outcome ∷ calls) given
-  pub some : (calls : List Call) × (given : Given) × Comes b.job calls given
-  pub key : (ask_under a.job.frames.items a.job.ask).key ≡ a.ask.key
+  pub rest : (calls : List Call) (given : Given) → Comes b.job calls given ↔ Comes a.job (call_of a.job outcome ∷ calls) given
   pub clients : (c : ℕ) → client_at new c ≡ client_at old c
   pub tree : new.tree ≡ old.tree
   pub number_is : new.number ≡ old.number

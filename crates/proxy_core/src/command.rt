@@ -1,7 +1,14 @@
 //! A command that has begun and has not ended.
 
-use mc_types::Ask;
-use route_job::Job;
+ghost use Rattle.std.specs.Prelude.{◌≡◌, true, OnOk};
+ghost use Rattle.mc_runs.specs.Single.{FitsOutcome};
+ghost use Rattle.route_job.specs.Rest.{ask_under};
+ghost use Rattle.proxy_core.specs.Standing.{has_call_out};
+ghost use Rattle.proxy_core.specs.Settles.{TakesOutcome};
+
+use mc_types::{Ask, Outcome};
+use route_job::{Job, Step};
+use std::alloc::{AllocError, Global};
 
 /// A command that has begun and has not ended.
 #[derive(Drop)]
@@ -12,4 +19,27 @@ pub struct Command {
     pub client: usize,
     /// Whether its next call is out.
     pub is_out: bool,
+}
+
+impl Command {
+    /// Whether a call of it is out. It takes no memory.
+    pub fn has_call_out(&self) -> bool
+        ensures { result ≡ has_call_out self.now }
+    {
+        self.is_out
+            && match self.job.next() {
+                Step::Call { .. } => true,
+                Step::Done(_) => false,
+            }
+    }
+
+    /// The call that is out had this outcome. The only error: memory was refused, and its job is broken then.
+    pub fn take(&mut self, alloc: Global, outcome: Outcome) -> Result<(), AllocError>
+        requires out { has_call_out self.old ≡ true }
+        requires fits { FitsOutcome (ask_under self.old.job.frames.items self.old.job.ask) outcome }
+        ensures ok { OnOk result (TakesOutcome self.old outcome self.new) }
+    {
+        self.is_out = false;
+        self.job.take(alloc, outcome)
+    }
 }

@@ -7,7 +7,7 @@ pub enum ReloadFault {
     TooManyGenerations,
 }
 
-/// Why a call of the core did nothing. The core is then as it was.
+/// Why a call of the core did nothing, or ended early. The core is then as it was, but where memory was refused: then see the call.
 #[derive(Clone, Copy)]
 pub enum CoreFault {
     /// As many clients are open as may be.
@@ -18,6 +18,10 @@ pub enum CoreFault {
     InputFull,
     /// A command of the client has begun and not ended.
     UnderWay,
+    /// No call of the ticket's number is out in this core.
+    NoTicket,
+    /// The last number that there is was given to a command.
+    Spent,
     /// Memory was refused.
     NoMemory,
 }

@@ -1,6 +1,7 @@
 //! Laws of the core's steps: what a change of the core has to keep so that each log that led to it goes on. Each is a function without
 //! a body, whose contract is the law.
 
+ghost use Rattle.proxy_core.specs.Ending.{EndingIsAStep, DroppingIsAStep, FreeingIsAStep};
 ghost use Rattle.proxy_core.specs.Steps.{PassingIsAStep, BeginningIsAStep, SendingIsAStep, SettlingIsAStep, ShowingIsAStep};
 
 /// A message that asks no server is passed: a step of the core.
@@ -26,4 +27,19 @@ pub fn settling_is_a_step()
 /// The reply at the head of a client's commands is shown, and no other.
 pub fn showing_is_a_step()
     ensures { ShowingIsAStep }
+{}
+
+/// A command whose job is done has its reply.
+pub fn ending_is_a_step()
+    ensures { EndingIsAStep }
+{}
+
+/// Nothing is done for a client any more.
+pub fn dropping_is_a_step()
+    ensures { DroppingIsAStep }
+{}
+
+/// A command of such a client is broken off where no call of it is out.
+pub fn freeing_is_a_step()
+    ensures { FreeingIsAStep }
 {}

@@ -10,16 +10,22 @@ pub struct Limits {
     pub clients: usize,
     /// How many bytes may be held of a client.
     pub held: usize,
+    /// How many commands of a client may have no shown reply.
+    pub depth: usize,
+    /// How many calls may be out at a server.
+    pub window: usize,
 }
 
 impl Limits {
-    /// Those of scripts: 64 clients, and 2,097,152 bytes held of each.
+    /// Those of scripts: 64 clients, 2,097,152 bytes held of each and one command, and one call at each server.
     pub fn of_scripts() -> Limits
         ensures { result ≡ script_limits }
     {
         Limits {
             clients: 64,
             held: 2_097_152,
+            depth: 1,
+            window: 1,
         }
     }
 }

@@ -1,14 +1,120 @@
 //! What is asked of all commands that are under way.
 
-ghost use Rattle.std.specs.Prelude.{◌≡◌};
+ghost use Rattle.std.specs.Prelude.{◌≡◌, IfSome};
 ghost use Rattle.proxy_core.specs.Faults.{has_commands};
+ghost use Rattle.proxy_core.specs.Ready.{has_key, is_called, calls_at, IsTurn};
 
+use crate::client::Pending;
 use crate::command::Command;
 use indexmap::IndexMap;
+use mc_types::{Key, ServerId};
+use route_job::Step;
+use std::collections::VecDeque;
+
+/// What a command can do next.
+#[derive(Clone, Copy)]
+pub enum Turn {
+    /// Its next call can go out.
+    Sends,
+    /// Its next call waits, as its server has as many as it may have.
+    Full,
+    /// It can end.
+    Ends,
+    /// Its call is out, or it isn't there.
+    Rests,
+}
 
 /// Whether one of the commands is this client's.
 pub fn has_commands(client: usize, commands: &IndexMap<u64, Command>) -> bool
     ensures { result ≡ has_commands client commands.now }
 {
     commands.values().any(|command| command.client == client)
+}
+
+/// Whether a command on this key is under way. All of them are looked at: a map by key isn't there yet.
+pub fn has_key(key: &Key, commands: &IndexMap<u64, Command>) -> bool
+    ensures { result ≡ has_key key.now commands.now }
+{
+    commands.values().any(|command| command.ask.key == *key)
+}
+
+// Whether the command's call is out at this server.
+fn is_called(server: ServerId, command: &Command) -> bool
+    ensures { result ≡ is_called server command.now }
+{
+    command.is_out
+        && match command.job.next() {
+            Step::Call { server: at, .. } => at == server,
+            Step::Done(_) => false,
+        }
+}
+
+/// How many calls are out at a server. All commands are looked at.
+pub fn calls_at(server: ServerId, commands: &IndexMap<u64, Command>) -> usize
+    ensures { result ≡ calls_at server commands.now }
+{
+    commands
+        .values()
+        .filter(|command| is_called(server, command))
+        .count()
+}
+
+/// What the command of this number can do, where it is this client's.
+pub fn turn_of(client: usize, window: usize, number: u64, commands: &IndexMap<u64, Command>) -> Turn
+    ensures { IsTurn client window commands.now number result }
+{
+    let Some(command) = commands.get(&number) else {
+        return Turn::Rests;
+    };
+    if command.client != client || command.is_out {
+        return Turn::Rests;
+    }
+    match command.job.next() {
+        Step::Done(_) => Turn::Ends,
+        Step::Call { server, .. } => {
+            if calls_at(server, commands) < window {
+                Turn::Sends
+            } else {
+                Turn::Full
+            }
+        }
+    }
+}
+
+/// A command, and what it can do.
+#[derive(Clone, Copy)]
+pub struct Ready {
+    pub number: u64,
+    pub turn: Turn,
+}
+
+// Whether it can go on, or else waits for its server.
+fn is_wanted(full: bool, turn: Turn) -> bool {
+    match turn {
+        Turn::Sends | Turn::Ends => !full,
+        Turn::Full => full,
+        Turn::Rests => false,
+    }
+}
+
+/// The first of a client's commands that can go on, or else the first that waits for its server.
+pub fn first_ready(
+    full: bool,
+    client: usize,
+    window: usize,
+    queue: &VecDeque<Pending>,
+    commands: &IndexMap<u64, Command>,
+) -> Option<Ready>
+    ensures { IfSome result (λ ready. IsTurn client window commands.now ready.number ready.turn) }
+{
+    for pending in queue.iter() {
+        if pending.reply.is_none() {
+            let number = pending.number;
+            let turn = turn_of(client, window, number, commands);
+            if is_wanted(full, turn) {
+                return Some(Ready { number, turn });
+            }
+        }
+    }
+    None
 }

@@ -18,16 +18,16 @@ use std::alloc::Global;
 /// Clients, their commands that are under way, and the tree that those run by which begin.
 #[derive(Drop)]
 pub struct Core {
-    clients: Slab<Client>,
+    pub(crate) clients: Slab<Client>,
     /// The commands that have begun and have not ended, by number.
-    commands: IndexMap<u64, Command>,
-    tree: Tree,
+    pub(crate) commands: IndexMap<u64, Command>,
+    pub(crate) tree: Tree,
     /// The last number that was given to a command.
-    number: u64,
-    limits: Limits,
+    pub(crate) number: u64,
+    pub(crate) limits: Limits,
     /// How many trees were in use so far.
     generation: u32,
-    alloc: Global,
+    pub(crate) alloc: Global,
 }
 
 impl Core {
@@ -124,6 +124,13 @@ impl Core {
         ensures { IsTrue result ↔ IsOut self.now }
     {
         0 < self.commands.len()
+    }
+
+    /// The number of the tree in use, counted from 1. It takes no memory.
+    pub fn generation(&self) -> u32
+        ensures { result ≡ self.now.generation }
+    {
+        self.generation
     }
 
     /// Commands that begin from now on run by this tree, of which no gate is asked, and those that are under way end on

@@ -25,6 +25,8 @@ fn is_same(a: CoreFault, b: CoreFault) -> bool {
             | (CoreFault::InputFull, CoreFault::InputFull)
             | (CoreFault::UnderWay, CoreFault::UnderWay)
             | (CoreFault::NoMemory, CoreFault::NoMemory)
+            | (CoreFault::NoTicket, CoreFault::NoTicket)
+            | (CoreFault::Spent, CoreFault::Spent)
     )
 }
 

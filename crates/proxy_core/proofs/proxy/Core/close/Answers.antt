@@ -12,7 +12,7 @@ returns-clause-ok c =
         was = was;
         is = c.remove.ensures.updates.changed;
         others = others_by c.args.client old.clients c.remove.new.self c.remove.ensures.updates.others;
-        commands = refl;
+        commands = λ n. refl;
         tree = refl;
         number = refl;
       }) (sym c.if-has_commands.ensures),

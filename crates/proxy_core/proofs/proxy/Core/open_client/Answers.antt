@@ -18,7 +18,7 @@ returns-clause-ok c =
           was = w.in-Ok.ensures.was_vacant;
           is = w.in-Ok.ensures.updates.changed;
           others = others_by w.in-Ok.client old.clients c.insert.new.self w.in-Ok.ensures.updates.others;
-          commands = refl;
+          commands = λ n. refl;
           tree = refl;
           number = refl;
         }) c.new.ensures,

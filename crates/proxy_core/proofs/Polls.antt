@@ -1,0 +1,434 @@
+-- What is done for a client is a step of the core.
+use Rattle.std.proofs.Common.{◌≡◌, ◌↔◌, ℕ, ◌+◌, ◌<◌, Bool, true, false, cond, if◌then◌else◌, ◌||◌, List, [], ◌∷◌, ◌++◌, length, map, arith, inl, inr, Option, Some, None, option_map, MatchOption, refl, sym, ap, ◌∙◌, subst, nat_eq}
+use Rattle.std.proofs.lemmas.Bool.{eqb-true, eq-eqb}
+use Rattle.std.proofs.lemmas.List.{map-append}
+use Rattle.std.specs.Cmp.Lexicographic.{pointwise, nat_list_eq_equiv}
+use Rattle.std.specs.List.{list_any}
+use Rattle.std.specs.Prelude.{IsTrue, Result, Ok, Err, OnOk, OnErr, IfOk, IfErr, is_err}
+use Rattle.std.specs.Map.{lookup}
+use Rattle.mc_types.specs.Asks.{IsAsk}
+use Rattle.mc_types.specs.Acknowledged.{Acknowledges}
+use Rattle.mc_types.specs.declared.answer.Answer.{Answer}
+use Rattle.mc_types.specs.declared.ask.Ask.{Ask}
+use Rattle.mc_types.specs.declared.call.Origin.TheVariants.{Client as OfClient}
+use Rattle.mc_runs.specs.Run.{Call}
+use Rattle.mc_runs.specs.Overlap.{Slot, Owner, Entry, Starts, Sends, Ends, Shows, Passes, Drops}
+use Rattle.mc_runs.specs.Log.{Part}
+use Rattle.mc_runs.proofs.OverlapSteps.{walks_lead}
+use Rattle.route_tree.specs.At.{tree_at}
+use Rattle.route_tree.specs.Route.{IsTree}
+use Rattle.route_tree.specs.Word.{Given, Word, tree_words}
+use Rattle.route_job.specs.Jobs.{Comes, IsDone}
+use Rattle.proxy_core.specs.declared.answering.Passed.{Passed}
+use Rattle.proxy_core.specs.declared.client.Client.{Client}
+use Rattle.proxy_core.specs.declared.command.Command.{Command}
+use Rattle.proxy_core.specs.declared.proxy.Core.{Core}
+use Rattle.proxy_core.specs.declared.client.Pending.{Pending}
+use Rattle.proxy_core.specs.declared.fault.CoreFault.{CoreFault}
+use Rattle.proxy_core.specs.declared.fault.CoreFault.TheVariants as faults
+use Rattle.proxy_core.specs.declared.note.Note.{Note}
+use Rattle.proxy_core.specs.declared.note.Poll.{Poll}
+use Rattle.proxy_core.specs.declared.note.Poll.TheVariants as polls
+use Rattle.proxy_core.specs.declared.replying.Place.{Place}
+use Rattle.proxy_core.specs.declared.ticket.Ticket.{Ticket}
+use Rattle.proxy_core.specs.Steps.{Turns}
+use Rattle.proxy_core.specs.Fronts.{Stays, PassesFront, BeginsKey}
+use Rattle.proxy_core.specs.Ready.{has_key, IsIdle}
+use Rattle.proxy_core.specs.Begun.{IsBegun, ticket_of}
+use Rattle.proxy_core.specs.Polls.{ForClient, IsPassed, IsNothing, HasBegun, BeginsAt, CanSend, IsSent, IsEnded, IsServed, AreShown, queue_len, ShowsNext, StopsFirst, StopsAfter, Acts, Polls, IsPolled, IsHeldUp, IsWhy, SoEnded, SoFar, ReadFault, Perhaps, BeginsOne, DropsAll, StopsAt}
+use Rattle.proxy_core.specs.Settles.{freed}
+use Rattle.proxy_core.specs.Heads.{ShowsOne}
+use Rattle.proxy_core.specs.Replying.{IsPlace, Answers}
+use Rattle.proxy_core.specs.Finishing.{CanEnd, IsNote}
+use Rattle.proxy_core.specs.Standing.{dialect, Alone, client_at, command_at, front_by, output_by, dropped_by, owner_by, LeftBy, standing_of, AreSlots, IsAtFront, IsQueue, IsHeld, IsWaitedFor, ticket_by, GoesBy}
+use Rattle.proxy_core.proofs.Clients.{stays, command_stays, still_fits, owners}
+use Rattle.proxy_core.proofs.Slots.{same_held}
+use Rattle.proxy_core.proofs.Commands.{some_command}
+use Rattle.proxy_core.proofs.Passing.{passes}
+use Rattle.proxy_core.proofs.Beginning.{begins}
+use Rattle.proxy_core.proofs.Sending.{sends}
+use Rattle.proxy_core.proofs.Ending.{ends}
+use Rattle.proxy_core.proofs.Places.{there_at, replied_at}
+use Rattle.proxy_core.proofs.Showing.{shows}
+use Rattle.proxy_core.proofs.Chains.{Then, goes_then, goes_as, goes_nowhere}
+
+stays_at_front : (x y : Client) (slots : List (Slot dialect)) → Stays x y → IsAtFront x slots → IsAtFront y slots
+stays_at_front x y [] t h = t.waits ∙ h
+stays_at_front x y (slot ∷ []) t h = λ waits. let a = h (sym t.waits ∙ waits) in (a.0, a.1, a.2 ∙ sym t.index, (a.3.0, subst (λ p. dialect.Reads p slot.message a.3.0) (sym t.stream) a.3.1))
+stays_at_front x y (slot ∷ next ∷ slots) t h = stays_at_front x y (next ∷ slots) t h
+
+stays_queue : (x y : Client) (slots : List (Slot dialect)) → Stays x y → IsQueue (Some x) slots → IsQueue (Some y) slots
+stays_queue x y slots t q = (subst (λ l. AreSlots l slots) (sym t.queue) q.0, stays_at_front x y slots t q.1, subst (λ w. IsWaitedFor w slots) (sym t.waits) q.2)
+
+-- a client of whom nothing changed
+pub still_goes : (old new : Core) (client : ℕ) (x y : Client) → Turns old new client (Some x) (Some y) → Stays x y → GoesBy old IsNothing new
+still_goes old new client x y t p = λ beside fits. (
+  beside,
+  [],
+  still_fits old new client (Some x) (Some y) t beside fits (λ slots q. stays_queue x y slots p q) (λ n command slots h. same_held x y n command slots p.dropped h),
+  record { at = refl; holds = refl; found = refl; turn = refl },
+  refl,
+  walks_lead (tree_words beside.at) Alone (standing_of old beside) (standing_of new beside) [] (record {
+    may = tt;
+    like = record {
+      front = stays old new client (Some x) (Some y) t front_by (λ i. record { place = p.stream i; index = p.index i; waits = p.waits i });
+      queue = λ c. refl;
+      output = stays old new client (Some x) (Some y) t output_by p.output;
+      dropped = stays old new client (Some x) (Some y) t dropped_by p.dropped;
+      number = t.number;
+      owner = owners old new client (Some x) (Some y) t;
+      left = λ n o e calls reply from l. subst (λ m. LeftBy m calls reply from) (command_stays old new client (Some x) (Some y) t n) l;
+      out = λ s. refl;
+      holds = λ s k. refl;
+      found = λ n o e. refl;
+      turn = refl;
+    };
+  }),
+)
+
+-- what holds of a client that is there
+pub of_client : (core : Core) (client : ℕ) (Is : Client → Type 0) (x : Client) → client_at core client ≡ Some x → ForClient core client Is → Is x
+of_client core client Is x e h = subst (λ o. MatchOption o ⊥ Is) e h
+
+-- a message was passed
+pub passed_goes : (old new : Core) (client : ℕ) (x y : Client) (passed : Passed) → Turns old new client (Some x) (Some y) → PassesFront x passed y → GoesBy old (IsPassed client passed) new
+passed_goes old new client x y passed t p =
+    goes_as old new (λ entries. entries ≡ Passes client p.message p.next ∷ []) (IsPassed client passed) (λ entries is. (p.message, p.next, p.told, is)) (passes old new client x y p.message p.next t p.passes)
+
+-- nothing changed that the log knows
+pub same_goes : (old new : Core) → ((c : ℕ) → client_at new c ≡ client_at old c) → ((n : ℕ) → command_at new n ≡ command_at old n) → new.tree ≡ old.tree → new.number ≡ old.number → GoesBy old IsNothing new
+same_goes old new clients commands tree number = λ beside fits. (
+  beside,
+  [],
+  record {
+    queues = λ c. subst (λ o. IsQueue o (beside.queue c)) (sym (clients c)) (fits.queues c);
+    held = λ n command e. subst (λ o. IsHeld n command o (beside.queue command.client)) (sym (clients command.client)) (fits.held n command (sym (commands n) ∙ e));
+    numbered = λ c n lt. fits.numbered c n (subst (λ m. m < n) number lt);
+    left = λ n command e. fits.left n command (sym (commands n) ∙ e);
+    tickets = λ s n. fits.tickets s n ∙ ap (λ o. ticket_by o n s) (sym (commands n));
+    single = fits.single;
+    numbers = λ n lt. commands n ∙ fits.numbers n (subst (λ m. m < n) number lt);
+    unseen = λ n lt. fits.unseen n (subst (λ m. m < n) number lt);
+    trees = λ n key lt. fits.trees n key (subst (λ m. m < n) number lt) ∙ ap (λ r. tree_at r key) (sym tree);
+  },
+  record { at = refl; holds = refl; found = refl; turn = refl },
+  refl,
+  walks_lead (tree_words beside.at) Alone (standing_of old beside) (standing_of new beside) [] (record {
+    may = tt;
+    like = record {
+      front = λ c. ap front_by (clients c);
+      queue = λ c. refl;
+      output = λ c. ap output_by (clients c);
+      dropped = λ c. ap dropped_by (clients c);
+      number = number;
+      owner = λ n. ap (option_map owner_by) (commands n);
+      left = λ n o e calls reply from l. subst (λ m. LeftBy m calls reply from) (commands n) l;
+      out = λ s. refl;
+      holds = λ s k. refl;
+      found = λ n o e. refl;
+      turn = refl;
+    };
+  }),
+)
+
+-- no command that is found is on a key that none is on
+none_on : (key : List ℕ) (entries : List (ℕ × Command)) (n : ℕ) (a : Command) → list_any (λ (x : Command). pointwise nat_eq x.ask.key key) (map (λ e. e.1) entries) ≡ false → lookup (nat_eq n) entries ≡ Some a → pointwise nat_eq a.ask.key key ≡ false
+none_on key [] n a e f = absurd cc
+none_on key (x ∷ rest) n a e f =
+    (elim (nat_eq n x.0) as (λ b. cond b (Some x.1) (lookup (nat_eq n) rest) ≡ Some a → pointwise nat_eq a.ask.key key ≡ false) [
+      | true ↦ λ f. subst (λ (c : Command). pointwise nat_eq c.ask.key key ≡ false) (some_command f) (first (pointwise nat_eq x.1.ask.key key) _ e)
+      | false ↦ λ f. none_on key rest n a (later (pointwise nat_eq x.1.ask.key key) _ e) f
+    ]) f
+  where
+    first : (b r : Bool) → (b || r) ≡ false → b ≡ false
+    first true r e = absurd cc
+    first false r e = refl
+
+    later : (b r : Bool) → (b || r) ≡ false → r ≡ false
+    later true r e = absurd cc
+    later false r e = e
+
+-- so a command that begins has its key alone
+pub alone_is : (core : Core) (key : List ℕ) → has_key key core.commands ≡ false → (n : ℕ) (a : Command) → command_at core n ≡ Some a → a.ask.key ≡ key → ⊥
+alone_is core key none n a e same = differ _ (ap (λ k. pointwise nat_eq k key) same ∙ nat_list_eq_equiv.refl key) (none_on key core.commands.entries n a none e)
+  where
+    differ : (b : Bool) → b ≡ true → b ≡ false → ⊥
+    differ true e f = absurd cc
+    differ false e f = absurd cc
+
+-- a command began
+pub begun_goes :
+    (old new : Core) (client : ℕ) (x y : Client) (ask : Ask) (command : Command) → client_at old client ≡ Some x → client_at new client ≡ Some y → ((c : ℕ) → nat_eq client c ≡ false → client_at new c ≡ client_at old c)
+    → x.dropped ≡ false → has_key ask.key old.commands ≡ false → IsAsk ask → IsTree old.tree → IsBegun old.tree client ask command → BeginsKey x ask (old.number + 1) y
+    → ((n : ℕ) → command_at new n ≡ (if nat_eq (old.number + 1) n then Some command else command_at old n)) → new.tree ≡ old.tree → new.number ≡ old.number + 1 → BeginsAt old client ask new
+begun_goes old new client x y ask command was is others served none asks tree_is begun k commands tree number =
+    let part = k.part in
+    let back : ask ≡ part.ask = sym k.ask_is in
+    record {
+      number = number;
+      command = command;
+      idle = record {
+        was = commands new.number ∙ ap (λ b. if b then Some command else command_at old new.number) (eq-eqb (old.number + 1) new.number (sym number));
+        own = ap (λ (o : Owner). o.client) begun.owner;
+        idle = begun.idle;
+      };
+      served = subst (λ o. MatchOption o ⊥ IsServed) (sym is) (k.dropped ∙ served);
+      goes = goes_as old new (λ entries. entries ≡ Starts client (old.number + 1) part ∷ []) (HasBegun client new.number ask) (λ entries e. (part, k.ask_is, e ∙ ap (λ n. Starts client n part ∷ []) (sym number)))
+          (begins old new client x y part k.pending command (record {
+            was = was;
+            is = is;
+            others = others;
+            next = k.next;
+            served = served;
+            alone = λ n c e same. alone_is old ask.key none n c e (same ∙ ap (λ (a : Ask). a.key) k.ask_is);
+            front = k.front;
+            queue = k.queue;
+            output = k.output;
+            dropped = k.dropped;
+            slot = k.slot;
+            owner = begun.owner ∙ (λ i. record { client = client; ask = back i });
+            asks = subst IsAsk back asks;
+            tree_is = tree_is;
+            job = subst (λ (a : Ask). (calls : List Call) (given : Given) → Comes command.job calls given ↔ Word (tree_at old.tree a.key) a OfClient 0 calls given) back begun.job;
+            idle = begun.idle;
+            commands = commands;
+            tree = tree;
+            number = number;
+          }));
+    }
+
+-- a call went out
+pub sent_goes : (old new : Core) (number : ℕ) (can : CanSend old number) (ticket : Ticket) → ticket ≡ ticket_of number can.command.job → ((n : ℕ) → command_at new n ≡ (if nat_eq number n then Some (record can.command { is_out = true }) else command_at old n))
+    → ((c : ℕ) → client_at new c ≡ client_at old c) → new.tree ≡ old.tree → new.number ≡ old.number → GoesBy old (IsSent ticket) new
+sent_goes old new number can ticket is commands clients tree number_is =
+    goes_as old new (λ entries. entries ≡ (let t = ticket_of number can.command.job in Sends t.number t.server t.ask t.origin ∷ [])) (IsSent ticket) (λ entries e. e ∙ ap (λ (t : Ticket). Sends t.number t.server t.ask t.origin ∷ []) (sym is))
+    (sends old new number can.command (record { was = can.was; idle = can.idle; calling = can.calling; commands = commands; clients = clients; tree = tree; number_is = number_is }))
+
+-- what holds after an error, and after none
+pub when_err : {A E : Type 0} (r : Result A E) (P : Type 0) → is_err r ≡ true → OnErr r P → P
+when_err (Ok a) P e h = absurd cc
+when_err (Err x) P e h = h
+
+pub when_ok : {A E : Type 0} (r : Result A E) (P : Type 0) → is_err r ≡ false → OnOk r P → P
+when_ok (Ok a) P e h = h
+when_ok (Err x) P e h = absurd cc
+
+-- a command that was written back as it was
+pub written_back : (old new : Core) (number : ℕ) (a : Command) → command_at old number ≡ Some a → ((n : ℕ) → command_at new n ≡ cond (nat_eq number n) (Some a) (command_at old n)) → ((c : ℕ) → client_at new c ≡ client_at old c) → new.tree ≡ old.tree → new.number ≡ old.number → GoesBy old IsNothing new
+written_back old new number a was commands clients tree number_is =
+    same_goes old new clients (λ n. commands n ∙ (elim (nat_eq number n) as (λ b. nat_eq number n ≡ b → cond b (Some a) (command_at old n) ≡ command_at old n) [
+      | true ↦ λ same. sym was ∙ ap (command_at old) (eqb-true number n same)
+      | false ↦ λ differs. refl
+    ]) refl) tree number_is
+
+-- a command ended
+pub ended_goes :
+    (old new : Core) (client number : ℕ) (x y : Client) (can : CanEnd old client number) (place : Place) (is : IsPlace x number place) (given : Given) (ask : Ask) (note : Note) (reply : Answer)
+    → client_at old client ≡ Some x → client_at new client ≡ Some y → ((c : ℕ) → nat_eq client c ≡ false → client_at new c ≡ client_at old c) → x.dropped ≡ false
+    → Comes can.command.job [] given → ask ≡ can.command.ask → IsNote number ask given note reply → Answers x place.at is.pending.last reply y
+    → ((n : ℕ) → command_at new n ≡ cond (nat_eq number n) None (command_at old n)) → new.tree ≡ old.tree → new.number ≡ old.number → GoesBy old (IsEnded client note) new
+ended_goes old new client number x y can place is given ask note reply was here others served comes ask_is told replies commands tree number_is =
+    let a = can.command in
+    let own : a.client ≡ client = can.idle.own in
+    let r : Answers x place.at is.pending.last given.reply y = subst (λ (z : Answer). Answers x place.at is.pending.last z y) told.reply_is replies in
+    goes_as old new (λ entries. (part : Part dialect) × (part.ask ≡ a.ask) × (entries ≡ Ends a.client number part given.reply given.from ∷ [])) (IsEnded client note)
+    (λ entries h.
+    let same : ask ≡ h.0.ask = ask_is ∙ sym h.1 in (
+      h.0,
+      given.reply,
+      told.key ∙ ap (λ (k : Ask). k.key) same,
+      subst (λ (k : Ask). IsTrue note.acknowledged ↔ Acknowledges k given.reply) same told.acknowledged,
+      h.2 ∙ (λ i. Ends (own i) (sym told.number_is i) h.0 given.reply (sym told.from i) ∷ []),
+    ))
+    (ends old new number a x y is.pending given.reply given.from (record {
+      was = can.idle.was;
+      idle = can.idle.idle;
+      done = comes;
+      client_was = ap (client_at old) own ∙ was;
+      client_is = ap (client_at new) own ∙ here;
+      others = λ c differs. others c (ap (λ k. nat_eq k c) (sym own) ∙ differs);
+      served = served;
+      there = there_at number x.queue.items place.at is.pending is.first is.is;
+      queue = r.queue is.pending is.is ∙ replied_at number given.reply x.queue.items place.at is.pending is.first is.is;
+      front = r.front;
+      output = r.output;
+      dropped = r.dropped;
+      commands = commands;
+      tree = tree;
+      number_is = number_is;
+    }))
+
+pub some_client : {x y : Client} → ◌≡◌ {A = Option Client} (Some x) (Some y) → x ≡ y
+some_client e = cc
+
+-- the command that was found
+abbrev pub ends_as : (core : Core) (client number : ℕ) (can : CanEnd core client number) (a : Command) → command_at core number ≡ Some a → CanEnd core client number
+ends_as core client number can a was =
+    let same : can.command ≡ a = some_command (sym can.idle.was ∙ was) in
+    record { command = a; idle = subst (λ (c : Command). IsIdle client core.commands number c) same can.idle; done = subst (λ (c : Command). IsDone c.job) same can.done }
+
+-- the head was looked at
+pub shown_goes : (old new : Core) (client : ℕ) (x y : Client) (shown : Bool) → Turns old new client (Some x) (Some y) → x.dropped ≡ false → ShowsOne x shown y → ShowsNext old client shown new
+shown_goes old new client x y true t served p = (
+  goes_as old new (λ entries. (slot : Slot dialect) × (slot.number ≡ p.0.number) × (entries ≡ Shows client slot p.1 ∷ [])) (AreShown client) (λ entries h. ((h.0, p.1) ∷ [], h.2)) (shows old new client x y p.0 p.1 t p.2),
+  subst (λ o. MatchOption o ⊥ IsServed) (sym t.is) (p.2.dropped ∙ served),
+  (
+      let was = ap queue_len t.was ∙ ap length p.2.head in
+      let is = ap queue_len t.is ∙ ap length p.2.queue in
+      less (queue_len (client_at new client)) (queue_len (client_at old client)) p.2.rest p.0 was is
+      ),
+)
+  where
+    less : (a b : ℕ) (rest : List Pending) (q : Pending) → b ≡ length (q ∷ rest) → a ≡ length rest → a < b
+    less a b rest q e f = omega (arith, e, f)
+shown_goes old new client x y false t served p = (
+  still_goes old new client x y t (record { stream = ap (λ (z : Client). z.stream) p.1; index = ap (λ (z : Client). z.index) p.1; waits = ap (λ (z : Client). z.waits) p.1; queue = ap (λ (z : Client). z.queue.items) p.1; output = ap (λ (z : Client). z.output.items) p.1; dropped = ap (λ (z : Client). z.dropped) p.1 }),
+  subst (λ o. MatchOption o ⊥ IsServed) (sym t.is) (ap (λ (z : Client). z.dropped) p.1 ∙ served),
+)
+
+-- replies that were shown, and after them some more
+pub shown_more : (client : ℕ) (entries : List (Entry dialect)) → Then (AreShown client) (AreShown client) entries → AreShown client entries
+shown_more client entries h =
+    let first = h.2 in
+    let second = h.3 in
+    (second.0 ++ first.0, h.4 ∙ (λ i. second.1 i ++ first.1 i) ∙ sym (map-append (λ s. Shows client s.0 s.1) second.0 first.0))
+
+pub none_shown : (client : ℕ) (entries : List (Entry dialect)) → IsNothing entries → AreShown client entries
+none_shown client entries e = ([], e)
+
+-- some more were shown
+pub show_on : (old mid new : Core) (client : ℕ) → GoesBy old (AreShown client) mid → GoesBy mid (AreShown client) new → GoesBy old (AreShown client) new
+show_on old mid new client a b = goes_as old new (Then (AreShown client) (AreShown client)) (AreShown client) (shown_more client) (goes_then old mid new (AreShown client) (AreShown client) a b)
+
+-- none more was
+pub show_none : (old mid new : Core) (client : ℕ) → GoesBy old (AreShown client) mid → GoesBy mid IsNothing new → GoesBy old (AreShown client) new
+show_none old mid new client a b = show_on old mid new client a (goes_as mid new IsNothing (AreShown client) (none_shown client) b)
+
+-- memory was refused after some
+pub show_stops : (old mid new : Core) (client : ℕ) (fault : CoreFault) → GoesBy old (AreShown client) mid → StopsFirst client mid fault new → StopsAfter client (AreShown client) old fault new
+show_stops old mid new client faults.NoMemory a b = (show_none old mid new client a b.0, b.1)
+show_stops old mid new client faults.TooManyClients a b = absurd b
+show_stops old mid new client faults.NoClient a b = absurd b
+show_stops old mid new client faults.InputFull a b = absurd b
+show_stops old mid new client faults.UnderWay a b = absurd b
+show_stops old mid new client faults.NoTicket a b = absurd b
+show_stops old mid new client faults.Spent a b = absurd b
+
+-- a command ended, and replies were shown
+pub finish_goes : (old mid new : Core) (client : ℕ) (note : Note) → GoesBy old (IsEnded client note) mid → GoesBy mid (AreShown client) new → Acts old client (polls.Did note) new
+finish_goes old mid new client note a b = record { goes = goes_then old mid new (IsEnded client note) (AreShown client) a b; why = tt }
+
+pub finish_stops : (old mid new : Core) (client : ℕ) (note : Note) (fault : CoreFault) → GoesBy old (IsEnded client note) mid → StopsAfter client (AreShown client) mid fault new → StopsAfter client (SoEnded client) old fault new
+finish_stops old mid new client note faults.NoMemory a b =
+    (goes_as old new (Then (IsEnded client note) (AreShown client)) (SoEnded client) (λ entries h. (h.0, h.1, inr (note, h.2), h.3, h.4)) (goes_then old mid new (IsEnded client note) (AreShown client) a b.0), b.1)
+finish_stops old mid new client note faults.TooManyClients a b = absurd b
+finish_stops old mid new client note faults.NoClient a b = absurd b
+finish_stops old mid new client note faults.InputFull a b = absurd b
+finish_stops old mid new client note faults.UnderWay a b = absurd b
+finish_stops old mid new client note faults.NoTicket a b = absurd b
+finish_stops old mid new client note faults.Spent a b = absurd b
+
+ended_nothing : (client : ℕ) (entries : List (Entry dialect)) → IsNothing entries → SoEnded client entries
+ended_nothing client entries e = ([], [], inl refl, ([], refl), e)
+
+append_nil : (entries : List (Entry dialect)) → entries ≡ entries ++ []
+append_nil [] = refl
+append_nil (x ∷ entries) = ap (λ l. x ∷ l) (append_nil entries)
+
+-- a command ended so far
+pub ended_stops : (old new : Core) (client : ℕ) (fault : CoreFault) → StopsAfter client (SoEnded client) old fault new → ReadFault old client fault new
+ended_stops old new client faults.NoMemory a = (goes_as old new (SoEnded client) (SoFar client) (λ entries h. ([], entries, inl refl, h, append_nil entries)) a.0, a.1)
+ended_stops old new client faults.TooManyClients a = absurd a
+ended_stops old new client faults.NoClient a = absurd a
+ended_stops old new client faults.InputFull a = absurd a
+ended_stops old new client faults.UnderWay a = absurd a
+ended_stops old new client faults.NoTicket a = absurd a
+ended_stops old new client faults.Spent a = absurd a
+
+-- nothing happened so far
+pub first_ended : (old new : Core) (client : ℕ) (fault : CoreFault) → StopsFirst client old fault new → StopsAfter client (SoEnded client) old fault new
+first_ended old new client faults.NoMemory a = (goes_as old new IsNothing (SoEnded client) (λ entries e. ended_nothing client entries e) a.0, a.1)
+first_ended old new client faults.TooManyClients a = absurd a
+first_ended old new client faults.NoClient a = absurd a
+first_ended old new client faults.InputFull a = absurd a
+first_ended old new client faults.UnderWay a = absurd a
+first_ended old new client faults.NoTicket a = absurd a
+first_ended old new client faults.Spent a = absurd a
+
+pub first_stops : (old new : Core) (client : ℕ) (fault : CoreFault) → StopsFirst client old fault new → ReadFault old client fault new
+first_stops old new client fault a = ended_stops old new client fault (first_ended old new client fault a)
+
+-- a command began before it
+pub begun_stops : (old mid new : Core) (client : ℕ) (ask : Ask) (fault : CoreFault) → BeginsAt old client ask mid → StopsAfter client (SoEnded client) mid fault new → ReadFault old client fault new
+begun_stops old mid new client ask faults.NoMemory a b = (
+  goes_as old new (Then (HasBegun client mid.number ask) (SoEnded client)) (SoFar client) (λ entries h. (h.0, h.1, inr (mid.number, ask, h.2), h.3, h.4)) (goes_then old mid new (HasBegun client mid.number ask) (SoEnded client) a.goes b.0),
+  b.1,
+)
+begun_stops old mid new client ask faults.TooManyClients a b = absurd b
+begun_stops old mid new client ask faults.NoClient a b = absurd b
+begun_stops old mid new client ask faults.InputFull a b = absurd b
+begun_stops old mid new client ask faults.UnderWay a b = absurd b
+begun_stops old mid new client ask faults.NoTicket a b = absurd b
+begun_stops old mid new client ask faults.Spent a b = absurd b
+
+-- why a command is held up is why nothing was done
+pub why_of : (old new : Core) (client : ℕ) (poll : Poll) → IsHeldUp client poll new → IsWhy old client poll new
+why_of old new client polls.Idle h = absurd h
+why_of old new client polls.Own h = tt
+why_of old new client polls.Refused h = tt
+why_of old new client (polls.Call ticket) h = tt
+why_of old new client polls.Waiting h = tt
+why_of old new client polls.Busy h = inl h
+why_of old new client (polls.Did note) h = tt
+
+-- the same answer, where nothing began before it
+pub acts_polls : (old new : Core) (client : ℕ) (poll : Poll) → Acts old client poll new → Polls old client poll new
+acts_polls old new client poll a = record { goes = polled_as old new client poll a.goes; why = why_of old new client poll a.why }
+  where
+    polled_as : (old new : Core) (client : ℕ) (poll : Poll) → GoesBy old (IsPolled client poll) new → GoesBy old (Then (Perhaps (BeginsOne client)) (IsPolled client poll)) new
+    polled_as old new client poll g =
+        goes_as old new (Then IsNothing (IsPolled client poll)) (Then (Perhaps (BeginsOne client)) (IsPolled client poll)) (λ entries h. (h.0, h.1, inl h.2, h.3, h.4)) (goes_then old old new IsNothing (IsPolled client poll) (goes_nowhere old) g)
+
+-- and where a command did
+pub begun_polls : (old mid new : Core) (client : ℕ) (ask : Ask) (poll : Poll) → BeginsAt old client ask mid → Acts mid client poll new → Polls old client poll new
+begun_polls old mid new client ask poll a b =
+    record {
+      goes = goes_as old new (Then (HasBegun client mid.number ask) (IsPolled client poll)) (Then (Perhaps (BeginsOne client)) (IsPolled client poll)) (λ entries h. (h.0, h.1, inr (mid.number, ask, h.2), h.3, h.4))
+          (goes_then old mid new (HasBegun client mid.number ask) (IsPolled client poll) a.goes b.goes);
+      why = why_of old new client poll b.why;
+    }
+
+-- an answer by which nothing happened
+pub nothing_polls : (old : Core) (client : ℕ) (poll : Poll) → ((entries : List (Entry dialect)) → IsNothing entries → IsPolled client poll entries) → IsWhy old client poll old → Polls old client poll old
+nothing_polls old client poll f why =
+    record { goes = goes_as old old IsNothing (Then (Perhaps (BeginsOne client)) (IsPolled client poll)) (λ entries e. ([], [], inl refl, f [] refl, e)) (goes_nowhere old); why = why }
+
+-- what holds of a client gives what else holds of it
+pub for_map : (core : Core) (client : ℕ) (P Q : Client → Type 0) → ((x : Client) → P x → Q x) → ForClient core client P → ForClient core client Q
+for_map core client P Q f h = by (client_at core client) h
+  where
+    by : (o : Option Client) → MatchOption o ⊥ P → MatchOption o ⊥ Q
+    by None h = h
+    by (Some x) h = f x h
+
+pub if_err : {A E : Type 0} (r : Result A E) (P Q : E → Type 0) → ((e : E) → P e → Q e) → IfErr r P → IfErr r Q
+if_err (Ok a) P Q f h = tt
+if_err (Err e) P Q f h = f e h
+
+pub if_ok : {A E : Type 0} (r : Result A E) (P Q : A → Type 0) → ((a : A) → P a → Q a) → IfOk r P → IfOk r Q
+if_ok (Ok a) P Q f h = f a h
+if_ok (Err e) P Q f h = tt
+
+-- a client of whom nothing changed is served still
+pub still_served : (old new : Core) (client : ℕ) (x y : Client) → Turns old new client (Some x) (Some y) → Stays x y → x.dropped ≡ false → ForClient new client IsServed
+still_served old new client x y t p served = subst (λ o. MatchOption o ⊥ IsServed) (sym t.is) (p.dropped ∙ served)
+
+-- memory was refused for one that was served
+pub refused : (old mid new : Core) (client : ℕ) (drops : DropsAll mid client new) → ReadFault old client faults.NoMemory mid → StopsAt old client new
+refused old mid new client d a =
+    record {
+      numbers = d.numbers;
+      goes = goes_then old mid new (SoFar client) (λ entries. entries ≡ freed d.numbers ++ Drops client ∷ []) a.0 d.goes;
+      gone = d.gone;
+      dropped = d.dropped;
+    }

@@ -1,0 +1,83 @@
+-- What changes in the core when a command of a client has its reply, nothing is done for a client any more, and a command of such a client is broken off; that each of these is a step of the core is a law. Source: mcgate's own.
+use Rattle.std.specs.Prelude.{◌≡◌, ℕ, ◌+◌, Bool, true, false, List, [], ◌∷◌, Option, Some, None, if◌then◌else◌, nat_eq}
+use Rattle.mc_types.specs.declared.answer.Answer.{Answer}
+use Rattle.mc_runs.specs.Log.{Part}
+use Rattle.mc_runs.specs.Overlap as log
+use Rattle.mc_runs.specs.Overlap.{Front, Entry, Happens}
+use Rattle.request_parts.specs.Stream.{Place}
+use Rattle.route_job.specs.Jobs.{Comes}
+use Rattle.proxy_core.specs.declared.client.Pending.{Pending}
+use Rattle.proxy_core.specs.declared.client.Client.{Client}
+use Rattle.proxy_core.specs.declared.command.Command.{Command}
+use Rattle.proxy_core.specs.declared.proxy.Core.{Core}
+use Rattle.proxy_core.specs.Standing.{dialect, Message, client_at, command_at, front_by, GoesBy, GoesByOne}
+use Rattle.proxy_core.specs.Steps.{Turns}
+
+-- the first command of this number in a client's queue
+abbrev pub pending_in : ℕ → List Pending → Option Pending
+pending_in n [] = None
+pending_in n (pending ∷ rest) = if nat_eq pending.number n then Some pending else pending_in n rest
+
+-- it has its reply
+abbrev pub replied_in : ℕ → Answer → List Pending → List Pending
+replied_in n reply [] = []
+replied_in n reply (pending ∷ rest) = if nat_eq pending.number n then record pending { reply = Some reply } ∷ rest else pending ∷ replied_in n reply rest
+
+-- where the starting of a client's commands goes on when this reply has come: of a last key it had gone on before; of any other it stands behind the message, where the reply ends it, or before its next key
+abbrev pub GoesOn : Bool → Client → Answer → Client → Type 0
+GoesOn true x reply y = front_by (Some y) ≡ front_by (Some x)
+GoesOn false x reply y =
+    (message : Message) × (next : Place) × dialect.Reads x.stream message next
+    × (◌≡◌ {A = Front dialect} (front_by (Some y)) (if dialect.ends message x.index reply then record { place = next; index = 0; waits = false } else record { place = x.stream; index = x.index + 1; waits = false }))
+
+-- the command of this number, whose job is done, is over, and its client's queue has its reply
+pub record Ends (old new : Core) (number : ℕ) (a : Command) (x y : Client) (pending : Pending) (reply : Answer) (from : Option ℕ) : Type 0 where
+  pub was : command_at old number ≡ Some a
+  pub idle : a.is_out ≡ false
+  pub done : Comes a.job [] (record { reply = reply; from = from })
+  pub client_was : client_at old a.client ≡ Some x
+  pub client_is : client_at new a.client ≡ Some y
+  pub others : (c : ℕ) → nat_eq a.client c ≡ false → client_at new c ≡ client_at old c
+  pub served : x.dropped ≡ false
+  pub there : pending_in number x.queue.items ≡ Some pending
+  pub queue : y.queue.items ≡ replied_in number reply x.queue.items
+  pub front : GoesOn pending.last x reply y
+  pub output : y.output.items ≡ x.output.items
+  pub dropped : y.dropped ≡ x.dropped
+  pub commands : (n : ℕ) → command_at new n ≡ (if nat_eq number n then None else command_at old n)
+  pub tree : new.tree ≡ old.tree
+  pub number_is : new.number ≡ old.number
+
+-- nothing is done for the client any more, and nothing else of it changes
+pub record Drops (x y : Client) : Type 0 where
+  pub stream : y.stream ≡ x.stream
+  pub index : y.index ≡ x.index
+  pub waits : y.waits ≡ x.waits
+  pub queue : y.queue.items ≡ x.queue.items
+  pub output : y.output.items ≡ x.output.items
+  pub dropped : y.dropped ≡ true
+
+-- a command of such a client, of which no call is out, is broken off
+pub record Frees (old new : Core) (number : ℕ) (a : Command) (x : Client) : Type 0 where
+  pub was : command_at old number ≡ Some a
+  pub idle : a.is_out ≡ false
+  pub client_was : client_at old a.client ≡ Some x
+  pub dropped : x.dropped ≡ true
+  pub clients : (c : ℕ) → client_at new c ≡ client_at old c
+  pub commands : (n : ℕ) → command_at new n ≡ (if nat_eq number n then None else command_at old n)
+  pub tree : new.tree ≡ old.tree
+  pub number_is : new.number ≡ old.number
+
+-- a command has its reply
+abbrev pub EndingIsAStep : Type 0
+EndingIsAStep =
+    (old new : Core) (number : ℕ) (a : Command) (x y : Client) (pending : Pending) (reply : Answer) (from : Option ℕ) → Ends old new number a x y pending reply from
+    → GoesBy old (λ entries. (part : Part dialect) × (part.ask ≡ a.ask) × (entries ≡ log.Ends a.client number part reply from ∷ [])) new
+
+-- a client is dropped
+abbrev pub DroppingIsAStep : Type 0
+DroppingIsAStep = (old new : Core) (client : ℕ) (x y : Client) → Turns old new client (Some x) (Some y) → Drops x y → GoesByOne old (log.Drops client) new
+
+-- a command of a dropped client is broken off
+abbrev pub FreeingIsAStep : Type 0
+FreeingIsAStep = (old new : Core) (number : ℕ) (a : Command) (x : Client) → Frees old new number a x → GoesByOne old (log.Frees number) new

@@ -1,0 +1,235 @@
+-- What a call of `poll` does, step by step. Source: mcgate's own.
+use Rattle.std.specs.Prelude.{◌≡◌, ◌↔◌, IsTrue, ℕ, ◌+◌, Bool, true, false, List, [], ◌∷◌, ◌++◌, Option, Some, None, MatchOption, ◌<◌, ◌⊎◌, length, map as each}
+use Rattle.mc_types.specs.Acknowledged.{Acknowledges}
+use Rattle.mc_types.specs.declared.ask.Ask.{Ask}
+use Rattle.mc_types.specs.declared.answer.Answer.{Answer}
+use Rattle.mc_runs.specs.Log.{Part}
+use Rattle.mc_runs.specs.Overlap.{Slot, Entry, Starts, Sends, Ends, Shows, Passes, Drops}
+use Rattle.mc_runs.specs.Protocol.{IsStuck}
+use Rattle.request_parts.specs.Stream.{Place, Stands}
+use Rattle.client_requests.specs.declared.reader.Read.{Read}
+use Rattle.client_requests.specs.declared.request.Request.{Request}
+use Rattle.request_parts.specs.declared.skip.Skip.TheVariants.{Nothing}
+use Rattle.client_requests.specs.Message.{IsReadFrom, message_in}
+use Rattle.client_requests.specs.Asks.{asks_of}
+use Rattle.text_codec.specs.Held.{IsReadAt, held_at}
+use Rattle.proxy_core.specs.declared.answering.Passed.{Passed}
+use Rattle.proxy_core.specs.declared.client.Client.{Client}
+use Rattle.proxy_core.specs.declared.fault.CoreFault.{CoreFault}
+use Rattle.proxy_core.specs.declared.fault.CoreFault.TheVariants as faults
+use Rattle.proxy_core.specs.declared.proxy.Core.{Core}
+use Rattle.route_job.specs.Jobs.{IsCalling}
+use Rattle.proxy_core.specs.declared.command.Command.{Command}
+use Rattle.proxy_core.specs.declared.answering.Passed.TheVariants.{Own, Refused}
+use Rattle.proxy_core.specs.declared.looking.Turn.TheVariants.{Full}
+use Rattle.proxy_core.specs.declared.note.Note.{Note}
+use Rattle.proxy_core.specs.declared.note.Poll.{Poll}
+use Rattle.proxy_core.specs.declared.note.Poll.TheVariants as polls
+use Rattle.proxy_core.specs.Settles.{freed, HasNoIdle}
+use Rattle.proxy_core.specs.declared.ticket.Ticket.{Ticket}
+use Rattle.proxy_core.specs.Standing.{dialect, Message, client_at, command_at, output_by, dropped_by, GoesBy}
+use Rattle.proxy_core.specs.Fronts.{AsksNone, told_of, IsAskAt}
+use Rattle.proxy_core.specs.Ready.{IsIdle, IsTurn, has_key}
+
+-- this holds of the client, which is there
+abbrev pub ForClient : Core → ℕ → (Client → Type 0) → Type 0
+ForClient core client Is = MatchOption (client_at core client) ⊥ Is
+
+abbrev pub IsServed : Client → Type 0
+IsServed x = x.dropped ≡ false
+
+-- nothing is under way for the client, which is served, and this was read at its front: a message that asks no server
+pub record IsPassing (read : Read) (x : Client) : Type 0 where
+  pub is_read : IsReadAt x.stream read
+  pub asks : AsksNone x.stream read
+  pub served : x.dropped ≡ false
+  pub none : x.queue.items ≡ []
+
+-- a message that asks no server was passed, and is told so
+abbrev pub IsPassed : ℕ → Passed → List (Entry dialect) → Type 0
+IsPassed client passed entries = (message : Message) × (next : Place) × (passed ≡ told_of message) × (entries ≡ Passes client message next ∷ [])
+
+-- nothing happened
+abbrev pub IsNothing : List (Entry dialect) → Type 0
+IsNothing entries = entries ≡ []
+
+-- memory was refused after entries of this kind, and the client is served still
+abbrev pub StopsAfter : ℕ → (List (Entry dialect) → Type 0) → Core → CoreFault → Core → Type 0
+StopsAfter client IsKind old faults.NoMemory new = GoesBy old IsKind new × ForClient new client IsServed
+StopsAfter client IsKind old faults.TooManyClients new = ⊥
+StopsAfter client IsKind old faults.NoClient new = ⊥
+StopsAfter client IsKind old faults.InputFull new = ⊥
+StopsAfter client IsKind old faults.UnderWay new = ⊥
+StopsAfter client IsKind old faults.NoTicket new = ⊥
+StopsAfter client IsKind old faults.Spent new = ⊥
+
+-- memory was refused before anything happened
+abbrev pub StopsFirst : ℕ → Core → CoreFault → Core → Type 0
+StopsFirst client = StopsAfter client IsNothing
+
+-- the next key of the request at the front of the client, which is served, is this ask's
+pub record CanBegin (request : Request) (ask : Ask) (x : Client) : Type 0 where
+  pub at : IsAskAt x request ask
+  pub ready : x.waits ≡ false
+  pub served : x.dropped ≡ false
+
+-- the request stands at the front of the client, which is served, and a key of it is next
+pub record CanAsk (request : Request) (x : Client) : Type 0 where
+  pub stands : x.stream ≡ Stands Nothing (held_at x.stream)
+  pub is_read : IsReadFrom (held_at x.stream) request
+  pub there : x.index < length (asks_of (message_in (held_at x.stream) request))
+  pub ready : x.waits ≡ false
+  pub served : x.dropped ≡ false
+
+-- a command of this ask began
+abbrev pub HasBegun : ℕ → ℕ → Ask → List (Entry dialect) → Type 0
+HasBegun client number ask entries = (part : Part dialect) × (part.ask ≡ ask) × (entries ≡ Starts client number part ∷ [])
+
+-- it has the next number, and no call of it is out
+pub record BeginsAt (old : Core) (client : ℕ) (ask : Ask) (new : Core) : Type 0 where
+  pub number : new.number ≡ old.number + 1
+  pub command : Command
+  pub idle : IsIdle client new.commands new.number command
+  pub served : ForClient new client (λ x. x.dropped ≡ false)
+  pub goes : GoesBy old (HasBegun client new.number ask) new
+
+-- the call of this command can go out
+pub record CanSend (core : Core) (number : ℕ) : Type 0 where
+  pub command : Command
+  pub was : command_at core number ≡ Some command
+  pub idle : command.is_out ≡ false
+  pub calling : IsCalling command.job
+
+-- this call went out
+abbrev pub IsSent : Ticket → List (Entry dialect) → Type 0
+IsSent ticket entries = entries ≡ Sends ticket.number ticket.server ticket.ask ticket.origin ∷ []
+
+-- a command ended that is told so
+abbrev pub IsEnded : ℕ → Note → List (Entry dialect) → Type 0
+IsEnded client note entries =
+    (part : Part dialect) × (reply : Answer) × (note.key ≡ part.ask.key) × (IsTrue note.acknowledged ↔ Acknowledges part.ask reply) × (entries ≡ Ends client note.number part reply note.from ∷ [])
+
+-- replies of the client's commands were shown
+abbrev pub AreShown : ℕ → List (Entry dialect) → Type 0
+AreShown client entries = (shown : List (Slot dialect × Answer)) × (entries ≡ each (λ s. Shows client s.0 s.1) shown)
+
+abbrev pub queue_len : Option Client → ℕ
+queue_len None = 0
+queue_len (Some x) = length x.queue.items
+
+-- whether the head of the client's commands had a reply, which was shown then
+abbrev pub ShowsNext : Core → ℕ → Bool → Core → Type 0
+ShowsNext old client true new = GoesBy old (AreShown client) new × ForClient new client IsServed × (queue_len (client_at new client) < queue_len (client_at old client))
+ShowsNext old client false new = GoesBy old IsNothing new × ForClient new client IsServed
+
+-- entries of the one kind, and after them some of the other
+abbrev pub Then : (List (Entry dialect) → Type 0) → (List (Entry dialect) → Type 0) → List (Entry dialect) → Type 0
+Then IsFirst IsSecond entries = (first second : List (Entry dialect)) × IsFirst first × IsSecond second × (entries ≡ second ++ first)
+
+abbrev pub Perhaps : (List (Entry dialect) → Type 0) → List (Entry dialect) → Type 0
+Perhaps IsKind entries = IsNothing entries ⊎ IsKind entries
+
+abbrev pub BeginsOne : ℕ → List (Entry dialect) → Type 0
+BeginsOne client entries = (number : ℕ) × (ask : Ask) × HasBegun client number ask entries
+
+abbrev pub EndsOne : ℕ → List (Entry dialect) → Type 0
+EndsOne client entries = (note : Note) × IsEnded client note entries
+
+-- what happened by this answer; a command may have begun before it
+abbrev pub IsPolled : ℕ → Poll → List (Entry dialect) → Type 0
+IsPolled client polls.Idle = IsNothing
+IsPolled client polls.Own = IsPassed client Own
+IsPolled client polls.Refused = IsPassed client Refused
+IsPolled client (polls.Call ticket) = IsSent ticket
+IsPolled client polls.Waiting = IsNothing
+IsPolled client polls.Busy = IsNothing
+IsPolled client (polls.Did note) = Then (IsEnded client note) (AreShown client)
+
+-- nothing is done for the client any more, or no whole message is held of it and none of its commands is under way
+abbrev pub IsDone : Client → Type 0
+IsDone x = (x.dropped ≡ true) ⊎ ((x.queue.items ≡ []) × IsStuck dialect x.stream)
+
+-- another command has the key that the client asks next
+abbrev pub HasNoKey : Core → ℕ → Type 0
+HasNoKey core client = (request : Request) × (ask : Ask) × ForClient core client (λ x. IsAskAt x request ask) × (has_key ask.key core.commands ≡ true)
+
+-- a command of the client waits for its server, which has as many calls out as it may have
+abbrev pub HasNoRoom : Core → ℕ → Type 0
+HasNoRoom core client = (number : ℕ) × IsTurn client core.limits.window core.commands number Full
+
+-- when nothing was done
+abbrev pub IsWhy : Core → ℕ → Poll → Core → Type 0
+IsWhy old client polls.Idle new = (new ≡ old) × ForClient old client IsDone
+IsWhy old client polls.Own new = Unit {0}
+IsWhy old client polls.Refused new = Unit {0}
+IsWhy old client (polls.Call ticket) new = Unit {0}
+IsWhy old client polls.Waiting new = Unit {0}
+IsWhy old client polls.Busy new = HasNoRoom new client ⊎ ((new ≡ old) × HasNoKey old client)
+IsWhy old client (polls.Did note) new = Unit {0}
+
+-- when a command can't go on
+abbrev pub IsHeldUp : ℕ → Poll → Core → Type 0
+IsHeldUp client polls.Idle new = ⊥
+IsHeldUp client polls.Own new = Unit {0}
+IsHeldUp client polls.Refused new = Unit {0}
+IsHeldUp client (polls.Call ticket) new = Unit {0}
+IsHeldUp client polls.Waiting new = Unit {0}
+IsHeldUp client polls.Busy new = HasNoRoom new client
+IsHeldUp client (polls.Did note) new = Unit {0}
+
+-- what was done for a command that can go on
+pub record Acts (old : Core) (client : ℕ) (poll : Poll) (new : Core) : Type 0 where
+  pub goes : GoesBy old (IsPolled client poll) new
+  pub why : IsHeldUp client poll new
+
+pub record Polls (old : Core) (client : ℕ) (poll : Poll) (new : Core) : Type 0 where
+  pub goes : GoesBy old (Then (Perhaps (BeginsOne client)) (IsPolled client poll)) new
+  pub why : IsWhy old client poll new
+
+-- a command ended, perhaps, and replies were shown
+abbrev pub SoEnded : ℕ → List (Entry dialect) → Type 0
+SoEnded client = Then (Perhaps (EndsOne client)) (AreShown client)
+
+-- what may have happened before memory was refused: a command began, perhaps, one ended, perhaps, and replies were shown
+abbrev pub SoFar : ℕ → List (Entry dialect) → Type 0
+SoFar client = Then (Perhaps (BeginsOne client)) (SoEnded client)
+
+-- nothing is done for the client any more
+pub record DropsOne (old : Core) (client : ℕ) (new : Core) : Type 0 where
+  pub goes : GoesBy old (λ entries. entries ≡ Drops client ∷ []) new
+  pub dropped : dropped_by (client_at new client) ≡ true
+  pub output : (c : ℕ) → output_by (client_at new c) ≡ output_by (client_at old c)
+
+-- nothing is done for the client any more, whose output stays, and those of its commands of which no call is out are broken off
+pub record DropsAll (old : Core) (client : ℕ) (new : Core) : Type 0 where
+  pub numbers : List ℕ
+  pub goes : GoesBy old (λ entries. entries ≡ freed numbers ++ Drops client ∷ []) new
+  pub gone : HasNoIdle new client
+  pub dropped : dropped_by (client_at new client) ≡ true
+  pub output : (c : ℕ) → output_by (client_at new c) ≡ output_by (client_at old c)
+
+-- memory was refused after some of it, and the client is dropped
+pub record StopsAt (old : Core) (client : ℕ) (new : Core) : Type 0 where
+  pub numbers : List ℕ
+  pub goes : GoesBy old (Then (SoFar client) (λ entries. entries ≡ freed numbers ++ Drops client ∷ [])) new
+  pub gone : HasNoIdle new client
+  pub dropped : dropped_by (client_at new client) ≡ true
+
+abbrev pub PollFault : Core → ℕ → CoreFault → Core → Type 0
+PollFault old client faults.NoClient new = (client_at old client ≡ None) × (new ≡ old)
+PollFault old client faults.Spent new = (old.number ≡ 18446744073709551615) × (new ≡ old)
+PollFault old client faults.NoMemory new = StopsAt old client new
+PollFault old client faults.TooManyClients new = ⊥
+PollFault old client faults.InputFull new = ⊥
+PollFault old client faults.UnderWay new = ⊥
+PollFault old client faults.NoTicket new = ⊥
+
+-- the same before the client is dropped
+abbrev pub ReadFault : Core → ℕ → CoreFault → Core → Type 0
+ReadFault old client faults.NoMemory new = GoesBy old (SoFar client) new × ForClient new client IsServed
+ReadFault old client faults.Spent new = (old.number ≡ 18446744073709551615) × (new ≡ old)
+ReadFault old client faults.NoClient new = ⊥
+ReadFault old client faults.TooManyClients new = ⊥
+ReadFault old client faults.InputFull new = ⊥
+ReadFault old client faults.UnderWay new = ⊥
+ReadFault old client faults.NoTicket new = ⊥

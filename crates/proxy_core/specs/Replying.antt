@@ -1,0 +1,57 @@
+-- The reply of one of a client's commands comes. Source: mcgate's own.
+use Rattle.std.specs.Prelude.{◌≡◌, ℕ, ◌<◌, Bool, true, false, Option, Some, None, length, nat_eq, position, slice_get, slice_set}
+use Rattle.mc_types.specs.declared.answer.Answer.{Answer}
+use Rattle.request_parts.specs.declared.skip.Skip.TheVariants.{Nothing}
+use Rattle.request_parts.specs.Stream.{Stands}
+use Rattle.client_requests.specs.declared.request.Request.{Request}
+use Rattle.client_requests.specs.Message.{IsReadFrom, message_in}
+use Rattle.client_requests.specs.Asks.{asks_of}
+use Rattle.text_codec.specs.Held.{held_at}
+use Rattle.proxy_core.specs.declared.client.Client.{Client}
+use Rattle.proxy_core.specs.declared.client.Pending.{Pending}
+use Rattle.proxy_core.specs.declared.replying.Place.{Place}
+use Rattle.proxy_core.specs.Ending.{GoesOn}
+
+abbrev pub is_numbered : ℕ → Pending → Bool
+is_numbered number pending = nat_eq pending.number number
+
+abbrev pub replied : Answer → Pending → Pending
+replied reply pending = record pending { reply = Some reply }
+
+-- the request whose key is answered stands at the client's front
+pub record IsAnswered (x : Client) (request : Request) : Type 0 where
+  pub stands : x.stream ≡ Stands Nothing (held_at x.stream)
+  pub read : IsReadFrom (held_at x.stream) request
+  pub there : x.index < length (asks_of (message_in (held_at x.stream) request))
+
+-- where the starting goes on after the reply: of a last key it has gone on before
+abbrev pub IsOnward : Client → Bool → Option Request → Type 0
+IsOnward x true None = Unit {0}
+IsOnward x true (Some request) = ⊥
+IsOnward x false None = ⊥
+IsOnward x false (Some request) = IsAnswered x request
+
+-- the same, where it isn't said whether the key is the last
+abbrev pub IsOnwardOfSome : Client → Option Request → Type 0
+IsOnwardOfSome x None = Unit {0}
+IsOnwardOfSome x (Some request) = IsAnswered x request
+
+-- nothing changed but where the starting stands
+pub record KeepsRest (x y : Client) : Type 0 where
+  pub queue : y.queue ≡ x.queue
+  pub output : y.output ≡ x.output
+  pub dropped : y.dropped ≡ x.dropped
+
+-- this is the place of the reply of the command of this number
+pub record IsPlace (x : Client) (number : ℕ) (place : Place) : Type 0 where
+  pub pending : Pending
+  pub first : position (is_numbered number) x.queue.items ≡ Some place.at
+  pub is : slice_get x.queue.items place.at ≡ Some pending
+  pub onward : IsOnward x pending.last place.onward
+
+-- the reply came there
+pub record Answers (x : Client) (at : ℕ) (last : Bool) (reply : Answer) (y : Client) : Type 0 where
+  pub queue : (pending : Pending) → slice_get x.queue.items at ≡ Some pending → y.queue.items ≡ slice_set x.queue.items at (replied reply pending)
+  pub front : GoesOn last x reply y
+  pub output : y.output.items ≡ x.output.items
+  pub dropped : y.dropped ≡ x.dropped

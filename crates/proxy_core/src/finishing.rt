@@ -1,0 +1,101 @@
+//! A command ends, and replies are shown.
+
+ghost use Rattle.std.specs.Prelude.{◌≡◌, ◌↔◌, [], IsTrue, None, false, OnOk, IfOk, IfErr, MatchBool, MatchOption};
+ghost use Rattle.route_job.specs.Given.{given_of};
+ghost use Rattle.route_job.specs.Jobs.{Comes, IsDone};
+ghost use Rattle.proxy_core.specs.Standing.{GoesBy};
+ghost use Rattle.proxy_core.specs.Polls.{ForClient, IsServed, IsEnded, AreShown, ShowsNext, StopsFirst, StopsAfter};
+ghost use Rattle.proxy_core.specs.Finishing.{CanEnd, IsNote};
+
+use crate::begun::drop_ask;
+use crate::command::Command;
+use crate::fault::CoreFault;
+use crate::note::Note;
+use crate::proxy::Core;
+use mc_types::{Answer, Ask};
+use route_job::Done;
+
+// How a command ended whose job is done.
+fn done_of(command: Command) -> (Ask, Done)
+    requires { IsDone command.job }
+    ensures ask { result.0 ≡ command.ask }
+    ensures done { Comes command.job [] (given_of result.1) }
+{
+    let Command {
+        job,
+        ask,
+        client: _client,
+        is_out: _is_out,
+    } = command;
+    let done = job.into_done();
+    (ask, done)
+}
+
+// What is told of it, and its reply.
+fn note_of(number: u64, ask: Ask, done: Done) -> (Note, Answer)
+    ensures { IsNote number ask (given_of done) result.0 result.1 }
+{
+    let Done { from, reply } = done;
+    let acknowledged = reply.acknowledges(&ask);
+    let note = Note {
+        key: ask.key,
+        from,
+        number,
+        acknowledged,
+    };
+    drop_ask(ask);
+    (note, reply)
+}
+
+impl Core {
+    // A command of the client whose job is done has its reply, where the client has a place for it.
+    pub(crate) fn end(&mut self, client: usize, number: u64) -> Option<Note>
+        requires served { ForClient self.old client IsServed }
+        requires done { CanEnd self.old client number }
+        ensures ended { MatchOption result (self.new ≡ self.old) (λ note. GoesBy self.old (IsEnded client note) self.new) }
+        ensures served { ForClient self.new client IsServed }
+    {
+        let place = match self.clients.get(client) {
+            None => unreachable!(),
+            Some(x) => x.place_of(number),
+        };
+        let Some(place) = place else {
+            return None;
+        };
+        let Some(command) = self.commands.swap_remove(&number) else {
+            unreachable!();
+        };
+        let (ask, done) = done_of(command);
+        let (note, reply) = note_of(number, ask, done);
+        match self.clients.get_mut(client) {
+            None => unreachable!(),
+            Some(x) => x.answer(place, reply),
+        }
+        Some(note)
+    }
+
+    // The reply at the head of the client's commands is shown, if there is one: whether there was.
+    fn show_next(&mut self, client: usize) -> Result<bool, CoreFault>
+        requires { ForClient self.old client IsServed }
+        ensures ok { IfOk result (λ shown. ShowsNext self.old client shown self.new) }
+        ensures err { IfErr result (λ fault. StopsFirst client self.old fault self.new) }
+    {
+        match self.clients.get_mut(client) {
+            None => unreachable!(),
+            Some(x) => match x.show_head() {
+                Ok(shown) => Ok(shown),
+                Err(_) => Err(CoreFault::NoMemory),
+            },
+        }
+    }
+
+    // All replies at the head of the client's commands are shown. Where memory is refused, some of them are.
+    pub(crate) fn show_all(&mut self, client: usize) -> Result<(), CoreFault>
+        requires { ForClient self.old client IsServed }
+        ensures ok { OnOk result (GoesBy self.old (AreShown client) self.new) }
+        ensures err { IfErr result (λ fault. StopsAfter client (AreShown client) self.old fault self.new) }
+    {
+        while self.show_next(client)? {}
+        Ok(())
+    }
+}

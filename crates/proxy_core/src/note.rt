@@ -1,0 +1,33 @@
+//! What is told of a command that ended, and of what was done for a client.
+
+use crate::ticket::Ticket;
+use mc_types::Key;
+
+/// A command that ended: its number, its key, whether it was a delete that was acknowledged, and the number of the call whose item
+/// its reply shows, if it shows one.
+#[derive(Clone, Copy)]
+pub struct Note {
+    pub key: Key,
+    pub from: Option<u64>,
+    pub number: u64,
+    pub acknowledged: bool,
+}
+
+/// What was done for a client.
+#[derive(Drop)]
+pub enum Poll {
+    /// Nothing: no whole message is held, and no reply is waited for.
+    Idle,
+    /// A message that asks mcgate itself was answered.
+    Own,
+    /// A message was refused.
+    Refused,
+    /// This call is to be made.
+    Call(Ticket),
+    /// Nothing: a reply is waited for.
+    Waiting,
+    /// The next command waits for its key or for a server.
+    Busy,
+    /// A command ended.
+    Did(Note),
+}

@@ -1,0 +1,71 @@
+//! The result of a call of a server comes.
+
+ghost use Rattle.std.specs.Prelude.{◌≡◌, OnOk, IfErr};
+ghost use Rattle.proxy_core.specs.Standing.{client_at, dropped_by};
+ghost use Rattle.proxy_core.specs.Settles.{FitsCall, TakesOut, Settles, SettleFault};
+
+use crate::fault::CoreFault;
+use crate::freeing::remove;
+use crate::proxy::Core;
+use crate::ticket::Ticket;
+use mc_types::Outcome;
+
+fn forget(_outcome: Outcome) {}
+
+impl Core {
+    // Whether a client is there for whom nothing is done any more.
+    fn is_dropped(&self, client: usize) -> bool
+        ensures { result ≡ dropped_by (client_at self.now client) }
+    {
+        match self.clients.get(client) {
+            None => false,
+            Some(x) => x.dropped,
+        }
+    }
+
+    // A command whose client is dropped is taken out.
+    fn take_out(&mut self, number: u64, client: usize)
+        ensures { TakesOut self.old number client self.new }
+    {
+        remove(number, &mut self.commands);
+        if let Some(x) = self.clients.get_mut(client) {
+            x.dropped = true;
+        }
+    }
+
+    /// A call that the core gave out had this outcome, which fits its ask. Its command goes on by that; where nothing is done
+    /// for the command's client any more, it is broken off instead.
+    ///
+    /// `NoTicket` where no call of the ticket's number is out in this core, which is then as it was. `NoMemory`: the call had
+    /// its outcome all the same; nothing is done for the command's client any more, whose output so far is kept, and those of
+    /// its commands of which no call is out are broken off.
+    pub fn settle(&mut self, ticket: Ticket, outcome: Outcome) -> Result<(), CoreFault>
+        requires fits { FitsCall self.old ticket.number outcome }
+        ensures ok { OnOk result (Settles self.old ticket.number outcome self.new) }
+        ensures err { IfErr result (λ fault. SettleFault self.old ticket.number outcome fault self.new) }
+    {
+        let number = ticket.into_number();
+        let Some(command) = self.commands.get_mut(&number) else {
+            forget(outcome);
+            return Err(CoreFault::NoTicket);
+        };
+        if !command.has_call_out() {
+            forget(outcome);
+            return Err(CoreFault::NoTicket);
+        }
+        let client = command.client;
+        match command.take(self.alloc, outcome) {
+            Ok(()) => {
+                if self.is_dropped(client) {
+                    remove(number, &mut self.commands);
+                }
+                Ok(())
+            }
+            Err(_) => {
+                self.take_out(number, client);
+                self.free_idle(client);
+                Err(CoreFault::NoMemory)
+            }
+        }
+    }
+}
