@@ -1,0 +1,63 @@
+-- Polls and results of a core on accepted trees.
+use Rattle.std.proofs.Common.{◌≡◌, ℕ, List, [], ◌∷◌, ◌++◌, sym, ap, ◌∙◌, subst}
+use Rattle.mc_types.specs.declared.call.Outcome.{Outcome}
+use Rattle.mc_runs.specs.Overlap as log
+use Rattle.mc_runs.specs.Overlap.{Entry, Happens}
+use Rattle.mc_runs.specs.OverlapStanding.{LeadsTo}
+use Rattle.route_tree.specs.Plan.{Plan}
+use Rattle.route_tree.specs.Word.{tree_words}
+use Rattle.proxy_core.specs.declared.command.Command.{Command}
+use Rattle.proxy_core.specs.declared.fault.CoreFault.{CoreFault}
+use Rattle.proxy_core.specs.declared.fault.CoreFault.TheVariants as faults
+use Rattle.proxy_core.specs.declared.proxy.Core.{Core}
+use Rattle.proxy_core.specs.Standing.{dialect, Alone, standing_of}
+use Rattle.proxy_core.specs.Steps.{event_of}
+use Rattle.proxy_core.specs.Settles.{SettlesBy, Settles, SettleFault, freed}
+use Rattle.proxy_core.specs.Polls.{PollFault, SoFar, Then}
+use Rattle.fresh_core.specs.declared.fresh.FreshCore.{FreshCore}
+use Rattle.fresh_core.specs.Results.{PollStops, SettlesOn, SettlesFreshly, SettleStops}
+use Rattle.fresh_core.proofs.Keeping.{goes}
+
+-- the core is as it was
+pub same : (old : FreshCore) (x : Core) → x ≡ old.core → record old { core = x } ≡ old
+same old x e = ap (λ (y : Core). record old { core = y }) e
+
+pub poll_stops : (old : FreshCore) (x : Core) (client : ℕ) (fault : CoreFault) → PollFault old.core client fault x → PollStops old client fault (record old { core = x })
+poll_stops old x client faults.NoMemory f = record { stops = f; goes = goes old x (Then (SoFar client) (λ entries. entries ≡ freed f.numbers ++ log.Drops client ∷ [])) f.goes }
+poll_stops old x client faults.NoClient f = same old x f.1
+poll_stops old x client faults.Spent f = same old x f.1
+poll_stops old x client faults.TooManyClients f = absurd f
+poll_stops old x client faults.InputFull f = absurd f
+poll_stops old x client faults.UnderWay f = absurd f
+poll_stops old x client faults.NoTicket f = absurd f
+
+settles_on :
+    (old : FreshCore) (x : Core) (number : ℕ) (a : Command) (outcome : Outcome) (IsMore : List (Entry dialect) → Type 0)
+    → SettlesBy old.core number a outcome IsMore x → SettlesOn old number a outcome IsMore (record old { core = x })
+settles_on old x number a outcome IsMore by opening past led end is ends =
+    let s = by led.beside end led.fits is ends in
+    let at = s.3.at in (
+      s.1,
+      s.4,
+      record {
+        tree = led.tree;
+        loaded = led.loaded;
+        beside = s.0;
+        plain = at ∙ led.plain;
+        fits = s.2;
+        leads = subst (λ (plans : ℕ → List ℕ → Plan). LeadsTo (tree_words plans) Alone opening ((s.1 ++ Happens (event_of number a end) ∷ []) ++ past) (standing_of x s.0)) (sym at) (s.5 opening past led.leads);
+      },
+      s.3,
+    )
+
+pub settles_freshly : (old : FreshCore) (x : Core) (number : ℕ) (outcome : Outcome) → Settles old.core number outcome x → SettlesFreshly old number outcome (record old { core = x })
+settles_freshly old x number outcome s = record { settles = s; goes = settles_on old x number s.command outcome _ s.goes }
+
+pub settle_stops : (old : FreshCore) (x : Core) (number : ℕ) (outcome : Outcome) (fault : CoreFault) → SettleFault old.core number outcome fault x → SettleStops old number outcome fault (record old { core = x })
+settle_stops old x number outcome faults.NoMemory f = record { breaks = f; goes = settles_on old x number f.command outcome _ f.goes }
+settle_stops old x number outcome faults.NoTicket f = same old x f.1
+settle_stops old x number outcome faults.TooManyClients f = absurd f
+settle_stops old x number outcome faults.NoClient f = absurd f
+settle_stops old x number outcome faults.InputFull f = absurd f
+settle_stops old x number outcome faults.UnderWay f = absurd f
+settle_stops old x number outcome faults.Spent f = absurd f

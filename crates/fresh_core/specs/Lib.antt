@@ -1,0 +1,4 @@
+pub mod Freshly
+pub mod Results
+pub mod Reloading
+pub mod Losses
