@@ -3,6 +3,7 @@ use Rattle.std.proofs.Common.{◌≡◌, ℕ, ◌+◌, ◌≤◌, Bool, true, fa
 use Rattle.mc_types.specs.declared.ask.Op.{Op}
 use Rattle.mc_types.specs.declared.ask.Op.TheVariants.{Delete}
 use Rattle.route_tree.specs.Operation.{same_op}
+use Rattle.route_tree.specs.declared.limits.TheConstants.{ROUTE_LIMIT}
 use Rattle.route_tree.specs.Plan.{Plan, Plans, PlanPolicies, Server, Null, Failing, AllSync, Failover, MissFailover, WarmUp, ByOperation, End, More, Otherwise, Policy, count, count_of_all, count_of_policies}
 use Rattle.coverage.specs.Computed.{is_get, fails}
 use Rattle.refusal_words.specs.Turns.{or_else, behind, tries, tries_all, tries_first, tries_head, tries_policy, acks, acks_first, acks_head, acks_policy, finds, finds_first, finds_some, finds_head, finds_policy}
@@ -119,7 +120,7 @@ module _ (op : Op) (s : ℕ) where
         within_pick (same_op o op) (finds op s p) (finds_policy op s rest) _ (within_more (finds op s p) (count p) _ (omega arith) (finds_few p)) (within_more (finds_policy op s rest) (count_of_policies rest) _ (omega arith) (finds_policy_few rest))
 
 -- a number within a bound, after others within it, is still small
-pub small : (m : ℕ) (x y : Option ℕ) (b : ℕ) → m ≤ 4096 → x ≡ y → IsWithin b y → b ≤ 4096 → IfSome x (λ (n : ℕ). m + n < 4294967296)
+pub small : (m : ℕ) (x y : Option ℕ) (b : ℕ) → m ≤ ROUTE_LIMIT → x ≡ y → IsWithin b y → b ≤ ROUTE_LIMIT → IfSome x (λ (n : ℕ). m + n < 4294967296)
 small m x y b h e k l = on x (subst (IsWithin b) (sym e) k)
   where
     on : (z : Option ℕ) → IsWithin b z → IfSome z (λ (n : ℕ). m + n < 4294967296)

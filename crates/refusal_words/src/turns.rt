@@ -4,6 +4,7 @@ ghost use Rattle.std.specs.Prelude.{◌≡◌, ◌≤◌, ◌<◌, ◌+◌, ◌^
 ghost use Rattle.mc_types.specs.declared.ask.Op.TheVariants.{Delete};
 ghost use Rattle.route_tree.specs.Plan.{count, count_of_all, count_of_policies};
 ghost use Rattle.route_tree.specs.Form.{plans_of, plan_policies_of};
+ghost use Rattle.route_tree.specs.declared.limits.TheConstants.{ROUTE_LIMIT};
 ghost use Rattle.coverage.specs.Computed.{is_get, fails, fails_some, fails_each, fails_last, fails_head, fails_policy};
 ghost use Rattle.refusal_words.specs.Turns as turns;
 ghost use Rattle.refusal_words.specs.Turns.{tries, tries_all, tries_first, tries_head, tries_policy, acks, acks_first, acks_head, acks_policy, finds, finds_first, finds_some, finds_head, finds_policy};
@@ -24,7 +25,7 @@ fn trying(plain: &Plain, op: Op) -> Tried
     ensures calls { result.calls ≡ tries op plain.now }
     ensures fails { result.fails ≡ fails op plain.now }
     ensures few { result.calls ≤ count plain.now }
-    ensures bound { count plain.now ≤ 4096 }
+    ensures bound { count plain.now ≤ ROUTE_LIMIT }
 {
     match plain.form() {
         PlainForm::Server(_) => Tried {
@@ -67,7 +68,7 @@ fn trying(plain: &Plain, op: Op) -> Tried
 // All children.
 #[cycle(trying)]
 fn trying_some(children: &[Plain], op: Op) -> Tried
-    requires { count_of_all (plans_of children.now) ≤ 4096 }
+    requires { count_of_all (plans_of children.now) ≤ ROUTE_LIMIT }
     ensures calls { result.calls ≡ tries_all op (plans_of children.now) }
     ensures fails { result.fails ≡ fails_some op (plans_of children.now) }
     ensures few { result.calls ≤ count_of_all (plans_of children.now) }
@@ -91,7 +92,7 @@ fn trying_some(children: &[Plain], op: Op) -> Tried
 // Children up to one that doesn't fail.
 #[cycle(trying)]
 fn trying_first(children: &[Plain], op: Op) -> Tried
-    requires { count_of_all (plans_of children.now) ≤ 4096 }
+    requires { count_of_all (plans_of children.now) ≤ ROUTE_LIMIT }
     ensures calls { result.calls ≡ tries_first op (plans_of children.now) }
     ensures fails { result.fails ≡ fails_each op (plans_of children.now) }
     ensures few { result.calls ≤ count_of_all (plans_of children.now) }
@@ -119,7 +120,7 @@ fn trying_first(children: &[Plain], op: Op) -> Tried
 // All children of a get that none of them hits.
 #[cycle(trying)]
 fn trying_last(children: &[Plain], op: Op) -> Tried
-    requires { count_of_all (plans_of children.now) ≤ 4096 }
+    requires { count_of_all (plans_of children.now) ≤ ROUTE_LIMIT }
     ensures calls { result.calls ≡ tries_all op (plans_of children.now) }
     ensures fails { result.fails ≡ fails_last op (plans_of children.now) }
     ensures few { result.calls ≤ count_of_all (plans_of children.now) }
@@ -144,7 +145,7 @@ fn trying_last(children: &[Plain], op: Op) -> Tried
 // The first child alone.
 #[cycle(trying)]
 fn trying_head(children: &[Plain], op: Op) -> Tried
-    requires { count_of_all (plans_of children.now) ≤ 4096 }
+    requires { count_of_all (plans_of children.now) ≤ ROUTE_LIMIT }
     ensures calls { result.calls ≡ tries_head op (plans_of children.now) }
     ensures fails { result.fails ≡ fails_head op (plans_of children.now) }
     ensures few { result.calls ≤ count_of_all (plans_of children.now) }
@@ -225,9 +226,9 @@ pub fn acknowledged_after(plain: &Plain, server: ServerId) -> Option<u32>
 // Children up to one that doesn't fail.
 #[cycle(acking)]
 fn acking_first(children: &[Plain], server: ServerId) -> Option<u32>
-    requires { count_of_all (plans_of children.now) ≤ 4096 }
+    requires { count_of_all (plans_of children.now) ≤ ROUTE_LIMIT }
     ensures number { result ≡ acks_first server (plans_of children.now) }
-    ensures bound { count_of_all (plans_of children.now) ≤ 4096 }
+    ensures bound { count_of_all (plans_of children.now) ≤ ROUTE_LIMIT }
 {
     match children {
         [] => None,
@@ -309,9 +310,9 @@ pub fn found_after(plain: &Plain, op: Op, server: ServerId) -> Option<u32>
 // Children up to one that doesn't fail.
 #[cycle(finding)]
 fn finding_first(children: &[Plain], op: Op, server: ServerId) -> Option<u32>
-    requires { count_of_all (plans_of children.now) ≤ 4096 }
+    requires { count_of_all (plans_of children.now) ≤ ROUTE_LIMIT }
     ensures number { result ≡ finds_first op server (plans_of children.now) }
-    ensures bound { count_of_all (plans_of children.now) ≤ 4096 }
+    ensures bound { count_of_all (plans_of children.now) ≤ ROUTE_LIMIT }
 {
     match children {
         [] => None,
@@ -328,9 +329,9 @@ fn finding_first(children: &[Plain], op: Op, server: ServerId) -> Option<u32>
 // Children up to a hit.
 #[cycle(finding)]
 fn finding_some(children: &[Plain], op: Op, server: ServerId) -> Option<u32>
-    requires { count_of_all (plans_of children.now) ≤ 4096 }
+    requires { count_of_all (plans_of children.now) ≤ ROUTE_LIMIT }
     ensures number { result ≡ finds_some op server (plans_of children.now) }
-    ensures bound { count_of_all (plans_of children.now) ≤ 4096 }
+    ensures bound { count_of_all (plans_of children.now) ≤ ROUTE_LIMIT }
 {
     match children {
         [] => None,

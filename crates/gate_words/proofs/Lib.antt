@@ -1,0 +1,3 @@
+mod Reaching
+mod Naming
+mod Written

@@ -1,0 +1,94 @@
+-- An explanation as lines. Source: mcgate's own.
+use Rattle.std.specs.Prelude.{ℕ, zero, suc, ◌+◌, ◌++◌, Bool, false, ◌||◌, not, List, [], ◌∷◌, codes, decimal, flat_map, if◌then◌else◌}
+use Rattle.byte_escapes.specs.Escapes.{escaped}
+use Rattle.mc_types.specs.declared.ask.Op.{Op}
+use Rattle.coverage.specs.declared.deleting.Deleting.{Deleting}
+use Rattle.gate_words.specs.Names.{op_name, delete_name, address_of}
+use Rattle.gate_words.specs.Phrases.{text_of}
+use Rattle.gate_words.specs.declared.phrases.Phrase.{Phrase}
+use Rattle.gate_words.specs.declared.phrases.Phrase.TheVariants as phrases
+use Rattle.gate_words.specs.declared.explanation.Explanation.{Explanation}
+use Rattle.gate_words.specs.declared.standings.Standing.{Standing}
+use Rattle.gate_words.specs.declared.ways.Listed.{Listed}
+use Rattle.gate_words.specs.declared.ways.Listed.TheVariants as lists
+use Rattle.gate_words.specs.declared.ways.Step.{Step}
+use Rattle.gate_words.specs.declared.ways.Step.TheVariants as steps
+use Rattle.gate_words.specs.declared.writing.Which.{Which}
+use Rattle.gate_words.specs.declared.writing.Which.TheVariants as which
+
+abbrev pub list_phrase : Listed → Phrase
+list_phrase lists.AllSync = phrases.AllSync
+list_phrase lists.Failover = phrases.Failover
+list_phrase lists.MissFailover = phrases.MissFailover
+
+-- a step, by the name of the route and the field of the child
+abbrev pub step_text : Step → List ℕ
+step_text (steps.Child listed n) = codes " " ++ text_of (list_phrase listed) ++ codes " children[" ++ decimal n ++ codes "] >"
+step_text (steps.Policy op) = codes " " ++ text_of phrases.Policies ++ codes "." ++ op_name op ++ codes " >"
+step_text steps.Cold = codes " " ++ text_of phrases.Cold ++ codes " >"
+step_text steps.Warm = codes " " ++ text_of phrases.Warm ++ codes " >"
+step_text steps.Default = codes " " ++ text_of phrases.Default ++ codes " >"
+
+abbrev pub steps_text : List Step → List ℕ
+steps_text way = flat_map step_text way
+
+abbrev pub way_front : (address : List ℕ) → Op → List ℕ
+way_front address op = codes "# a " ++ op_name op ++ codes " " ++ text_of phrases.CanShow ++ codes " " ++ escaped address ++ codes " " ++ text_of phrases.Holds
+
+abbrev pub way_end : (address : List ℕ) → List ℕ
+way_end address = codes " " ++ escaped address ++ codes "\n"
+
+-- by which way the operation takes the server
+abbrev pub way_line : (address : List ℕ) → Op → List Step → List ℕ
+way_line address op way = way_front address op ++ steps_text way ++ way_end address
+
+abbrev pub is_of : Which → Standing → Bool
+is_of which.Read standing = standing.is_read
+is_of which.Cleared standing = standing.is_cleared
+is_of which.Left standing = not standing.is_cleared
+
+-- the address, if this server is one of those that are named
+abbrev pub member_text : List (List ℕ) → Bool → ℕ → List ℕ
+member_text servers is_named server = if is_named then codes " " ++ escaped (address_of servers server) else []
+
+abbrev pub members_text : List (List ℕ) → Which → List Standing → List ℕ
+members_text servers w standings = flat_map (λ (x : Standing). member_text servers (is_of w x) x.server) standings
+
+abbrev pub has_some : Which → List Standing → Bool
+has_some w [] = false
+has_some w (x ∷ xs) = is_of w x || has_some w xs
+
+-- these servers, or that there is none
+abbrev pub row_text : List (List ℕ) → Which → List Standing → List ℕ
+row_text servers w standings = if has_some w standings then members_text servers w standings ++ codes "\n" else codes " none\n"
+
+abbrev pub reads_line : List (List ℕ) → List Standing → List ℕ
+reads_line servers standings = text_of phrases.Reads ++ row_text servers which.Read standings
+
+abbrev pub cleared_line : List (List ℕ) → Deleting → List Standing → List ℕ
+cleared_line servers kind standings = codes "# a " ++ delete_name kind ++ codes " " ++ text_of phrases.HasCleared ++ row_text servers which.Cleared standings
+
+abbrev pub left_line : List (List ℕ) → List Standing → List ℕ
+left_line servers standings = text_of phrases.Left ++ row_text servers which.Left standings
+
+-- how many servers reads take
+abbrev pub reader_count : List Standing → ℕ
+reader_count [] = 0
+reader_count (x ∷ xs) = if x.is_read then reader_count xs + 1 else reader_count xs
+
+-- what to change
+abbrev pub change_phrase : ℕ → Phrase
+change_phrase zero = phrases.OneRoute
+change_phrase (suc zero) = phrases.OneRoute
+change_phrase (suc (suc zero)) = phrases.Both
+change_phrase (suc (suc (suc n))) = phrases.All
+
+abbrev pub change_line : List Standing → List ℕ
+change_line standings = text_of (change_phrase (reader_count standings)) ++ codes "\n"
+
+abbrev pub standing_lines : List (List ℕ) → Deleting → List Standing → List ℕ
+standing_lines servers kind standings = reads_line servers standings ++ cleared_line servers kind standings ++ left_line servers standings ++ change_line standings
+
+-- the lines of an explanation
+abbrev pub explanation_lines : List (List ℕ) → Op → ℕ → Deleting → Explanation → List ℕ
+explanation_lines servers op server kind e = way_line (address_of servers server) op e.way.items ++ standing_lines servers kind e.standings.items

@@ -1,0 +1,40 @@
+//! Why a server is a gap of a plain tree.
+ghost use Rattle.std.specs.Prelude.{IfOk};
+ghost use Rattle.coverage.specs.Taking.{Takes};
+ghost use Rattle.gate_words.specs.Explanations.{Explains};
+
+use crate::standings::{Standing, standings};
+use crate::ways::{Step, add_way};
+use coverage::Deleting;
+use coverage::laws::taken_is_exact;
+use mc_types::{Op, ServerId};
+use route_tree::Plain;
+use std::alloc::{AllocError, Global};
+
+/// The way by which a read reaches a server, and what becomes of each server of the plain tree.
+#[derive(Drop)]
+pub struct Explanation {
+    pub way: Vec<Step>,
+    pub standings: Vec<Standing>,
+}
+
+/// How the operation takes the server, and what the deletes of the kind clear and leave. The only error is running out of memory.
+///
+/// Source: mcgate's own.
+pub fn explain(
+    alloc: Global,
+    plain: &Plain,
+    op: Op,
+    server: ServerId,
+    deleting: Deleting,
+) -> Result<Explanation, AllocError>
+    requires { Takes plain.now op server }
+    ensures { IfOk result (Explains plain.now op server deleting) }
+{
+    taken_is_exact();
+    let _form = plain.form();
+    let mut way = Vec::new(alloc);
+    add_way(plain, op, server, &mut way)?;
+    let standings = standings(alloc, plain, deleting)?;
+    Ok(Explanation { way, standings })
+}

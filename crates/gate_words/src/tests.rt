@@ -1,0 +1,68 @@
+//! Explanations of worked plain trees, in words.
+
+ghost use Rattle.std.specs.Prelude.{◌≡◌, IfOk};
+ghost use Rattle.route_tree.specs.Plan as plan;
+
+use crate::{explain, write_explanation};
+use coverage::{Deleting, taken};
+use mc_types::{Op, ServerId};
+use route_tree::{Plain, PlainForm};
+use server_addresses::Servers;
+use std::alloc::{AllocError, Global};
+use std::test::Fail;
+
+fn server(number: u32) -> Plain
+    ensures { result ≡ plan.Server number }
+{
+    Plain::new(PlainForm::Server(ServerId::new(number)))
+}
+
+// A failover of two servers.
+fn failover(alloc: Global) -> Result<Plain, AllocError>
+    ensures { IfOk result (λ p. p ≡ plan.Failover (plan.More (plan.Server 0) (plan.More (plan.Server 1) plan.End))) }
+{
+    let children = vec![in alloc; server(0), server(1)]?;
+    Ok(Plain::new(PlainForm::Failover(children)))
+}
+
+fn addresses(alloc: Global) -> Result<Servers, AllocError> {
+    let mut servers = Servers::new(alloc);
+    servers.push(alloc, "a:1")?;
+    servers.push(alloc, "b:1")?;
+    Ok(servers)
+}
+
+fn printed() -> &'static str {
+    "# a get of these keys can show or copy what a:1 holds: FailoverRoute children[0] > a:1
+# reads of them can show or copy what these hold: a:1 b:1
+# a delete that is acknowledged has cleared: none
+# and can have left as they were: a:1 b:1
+# to change: send each delete to both, by an AllSyncRoute
+"
+}
+
+// What is written of the server as a gap, if a get takes it.
+fn written(alloc: Global, plain: &Plain, server: ServerId) -> Result<Vec<u8>, Fail> {
+    let mut out = Vec::new(alloc);
+    if taken(plain, Op::Get, server) {
+        let explanation = explain(alloc, plain, Op::Get, server, Deleting::Delete)?;
+        let servers = addresses(alloc)?;
+        write_explanation(
+            &servers,
+            Op::Get,
+            server,
+            Deleting::Delete,
+            &explanation,
+            &mut out,
+        )?;
+    }
+    Ok(out)
+}
+
+#[test]
+fn failover_leak(rt: HostRuntime) -> Result<(), Fail> {
+    let alloc = rt.alloc();
+    let out = written(alloc, &failover(alloc)?, ServerId::new(0))?;
+    assert_eq!(rt; out.as_slice(), printed().as_bytes());
+    Ok(())
+}

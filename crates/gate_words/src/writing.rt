@@ -1,0 +1,259 @@
+//! An explanation as lines, each a comment of a script.
+
+ghost use Rattle.std.specs.Prelude.{◌≡◌, ◌≤◌, OnOk, length};
+ghost use Rattle.std.specs.Io.KnownBytes.{Appends};
+ghost use Rattle.gate_words.specs.Lines.{list_phrase, step_text, steps_text, is_of, member_text, members_text, has_some, row_text, way_front, way_end, way_line, reads_line, cleared_line, left_line, reader_count, change_phrase, change_line, standing_lines, explanation_lines};
+
+use crate::explanation::Explanation;
+use crate::names::{address_of, delete_name, op_name};
+use crate::phrases::{Phrase, text_of};
+use crate::standings::Standing;
+use crate::ways::{Listed, Step};
+use byte_escapes::Escaped;
+use coverage::Deleting;
+use mc_types::{Op, ServerId};
+use server_addresses::Servers;
+use std::io;
+use std::io::Write;
+
+/// Which servers a line names.
+#[derive(Clone, Copy)]
+pub enum Which {
+    Read,
+    Cleared,
+    Left,
+}
+
+fn list_phrase(listed: Listed) -> Phrase
+    ensures { result ≡ list_phrase listed }
+{
+    match listed {
+        Listed::AllSync => Phrase::AllSync,
+        Listed::Failover => Phrase::Failover,
+        Listed::MissFailover => Phrase::MissFailover,
+    }
+}
+
+// The route and the field of the child.
+fn write_step<W: Write>(step: Step, out: &mut W) -> io::Result<()>
+    ensures { OnOk result (Appends (W.contents out.old) (W.contents out.new) (step_text step)) }
+{
+    match step {
+        Step::Child(listed, index) => {
+            write!(
+                out,
+                " {} children[{}] >",
+                text_of(list_phrase(listed)),
+                index
+            )
+        }
+        Step::Cold => write!(out, " {} >", text_of(Phrase::Cold)),
+        Step::Warm => write!(out, " {} >", text_of(Phrase::Warm)),
+        Step::Policy(op) => write!(out, " {}.{} >", text_of(Phrase::Policies), op_name(op)),
+        Step::Default => write!(out, " {} >", text_of(Phrase::Default)),
+    }
+}
+
+fn write_steps<W: Write>(steps: &[Step], out: &mut W) -> io::Result<()>
+    ensures { OnOk result (Appends (W.contents out.old) (W.contents out.new) (steps_text steps.now)) }
+{
+    for step in steps {
+        write_step(*step, out)?;
+    }
+    Ok(())
+}
+
+fn write_way_front<W: Write>(address: &[u8], op: Op, out: &mut W) -> io::Result<()>
+    ensures { OnOk result (Appends (W.contents out.old) (W.contents out.new) (way_front address.now op)) }
+{
+    let server = Escaped(address);
+    let op = op_name(op);
+    let can_show = text_of(Phrase::CanShow);
+    let holds = text_of(Phrase::Holds);
+    write!(out, "# a {op} {can_show} {server} {holds}")
+}
+
+fn write_way_end<W: Write>(address: &[u8], out: &mut W) -> io::Result<()>
+    ensures { OnOk result (Appends (W.contents out.old) (W.contents out.new) (way_end address.now)) }
+{
+    let server = Escaped(address);
+    writeln!(out, " {server}")
+}
+
+// By which way the operation takes the server.
+fn write_way<W: Write>(address: &[u8], op: Op, way: &[Step], out: &mut W) -> io::Result<()>
+    ensures { OnOk result (Appends (W.contents out.old) (W.contents out.new) (way_line address.now op way.now)) }
+{
+    write_way_front(address, op, out)?;
+    write_steps(way, out)?;
+    write_way_end(address, out)?;
+    Ok(())
+}
+
+fn is_of(which: Which, standing: &Standing) -> bool
+    ensures { result ≡ is_of which standing.now }
+{
+    match which {
+        Which::Read => standing.is_read,
+        Which::Cleared => standing.is_cleared,
+        Which::Left => !standing.is_cleared,
+    }
+}
+
+// The address, if this server is one of those that are named.
+fn write_member<W: Write>(
+    servers: &Servers,
+    is_named: bool,
+    server: ServerId,
+    out: &mut W,
+) -> io::Result<()>
+    ensures { OnOk result (Appends (W.contents out.old) (W.contents out.new) (member_text servers.now is_named server)) }
+{
+    if is_named {
+        let address = Escaped(address_of(servers, server).as_bytes());
+        write!(out, " {address}")
+    } else {
+        Ok(())
+    }
+}
+
+fn write_members<W: Write>(
+    servers: &Servers,
+    which: Which,
+    standings: &[Standing],
+    out: &mut W,
+) -> io::Result<()>
+    ensures { OnOk result (Appends (W.contents out.old) (W.contents out.new) (members_text servers.now which standings.now)) }
+{
+    for standing in standings {
+        write_member(servers, is_of(which, standing), standing.server, out)?;
+    }
+    Ok(())
+}
+
+fn has_some(which: Which, standings: &[Standing]) -> bool
+    ensures { result ≡ has_some which standings.now }
+{
+    match standings {
+        [] => false,
+        [first, rest @ ..] => is_of(which, first) || has_some(which, rest),
+    }
+}
+
+// The servers and the end of their line, or that there is none.
+fn write_row<W: Write>(
+    servers: &Servers,
+    which: Which,
+    standings: &[Standing],
+    out: &mut W,
+) -> io::Result<()>
+    ensures { OnOk result (Appends (W.contents out.old) (W.contents out.new) (row_text servers.now which standings.now)) }
+{
+    if has_some(which, standings) {
+        write_members(servers, which, standings, out)?;
+        writeln!(out)
+    } else {
+        writeln!(out, " none")
+    }
+}
+
+fn write_reads<W: Write>(servers: &Servers, standings: &[Standing], out: &mut W) -> io::Result<()>
+    ensures { OnOk result (Appends (W.contents out.old) (W.contents out.new) (reads_line servers.now standings.now)) }
+{
+    write!(out, "{}", text_of(Phrase::Reads))?;
+    write_row(servers, Which::Read, standings, out)?;
+    Ok(())
+}
+
+fn write_cleared<W: Write>(
+    servers: &Servers,
+    deleting: Deleting,
+    standings: &[Standing],
+    out: &mut W,
+) -> io::Result<()>
+    ensures { OnOk result (Appends (W.contents out.old) (W.contents out.new) (cleared_line servers.now deleting standings.now)) }
+{
+    write!(
+        out,
+        "# a {} {}",
+        delete_name(deleting),
+        text_of(Phrase::HasCleared)
+    )?;
+    write_row(servers, Which::Cleared, standings, out)?;
+    Ok(())
+}
+
+fn write_left<W: Write>(servers: &Servers, standings: &[Standing], out: &mut W) -> io::Result<()>
+    ensures { OnOk result (Appends (W.contents out.old) (W.contents out.new) (left_line servers.now standings.now)) }
+{
+    write!(out, "{}", text_of(Phrase::Left))?;
+    write_row(servers, Which::Left, standings, out)?;
+    Ok(())
+}
+
+// How many of the servers reads take.
+fn reader_count(standings: &[Standing]) -> usize
+    ensures count { result ≡ reader_count standings.now }
+    ensures few { result ≤ length standings.now }
+{
+    match standings {
+        [] => 0,
+        [first, rest @ ..] => {
+            let others = reader_count(rest);
+            if first.is_read { others + 1 } else { others }
+        }
+    }
+}
+
+// What to change.
+fn change_phrase(readers: usize) -> Phrase
+    ensures { result ≡ change_phrase readers }
+{
+    match readers {
+        0 | 1 => Phrase::OneRoute,
+        2 => Phrase::Both,
+        _ => Phrase::All,
+    }
+}
+
+fn write_change<W: Write>(standings: &[Standing], out: &mut W) -> io::Result<()>
+    ensures { OnOk result (Appends (W.contents out.old) (W.contents out.new) (change_line standings.now)) }
+{
+    let text = text_of(change_phrase(reader_count(standings)));
+    writeln!(out, "{text}")
+}
+
+// What becomes of each server.
+fn write_standings<W: Write>(
+    servers: &Servers,
+    deleting: Deleting,
+    standings: &[Standing],
+    out: &mut W,
+) -> io::Result<()>
+    ensures { OnOk result (Appends (W.contents out.old) (W.contents out.new) (standing_lines servers.now deleting standings.now)) }
+{
+    write_reads(servers, standings, out)?;
+    write_cleared(servers, deleting, standings, out)?;
+    write_left(servers, standings, out)?;
+    write_change(standings, out)?;
+    Ok(())
+}
+
+/// Writes an explanation of the gap of this server, operation and kind of delete: by which way the operation takes the server,
+/// which servers reads take, which of them the delete clears and which it leaves, and what to change. Each line is a
+/// comment of a script. The format is mcgate's own.
+pub fn write_explanation<W: Write>(
+    servers: &Servers,
+    op: Op,
+    server: ServerId,
+    deleting: Deleting,
+    explanation: &Explanation,
+    out: &mut W,
+) -> io::Result<()>
+    ensures { OnOk result (Appends (W.contents out.old) (W.contents out.new) (explanation_lines servers.now op server deleting explanation.now)) }
+{
+    let address = address_of(servers, server).as_bytes();
+    write_way(address, op, &explanation.way, out)?;
+    write_standings(servers, deleting, &explanation.standings, out)?;
+    Ok(())
+}
