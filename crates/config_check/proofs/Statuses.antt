@@ -5,6 +5,7 @@ use Rattle.route_tree.specs.Route.{Route}
 use Rattle.fresh_gate.specs.Gate.{IsCertified}
 use Rattle.fresh_gate.specs.Sound.{IsLast}
 use Rattle.config_check.specs.Checking.{Checks, ChecksConfig}
+use Rattle.config_check.specs.Explaining.{Explains, ExplainsConfig}
 
 config_status : (config : Configuration) (old new : Option (List ℕ)) (status : ℕ) → ChecksConfig config old new status → status ≤ 1
 config_status config old new status (inl accepted) = let e = accepted.0 in omega (arith, e)
@@ -22,3 +23,11 @@ pub certified_in_use : (configs : List Configuration) (config used : Configurati
 certified_in_use configs config used tree one last is certified =
     let alone = subst (λ (l : List Configuration). IsLast l used) one last in
     subst IsCertified (sym is) (subst (λ (c : Configuration). IsCertified c.tree) (same config used alone) certified)
+
+explained_status : (config : Configuration) (old new : Option (List ℕ)) (status : ℕ) → ExplainsConfig config old new status → status ≤ 1
+explained_status config old new status (inl accepted) = let e = accepted.0 in omega (arith, e)
+explained_status config old new status (inr refused) = let e = refused.0 in omega (arith, e)
+
+pub explains_status : (text : List ℕ) (old new : Option (List ℕ)) (status : ℕ) → Explains text old new status → status ≤ 2
+explains_status text old new status (inl verdict) = let few = explained_status verdict.config old new status verdict.explains in omega (arith, few)
+explains_status text old new status (inr faulty) = let e = faulty.0 in omega (arith, e)

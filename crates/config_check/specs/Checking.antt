@@ -65,8 +65,7 @@ ShowsReason tree (reasons.BadCertificate row) lines = lines ≡ []
 ShowsReason tree reasons.NoMemory lines = lines ≡ []
 
 -- the tree is refused for this reason, and that and then the lines of the script that shows it were written
-pub record ChecksRefused (config : Configuration) (old new : Option (List ℕ)) : Type 0 where
-  pub reason : Reason
+pub record ChecksRefused (config : Configuration) (reason : Reason) (old new : Option (List ℕ)) : Type 0 where
   pub told : IsTold reason
   pub judged : IsJudged config.tree reason
   pub run : List ℕ
@@ -75,7 +74,7 @@ pub record ChecksRefused (config : Configuration) (old new : Option (List ℕ)) 
 
 -- the verdict on a configuration was written; status 0: it is accepted; status 1: it is refused
 abbrev pub ChecksConfig : Configuration → Option (List ℕ) → Option (List ℕ) → ℕ → Type 0
-ChecksConfig config old new status = ((status ≡ 0) × PrintsAccepted config.tree old new) ⊎ ((status ≡ 1) × ChecksRefused config old new)
+ChecksConfig config old new status = ((status ≡ 0) × PrintsAccepted config.tree old new) ⊎ ((status ≡ 1) × (reason : Reason) × ChecksRefused config reason old new)
 
 -- the text is a configuration, and the verdict on it was written
 pub record PrintsVerdict (text : List ℕ) (old new : Option (List ℕ)) (status : ℕ) : Type 0 where

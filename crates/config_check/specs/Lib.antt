@@ -1,2 +1,3 @@
 pub mod Verdict
 pub mod Checking
+pub mod Explaining

@@ -1,43 +1,12 @@
 -- The lines of a verdict. Source: mcgate's own.
-use Rattle.std.specs.Prelude.{ℕ, List, [], ◌++◌, codes, decimal, Option, Some, None, slice_get}
+use Rattle.std.specs.Prelude.{ℕ, List, [], ◌++◌, codes, decimal}
 use Rattle.byte_escapes.specs.Escapes.{escaped}
-use Rattle.mc_types.specs.declared.ask.Op.{Op}
-use Rattle.mc_types.specs.declared.ask.Op.TheVariants.{Get, Gat, Set, Add, Replace, Append, Prepend, Cas, Delete, Incr, Decr, Touch}
 use Rattle.route_tree.specs.Place.{prefix_text}
 use Rattle.route_json.specs.Servers.{Addresses}
-use Rattle.coverage.specs.declared.deleting.Deleting.{Deleting}
-use Rattle.coverage.specs.declared.deleting.Deleting.TheVariants as kinds
+use Rattle.gate_words.specs.Names.{op_name, delete_name, address_of}
 use Rattle.fresh_gate.specs.declared.gap.Gap.{Gap}
 use Rattle.fresh_gate.specs.declared.gap.Reason.{Reason}
 use Rattle.fresh_gate.specs.declared.gap.Reason.TheVariants as reasons
-
--- the names of operations
-abbrev pub op_name : Op → List ℕ
-op_name Get = codes "get"
-op_name Gat = codes "gat"
-op_name Set = codes "set"
-op_name Add = codes "add"
-op_name Replace = codes "replace"
-op_name Append = codes "append"
-op_name Prepend = codes "prepend"
-op_name Cas = codes "cas"
-op_name Delete = codes "delete"
-op_name Incr = codes "incr"
-op_name Decr = codes "decr"
-op_name Touch = codes "touch"
-
--- the words of the two kinds of delete
-abbrev pub delete_name : Deleting → List ℕ
-delete_name kinds.Delete = codes "delete"
-delete_name kinds.Md = codes "md"
-
-abbrev pub or_nothing : Option (List ℕ) → List ℕ
-or_nothing None = []
-or_nothing (Some text) = text
-
--- the address of a server; nothing where there is no such server
-abbrev pub address_of : Addresses → ℕ → List ℕ
-address_of servers server = or_nothing (slice_get servers server)
 
 -- the line of an accepted tree: accepted places=N
 abbrev pub accepted_line : ℕ → List ℕ

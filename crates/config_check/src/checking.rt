@@ -7,7 +7,7 @@ ghost use Rattle.route_json.specs.Configs.{read_or};
 ghost use Rattle.route_json.specs.Fault.{Fails, fault_of};
 ghost use Rattle.fresh_gate.specs.Gate.{IsCertified, IsJudged};
 ghost use Rattle.config_check.specs.Verdict.{refusal_line};
-ghost use Rattle.config_check.specs.Checking.{Checks, ChecksConfig, ChecksRefused, IsTold, PrintsAccepted, PrintsRefused, ShowsReason, StopsUnwritten, HasPlaces, run_lines};
+ghost use Rattle.config_check.specs.Checking.{Checks, ChecksConfig, ChecksRefused, IsTold, PrintsAccepted, PrintsRefused, ShowsReason, PrintsFault, StopsUnwritten, HasPlaces, run_lines};
 
 use crate::status::{BAD_INPUT, DONE, REFUSED, RunFault, answer_of};
 use crate::verdict::{write_accepted, write_refusal};
@@ -34,8 +34,8 @@ fn place_count(alloc: Global, tree: &Tree) -> Result<u32, AllocError>
     }
 }
 
-// Writes that a tree is accepted, with the number of its places.
-fn print_accepted<W: Write>(alloc: Global, tree: &Tree, out: &mut W) -> Result<u8, RunFault>
+/// Writes that a tree is accepted, with the number of its places.
+pub fn print_accepted<W: Write>(alloc: Global, tree: &Tree, out: &mut W) -> Result<u8, RunFault>
     requires { IsCertified tree.now }
     ensures ok { IfOk result (λ status. (status ≡ 0) × PrintsAccepted tree.now (W.contents out.old) (W.contents out.new)) }
     ensures err { IfErr result (StopsUnwritten (W.contents out.old) (W.contents out.new)) }
@@ -93,16 +93,16 @@ fn print_run<W: Write>(run: &Option<Script>, out: &mut W) -> io::Result<()>
     }
 }
 
-// Writes why a configuration is refused, and the script that shows it. The script is looked for before that, so that nothing was
-// written where memory for it was refused.
-fn check_refused<W: Write>(
+/// Writes why a configuration is refused, and the script that shows it. The script is looked for before that, so that nothing was
+/// written where memory for it was refused.
+pub fn check_refused<W: Write>(
     alloc: Global,
     config: &Config,
     reason: &Reason,
     out: &mut W,
 ) -> Result<u8, RunFault>
     requires { IsJudged config.now.tree reason.now }
-    ensures ok { IfOk result (λ status. (status ≡ 1) × ChecksRefused config.now (W.contents out.old) (W.contents out.new)) }
+    ensures ok { IfOk result (λ status. (status ≡ 1) × ChecksRefused config.now reason.now (W.contents out.old) (W.contents out.new)) }
     ensures err { IfErr result (StopsUnwritten (W.contents out.old) (W.contents out.new)) }
 {
     let run = run_of(alloc, config, reason)?;
@@ -122,10 +122,10 @@ fn check_config<W: Write>(alloc: Global, config: Config, out: &mut W) -> Result<
     }
 }
 
-// Writes the fault of a text that is no configuration, unless that is running out of memory.
-fn print_fault<W: Write>(text: &str, fault: &ConfigFault, out: &mut W) -> Result<u8, RunFault>
+/// Writes the fault of a text that is no configuration, unless that is running out of memory.
+pub fn print_fault<W: Write>(text: &str, fault: &ConfigFault, out: &mut W) -> Result<u8, RunFault>
     requires { Fails (fault_of fault.now) (read_or (read text.now)) }
-    ensures ok { IfOk result (Checks text.now (W.contents out.old) (W.contents out.new)) }
+    ensures ok { IfOk result (λ status. (status ≡ 2) × PrintsFault text.now (W.contents out.old) (W.contents out.new)) }
     ensures err { IfErr result (StopsUnwritten (W.contents out.old) (W.contents out.new)) }
 {
     let _text = text;

@@ -2,11 +2,12 @@
 #![tactic(auto)]
 
 pub mod checking;
-pub mod names;
+pub mod explaining;
 pub mod status;
 pub mod verdict;
 
 pub use checking::run_check;
+pub use explaining::run_explain;
 pub use status::RunFault;
 pub use verdict::{write_accepted, write_refusal};
 

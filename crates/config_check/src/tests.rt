@@ -1,6 +1,7 @@
 //! The printed verdicts of worked configurations.
 
 use crate::checking::run_check;
+use crate::explaining::run_explain;
 use crate::status::{BAD_INPUT, DONE, REFUSED, WRITER};
 use std::alloc::{AllocError, Global};
 use std::io;
@@ -28,6 +29,38 @@ fn over_two_pools(alloc: Global, route: &str) -> Result<String, AllocError> {
 fn is_printed(alloc: Global, route: &str, status: u8, printed: &str) -> Result<bool, Fail> {
     let text = over_two_pools(alloc, route)?;
     Ok(prints(alloc, text.as_str(), status, printed))
+}
+
+// Whether this is what the words say of the route over those pools, whatever stands before them.
+fn is_explained(alloc: Global, route: &str, status: u8, words: &str) -> Result<bool, Fail> {
+    let text = over_two_pools(alloc, route)?;
+    let mut out = Vec::new(alloc);
+    let ended = run_explain(alloc, text.as_str(), &mut out);
+    Ok(ended == status && out.as_slice().ends_with(words.as_bytes()))
+}
+
+fn warm_up_words() -> &'static str {
+    "> 0 get k0\\r\\n
+# a get of these keys can show or copy what 127.0.0.1:5002 holds: WarmUpRoute warm > 127.0.0.1:5002
+# reads of them can show or copy what these hold: 127.0.0.1:5001 127.0.0.1:5002
+# a delete that is acknowledged has cleared: 127.0.0.1:5001
+# and can have left as they were: 127.0.0.1:5002
+# to change: send each delete to both, by an AllSyncRoute
+"
+}
+
+fn accepted_words() -> &'static str {
+    "accepted places=1
+# no reply shows what was stored before an acknowledged delete of its key, whatever fails
+"
+}
+
+#[test]
+fn warm_up_in_words(rt: HostRuntime) -> Result<(), Fail> {
+    let leaks = r#"{"type":"WarmUpRoute","cold":"PoolRoute|A","warm":"PoolRoute|B","exptime":0}"#;
+    assert!(rt; is_explained(rt.alloc(), leaks, REFUSED, warm_up_words())?);
+    assert!(rt; is_explained(rt.alloc(), "\"PoolRoute|A\"", DONE, accepted_words())?);
+    Ok(())
 }
 
 #[test]

@@ -3,24 +3,16 @@
 ghost use Rattle.std.specs.Prelude.{◌≡◌, OnOk};
 ghost use Rattle.std.specs.Io.KnownBytes.{Appends};
 ghost use Rattle.route_tree.specs.Place.{prefix_text};
-ghost use Rattle.config_check.specs.Verdict.{address_of, accepted_line, line_front, line_back, fields_line, gap_line, refusal_line};
+ghost use Rattle.config_check.specs.Verdict.{accepted_line, line_front, line_back, fields_line, gap_line, refusal_line};
 
-use crate::names::{delete_name, op_name};
 use byte_escapes::Escaped;
 use fresh_gate::{Gap, Reason};
-use mc_types::ServerId;
+use gate_words::names::{address_of, delete_name, op_name};
 use route_json::Servers;
 use route_tree::Place;
 use std::fmt::Display;
 use std::io::Write;
 use std::{fmt, io};
-
-// The address of a server; no text where there is no such server.
-fn address_of(servers: &Servers, server: ServerId) -> &str
-    ensures { result.now ≡ address_of servers.now server }
-{
-    servers.get(server).unwrap_or("")
-}
 
 // The prefix of a place; no bytes where it has none.
 fn prefix_of(place: &Place) -> &[u8]

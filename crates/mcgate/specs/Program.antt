@@ -1,8 +1,9 @@
 -- What the program prints on standard output of an input, and how it ends. Source: mcgate's own.
-use Rattle.std.specs.Prelude.{◌≡◌, ℕ, ◌≤◌, ◌++◌, List, codes, Option, Result, Ok, Err, String, string_bytes}
+use Rattle.std.specs.Prelude.{◌≡◌, ℕ, true, false, ◌≤◌, ◌++◌, List, codes, Option, Result, Ok, Err, String, string_bytes}
 use Rattle.std.specs.Io.KnownBytes.{Appends}
 use Rattle.std.specs.declared.alloc.Global.{Global}
 use Rattle.config_check.specs.Checking.{Checks}
+use Rattle.config_check.specs.Explaining.{Explains}
 use Rattle.replay.specs.Replay.{Replays}
 use Rattle.mcgate.specs.declared.arguments.Task.{Task}
 use Rattle.mcgate.specs.declared.arguments.Task.TheVariants as tasks
@@ -14,6 +15,7 @@ use Rattle.mcgate.specs.declared.program.Stop.TheVariants as stops
 -- memory was refused, or a device failed
 abbrev pub IsBrokenOff : Stop → Type 0
 IsBrokenOff stops.Usage = ⊥
+IsBrokenOff (stops.Key fault) = ⊥
 IsBrokenOff stops.Memory = Unit {0}
 IsBrokenOff stops.Device = Unit {0}
 
@@ -28,7 +30,8 @@ StopsBy stop old new ended = (ended ≡ Err stop) × (new ≡ old)
 
 -- what a task does with a text, and the status of that
 abbrev pub Does : Task → List ℕ → Option (List ℕ) → Option (List ℕ) → ℕ → Type 0
-Does tasks.Check text old new status = Checks text old new status
+Does (tasks.Check false) text old new status = Checks text old new status
+Does (tasks.Check true) text old new status = Explains text old new status
 Does (tasks.Replay any) text old new status = Replays any text old new status
 
 -- what its call answers: a status, or that memory or the writer failed
@@ -36,15 +39,22 @@ pub record Answers (task : Task) (text : List ℕ) (old new : Option (List ℕ))
   pub few : answer ≤ 4
   pub does : answer ≤ 2 → Does task text old new answer
 
--- the task was done with a text; or memory or the writer failed
-abbrev pub Runs : Task → List ℕ → Option (List ℕ) → Option (List ℕ) → Result ℕ Stop → Type 0
-Runs task text old new (Ok status) = Does task text old new status
-Runs task text old new (Err stop) = IsBrokenOff stop
+-- a text was dealt with so, and how that ended; or memory or the writer failed
+abbrev pub RunsBy : (List ℕ → Option (List ℕ) → Option (List ℕ) → ℕ → Type 0) → List ℕ → Option (List ℕ) → Option (List ℕ) → Result ℕ Stop → Type 0
+RunsBy P text old new (Ok status) = P text old new status
+RunsBy P text old new (Err stop) = IsBrokenOff stop
 
 -- an input that was read or not, what was written of it, and how that ended
+abbrev pub AnswersBy : (List ℕ → Option (List ℕ) → Option (List ℕ) → ℕ → Type 0) → Result (String Global) InputFault → Option (List ℕ) → Option (List ℕ) → Result ℕ Stop → Type 0
+AnswersBy P (Ok text) old new ended = RunsBy P (string_bytes text) old new ended
+AnswersBy P (Err TooLarge) old new ended = Tells (codes "input: too large" ++ codes "\n") old new ended
+AnswersBy P (Err NotUtf8) old new ended = Tells (codes "input: not UTF-8" ++ codes "\n") old new ended
+AnswersBy P (Err NoMemory) old new ended = StopsBy stops.Memory old new ended
+AnswersBy P (Err Device) old new ended = StopsBy stops.Device old new ended
+
+-- the task was done with a text; or memory or the writer failed
+abbrev pub Runs : Task → List ℕ → Option (List ℕ) → Option (List ℕ) → Result ℕ Stop → Type 0
+Runs task = RunsBy (Does task)
+
 abbrev pub AnswersInput : Task → Result (String Global) InputFault → Option (List ℕ) → Option (List ℕ) → Result ℕ Stop → Type 0
-AnswersInput task (Ok text) old new ended = Runs task (string_bytes text) old new ended
-AnswersInput task (Err TooLarge) old new ended = Tells (codes "input: too large" ++ codes "\n") old new ended
-AnswersInput task (Err NotUtf8) old new ended = Tells (codes "input: not UTF-8" ++ codes "\n") old new ended
-AnswersInput task (Err NoMemory) old new ended = StopsBy stops.Memory old new ended
-AnswersInput task (Err Device) old new ended = StopsBy stops.Device old new ended
+AnswersInput task = AnswersBy (Does task)

@@ -4,6 +4,8 @@ use Rattle.std.specs.declared.io.ErrorKind.{ErrorKind}
 use Rattle.std.specs.declared.io.ErrorKind.TheVariants as io_kinds
 use Rattle.clap.specs.declared.error.ErrorKind.{ErrorKind as RefusalKind}
 use Rattle.clap.specs.declared.error.ErrorKind.TheVariants as refusal_kinds
+use Rattle.mc_types.specs.declared.key.KeyFault.{KeyFault}
+use Rattle.mc_types.specs.declared.key.KeyFault.TheVariants as keys
 use Rattle.mcgate.specs.declared.arguments.ArgumentsFault.{ArgumentsFault}
 use Rattle.mcgate.specs.declared.arguments.ArgumentsFault.TheVariants as arguments
 use Rattle.mcgate.specs.declared.input.InputFault.{InputFault}
@@ -29,17 +31,26 @@ stop_at _ = stops.Device
 -- what a fault of the arguments means for the program
 abbrev pub stop_of : ArgumentsFault → Stop
 stop_of arguments.Refused = stops.Usage
+stop_of (arguments.Key fault) = stops.Key fault
 stop_of arguments.NoMemory = stops.Memory
 
 -- the exit status of a stop
 abbrev pub stop_status : Stop → ℕ
 stop_status stops.Usage = 2
+stop_status (stops.Key fault) = 1
 stop_status stops.Memory = 3
 stop_status stops.Device = 3
+
+-- why a text is no key
+abbrev pub key_line : KeyFault → List ℕ
+key_line keys.Empty = codes "key: empty"
+key_line keys.TooLong = codes "key: longer than 250 bytes"
+key_line (keys.BadByte at) = codes "key: a space or a control character"
 
 -- the line on standard error of a stop
 abbrev pub stop_line : Stop → List ℕ
 stop_line stops.Usage = codes "usage: mcgate check, replay, serve, cache or loopback"
+stop_line (stops.Key fault) = key_line fault
 stop_line stops.Memory = codes "memory: refused"
 stop_line stops.Device = codes "device: failed"
 

@@ -6,22 +6,25 @@ ghost use Rattle.mcgate.specs.Stops.{arguments_fault_at};
 
 use clap::error::ErrorKind;
 use clap::{Arg, ArgAction, ArgMatches, Command, Error};
+use mc_types::{Key, KeyFault};
 use std::alloc::{AllocError, Global};
 
 /// What is done with an input.
 #[derive(Clone, Copy, PartialEq, Eq)]
 pub enum Task {
-    /// It is a configuration, and the gate's verdict on it is printed.
-    Check,
+    /// It is a configuration, and the gate's verdict on it is printed: with `explain` also in words.
+    Check { explain: bool },
     /// It is a script, and it is run: with `any` whatever the gate says of its tree.
     Replay { any: bool },
 }
 
 /// What the arguments ask for.
-#[derive(Clone, Copy)]
+#[derive(Drop)]
 pub enum Job<'a> {
     /// Do this with a file, or with standard input.
     Run { task: Task, file: Option<&'a str> },
+    /// Print where these keys live in the tree of the configuration in this file.
+    Where { file: &'a str, keys: Vec<Key> },
     /// Print this text.
     Print(&'static str),
 }
@@ -31,6 +34,8 @@ pub enum Job<'a> {
 pub enum ArgumentsFault {
     /// The program has no such arguments.
     Refused,
+    /// One that is to be a key is none.
+    Key(KeyFault),
     /// Memory was refused.
     NoMemory,
 }
@@ -51,8 +56,11 @@ const VERSION: &str = "mcgate 1\n";
 const HELP: &str =
     "mcgate sends memcached commands through a tree of routes, and asks of a tree whether it can show deleted data.
 
-usage: mcgate check [FILE]           print the gate's verdict on a configuration
+usage: mcgate check [--explain] [FILE]
+                                     print the gate's verdict on a configuration, with --explain also in words
        mcgate replay [--any] [FILE]  run a script, and print what each client gets
+       mcgate where --config FILE KEY..
+                                     print where keys live in the tree of a configuration
        mcgate [WORD] --help          print this, or more of a word
        mcgate --version              print the version
 
@@ -60,7 +68,7 @@ Without FILE the input is standard input. Without any words mcgate is mcgate rep
 Exit status: 0 accepted or done, 1 refused by the gate, 2 bad arguments or input, 3 memory or a device failed.
 ";
 
-const CHECK_HELP: &str = "usage: mcgate check [FILE]
+const CHECK_HELP: &str = "usage: mcgate check [--explain] [FILE]
 
 Reads a configuration in JSON, of FILE or of standard input, and prints the gate's verdict:
   accepted places=N      no run of the tree shows deleted data; the keys have N places
@@ -70,6 +78,8 @@ Reads a configuration in JSON, of FILE or of standard input, and prints the gate
   refused: too many places
                          there are more than 262,144
   config: ..             the first fault of what is no configuration
+With --explain lines that begin with # follow: by which way a read reaches the server, which servers the delete clears and
+which it leaves, and what to change.
 Exit status: 0 accepted, 1 refused, 2 no configuration, 3 memory or a device failed.
 ";
 
@@ -84,6 +94,18 @@ A tree that the gate refuses isn't run, and its refused: line is printed; with -
 Exit status: 0 done, 1 refused by the gate, 2 bad script, 3 memory or a device failed.
 ";
 
+const WHERE_HELP: &str = "usage: mcgate where --config FILE KEY..
+
+Reads a configuration in JSON, of FILE, and prints a block for each KEY:
+  key=K hash_part=H hash=N prefix=P residue=R/L
+                         what of the key is hashed, its hash, and its place
+    OP A ..              for each operation the servers that the tree has for it at this key
+  refused: too many places
+                         there are more than 262,144
+  config: ..             the first fault of what is no configuration
+Exit status: 0 done, 1 too many places or a KEY that is none, 2 bad arguments or no configuration, 3 memory or a device failed.
+";
+
 fn help_flag<'a>(alloc: Global) -> Arg<'a> {
     Arg::new(alloc, "help")
         .long("help")
@@ -91,9 +113,13 @@ fn help_flag<'a>(alloc: Global) -> Arg<'a> {
 }
 
 fn check_command<'a>(alloc: Global) -> Result<Command<'a>, AllocError> {
+    let explain = Arg::new(alloc, "explain")
+        .long("explain")
+        .action(ArgAction::SetTrue);
     Command::new(alloc, "check")
         .disable_help_flag(true)
         .arg(help_flag(alloc))?
+        .arg(explain)?
         .arg(Arg::new(alloc, "FILE"))
 }
 
@@ -108,6 +134,20 @@ fn replay_command<'a>(alloc: Global) -> Result<Command<'a>, AllocError> {
         .arg(Arg::new(alloc, "FILE"))
 }
 
+fn where_command<'a>(alloc: Global) -> Result<Command<'a>, AllocError> {
+    let config = Arg::new(alloc, "config")
+        .long("config")
+        .action(ArgAction::Set);
+    let keys = Arg::new(alloc, "KEY")
+        .num_args(1..)
+        .action(ArgAction::Append);
+    Command::new(alloc, "where")
+        .disable_help_flag(true)
+        .arg(help_flag(alloc))?
+        .arg(config)?
+        .arg(keys)
+}
+
 fn command<'a>(alloc: Global) -> Result<Command<'a>, AllocError> {
     let version = Arg::new(alloc, "version")
         .long("version")
@@ -118,7 +158,8 @@ fn command<'a>(alloc: Global) -> Result<Command<'a>, AllocError> {
         .arg(help_flag(alloc))?
         .arg(version)?
         .subcommand(check_command(alloc)?)?
-        .subcommand(replay_command(alloc)?)
+        .subcommand(replay_command(alloc)?)?
+        .subcommand(where_command(alloc)?)
 }
 
 // What the words after `check` ask for.
@@ -127,7 +168,9 @@ fn check_job<'a>(given: &ArgMatches<'a>) -> Job<'a> {
         return Job::Print(CHECK_HELP);
     }
     Job::Run {
-        task: Task::Check,
+        task: Task::Check {
+            explain: given.get_flag("explain"),
+        },
         file: given.get_str("FILE"),
     }
 }
@@ -145,6 +188,34 @@ fn replay_job<'a>(given: &ArgMatches<'a>) -> Job<'a> {
     }
 }
 
+// The keys of these texts.
+fn keys_of(alloc: Global, texts: &[&str]) -> Result<Vec<Key>, ArgumentsFault> {
+    let mut keys = Vec::new(alloc);
+    for text in texts {
+        match Key::read(text.as_bytes()) {
+            Ok(key) => {
+                if keys.push(key).is_err() {
+                    return Err(ArgumentsFault::NoMemory);
+                }
+            }
+            Err(fault) => return Err(ArgumentsFault::Key(fault)),
+        }
+    }
+    Ok(keys)
+}
+
+// What the words after `where` ask for.
+fn where_job<'a>(alloc: Global, given: &ArgMatches<'a>) -> Result<Job<'a>, ArgumentsFault> {
+    if given.get_flag("help") {
+        return Ok(Job::Print(WHERE_HELP));
+    }
+    let (Some(file), Some(texts)) = (given.get_str("config"), given.get_strs("KEY")) else {
+        return Err(ArgumentsFault::Refused);
+    };
+    let keys = keys_of(alloc, texts)?;
+    Ok(Job::Where { file, keys })
+}
+
 // What arguments without a word of a task ask for.
 fn plain_job<'a>(given: &ArgMatches<'a>) -> Job<'a> {
     if given.get_flag("help") {
@@ -159,10 +230,10 @@ fn plain_job<'a>(given: &ArgMatches<'a>) -> Job<'a> {
     }
 }
 
-/// What the arguments ask for, the program's name first: `check [FILE]`, `replay [--any] [FILE]`, or none at all after it, which
-/// is `replay`. Also `--help`, before or after a word, and `--version`.
+/// What the arguments ask for, the program's name first: `check [--explain] [FILE]`, `replay [--any] [FILE]`, `where --config FILE KEY..`, or
+/// none at all after it, which is `replay`. Also `--help`, before or after a word, and `--version`.
 ///
-/// Any other arguments are [`ArgumentsFault::Refused`].
+/// A KEY that is none is [`ArgumentsFault::Key`], and any other arguments are [`ArgumentsFault::Refused`].
 pub fn read_arguments<'a>(
     alloc: Global,
     arguments: &'a [String],
@@ -173,6 +244,7 @@ pub fn read_arguments<'a>(
     let matches = command.try_get_matches_from(arguments)?;
     match matches.subcommand() {
         Some(("check", given)) => Ok(check_job(given)),
+        Some(("where", given)) => where_job(alloc, given),
         Some((_, given)) => Ok(replay_job(given)),
         None => Ok(plain_job(&matches)),
     }

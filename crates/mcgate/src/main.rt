@@ -10,7 +10,7 @@ mod tests;
 use arguments::{Job, read_arguments};
 use config_check::status::DONE;
 use input::{InputFault, fault_of, read_input};
-use program::{Stop, end_of, run_input};
+use program::{Stop, end_of, run_input, run_keys};
 use std::fs::File;
 use std::io;
 use std::io::{BufWriter, ErrorKind, Write};
@@ -49,6 +49,7 @@ fn run<R: Files + Input + AllocGlobal + Env, W: Write>(rt: &R, out: &mut W) -> R
     let arguments = arguments_of(rt)?;
     match read_arguments(rt.alloc(), arguments.as_slice())? {
         Job::Run { task, file } => run_input(rt.alloc(), task, text_of(rt, file), out),
+        Job::Where { file, keys } => run_keys(rt.alloc(), &keys, text_of(rt, Some(file)), out),
         Job::Print(text) => {
             out.write_all(text.as_bytes())?;
             Ok(DONE)

@@ -2,13 +2,16 @@
 
 ghost use Rattle.std.specs.Prelude.{◌≡◌, option_map};
 ghost use Rattle.std.specs.IoError.{error_kind};
-ghost use Rattle.mcgate.specs.Program.{Answers, Runs, AnswersInput};
-ghost use Rattle.mcgate.specs.Stops.{stop_at, stop_of, end_of};
+ghost use Rattle.mcgate.specs.Program.{Answers, Runs, AnswersInput, RunsBy, AnswersBy};
+ghost use Rattle.key_places.specs.Finding.{FindsKeys};
+ghost use Rattle.mcgate.specs.Stops.{stop_at, stop_of, key_line, end_of};
 
 use crate::arguments::{ArgumentsFault, Task};
 use crate::input::InputFault;
-use config_check::run_check;
 use config_check::status::{BAD_INPUT, NO_MEMORY, WRITER};
+use config_check::{run_check, run_explain};
+use key_places::run_where;
+use mc_types::{Key, KeyFault};
 use replay::run_replay;
 use std::alloc::Global;
 use std::io;
@@ -19,6 +22,8 @@ use std::io::{ErrorKind, Write};
 pub enum Stop {
     /// It has no such arguments.
     Usage,
+    /// An argument that is to be a key is none.
+    Key(KeyFault),
     /// Memory was refused.
     Memory,
     /// A device failed.
@@ -42,8 +47,20 @@ impl From<ArgumentsFault> for Stop {
     fn from(fault: ArgumentsFault) -> Stop {
         match fault {
             ArgumentsFault::Refused => Stop::Usage,
+            ArgumentsFault::Key(fault) => Stop::Key(fault),
             ArgumentsFault::NoMemory => Stop::Memory,
         }
+    }
+}
+
+// Why a text is no key.
+fn key_line(fault: KeyFault) -> &'static str
+    ensures { result.now ≡ key_line fault }
+{
+    match fault {
+        KeyFault::Empty => "key: empty",
+        KeyFault::TooLong => "key: longer than 250 bytes",
+        KeyFault::BadByte(_) => "key: a space or a control character",
     }
 }
 
@@ -69,6 +86,10 @@ pub fn end_of(ended: Result<u8, Stop>) -> End
             status: 2,
             complaint: Some("usage: mcgate check, replay, serve, cache or loopback"),
         },
+        Err(Stop::Key(fault)) => End {
+            status: 1,
+            complaint: Some(key_line(fault)),
+        },
         Err(Stop::Memory) => End {
             status: 3,
             complaint: Some("memory: refused"),
@@ -85,7 +106,8 @@ fn answer<W: Write>(alloc: Global, task: Task, text: &str, out: &mut W) -> u8
     ensures { Answers task text.now (W.contents out.old) (W.contents out.new) result }
 {
     match task {
-        Task::Check => run_check(alloc, text, out),
+        Task::Check { explain: false } => run_check(alloc, text, out),
+        Task::Check { explain: true } => run_explain(alloc, text, out),
         Task::Replay { any } => run_replay(alloc, any, text, out),
     }
 }
@@ -114,6 +136,41 @@ pub fn run_input<W: Write>(
 {
     match input {
         Ok(text) => run_text(alloc, task, text.as_str(), out),
+        Err(InputFault::TooLarge) => {
+            writeln!(out, "input: too large")?;
+            Ok(BAD_INPUT)
+        }
+        Err(InputFault::NotUtf8) => {
+            writeln!(out, "input: not UTF-8")?;
+            Ok(BAD_INPUT)
+        }
+        Err(InputFault::NoMemory) => Err(Stop::Memory),
+        Err(InputFault::Device) => Err(Stop::Device),
+    }
+}
+
+fn find_in_text<W: Write>(alloc: Global, keys: &[Key], text: &str, out: &mut W) -> Result<u8, Stop>
+    ensures { RunsBy (λ text old new status. FindsKeys text keys.now old new status) text.now (W.contents out.old) (W.contents out.new) result }
+{
+    match run_where(alloc, text, keys, out) {
+        NO_MEMORY => Err(Stop::Memory),
+        WRITER => Err(Stop::Device),
+        status => Ok(status),
+    }
+}
+
+/// Prints where the keys live in the tree of an input, or why it is no input. The answer and the faults are as those of
+/// [`run_input`].
+pub fn run_keys<W: Write>(
+    alloc: Global,
+    keys: &[Key],
+    input: Result<String, InputFault>,
+    out: &mut W,
+) -> Result<u8, Stop>
+    ensures { AnswersBy (λ text old new status. FindsKeys text keys.now old new status) input (W.contents out.old) (W.contents out.new) result }
+{
+    match input {
+        Ok(text) => find_in_text(alloc, keys, text.as_str(), out),
         Err(InputFault::TooLarge) => {
             writeln!(out, "input: too large")?;
             Ok(BAD_INPUT)

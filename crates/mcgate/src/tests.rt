@@ -48,8 +48,37 @@ fn arguments_that_ask_for_a_replay(rt: HostRuntime) -> Result<(), Fail> {
 #[test]
 fn arguments_that_ask_for_a_check(rt: HostRuntime) -> Result<(), Fail> {
     let alloc = rt.alloc();
-    assert!(rt; asked(alloc, &["mcgate", "check"], Task::Check, None)?);
-    assert!(rt; asked(alloc, &["mcgate", "check", "f"], Task::Check, Some("f"))?);
+    let plain = Task::Check { explain: false };
+    let explained = Task::Check { explain: true };
+    assert!(rt; asked(alloc, &["mcgate", "check"], plain, None)?);
+    assert!(rt; asked(alloc, &["mcgate", "check", "f"], plain, Some("f"))?);
+    assert!(rt;
+        asked(
+            alloc,
+            &["mcgate", "check", "--explain", "f"],
+            explained,
+            Some("f")
+        )?
+    );
+    Ok(())
+}
+
+// What becomes of `where --config c` and this text as a key: it is a key, or why it is none.
+fn asked_where(alloc: Global, text: &str) -> Result<Option<ArgumentsFault>, Fail> {
+    let given = arguments_of(alloc, &["mcgate", "where", "--config", "c", text])?;
+    match read_arguments(alloc, given.as_slice()) {
+        Ok(Job::Where { file, keys }) if file == "c" && keys.len() == 1 => Ok(None),
+        Ok(_) => Err(Fail::from("another job")),
+        Err(fault) => Ok(Some(fault)),
+    }
+}
+
+#[test]
+fn arguments_that_ask_where(rt: HostRuntime) -> Result<(), Fail> {
+    let alloc = rt.alloc();
+    assert!(rt; matches!(asked_where(alloc, "k")?, None));
+    assert!(rt; matches!(asked_where(alloc, "")?, Some(ArgumentsFault::Key(_))));
+    assert!(rt; matches!(asked_where(alloc, "a b")?, Some(ArgumentsFault::Key(_))));
     Ok(())
 }
 
@@ -93,6 +122,8 @@ fn words_that_are_refused(rt: HostRuntime) -> Result<(), Fail> {
         ["mcgate", "-h"].as_slice(),
         ["mcgate", "help"].as_slice(),
         ["mcgate", "check", "--any"].as_slice(),
+        ["mcgate", "where", "k"].as_slice(),
+        ["mcgate", "where", "--config", "c"].as_slice(),
         ["mcgate", "check", "f", "g"].as_slice(),
         ["mcgate", "replay", "--any", "--any"].as_slice(),
         ["mcgate", "replay", "--any=yes"].as_slice(),

@@ -6,4 +6,4 @@ pub returns-clause-ok : goal.returns-clause-ok
 returns-clause-ok g c =
     let line = c.in_ok-status.ensures.ok in
     let wrote = both_written _ _ _ _ _ line.2 c.in_ok-print_run.ensures in
-    (line.0, record { reason = c.args.reason.now; told = line.1; judged = c.requires; run = run_lines c.in_ok-run.run'; shows = c.in_ok-run.ensures; printed = wrote })
+    (line.0, record { told = line.1; judged = c.requires; run = run_lines c.in_ok-run.run'; shows = c.in_ok-run.ensures; printed = wrote })

@@ -1,0 +1,55 @@
+-- What is printed of keys: a block for each. Source: mcgate's own.
+use Rattle.std.specs.Prelude.{◌≡◌, ℕ, List, [], ◌∷◌, ◌++◌, codes, decimal, flat_map, Option}
+use Rattle.std.specs.Io.KnownBytes.{Appends}
+use Rattle.byte_escapes.specs.Escapes.{escaped}
+use Rattle.key_hash.specs.Tag.{hash_part, key_hash}
+use Rattle.mc_types.specs.declared.ask.Op.{Op}
+use Rattle.mc_types.specs.declared.ask.Op.TheVariants.{Get, Gat, Set, Add, Replace, Append, Prepend, Cas, Delete, Incr, Decr, Touch}
+use Rattle.route_tree.specs.declared.place.Place.{Place}
+use Rattle.route_tree.specs.At.{tree_at}
+use Rattle.route_tree.specs.Place.{IsPlaceOf, prefix_text}
+use Rattle.route_tree.specs.Plan.{Plan}
+use Rattle.route_tree.specs.Route.{Route}
+use Rattle.gate_words.specs.Names.{op_name, address_of}
+use Rattle.key_places.specs.Asking.{asked}
+
+-- key=K hash_part=P hash=N
+abbrev pub key_line : List ℕ → List ℕ
+key_line key = codes "key=" ++ escaped key ++ codes " hash_part=" ++ escaped (hash_part key) ++ codes " hash=" ++ decimal (key_hash key)
+
+-- and then prefix=P residue=R/L
+abbrev pub place_line : (prefix : List ℕ) (residue modulus : ℕ) → List ℕ
+place_line prefix residue modulus = codes " prefix=" ++ escaped prefix ++ codes " residue=" ++ decimal residue ++ codes "/" ++ decimal modulus ++ codes "\n"
+
+abbrev pub server_text : List (List ℕ) → ℕ → List ℕ
+server_text addresses server = codes " " ++ escaped (address_of addresses server)
+
+abbrev pub servers_text : List (List ℕ) → List ℕ → List ℕ
+servers_text addresses servers = flat_map (server_text addresses) servers
+
+abbrev pub op_front : Op → List ℕ
+op_front op = codes "  " ++ op_name op
+
+-- the operation and these servers
+abbrev pub op_line : List (List ℕ) → Op → List ℕ → List ℕ
+op_line addresses op servers = op_front op ++ servers_text addresses servers ++ codes "\n"
+
+abbrev pub all_ops : List Op
+all_ops = Get ∷ Gat ∷ Set ∷ Add ∷ Replace ∷ Append ∷ Prepend ∷ Cas ∷ Delete ∷ Incr ∷ Decr ∷ Touch ∷ []
+
+-- a line for each operation, with the servers that the plain tree has for it
+abbrev pub op_lines : List (List ℕ) → Plan → List Op → List ℕ
+op_lines addresses plain ops = flat_map (λ op. op_line addresses op (asked op plain)) ops
+
+-- the block of a key whose place is this
+abbrev pub block : List (List ℕ) → Route → Place → List ℕ → List ℕ
+block addresses tree place key = key_line key ++ place_line (prefix_text place.prefix) place.residue place.modulus ++ op_lines addresses (tree_at tree key) all_ops
+
+-- the block of the key, with its place, was written
+abbrev pub WritesBlock : List (List ℕ) → Route → List ℕ → Option (List ℕ) → Option (List ℕ) → Type 0
+WritesBlock addresses tree key old new = (place : Place) × IsPlaceOf tree key place × Appends old new (block addresses tree place key)
+
+-- a block for each key, one after the other
+abbrev pub WritesBlocks : List (List ℕ) → Route → List (List ℕ) → Option (List ℕ) → Option (List ℕ) → Type 0
+WritesBlocks addresses tree [] old new = new ≡ old
+WritesBlocks addresses tree (key ∷ keys) old new = (between : Option (List ℕ)) × WritesBlock addresses tree key old between × WritesBlocks addresses tree keys between new

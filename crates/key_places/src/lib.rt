@@ -1,0 +1,11 @@
+//! Where keys live: their hash, their place in a tree, and which servers each operation may ask.
+#![tactic(auto)]
+
+pub mod asking;
+pub mod running;
+pub mod writing;
+
+pub use running::run_where;
+
+#[cfg(test)]
+mod tests;

@@ -1,0 +1,190 @@
+//! A block of lines for each key.
+
+ghost use Rattle.std.specs.Prelude.{◌≡◌, [], ◌∷◌, IfOk, OnOk};
+ghost use Rattle.std.specs.Io.KnownBytes.{Appends};
+ghost use Rattle.route_tree.specs.At.{tree_at};
+ghost use Rattle.route_tree.specs.Place.{prefix_text};
+ghost use Rattle.key_places.specs.Asking as spec;
+ghost use Rattle.coverage.specs.Tables.{IsTable};
+ghost use Rattle.key_places.specs.Blocks.{key_line, place_line, server_text, servers_text, op_front, op_line, op_lines, all_ops, WritesBlock, WritesBlocks};
+
+use crate::asking::add_asked;
+use byte_escapes::Escaped;
+use config_check::RunFault;
+use coverage::PlaceTable;
+use gate_words::names::{address_of, op_name};
+use key_hash::{hash_part, key_hash};
+use mc_types::{Key, Op, ServerId};
+use route_json::{Config, Servers};
+use route_tree::{Place, Plain};
+use std::alloc::{AllocError, Global};
+use std::io;
+use std::io::Write;
+
+// The key, and what is hashed of it.
+fn write_key_line<W: Write>(key: &Key, out: &mut W) -> io::Result<()>
+    ensures { OnOk result (Appends (W.contents out.old) (W.contents out.new) (key_line key.now)) }
+{
+    let text = Escaped(key.as_bytes());
+    let part = Escaped(hash_part(key));
+    let hash = key_hash(key);
+    write!(out, "key={text} hash_part={part} hash={hash}")
+}
+
+fn write_prefix<W: Write>(prefix: &[u8], residue: u32, modulus: u32, out: &mut W) -> io::Result<()>
+    ensures { OnOk result (Appends (W.contents out.old) (W.contents out.new) (place_line prefix.now residue modulus)) }
+{
+    let prefix = Escaped(prefix);
+    writeln!(out, " prefix={prefix} residue={residue}/{modulus}")
+}
+
+// The key's place.
+fn write_place<W: Write>(place: &Place, out: &mut W) -> io::Result<()>
+    ensures { OnOk result (Appends (W.contents out.old) (W.contents out.new) (place_line (prefix_text place.now.prefix) place.now.residue place.now.modulus)) }
+{
+    match &place.prefix {
+        Some(prefix) => write_prefix(prefix.as_bytes(), place.residue, place.modulus, out),
+        None => write_prefix(&[], place.residue, place.modulus, out),
+    }
+}
+
+fn write_server<W: Write>(servers: &Servers, server: ServerId, out: &mut W) -> io::Result<()>
+    ensures { OnOk result (Appends (W.contents out.old) (W.contents out.new) (server_text servers.now server)) }
+{
+    let address = Escaped(address_of(servers, server).as_bytes());
+    write!(out, " {address}")
+}
+
+fn write_servers<W: Write>(servers: &Servers, list: &[ServerId], out: &mut W) -> io::Result<()>
+    ensures { OnOk result (Appends (W.contents out.old) (W.contents out.new) (servers_text servers.now list.now)) }
+{
+    for server in list {
+        write_server(servers, *server, out)?;
+    }
+    Ok(())
+}
+
+fn write_op_front<W: Write>(op: Op, out: &mut W) -> io::Result<()>
+    ensures { OnOk result (Appends (W.contents out.old) (W.contents out.new) (op_front op)) }
+{
+    let name = op_name(op);
+    write!(out, "  {name}")
+}
+
+// A line of the operation and its servers.
+fn write_row<W: Write>(servers: &Servers, op: Op, list: &[ServerId], out: &mut W) -> io::Result<()>
+    ensures { OnOk result (Appends (W.contents out.old) (W.contents out.new) (op_line servers.now op list.now)) }
+{
+    write_op_front(op, out)?;
+    write_servers(servers, list, out)?;
+    writeln!(out)
+}
+
+fn asked(alloc: Global, plain: &Plain, op: Op) -> Result<Vec<ServerId>, AllocError>
+    ensures { IfOk result (λ list. list.items ≡ spec.asked op plain.now) }
+{
+    let mut list = Vec::new(alloc);
+    add_asked(plain, op, &mut list)?;
+    Ok(list)
+}
+
+fn write_op<W: Write>(
+    alloc: Global,
+    servers: &Servers,
+    plain: &Plain,
+    op: Op,
+    out: &mut W,
+) -> Result<(), RunFault>
+    ensures { OnOk result (Appends (W.contents out.old) (W.contents out.new) (op_line servers.now op (spec.asked op plain.now))) }
+{
+    let list = asked(alloc, plain, op)?;
+    write_row(servers, op, &list, out)?;
+    Ok(())
+}
+
+fn write_ops<W: Write>(
+    alloc: Global,
+    servers: &Servers,
+    plain: &Plain,
+    ops: &[Op],
+    out: &mut W,
+) -> Result<(), RunFault>
+    ensures { OnOk result (Appends (W.contents out.old) (W.contents out.new) (op_lines servers.now plain.now ops.now)) }
+{
+    for op in ops {
+        write_op(alloc, servers, plain, *op, out)?;
+    }
+    Ok(())
+}
+
+fn all_ops() -> [Op; 12]
+    ensures { result ≡ all_ops }
+{
+    [
+        Op::Get,
+        Op::Gat,
+        Op::Set,
+        Op::Add,
+        Op::Replace,
+        Op::Append,
+        Op::Prepend,
+        Op::Cas,
+        Op::Delete,
+        Op::Incr,
+        Op::Decr,
+        Op::Touch,
+    ]
+}
+
+// The lines of the operations of a key.
+fn write_all_ops<W: Write>(
+    alloc: Global,
+    config: &Config,
+    key: &Key,
+    out: &mut W,
+) -> Result<(), RunFault>
+    ensures { OnOk result (Appends (W.contents out.old) (W.contents out.new) (op_lines config.now.servers (tree_at config.now.tree key.now) all_ops)) }
+{
+    let plain = config.tree().at(alloc, key)?;
+    let ops = all_ops();
+    write_ops(alloc, config.servers(), &plain, &ops, out)
+}
+
+// The block of a key.
+fn write_block<W: Write>(
+    alloc: Global,
+    config: &Config,
+    table: &PlaceTable,
+    key: &Key,
+    out: &mut W,
+) -> Result<(), RunFault>
+    requires { IsTable (config.now.tree ∷ []) table.now }
+    ensures { OnOk result (WritesBlock config.now.servers config.now.tree key.now (W.contents out.old) (W.contents out.new)) }
+{
+    let place = table.of(key);
+    write_key_line(key, out)?;
+    write_place(&place, out)?;
+    write_all_ops(alloc, config, key, out)?;
+    Ok(())
+}
+
+/// Writes a block of lines for each key: the key, its hash part and hash and its place, and then for each operation the servers
+/// that the key's plain tree has for it. The format is mcgate's own.
+pub fn write_keys<W: Write>(
+    alloc: Global,
+    config: &Config,
+    table: &PlaceTable,
+    keys: &[Key],
+    out: &mut W,
+) -> Result<(), RunFault>
+    requires { IsTable (config.now.tree ∷ []) table.now }
+    ensures { OnOk result (WritesBlocks config.now.servers config.now.tree keys.now (W.contents out.old) (W.contents out.new)) }
+{
+    match keys {
+        [] => Ok(()),
+        [first, rest @ ..] => {
+            write_block(alloc, config, table, first, out)?;
+            write_keys(alloc, config, table, rest, out)
+        }
+    }
+}
