@@ -8,4 +8,5 @@ mod expiry;
 mod item;
 mod meta_answer;
 mod sweep;
+
 pub use cache::Cache;
