@@ -10,10 +10,9 @@ space = 32 ∷ []
 regroup : (w k f x n : List ℕ) → (((((((w ++ space) ++ k) ++ space) ++ f) ++ space) ++ x) ++ space) ++ n ≡ w ++ 32 ∷ (k ++ 32 ∷ (f ++ 32 ∷ (x ++ 32 ∷ n)))
 regroup w k f x n = simp append_assoc
 
-pub nine : (o w k f x n a1 a2 a3 a4 a5 a6 a7 a8 a9 : List ℕ) → a1 ≡ o ++ w → a2 ≡ a1 ++ space → a3 ≡ a2 ++ k → a4 ≡ a3 ++ space → a5 ≡ a4 ++ f → a6 ≡ a5 ++ space → a7 ≡ a6 ++ x → a8 ≡ a7 ++ space → a9 ≡ a8 ++ n
+pub eight : (o w k f x n a2 a3 a4 a5 a6 a7 a8 a9 : List ℕ) → a2 ≡ o ++ (w ++ space) → a3 ≡ a2 ++ k → a4 ≡ a3 ++ space → a5 ≡ a4 ++ f → a6 ≡ a5 ++ space → a7 ≡ a6 ++ x → a8 ≡ a7 ++ space → a9 ≡ a8 ++ n
     → a9 ≡ o ++ (w ++ 32 ∷ (k ++ 32 ∷ (f ++ 32 ∷ (x ++ 32 ∷ n))))
-nine o w k f x n a1 a2 a3 a4 a5 a6 a7 a8 a9 e1 e2 e3 e4 e5 e6 e7 e8 e9 =
-    let f2 = joined o w space a1 a2 e1 e2 in
+eight o w k f x n a2 a3 a4 a5 a6 a7 a8 a9 f2 e3 e4 e5 e6 e7 e8 e9 =
     let f3 = joined o (w ++ space) k a2 a3 f2 e3 in
     let f4 = joined o ((w ++ space) ++ k) space a3 a4 f3 e4 in
     let f5 = joined o (((w ++ space) ++ k) ++ space) f a4 a5 f4 e5 in

@@ -11,45 +11,45 @@ use itoa::Buffer;
 use mc_types::{Ask, Op};
 use std::alloc::AllocError;
 
-fn word_of(op: Op, with_cas: bool) -> &'static [u8]
-    ensures { result.now ≡ command_word op with_cas }
+// The command's word and a space. Each word is an append of its own: one whose length is known costs no call.
+fn put_word(out: &mut BytesMut, op: Op, with_cas: bool) -> Result<(), AllocError>
+    ensures ok { OnOk result (out.new.items ≡ out.old.items ++ command_word op with_cas ++ codes " ") }
+    ensures err { OnErr result (take (length out.old.items) out.new.items ≡ out.old.items) }
 {
     match op {
-        Op::Get if with_cas => b"gets".as_slice(),
-        Op::Get => b"get".as_slice(),
-        Op::Gat if with_cas => b"gats".as_slice(),
-        Op::Gat => b"gat".as_slice(),
-        Op::Set => b"set".as_slice(),
-        Op::Add => b"add".as_slice(),
-        Op::Replace => b"replace".as_slice(),
-        Op::Append => b"append".as_slice(),
-        Op::Prepend => b"prepend".as_slice(),
-        Op::Cas => b"cas".as_slice(),
-        Op::Delete => b"delete".as_slice(),
-        Op::Incr => b"incr".as_slice(),
-        Op::Decr => b"decr".as_slice(),
-        Op::Touch => b"touch".as_slice(),
+        Op::Get if with_cas => out.extend_from_slice(b"gets "),
+        Op::Get => out.extend_from_slice(b"get "),
+        Op::Gat if with_cas => out.extend_from_slice(b"gats "),
+        Op::Gat => out.extend_from_slice(b"gat "),
+        Op::Set => out.extend_from_slice(b"set "),
+        Op::Add => out.extend_from_slice(b"add "),
+        Op::Replace => out.extend_from_slice(b"replace "),
+        Op::Append => out.extend_from_slice(b"append "),
+        Op::Prepend => out.extend_from_slice(b"prepend "),
+        Op::Cas => out.extend_from_slice(b"cas "),
+        Op::Delete => out.extend_from_slice(b"delete "),
+        Op::Incr => out.extend_from_slice(b"incr "),
+        Op::Decr => out.extend_from_slice(b"decr "),
+        Op::Touch => out.extend_from_slice(b"touch "),
     }
 }
 
-// a word and a key
-fn put_keyed(out: &mut BytesMut, word: &[u8], key: &[u8]) -> Result<(), AllocError>
-    ensures ok { OnOk result (out.new.items ≡ out.old.items ++ line_of (word.now ∷ key.now ∷ [])) }
+// the command's word and the key
+fn put_keyed(out: &mut BytesMut, ask: &Ask) -> Result<(), AllocError>
+    ensures ok { OnOk result (out.new.items ≡ out.old.items ++ line_of (command_word ask.now.op ask.now.with_cas ∷ ask.now.key ∷ [])) }
     ensures err { OnErr result (take (length out.old.items) out.new.items ≡ out.old.items) }
 {
-    out.extend_from_slice(word)?;
-    out.extend_from_slice(b" ")?;
-    out.extend_from_slice(key)?;
+    put_word(out, ask.op, ask.with_cas)?;
+    out.extend_from_slice(ask.key.as_bytes())?;
     out.extend_from_slice(b"\r\n")
 }
 
-// a word and two more
-fn put_three(out: &mut BytesMut, word: &[u8], first: &[u8], second: &[u8]) -> Result<(), AllocError>
-    ensures ok { OnOk result (out.new.items ≡ out.old.items ++ line_of (word.now ∷ first.now ∷ second.now ∷ [])) }
+// the command's word and two more
+fn put_three(out: &mut BytesMut, ask: &Ask, first: &[u8], second: &[u8]) -> Result<(), AllocError>
+    ensures ok { OnOk result (out.new.items ≡ out.old.items ++ line_of (command_word ask.now.op ask.now.with_cas ∷ first.now ∷ second.now ∷ [])) }
     ensures err { OnErr result (take (length out.old.items) out.new.items ≡ out.old.items) }
 {
-    out.extend_from_slice(word)?;
-    out.extend_from_slice(b" ")?;
+    put_word(out, ask.op, ask.with_cas)?;
     out.extend_from_slice(first)?;
     out.extend_from_slice(b" ")?;
     out.extend_from_slice(second)?;
@@ -71,13 +71,12 @@ fn cas_text<'a>(buffer: &'a mut Buffer, ask: &Ask) -> &'a [u8]
 }
 
 // the words that each store's line begins with
-fn put_head(out: &mut BytesMut, word: &[u8], ask: &Ask, exptime: &[u8]) -> Result<(), AllocError>
-    ensures ok { OnOk result (out.new.items ≡ out.old.items ++ spaced (word.now ∷ ask.now.key ∷ decimal ask.now.flags ∷ exptime.now ∷ decimal (length ask.now.body) ∷ [])) }
+fn put_head(out: &mut BytesMut, ask: &Ask, exptime: &[u8]) -> Result<(), AllocError>
+    ensures ok { OnOk result (out.new.items ≡ out.old.items ++ spaced (command_word ask.now.op ask.now.with_cas ∷ ask.now.key ∷ decimal ask.now.flags ∷ exptime.now ∷ decimal (length ask.now.body) ∷ [])) }
     ensures err { OnErr result (take (length out.old.items) out.new.items ≡ out.old.items) }
 {
     let mut buffer = Buffer::new();
-    out.extend_from_slice(word)?;
-    out.extend_from_slice(b" ")?;
+    put_word(out, ask.op, ask.with_cas)?;
     out.extend_from_slice(ask.key.as_bytes())?;
     out.extend_from_slice(b" ")?;
     out.extend_from_slice(buffer.format(ask.flags).as_bytes())?;
@@ -97,40 +96,66 @@ fn put_block(out: &mut BytesMut, body: &[u8]) -> Result<(), AllocError>
     out.extend_from_slice(b"\r\n")
 }
 
-fn put_store(out: &mut BytesMut, word: &[u8], ask: &Ask) -> Result<(), AllocError>
-    ensures ok { OnOk result (out.new.items ≡ out.old.items ++ (line_of (word.now ∷ store_words ask.now []) ++ block_text ask.now.body)) }
+fn put_store(out: &mut BytesMut, ask: &Ask) -> Result<(), AllocError>
+    ensures ok { OnOk result (out.new.items ≡ out.old.items ++ (line_of (command_word ask.now.op ask.now.with_cas ∷ store_words ask.now []) ++ block_text ask.now.body)) }
     ensures err { OnErr result (take (length out.old.items) out.new.items ≡ out.old.items) }
 {
     let mut buffer = Buffer::new();
-    put_head(out, word, ask, exptime_text(&mut buffer, ask))?;
+    put_head(out, ask, exptime_text(&mut buffer, ask))?;
     put_block(out, ask.body.as_slice())
 }
 
-fn put_cas(out: &mut BytesMut, word: &[u8], ask: &Ask) -> Result<(), AllocError>
-    ensures ok { OnOk result (out.new.items ≡ out.old.items ++ (line_of (word.now ∷ store_words ask.now (decimal (cas_in ask.now) ∷ [])) ++ block_text ask.now.body)) }
+fn put_cas(out: &mut BytesMut, ask: &Ask) -> Result<(), AllocError>
+    ensures ok { OnOk result (out.new.items ≡ out.old.items ++ (line_of (command_word ask.now.op ask.now.with_cas ∷ store_words ask.now (decimal (cas_in ask.now) ∷ [])) ++ block_text ask.now.body)) }
     ensures err { OnErr result (take (length out.old.items) out.new.items ≡ out.old.items) }
 {
     let mut buffer = Buffer::new();
-    put_head(out, word, ask, exptime_text(&mut buffer, ask))?;
+    put_head(out, ask, exptime_text(&mut buffer, ask))?;
     out.extend_from_slice(b" ")?;
     out.extend_from_slice(cas_text(&mut buffer, ask))?;
     put_block(out, ask.body.as_slice())
+}
+
+fn put_gat(out: &mut BytesMut, ask: &Ask) -> Result<(), AllocError>
+    ensures ok { OnOk result (out.new.items ≡ out.old.items ++ line_of (command_word ask.now.op ask.now.with_cas ∷ signed_decimal (exptime_in ask.now) ∷ ask.now.key ∷ [])) }
+    ensures err { OnErr result (take (length out.old.items) out.new.items ≡ out.old.items) }
+{
+    let mut buffer = Buffer::new();
+    put_three(out, ask, exptime_text(&mut buffer, ask), ask.key.as_bytes())
+}
+
+fn put_touch(out: &mut BytesMut, ask: &Ask) -> Result<(), AllocError>
+    ensures ok { OnOk result (out.new.items ≡ out.old.items ++ line_of (command_word ask.now.op ask.now.with_cas ∷ ask.now.key ∷ signed_decimal (exptime_in ask.now) ∷ [])) }
+    ensures err { OnErr result (take (length out.old.items) out.new.items ≡ out.old.items) }
+{
+    let mut buffer = Buffer::new();
+    put_three(out, ask, ask.key.as_bytes(), exptime_text(&mut buffer, ask))
+}
+
+fn put_count(out: &mut BytesMut, ask: &Ask) -> Result<(), AllocError>
+    ensures ok { OnOk result (out.new.items ≡ out.old.items ++ line_of (command_word ask.now.op ask.now.with_cas ∷ ask.now.key ∷ decimal ask.now.delta ∷ [])) }
+    ensures err { OnErr result (take (length out.old.items) out.new.items ≡ out.old.items) }
+{
+    let mut buffer = Buffer::new();
+    put_three(
+        out,
+        ask,
+        ask.key.as_bytes(),
+        buffer.format(ask.delta).as_bytes(),
+    )
 }
 
 fn put_ask(out: &mut BytesMut, ask: &Ask) -> Result<(), AllocError>
     ensures ok { OnOk result (out.new.items ≡ out.old.items ++ spelling_of ask.now) }
     ensures err { OnErr result (take (length out.old.items) out.new.items ≡ out.old.items) }
 {
-    let mut buffer = Buffer::new();
-    let word = word_of(ask.op, ask.with_cas);
-    let key = ask.key.as_bytes();
     match ask.op {
-        Op::Get | Op::Delete => put_keyed(out, word, key),
-        Op::Gat => put_three(out, word, exptime_text(&mut buffer, ask), key),
-        Op::Touch => put_three(out, word, key, exptime_text(&mut buffer, ask)),
-        Op::Incr | Op::Decr => put_three(out, word, key, buffer.format(ask.delta).as_bytes()),
-        Op::Cas => put_cas(out, word, ask),
-        Op::Set | Op::Add | Op::Replace | Op::Append | Op::Prepend => put_store(out, word, ask),
+        Op::Get | Op::Delete => put_keyed(out, ask),
+        Op::Gat => put_gat(out, ask),
+        Op::Touch => put_touch(out, ask),
+        Op::Incr | Op::Decr => put_count(out, ask),
+        Op::Cas => put_cas(out, ask),
+        Op::Set | Op::Add | Op::Replace | Op::Append | Op::Prepend => put_store(out, ask),
     }
 }
 
