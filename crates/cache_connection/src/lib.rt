@@ -9,6 +9,3 @@ pub mod served;
 
 pub use cache_server::Cache;
 pub use served::Served;
-
-#[cfg(test)]
-mod tests;

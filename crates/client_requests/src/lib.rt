@@ -10,6 +10,3 @@ pub mod writer;
 pub use reader::{Read, read_request};
 pub use request::{Asks, Request};
 pub use writer::write_ask;
-
-#[cfg(test)]
-mod tests;

@@ -6,6 +6,3 @@ pub mod fresh;
 pub mod laws;
 
 pub use fresh::FreshCore;
-
-#[cfg(test)]
-mod tests;

@@ -20,6 +20,3 @@ pub use gap::{Gap, Reason, Refused};
 pub use gate::check;
 pub use judging::judge;
 pub use reloading::ReloadFault;
-
-#[cfg(test)]
-mod tests;

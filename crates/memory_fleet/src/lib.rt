@@ -6,8 +6,6 @@ mod event;
 mod fleet;
 pub mod laws;
 pub mod losses;
-#[cfg(test)]
-mod tests;
 
 pub use event::{FleetFault, Loss, Made, Manner};
 pub use fleet::MemoryFleet;

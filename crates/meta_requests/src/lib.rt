@@ -15,6 +15,3 @@ pub use command::{Command, Kind, Read, Request, Verb};
 pub use reader::{read_behind, read_request};
 pub use request_parts::{Own, Skip, Why};
 pub use writer::write_ask;
-
-#[cfg(test)]
-mod tests;

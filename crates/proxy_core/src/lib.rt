@@ -29,10 +29,3 @@ pub use limits::Limits;
 pub use note::{Note, Poll};
 pub use proxy::Core;
 pub use ticket::Ticket;
-
-#[cfg(test)]
-mod poll_tests;
-#[cfg(test)]
-mod result_tests;
-#[cfg(test)]
-mod tests;

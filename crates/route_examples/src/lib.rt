@@ -1,9 +1,11 @@
-//! Worked examples of routes: configurations and their faults, jobs of one command on small trees, and the places of trees. They stand
-//! above the crates that they show, so that a change of an example proves the example alone.
+//! Worked examples of routes: configurations and their faults, jobs of one command on small trees, the places of trees, and the gate's
+//! verdicts. They stand above the crates that they show, so that a change of an example proves the example alone.
 #![tactic(auto)]
 
 #[cfg(test)]
 mod configurations;
+#[cfg(test)]
+mod gates;
 #[cfg(test)]
 mod jobs;
 #[cfg(test)]

@@ -1,6 +1,10 @@
-//! Worked examples of a server: the table of its operations, row by row. They stand above `cache_server`, so that a change of an
-//! example proves the example alone.
+//! Worked examples of servers: the table of a server's operations, row by row, its connections, and the servers in memory of scripts.
+//! They stand above the crates that they show, so that a change of an example proves the example alone.
 #![tactic(auto)]
 
+#[cfg(test)]
+mod connections;
+#[cfg(test)]
+mod fleets;
 #[cfg(test)]
 mod table;

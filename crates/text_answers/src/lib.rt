@@ -10,8 +10,3 @@ pub mod writer;
 
 pub use reader::{AnswerRead, read_answer};
 pub use writer::{write_answer, write_end, write_value};
-
-#[cfg(test)]
-mod meta_tests;
-#[cfg(test)]
-mod tests;

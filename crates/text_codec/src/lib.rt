@@ -18,6 +18,3 @@ pub use replies::{ends_message, write_long_line, write_own, write_part, write_re
 pub use request_parts::{Own, Skip, Why};
 pub use stream::TextStream;
 pub use text_answers::{AnswerRead, read_answer, write_answer, write_end, write_value};
-
-#[cfg(test)]
-mod tests;

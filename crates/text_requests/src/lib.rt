@@ -19,6 +19,3 @@ pub use reader::{read_behind, read_request};
 pub use request::Asks;
 pub use request_parts::{Own, Skip, Why};
 pub use writer::write_ask;
-
-#[cfg(test)]
-mod tests;

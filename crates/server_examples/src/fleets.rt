@@ -5,11 +5,10 @@ ghost use Rattle.mc_types.specs.KeyText.{IsKey};
 ghost use Rattle.mc_types.specs.declared.token.Token.TheVariants as tokens;
 ghost use Rattle.memory_fleet.specs.Fleets.{count_of};
 
-use crate::event::{Loss, Manner};
-use crate::fleet::MemoryFleet;
 use mc_types::{
     Answer, Ask, Body, Code, Dialect, Fields, Key, Op, Origin, Outcome, ServerId, Token, Tokens,
 };
+use memory_fleet::{Loss, Manner, MemoryFleet};
 use route_job::Fleet;
 use std::alloc::Global;
 use std::test::Fail;

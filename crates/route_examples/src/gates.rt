@@ -1,7 +1,7 @@
 //! Worked verdicts.
 
-use crate::{Accepted, Gap, Reason, Refused, ReloadFault, check, judge};
 use coverage::{Certificate, ClassRows, Deleting, Run, places};
+use fresh_gate::{Accepted, Gap, Reason, Refused, ReloadFault, check, judge};
 use mc_types::{Op, ServerId};
 use route_json::{Config, read_config};
 use std::alloc::Global;

@@ -1,10 +1,13 @@
 //! Tests: streams of messages, in any pieces.
 
-use super::*;
 use bytes::BytesMut;
 use mc_types::{Answer, Ask, Body, Code, Dialect, ErrorText, Fields, Key, Op, OwnText, Tokens};
 use std::alloc::{AllocError, Global};
 use std::test::Fail;
+use text_codec::{
+    AnswerRead, Own, Read, Request, TextStream, ends_message, read_answer, read_request,
+    write_long_line, write_own, write_part, write_refusal,
+};
 
 // A stream that was given these bytes.
 fn given(alloc: Global, bytes: &[u8]) -> Result<TextStream, AllocError> {

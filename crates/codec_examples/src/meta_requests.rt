@@ -1,6 +1,6 @@
 //! Requests with known answers: refusals by the table, cuts, and the one spelling.
-use super::*;
 use bytes::BytesMut;
+use meta_requests::{Own, Read, Request, Skip, Why, read_request, write_ask};
 use std::test::Fail;
 
 fn refused(bytes: &[u8], why: Why, skip: Skip) -> bool {

@@ -1,9 +1,9 @@
 //! Answers of the meta dialect with known readings.
-use super::*;
 use bytes::BytesMut;
 use mc_types::{Answer, Ask, Body, Code, Dialect, Key, Op, Opaque, Token, Tokens};
 use std::alloc::{AllocError, Global};
 use std::test::Fail;
+use text_answers::{AnswerRead, read_answer, write_answer};
 
 fn token(letter: u8) -> Option<Token> {
     match letter {

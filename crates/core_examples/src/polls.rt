@@ -1,7 +1,7 @@
 //! What `poll` answers, one call after another.
 
-use super::*;
 use mc_types::{Outcome, ServerId};
+use proxy_core::{Core, Limits, Poll, Ticket};
 use route_tree::{Tree, TreeForm};
 use std::alloc::{AllocError, Global};
 use std::test::Fail;

@@ -1,6 +1,6 @@
 //! A client of a core on a pool of one server.
 
-use super::*;
+use fresh_core::FreshCore;
 use fresh_gate::judge;
 use mc_types::Outcome;
 use proxy_core::{Limits, Poll, Ticket};

@@ -1,8 +1,8 @@
 //! Tests: each request and each refusal, whole and cut.
 
-use super::*;
 use bytes::BytesMut;
 use std::test::Fail;
+use text_requests::{Own, Read, Request, Skip, Why, read_request, write_ask};
 
 fn refused(bytes: &[u8], why: Why, used: usize, skip: Skip) -> bool {
     match read_request(bytes) {

@@ -1,6 +1,6 @@
 //! Tests: what one connection is answered, in any pieces.
 
-use crate::{Cache, Served};
+use cache_connection::{Cache, Served};
 use std::alloc::Global;
 use std::test::Fail;
 

@@ -1,10 +1,10 @@
 //! Tests: each answer to each ask, whole and cut.
 
-use super::*;
 use bytes::BytesMut;
 use mc_types::{Answer, Ask, Body, Dialect, Key, Op, Tokens};
 use std::alloc::Global;
 use std::test::Fail;
+use text_answers::{AnswerRead, read_answer, write_answer, write_end, write_value};
 
 // A classic ask for the key `k`.
 fn ask(alloc: Global, op: Op, with_cas: bool) -> Result<Ask, Fail> {

@@ -1,5 +1,7 @@
-use super::*;
+//! Clients of a core: how many, what is held of them, when they can be closed.
+
 use bytes::BytesMut;
+use proxy_core::{Core, CoreFault, Limits};
 use route_tree::{Tree, TreeForm};
 use std::alloc::{AllocError, Global};
 use std::test::Fail;

@@ -1,5 +1,5 @@
 //! Both dialects on one connection.
-use super::*;
+use client_requests::{Read, Request, read_request};
 use request_parts::{Skip, Why};
 
 #[test]
