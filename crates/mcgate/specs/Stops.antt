@@ -6,6 +6,8 @@ use Rattle.clap.specs.declared.error.ErrorKind.{ErrorKind as RefusalKind}
 use Rattle.clap.specs.declared.error.ErrorKind.TheVariants as refusal_kinds
 use Rattle.mc_types.specs.declared.key.KeyFault.{KeyFault}
 use Rattle.mc_types.specs.declared.key.KeyFault.TheVariants as keys
+use Rattle.config_check.specs.declared.status.RunFault.{RunFault}
+use Rattle.config_check.specs.declared.status.RunFault.TheVariants as runs
 use Rattle.mcgate.specs.declared.arguments.ArgumentsFault.{ArgumentsFault}
 use Rattle.mcgate.specs.declared.arguments.ArgumentsFault.TheVariants as arguments
 use Rattle.mcgate.specs.declared.input.InputFault.{InputFault}
@@ -27,6 +29,11 @@ input_fault_at _ = inputs.Device
 abbrev pub stop_at : ErrorKind → Stop
 stop_at io_kinds.OutOfMemory = stops.Memory
 stop_at _ = stops.Device
+
+-- what a run that was broken off means for the program
+abbrev pub stop_by : RunFault → Stop
+stop_by runs.NoMemory = stops.Memory
+stop_by runs.Writer = stops.Device
 
 -- what a fault of the arguments means for the program
 abbrev pub stop_of : ArgumentsFault → Stop

@@ -22,9 +22,22 @@ pub enum Task {
 #[derive(Drop)]
 pub enum Job<'a> {
     /// Do this with a file, or with standard input.
-    Run { task: Task, file: Option<&'a str> },
+    Run {
+        task: Task,
+        file: Option<&'a str>,
+    },
+    /// Run a script of events, of a file or of standard input, over the configuration in this file: with `any` whatever the gate
+    /// says of its tree.
+    RunOver {
+        any: bool,
+        config: &'a str,
+        file: Option<&'a str>,
+    },
     /// Print where these keys live in the tree of the configuration in this file.
-    Where { file: &'a str, keys: Vec<Key> },
+    Where {
+        file: &'a str,
+        keys: Vec<Key>,
+    },
     /// Print this text.
     Print(&'static str),
 }
@@ -58,13 +71,14 @@ const HELP: &str =
 
 usage: mcgate check [--explain] [FILE]
                                      print the gate's verdict on a configuration, with --explain also in words
-       mcgate replay [--any] [FILE]  run a script, and print what each client gets
+       mcgate replay [--any] [--config FILE] [SCRIPT]
+                                     run a script, and print what each client gets
        mcgate where --config FILE KEY..
                                      print where keys live in the tree of a configuration
        mcgate [WORD] --help          print this, or more of a word
        mcgate --version              print the version
 
-Without FILE the input is standard input. Without any words mcgate is mcgate replay.
+Without FILE or SCRIPT the input is standard input. Without any words mcgate is mcgate replay.
 Exit status: 0 accepted or done, 1 refused by the gate, 2 bad arguments or input, 3 memory or a device failed.
 ";
 
@@ -83,9 +97,10 @@ which it leaves, and what to change.
 Exit status: 0 accepted, 1 refused, 2 no configuration, 3 memory or a device failed.
 ";
 
-const REPLAY_HELP: &str = "usage: mcgate replay [--any] [FILE]
+const REPLAY_HELP: &str = "usage: mcgate replay [--any] [--config FILE] [SCRIPT]
 
-Reads a script, of FILE or of standard input: a configuration on its first line, or pool N, and then one event a line.
+Reads a script, of the file SCRIPT or of standard input: a configuration on its first line, or pool N, and then one event a line.
+With --config the configuration is the text of FILE, of any number of lines, and each line of the script is an event.
 Runs it over servers in memory, and prints what each client gets and a report:
   < C TEXT               new output of client C
   done N commands M calls K stale
@@ -127,11 +142,15 @@ fn replay_command<'a>(alloc: Global) -> Result<Command<'a>, AllocError> {
     let any = Arg::new(alloc, "any")
         .long("any")
         .action(ArgAction::SetTrue);
+    let config = Arg::new(alloc, "config")
+        .long("config")
+        .action(ArgAction::Set);
     Command::new(alloc, "replay")
         .disable_help_flag(true)
         .arg(help_flag(alloc))?
         .arg(any)?
-        .arg(Arg::new(alloc, "FILE"))
+        .arg(config)?
+        .arg(Arg::new(alloc, "SCRIPT"))
 }
 
 fn where_command<'a>(alloc: Global) -> Result<Command<'a>, AllocError> {
@@ -180,11 +199,14 @@ fn replay_job<'a>(given: &ArgMatches<'a>) -> Job<'a> {
     if given.get_flag("help") {
         return Job::Print(REPLAY_HELP);
     }
-    Job::Run {
-        task: Task::Replay {
-            any: given.get_flag("any"),
+    let any = given.get_flag("any");
+    let file = given.get_str("SCRIPT");
+    match given.get_str("config") {
+        Some(config) => Job::RunOver { any, config, file },
+        None => Job::Run {
+            task: Task::Replay { any },
+            file,
         },
-        file: given.get_str("FILE"),
     }
 }
 
@@ -230,7 +252,8 @@ fn plain_job<'a>(given: &ArgMatches<'a>) -> Job<'a> {
     }
 }
 
-/// What the arguments ask for, the program's name first: `check [--explain] [FILE]`, `replay [--any] [FILE]`, `where --config FILE KEY..`, or
+/// What the arguments ask for, the program's name first: `check [--explain] [FILE]`, `replay [--any] [--config FILE] [SCRIPT]`,
+/// `where --config FILE KEY..`, or
 /// none at all after it, which is `replay`. Also `--help`, before or after a word, and `--version`.
 ///
 /// A KEY that is none is [`ArgumentsFault::Key`], and any other arguments are [`ArgumentsFault::Refused`].

@@ -8,9 +8,9 @@ mod program;
 mod tests;
 
 use arguments::{Job, read_arguments};
-use config_check::status::DONE;
+use config_check::status::{BAD_INPUT, DONE};
 use input::{InputFault, fault_of, read_input};
-use program::{Stop, end_of, run_input, run_keys};
+use program::{Stop, end_of, read_configuration, run_events, run_input, run_keys};
 use std::fs::File;
 use std::io;
 use std::io::{BufWriter, ErrorKind, Write};
@@ -44,11 +44,26 @@ fn arguments_of<R: AllocGlobal + Env>(rt: &R) -> Result<Vec<String>, Stop> {
     }
 }
 
+/// Runs a script over the configuration of a file; where that is none, its script isn't read.
+fn run_over<R: Files + Input + AllocGlobal, W: Write>(
+    rt: &R,
+    any: bool,
+    config: &str,
+    file: Option<&str>,
+    out: &mut W,
+) -> Result<u8, Stop> {
+    match read_configuration(rt.alloc(), text_of(rt, Some(config)), out)? {
+        Some(config) => run_events(rt.alloc(), any, config, text_of(rt, file), out),
+        None => Ok(BAD_INPUT),
+    }
+}
+
 /// Runs what the arguments ask for, and answers the exit status.
 fn run<R: Files + Input + AllocGlobal + Env, W: Write>(rt: &R, out: &mut W) -> Result<u8, Stop> {
     let arguments = arguments_of(rt)?;
     match read_arguments(rt.alloc(), arguments.as_slice())? {
         Job::Run { task, file } => run_input(rt.alloc(), task, text_of(rt, file), out),
+        Job::RunOver { any, config, file } => run_over(rt, any, config, file, out),
         Job::Where { file, keys } => run_keys(rt.alloc(), &keys, text_of(rt, Some(file)), out),
         Job::Print(text) => {
             out.write_all(text.as_bytes())?;

@@ -2,17 +2,20 @@
 
 ghost use Rattle.std.specs.Prelude.{◌≡◌, option_map};
 ghost use Rattle.std.specs.IoError.{error_kind};
-ghost use Rattle.mcgate.specs.Program.{Answers, Runs, AnswersInput, RunsBy, AnswersBy};
+ghost use Rattle.mcgate.specs.Program.{Answers, Runs, AnswersInput, RunsBy, AnswersBy, Declines, GivesConfig, ReadsConfig};
+ghost use Rattle.replay.specs.Replay.{ReplaysOver};
 ghost use Rattle.key_places.specs.Finding.{FindsKeys};
-ghost use Rattle.mcgate.specs.Stops.{stop_at, stop_of, key_line, end_of};
+ghost use Rattle.mcgate.specs.Stops.{stop_at, stop_by, stop_of, key_line, end_of};
 
 use crate::arguments::{ArgumentsFault, Task};
 use crate::input::InputFault;
+use config_check::checking::print_fault;
 use config_check::status::{BAD_INPUT, NO_MEMORY, WRITER};
-use config_check::{run_check, run_explain};
+use config_check::{RunFault, run_check, run_explain};
 use key_places::run_where;
 use mc_types::{Key, KeyFault};
-use replay::run_replay;
+use replay::{run_replay, run_replay_over};
+use route_json::{Config, read_config};
 use std::alloc::Global;
 use std::io;
 use std::io::{ErrorKind, Write};
@@ -37,6 +40,17 @@ impl From<io::Error> for Stop {
         match error.kind() {
             ErrorKind::OutOfMemory => Stop::Memory,
             _ => Stop::Device,
+        }
+    }
+}
+
+impl From<RunFault> for Stop {
+    ghost from_gives = { λ fault stop. stop ≡ stop_by fault };
+
+    fn from(fault: RunFault) -> Stop {
+        match fault {
+            RunFault::NoMemory => Stop::Memory,
+            RunFault::Writer => Stop::Device,
         }
     }
 }
@@ -122,6 +136,24 @@ fn run_text<W: Write>(alloc: Global, task: Task, text: &str, out: &mut W) -> Res
     }
 }
 
+// Prints why an input was not taken, unless memory or a device failed.
+fn decline<W: Write>(fault: InputFault, out: &mut W) -> Result<u8, Stop>
+    ensures { Declines fault (W.contents out.old) (W.contents out.new) result }
+{
+    match fault {
+        InputFault::TooLarge => {
+            writeln!(out, "input: too large")?;
+            Ok(BAD_INPUT)
+        }
+        InputFault::NotUtf8 => {
+            writeln!(out, "input: not UTF-8")?;
+            Ok(BAD_INPUT)
+        }
+        InputFault::NoMemory => Err(Stop::Memory),
+        InputFault::Device => Err(Stop::Device),
+    }
+}
+
 /// Does the task with an input, or prints why it is none. The answer is the exit status where all that was to be printed was written.
 ///
 /// `Stop::Memory` and `Stop::Device` come where the input could not be read for that cause, and then nothing was written; also
@@ -136,16 +168,7 @@ pub fn run_input<W: Write>(
 {
     match input {
         Ok(text) => run_text(alloc, task, text.as_str(), out),
-        Err(InputFault::TooLarge) => {
-            writeln!(out, "input: too large")?;
-            Ok(BAD_INPUT)
-        }
-        Err(InputFault::NotUtf8) => {
-            writeln!(out, "input: not UTF-8")?;
-            Ok(BAD_INPUT)
-        }
-        Err(InputFault::NoMemory) => Err(Stop::Memory),
-        Err(InputFault::Device) => Err(Stop::Device),
+        Err(fault) => decline(fault, out),
     }
 }
 
@@ -171,15 +194,71 @@ pub fn run_keys<W: Write>(
 {
     match input {
         Ok(text) => find_in_text(alloc, keys, text.as_str(), out),
-        Err(InputFault::TooLarge) => {
-            writeln!(out, "input: too large")?;
-            Ok(BAD_INPUT)
+        Err(fault) => decline(fault, out),
+    }
+}
+
+// The configuration of a text; where it is none, its first fault was printed.
+fn config_of<W: Write>(alloc: Global, text: &str, out: &mut W) -> Result<Option<Config>, Stop>
+    ensures { GivesConfig text.now (W.contents out.old) (W.contents out.new) result }
+{
+    match read_config(alloc, text) {
+        Ok(config) => Ok(Some(config)),
+        Err(fault) => {
+            print_fault(text, &fault, out)?;
+            Ok(None)
         }
-        Err(InputFault::NotUtf8) => {
-            writeln!(out, "input: not UTF-8")?;
-            Ok(BAD_INPUT)
+    }
+}
+
+/// The configuration of an input. Where it has none, that was printed: why it is no input, or the text's first fault.
+///
+/// The faults are as those of [`run_input`].
+pub fn read_configuration<W: Write>(
+    alloc: Global,
+    input: Result<String, InputFault>,
+    out: &mut W,
+) -> Result<Option<Config>, Stop>
+    ensures { ReadsConfig input (W.contents out.old) (W.contents out.new) result }
+{
+    match input {
+        Ok(text) => config_of(alloc, text.as_str(), out),
+        Err(fault) => {
+            decline(fault, out)?;
+            Ok(None)
         }
-        Err(InputFault::NoMemory) => Err(Stop::Memory),
-        Err(InputFault::Device) => Err(Stop::Device),
+    }
+}
+
+fn replay_events<W: Write>(
+    alloc: Global,
+    any: bool,
+    config: Config,
+    text: &str,
+    out: &mut W,
+) -> Result<u8, Stop>
+    ensures { RunsBy (λ text old new status. ReplaysOver any config text old new status) text.now (W.contents out.old) (W.contents out.new) result }
+{
+    match run_replay_over(alloc, any, config, text, out) {
+        NO_MEMORY => Err(Stop::Memory),
+        WRITER => Err(Stop::Device),
+        status => Ok(status),
+    }
+}
+
+/// Runs the events of an input over a configuration, or prints why it is no input. The answer and the faults are as those of
+/// [`run_input`].
+pub fn run_events<W: Write>(
+    alloc: Global,
+    any: bool,
+    config: Config,
+    input: Result<String, InputFault>,
+    out: &mut W,
+) -> Result<u8, Stop>
+    ensures { AnswersBy (λ text old new status. ReplaysOver any config text old new status) input (W.contents out.old) (W.contents out.new) result }
+{
+    match input {
+        Ok(text) => replay_events(alloc, any, config, text.as_str(), out),
+        Err(fault) => decline(fault, out),
     }
 }

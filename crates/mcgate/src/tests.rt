@@ -2,8 +2,9 @@
 
 use crate::arguments::{ArgumentsFault, Job, Task, read_arguments};
 use crate::input::{INPUT_LIMIT, InputFault, read_input};
-use crate::program::{End, Stop, end_of, run_input};
+use crate::program::{End, Stop, end_of, read_configuration, run_events, run_input};
 use crate::text_of;
+use route_json::Config;
 use std::alloc::{AllocError, Global};
 use std::io;
 use std::io::ErrorKind;
@@ -42,6 +43,34 @@ fn arguments_that_ask_for_a_replay(rt: HostRuntime) -> Result<(), Fail> {
     assert!(rt; asked(alloc, &["mcgate", "replay", "--any"], any, None)?);
     assert!(rt; asked(alloc, &["mcgate", "replay", "--any", "f"], any, Some("f"))?);
     assert!(rt; asked(alloc, &["mcgate", "replay", "f", "--any"], any, Some("f"))?);
+    Ok(())
+}
+
+// Whether words ask for a replay over the configuration of the file `c`.
+fn asked_over(
+    alloc: Global,
+    words: &[&str],
+    want_any: bool,
+    want_file: Option<&str>,
+) -> Result<bool, Fail> {
+    let given = arguments_of(alloc, words)?;
+    match read_arguments(alloc, given.as_slice()) {
+        Ok(Job::RunOver { any, config, file }) => {
+            Ok(any == want_any && config == "c" && file == want_file)
+        }
+        _ => Ok(false),
+    }
+}
+
+#[test]
+fn arguments_that_ask_for_a_replay_over_a_file(rt: HostRuntime) -> Result<(), Fail> {
+    let alloc = rt.alloc();
+    let plain = ["mcgate", "replay", "--config", "c"].as_slice();
+    let of_file = ["mcgate", "replay", "--config", "c", "f"].as_slice();
+    let any = ["mcgate", "replay", "f", "--config", "c", "--any"].as_slice();
+    assert!(rt; asked_over(alloc, plain, false, None)?);
+    assert!(rt; asked_over(alloc, of_file, false, Some("f"))?);
+    assert!(rt; asked_over(alloc, any, true, Some("f"))?);
     Ok(())
 }
 
@@ -127,6 +156,8 @@ fn words_that_are_refused(rt: HostRuntime) -> Result<(), Fail> {
         ["mcgate", "check", "f", "g"].as_slice(),
         ["mcgate", "replay", "--any", "--any"].as_slice(),
         ["mcgate", "replay", "--any=yes"].as_slice(),
+        ["mcgate", "replay", "--config"].as_slice(),
+        ["mcgate", "check", "--config", "c"].as_slice(),
         ["mcgate", "replay", "f", "g"].as_slice(),
         ["mcgate", "replay", "replay", "f"].as_slice(),
     ];
@@ -199,6 +230,54 @@ fn ends_of_runs(rt: HostRuntime) -> Result<(), Fail> {
             input,
             &mut out,
         ));
+        assert_eq!(rt; status, want_status);
+        assert_eq!(rt; complaint, want_complaint);
+        assert_eq!(rt; out.as_slice(), want.as_bytes());
+    }
+    Ok(())
+}
+
+// What is printed of an input that is to be a configuration, and whether it is one.
+fn configured(alloc: Global, input: Result<String, InputFault>) -> Result<(bool, Vec<u8>), Fail> {
+    let mut out = Vec::new(alloc);
+    match read_configuration(alloc, input, &mut out) {
+        Ok(config) => Ok((config.is_some(), out)),
+        Err(_) => Err(Fail::from("stopped")),
+    }
+}
+
+#[test]
+fn inputs_that_are_to_be_a_configuration(rt: HostRuntime) -> Result<(), Fail> {
+    let alloc = rt.alloc();
+    let good = "{\"pools\":{},\n\"route\":\"NullRoute\"}\n".to_string(alloc)?;
+    let bad = "{}".to_string(alloc)?;
+    let cases = [
+        (Ok(good), true, ""),
+        (Ok(bad), false, "config: bad field pools\n"),
+        (Err(InputFault::TooLarge), false, "input: too large\n"),
+        (Err(InputFault::NotUtf8), false, "input: not UTF-8\n"),
+    ];
+    for (input, want, want_printed) in cases {
+        let (is_one, printed) = configured(alloc, input)?;
+        assert_eq!(rt; is_one, want);
+        assert_eq!(rt; printed.as_slice(), want_printed.as_bytes());
+    }
+    Ok(())
+}
+
+#[test]
+fn events_of_an_input(rt: HostRuntime) -> Result<(), Fail> {
+    let alloc = rt.alloc();
+    let bad = "\nrestart 1\n".to_string(alloc)?;
+    let cases = [
+        (Ok(bad), (2, None), "script: bad line 2\n"),
+        (Err(InputFault::TooLarge), (2, None), "input: too large\n"),
+        (Err(InputFault::Device), (3, Some("device: failed")), ""),
+    ];
+    for (input, (want_status, want_complaint), want) in cases {
+        let config = Config::of_pool(alloc, 1)?;
+        let mut out = Vec::new(alloc);
+        let End { status, complaint } = end_of(run_events(alloc, false, config, input, &mut out));
         assert_eq!(rt; status, want_status);
         assert_eq!(rt; complaint, want_complaint);
         assert_eq!(rt; out.as_slice(), want.as_bytes());

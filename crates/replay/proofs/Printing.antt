@@ -7,7 +7,7 @@ use Rattle.std.proofs.lemmas.Option.{slice_get-get_or}
 use Rattle.route_tree.specs.Route.{Route}
 use Rattle.route_json.specs.Configuration.{Configuration}
 use Rattle.script_text.specs.FirstLine.{WhyNot}
-use Rattle.script_text.specs.Script.{Told, told, bad_line, bad_event_line, either, servers_said, events_said, lines_said, IsScriptOf, ReadsScript, Numbered}
+use Rattle.script_text.specs.Script.{Told, bad_line, bad_event_line, either, servers_said, events_said, lines_said, IsScriptOf, ReadsScript, Numbered}
 use Rattle.script_text.specs.declared.configured.ConfiguredScript.{ConfiguredScript}
 use Rattle.fleet_run.specs.declared.script.Report.{Report}
 use Rattle.fleet_run.specs.declared.script.Transcript.{Transcript}
@@ -20,7 +20,7 @@ use Rattle.fresh_gate.specs.Sound.{IsLast}
 use Rattle.accepted_run.specs.Freshly.{DrivesFreshly, EndsFreshly}
 use Rattle.config_check.specs.declared.status.RunFault.{RunFault}
 use Rattle.config_check.specs.declared.status.RunFault.TheVariants.{NoMemory, Writer}
-use Rattle.replay.specs.Replay.{Replays, RunsScript, RunsGood, RunsTree, BreaksTreeOff, BreaksScriptOff, BreaksOff, Wrote, BrokeOff, events_of, servers_of}
+use Rattle.replay.specs.Replay.{ReplaysTold, RunsScript, RunsGood, RunsTree, BreaksTreeOff, BreaksScriptOff, BreaksOff, Wrote, BrokeOff, events_of, servers_of}
 
 pub both_written : (old mid new : Option (List ℕ)) (a b : List ℕ) → Appends old mid a → Appends mid new b → Appends old new (a ++ b)
 both_written None mid new a b x y = tt
@@ -52,18 +52,18 @@ bad_is t script h =
     ∙ ap (λ (es : List Scripted). bad_event_line (servers_of script) es (lines_said t)) (sym h.events)
     ∙ ap (λ (ls : List ℕ). bad_event_line (servers_of script) (events_of script) ls) (sym h.lines)
 
-pub replays : (any : Bool) (text : List ℕ) (t : Result Told WhyNot) (script : ConfiguredScript) (old new : Option (List ℕ)) (status : ℕ) → told text ≡ t → ReadsScript t (Ok script) → RunsScript any script old new status → Replays any text old new status
-replays any text (Err why) script old new status e h r = absurd h
-replays any text (Ok t) script old new status e h (inl r) = inl (record { script = t; said = e; good = bad_is t script h ∙ rw (r.good) refl; runs = runs_said any t script old new status h r.runs })
-replays any text (Ok t) script old new status e h (inr r) = inr (r.0, inr (record { line = r.1.line; bad = ap bad_line e ∙ bad_is t script h ∙ r.1.bad; printed = r.1.printed }))
+pub replays : (any : Bool) (t : Result Told WhyNot) (script : ConfiguredScript) (old new : Option (List ℕ)) (status : ℕ) → ReadsScript t (Ok script) → RunsScript any script old new status → ReplaysTold any t old new status
+replays any (Err why) script old new status h r = absurd h
+replays any (Ok t) script old new status h (inl r) = inl (record { script = t; said = refl; good = bad_is t script h ∙ rw (r.good) refl; runs = runs_said any t script old new status h r.runs })
+replays any (Ok t) script old new status h (inr r) = inr (r.0, inr (record { line = r.1.line; bad = bad_is t script h ∙ r.1.bad; printed = r.1.printed }))
 
 broken_said : (any : Bool) (t : Told) (script : ConfiguredScript) (old new : Option (List ℕ)) → IsScriptOf t script → BreaksTreeOff any script.config.tree (events_of script) old new NoMemory → BreaksTreeOff any t.configuration.tree (events_said t) old new NoMemory
 broken_said any t script old new h p = rw (← h.configuration, ← h.events) p
 
-pub breaks_off : (any : Bool) (text : List ℕ) (t : Result Told WhyNot) (script : ConfiguredScript) (old new : Option (List ℕ)) (fault : RunFault) → told text ≡ t → ReadsScript t (Ok script) → BreaksScriptOff any script old new fault → BreaksOff any text old new fault
-breaks_off any text (Err why) script old new fault e h b = absurd h
-breaks_off any text (Ok t) script old new NoMemory e h b = elim (broken_said any t script old new h b) [ inl kept ↦ inl kept | inr part ↦ inr (record { script = t; said = e; prints = part }) ]
-breaks_off any text (Ok t) script old new Writer e h b = tt
+pub breaks_off : (any : Bool) (t : Result Told WhyNot) (script : ConfiguredScript) (old new : Option (List ℕ)) (fault : RunFault) → ReadsScript t (Ok script) → BreaksScriptOff any script old new fault → BreaksOff any t old new fault
+breaks_off any (Err why) script old new fault h b = absurd h
+breaks_off any (Ok t) script old new NoMemory h b = elim (broken_said any t script old new h b) [ inl kept ↦ inl kept | inr part ↦ inr (record { script = t; said = refl; prints = part }) ]
+breaks_off any (Ok t) script old new Writer h b = tt
 
 true_is_not_false : true ≡ false → ⊥
 true_is_not_false e = cc
@@ -121,9 +121,9 @@ good_status : (any : Bool) (config : Configuration) (events : List Scripted) (ol
 good_status any config events old new status (inl ran) = let e = ran.0 in omega (arith, e)
 good_status any config events old new status (inr refused) = let e = refused.0 in omega (arith, e)
 
-pub replays_status : (any : Bool) (text : List ℕ) (old new : Option (List ℕ)) (status : ℕ) → Replays any text old new status → status ≤ 2
-replays_status any text old new status (inl ran) = let few = good_status any ran.script.configuration (events_said ran.script) old new status ran.runs in omega (arith, few)
-replays_status any text old new status (inr bad) = let e = bad.0 in omega (arith, e)
+pub replays_status : (any : Bool) (t : Result Told WhyNot) (old new : Option (List ℕ)) (status : ℕ) → ReplaysTold any t old new status → status ≤ 2
+replays_status any t old new status (inl ran) = let few = good_status any ran.script.configuration (events_said ran.script) old new status ran.runs in omega (arith, few)
+replays_status any t old new status (inr bad) = let e = bad.0 in omega (arith, e)
 
 -- the line of an event that can't be
 pub event_line : (servers n : ℕ) (events : List Scripted) (lines : List ℕ) (at : ℕ) (o : Option ℕ) (line : ℕ) → n ≡ servers → Some at ≡ first_bad n events → o ≡ slice_get lines at → o ≡ Some line → bad_event_line servers events lines ≡ Some line

@@ -16,9 +16,10 @@ use Rattle.fleet_run.specs.declared.script.DriveFault.TheVariants as drive_fault
 use Rattle.fleet_run.specs.Scripted.{Scripted, Shown, scripted_of, transcript_of}
 use Rattle.fleet_run.specs.Opening.{opening_of}
 use Rattle.fleet_run.specs.Driving.{Drives, DrivesPart}
-use Rattle.script_text.specs.FirstLine.{TellsFault}
-use Rattle.script_text.specs.Script.{Told, told, bad_line, bad_event_line, events_said}
+use Rattle.script_text.specs.FirstLine.{WhyNot, TellsFault}
+use Rattle.script_text.specs.Script.{Told, told, told_over, bad_line, bad_event_line, events_said, ReadsScript}
 use Rattle.script_text.specs.declared.configured.ConfiguredScript.{ConfiguredScript}
+use Rattle.script_text.specs.declared.configured.ScriptFault.{ScriptFault}
 use Rattle.script_text.specs.Printed.{shown_lines, report_line, bad_line_line, config_fault_line}
 use Rattle.fleet_run.specs.Bad.{first_bad}
 use Rattle.config_check.specs.Checking.{PrintsRefused}
@@ -105,41 +106,65 @@ RunsScript any script old new status = RanScript any script old new status ⊎ (
 abbrev pub BreaksScriptOff : Bool → ConfiguredScript → Option (List ℕ) → Option (List ℕ) → RunFault → Type 0
 BreaksScriptOff any script old new fault = BreaksTreeOff any script.config.tree (events_of script) old new fault
 
--- ---- a text
+-- ---- what a text says
 
--- no line is bad, and the script of the text ran or was refused
-pub record Ran (any : Bool) (text : List ℕ) (old new : Option (List ℕ)) (status : ℕ) : Type 0 where
+-- no line is bad, and the script ran or was refused
+pub record Ran (any : Bool) (t : Result Told WhyNot) (old new : Option (List ℕ)) (status : ℕ) : Type 0 where
   pub script : Told
-  pub said : told text ≡ Ok script
+  pub said : t ≡ Ok script
   pub good : bad_line (Ok script) ≡ None
   pub runs : RunsGood any script.configuration (events_said script) old new status
 
 -- a line is bad, and that was written
-pub record HasBadLine (text : List ℕ) (old new : Option (List ℕ)) : Type 0 where
+pub record HasBadLine (t : Result Told WhyNot) (old new : Option (List ℕ)) : Type 0 where
   pub line : ℕ
-  pub bad : bad_line (told text) ≡ Some line
+  pub bad : bad_line t ≡ Some line
   pub printed : Appends old new (bad_line_line line)
 
 -- the configuration has a fault, and that was written
-pub record HasFaultyConfig (text : List ℕ) (old new : Option (List ℕ)) : Type 0 where
+pub record HasFaultyConfig (t : Result Told WhyNot) (old new : Option (List ℕ)) : Type 0 where
   pub fault : ConfigFault
-  pub tells : TellsFault (told text) fault
+  pub tells : TellsFault t fault
   pub printed : Appends old new (config_fault_line fault)
 
 -- status 0: it ran; status 1: the gate refused its tree; status 2: the configuration has a fault, or a line is bad
-abbrev pub Replays : Bool → List ℕ → Option (List ℕ) → Option (List ℕ) → ℕ → Type 0
-Replays any text old new status = Ran any text old new status ⊎ ((status ≡ 2) × (HasFaultyConfig text old new ⊎ HasBadLine text old new))
+abbrev pub ReplaysTold : Bool → Result Told WhyNot → Option (List ℕ) → Option (List ℕ) → ℕ → Type 0
+ReplaysTold any t old new status = Ran any t old new status ⊎ ((status ≡ 2) × (HasFaultyConfig t old new ⊎ HasBadLine t old new))
 
--- the script of the text ran in part
-pub record RanInPart (any : Bool) (text : List ℕ) (old new : Option (List ℕ)) : Type 0 where
+-- the script ran in part
+pub record RanInPart (any : Bool) (t : Result Told WhyNot) (old new : Option (List ℕ)) : Type 0 where
   pub script : Told
-  pub said : told text ≡ Ok script
+  pub said : t ≡ Ok script
   pub prints : PrintsPart any script.configuration.tree (events_said script) old new
 
 -- memory was refused before the run, and nothing was written; or during it
-abbrev pub IsBrokenOff : Bool → List ℕ → Option (List ℕ) → Option (List ℕ) → Type 0
-IsBrokenOff any text old new = (new ≡ old) ⊎ RanInPart any text old new
+abbrev pub IsBrokenOff : Bool → Result Told WhyNot → Option (List ℕ) → Option (List ℕ) → Type 0
+IsBrokenOff any t old new = (new ≡ old) ⊎ RanInPart any t old new
 
-abbrev pub BreaksOff : Bool → List ℕ → Option (List ℕ) → Option (List ℕ) → RunFault → Type 0
-BreaksOff any text old new NoMemory = IsBrokenOff any text old new
-BreaksOff any text old new Writer = Unit {0}
+abbrev pub BreaksOff : Bool → Result Told WhyNot → Option (List ℕ) → Option (List ℕ) → RunFault → Type 0
+BreaksOff any t old new NoMemory = IsBrokenOff any t old new
+BreaksOff any t old new Writer = Unit {0}
+
+-- ---- what was read of a text
+
+-- some text is read so
+pub record IsReading (read : Result ConfiguredScript ScriptFault) : Type 0 where
+  pub told : Result Told WhyNot
+  pub reads : ReadsScript told read
+
+-- so is each text replayed that is read so
+abbrev pub ReplaysRead : Bool → Result ConfiguredScript ScriptFault → Option (List ℕ) → Option (List ℕ) → ℕ → Type 0
+ReplaysRead any read old new status = (t : Result Told WhyNot) → ReadsScript t read → ReplaysTold any t old new status
+
+abbrev pub BreaksReadOff : Bool → Result ConfiguredScript ScriptFault → Option (List ℕ) → Option (List ℕ) → RunFault → Type 0
+BreaksReadOff any read old new fault = (t : Result Told WhyNot) → ReadsScript t read → BreaksOff any t old new fault
+
+-- ---- a text
+
+-- of a script with its configuration
+abbrev pub Replays : Bool → List ℕ → Option (List ℕ) → Option (List ℕ) → ℕ → Type 0
+Replays any text = ReplaysTold any (told text)
+
+-- of a script of events alone, over a configuration from elsewhere
+abbrev pub ReplaysOver : Bool → Configuration → List ℕ → Option (List ℕ) → Option (List ℕ) → ℕ → Type 0
+ReplaysOver any config text = ReplaysTold any (Ok (told_over config text))

@@ -7,4 +7,4 @@ pub mod replaying;
 #[cfg(test)]
 mod tests;
 
-pub use replaying::run_replay;
+pub use replaying::{run_replay, run_replay_over};

@@ -1,10 +1,11 @@
 //! Scripts that are run, and what is printed of them.
 
-ghost use Rattle.std.specs.Prelude.{◌≡◌, ◌≤◌, false, true, None, IfOk, IfErr, MatchResult, length};
+ghost use Rattle.std.specs.Prelude.{◌≡◌, ◌≤◌, false, true, None, Ok, IfOk, IfErr, MatchResult, length};
 ghost use Rattle.fresh_gate.specs.Gate.{IsCertified};
 ghost use Rattle.fresh_gate.specs.Sound.{IsLast};
 ghost use Rattle.fleet_run.specs.Bad.{first_bad};
-ghost use Rattle.replay.specs.Replay.{Replays, RunsScript, RunsGood, RunsTree, BreaksTreeOff, BreaksScriptOff, IsBrokenOff, BreaksOff, Wrote, BrokeOff, IsInUse, events_of, servers_of, scripted};
+ghost use Rattle.script_text.specs.Script.{told, told_over};
+ghost use Rattle.replay.specs.Replay.{Replays, ReplaysOver, IsReading, ReplaysRead, BreaksReadOff, RunsScript, RunsGood, RunsTree, BreaksTreeOff, BreaksScriptOff, IsBrokenOff, BreaksOff, Wrote, BrokeOff, IsInUse, events_of, servers_of, scripted};
 
 use accepted_run::drive;
 use config_check::RunFault;
@@ -15,7 +16,7 @@ use fresh_gate::{Accepted, judge};
 use route_json::Config;
 use script_text::configured::{ConfiguredScript, ScriptFault};
 use script_text::printer::{write_bad_line, write_config_fault, write_report, write_transcript};
-use script_text::reader::read_script;
+use script_text::reader::{read_events, read_script};
 use std::alloc::Global;
 use std::io::Write;
 
@@ -136,11 +137,18 @@ fn run_script<W: Write>(
     }
 }
 
-fn replay_text<W: Write>(alloc: Global, any: bool, text: &str, out: &mut W) -> Result<u8, RunFault>
-    ensures ok { IfOk result (Replays any text.now (W.contents out.old) (W.contents out.new)) }
-    ensures err { IfErr result (BreaksOff any text.now (W.contents out.old) (W.contents out.new)) }
+// Runs the script that was read, or writes the fault of its configuration or the line that is bad.
+fn replay_read<W: Write>(
+    alloc: Global,
+    any: bool,
+    read: Result<ConfiguredScript, ScriptFault>,
+    out: &mut W,
+) -> Result<u8, RunFault>
+    requires { IsReading read }
+    ensures ok { IfOk result (ReplaysRead any read (W.contents out.old) (W.contents out.new)) }
+    ensures err { IfErr result (BreaksReadOff any read (W.contents out.old) (W.contents out.new)) }
 {
-    match read_script(alloc, text) {
+    match read {
         Ok(configured) => run_script(alloc, any, configured, out),
         Err(ScriptFault::Config(fault)) => {
             write_config_fault(&fault, out)?;
@@ -152,6 +160,26 @@ fn replay_text<W: Write>(alloc: Global, any: bool, text: &str, out: &mut W) -> R
         }
         Err(ScriptFault::NoMemory) => Err(RunFault::NoMemory),
     }
+}
+
+fn replay_text<W: Write>(alloc: Global, any: bool, text: &str, out: &mut W) -> Result<u8, RunFault>
+    ensures ok { IfOk result (Replays any text.now (W.contents out.old) (W.contents out.new)) }
+    ensures err { IfErr result (BreaksOff any (told text.now) (W.contents out.old) (W.contents out.new)) }
+{
+    replay_read(alloc, any, read_script(alloc, text), out)
+}
+
+fn replay_events<W: Write>(
+    alloc: Global,
+    any: bool,
+    config: Config,
+    text: &str,
+    out: &mut W,
+) -> Result<u8, RunFault>
+    ensures ok { IfOk result (ReplaysOver any config text.now (W.contents out.old) (W.contents out.new)) }
+    ensures err { IfErr result (BreaksOff any (Ok (told_over config text.now)) (W.contents out.old) (W.contents out.new)) }
+{
+    replay_read(alloc, any, read_events(alloc, config, text), out)
 }
 
 /// Runs a script over servers in memory, and prints the transcript and the report; or the fault of its configuration, or the line
@@ -167,9 +195,32 @@ fn replay_text<W: Write>(alloc: Global, any: bool, text: &str, out: &mut W) -> R
 pub fn run_replay<W: Write>(alloc: Global, any: bool, text: &str, out: &mut W) -> u8
     ensures status { result ≤ 4 }
     ensures wrote { result ≤ 2 → Replays any text.now (W.contents out.old) (W.contents out.new) result }
-    ensures refused { result ≡ 3 → IsBrokenOff any text.now (W.contents out.old) (W.contents out.new) }
+    ensures refused { result ≡ 3 → IsBrokenOff any (told text.now) (W.contents out.old) (W.contents out.new) }
 {
     match replay_text(alloc, any, text, out) {
+        Ok(status) => status,
+        Err(fault) => answer_of(fault),
+    }
+}
+
+/// Runs a script of events alone over a configuration from elsewhere, and prints what [`run_replay`] prints of a script that begins with
+/// that configuration; but the line of a bad event is counted from 1 in the text of the events. It has no fault of a configuration.
+///
+/// The answer is that of [`run_replay`], which says also what `any` means.
+///
+/// Source: mcgate's own.
+pub fn run_replay_over<W: Write>(
+    alloc: Global,
+    any: bool,
+    config: Config,
+    text: &str,
+    out: &mut W,
+) -> u8
+    ensures status { result ≤ 4 }
+    ensures wrote { result ≤ 2 → ReplaysOver any config text.now (W.contents out.old) (W.contents out.new) result }
+    ensures refused { result ≡ 3 → IsBrokenOff any (Ok (told_over config text.now)) (W.contents out.old) (W.contents out.new) }
+{
+    match replay_events(alloc, any, config, text, out) {
         Ok(status) => status,
         Err(fault) => answer_of(fault),
     }

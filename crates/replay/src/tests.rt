@@ -1,7 +1,9 @@
 //! Scripts that run, that are refused, and that can't be read.
 
-use crate::run_replay;
+use crate::{run_replay, run_replay_over};
 use config_check::status::{BAD_INPUT, DONE, REFUSED, WRITER};
+use route_json::{Config, read_config};
+use std::alloc::Global;
 use std::io;
 use std::io::{ErrorKind, Write};
 use std::test::Fail;
@@ -83,6 +85,62 @@ fn trees_that_are_refused(rt: HostRuntime) -> Result<(), Fail> {
             run_replay(rt.alloc(), any, text.as_str(), &mut out),
             want_status
         );
+        assert_eq!(rt; out.as_slice(), want.as_bytes());
+    }
+    Ok(())
+}
+
+const OVER_LINES: &str = r#"{
+  "pools": { "A": { "servers": ["127.0.0.1:5001"] } },
+  "route": "PoolRoute|A"
+}
+"#;
+
+fn config_of(alloc: Global, text: &str) -> Result<Config, Fail> {
+    match read_config(alloc, text) {
+        Ok(config) => Ok(config),
+        Err(_) => Err(Fail::from("no configuration")),
+    }
+}
+
+// Each line of the script is an event, and the first is line 1.
+#[test]
+fn events_over_a_configuration(rt: HostRuntime) -> Result<(), Fail> {
+    let refusal = "refused: server=127.0.0.1:5001 read=get delete=delete prefix= residue=0/1\n";
+    let none = "done 0 commands 0 calls 0 stale\n";
+    let miss = "< 0 END\\r\\n\ndone 1 commands 1 calls 0 stale\n";
+    let cases = [
+        (OVER_LINES, "", false, DONE, none),
+        (OVER_LINES, "> 0 get a\\r\\n", false, DONE, miss),
+        (
+            OVER_LINES,
+            "pool 1\n",
+            false,
+            BAD_INPUT,
+            "script: bad line 1\n",
+        ),
+        (
+            OVER_LINES,
+            "#\nrestart 1\n",
+            true,
+            BAD_INPUT,
+            "script: bad line 2\n",
+        ),
+        (LEAKING, "restart 1\n", false, REFUSED, refusal),
+        (LEAKING, "restart 1\n", true, DONE, none),
+        (
+            LEAKING,
+            "restart 2\n",
+            false,
+            BAD_INPUT,
+            "script: bad line 1\n",
+        ),
+    ];
+    for (config, events, any, want_status, want) in cases {
+        let config = config_of(rt.alloc(), config)?;
+        let mut out = Vec::new(rt.alloc());
+        let status = run_replay_over(rt.alloc(), any, config, events, &mut out);
+        assert_eq!(rt; status, want_status);
         assert_eq!(rt; out.as_slice(), want.as_bytes());
     }
     Ok(())

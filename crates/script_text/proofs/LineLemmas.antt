@@ -20,7 +20,7 @@ no_line_found text none =
     let each : All (λ b. is_line_end b ≡ false) text = λ k d lt. not_false _ (prefix_len_passes (λ b. not (is_line_end b)) text k d (omega arith)) in
     slice_split_none is_line_end text each
 
-few_lines : (text : List ℕ) → length (lines_of text) ≤ length text + 1
+pub few_lines : (text : List ℕ) → length (lines_of text) ≤ length text + 1
 few_lines text = omega (arith, length-slice_split is_line_end text, count_by-le-length is_line_end text)
 
 few_cut : (text : List ℕ) (at : ℕ) → at < length text → length (lines_of (drop (at + 1) text)) + length (take at text) ≤ length text

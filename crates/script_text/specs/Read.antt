@@ -12,8 +12,8 @@ meaning_of m.Nothing = Nothing
 meaning_of (m.Says event) = Says (scripted_of event)
 meaning_of m.Unreadable = Unreadable
 
--- what was read of the further lines, of which the first has number 2
-pub record ReadsLines (lines : List (List ℕ)) (r : Reading) : Type 0 where
-  pub events : map scripted_of r.events.items ≡ map (λ (x : Numbered). x.event) (numbered 2 lines)
-  pub numbers : r.lines.items ≡ map (λ (x : Numbered). x.line) (numbered 2 lines)
-  pub unreadable : r.unreadable ≡ first_unreadable 2 lines
+-- what was read of lines, of which the first has this number
+pub record ReadsLines (first : ℕ) (lines : List (List ℕ)) (r : Reading) : Type 0 where
+  pub events : map scripted_of r.events.items ≡ map (λ (x : Numbered). x.event) (numbered first lines)
+  pub numbers : r.lines.items ≡ map (λ (x : Numbered). x.line) (numbered first lines)
+  pub unreadable : r.unreadable ≡ first_unreadable first lines

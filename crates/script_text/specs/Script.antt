@@ -57,9 +57,13 @@ pub record Told : Type 0 where
   pub said : List Numbered
   pub unreadable : Option ℕ
 
+-- what lines of events say over a configuration; the first line has this number
+abbrev pub told_from : ℕ → Configuration → List (List ℕ) → Told
+told_from first c lines = record { configuration = c; said = numbered first lines; unreadable = first_unreadable first lines }
+
 -- what a first line and further lines say
 abbrev pub told_behind : Result Configuration WhyNot → List (List ℕ) → Result Told WhyNot
-told_behind (Ok c) further = Ok (record { configuration = c; said = numbered 2 further; unreadable = first_unreadable 2 further })
+told_behind (Ok c) further = Ok (told_from 2 c further)
 told_behind (Err why) further = Err why
 
 -- what lines say; or why the first says no configuration
@@ -70,6 +74,10 @@ told_by (first ∷ further) = told_behind (first_said first) further
 -- what a text says
 abbrev pub told : List ℕ → Result Told WhyNot
 told text = told_by (lines_of text)
+
+-- what a text says of which each line is an event, over a configuration from elsewhere
+abbrev pub told_over : Configuration → List ℕ → Told
+told_over c text = told_from 1 c (lines_of text)
 
 -- the events alone
 abbrev pub events_said : Told → List Scripted

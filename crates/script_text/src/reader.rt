@@ -1,11 +1,11 @@
 //! Scripts as text: their first line, and their events.
-ghost use Rattle.std.specs.Prelude.{◌≡◌, ◌+◌, ◌≤◌, ◌<◌, ◌^◌, IfOk, IfSome, map, length};
+ghost use Rattle.std.specs.Prelude.{◌≡◌, ◌+◌, ◌≤◌, ◌<◌, ◌^◌, Ok, IfOk, IfSome, map, length};
 ghost use Rattle.serde_json.specs.Read.{read};
 ghost use Rattle.fleet_run.specs.Scripted.{scripted_of};
 ghost use Rattle.route_json.specs.Configs.{read_or};
 ghost use Rattle.script_text.specs.Behind.{lines_behind};
 ghost use Rattle.script_text.specs.FirstLine.{size_said, pool_said, pool_or_bad, read_or_fault, first_said, ReadsFirst};
-ghost use Rattle.script_text.specs.Script.{numbered, first_unreadable, line_means, told, bad_event_line, ReadsScript};
+ghost use Rattle.script_text.specs.Script.{numbered, first_unreadable, line_means, told_from, told, told_over, bad_event_line, ReadsScript};
 ghost use Rattle.script_text.specs.Lines.{lines_of};
 ghost use Rattle.script_text.specs.Read.{meaning_of, ReadsLines};
 
@@ -55,7 +55,11 @@ fn json_config(alloc: Global, line: &str) -> Result<Config, ScriptFault>
     Ok(read_config(alloc, line)?)
 }
 
-fn read_first(alloc: Global, line: &str) -> Result<Config, ScriptFault>
+/// The configuration that a first line says: `pool N`, where it begins with `pool`, or else one in JSON.
+///
+/// [`ScriptFault::BadLine`] of 1 comes where it begins with `pool` and is no pool line, [`ScriptFault::Config`] where the configuration has
+/// a fault, and otherwise running out of memory is the only error. The lines are mcgate's own.
+pub fn read_first(alloc: Global, line: &str) -> Result<Config, ScriptFault>
     ensures { ReadsFirst (first_said line.now) result }
 {
     if line.as_bytes().starts_with(b"pool".as_slice()) {
@@ -78,13 +82,14 @@ fn read_line(alloc: Global, line: &[u8]) -> Result<Meaning, AllocError>
     }
 }
 
-fn read_further(alloc: Global, further: Option<&str>) -> Result<Reading, AllocError>
-    requires { length (lines_behind further) + 1 < 2 ^ 64 }
-    ensures { IfOk result (ReadsLines (lines_behind further.entry)) }
+// What lines say behind so many others.
+fn read_further(alloc: Global, above: usize, further: Option<&str>) -> Result<Reading, AllocError>
+    requires { above + length (lines_behind further) < 2 ^ 64 }
+    ensures { IfOk result (ReadsLines (above + 1) (lines_behind further.entry)) }
 {
     let mut events = Vec::new(alloc);
     let mut lines = Vec::new(alloc);
-    let mut number = 1;
+    let mut number = above;
     let mut rest = further;
     while let Some(text) = rest {
         let front = front_of(text);
@@ -121,6 +126,34 @@ fn bad_event_line(script: &ConfiguredScript) -> Option<usize>
     }
 }
 
+/// The script that lines say over a configuration, behind so many other lines, which are counted too.
+///
+/// [`ScriptFault::BadLine`] comes as of [`read_script`]'s further lines, and otherwise running out of memory is the only error.
+pub fn read_behind(
+    alloc: Global,
+    config: Config,
+    above: usize,
+    further: Option<&str>,
+) -> Result<ConfiguredScript, ScriptFault>
+    requires { above + length (lines_behind further) < 2 ^ 64 }
+    ensures { ReadsScript (Ok (told_from (above + 1) config (lines_behind further.entry))) result }
+{
+    let Reading {
+        events,
+        lines,
+        unreadable,
+    } = read_further(alloc, above, further)?;
+    let script = ConfiguredScript {
+        config,
+        script: Script { events },
+        lines,
+    };
+    match unreadable {
+        None => Ok(script),
+        Some(line) => Err(ScriptFault::BadLine(bad_event_line(&script).unwrap_or(line))),
+    }
+}
+
 /// The script that a text says, with the number of each event's line.
 ///
 /// The first line is `pool N` (N in 1..=1024), which means one pool of the servers `s0:1`, `s1:1`, .., or a configuration in JSON.
@@ -138,18 +171,19 @@ pub fn read_script(alloc: Global, text: &str) -> Result<ConfiguredScript, Script
 {
     let front = front_of(text);
     let config = read_first(alloc, front.line)?;
-    let Reading {
-        events,
-        lines,
-        unreadable,
-    } = read_further(alloc, front.rest)?;
-    let script = ConfiguredScript {
-        config,
-        script: Script { events },
-        lines,
-    };
-    match unreadable {
-        None => Ok(script),
-        Some(line) => Err(ScriptFault::BadLine(bad_event_line(&script).unwrap_or(line))),
-    }
+    read_behind(alloc, config, 1, front.rest)
+}
+
+/// The script that a text says over a configuration from elsewhere: each line of the text is an event, and the first has the
+/// number 1. Empty lines and those that begin with `#` are none. The lines are mcgate's own.
+///
+/// [`ScriptFault::BadLine`] comes as of [`read_script`]'s further lines, and otherwise running out of memory is the only error.
+pub fn read_events(
+    alloc: Global,
+    config: Config,
+    text: &str,
+) -> Result<ConfiguredScript, ScriptFault>
+    ensures { ReadsScript (Ok (told_over config text.now)) result }
+{
+    read_behind(alloc, config, 0, Some(text))
 }

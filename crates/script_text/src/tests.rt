@@ -7,11 +7,11 @@ use crate::fault::LineFault;
 use crate::front::front_of;
 use crate::laws::escapes_are_read_back;
 use crate::printer::{write_bad_line, write_config_fault, write_report, write_transcript};
-use crate::reader::read_script;
+use crate::reader::{read_events, read_script};
 use crate::words::{cut, number_under};
 use fleet_run::{Event, Loss, Manner, Output, Report, Transcript};
 use mc_types::ServerId;
-use route_json::ConfigFault;
+use route_json::{Config, ConfigFault};
 use std::alloc::{AllocError, Global};
 use std::test::Fail;
 
@@ -332,6 +332,42 @@ fn scripts_with_a_bad_line(rt: HostRuntime) {
     for (text, want) in cases {
         assert_eq!(rt; bad_line(rt.alloc(), text), Some(want));
     }
+}
+
+// Over two servers: the number of each event's line, or of the bad line.
+fn lines_over_two(alloc: Global, text: &str) -> Result<Result<Vec<usize>, usize>, Fail> {
+    let config = Config::of_pool(alloc, 2)?;
+    match read_events(alloc, config, text) {
+        Ok(read) => Ok(Ok(read.lines)),
+        Err(ScriptFault::BadLine(line)) => Ok(Err(line)),
+        Err(_) => Err(Fail::from("another fault")),
+    }
+}
+
+#[test]
+fn scripts_of_events_alone(rt: HostRuntime) -> Result<(), Fail> {
+    let cases = [
+        ("", [].as_slice()),
+        ("restart 1", [1].as_slice()),
+        ("# two\n\nrestart 1\n> 0 \n", [3, 4].as_slice()),
+        ("restart 2", [1].as_slice()),
+    ];
+    for (text, want) in cases {
+        let Ok(lines) = lines_over_two(rt.alloc(), text)? else {
+            return Err(Fail::from("a bad line"));
+        };
+        assert_eq!(rt; lines.as_slice(), want);
+    }
+    let bad = [
+        ("pool 2", 1),
+        ("{}", 1),
+        ("\nx", 2),
+        ("restart 1\nrestart 2\nx", 2),
+    ];
+    for (text, want) in bad {
+        assert!(rt; matches!(lines_over_two(rt.alloc(), text)?, Err(line) if line == want));
+    }
+    Ok(())
 }
 
 #[test]

@@ -1,0 +1,6 @@
+use Rattle.std.proofs.Common.{arith}
+use Rattle.script_text.proofs.LineLemmas.{few_lines}
+use Rattle.script_text.proofs.reader.read_events.Goals as goal
+
+pub read_behind-requires : goal.read_behind-requires
+read_behind-requires c = omega (arith, few_lines c.args.text.now)
