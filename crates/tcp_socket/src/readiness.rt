@@ -11,7 +11,7 @@ use std::os::fd::RawFd;
 pub struct Ready {
     /// There may be something to read, or the end of it.
     pub reads: bool,
-    /// A write may take something.
+    /// A write may take something, or the connection has failed.
     pub writes: bool,
     /// The peer sends no more, or the connection has failed.
     pub closes: bool,
@@ -22,7 +22,7 @@ impl Ready {
         let closes = event.is_read_closed() || event.is_error();
         Ready {
             reads: closes || event.is_readable(),
-            writes: event.is_writable(),
+            writes: event.is_error() || event.is_writable(),
             closes,
         }
     }
