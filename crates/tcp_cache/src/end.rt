@@ -1,7 +1,5 @@
 //! The server's sockets: who is ready, in turns.
 
-ghost use Rattle.std.specs.Prelude.{◌<◌};
-
 use crate::client::{Client, Next};
 use crate::clock::{Moment, SetClock};
 use crate::settings::{Settings, client_limits};
@@ -76,9 +74,7 @@ impl<R: Net + Clock + AllocGlobal> CacheEnd<R> {
     /// An empty server that listens on an address, `HOST:PORT`; with port 0 the system picks one.
     ///
     /// The errors are the system's, among them those of an address that is none or is taken, and running out of memory.
-    pub fn listen(rt: &R, address: &str, settings: Settings) -> io::Result<CacheEnd<R>>
-        requires { 0 < settings.capacity }
-    {
+    pub fn listen(rt: &R, address: &str, settings: Settings) -> io::Result<CacheEnd<R>> {
         let alloc = rt.alloc();
         let listener = TcpListener::bind(rt, address)?;
         listener.set_nonblocking(true)?;

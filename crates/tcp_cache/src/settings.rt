@@ -1,6 +1,6 @@
 //! How much a cache server keeps.
 
-ghost use Rattle.std.specs.Prelude.{◌≡◌};
+ghost use Rattle.std.specs.Prelude.{◌≡◌, ◌<◌};
 
 use tcp_socket::Limits;
 
@@ -25,6 +25,7 @@ pub struct Settings {
     pub capacity: usize,
     /// The most clients that it serves at a time; one more is told so and closed.
     pub clients: usize,
+    ghost some: { 0 < capacity },
 }
 
 impl Settings {
@@ -32,6 +33,7 @@ impl Settings {
     ///
     /// Source: mcgate's own.
     pub fn of(capacity: usize) -> Settings
+        requires { 0 < capacity }
         ensures { result.capacity ≡ capacity }
     {
         Settings {

@@ -1,7 +1,5 @@
 //! Tests: clients on 127.0.0.1, which are served in turns.
 
-ghost use Rattle.std.specs.Prelude.{◌<◌};
-
 use crate::{CacheEnd, Settings};
 use std::alloc::Global;
 use std::io;
@@ -10,9 +8,7 @@ use std::net::{Shutdown, TcpStream};
 use std::test::Fail;
 use std::time::Duration;
 
-fn listen(rt: &HostRuntime, settings: Settings) -> io::Result<CacheEnd<HostRuntime>>
-    requires { 0 < settings.capacity }
-{
+fn listen(rt: &HostRuntime, settings: Settings) -> io::Result<CacheEnd<HostRuntime>> {
     CacheEnd::listen(rt, "127.0.0.1:0", settings)
 }
 
@@ -194,7 +190,7 @@ fn a_client_that_reads_late(rt: HostRuntime) -> Result<(), Fail> {
         turn(&rt, &mut end)?;
     }
     assert!(rt; answers(&rt, &mut end, &mut other, b"mn\r\n", b"MN\r\n")?);
-    let count = 8 + 200 * (20 + 100_000 + 2 + 5);
+    let count = 8 + 200 * (18 + 100_000 + 2 + 5);
     let text = given(&rt, &mut end, &mut late, count)?;
     assert_eq!(rt; text.len(), count);
     assert!(rt; text.as_slice().ends_with(b"xxx\r\nEND\r\n"));
