@@ -30,7 +30,10 @@ pub fn serve_cache<R: Net + Clock + AllocGlobal + Eprint>(
 ) -> Result<u8, Stop> {
     let mut end = CacheEnd::listen(rt, job.listen, job.settings)?;
     let address = end.address()?;
-    eprintln!(rt; "mcgate: cache on {address}, capacity {}", job.settings.capacity)?;
+    eprintln!(rt;
+        "mcgate: cache on {address}, capacity {}",
+        job.settings.capacity
+    )?;
     turn_cache(rt, &mut end, job.turns)?;
     Ok(DONE)
 }

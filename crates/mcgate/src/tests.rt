@@ -101,7 +101,16 @@ fn arguments_that_ask_for_a_cache(rt: HostRuntime) -> Result<(), Fail> {
     let alloc = rt.alloc();
     let plain = ["mcgate", "cache", "--listen", "a:1", "--capacity", "5"];
     assert!(rt; asks_for_cache(alloc, plain.as_slice(), 5, None)?);
-    let turns = ["mcgate", "cache", "--capacity", "4294967295", "--turns", "7", "--listen", "a:1"];
+    let turns = [
+        "mcgate",
+        "cache",
+        "--capacity",
+        "4294967295",
+        "--turns",
+        "7",
+        "--listen",
+        "a:1",
+    ];
     assert!(rt; asks_for_cache(alloc, turns.as_slice(), 4_294_967_295, Some(7))?);
     Ok(())
 }
@@ -150,7 +159,15 @@ fn words_that_are_refused(rt: HostRuntime) -> Result<(), Fail> {
         ["mcgate", "where", "--config", "c"].as_slice(),
         ["mcgate", "cache", "--listen", "a:1"].as_slice(),
         ["mcgate", "cache", "--listen", "a:1", "--capacity", "0"].as_slice(),
-        ["mcgate", "cache", "--listen", "a:1", "--capacity", "4294967296"].as_slice(),
+        [
+            "mcgate",
+            "cache",
+            "--listen",
+            "a:1",
+            "--capacity",
+            "4294967296",
+        ]
+        .as_slice(),
         ["mcgate", "check", "f", "g"].as_slice(),
         ["mcgate", "replay", "--any", "--any"].as_slice(),
         ["mcgate", "replay", "--any=yes"].as_slice(),

@@ -1,6 +1,9 @@
 //! One client: what it sent is served, and what that gives is to be sent to it.
 
-ghost use Rattle.std.specs.Prelude.{◌≡◌, true, false, ◌<◌, ◌≤◌, length, OnOk, OnErr};
+ghost use Rattle.std.specs.Prelude.{◌≡◌, true, false, [], ◌<◌, ◌≤◌, length, IfOk, OnOk, OnErr};
+ghost use Rattle.request_parts.specs.declared.skip.Skip.TheVariants.{Nothing};
+ghost use Rattle.request_parts.specs.Stream.{Stands, extended};
+ghost use Rattle.cache_connection.specs.Serving.{Feeds, Stops};
 ghost use Rattle.tcp_cache.specs.Serving.{Serves, ServesOn, StopsIn, StopsOn, IsServed};
 
 use crate::clock::Moment;
@@ -20,7 +23,7 @@ const KEPT_ROOM: usize = 262_144;
 
 /// What becomes of a client after its turn.
 #[derive(Clone, Copy, PartialEq, Eq)]
-pub(crate) enum Next {
+pub enum Next {
     /// Something is left to do for it now.
     More,
     /// It is ready for nothing.
@@ -29,14 +32,14 @@ pub(crate) enum Next {
     Done,
 }
 
-/// A client: its end of the connection, and where its stream stands.
+/// A client: its end of the connection, and where its stream stands in what it sends.
 #[derive(Drop)]
-pub(crate) struct Client<S: Drop> {
+pub struct Client<S: Drop> {
     pub conn: Conn<S>,
-    served: Served,
+    pub served: Served,
     // It sends no more, and all that it sent was read.
     ended: bool,
-    // Whether it stands in the list of those that are served in the next turn.
+    /// Whether it stands in the list of those that are served in the next turn.
     pub listed: bool,
     alloc: Global,
 }
@@ -52,12 +55,27 @@ fn piece_len(bytes: &[u8]) -> usize
     }
 }
 
+fn feed_at(
+    served: &mut Served,
+    cache: &mut Cache,
+    moment: Moment,
+    bytes: &[u8],
+) -> Result<Vec<u8>, AllocError>
+    ensures ok { IfOk result (λ text. Feeds moment.seconds served.old bytes.now cache.old text.items served.new cache.new) }
+    ensures stops { OnErr result (Stops moment.seconds (extended served.old bytes.now) cache.old cache.new) }
+{
+    served.feed(cache, moment.seconds, bytes)
+}
+
 // A drop that is a call keeps the proof of a caller short.
 fn drop_text(_text: Vec<u8>) {}
 
 impl<S: Read + Write + Drop> Client<S> {
     /// A client that has said nothing yet. It takes no memory.
-    pub fn new(alloc: Global, conn: Conn<S>) -> Client<S> {
+    pub fn new(alloc: Global, conn: Conn<S>) -> Client<S>
+        ensures conn { result.conn ≡ conn }
+        ensures served { result.served ≡ Stands Nothing [] }
+    {
         Client {
             conn,
             served: Served::new(alloc),
@@ -92,9 +110,12 @@ impl<S: Read + Write + Drop> Client<S> {
         ensures limits { self.new.conn.limits ≡ self.old.conn.limits }
     {
         let count = piece_len(self.conn.held.as_slice());
-        let text = self
-            .served
-            .feed(cache, moment.seconds, &self.conn.held.as_slice()[..count])?;
+        let text = feed_at(
+            &mut self.served,
+            cache,
+            moment,
+            &self.conn.held.as_slice()[..count],
+        )?;
         self.conn.held.advance(count);
         let added = self.conn.unsent.extend_from_slice(text.as_slice());
         drop_text(text);
@@ -109,10 +130,13 @@ impl<S: Read + Write + Drop> Client<S> {
         !self.conn.held.is_empty() && !self.conn.has_backlog() && !self.served.is_closed()
     }
 
-    // All that is held is served, up to a backlog or the end of the stream. Replies go behind what is to be sent, in order.
-    //
-    // The only error is running out of memory.
-    fn serve(&mut self, cache: &mut Cache, moment: Moment) -> Result<(), AllocError>
+    /// All that is held is served at this moment, piece by piece, up to a backlog or the end of the stream: it is fed in order, none left
+    /// out, and what that gives goes behind what is to be sent.
+    ///
+    /// The only error is running out of memory, which may break off a message; then the client is to be closed.
+    ///
+    /// Source: mcgate's own.
+    pub fn serve(&mut self, cache: &mut Cache, moment: Moment) -> Result<(), AllocError>
         ensures ok { OnOk result (ServesOn moment.seconds self.old.conn.held.items self.old.conn.unsent.items self.old.served cache.old self.new.conn.held.items self.new.conn.unsent.items self.new.served cache.new) }
         ensures all { OnOk result (IsServed self.old.conn.limits.unsent self.new.conn.held.items self.new.conn.unsent.items self.new.served) }
         ensures err { OnErr result (StopsOn moment.seconds self.old.conn.held.items self.old.conn.unsent.items self.old.served cache.old cache.new) }

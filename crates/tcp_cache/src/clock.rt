@@ -8,14 +8,14 @@ use std::time::{Duration, Instant, SystemTime, UNIX_EPOCH};
 
 /// A moment in seconds since 1970, 0 or later.
 #[derive(Clone, Copy)]
-pub(crate) struct Moment {
+pub struct Moment {
     pub seconds: i64,
     ghost begun: { pos 0 ≤ℤ seconds },
 }
 
 /// A clock that was set once and doesn't go back when the system's is set back.
 #[derive(Clone, Copy)]
-pub(crate) struct SetClock {
+pub struct SetClock {
     set_to: u64,
     set_at: Instant,
 }
@@ -37,6 +37,7 @@ impl SetClock {
         })
     }
 
+    /// The moment. The errors are the system's.
     pub fn now<R: Clock>(&self, rt: &R) -> io::Result<Moment> {
         let passed = self.set_at.elapsed(rt)?;
         Ok(moment_of(self.set_to.saturating_add(passed.as_secs())))

@@ -5,8 +5,8 @@
 //! tested, since no contract says what a socket gives or takes.
 #![tactic(auto)]
 
-mod client;
-mod clock;
+pub mod client;
+pub mod clock;
 mod end;
 mod settings;
 

@@ -6,7 +6,6 @@ abbrev pub invariant-loop-moment : goal.invariant-loop-moment
 invariant-loop-moment g l =
     ServesOn l.moment.seconds l.fn.self.conn.held.items l.fn.self.conn.unsent.items l.fn.self.served l.fn.cache l.self.conn.held.items l.self.conn.unsent.items l.self.served l.cache
     × (l.self.conn.limits ≡ l.fn.self.conn.limits)
-    × (l.moment ≡ l.fn.moment)
 
 abbrev pub decreases-loop-moment : goal.decreases-loop-moment
 decreases-loop-moment g l = length l.self.conn.held.items
