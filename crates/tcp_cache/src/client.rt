@@ -162,10 +162,15 @@ impl<S: Read + Write + Drop> Client<S> {
 
     // One read, where there may be something to read and its replies would have room. `false` where the client has to be dropped.
     fn read(&mut self) -> bool {
-        if self.ended || !self.conn.readable || self.conn.has_backlog() || self.served.is_closed() {
+        if self.ended || !self.conn.readable || self.conn.has_backlog() {
             return true;
         }
-        match self.conn.read_once(READ_ROOM) {
+        let got = self.conn.read_once(READ_ROOM);
+        if self.served.is_closed() {
+            // What comes behind the end is dropped. Left unread, it would take the last replies with it when the socket is closed.
+            self.conn.held.clear();
+        }
+        match got {
             Ok(Got::Bytes | Got::Nothing | Got::Full) => true,
             Ok(Got::Ended) => {
                 self.ended = true;
@@ -175,20 +180,29 @@ impl<S: Read + Write + Drop> Client<S> {
         }
     }
 
+    // Whether there may be something to read.
+    fn may_read(&self) -> bool {
+        self.conn.readable && !self.ended
+    }
+
+    // Whether nothing of what it sent is left to serve, or can come.
+    fn is_over(&self) -> bool {
+        if self.served.is_closed() {
+            !self.may_read()
+        } else {
+            self.ended && self.conn.held.is_empty()
+        }
+    }
+
     fn next(&self) -> Next {
-        let last = self.served.is_closed();
-        let backlog = self.conn.has_backlog();
-        if !self.conn.unsent.is_empty() {
-            if self.conn.writable {
-                return Next::More;
-            }
-        } else if last || self.ended && self.conn.held.is_empty() {
+        let sent = self.conn.unsent.is_empty();
+        if sent && self.is_over() {
             return Next::Done;
         }
-        if last || backlog {
-            return Next::Waits;
+        if !sent && self.conn.writable {
+            return Next::More;
         }
-        if !self.conn.held.is_empty() || self.conn.readable && !self.ended {
+        if !self.conn.has_backlog() && (self.may_read() || self.may_serve()) {
             return Next::More;
         }
         Next::Waits

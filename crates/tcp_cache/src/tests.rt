@@ -139,6 +139,25 @@ fn quit_closes_behind_the_answers(rt: HostRuntime) -> Result<(), Fail> {
     Ok(())
 }
 
+// The system would take the reply away from the client if bytes were left unread.
+#[test]
+fn what_comes_behind_the_end_is_dropped(rt: HostRuntime) -> Result<(), Fail> {
+    let mut end = listen(&rt, Settings::of(16))?;
+    let mut client = connect(&rt, &end)?;
+    let line = vec![in rt.alloc(); b'x'; 100_000]?;
+    assert!(rt;
+        answers(
+            &rt,
+            &mut end,
+            &mut client,
+            &line,
+            b"CLIENT_ERROR line too long\r\n"
+        )?
+    );
+    assert!(rt; is_closed(&rt, &mut end, &mut client)?);
+    Ok(())
+}
+
 #[test]
 fn one_client_too_many(rt: HostRuntime) -> Result<(), Fail> {
     let settings = Settings {
