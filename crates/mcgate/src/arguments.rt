@@ -4,6 +4,7 @@ ghost use Rattle.std.specs.Prelude.{◌≡◌};
 ghost use Rattle.clap.specs.Values.{kind_of};
 ghost use Rattle.mcgate.specs.Stops.{arguments_fault_at};
 
+use crate::cache_words::{CacheJob, cache_command, cache_job};
 use clap::error::ErrorKind;
 use clap::{Arg, ArgAction, ArgMatches, Command, Error};
 use mc_types::{Key, KeyFault};
@@ -38,6 +39,8 @@ pub enum Job<'a> {
         file: &'a str,
         keys: Vec<Key>,
     },
+    /// Be a cache server.
+    Cache(CacheJob<'a>),
     /// Print this text.
     Print(&'static str),
 }
@@ -75,6 +78,8 @@ usage: mcgate check [--explain] [FILE]
                                      run a script, and print what each client gets
        mcgate where --config FILE KEY..
                                      print where keys live in the tree of a configuration
+       mcgate cache --listen HOST:PORT --capacity C
+                                     be a memcached server of C items
        mcgate [WORD] --help          print this, or more of a word
        mcgate --version              print the version
 
@@ -121,7 +126,8 @@ Reads a configuration in JSON, of FILE, and prints a block for each KEY:
 Exit status: 0 done, 1 too many places or a KEY that is none, 2 bad arguments or no configuration, 3 memory or a device failed.
 ";
 
-fn help_flag<'a>(alloc: Global) -> Arg<'a> {
+// The flag that asks for help of a word.
+pub fn help_flag<'a>(alloc: Global) -> Arg<'a> {
     Arg::new(alloc, "help")
         .long("help")
         .action(ArgAction::SetTrue)
@@ -178,7 +184,8 @@ fn command<'a>(alloc: Global) -> Result<Command<'a>, AllocError> {
         .arg(version)?
         .subcommand(check_command(alloc)?)?
         .subcommand(replay_command(alloc)?)?
-        .subcommand(where_command(alloc)?)
+        .subcommand(where_command(alloc)?)?
+        .subcommand(cache_command(alloc)?)
 }
 
 // What the words after `check` ask for.
@@ -253,8 +260,8 @@ fn plain_job<'a>(given: &ArgMatches<'a>) -> Job<'a> {
 }
 
 /// What the arguments ask for, the program's name first: `check [--explain] [FILE]`, `replay [--any] [--config FILE] [SCRIPT]`,
-/// `where --config FILE KEY..`, or
-/// none at all after it, which is `replay`. Also `--help`, before or after a word, and `--version`.
+/// `where --config FILE KEY..`, `cache --listen HOST:PORT --capacity C [--turns N]`, or none at all after it, which is `replay`.
+/// Also `--help`, before or after a word, and `--version`.
 ///
 /// A KEY that is none is [`ArgumentsFault::Key`], and any other arguments are [`ArgumentsFault::Refused`].
 pub fn read_arguments<'a>(
@@ -268,6 +275,7 @@ pub fn read_arguments<'a>(
     match matches.subcommand() {
         Some(("check", given)) => Ok(check_job(given)),
         Some(("where", given)) => where_job(alloc, given),
+        Some(("cache", given)) => cache_job(given),
         Some((_, given)) => Ok(replay_job(given)),
         None => Ok(plain_job(&matches)),
     }

@@ -2,20 +2,24 @@
 #![tactic(auto)]
 
 mod arguments;
+mod cache;
+mod cache_words;
 mod input;
 mod program;
 #[cfg(test)]
 mod tests;
 
 use arguments::{Job, read_arguments};
+use cache::serve_cache;
 use config_check::status::{BAD_INPUT, DONE};
 use input::{InputFault, fault_of, read_input};
 use program::{Stop, end_of, read_configuration, run_events, run_input, run_keys};
 use std::fs::File;
 use std::io;
 use std::io::{BufWriter, ErrorKind, Write};
+use std::net::Net;
 use std::process::ExitCode;
-use std::rt::{Env, Files};
+use std::rt::{Clock, Env, Files};
 
 /// The text of a file, or of standard input where none is named.
 pub(crate) fn text_of<R: Files + Input + AllocGlobal>(
@@ -59,12 +63,16 @@ fn run_over<R: Files + Input + AllocGlobal, W: Write>(
 }
 
 /// Runs what the arguments ask for, and answers the exit status.
-fn run<R: Files + Input + AllocGlobal + Env, W: Write>(rt: &R, out: &mut W) -> Result<u8, Stop> {
+fn run<R: Files + Input + AllocGlobal + Env + Net + Clock + Eprint, W: Write>(
+    rt: &R,
+    out: &mut W,
+) -> Result<u8, Stop> {
     let arguments = arguments_of(rt)?;
     match read_arguments(rt.alloc(), arguments.as_slice())? {
         Job::Run { task, file } => run_input(rt.alloc(), task, text_of(rt, file), out),
         Job::RunOver { any, config, file } => run_over(rt, any, config, file, out),
         Job::Where { file, keys } => run_keys(rt.alloc(), &keys, text_of(rt, Some(file)), out),
+        Job::Cache(job) => serve_cache(rt, job),
         Job::Print(text) => {
             out.write_all(text.as_bytes())?;
             Ok(DONE)
@@ -73,7 +81,9 @@ fn run<R: Files + Input + AllocGlobal + Env, W: Write>(rt: &R, out: &mut W) -> R
 }
 
 /// Runs, and gives out what was written, also what was written before a fault.
-fn run_and_flush<R: Files + Input + AllocGlobal + Env + Print>(rt: &R) -> Result<u8, Stop> {
+fn run_and_flush<R: Files + Input + AllocGlobal + Env + Net + Clock + Print + Eprint>(
+    rt: &R,
+) -> Result<u8, Stop> {
     let mut out = BufWriter::new(rt.alloc(), io::writer(rt))?;
     let ended = run(rt, &mut out);
     let flushed = out.flush();

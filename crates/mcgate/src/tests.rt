@@ -111,6 +111,39 @@ fn arguments_that_ask_where(rt: HostRuntime) -> Result<(), Fail> {
     Ok(())
 }
 
+// Whether words ask for a cache server of so many items, for so many turns.
+fn asks_for_cache(
+    alloc: Global,
+    words: &[&str],
+    capacity: usize,
+    turns: Option<u32>,
+) -> Result<bool, Fail> {
+    let given = arguments_of(alloc, words)?;
+    match read_arguments(alloc, given.as_slice()) {
+        Ok(Job::Cache(job)) => Ok(job.settings.capacity == capacity && job.turns == turns),
+        _ => Ok(false),
+    }
+}
+
+#[test]
+fn arguments_that_ask_for_a_cache(rt: HostRuntime) -> Result<(), Fail> {
+    let alloc = rt.alloc();
+    let plain = ["mcgate", "cache", "--listen", "a:1", "--capacity", "5"];
+    assert!(rt; asks_for_cache(alloc, plain.as_slice(), 5, None)?);
+    let turns = [
+        "mcgate",
+        "cache",
+        "--capacity",
+        "4294967295",
+        "--turns",
+        "7",
+        "--listen",
+        "a:1",
+    ];
+    assert!(rt; asks_for_cache(alloc, turns.as_slice(), 4_294_967_295, Some(7))?);
+    Ok(())
+}
+
 // Whether words ask to print a text that begins so.
 fn asks_to_print(alloc: Global, words: &[&str], front: &str) -> Result<bool, Fail> {
     let given = arguments_of(alloc, words)?;
@@ -153,6 +186,17 @@ fn words_that_are_refused(rt: HostRuntime) -> Result<(), Fail> {
         ["mcgate", "check", "--any"].as_slice(),
         ["mcgate", "where", "k"].as_slice(),
         ["mcgate", "where", "--config", "c"].as_slice(),
+        ["mcgate", "cache", "--listen", "a:1"].as_slice(),
+        ["mcgate", "cache", "--listen", "a:1", "--capacity", "0"].as_slice(),
+        [
+            "mcgate",
+            "cache",
+            "--listen",
+            "a:1",
+            "--capacity",
+            "4294967296",
+        ]
+        .as_slice(),
         ["mcgate", "check", "f", "g"].as_slice(),
         ["mcgate", "replay", "--any", "--any"].as_slice(),
         ["mcgate", "replay", "--any=yes"].as_slice(),
