@@ -5,6 +5,7 @@ use Rattle.route_tree.specs.Route.{Route}
 use Rattle.fresh_gate.specs.Gate.{IsCertified}
 use Rattle.fresh_gate.specs.Sound.{IsLast}
 use Rattle.config_check.specs.Checking.{Checks, ChecksConfig}
+use Rattle.config_check.specs.Drawing.{Draws, DrawsConfig}
 use Rattle.config_check.specs.Explaining.{Explains, ExplainsConfig}
 
 config_status : (config : Configuration) (old new : Option (List ℕ)) (status : ℕ) → ChecksConfig config old new status → status ≤ 1
@@ -31,3 +32,11 @@ explained_status config old new status (inr refused) = let e = refused.0 in omeg
 pub explains_status : (text : List ℕ) (old new : Option (List ℕ)) (status : ℕ) → Explains text old new status → status ≤ 2
 explains_status text old new status (inl verdict) = let few = explained_status verdict.config old new status verdict.explains in omega (arith, few)
 explains_status text old new status (inr faulty) = let e = faulty.0 in omega (arith, e)
+
+drawn_status : (config : Configuration) (old new : Option (List ℕ)) (status : ℕ) → DrawsConfig config old new status → status ≤ 1
+drawn_status config old new status (inl accepted) = let e = accepted.0 in omega (arith, e)
+drawn_status config old new status (inr refused) = let e = refused.0 in omega (arith, e)
+
+pub draws_status : (text : List ℕ) (old new : Option (List ℕ)) (status : ℕ) → Draws text old new status → status ≤ 2
+draws_status text old new status (inl verdict) = let few = drawn_status verdict.config old new status verdict.draws in omega (arith, few)
+draws_status text old new status (inr faulty) = let e = faulty.0 in omega (arith, e)

@@ -1,3 +1,4 @@
 pub mod Verdict
 pub mod Checking
 pub mod Explaining
+pub mod Drawing

@@ -45,8 +45,12 @@ pub fn print_accepted<W: Write>(alloc: Global, tree: &Tree, out: &mut W) -> Resu
     Ok(DONE)
 }
 
-// Writes the line of a reason; where that is running out of memory, it is the error, and nothing was written.
-fn print_reason<W: Write>(config: &Config, reason: &Reason, out: &mut W) -> Result<u8, RunFault>
+/// Writes the line of a reason; where that is running out of memory, it is the error, and nothing was written.
+pub(crate) fn print_reason<W: Write>(
+    config: &Config,
+    reason: &Reason,
+    out: &mut W,
+) -> Result<u8, RunFault>
     ensures ok { IfOk result (λ status. (status ≡ 1) × IsTold reason.now × Appends (W.contents out.old) (W.contents out.new) (refusal_line config.now.servers reason.now)) }
     ensures err { IfErr result (StopsUnwritten (W.contents out.old) (W.contents out.new)) }
 {

@@ -28,8 +28,12 @@ pub enum Words {
     None,
 }
 
-// Why the gap is one.
-fn gap_explained(alloc: Global, tree: &Tree, gap: &Gap) -> Result<Explanation, AllocError>
+/// Why the gap is one.
+pub(crate) fn gap_explained(
+    alloc: Global,
+    tree: &Tree,
+    gap: &Gap,
+) -> Result<Explanation, AllocError>
     requires { IsJudged tree.now (reasons.Uncovered gap.now) }
     ensures { IfOk result (gaps.Explains (tree_at_place tree.now gap.now.place) gap.now.op gap.now.server gap.now.deleting) }
 {

@@ -1,6 +1,7 @@
 //! The printed verdicts of worked configurations.
 
 use crate::checking::run_check;
+use crate::drawing::run_picture;
 use crate::explaining::run_explain;
 use crate::status::{BAD_INPUT, DONE, REFUSED, WRITER};
 use std::alloc::{AllocError, Global};
@@ -60,6 +61,60 @@ fn warm_up_in_words(rt: HostRuntime) -> Result<(), Fail> {
     let leaks = r#"{"type":"WarmUpRoute","cold":"PoolRoute|A","warm":"PoolRoute|B","exptime":0}"#;
     assert!(rt; is_explained(rt.alloc(), leaks, REFUSED, warm_up_words())?);
     assert!(rt; is_explained(rt.alloc(), "\"PoolRoute|A\"", DONE, accepted_words())?);
+    Ok(())
+}
+
+// Whether this is what is drawn of the route over those pools.
+fn is_drawn(alloc: Global, route: &str, status: u8, drawn: &str) -> Result<bool, Fail> {
+    let text = over_two_pools(alloc, route)?;
+    let mut out = Vec::new(alloc);
+    let ended = run_picture(alloc, text.as_str(), &mut out);
+    Ok(ended == status && out.as_slice() == drawn.as_bytes())
+}
+
+fn warm_up_picture() -> &'static str {
+    r#"strict digraph mcgate {
+  r0 [label="WarmUpRoute"];
+  r0 -> r1 [label="cold"];
+  r1 [label="PoolRoute"];
+  r1 -> s0;
+  r0 -> r2 [label="warm"];
+  r2 [label="PoolRoute"];
+  r2 -> s1;
+  s0 [label="127.0.0.1:5001", shape=box];
+  s1 [label="127.0.0.1:5002", shape=box];
+  r0 [color=red];
+  r0 -> r2 [color=red];
+  r2 [color=red];
+  r2 -> s1 [label="get", color=red];
+  s1 [label="127.0.0.1:5002\nnot cleared by delete", color=red, penwidth=2];
+}
+"#
+}
+
+fn pool_picture() -> &'static str {
+    r#"strict digraph mcgate {
+  r0 [label="PoolRoute"];
+  r0 -> s0;
+  s0 [label="127.0.0.1:5001", shape=box];
+  s1 [label="127.0.0.1:5002", shape=box];
+}
+"#
+}
+
+#[test]
+fn pictures(rt: HostRuntime) -> Result<(), Fail> {
+    let leaks = r#"{"type":"WarmUpRoute","cold":"PoolRoute|A","warm":"PoolRoute|B","exptime":0}"#;
+    assert!(rt; is_drawn(rt.alloc(), leaks, REFUSED, warm_up_picture())?);
+    assert!(rt; is_drawn(rt.alloc(), "\"PoolRoute|A\"", DONE, pool_picture())?);
+    assert!(rt;
+        is_drawn(
+            rt.alloc(),
+            "\"PoolRoute|Z\"",
+            BAD_INPUT,
+            "config: no pool Z\n"
+        )?
+    );
     Ok(())
 }
 

@@ -1,0 +1,9 @@
+pub mod Quoting
+pub mod Names
+pub mod Edges
+pub mod Nodes
+pub mod Phrases
+pub mod Statements
+pub mod Lines
+pub mod Marks
+pub mod Picture

@@ -1,0 +1,17 @@
+//! Pictures of configurations in Graphviz's language: the tree and its servers, and of a gap the way that a read takes.
+#![tactic(auto)]
+
+pub mod counting;
+pub mod drawing;
+pub mod edges;
+pub mod marking;
+pub mod names;
+pub mod phrases;
+pub mod picture;
+pub mod quoting;
+pub mod statements;
+
+pub use picture::{write_gap_picture, write_picture};
+
+#[cfg(test)]
+mod tests;
