@@ -1,0 +1,36 @@
+-- What one read and one write of an end do. Source: mcgate's own.
+use Rattle.std.specs.Prelude.{◌≡◌, ℕ, ◌<◌, ◌≤◌, ◌++◌, List, length, take, drop, Option}
+use Rattle.std.specs.Io.KnownBytes.{Consumes, Keeps, IsAtEnd, Appends}
+use Rattle.tcp_socket.specs.declared.conn.Got.{Got}
+use Rattle.tcp_socket.specs.declared.conn.Got.TheVariants as got
+use Rattle.tcp_socket.specs.declared.conn.Sent.{Sent}
+use Rattle.tcp_socket.specs.declared.conn.Sent.TheVariants as sent
+
+-- bytes came, and stand behind those that are held
+pub record Comes (held held' : List ℕ) (left left' : Option (List ℕ)) : Type 0 where
+  pub bytes : List ℕ
+  pub some : 0 < length bytes
+  pub held_is : held' ≡ held ++ bytes
+  pub taken : Consumes left left' bytes
+
+-- what is held, and what the stream has still to give, before and after a read, where so many bytes may be held
+abbrev pub Reads : ℕ → List ℕ → Option (List ℕ) → Got → List ℕ → Option (List ℕ) → Type 0
+Reads limit held left got.Bytes held' left' = (length held < limit) × Comes held held' left left'
+Reads limit held left got.Nothing held' left' = (length held < limit) × (held' ≡ held) × Keeps left left'
+Reads limit held left got.Full held' left' = (limit ≤ length held) × (held' ≡ held) × (left' ≡ left)
+Reads limit held left got.Ended held' left' = (length held < limit) × (held' ≡ held) × IsAtEnd left'
+Reads limit held left got.Failed held' left' = (length held < limit) × (held' ≡ held) × Keeps left left'
+
+-- the stream took the first bytes of what is to be sent, and the others stay
+pub record Goes (unsent unsent' : List ℕ) (taken taken' : Option (List ℕ)) : Type 0 where
+  pub count : ℕ
+  pub some : 0 < count
+  pub few : count ≤ length unsent
+  pub unsent_is : unsent' ≡ drop count unsent
+  pub took : Appends taken taken' (take count unsent)
+
+-- what is to be sent, and what the stream has taken, before and after a write
+abbrev pub Sends : List ℕ → Option (List ℕ) → Sent → List ℕ → Option (List ℕ) → Type 0
+Sends unsent taken sent.Bytes unsent' taken' = Goes unsent unsent' taken taken'
+Sends unsent taken sent.Nothing unsent' taken' = (unsent' ≡ unsent) × Keeps taken taken'
+Sends unsent taken sent.Failed unsent' taken' = (unsent' ≡ unsent) × Keeps taken taken'

@@ -1,0 +1,189 @@
+//! The stream of an end and its two buffers: a read goes behind what is held, a write takes from the front of what is to be sent.
+
+ghost use Rattle.std.specs.Prelude.{◌≡◌, false, ◌↔◌, ◌<◌, ◌≤◌, ◌⊎◌, [], length, IsTrue, IfOk, OnErr};
+ghost use Rattle.tcp_socket.specs.Ends.{Reads, Sends};
+
+use bytes::BytesMut;
+use std::alloc::{AllocError, Global};
+use std::io;
+use std::io::{ErrorKind, Read, Write};
+
+/// How much an end keeps, in bytes.
+#[derive(Clone, Copy)]
+pub struct Limits {
+    /// Nothing is read where so many bytes or more are held. One read can go past it, by the room of its buffer.
+    pub held: usize,
+    /// So many bytes that are to be sent, or more, are a backlog.
+    pub unsent: usize,
+}
+
+/// What one read gave.
+#[derive(Clone, Copy, PartialEq, Eq)]
+pub enum Got {
+    /// Bytes, one at least.
+    Bytes,
+    /// There is nothing to read now.
+    Nothing,
+    /// Nothing was read, since too much is held.
+    Full,
+    /// The peer sends no more, and all that it sent was read.
+    Ended,
+    /// The connection has failed.
+    Failed,
+}
+
+/// What one write did.
+#[derive(Clone, Copy, PartialEq, Eq)]
+pub enum Sent {
+    /// The stream took bytes, one at least.
+    Bytes,
+    /// There is nothing to send, or the stream takes nothing now.
+    Nothing,
+    /// The connection has failed.
+    Failed,
+}
+
+/// An end of a connection. Its stream doesn't block.
+#[derive(Drop)]
+pub struct Conn<S: Drop> {
+    pub stream: S,
+    /// What came and isn't used yet.
+    pub held: BytesMut,
+    /// What is to be sent.
+    pub unsent: BytesMut,
+    pub limits: Limits,
+    /// Whether a read may give something. A report of the system sets it.
+    pub readable: bool,
+    /// Whether a write may take something. A report of the system sets it.
+    pub writable: bool,
+    /// Whether the peer said that it sends no more; what it sent before may still be read.
+    pub closing: bool,
+}
+
+// What a failed read or write means for the stream.
+#[derive(Clone, Copy, PartialEq, Eq)]
+enum Pause {
+    // It isn't ready.
+    NotReady,
+    // The call was interrupted, and may be made again.
+    Interrupted,
+    Failure,
+}
+
+fn pause_of(error: &io::Error) -> Pause {
+    match error.kind() {
+        ErrorKind::WouldBlock => Pause::NotReady,
+        ErrorKind::Interrupted => Pause::Interrupted,
+        _ => Pause::Failure,
+    }
+}
+
+impl<S: Read + Write + Drop> Conn<S> {
+    /// An end that has read nothing and has nothing to send. It takes no memory.
+    pub fn new(alloc: Global, stream: S, limits: Limits) -> Conn<S>
+        ensures stream { result.stream ≡ stream }
+        ensures held { result.held.items ≡ [] }
+        ensures unsent { result.unsent.items ≡ [] }
+        ensures limits { result.limits ≡ limits }
+        ensures flags { (IsTrue result.readable × IsTrue result.writable) × (result.closing ≡ false) }
+    {
+        Conn {
+            stream,
+            held: BytesMut::new(alloc),
+            unsent: BytesMut::new(alloc),
+            limits,
+            readable: true,
+            writable: true,
+            closing: false,
+        }
+    }
+
+    /// Whether what is to be sent is a backlog.
+    pub fn has_backlog(&self) -> bool
+        ensures { IsTrue result ↔ (self.now.limits.unsent ≤ length self.now.unsent.items) }
+    {
+        self.unsent.len() >= self.limits.unsent
+    }
+
+    /// One read, into room for at least so many bytes behind what is held. Nothing that came is lost, and nothing else is held.
+    ///
+    /// `readable` is cleared where the stream has nothing for now: it said so, or it gave less than there was room for and its peer
+    /// isn't closing. The only error is running out of memory for the room; then nothing was read, and it can be tried again.
+    ///
+    /// Source: mcgate's own.
+    pub fn read_once(&mut self, room: usize) -> Result<Got, AllocError>
+        requires { 0 < room }
+        ensures ok { IfOk result (λ got. Reads self.old.limits.held self.old.held.items (S.remaining self.old.stream) got self.new.held.items (S.remaining self.new.stream)) }
+        ensures err { OnErr result ((self.new.held.items ≡ self.old.held.items) × (self.new.stream ≡ self.old.stream)) }
+        ensures unsent { self.new.unsent ≡ self.old.unsent }
+        ensures rest { self.new.limits ≡ self.old.limits }
+        ensures flags { (self.new.writable ≡ self.old.writable) × (self.new.closing ≡ self.old.closing) }
+    {
+        if self.held.len() >= self.limits.held {
+            return Ok(Got::Full);
+        }
+        self.held.reserve(room)?;
+        let room = self.held.capacity() - self.held.len();
+        match self.held.read_from(&mut self.stream) {
+            Ok(0) => Ok(Got::Ended),
+            Ok(count) => {
+                if count < room && !self.closing {
+                    self.readable = false;
+                }
+                Ok(Got::Bytes)
+            }
+            Err(error) => Ok(self.got_at(pause_of(&error))),
+        }
+    }
+
+    fn got_at(&mut self, pause: Pause) -> Got
+        ensures result { (result ≡ Got.Nothing) ⊎ (result ≡ Got.Failed) }
+        ensures rest { self.new ≡ record self.old { readable = self.new.readable } }
+    {
+        match pause {
+            Pause::NotReady => {
+                self.readable = false;
+                Got::Nothing
+            }
+            Pause::Interrupted => Got::Nothing,
+            Pause::Failure => Got::Failed,
+        }
+    }
+
+    /// One write of what is to be sent: exactly what the stream took goes from its front. `writable` is cleared where the stream said
+    /// that it takes nothing now.
+    ///
+    /// Source: mcgate's own.
+    pub fn send_once(&mut self) -> Sent
+        ensures sent { Sends self.old.unsent.items (S.contents self.old.stream) result self.new.unsent.items (S.contents self.new.stream) }
+        ensures held { self.new.held ≡ self.old.held }
+        ensures rest { self.new.limits ≡ self.old.limits }
+        ensures flags { (self.new.readable ≡ self.old.readable) × (self.new.closing ≡ self.old.closing) }
+    {
+        if self.unsent.is_empty() {
+            return Sent::Nothing;
+        }
+        match self.stream.write(self.unsent.as_slice()) {
+            Ok(0) => Sent::Failed,
+            Ok(count) => {
+                self.unsent.advance(count);
+                Sent::Bytes
+            }
+            Err(error) => self.sent_at(pause_of(&error)),
+        }
+    }
+
+    fn sent_at(&mut self, pause: Pause) -> Sent
+        ensures result { (result ≡ Sent.Nothing) ⊎ (result ≡ Sent.Failed) }
+        ensures rest { self.new ≡ record self.old { writable = self.new.writable } }
+    {
+        match pause {
+            Pause::NotReady => {
+                self.writable = false;
+                Sent::Nothing
+            }
+            Pause::Interrupted => Sent::Nothing,
+            Pause::Failure => Sent::Failed,
+        }
+    }
+}

@@ -1,0 +1,11 @@
+//! One end of a TCP connection that doesn't wait: its stream, what came over it, and what is to be sent.
+#![tactic(auto)]
+
+pub mod conn;
+pub mod readiness;
+
+pub use conn::{Conn, Got, Limits, Sent};
+pub use readiness::{Ready, watch};
+
+#[cfg(test)]
+mod tests;
