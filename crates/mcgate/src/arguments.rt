@@ -4,6 +4,7 @@ ghost use Rattle.std.specs.Prelude.{◌≡◌};
 ghost use Rattle.clap.specs.Values.{kind_of};
 ghost use Rattle.mcgate.specs.Stops.{arguments_fault_at};
 
+use crate::serve_words::{ServeJob, serve_command, serve_job};
 use clap::error::ErrorKind;
 use clap::{Arg, ArgAction, ArgMatches, Command, Error};
 use mc_types::{Key, KeyFault};
@@ -25,6 +26,8 @@ pub enum Job<'a> {
     Run { task: Task, file: Option<&'a str> },
     /// Print where these keys live in the tree of the configuration in this file.
     Where { file: &'a str, keys: Vec<Key> },
+    /// Serve a configuration over TCP.
+    Serve(ServeJob<'a>),
     /// Print this text.
     Print(&'static str),
 }
@@ -61,6 +64,8 @@ usage: mcgate check [--explain] [FILE]
        mcgate replay [--any] [FILE]  run a script, and print what each client gets
        mcgate where --config FILE KEY..
                                      print where keys live in the tree of a configuration
+       mcgate serve --config FILE --listen HOST:PORT
+                                     serve a configuration that the gate accepts, between clients and servers
        mcgate [WORD] --help          print this, or more of a word
        mcgate --version              print the version
 
@@ -106,7 +111,8 @@ Reads a configuration in JSON, of FILE, and prints a block for each KEY:
 Exit status: 0 done, 1 too many places or a KEY that is none, 2 bad arguments or no configuration, 3 memory or a device failed.
 ";
 
-fn help_flag<'a>(alloc: Global) -> Arg<'a> {
+// The flag that asks for help of a word.
+pub fn help_flag<'a>(alloc: Global) -> Arg<'a> {
     Arg::new(alloc, "help")
         .long("help")
         .action(ArgAction::SetTrue)
@@ -159,7 +165,8 @@ fn command<'a>(alloc: Global) -> Result<Command<'a>, AllocError> {
         .arg(version)?
         .subcommand(check_command(alloc)?)?
         .subcommand(replay_command(alloc)?)?
-        .subcommand(where_command(alloc)?)
+        .subcommand(where_command(alloc)?)?
+        .subcommand(serve_command(alloc)?)
 }
 
 // What the words after `check` ask for.
@@ -245,6 +252,7 @@ pub fn read_arguments<'a>(
     match matches.subcommand() {
         Some(("check", given)) => Ok(check_job(given)),
         Some(("where", given)) => where_job(alloc, given),
+        Some(("serve", given)) => serve_job(given),
         Some((_, given)) => Ok(replay_job(given)),
         None => Ok(plain_job(&matches)),
     }

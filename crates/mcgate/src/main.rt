@@ -4,6 +4,8 @@
 mod arguments;
 mod input;
 mod program;
+mod serve;
+mod serve_words;
 #[cfg(test)]
 mod tests;
 
@@ -11,11 +13,14 @@ use arguments::{Job, read_arguments};
 use config_check::status::DONE;
 use input::{InputFault, fault_of, read_input};
 use program::{Stop, end_of, run_input, run_keys};
+use serve::{Judged, read_and_judge, serve};
+use serve_words::ServeJob;
 use std::fs::File;
 use std::io;
 use std::io::{BufWriter, ErrorKind, Write};
+use std::net::Net;
 use std::process::ExitCode;
-use std::rt::{Env, Files};
+use std::rt::{Clock, Env, Files};
 
 /// The text of a file, or of standard input where none is named.
 pub(crate) fn text_of<R: Files + Input + AllocGlobal>(
@@ -44,12 +49,28 @@ fn arguments_of<R: AllocGlobal + Env>(rt: &R) -> Result<Vec<String>, Stop> {
     }
 }
 
+/// Serves what a job names, or prints why it isn't served.
+fn run_serve<R: Files + Input + AllocGlobal + Net + Clock + Eprint, W: Write>(
+    rt: &R,
+    job: ServeJob<'_>,
+    out: &mut W,
+) -> Result<u8, Stop> {
+    match read_and_judge(rt.alloc(), text_of(rt, Some(job.file)), out)? {
+        Judged::Printed(status) => Ok(status),
+        Judged::Accepted(accepted) => serve(rt, job, accepted),
+    }
+}
+
 /// Runs what the arguments ask for, and answers the exit status.
-fn run<R: Files + Input + AllocGlobal + Env, W: Write>(rt: &R, out: &mut W) -> Result<u8, Stop> {
+fn run<R: Files + Input + AllocGlobal + Env + Net + Clock + Eprint, W: Write>(
+    rt: &R,
+    out: &mut W,
+) -> Result<u8, Stop> {
     let arguments = arguments_of(rt)?;
     match read_arguments(rt.alloc(), arguments.as_slice())? {
         Job::Run { task, file } => run_input(rt.alloc(), task, text_of(rt, file), out),
         Job::Where { file, keys } => run_keys(rt.alloc(), &keys, text_of(rt, Some(file)), out),
+        Job::Serve(job) => run_serve(rt, job, out),
         Job::Print(text) => {
             out.write_all(text.as_bytes())?;
             Ok(DONE)
@@ -58,7 +79,7 @@ fn run<R: Files + Input + AllocGlobal + Env, W: Write>(rt: &R, out: &mut W) -> R
 }
 
 /// Runs, and gives out what was written, also what was written before a fault.
-fn run_and_flush<R: Files + Input + AllocGlobal + Env + Print>(rt: &R) -> Result<u8, Stop> {
+fn run_and_flush<R: Files + Input + AllocGlobal + Env + Net + Clock + Print + Eprint>(rt: &R) -> Result<u8, Stop> {
     let mut out = BufWriter::new(rt.alloc(), io::writer(rt))?;
     let ended = run(rt, &mut out);
     let flushed = out.flush();

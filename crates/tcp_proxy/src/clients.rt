@@ -1,12 +1,40 @@
 //! The clients' ends, by their ids in the core, and which of them are to be served.
 
-use crate::socket::Conn;
 use mio::net::TcpStream;
 use std::alloc::{AllocError, Global};
+use tcp_socket::{Conn, Limits, Ready, Sent};
 
-/// The most bytes that are kept for a client which does not read them. Above it nothing is read of the client, and none of
-/// its commands begins.
-pub const UNSENT_LIMIT: usize = 1_048_576;
+/// What is kept of a client, and for one that does not read it. Above the latter nothing is read of the client, and none of its
+/// commands begins.
+const LIMITS: Limits = Limits {
+    held: 1_048_576,
+    unsent: 1_048_576,
+};
+
+/// What the system told of a socket.
+pub fn note(conn: &mut Conn<TcpStream>, told: Ready) {
+    conn.readable = conn.readable || told.reads;
+    conn.writable = conn.writable || told.writes;
+    conn.closing = conn.closing || told.closes;
+}
+
+// So many writes are made at once at most.
+const WRITES: usize = 64;
+
+/// Sends what the connection takes. Whether it stands still.
+pub fn send(conn: &mut Conn<TcpStream>) -> bool {
+    for _ in 0..WRITES {
+        if !conn.writable {
+            return true;
+        }
+        match conn.send_once() {
+            Sent::Bytes => {}
+            Sent::Nothing => return true,
+            Sent::Failed => return false,
+        }
+    }
+    true
+}
 
 /// One client's end.
 #[derive(Drop)]
@@ -26,7 +54,7 @@ impl Client {
     /// A client that has just connected.
     pub fn new(alloc: Global, stream: TcpStream) -> Client {
         Client {
-            conn: Conn::new(alloc, stream),
+            conn: Conn::new(alloc, stream, LIMITS),
             settled: 0,
             is_ended: false,
             is_ready: false,
@@ -37,7 +65,7 @@ impl Client {
 
     /// Whether it takes what is shown to it.
     pub fn has_room(&self) -> bool {
-        self.conn.out.len() < UNSENT_LIMIT
+        !self.conn.has_backlog()
     }
 
     /// Whether something may be read of it.
@@ -54,7 +82,7 @@ impl Client {
     pub fn break_off(&mut self) {
         self.is_ended = true;
         self.conn.held.clear();
-        self.conn.out.clear();
+        self.conn.unsent.clear();
     }
 }
 
@@ -152,30 +180,16 @@ impl Clients {
     }
 
     /// What the system told of its socket.
-    pub fn note(
-        &mut self,
-        id: usize,
-        reads: bool,
-        writes: bool,
-        closes: bool,
-    ) -> Result<(), AllocError> {
+    pub fn note(&mut self, id: usize, told: Ready) -> Result<(), AllocError> {
         let Some(client) = self.get_mut(id) else {
             return Ok(());
         };
-        if reads {
-            client.conn.readable = true;
-        }
-        if closes {
-            client.conn.closing = true;
-        }
-        if writes {
-            client.conn.writable = true;
-        }
-        let has_output = !client.conn.out.is_empty();
-        if reads {
+        note(&mut client.conn, told);
+        let has_output = !client.conn.unsent.is_empty();
+        if told.reads {
             self.mark_ready(id)?;
         }
-        if writes && has_output {
+        if told.writes && has_output {
             self.mark_output(id)?;
         }
         Ok(())

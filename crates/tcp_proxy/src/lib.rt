@@ -6,7 +6,6 @@ mod clients;
 mod link;
 mod proxy;
 mod settings;
-mod socket;
 
 pub use proxy::ProxyEnd;
 pub use settings::Settings;

@@ -1,10 +1,16 @@
 //! One server's link: its connection, if it has one, and the calls that are out.
 
-use crate::socket::Conn;
 use link_calls::LinkCalls;
 use mio::net::TcpStream;
 use std::alloc::Global;
 use std::net::SocketAddr;
+use tcp_socket::{Conn, Limits};
+
+// An answer is shorter than what is held at most.
+const LIMITS: Limits = Limits {
+    held: 4_194_304,
+    unsent: 1_048_576,
+};
 
 /// One server's link.
 #[derive(Drop)]
@@ -53,7 +59,7 @@ impl Link {
 
     /// A connection was begun.
     pub fn open(&mut self, alloc: Global, stream: TcpStream, now: u64) {
-        let mut conn = Conn::new(alloc, stream);
+        let mut conn = Conn::new(alloc, stream, LIMITS);
         conn.readable = false;
         conn.writable = false;
         self.conn = Some(conn);

@@ -1,22 +1,23 @@
 //! The proxy's end, and its turns: what is ready is read, what was asked goes to the links and what was answered to the
 //! clients, and then each end that has something to send is written once.
 
-use crate::clients::{Client, Clients};
+use crate::clients::{Client, Clients, note, send};
 use crate::link::Link;
 use crate::settings::Settings;
-use crate::socket::{Conn, Got};
 use fresh_core::FreshCore;
 use fresh_gate::Accepted;
 use link_calls::{Next, SentCall, fail_call};
 use mio::net::{TcpListener, TcpStream};
-use mio::{Events, Interest, Poll, Token};
+use mio::{Events, Poll, Token};
 use proxy_core::{CoreFault, Limits, Poll as Polled, Ticket};
 use std::alloc::{AllocError, Global};
 use std::io;
 use std::io::{ErrorKind, Write};
 use std::net::{Net, SocketAddr};
 use std::rt::Clock;
+use std::os::fd::AsRawFd;
 use std::time::{Duration, Instant};
+use tcp_socket::{Got, Ready, watch};
 
 const LISTENER: usize = 1_000_000_000_000;
 const LINKS: usize = 1_000_000_000;
@@ -64,15 +65,14 @@ enum Rest {
     More,
 }
 
-fn watch_stream(poll: &Poll, stream: &mut TcpStream, token: usize) -> io::Result<()> {
+fn watch_stream(poll: &Poll, stream: &TcpStream, token: usize) -> io::Result<()> {
     stream.set_nodelay(true)?;
-    poll.registry()
-        .register(stream, Token(token), Interest::READABLE | Interest::WRITABLE)
+    watch(poll.registry(), stream.as_raw_fd(), token)
 }
 
 fn connect<N: Net>(net: &N, poll: &Poll, address: SocketAddr, token: usize) -> io::Result<TcpStream> {
-    let mut stream = TcpStream::connect(net, address)?;
-    watch_stream(poll, &mut stream, token)?;
+    let stream = TcpStream::connect(net, address)?;
+    watch_stream(poll, &stream, token)?;
     Ok(stream)
 }
 
@@ -106,9 +106,8 @@ impl ProxyEnd {
             links.push(Link::new(alloc, *address))?;
         }
         let poll = Poll::new(rt)?;
-        let mut listener = TcpListener::bind(rt, listen)?;
-        poll.registry()
-            .register(&mut listener, Token(LISTENER), Interest::READABLE)?;
+        let listener = TcpListener::bind(rt, listen)?;
+        watch(poll.registry(), listener.as_raw_fd(), LISTENER)?;
         Ok(ProxyEnd {
             alloc,
             core,
@@ -196,41 +195,34 @@ impl ProxyEnd {
         let events = std::mem::replace(&mut self.events, none);
         for event in events.iter() {
             let Token(token) = event.token();
-            let closes = event.is_read_closed() || event.is_error();
-            let reads = event.is_readable() || closes;
+            let told = Ready::of(event);
             if token == LISTENER {
                 self.is_accepting = true;
             } else if token >= LINKS {
-                self.note_link(token - LINKS, reads, event.is_writable(), closes)?;
+                self.note_link(token - LINKS, told)?;
             } else {
-                self.clients.note(token, reads, event.is_writable(), closes)?;
+                self.clients.note(token, told)?;
             }
         }
         self.events = events;
         Ok(())
     }
 
-    fn note_link(&mut self, at: usize, reads: bool, writes: bool, closes: bool) -> Result<(), AllocError> {
+    fn note_link(&mut self, at: usize, told: Ready) -> Result<(), AllocError> {
         let Some(link) = self.links.get_mut(at) else {
             return Ok(());
         };
         let Some(conn) = link.conn.as_mut() else {
             return Ok(());
         };
-        if closes {
-            conn.closing = true;
+        note(conn, told);
+        if told.writes && !told.closes {
+            link.is_connected = true;
         }
-        if writes {
-            conn.writable = true;
-            if !closes {
-                link.is_connected = true;
-            }
-        }
-        if reads {
-            conn.readable = true;
+        if told.reads {
             self.mark_link_ready(at)?;
         }
-        if writes {
+        if told.writes {
             self.mark_link_output(at)?;
         }
         Ok(())
@@ -308,7 +300,7 @@ impl ProxyEnd {
         let mut stream = stream;
         match self.core.open_client() {
             Ok(id) => {
-                if watch_stream(&self.poll, &mut stream, id).is_err() {
+                if watch_stream(&self.poll, &stream, id).is_err() {
                     let _ = self.core.close(id);
                     return Ok(());
                 }
@@ -335,7 +327,7 @@ impl ProxyEnd {
         }
         match conn.read_once(LINK_READ)? {
             Got::Nothing => Ok(true),
-            Got::Ended => Ok(false),
+            Got::Ended | Got::Failed | Got::Full => Ok(false),
             Got::Bytes => {
                 link.is_connected = true;
                 self.settle_all(at)
@@ -448,8 +440,10 @@ impl ProxyEnd {
             return Ok(());
         };
         if client.can_read() {
-            if let Got::Ended = client.conn.read_once(CLIENT_READ)? {
-                client.is_ended = true;
+            match client.conn.read_once(CLIENT_READ)? {
+                Got::Ended => client.is_ended = true,
+                Got::Failed => client.break_off(),
+                Got::Bytes | Got::Nothing | Got::Full => {}
             }
         }
         if !client.conn.held.is_empty() {
@@ -562,7 +556,7 @@ impl ProxyEnd {
         let Some(conn) = link.conn.as_mut() else {
             return Some(call);
         };
-        match link.calls.begin(call, &mut conn.out) {
+        match link.calls.begin(call, &mut conn.unsent) {
             Ok(()) => None,
             Err(call) => Some(call),
         }
@@ -585,7 +579,7 @@ impl ProxyEnd {
         if bytes.is_empty() {
             return Ok(());
         }
-        if client.conn.out.extend_from_slice(bytes.as_slice()).is_err() {
+        if client.conn.unsent.extend_from_slice(bytes.as_slice()).is_err() {
             client.break_off();
             return Ok(());
         }
@@ -598,7 +592,7 @@ impl ProxyEnd {
             return;
         };
         let is_ended = client.is_ended || self.core.is_closed(id);
-        if rest == Rest::Idle && is_ended && client.conn.out.is_empty() && self.core.close(id).is_ok() {
+        if rest == Rest::Idle && is_ended && client.conn.unsent.is_empty() && self.core.close(id).is_ok() {
             self.clients.remove(id);
             self.is_accepting = true;
         }
@@ -627,7 +621,7 @@ impl ProxyEnd {
             Some(link) => {
                 link.has_output = false;
                 match link.conn.as_mut() {
-                    Some(conn) => conn.send(),
+                    Some(conn) => send(conn),
                     None => true,
                 }
             }
@@ -657,10 +651,10 @@ impl ProxyEnd {
         };
         client.has_output = false;
         let was_full = !client.has_room();
-        if !client.conn.send() {
+        if !send(&mut client.conn) {
             client.break_off();
         }
-        let is_empty = client.conn.out.is_empty();
+        let is_empty = client.conn.unsent.is_empty();
         let is_free = was_full && client.has_room();
         if is_free || (is_empty && (client.is_ended || self.core.is_closed(id))) {
             self.clients.mark_ready(id)?;
