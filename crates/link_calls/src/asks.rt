@@ -2,6 +2,7 @@
 
 ghost use Rattle.std.specs.Prelude.{◌≡◌, ◌↔◌, IsTrue, Some, option_map, length};
 ghost use Rattle.mc_types.specs.Asks.{IsAsk, classic_shape, meta_shape, shape_of};
+ghost use Rattle.mc_types.specs.KeyText.{IsKey};
 ghost use Rattle.mc_types.specs.Tokens.{letter_of, same_letter, has_letter, wants, are_served};
 ghost use Rattle.link_calls.specs.Asks.{presence_of, letters_of, fields_of, flag_is, number_is, some_is, place_of, has_shape, has_shape_of, is_ask};
 ghost use Rattle.link_calls.specs.declared.asks.May.TheVariants as may;
@@ -261,16 +262,28 @@ fn has_shape(ask: &Ask) -> bool
     }
 }
 
-fn tested(ask: &Ask) -> bool
+fn has_key(ask: &Ask) -> bool
+    ensures { IsTrue result → IsKey ask.now.key }
+{
+    match Key::read(ask.key.as_bytes()) {
+        Ok(_) => true,
+        Err(_) => false,
+    }
+}
+
+fn is_tested(ask: &Ask) -> bool
     ensures { result ≡ is_ask ask.now }
 {
-    Key::read(ask.key.as_bytes()).is_ok() && ask.body.len() <= DATA_LIMIT as usize && has_shape(ask)
+    ask.body.len() <= DATA_LIMIT as usize && has_shape(ask)
 }
 
 /// Whether the ask is one that a client can write.
 pub fn is_ask(ask: &Ask) -> bool
     ensures { IsTrue result → IsAsk ask.now }
 {
-    let _ask = ask;
-    tested(ask)
+    let _flags = ask.flags;
+    let _exptime = ask.exptime;
+    let _cas = ask.cas;
+    let _delta = ask.delta;
+    has_key(ask) && is_tested(ask)
 }

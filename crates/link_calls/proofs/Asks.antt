@@ -1,0 +1,84 @@
+-- An ask that passes the test is one that a client can write.
+use Rattle.std.proofs.Common.{◌≡◌, ℕ, ◌<◌, ◌^◌, true, false, cond, List, [], ◌∷◌, Option, Some, None, refl, sym, ◌∙◌, subst}
+use Rattle.std.specs.Prelude.{Bool, Result, Ok, Err, IfSome, is_some, is_ok, length, not, nat_le, nat_lt, position, ◌==◌, ◌&&◌}
+use Rattle.std.proofs.lemmas.Bool.{eqb-true, leb-true, and_parts}
+use Rattle.mc_types.specs.Fault.{read_key, read_bytes}
+use Rattle.mc_types.specs.KeyText.{IsKey, is_bad_byte}
+use Rattle.mc_types.specs.declared.key.KeyFault.TheVariants.{Empty, TooLong}
+use Rattle.mc_types.specs.declared.limits.TheConstants.{KEY_LIMIT}
+use Rattle.mc_types.specs.Tokens.{are_served}
+use Rattle.mc_types.specs.Asks.{data_limit, IsExptime, Presence, Absent, Optional, Required, Shape, FlagIs, NumberIs, OptionIs, BytesAre, HasShape, HasShapeOf, shape_of, IsAsk}
+use Rattle.mc_types.specs.declared.ask.Ask.{Ask}
+use Rattle.link_calls.specs.Asks.{flag_is, number_is, some_is, has_shape, has_shape_of, is_ask}
+
+flag_ok : (p : Presence) (flag : Bool) → flag_is p flag ≡ true → FlagIs p flag
+flag_ok Absent true e = absurd cc
+flag_ok Absent false e = refl
+flag_ok Optional flag e = tt
+flag_ok Required flag e = tt
+
+number_ok : (p : Presence) (n : ℕ) → number_is p n ≡ true → NumberIs p n
+number_ok Absent n e = eqb-true n 0 e
+number_ok Optional n e = tt
+number_ok Required n e = tt
+
+some_ok : {A : Type 0} (p : Presence) (o : Option A) → some_is p (is_some o) ≡ true → OptionIs p o
+some_ok Absent None e = refl
+some_ok Absent (Some x) e = absurd cc
+some_ok Optional o e = tt
+some_ok Required o e = e
+
+bytes_ok : (p : Presence) (bytes : List ℕ) → number_is p (length bytes) ≡ true → BytesAre p bytes
+bytes_ok Absent [] e = refl
+bytes_ok Absent (b ∷ bytes) e = absurd cc
+bytes_ok Optional bytes e = tt
+bytes_ok Required bytes e = tt
+
+shape_ok : (ask : Ask) (shape : Shape) → has_shape ask shape ≡ true → HasShape ask shape
+shape_ok ask shape e =
+    let a = and_parts (flag_is shape.with_cas ask.with_cas) (number_is shape.flags ask.flags && (some_is shape.exptime (is_some ask.exptime) && (number_is shape.body (length ask.body) && (some_is shape.cas (is_some ask.cas) && (number_is shape.delta ask.delta && are_served shape.served ask.tokens))))) e in
+    let b = and_parts (number_is shape.flags ask.flags) (some_is shape.exptime (is_some ask.exptime) && (number_is shape.body (length ask.body) && (some_is shape.cas (is_some ask.cas) && (number_is shape.delta ask.delta && are_served shape.served ask.tokens)))) a.1 in
+    let c = and_parts (some_is shape.exptime (is_some ask.exptime)) (number_is shape.body (length ask.body) && (some_is shape.cas (is_some ask.cas) && (number_is shape.delta ask.delta && are_served shape.served ask.tokens))) b.1 in
+    let d = and_parts (number_is shape.body (length ask.body)) (some_is shape.cas (is_some ask.cas) && (number_is shape.delta ask.delta && are_served shape.served ask.tokens)) c.1 in
+    let f = and_parts (some_is shape.cas (is_some ask.cas)) (number_is shape.delta ask.delta && are_served shape.served ask.tokens) d.1 in
+    let g = and_parts (number_is shape.delta ask.delta) (are_served shape.served ask.tokens) f.1 in
+    record {
+      with_cas = flag_ok shape.with_cas ask.with_cas a.0;
+      flags = number_ok shape.flags ask.flags b.0;
+      exptime = some_ok shape.exptime ask.exptime c.0;
+      body = bytes_ok shape.body ask.body d.0;
+      cas = some_ok shape.cas ask.cas f.0;
+      delta = number_ok shape.delta ask.delta g.0;
+      tokens = g.1;
+    }
+
+shape_of_ok : (ask : Ask) (shape : Option Shape) → has_shape_of ask shape ≡ true → HasShapeOf ask shape
+shape_of_ok ask None e = absurd cc
+shape_of_ok ask (Some shape) e = shape_ok ask shape e
+
+pub ask_is : (ask : Ask) → IsKey ask.key → ask.flags < 2 ^ 32 → IfSome ask.exptime IsExptime → IfSome ask.cas (λ cas. cas < 2 ^ 64) → ask.delta < 2 ^ 64 → is_ask ask ≡ true → IsAsk ask
+ask_is ask key flags exptime cas delta e =
+    let a = and_parts (nat_le (length ask.body) data_limit) (has_shape_of ask (shape_of ask.dialect ask.op)) e in
+    record {
+      key = key;
+      ranges = record { flags = flags; exptime = exptime; body = leb-true (length ask.body) data_limit a.0; cas = cas; delta = delta };
+      shape = shape_of_ok ask (shape_of ask.dialect ask.op) a.1;
+    }
+
+not_err : {A B : Type 0} (b : Bool) (fault : B) (rest : Result A B) (x : A) → cond b (Err fault) rest ≡ Ok x → rest ≡ Ok x
+not_err true fault rest x e = absurd cc
+not_err false fault rest x e = e
+
+bytes_are : (text key : List ℕ) (at : Option ℕ) → read_bytes text at ≡ Ok key → key ≡ text
+bytes_are text key None e = cc
+bytes_are text key (Some at) e = absurd cc
+
+-- what was read as a key is the text
+pub read_is : (text key : List ℕ) → read_key text ≡ Ok key → key ≡ text
+read_is text key e =
+    bytes_are text key (position is_bad_byte text)
+        (not_err (nat_lt KEY_LIMIT (length text)) TooLong (read_bytes text (position is_bad_byte text)) key
+            (not_err (length text == 0) Empty (cond (nat_lt KEY_LIMIT (length text)) (Err TooLong) (read_bytes text (position is_bad_byte text))) key e))
+
+pub key_is : (text key : List ℕ) → read_key text ≡ Ok key → IsKey key → IsKey text
+key_is text key e is = subst IsKey (read_is text key e) is
