@@ -22,7 +22,7 @@ use Rattle.link_calls.specs.Calls.{IsReadFor, IsReadNext, IsSettled, first_numbe
 
 pub read_for : SpelledAnswersFit → (ask : Ask) (bytes : List ℕ) (read : AnswerRead) → IsAsk ask → Reads ask bytes read → IsReadFor ask bytes read
 read_for fit ask bytes (reads.Answer answer used) is spells = (spells, fit ask bytes answer used is spells)
-read_for fit ask bytes reads.More is open = tt
+read_for fit ask bytes reads.More is open = open.0
 read_for fit ask bytes reads.Foreign is bad = tt
 
 same_ask : {x y : Ask} → ◌≡◌ {A = Option Ask} (Some x) (Some y) → x ≡ y
@@ -37,7 +37,7 @@ fits_call core number ask answer e fits =
 
 pub read_next : (core : Core) (number : ℕ) (bytes : List ℕ) (ask : Ask) (read : AnswerRead) → asked core number ≡ Some ask → IsReadFor ask bytes read → IsReadNext core number bytes read
 read_next core number bytes ask (reads.Answer answer used) e is = (ask, (e, (is.0, fits_call core number ask answer e is.1)))
-read_next core number bytes ask reads.More e is = tt
+read_next core number bytes ask reads.More e is = (ask, (e, is))
 read_next core number bytes ask reads.Foreign e is = tt
 
 pub fits_first : (sent : List SentCall) (core : Core) (number : ℕ) (outcome : Outcome) → first_number sent ≡ Some number → FitsCall core number outcome → FitsFirst sent core outcome

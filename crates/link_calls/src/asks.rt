@@ -123,7 +123,7 @@ fn meta_fields(op: Op) -> Option<Fields>
 }
 
 // The fields that an ask of this dialect and operation has, where there is one.
-fn fields(dialect: Dialect, op: Op) -> Option<Fields>
+fn table_fields(dialect: Dialect, op: Op) -> Option<Fields>
     ensures { option_map fields_of result ≡ shape_of dialect op }
 {
     match dialect {
@@ -256,7 +256,7 @@ fn has_fields(ask: &Ask, fields: Fields) -> bool
 fn has_shape(ask: &Ask) -> bool
     ensures { result ≡ has_shape_of ask.now (shape_of ask.now.dialect ask.now.op) }
 {
-    match fields(ask.dialect, ask.op) {
+    match table_fields(ask.dialect, ask.op) {
         None => false,
         Some(fields) => has_fields(ask, fields),
     }

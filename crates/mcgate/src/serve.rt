@@ -7,7 +7,7 @@ use config_check::checking::{print_fault, print_refused};
 use config_check::status::{BAD_INPUT, DONE, RunFault};
 use fresh_gate::{Accepted, judge};
 use mc_types::ServerId;
-use route_json::read_config;
+use route_json::{Config, read_config};
 use server_addresses::Servers;
 use std::alloc::Global;
 use std::io;
@@ -37,13 +37,18 @@ fn printed(answer: Result<u8, RunFault>) -> Result<Judged, Stop> {
     }
 }
 
-// The configuration of a text, if the gate accepts it; else why not is printed, as `mcgate check` prints it without a script.
-fn judged_text<W: Write>(alloc: Global, text: &str, out: &mut W) -> Result<Judged, Stop> {
+// The configuration, if the gate accepts it; else why not is printed, as `mcgate check` prints it before a script.
+fn judge_config<W: Write>(alloc: Global, config: Config, out: &mut W) -> Result<Judged, Stop> {
+    match judge(alloc, config) {
+        Ok(accepted) => Ok(Judged::Accepted(accepted)),
+        Err(refused) => printed(print_refused(&refused.config, &refused.reason, out)),
+    }
+}
+
+// The same of the configuration of a text, or why it is none is printed.
+fn judge_text<W: Write>(alloc: Global, text: &str, out: &mut W) -> Result<Judged, Stop> {
     match read_config(alloc, text) {
-        Ok(config) => match judge(alloc, config) {
-            Ok(accepted) => Ok(Judged::Accepted(accepted)),
-            Err(refused) => printed(print_refused(&refused.config, &refused.reason, out)),
-        },
+        Ok(config) => judge_config(alloc, config, out),
         Err(fault) => printed(print_fault(text, &fault, out)),
     }
 }
@@ -55,7 +60,7 @@ pub fn read_and_judge<W: Write>(
     out: &mut W,
 ) -> Result<Judged, Stop> {
     match input {
-        Ok(text) => judged_text(alloc, text.as_str(), out),
+        Ok(text) => judge_text(alloc, text.as_str(), out),
         Err(InputFault::TooLarge) => {
             writeln!(out, "input: too large")?;
             Ok(Judged::Printed(BAD_INPUT))
