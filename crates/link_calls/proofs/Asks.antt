@@ -77,8 +77,8 @@ bytes_are text key (Some at) e = absurd cc
 pub read_is : (text key : List ℕ) → read_key text ≡ Ok key → key ≡ text
 read_is text key e =
     bytes_are text key (position is_bad_byte text)
-        (not_err (nat_lt KEY_LIMIT (length text)) TooLong (read_bytes text (position is_bad_byte text)) key
-            (not_err (length text == 0) Empty (cond (nat_lt KEY_LIMIT (length text)) (Err TooLong) (read_bytes text (position is_bad_byte text))) key e))
+    (not_err (nat_lt KEY_LIMIT (length text)) TooLong (read_bytes text (position is_bad_byte text)) key
+    (not_err (length text == 0) Empty (cond (nat_lt KEY_LIMIT (length text)) (Err TooLong) (read_bytes text (position is_bad_byte text))) key e))
 
 pub key_is : (text key : List ℕ) → read_key text ≡ Ok key → IsKey key → IsKey text
 key_is text key e is = subst IsKey (read_is text key e) is

@@ -103,7 +103,9 @@ fn meta_fields(op: Op) -> Option<Fields>
             exptime: May::Always,
             ..bare(Served::OfGet)
         }),
-        Op::Set | Op::Add | Op::Replace | Op::Append | Op::Prepend => Some(storing(Served::OfStore)),
+        Op::Set | Op::Add | Op::Replace | Op::Append | Op::Prepend => Some(storing(
+            Served::OfStore,
+        )),
         Op::Cas => Some(Fields {
             cas: May::Always,
             ..storing(Served::OfStore)

@@ -76,10 +76,20 @@ fn an_answer_and_a_foreign_one(rt: HostRuntime) -> Result<(), Fail> {
     assert!(rt; calls.oldest() == Some(7));
     assert!(rt; matches!(calls.settle_next(&mut core, b"EN".as_slice()), Next::More));
     assert!(rt; settles_five(calls.settle_next(&mut core, b"END\r\nHELLO\r\n".as_slice())));
-    assert!(rt; matches!(calls.settle_next(&mut core, b"HELLO\r\n".as_slice()), Next::Foreign));
+    assert!(rt;
+        matches!(
+            calls.settle_next(&mut core, b"HELLO\r\n".as_slice()),
+            Next::Foreign
+        )
+    );
     assert!(rt; calls.fail_next(&mut core) == Some(0));
     assert!(rt; calls.fail_next(&mut core).is_none());
-    assert!(rt; matches!(calls.settle_next(&mut core, b"END\r\n".as_slice()), Next::Foreign));
+    assert!(rt;
+        matches!(
+            calls.settle_next(&mut core, b"END\r\n".as_slice()),
+            Next::Foreign
+        )
+    );
     assert!(rt; ends(&mut core) && ends(&mut core));
     assert!(rt; shows(&mut core, b"END\r\nSERVER_ERROR call failed\r\n".as_slice()));
     Ok(())

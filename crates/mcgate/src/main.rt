@@ -79,7 +79,9 @@ fn run<R: Files + Input + AllocGlobal + Env + Net + Clock + Eprint, W: Write>(
 }
 
 /// Runs, and gives out what was written, also what was written before a fault.
-fn run_and_flush<R: Files + Input + AllocGlobal + Env + Net + Clock + Print + Eprint>(rt: &R) -> Result<u8, Stop> {
+fn run_and_flush<R: Files + Input + AllocGlobal + Env + Net + Clock + Print + Eprint>(
+    rt: &R,
+) -> Result<u8, Stop> {
     let mut out = BufWriter::new(rt.alloc(), io::writer(rt))?;
     let ended = run(rt, &mut out);
     let flushed = out.flush();

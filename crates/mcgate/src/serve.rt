@@ -124,7 +124,12 @@ fn serve_at<R: Net + Clock + AllocGlobal + Eprint>(
         return Ok(BAD_INPUT);
     };
     let address = end.local_addr()?;
-    eprintln!(rt; "mcgate: serving {} on {}, {} servers, generation 1", job.file, address, servers.len())?;
+    eprintln!(rt;
+        "mcgate: serving {} on {}, {} servers, generation 1",
+        job.file,
+        address,
+        servers.len()
+    )?;
     turn_on(rt, &mut end, job.turns)?;
     Ok(DONE)
 }

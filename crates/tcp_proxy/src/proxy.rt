@@ -14,18 +14,23 @@ use std::alloc::{AllocError, Global};
 use std::io;
 use std::io::{ErrorKind, Write};
 use std::net::{Net, SocketAddr};
-use std::rt::Clock;
 use std::os::fd::AsRawFd;
+use std::rt::Clock;
 use std::time::{Duration, Instant};
 use tcp_socket::{Got, Ready, watch};
 
 const LISTENER: usize = 1_000_000_000_000;
+
 const LINKS: usize = 1_000_000_000;
+
 const CLIENT_READ: usize = 16_384;
+
 const LINK_READ: usize = 65_536;
+
 const HELD_LIMIT: usize = 2_097_152;
 // So many things are done for a client before the next one's turn.
 const POLLS: usize = 128;
+
 const ACCEPTS: usize = 64;
 
 /// The proxy's end.
@@ -70,7 +75,12 @@ fn watch_stream(poll: &Poll, stream: &TcpStream, token: usize) -> io::Result<()>
     watch(poll.registry(), stream.as_raw_fd(), token)
 }
 
-fn connect<N: Net>(net: &N, poll: &Poll, address: SocketAddr, token: usize) -> io::Result<TcpStream> {
+fn connect<N: Net>(
+    net: &N,
+    poll: &Poll,
+    address: SocketAddr,
+    token: usize,
+) -> io::Result<TcpStream> {
     let stream = TcpStream::connect(net, address)?;
     watch_stream(poll, &stream, token)?;
     Ok(stream)
@@ -177,7 +187,9 @@ impl ProxyEnd {
             return Some(Duration::from_millis(0));
         }
         match self.time_limit() {
-            Some(limit) => Some(Duration::from_millis(limit.saturating_sub(self.now).saturating_add(1))),
+            Some(limit) => Some(Duration::from_millis(
+                limit.saturating_sub(self.now).saturating_add(1),
+            )),
             None => None,
         }
     }
@@ -579,7 +591,12 @@ impl ProxyEnd {
         if bytes.is_empty() {
             return Ok(());
         }
-        if client.conn.unsent.extend_from_slice(bytes.as_slice()).is_err() {
+        if client
+            .conn
+            .unsent
+            .extend_from_slice(bytes.as_slice())
+            .is_err()
+        {
             client.break_off();
             return Ok(());
         }
@@ -592,7 +609,11 @@ impl ProxyEnd {
             return;
         };
         let is_ended = client.is_ended || self.core.is_closed(id);
-        if rest == Rest::Idle && is_ended && client.conn.unsent.is_empty() && self.core.close(id).is_ok() {
+        if rest == Rest::Idle
+            && is_ended
+            && client.conn.unsent.is_empty()
+            && self.core.close(id).is_ok()
+        {
             self.clients.remove(id);
             self.is_accepting = true;
         }
