@@ -6,10 +6,10 @@ use Rattle.mc_types.specs.Fault.{read_key, read_bytes}
 use Rattle.mc_types.specs.KeyText.{IsKey, is_bad_byte}
 use Rattle.mc_types.specs.declared.key.KeyFault.TheVariants.{Empty, TooLong}
 use Rattle.mc_types.specs.declared.limits.TheConstants.{KEY_LIMIT}
-use Rattle.mc_types.specs.Tokens.{are_served}
+use Rattle.mc_types.specs.Tokens.{Letter, LetterC, LetterF, LetterK, LetterS, LetterT, LetterV, LetterO, same_letter, are_served}
 use Rattle.mc_types.specs.Asks.{data_limit, IsExptime, Presence, Absent, Optional, Required, Shape, FlagIs, NumberIs, OptionIs, BytesAre, HasShape, HasShapeOf, shape_of, IsAsk}
 use Rattle.mc_types.specs.declared.ask.Ask.{Ask}
-use Rattle.link_calls.specs.Asks.{flag_is, number_is, some_is, has_shape, has_shape_of, is_ask}
+use Rattle.link_calls.specs.Asks.{place_of, flag_is, number_is, some_is, has_shape, has_shape_of, is_ask}
 
 flag_ok : (p : Presence) (flag : Bool) → flag_is p flag ≡ true → FlagIs p flag
 flag_ok Absent true e = absurd cc
@@ -82,3 +82,55 @@ read_is text key e =
 
 pub key_is : (text key : List ℕ) → read_key text ≡ Ok key → IsKey key → IsKey text
 key_is text key e is = subst IsKey (read_is text key e) is
+
+-- letters are the same where their places are
+pub place_same : (a b : Letter) → (place_of a == place_of b) ≡ same_letter a b
+place_same LetterC LetterC = refl
+place_same LetterC LetterF = refl
+place_same LetterC LetterK = refl
+place_same LetterC LetterS = refl
+place_same LetterC LetterT = refl
+place_same LetterC LetterV = refl
+place_same LetterC LetterO = refl
+place_same LetterF LetterC = refl
+place_same LetterF LetterF = refl
+place_same LetterF LetterK = refl
+place_same LetterF LetterS = refl
+place_same LetterF LetterT = refl
+place_same LetterF LetterV = refl
+place_same LetterF LetterO = refl
+place_same LetterK LetterC = refl
+place_same LetterK LetterF = refl
+place_same LetterK LetterK = refl
+place_same LetterK LetterS = refl
+place_same LetterK LetterT = refl
+place_same LetterK LetterV = refl
+place_same LetterK LetterO = refl
+place_same LetterS LetterC = refl
+place_same LetterS LetterF = refl
+place_same LetterS LetterK = refl
+place_same LetterS LetterS = refl
+place_same LetterS LetterT = refl
+place_same LetterS LetterV = refl
+place_same LetterS LetterO = refl
+place_same LetterT LetterC = refl
+place_same LetterT LetterF = refl
+place_same LetterT LetterK = refl
+place_same LetterT LetterS = refl
+place_same LetterT LetterT = refl
+place_same LetterT LetterV = refl
+place_same LetterT LetterO = refl
+place_same LetterV LetterC = refl
+place_same LetterV LetterF = refl
+place_same LetterV LetterK = refl
+place_same LetterV LetterS = refl
+place_same LetterV LetterT = refl
+place_same LetterV LetterV = refl
+place_same LetterV LetterO = refl
+place_same LetterO LetterC = refl
+place_same LetterO LetterF = refl
+place_same LetterO LetterK = refl
+place_same LetterO LetterS = refl
+place_same LetterO LetterT = refl
+place_same LetterO LetterV = refl
+place_same LetterO LetterO = refl

@@ -22,7 +22,7 @@ use Rattle.link_calls.specs.Calls.{IsReadFor, IsReadNext, IsSettled, first_numbe
 
 pub read_for : SpelledAnswersFit → (ask : Ask) (bytes : List ℕ) (read : AnswerRead) → IsAsk ask → Reads ask bytes read → IsReadFor ask bytes read
 read_for fit ask bytes (reads.Answer answer used) is spells = (spells, fit ask bytes answer used is spells)
-read_for fit ask bytes reads.More is open = open.0
+read_for fit ask bytes reads.More is more = more.0
 read_for fit ask bytes reads.Foreign is bad = tt
 
 same_ask : {x y : Ask} → ◌≡◌ {A = Option Ask} (Some x) (Some y) → x ≡ y

@@ -223,6 +223,7 @@ fn place(token: &Token) -> u8
     }
 }
 
+#[tactic(auto, using(crate::proofs::Asks::place_same))]
 fn is_wanted(tokens: &[Token], token: &Token) -> bool
     ensures { result ≡ wants tokens.now (letter_of token.now) }
 {
@@ -264,6 +265,7 @@ fn has_shape(ask: &Ask) -> bool
     }
 }
 
+#[tactic(auto, using(crate::proofs::Asks::key_is))]
 fn has_key(ask: &Ask) -> bool
     ensures { IsTrue result → IsKey ask.now.key }
 {
@@ -280,6 +282,7 @@ fn is_tested(ask: &Ask) -> bool
 }
 
 /// Whether the ask is one that a client can write.
+#[tactic(auto, using(crate::proofs::Asks::ask_is))]
 pub fn is_ask(ask: &Ask) -> bool
     ensures { IsTrue result → IsAsk ask.now }
 {

@@ -64,6 +64,7 @@ pub fn fail_call(core: &mut FreshCore, ticket: Ticket)
 }
 
 // What the bytes say to the ask.
+#[tactic(auto, using(crate::proofs::Calls::read_for))]
 fn read_for(alloc: Global, ask: &Ask, bytes: &[u8]) -> AnswerRead
     ensures { IsReadFor ask.now bytes.now result }
 {
@@ -78,6 +79,7 @@ fn read_for(alloc: Global, ask: &Ask, bytes: &[u8]) -> AnswerRead
 }
 
 // What they say to the core's call of this number.
+#[tactic(auto, using(crate::proofs::Calls::read_next))]
 fn read_next(alloc: Global, core: &FreshCore, number: u64, bytes: &[u8]) -> AnswerRead
     ensures { IsReadNext core.now.core number bytes.now result }
 {
@@ -147,6 +149,7 @@ impl LinkCalls {
     }
 
     // The first call had this outcome: whose it was.
+    #[tactic(auto, using(crate::proofs::Calls::popped, crate::proofs::Calls::fits_popped))]
     fn settle_first(&mut self, core: &mut FreshCore, outcome: Outcome) -> Option<usize>
         requires { FitsFirst self.old.sent.items core.old.core outcome }
         ensures { SettlesFirst self.old.sent.items core.old outcome result self.new.sent.items core.new }
@@ -165,6 +168,7 @@ impl LinkCalls {
     /// goes on by that alone. Without one nothing has changed.
     ///
     /// Source: mcgate's own.
+    #[tactic(auto, using(crate::proofs::Calls::fits_first))]
     pub fn settle_next(&mut self, core: &mut FreshCore, bytes: &[u8]) -> Next
         ensures { SettlesNext self.old.sent.items bytes.now core.old result self.new.sent.items core.new }
     {
