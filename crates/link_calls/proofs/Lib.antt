@@ -1,2 +1,2 @@
-pub mod Asks
-pub mod Calls
+pub mod AskTest
+pub mod CallOrder

@@ -1,7 +1,7 @@
 -- When an ask is one that a client can write, as a test. Source: memcached's protocol.txt, the lines of each command.
-use Rattle.std.specs.Prelude.{ℕ, Bool, true, false, not, ◌&&◌, ◌==◌, List, [], ◌∷◌, Option, Some, None, is_some, length, nat_le}
+use Rattle.std.specs.Prelude.{ℕ, Bool, true, false, not, ◌&&◌, ◌==◌, List, [], ◌∷◌, Option, Some, None, is_some, length}
 use Rattle.mc_types.specs.Tokens.{Letter, LetterC, LetterF, LetterK, LetterS, LetterT, LetterV, LetterO, are_served}
-use Rattle.mc_types.specs.Asks.{data_limit, Presence, Absent, Optional, Required, Shape, of_get, of_store, of_delete, of_count, shape_of}
+use Rattle.mc_types.specs.Asks.{Presence, Absent, Optional, Required, Shape, of_get, of_store, of_delete, of_count, shape_of}
 use Rattle.mc_types.specs.declared.ask.Ask.{Ask}
 use Rattle.link_calls.specs.declared.asks.May.{May}
 use Rattle.link_calls.specs.declared.asks.May.TheVariants as may
@@ -69,7 +69,3 @@ has_shape ask shape =
 abbrev pub has_shape_of : Ask → Option Shape → Bool
 has_shape_of ask None = false
 has_shape_of ask (Some shape) = has_shape ask shape
-
--- the test, for a key that is one and numbers in their ranges
-abbrev pub is_ask : Ask → Bool
-is_ask ask = nat_le (length ask.body) data_limit && has_shape_of ask (shape_of ask.dialect ask.op)

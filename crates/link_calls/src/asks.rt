@@ -1,10 +1,10 @@
 //! Whether an ask is one that a client can write.
 
-ghost use Rattle.std.specs.Prelude.{◌≡◌, ◌↔◌, IsTrue, Some, option_map, length};
-ghost use Rattle.mc_types.specs.Asks.{IsAsk, classic_shape, meta_shape, shape_of};
+ghost use Rattle.std.specs.Prelude.{◌≡◌, ◌≤◌, ◌<◌, ◌^◌, IsTrue, IfSome, option_map, length};
+ghost use Rattle.mc_types.specs.Asks.{IsAsk, AreInRange, IsExptime, data_limit, classic_shape, meta_shape, shape_of};
 ghost use Rattle.mc_types.specs.KeyText.{IsKey};
 ghost use Rattle.mc_types.specs.Tokens.{letter_of, same_letter, has_letter, wants, are_served};
-ghost use Rattle.link_calls.specs.Asks.{presence_of, letters_of, fields_of, flag_is, number_is, some_is, place_of, has_shape, has_shape_of, is_ask};
+ghost use Rattle.link_calls.specs.Asks.{presence_of, letters_of, fields_of, flag_is, number_is, some_is, place_of, has_shape, has_shape_of};
 ghost use Rattle.link_calls.specs.declared.asks.May.TheVariants as may;
 
 use mc_types::{Ask, DATA_LIMIT, Dialect, Key, Op, Token};
@@ -223,7 +223,7 @@ fn place(token: &Token) -> u8
     }
 }
 
-#[tactic(auto, using(crate::proofs::Asks::place_same))]
+#[tactic(auto, using(crate::proofs::AskTest::place_same))]
 fn is_wanted(tokens: &[Token], token: &Token) -> bool
     ensures { result ≡ wants tokens.now (letter_of token.now) }
 {
@@ -265,7 +265,7 @@ fn has_shape(ask: &Ask) -> bool
     }
 }
 
-#[tactic(auto, using(crate::proofs::Asks::key_is))]
+#[tactic(auto, using(crate::proofs::AskTest::key_is))]
 fn has_key(ask: &Ask) -> bool
     ensures { IsTrue result → IsKey ask.now.key }
 {
@@ -275,20 +275,37 @@ fn has_key(ask: &Ask) -> bool
     }
 }
 
-fn is_tested(ask: &Ask) -> bool
-    ensures { result ≡ is_ask ask.now }
+fn exptime_in_range(exptime: Option<i64>)
+    ensures { IfSome exptime IsExptime }
 {
-    ask.body.len() <= DATA_LIMIT as usize && has_shape(ask)
+    if let Some(_exptime) = exptime {}
 }
 
-/// Whether the ask is one that a client can write.
-#[tactic(auto, using(crate::proofs::Asks::ask_is))]
+fn cas_in_range(cas: Option<u64>)
+    ensures { IfSome cas (λ cas. cas < 2 ^ 64) }
+{
+    if let Some(_cas) = cas {}
+}
+
+// The numbers of an ask are in the ranges of their types.
+fn numbers_in_range(ask: &Ask)
+    requires { length ask.now.body ≤ data_limit }
+    ensures { AreInRange ask.now }
+{
+    let _flags = ask.flags;
+    let _delta = ask.delta;
+    exptime_in_range(ask.exptime);
+    cas_in_range(ask.cas);
+}
+
+/// Whether the ask is one that a client can write. Each ask of the core is, so a link tests it and no condition on tickets is kept.
+#[tactic(auto, using(crate::proofs::AskTest::ask_is))]
 pub fn is_ask(ask: &Ask) -> bool
     ensures { IsTrue result → IsAsk ask.now }
 {
-    let _flags = ask.flags;
-    let _exptime = ask.exptime;
-    let _cas = ask.cas;
-    let _delta = ask.delta;
-    has_key(ask) && is_tested(ask)
+    if ask.body.len() > DATA_LIMIT as usize {
+        return false;
+    }
+    numbers_in_range(ask);
+    has_key(ask) && has_shape(ask)
 }

@@ -64,7 +64,7 @@ pub fn fail_call(core: &mut FreshCore, ticket: Ticket)
 }
 
 // What the bytes say to the ask.
-#[tactic(auto, using(crate::proofs::Calls::read_for))]
+#[tactic(auto, using(crate::proofs::CallOrder::read_for))]
 fn read_for(alloc: Global, ask: &Ask, bytes: &[u8]) -> AnswerRead
     ensures { IsReadFor ask.now bytes.now result }
 {
@@ -79,7 +79,7 @@ fn read_for(alloc: Global, ask: &Ask, bytes: &[u8]) -> AnswerRead
 }
 
 // What they say to the core's call of this number.
-#[tactic(auto, using(crate::proofs::Calls::read_next))]
+#[tactic(auto, using(crate::proofs::CallOrder::read_next))]
 fn read_next(alloc: Global, core: &FreshCore, number: u64, bytes: &[u8]) -> AnswerRead
     ensures { IsReadNext core.now.core number bytes.now result }
 {
@@ -149,7 +149,7 @@ impl LinkCalls {
     }
 
     // The first call had this outcome: whose it was.
-    #[tactic(auto, using(crate::proofs::Calls::popped, crate::proofs::Calls::fits_popped))]
+    #[tactic(auto, using(crate::proofs::CallOrder::popped, crate::proofs::CallOrder::fits_popped))]
     fn settle_first(&mut self, core: &mut FreshCore, outcome: Outcome) -> Option<usize>
         requires { FitsFirst self.old.sent.items core.old.core outcome }
         ensures { SettlesFirst self.old.sent.items core.old outcome result self.new.sent.items core.new }
@@ -168,7 +168,7 @@ impl LinkCalls {
     /// goes on by that alone. Without one nothing has changed.
     ///
     /// Source: mcgate's own.
-    #[tactic(auto, using(crate::proofs::Calls::fits_first))]
+    #[tactic(auto, using(crate::proofs::CallOrder::fits_first))]
     pub fn settle_next(&mut self, core: &mut FreshCore, bytes: &[u8]) -> Next
         ensures { SettlesNext self.old.sent.items bytes.now core.old result self.new.sent.items core.new }
     {

@@ -36,8 +36,8 @@ fits_call core number ask answer e fits =
     λ a was out. subst (λ x. Fits x answer) (out_ask a ask (sym (ap asked_by was) ∙ e) out) fits
 
 pub read_next : (core : Core) (number : ℕ) (bytes : List ℕ) (ask : Ask) (read : AnswerRead) → asked core number ≡ Some ask → IsReadFor ask bytes read → IsReadNext core number bytes read
-read_next core number bytes ask (reads.Answer answer used) e is = (ask, (e, (is.0, fits_call core number ask answer e is.1)))
-read_next core number bytes ask reads.More e is = (ask, (e, is))
+read_next core number bytes ask (reads.Answer answer used) e is = (ask, e, is.0, fits_call core number ask answer e is.1)
+read_next core number bytes ask reads.More e is = (ask, e, is)
 read_next core number bytes ask reads.Foreign e is = tt
 
 pub fits_first : (sent : List SentCall) (core : Core) (number : ℕ) (outcome : Outcome) → first_number sent ≡ Some number → FitsCall core number outcome → FitsFirst sent core outcome
@@ -48,7 +48,7 @@ fits_first (call ∷ sent) core number outcome e fits = subst (λ n. FitsCall co
     same_number e = cc
 
 pub popped : (old new : List SentCall) (call : SentCall) (core core' : FreshCore) (outcome : Outcome) → old ≡ call ∷ new → IsSettled core call.ticket.number outcome core' → SettlesFirst old core outcome (Some call.client) new core'
-popped old new call core core' outcome e settled = subst (λ xs. SettlesFirst xs core outcome (Some call.client) new core') (sym e) (refl, (refl, settled))
+popped old new call core core' outcome e settled = subst (λ xs. SettlesFirst xs core outcome (Some call.client) new core') (sym e) (refl, refl, settled)
 
 pub fits_popped : (old new : List SentCall) (call : SentCall) (core : Core) (outcome : Outcome) → old ≡ call ∷ new → FitsFirst old core outcome → FitsCall core call.ticket.number outcome
 fits_popped old new call core outcome e fits = subst (λ xs. FitsFirst xs core outcome) e fits

@@ -1,15 +1,16 @@
 -- An ask that passes the test is one that a client can write.
 use Rattle.std.proofs.Common.{◌≡◌, ℕ, ◌<◌, ◌^◌, true, false, cond, List, [], ◌∷◌, Option, Some, None, refl, sym, ◌∙◌, subst}
 use Rattle.std.specs.Prelude.{Bool, Result, Ok, Err, IfSome, is_some, is_ok, length, not, nat_le, nat_lt, position, ◌==◌, ◌&&◌}
-use Rattle.std.proofs.lemmas.Bool.{eqb-true, leb-true, and_parts}
+use Rattle.std.proofs.lemmas.List.{nil_from_length}
+use Rattle.std.proofs.lemmas.Bool.{eqb-true, and_parts}
 use Rattle.mc_types.specs.Fault.{read_key, read_bytes}
 use Rattle.mc_types.specs.KeyText.{IsKey, is_bad_byte}
 use Rattle.mc_types.specs.declared.key.KeyFault.TheVariants.{Empty, TooLong}
 use Rattle.mc_types.specs.declared.limits.TheConstants.{KEY_LIMIT}
 use Rattle.mc_types.specs.Tokens.{Letter, LetterC, LetterF, LetterK, LetterS, LetterT, LetterV, LetterO, same_letter, are_served}
-use Rattle.mc_types.specs.Asks.{data_limit, IsExptime, Presence, Absent, Optional, Required, Shape, FlagIs, NumberIs, OptionIs, BytesAre, HasShape, HasShapeOf, shape_of, IsAsk}
+use Rattle.mc_types.specs.Asks.{AreInRange, Presence, Absent, Optional, Required, Shape, FlagIs, NumberIs, OptionIs, BytesAre, HasShape, HasShapeOf, shape_of, IsAsk}
 use Rattle.mc_types.specs.declared.ask.Ask.{Ask}
-use Rattle.link_calls.specs.Asks.{place_of, flag_is, number_is, some_is, has_shape, has_shape_of, is_ask}
+use Rattle.link_calls.specs.Asks.{place_of, flag_is, number_is, some_is, has_shape, has_shape_of}
 
 flag_ok : (p : Presence) (flag : Bool) → flag_is p flag ≡ true → FlagIs p flag
 flag_ok Absent true e = absurd cc
@@ -29,8 +30,7 @@ some_ok Optional o e = tt
 some_ok Required o e = e
 
 bytes_ok : (p : Presence) (bytes : List ℕ) → number_is p (length bytes) ≡ true → BytesAre p bytes
-bytes_ok Absent [] e = refl
-bytes_ok Absent (b ∷ bytes) e = absurd cc
+bytes_ok Absent bytes e = nil_from_length bytes (eqb-true (length bytes) 0 e)
 bytes_ok Optional bytes e = tt
 bytes_ok Required bytes e = tt
 
@@ -56,14 +56,8 @@ shape_of_ok : (ask : Ask) (shape : Option Shape) → has_shape_of ask shape ≡ 
 shape_of_ok ask None e = absurd cc
 shape_of_ok ask (Some shape) e = shape_ok ask shape e
 
-pub ask_is : (ask : Ask) → IsKey ask.key → ask.flags < 2 ^ 32 → IfSome ask.exptime IsExptime → IfSome ask.cas (λ cas. cas < 2 ^ 64) → ask.delta < 2 ^ 64 → is_ask ask ≡ true → IsAsk ask
-ask_is ask key flags exptime cas delta e =
-    let a = and_parts (nat_le (length ask.body) data_limit) (has_shape_of ask (shape_of ask.dialect ask.op)) e in
-    record {
-      key = key;
-      ranges = record { flags = flags; exptime = exptime; body = leb-true (length ask.body) data_limit a.0; cas = cas; delta = delta };
-      shape = shape_of_ok ask (shape_of ask.dialect ask.op) a.1;
-    }
+pub ask_is : (ask : Ask) → IsKey ask.key → AreInRange ask → has_shape_of ask (shape_of ask.dialect ask.op) ≡ true → IsAsk ask
+ask_is ask key ranges e = record { key = key; ranges = ranges; shape = shape_of_ok ask (shape_of ask.dialect ask.op) e }
 
 not_err : {A B : Type 0} (b : Bool) (fault : B) (rest : Result A B) (x : A) → cond b (Err fault) rest ≡ Ok x → rest ≡ Ok x
 not_err true fault rest x e = absurd cc
