@@ -1,6 +1,6 @@
 -- An ask that passes the test is one that a client can write.
-use Rattle.std.proofs.Common.{◌≡◌, ℕ, ◌<◌, ◌^◌, true, false, cond, List, [], ◌∷◌, Option, Some, None, refl, sym, ◌∙◌, subst}
-use Rattle.std.specs.Prelude.{Bool, Result, Ok, Err, IfSome, is_some, is_ok, length, not, nat_le, nat_lt, position, ◌==◌, ◌&&◌}
+use Rattle.std.proofs.Common.{◌≡◌, ℕ, true, false, cond, List, Option, Some, None, refl, subst}
+use Rattle.std.specs.Prelude.{Bool, Result, Ok, Err, is_some, length, nat_lt, position, ◌==◌, ◌&&◌}
 use Rattle.std.proofs.lemmas.List.{nil_from_length}
 use Rattle.std.proofs.lemmas.Bool.{eqb-true, and_parts}
 use Rattle.mc_types.specs.Fault.{read_key, read_bytes}

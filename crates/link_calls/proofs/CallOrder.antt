@@ -1,6 +1,5 @@
 -- What an answer that was read says of the core's call.
-use Rattle.std.proofs.Common.{◌≡◌, ℕ, ◌<◌, true, false, cond, List, [], ◌∷◌, ◌++◌, Option, Some, None, refl, sym, ap, ◌∙◌, subst}
-use Rattle.std.specs.Prelude.{option_map}
+use Rattle.std.proofs.Common.{◌≡◌, ℕ, true, cond, List, [], ◌∷◌, Option, Some, None, refl, sym, ap, ◌∙◌, subst}
 use Rattle.mc_types.specs.Asks.{IsAsk}
 use Rattle.mc_types.specs.Fits.{Fits}
 use Rattle.mc_types.specs.declared.ask.Ask.{Ask}
@@ -8,13 +7,13 @@ use Rattle.mc_types.specs.declared.answer.Answer.{Answer}
 use Rattle.mc_types.specs.declared.call.Outcome.{Outcome}
 use Rattle.mc_types.specs.declared.call.Outcome.TheVariants.{Answered}
 use Rattle.text_answers.specs.Laws.{SpelledAnswersFit}
-use Rattle.text_answers.specs.Reading.{Reads, Spells}
+use Rattle.text_answers.specs.Reading.{Reads}
 use Rattle.text_answers.specs.declared.reader.AnswerRead.{AnswerRead}
 use Rattle.text_answers.specs.declared.reader.AnswerRead.TheVariants as reads
 use Rattle.route_job.specs.Rest.{ask_under}
 use Rattle.proxy_core.specs.declared.command.Command.{Command}
 use Rattle.proxy_core.specs.declared.proxy.Core.{Core}
-use Rattle.proxy_core.specs.Standing.{command_at, has_call_out}
+use Rattle.proxy_core.specs.Standing.{has_call_out}
 use Rattle.proxy_core.specs.Settles.{FitsCall, asked, asked_by}
 use Rattle.fresh_core.specs.declared.fresh.FreshCore.{FreshCore}
 use Rattle.link_calls.specs.declared.calls.SentCall.{SentCall}

@@ -1,7 +1,7 @@
 -- When an ask is one that a client can write, as a test. Source: memcached's protocol.txt, the lines of each command.
-use Rattle.std.specs.Prelude.{ℕ, Bool, true, false, not, ◌&&◌, ◌==◌, List, [], ◌∷◌, Option, Some, None, is_some, length}
+use Rattle.std.specs.Prelude.{ℕ, Bool, true, false, not, ◌&&◌, ◌==◌, List, [], Option, Some, None, is_some, length}
 use Rattle.mc_types.specs.Tokens.{Letter, LetterC, LetterF, LetterK, LetterS, LetterT, LetterV, LetterO, are_served}
-use Rattle.mc_types.specs.Asks.{Presence, Absent, Optional, Required, Shape, of_get, of_store, of_delete, of_count, shape_of}
+use Rattle.mc_types.specs.Asks.{Presence, Absent, Optional, Required, Shape, of_get, of_store, of_delete, of_count}
 use Rattle.mc_types.specs.declared.ask.Ask.{Ask}
 use Rattle.link_calls.specs.declared.asks.May.{May}
 use Rattle.link_calls.specs.declared.asks.May.TheVariants as may
