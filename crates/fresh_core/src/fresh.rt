@@ -1,19 +1,19 @@
 //! The core with the configurations by which its commands run.
 
-ghost use Rattle.std.specs.Prelude.{◌≡◌, ◌<◌, [], ◌∷◌, ◌↔◌, IsTrue, IfOk, IfErr, OnOk};
+ghost use Rattle.std.specs.Prelude.{◌≡◌, ◌<◌, [], ◌∷◌, ◌↔◌, IsTrue, IfOk, IfErr, OnOk, option_map};
 ghost use Rattle.mc_runs.specs.Overlap as log;
 ghost use Rattle.proxy_core.specs.Faults.{IsClosed, CanOpen, CanFeed, CanClose, OpenFault, FeedFault, OutputFault, CloseFault};
 ghost use Rattle.fresh_gate.specs.Reload.{KeepsNumbers};
 ghost use Rattle.fresh_gate.specs.Sound.{IsLast};
 ghost use Rattle.proxy_core.specs.Standing.{IsOut, Opens, Feeds, Gives, Closes, Reloads, client_at, dropped_by};
 ghost use Rattle.proxy_core.specs.Polls.{Polls, PollFault, Then, Perhaps, BeginsOne, IsPolled};
-ghost use Rattle.proxy_core.specs.Settles.{FitsCall, SettleFault};
+ghost use Rattle.proxy_core.specs.Settles.{FitsCall, asked, SettleFault};
 ghost use Rattle.fresh_core.specs.Freshly.{IsNew, GoesFreshly, fed};
 ghost use Rattle.fresh_core.specs.Reloading.{LoadsFreshly, IsRefused};
 ghost use Rattle.fresh_core.specs.Results.{PollStops, SettlesFreshly, SettleStops};
 
 use fresh_gate::{Accepted, ReloadFault};
-use mc_types::Outcome;
+use mc_types::{Ask, Outcome};
 use proxy_core::{Core, CoreFault, Limits, Poll, Ticket};
 use route_json::Config;
 use route_tree::Tree;
@@ -90,6 +90,13 @@ impl FreshCore {
         ensures stops { IfErr result (λ fault. PollStops self.old client fault self.new) }
     {
         self.core.poll(client)
+    }
+
+    /// As `Core::asked`.
+    pub fn asked(&self, number: u64) -> Option<&Ask>
+        ensures { option_map (λ ask. ask.now) result ≡ asked self.now.core number }
+    {
+        self.core.asked(number)
     }
 
     /// As `Core::settle`.

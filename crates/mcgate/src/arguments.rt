@@ -5,6 +5,7 @@ ghost use Rattle.clap.specs.Values.{kind_of};
 ghost use Rattle.mcgate.specs.Stops.{arguments_fault_at};
 
 use crate::cache_words::{CacheJob, cache_command, cache_job};
+use crate::serve_words::{ServeJob, serve_command, serve_job};
 use clap::error::ErrorKind;
 use clap::{Arg, ArgAction, ArgMatches, Command, Error};
 use mc_types::{Key, KeyFault};
@@ -41,6 +42,8 @@ pub enum Job<'a> {
     },
     /// Be a cache server.
     Cache(CacheJob<'a>),
+    /// Serve a configuration over TCP.
+    Serve(ServeJob<'a>),
     /// Print this text.
     Print(&'static str),
 }
@@ -78,6 +81,8 @@ usage: mcgate check [--explain] [FILE]
                                      run a script, and print what each client gets
        mcgate where --config FILE KEY..
                                      print where keys live in the tree of a configuration
+       mcgate serve --config FILE --listen HOST:PORT
+                                     serve a configuration that the gate accepts, between clients and servers
        mcgate cache --listen HOST:PORT --capacity C
                                      be a memcached server of C items
        mcgate [WORD] --help          print this, or more of a word
@@ -185,7 +190,8 @@ fn command<'a>(alloc: Global) -> Result<Command<'a>, AllocError> {
         .subcommand(check_command(alloc)?)?
         .subcommand(replay_command(alloc)?)?
         .subcommand(where_command(alloc)?)?
-        .subcommand(cache_command(alloc)?)
+        .subcommand(cache_command(alloc)?)?
+        .subcommand(serve_command(alloc)?)
 }
 
 // What the words after `check` ask for.
@@ -276,6 +282,7 @@ pub fn read_arguments<'a>(
         Some(("check", given)) => Ok(check_job(given)),
         Some(("where", given)) => where_job(alloc, given),
         Some(("cache", given)) => cache_job(given),
+        Some(("serve", given)) => serve_job(given),
         Some((_, given)) => Ok(replay_job(given)),
         None => Ok(plain_job(&matches)),
     }

@@ -6,6 +6,8 @@ mod cache;
 mod cache_words;
 mod input;
 mod program;
+mod serve;
+mod serve_words;
 #[cfg(test)]
 mod tests;
 
@@ -14,6 +16,8 @@ use cache::serve_cache;
 use config_check::status::{BAD_INPUT, DONE};
 use input::{InputFault, fault_of, read_input};
 use program::{Stop, end_of, read_configuration, run_events, run_input, run_keys};
+use serve::{Judged, read_and_judge, serve};
+use serve_words::ServeJob;
 use std::fs::File;
 use std::io;
 use std::io::{BufWriter, ErrorKind, Write};
@@ -62,6 +66,18 @@ fn run_over<R: Files + Input + AllocGlobal, W: Write>(
     }
 }
 
+/// Serves what a job names, or prints why it isn't served.
+fn run_serve<R: Files + Input + AllocGlobal + Net + Clock + Eprint, W: Write>(
+    rt: &R,
+    job: ServeJob<'_>,
+    out: &mut W,
+) -> Result<u8, Stop> {
+    match read_and_judge(rt.alloc(), text_of(rt, Some(job.file)), out)? {
+        Judged::Printed(status) => Ok(status),
+        Judged::Accepted(accepted) => serve(rt, job, accepted),
+    }
+}
+
 /// Runs what the arguments ask for, and answers the exit status.
 fn run<R: Files + Input + AllocGlobal + Env + Net + Clock + Eprint, W: Write>(
     rt: &R,
@@ -73,6 +89,7 @@ fn run<R: Files + Input + AllocGlobal + Env + Net + Clock + Eprint, W: Write>(
         Job::RunOver { any, config, file } => run_over(rt, any, config, file, out),
         Job::Where { file, keys } => run_keys(rt.alloc(), &keys, text_of(rt, Some(file)), out),
         Job::Cache(job) => serve_cache(rt, job),
+        Job::Serve(job) => run_serve(rt, job, out),
         Job::Print(text) => {
             out.write_all(text.as_bytes())?;
             Ok(DONE)

@@ -136,8 +136,8 @@ fn run_text<W: Write>(alloc: Global, task: Task, text: &str, out: &mut W) -> Res
     }
 }
 
-// Prints why an input was not taken, unless memory or a device failed.
-fn decline<W: Write>(fault: InputFault, out: &mut W) -> Result<u8, Stop>
+/// Prints why an input was not taken, unless memory or a device failed.
+pub(crate) fn decline<W: Write>(fault: InputFault, out: &mut W) -> Result<u8, Stop>
     ensures { Declines fault (W.contents out.old) (W.contents out.new) result }
 {
     match fault {

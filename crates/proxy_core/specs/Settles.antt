@@ -1,6 +1,7 @@
 -- What changes in the core when the result of a call comes. Source: mcgate's own.
 use Rattle.std.specs.Prelude.{◌≡◌, ◌↔◌, ℕ, Bool, true, false, List, [], ◌∷◌, ◌++◌, map as each, not, Option, Some, None, if◌then◌else◌, nat_eq}
 use Rattle.indexmap.specs.IndexMap as map
+use Rattle.mc_types.specs.declared.ask.Ask.{Ask}
 use Rattle.mc_types.specs.declared.call.Outcome.{Outcome}
 use Rattle.mc_types.specs.declared.call.Origin.TheVariants.{Client as OfClient}
 use Rattle.mc_runs.specs.Run.{Call, End, outcome_of}
@@ -30,6 +31,15 @@ pub record TakesOutcome (a : Command) (outcome : Outcome) (b : Command) : Type 0
 -- the outcome fits the ask of this core's call of this number, if one is out
 abbrev pub FitsCall : Core → ℕ → Outcome → Type 0
 FitsCall core number outcome = (a : Command) → command_at core number ≡ Some a → has_call_out a ≡ true → FitsOutcome (ask_under a.job.frames.items a.job.ask) outcome
+
+-- what the command's call that is out asks
+abbrev pub asked_by : Option Command → Option Ask
+asked_by None = None
+asked_by (Some a) = if has_call_out a then Some (ask_under a.job.frames.items a.job.ask) else None
+
+-- what this core's call of this number asks, if one is out
+abbrev pub asked : Core → ℕ → Option Ask
+asked core number = asked_by (command_at core number)
 
 -- no call of this number is out
 abbrev pub HasNoCall : Core → ℕ → Type 0

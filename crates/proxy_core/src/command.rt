@@ -1,10 +1,10 @@
 //! A command that has begun and has not ended.
 
-ghost use Rattle.std.specs.Prelude.{◌≡◌, true, OnOk};
+ghost use Rattle.std.specs.Prelude.{◌≡◌, true, OnOk, Some, option_map};
 ghost use Rattle.mc_runs.specs.Single.{FitsOutcome};
 ghost use Rattle.route_job.specs.Rest.{ask_under};
 ghost use Rattle.proxy_core.specs.Standing.{has_call_out};
-ghost use Rattle.proxy_core.specs.Settles.{TakesOutcome};
+ghost use Rattle.proxy_core.specs.Settles.{TakesOutcome, asked_by};
 
 use mc_types::{Ask, Outcome};
 use route_job::{Job, Step};
@@ -31,6 +31,19 @@ impl Command {
                 Step::Call { .. } => true,
                 Step::Done(_) => false,
             }
+    }
+
+    /// What its call that is out asks, if one is. It takes no memory.
+    pub fn asked(&self) -> Option<&Ask>
+        ensures { option_map (λ ask. ask.now) result ≡ asked_by (Some self.now) }
+    {
+        if !self.is_out {
+            return None;
+        }
+        match self.job.next() {
+            Step::Call { ask, .. } => Some(ask),
+            Step::Done(_) => None,
+        }
     }
 
     /// The call that is out had this outcome. The only error: memory was refused, and its job is broken then.

@@ -1,14 +1,14 @@
 //! The result of a call of a server comes.
 
-ghost use Rattle.std.specs.Prelude.{◌≡◌, OnOk, IfErr};
+ghost use Rattle.std.specs.Prelude.{◌≡◌, OnOk, IfErr, option_map};
 ghost use Rattle.proxy_core.specs.Standing.{client_at, dropped_by};
-ghost use Rattle.proxy_core.specs.Settles.{FitsCall, TakesOut, Settles, SettleFault};
+ghost use Rattle.proxy_core.specs.Settles.{FitsCall, asked, TakesOut, Settles, SettleFault};
 
 use crate::fault::CoreFault;
 use crate::freeing::remove;
 use crate::proxy::Core;
 use crate::ticket::Ticket;
-use mc_types::Outcome;
+use mc_types::{Ask, Outcome};
 
 fn forget(_outcome: Outcome) {}
 
@@ -30,6 +30,16 @@ impl Core {
         remove(number, &mut self.commands);
         if let Some(x) = self.clients.get_mut(client) {
             x.dropped = true;
+        }
+    }
+
+    /// What the call of this number asks that is out in this core; `None` where none is out. It takes no memory.
+    pub fn asked(&self, number: u64) -> Option<&Ask>
+        ensures { option_map (λ ask. ask.now) result ≡ asked self.now number }
+    {
+        match self.commands.get(&number) {
+            None => None,
+            Some(command) => command.asked(),
         }
     }
 

@@ -1,0 +1,130 @@
+-- An ask that passes the test is one that a client can write.
+use Rattle.std.proofs.Common.{◌≡◌, ℕ, true, false, cond, List, Option, Some, None, refl, subst}
+use Rattle.std.specs.Prelude.{Bool, Result, Ok, Err, is_some, length, nat_lt, position, ◌==◌, ◌&&◌}
+use Rattle.std.proofs.lemmas.List.{nil_from_length}
+use Rattle.std.proofs.lemmas.Bool.{eqb-true, and_parts}
+use Rattle.mc_types.specs.Fault.{read_key, read_bytes}
+use Rattle.mc_types.specs.KeyText.{IsKey, is_bad_byte}
+use Rattle.mc_types.specs.declared.key.KeyFault.TheVariants.{Empty, TooLong}
+use Rattle.mc_types.specs.declared.limits.TheConstants.{KEY_LIMIT}
+use Rattle.mc_types.specs.Tokens.{Letter, LetterC, LetterF, LetterK, LetterS, LetterT, LetterV, LetterO, same_letter, are_served}
+use Rattle.mc_types.specs.Asks.{AreInRange, Presence, Absent, Optional, Required, Shape, FlagIs, NumberIs, OptionIs, BytesAre, HasShape, HasShapeOf, shape_of, IsAsk}
+use Rattle.mc_types.specs.declared.ask.Ask.{Ask}
+use Rattle.link_calls.specs.Asks.{place_of, flag_is, number_is, some_is, has_shape, has_shape_of}
+
+flag_ok : (p : Presence) (flag : Bool) → flag_is p flag ≡ true → FlagIs p flag
+flag_ok Absent true e = absurd cc
+flag_ok Absent false e = refl
+flag_ok Optional flag e = tt
+flag_ok Required flag e = tt
+
+number_ok : (p : Presence) (n : ℕ) → number_is p n ≡ true → NumberIs p n
+number_ok Absent n e = eqb-true n 0 e
+number_ok Optional n e = tt
+number_ok Required n e = tt
+
+some_ok : {A : Type 0} (p : Presence) (o : Option A) → some_is p (is_some o) ≡ true → OptionIs p o
+some_ok Absent None e = refl
+some_ok Absent (Some x) e = absurd cc
+some_ok Optional o e = tt
+some_ok Required o e = e
+
+bytes_ok : (p : Presence) (bytes : List ℕ) → number_is p (length bytes) ≡ true → BytesAre p bytes
+bytes_ok Absent bytes e = nil_from_length bytes (eqb-true (length bytes) 0 e)
+bytes_ok Optional bytes e = tt
+bytes_ok Required bytes e = tt
+
+shape_ok : (ask : Ask) (shape : Shape) → has_shape ask shape ≡ true → HasShape ask shape
+shape_ok ask shape e =
+    let a = and_parts (flag_is shape.with_cas ask.with_cas) (number_is shape.flags ask.flags && (some_is shape.exptime (is_some ask.exptime) && (number_is shape.body (length ask.body) && (some_is shape.cas (is_some ask.cas) && (number_is shape.delta ask.delta && are_served shape.served ask.tokens))))) e in
+    let b = and_parts (number_is shape.flags ask.flags) (some_is shape.exptime (is_some ask.exptime) && (number_is shape.body (length ask.body) && (some_is shape.cas (is_some ask.cas) && (number_is shape.delta ask.delta && are_served shape.served ask.tokens)))) a.1 in
+    let c = and_parts (some_is shape.exptime (is_some ask.exptime)) (number_is shape.body (length ask.body) && (some_is shape.cas (is_some ask.cas) && (number_is shape.delta ask.delta && are_served shape.served ask.tokens))) b.1 in
+    let d = and_parts (number_is shape.body (length ask.body)) (some_is shape.cas (is_some ask.cas) && (number_is shape.delta ask.delta && are_served shape.served ask.tokens)) c.1 in
+    let f = and_parts (some_is shape.cas (is_some ask.cas)) (number_is shape.delta ask.delta && are_served shape.served ask.tokens) d.1 in
+    let g = and_parts (number_is shape.delta ask.delta) (are_served shape.served ask.tokens) f.1 in
+    record {
+      with_cas = flag_ok shape.with_cas ask.with_cas a.0;
+      flags = number_ok shape.flags ask.flags b.0;
+      exptime = some_ok shape.exptime ask.exptime c.0;
+      body = bytes_ok shape.body ask.body d.0;
+      cas = some_ok shape.cas ask.cas f.0;
+      delta = number_ok shape.delta ask.delta g.0;
+      tokens = g.1;
+    }
+
+shape_of_ok : (ask : Ask) (shape : Option Shape) → has_shape_of ask shape ≡ true → HasShapeOf ask shape
+shape_of_ok ask None e = absurd cc
+shape_of_ok ask (Some shape) e = shape_ok ask shape e
+
+pub ask_is : (ask : Ask) → IsKey ask.key → AreInRange ask → has_shape_of ask (shape_of ask.dialect ask.op) ≡ true → IsAsk ask
+ask_is ask key ranges e = record { key = key; ranges = ranges; shape = shape_of_ok ask (shape_of ask.dialect ask.op) e }
+
+not_err : {A B : Type 0} (b : Bool) (fault : B) (rest : Result A B) (x : A) → cond b (Err fault) rest ≡ Ok x → rest ≡ Ok x
+not_err true fault rest x e = absurd cc
+not_err false fault rest x e = e
+
+bytes_are : (text key : List ℕ) (at : Option ℕ) → read_bytes text at ≡ Ok key → key ≡ text
+bytes_are text key None e = cc
+bytes_are text key (Some at) e = absurd cc
+
+-- what was read as a key is the text
+pub read_is : (text key : List ℕ) → read_key text ≡ Ok key → key ≡ text
+read_is text key e =
+    bytes_are text key (position is_bad_byte text)
+    (not_err (nat_lt KEY_LIMIT (length text)) TooLong (read_bytes text (position is_bad_byte text)) key
+    (not_err (length text == 0) Empty (cond (nat_lt KEY_LIMIT (length text)) (Err TooLong) (read_bytes text (position is_bad_byte text))) key e))
+
+pub key_is : (text key : List ℕ) → read_key text ≡ Ok key → IsKey key → IsKey text
+key_is text key e is = subst IsKey (read_is text key e) is
+
+-- letters are the same where their places are
+pub place_same : (a b : Letter) → (place_of a == place_of b) ≡ same_letter a b
+place_same LetterC LetterC = refl
+place_same LetterC LetterF = refl
+place_same LetterC LetterK = refl
+place_same LetterC LetterS = refl
+place_same LetterC LetterT = refl
+place_same LetterC LetterV = refl
+place_same LetterC LetterO = refl
+place_same LetterF LetterC = refl
+place_same LetterF LetterF = refl
+place_same LetterF LetterK = refl
+place_same LetterF LetterS = refl
+place_same LetterF LetterT = refl
+place_same LetterF LetterV = refl
+place_same LetterF LetterO = refl
+place_same LetterK LetterC = refl
+place_same LetterK LetterF = refl
+place_same LetterK LetterK = refl
+place_same LetterK LetterS = refl
+place_same LetterK LetterT = refl
+place_same LetterK LetterV = refl
+place_same LetterK LetterO = refl
+place_same LetterS LetterC = refl
+place_same LetterS LetterF = refl
+place_same LetterS LetterK = refl
+place_same LetterS LetterS = refl
+place_same LetterS LetterT = refl
+place_same LetterS LetterV = refl
+place_same LetterS LetterO = refl
+place_same LetterT LetterC = refl
+place_same LetterT LetterF = refl
+place_same LetterT LetterK = refl
+place_same LetterT LetterS = refl
+place_same LetterT LetterT = refl
+place_same LetterT LetterV = refl
+place_same LetterT LetterO = refl
+place_same LetterV LetterC = refl
+place_same LetterV LetterF = refl
+place_same LetterV LetterK = refl
+place_same LetterV LetterS = refl
+place_same LetterV LetterT = refl
+place_same LetterV LetterV = refl
+place_same LetterV LetterO = refl
+place_same LetterO LetterC = refl
+place_same LetterO LetterF = refl
+place_same LetterO LetterK = refl
+place_same LetterO LetterS = refl
+place_same LetterO LetterT = refl
+place_same LetterO LetterV = refl
+place_same LetterO LetterO = refl

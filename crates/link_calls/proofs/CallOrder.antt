@@ -1,0 +1,53 @@
+-- What an answer that was read says of the core's call.
+use Rattle.std.proofs.Common.{◌≡◌, ℕ, true, cond, List, [], ◌∷◌, Option, Some, None, refl, sym, ap, ◌∙◌, subst}
+use Rattle.mc_types.specs.Asks.{IsAsk}
+use Rattle.mc_types.specs.Fits.{Fits}
+use Rattle.mc_types.specs.declared.ask.Ask.{Ask}
+use Rattle.mc_types.specs.declared.answer.Answer.{Answer}
+use Rattle.mc_types.specs.declared.call.Outcome.{Outcome}
+use Rattle.mc_types.specs.declared.call.Outcome.TheVariants.{Answered}
+use Rattle.text_answers.specs.Laws.{SpelledAnswersFit}
+use Rattle.text_answers.specs.Reading.{Reads}
+use Rattle.text_answers.specs.declared.reader.AnswerRead.{AnswerRead}
+use Rattle.text_answers.specs.declared.reader.AnswerRead.TheVariants as reads
+use Rattle.route_job.specs.Rest.{ask_under}
+use Rattle.proxy_core.specs.declared.command.Command.{Command}
+use Rattle.proxy_core.specs.declared.proxy.Core.{Core}
+use Rattle.proxy_core.specs.Standing.{has_call_out}
+use Rattle.proxy_core.specs.Settles.{FitsCall, asked, asked_by}
+use Rattle.fresh_core.specs.declared.fresh.FreshCore.{FreshCore}
+use Rattle.link_calls.specs.declared.calls.SentCall.{SentCall}
+use Rattle.link_calls.specs.Calls.{IsReadFor, IsReadNext, IsSettled, first_number, FitsFirst, SettlesFirst}
+
+pub read_for : SpelledAnswersFit → (ask : Ask) (bytes : List ℕ) (read : AnswerRead) → IsAsk ask → Reads ask bytes read → IsReadFor ask bytes read
+read_for fit ask bytes (reads.Answer answer used) is spells = (spells, fit ask bytes answer used is spells)
+read_for fit ask bytes reads.More is more = more.0
+read_for fit ask bytes reads.Foreign is bad = tt
+
+same_ask : {x y : Ask} → ◌≡◌ {A = Option Ask} (Some x) (Some y) → x ≡ y
+same_ask e = cc
+
+out_ask : (a : Command) (ask : Ask) → asked_by (Some a) ≡ Some ask → has_call_out a ≡ true → ask ≡ ask_under a.job.frames.items a.job.ask
+out_ask a ask e out = same_ask (sym e ∙ ap (λ b. cond b (Some (ask_under a.job.frames.items a.job.ask)) None) out)
+
+fits_call : (core : Core) (number : ℕ) (ask : Ask) (answer : Answer) → asked core number ≡ Some ask → Fits ask answer → FitsCall core number (Answered answer)
+fits_call core number ask answer e fits =
+    λ a was out. subst (λ x. Fits x answer) (out_ask a ask (sym (ap asked_by was) ∙ e) out) fits
+
+pub read_next : (core : Core) (number : ℕ) (bytes : List ℕ) (ask : Ask) (read : AnswerRead) → asked core number ≡ Some ask → IsReadFor ask bytes read → IsReadNext core number bytes read
+read_next core number bytes ask (reads.Answer answer used) e is = (ask, e, is.0, fits_call core number ask answer e is.1)
+read_next core number bytes ask reads.More e is = (ask, e, is)
+read_next core number bytes ask reads.Foreign e is = tt
+
+pub fits_first : (sent : List SentCall) (core : Core) (number : ℕ) (outcome : Outcome) → first_number sent ≡ Some number → FitsCall core number outcome → FitsFirst sent core outcome
+fits_first [] core number outcome e fits = tt
+fits_first (call ∷ sent) core number outcome e fits = subst (λ n. FitsCall core n outcome) (same_number (sym e)) fits
+  where
+    same_number : {m n : ℕ} → ◌≡◌ {A = Option ℕ} (Some m) (Some n) → m ≡ n
+    same_number e = cc
+
+pub popped : (old new : List SentCall) (call : SentCall) (core core' : FreshCore) (outcome : Outcome) → old ≡ call ∷ new → IsSettled core call.ticket.number outcome core' → SettlesFirst old core outcome (Some call.client) new core'
+popped old new call core core' outcome e settled = subst (λ xs. SettlesFirst xs core outcome (Some call.client) new core') (sym e) (refl, refl, settled)
+
+pub fits_popped : (old new : List SentCall) (call : SentCall) (core : Core) (outcome : Outcome) → old ≡ call ∷ new → FitsFirst old core outcome → FitsCall core call.ticket.number outcome
+fits_popped old new call core outcome e fits = subst (λ xs. FitsFirst xs core outcome) e fits

@@ -1,0 +1,2 @@
+pub mod AskTest
+pub mod CallOrder

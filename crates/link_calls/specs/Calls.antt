@@ -1,0 +1,72 @@
+-- What is done with the calls of one server that are out. Source: mcgate's own.
+use Rattle.std.specs.Prelude.{◌≡◌, ℕ, List, [], ◌∷◌, Option, Some, None, ◌⊎◌}
+use Rattle.mc_types.specs.Fits.{Fits}
+use Rattle.mc_types.specs.declared.ask.Ask.{Ask}
+use Rattle.mc_types.specs.declared.answer.Answer.{Answer}
+use Rattle.mc_types.specs.declared.call.Outcome.{Outcome}
+use Rattle.mc_types.specs.declared.call.Outcome.TheVariants.{Answered}
+use Rattle.text_answers.specs.Reading.{Spells, IsCut}
+use Rattle.text_answers.specs.declared.reader.AnswerRead.{AnswerRead}
+use Rattle.text_answers.specs.declared.reader.AnswerRead.TheVariants as reads
+use Rattle.proxy_core.specs.declared.fault.CoreFault.{CoreFault}
+use Rattle.proxy_core.specs.declared.proxy.Core.{Core}
+use Rattle.proxy_core.specs.Settles.{FitsCall, asked}
+use Rattle.fresh_core.specs.declared.fresh.FreshCore.{FreshCore}
+use Rattle.fresh_core.specs.Results.{SettlesFreshly, SettleStops}
+use Rattle.link_calls.specs.declared.calls.SentCall.{SentCall}
+use Rattle.link_calls.specs.declared.calls.Next.{Next}
+use Rattle.link_calls.specs.declared.calls.Next.TheVariants as nexts
+
+-- the core went on by this call's outcome, also where memory was refused; a call that isn't out changes nothing
+abbrev pub IsSettled : FreshCore → ℕ → Outcome → FreshCore → Type 0
+IsSettled core number outcome core' = SettlesFreshly core number outcome core' ⊎ ((fault : CoreFault) × SettleStops core number outcome fault core')
+
+-- what was read is the answer to the ask, or the bytes are cut before its end
+abbrev pub IsReadFor : Ask → List ℕ → AnswerRead → Type 0
+IsReadFor ask bytes (reads.Answer answer used) = Spells ask bytes answer used × Fits ask answer
+IsReadFor ask bytes reads.More = IsCut ask bytes
+IsReadFor ask bytes reads.Foreign = Unit {0}
+
+-- the same of what the core's call of this number asks
+abbrev pub IsReadNext : Core → ℕ → List ℕ → AnswerRead → Type 0
+IsReadNext core number bytes (reads.Answer answer used) = (ask : Ask) × (asked core number ≡ Some ask) × Spells ask bytes answer used × FitsCall core number (Answered answer)
+IsReadNext core number bytes reads.More = (ask : Ask) × (asked core number ≡ Some ask) × IsCut ask bytes
+IsReadNext core number bytes reads.Foreign = Unit {0}
+
+-- the number of the call that went out first
+abbrev pub first_number : List SentCall → Option ℕ
+first_number [] = None
+first_number (call ∷ sent) = Some call.ticket.number
+
+-- the outcome fits what the first call asks
+abbrev pub FitsFirst : List SentCall → Core → Outcome → Type 0
+FitsFirst [] core outcome = Unit {0}
+FitsFirst (call ∷ sent) core outcome = FitsCall core call.ticket.number outcome
+
+-- the first call had this outcome and is out no more, and the core went on by that alone; it was this client's
+abbrev pub SettlesFirst : List SentCall → FreshCore → Outcome → Option ℕ → List SentCall → FreshCore → Type 0
+SettlesFirst [] core outcome client sent core' = (client ≡ None) × (sent ≡ []) × (core' ≡ core)
+SettlesFirst (call ∷ rest) core outcome client sent core' = (client ≡ Some call.client) × (sent ≡ rest) × IsSettled core call.ticket.number outcome core'
+
+-- the bytes begin with this answer to the first call
+pub record AnswersFirst (sent : List SentCall) (bytes : List ℕ) (core : Core) (answer : Answer) (used : ℕ) : Type 0 where
+  pub number : ℕ
+  pub is_first : first_number sent ≡ Some number
+  pub ask : Ask
+  pub asks : asked core number ≡ Some ask
+  pub spells : Spells ask bytes answer used
+
+-- the bytes are cut before the end of the first call's answer
+pub record AwaitsFirst (sent : List SentCall) (bytes : List ℕ) (core : Core) : Type 0 where
+  pub number : ℕ
+  pub is_first : first_number sent ≡ Some number
+  pub ask : Ask
+  pub asks : asked core number ≡ Some ask
+  pub cut : IsCut ask bytes
+
+-- the first call is settled by its answer, which the bytes begin with, or nothing is done
+abbrev pub SettlesNext : List SentCall → List ℕ → FreshCore → Next → List SentCall → FreshCore → Type 0
+SettlesNext sent bytes core (nexts.Settled client used) sent' core' =
+    (answer : Answer) × AnswersFirst sent bytes core.core answer used × SettlesFirst sent core (Answered answer) (Some client) sent' core'
+SettlesNext sent bytes core nexts.More sent' core' = AwaitsFirst sent bytes core.core × (sent' ≡ sent) × (core' ≡ core)
+SettlesNext sent bytes core nexts.Foreign sent' core' = (sent' ≡ sent) × (core' ≡ core)

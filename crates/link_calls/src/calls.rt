@@ -1,0 +1,196 @@
+//! The calls of one server that are out, the one that went out first in front.
+
+ghost use Rattle.std.specs.Prelude.{◌≡◌, [], ◌∷◌, ◌++◌, OnOk, IfErr, length, option_map};
+ghost use Rattle.mc_types.specs.Asks.{IsAsk};
+ghost use Rattle.client_requests.specs.Spelling.{spelling_of};
+ghost use Rattle.proxy_core.specs.Settles.{FitsCall};
+ghost use Rattle.link_calls.specs.Calls.{IsSettled, IsReadFor, IsReadNext, first_number, FitsFirst, SettlesFirst, SettlesNext};
+ghost use Rattle.mc_types.specs.declared.call.Outcome.TheVariants.{Failed};
+
+use crate::asks::is_ask;
+use bytes::BytesMut;
+use fresh_core::FreshCore;
+use mc_types::{Ask, Outcome};
+use proxy_core::Ticket;
+use std::alloc::{AllocFailed, Global};
+use std::collections::VecDeque;
+use text_answers::laws::spelled_answers_fit;
+use text_codec::{AnswerRead, read_answer, write_ask};
+
+/// A call that went out to a server.
+#[derive(Drop)]
+pub struct SentCall {
+    pub ticket: Ticket,
+    /// Whose command it is.
+    pub client: usize,
+    /// When it began, in milliseconds.
+    pub since: u64,
+}
+
+/// What was done with a server's bytes.
+#[derive(Clone, Copy)]
+pub enum Next {
+    /// The first call of those that are out was settled: it was this client's, and its answer so many bytes.
+    Settled { client: usize, used: usize },
+    /// Its answer isn't whole yet.
+    More,
+    /// No answer to it begins so, or none is out, or memory was refused for it.
+    Foreign,
+}
+
+/// The calls of one server that are out, in the order in which they went out.
+#[derive(Drop)]
+pub struct LinkCalls {
+    alloc: Global,
+    sent: VecDeque<SentCall>,
+}
+
+// The call that is out had this outcome, also where memory was refused for what comes of it.
+fn settle(core: &mut FreshCore, ticket: Ticket, outcome: Outcome)
+    requires { FitsCall core.old.core ticket.number outcome }
+    ensures { IsSettled core.old ticket.number outcome core.new }
+{
+    match core.settle(ticket, outcome) {
+        Ok(()) => {}
+        Err(_) => {}
+    }
+}
+
+/// A call that could not go out has failed.
+pub fn fail_call(core: &mut FreshCore, ticket: Ticket)
+    ensures { IsSettled core.old ticket.number Failed core.new }
+{
+    settle(core, ticket, Outcome::Failed);
+}
+
+// What the bytes say to the ask.
+#[tactic(auto, using(crate::proofs::CallOrder::read_for))]
+fn read_for(alloc: Global, ask: &Ask, bytes: &[u8]) -> AnswerRead
+    ensures { IsReadFor ask.now bytes.now result }
+{
+    spelled_answers_fit();
+    if !is_ask(ask) {
+        return AnswerRead::Foreign;
+    }
+    match read_answer(alloc, ask, bytes) {
+        Ok(read) => read,
+        Err(_) => AnswerRead::Foreign,
+    }
+}
+
+// What they say to the core's call of this number.
+#[tactic(auto, using(crate::proofs::CallOrder::read_next))]
+fn read_next(alloc: Global, core: &FreshCore, number: u64, bytes: &[u8]) -> AnswerRead
+    ensures { IsReadNext core.now.core number bytes.now result }
+{
+    match core.asked(number) {
+        None => AnswerRead::Foreign,
+        Some(ask) => read_for(alloc, ask, bytes),
+    }
+}
+
+impl LinkCalls {
+    /// No call is out. It takes no memory.
+    pub fn new(alloc: Global) -> LinkCalls {
+        LinkCalls {
+            alloc,
+            sent: VecDeque::new(alloc),
+        }
+    }
+
+    /// How many calls are out.
+    pub fn len(&self) -> usize {
+        self.sent.len()
+    }
+
+    /// Whether none is out.
+    pub fn is_empty(&self) -> bool {
+        self.sent.is_empty()
+    }
+
+    /// When the first of those that are out began.
+    pub fn oldest(&self) -> Option<u64> {
+        match self.sent.front() {
+            Some(call) => Some(call.since),
+            None => None,
+        }
+    }
+
+    // The number of the call that went out first.
+    fn first_number(&self) -> Option<u64>
+        ensures { result ≡ first_number self.now.sent.items }
+    {
+        match self.sent.front() {
+            None => None,
+            Some(call) => Some(call.ticket.number),
+        }
+    }
+
+    /// The call's ask is written behind what is to be sent, and the call is behind those that are out.
+    ///
+    /// Where memory was refused the call is given back, and nothing has changed.
+    ///
+    /// Source: mcgate's own.
+    pub fn begin(&mut self, call: SentCall, out: &mut BytesMut) -> Result<(), SentCall>
+        ensures ok { OnOk result ((self.new.sent.items ≡ self.old.sent.items ++ call ∷ []) × (out.new.items ≡ out.old.items ++ spelling_of call.ticket.ask)) }
+        ensures err { IfErr result (λ given. (given ≡ call) × (self.new.sent.items ≡ self.old.sent.items) × (out.new.items ≡ out.old.items)) }
+    {
+        let len = out.len();
+        if !is_ask(&call.ticket.ask) || write_ask(&call.ticket.ask, out).is_err() {
+            return Err(call);
+        }
+        match self.sent.push_back(call) {
+            Ok(()) => Ok(()),
+            Err(AllocFailed { value }) => {
+                out.truncate(len);
+                Err(value)
+            }
+        }
+    }
+
+    // The first call had this outcome: whose it was.
+    #[tactic(auto, using(crate::proofs::CallOrder::popped, crate::proofs::CallOrder::fits_popped))]
+    fn settle_first(&mut self, core: &mut FreshCore, outcome: Outcome) -> Option<usize>
+        requires { FitsFirst self.old.sent.items core.old.core outcome }
+        ensures { SettlesFirst self.old.sent.items core.old outcome result self.new.sent.items core.new }
+    {
+        match self.sent.pop_front() {
+            None => None,
+            Some(call) => {
+                let client = call.client;
+                settle(core, call.ticket, outcome);
+                Some(client)
+            }
+        }
+    }
+
+    /// The first of the calls that are out is settled by its answer, where the bytes begin with one: nothing else is, and the core
+    /// goes on by that alone. Without one nothing has changed.
+    ///
+    /// Source: mcgate's own.
+    #[tactic(auto, using(crate::proofs::CallOrder::fits_first))]
+    pub fn settle_next(&mut self, core: &mut FreshCore, bytes: &[u8]) -> Next
+        ensures { SettlesNext self.old.sent.items bytes.now core.old result self.new.sent.items core.new }
+    {
+        let Some(number) = self.first_number() else {
+            return Next::Foreign;
+        };
+        match read_next(self.alloc, core, number, bytes) {
+            AnswerRead::More => Next::More,
+            AnswerRead::Foreign => Next::Foreign,
+            AnswerRead::Answer(answer, used) => {
+                match self.settle_first(core, Outcome::Answered(answer)) {
+                    Some(client) => Next::Settled { client, used },
+                    None => unreachable!(),
+                }
+            }
+        }
+    }
+
+    /// The first of the calls that are out has failed, if one is: whose it was.
+    pub fn fail_next(&mut self, core: &mut FreshCore) -> Option<usize>
+        ensures { SettlesFirst self.old.sent.items core.old Failed result self.new.sent.items core.new }
+    {
+        self.settle_first(core, Outcome::Failed)
+    }
+}

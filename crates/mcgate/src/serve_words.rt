@@ -1,0 +1,113 @@
+//! The words of `mcgate serve`, and what they ask for.
+
+use crate::arguments::{ArgumentsFault, Job, help_flag};
+use clap::{Arg, ArgAction, ArgMatches, Command};
+use mc_text::number::number;
+use std::alloc::{AllocError, Global};
+use tcp_proxy::Settings;
+
+/// What `mcgate serve` is to do.
+#[derive(Clone, Copy)]
+pub struct ServeJob<'a> {
+    /// The file of the configuration.
+    pub file: &'a str,
+    /// Where to listen: a host and a port.
+    pub listen: &'a str,
+    pub settings: Settings,
+    /// After so many turns it ends; without a number it doesn't.
+    pub turns: Option<u64>,
+}
+
+pub const SERVE_HELP: &str = "usage: mcgate serve --config FILE --listen HOST:PORT [FLAG N ..]
+
+Reads a configuration in JSON, of FILE, and asks the gate. A tree that it accepts is served at HOST:PORT: what clients send goes
+to the configuration's servers, at their addresses. One line tells on standard error when it listens.
+  --clients N            at most so many clients at once, 1024 where it is left out
+  --client-window N      at most so many commands of one client without a shown reply, 32
+  --link-window N        at most so many calls out at one server, 256
+  --call-ms N            a call that takes longer than so many milliseconds has failed, 1000
+  --connect-ms N         so has a connection to a server that takes longer to stand, 1000
+  --retry-ms N           for so long no connection is tried after one that failed, 1000
+  --turns N              ends after so many turns; without it, it doesn't end
+A tree that the gate refuses isn't served, and its refused: line is printed.
+Exit status: 0 done, 1 refused by the gate, 2 bad arguments or no configuration, 3 memory or a device failed.
+";
+
+fn option<'a>(alloc: Global, name: &'static str) -> Arg<'a> {
+    Arg::new(alloc, name).long(name).action(ArgAction::Set)
+}
+
+/// The word and its flags.
+pub fn serve_command<'a>(alloc: Global) -> Result<Command<'a>, AllocError> {
+    Command::new(alloc, "serve")
+        .disable_help_flag(true)
+        .arg(help_flag(alloc))?
+        .arg(option(alloc, "config"))?
+        .arg(option(alloc, "listen"))?
+        .arg(option(alloc, "clients"))?
+        .arg(option(alloc, "client-window"))?
+        .arg(option(alloc, "link-window"))?
+        .arg(option(alloc, "call-ms"))?
+        .arg(option(alloc, "connect-ms"))?
+        .arg(option(alloc, "retry-ms"))?
+        .arg(option(alloc, "turns"))
+}
+
+// The number after a flag, if the flag stands there.
+fn number_of(given: &ArgMatches<'_>, name: &str) -> Result<Option<u64>, ArgumentsFault> {
+    match given.get_str(name) {
+        None => Ok(None),
+        Some(text) => match number(text.as_bytes()) {
+            Some(number) => Ok(Some(number)),
+            None => Err(ArgumentsFault::Refused),
+        },
+    }
+}
+
+// The number after a flag of something that there has to be one of.
+fn count_of(given: &ArgMatches<'_>, name: &str, usual: usize) -> Result<usize, ArgumentsFault> {
+    match number_of(given, name)? {
+        None => Ok(usual),
+        Some(0) => Err(ArgumentsFault::Refused),
+        Some(number) => match usize::try_from(number) {
+            Ok(count) => Ok(count),
+            Err(_) => Err(ArgumentsFault::Refused),
+        },
+    }
+}
+
+// The milliseconds after a flag.
+fn millis_of(given: &ArgMatches<'_>, name: &str, usual: u64) -> Result<u64, ArgumentsFault> {
+    match number_of(given, name)? {
+        None => Ok(usual),
+        Some(number) => Ok(number),
+    }
+}
+
+fn settings_of(given: &ArgMatches<'_>) -> Result<Settings, ArgumentsFault> {
+    let usual = Settings::usual();
+    Ok(Settings {
+        clients: count_of(given, "clients", usual.clients)?,
+        client_window: count_of(given, "client-window", usual.client_window)?,
+        link_window: count_of(given, "link-window", usual.link_window)?,
+        call_ms: millis_of(given, "call-ms", usual.call_ms)?,
+        connect_ms: millis_of(given, "connect-ms", usual.connect_ms)?,
+        retry_ms: millis_of(given, "retry-ms", usual.retry_ms)?,
+    })
+}
+
+/// What the words after `serve` ask for.
+pub fn serve_job<'a>(given: &ArgMatches<'a>) -> Result<Job<'a>, ArgumentsFault> {
+    if given.get_flag("help") {
+        return Ok(Job::Print(SERVE_HELP));
+    }
+    let (Some(file), Some(listen)) = (given.get_str("config"), given.get_str("listen")) else {
+        return Err(ArgumentsFault::Refused);
+    };
+    Ok(Job::Serve(ServeJob {
+        file,
+        listen,
+        settings: settings_of(given)?,
+        turns: number_of(given, "turns")?,
+    }))
+}

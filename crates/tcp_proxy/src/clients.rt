@@ -1,0 +1,197 @@
+//! The clients' ends, by their ids in the core, and which of them are to be served.
+
+use mio::net::TcpStream;
+use std::alloc::{AllocError, Global};
+use tcp_socket::{Conn, Limits, Ready, Sent};
+
+/// What is kept of a client, and for one that does not read it. Above the latter nothing is read of the client, and none of its
+/// commands begins.
+const LIMITS: Limits = Limits {
+    held: 1_048_576,
+    unsent: 1_048_576,
+};
+
+/// What the system told of a socket.
+pub fn note(conn: &mut Conn<TcpStream>, told: Ready) {
+    conn.readable = conn.readable || told.reads;
+    conn.writable = conn.writable || told.writes;
+    conn.closing = conn.closing || told.closes;
+}
+
+// So many writes are made at once at most.
+const WRITES: usize = 64;
+
+/// Sends what the connection takes. Whether it stands still.
+pub fn send(conn: &mut Conn<TcpStream>) -> bool {
+    for _ in 0..WRITES {
+        if !conn.writable {
+            return true;
+        }
+        match conn.send_once() {
+            Sent::Bytes => {}
+            Sent::Nothing => return true,
+            Sent::Failed => return false,
+        }
+    }
+    true
+}
+
+/// One client's end.
+#[derive(Drop)]
+pub struct Client {
+    pub conn: Conn<TcpStream>,
+    /// How many of its commands can go on since their calls were settled: so many polls begin none.
+    pub settled: usize,
+    /// It sends no more, or nothing more is read of it.
+    pub is_ended: bool,
+    pub is_ready: bool,
+    pub has_output: bool,
+    /// A command of it waits for a key or a server.
+    pub is_busy: bool,
+}
+
+impl Client {
+    /// A client that has just connected.
+    pub fn new(alloc: Global, stream: TcpStream) -> Client {
+        Client {
+            conn: Conn::new(alloc, stream, LIMITS),
+            settled: 0,
+            is_ended: false,
+            is_ready: false,
+            has_output: false,
+            is_busy: false,
+        }
+    }
+
+    /// Whether it takes what is shown to it.
+    pub fn has_room(&self) -> bool {
+        !self.conn.has_backlog()
+    }
+
+    /// Whether something may be read of it.
+    pub fn can_read(&self) -> bool {
+        self.conn.readable && !self.is_ended && self.conn.held.is_empty() && self.has_room()
+    }
+
+    /// One of its commands went on.
+    pub fn went_on(&mut self) {
+        self.settled = self.settled.saturating_sub(1);
+    }
+
+    /// Its connection is gone: what is still to be sent is lost.
+    pub fn break_off(&mut self) {
+        self.is_ended = true;
+        self.conn.held.clear();
+        self.conn.unsent.clear();
+    }
+}
+
+/// All clients. Each stands once at most in each list, for which memory was taken when it came: so no list runs out of it.
+#[derive(Drop)]
+pub struct Clients {
+    all: Vec<Option<Client>>,
+    pub ready: Vec<usize>,
+    pub with_output: Vec<usize>,
+    pub busy: Vec<usize>,
+}
+
+impl Clients {
+    /// No clients.
+    pub fn new(alloc: Global) -> Clients {
+        Clients {
+            all: Vec::new(alloc),
+            ready: Vec::new(alloc),
+            with_output: Vec::new(alloc),
+            busy: Vec::new(alloc),
+        }
+    }
+
+    /// The client of this id.
+    pub fn get_mut(&mut self, id: usize) -> Option<&mut Client> {
+        self.all.get_mut(id)?.as_mut()
+    }
+
+    /// There is one more, of this id.
+    pub fn insert(&mut self, id: usize, client: Client) -> Result<(), AllocError> {
+        for _ in 0..=id {
+            if id < self.all.len() {
+                break;
+            }
+            self.all.push(None)?;
+        }
+        if let Some(place) = self.all.get_mut(id) {
+            *place = Some(client);
+        }
+        self.mark_ready(id)
+    }
+
+    /// It is gone.
+    pub fn remove(&mut self, id: usize) {
+        if let Some(place) = self.all.get_mut(id) {
+            *place = None;
+        }
+    }
+
+    /// It is to be served.
+    pub fn mark_ready(&mut self, id: usize) -> Result<(), AllocError> {
+        let Some(client) = self.get_mut(id) else {
+            return Ok(());
+        };
+        if client.is_ready {
+            return Ok(());
+        }
+        client.is_ready = true;
+        self.ready.push(id)?;
+        Ok(())
+    }
+
+    /// It has something to send.
+    pub fn mark_output(&mut self, id: usize) -> Result<(), AllocError> {
+        let Some(client) = self.get_mut(id) else {
+            return Ok(());
+        };
+        if client.has_output {
+            return Ok(());
+        }
+        client.has_output = true;
+        self.with_output.push(id)?;
+        Ok(())
+    }
+
+    /// A command of it waits for a key or a server.
+    pub fn mark_busy(&mut self, id: usize) -> Result<(), AllocError> {
+        let Some(client) = self.get_mut(id) else {
+            return Ok(());
+        };
+        if client.is_busy {
+            return Ok(());
+        }
+        client.is_busy = true;
+        self.busy.push(id)?;
+        Ok(())
+    }
+
+    /// A call of it was settled.
+    pub fn mark_settled(&mut self, id: usize) -> Result<(), AllocError> {
+        if let Some(client) = self.get_mut(id) {
+            client.settled = client.settled.saturating_add(1);
+        }
+        self.mark_ready(id)
+    }
+
+    /// What the system told of its socket.
+    pub fn note(&mut self, id: usize, told: Ready) -> Result<(), AllocError> {
+        let Some(client) = self.get_mut(id) else {
+            return Ok(());
+        };
+        note(&mut client.conn, told);
+        let has_output = !client.conn.unsent.is_empty();
+        if told.reads {
+            self.mark_ready(id)?;
+        }
+        if told.writes && has_output {
+            self.mark_output(id)?;
+        }
+        Ok(())
+    }
+}

@@ -1,0 +1,11 @@
+//! The proxy over TCP, in one thread: clients on one side and servers on the other, and a core of accepted configurations
+//! between them.
+#![tactic(auto)]
+
+mod clients;
+mod link;
+mod proxy;
+mod settings;
+
+pub use proxy::ProxyEnd;
+pub use settings::Settings;

@@ -1,0 +1,697 @@
+//! The proxy's end, and its turns: what is ready is read, what was asked goes to the links and what was answered to the
+//! clients, and then each end that has something to send is written once.
+
+use crate::clients::{Client, Clients, note, send};
+use crate::link::Link;
+use crate::settings::Settings;
+use fresh_core::FreshCore;
+use fresh_gate::Accepted;
+use link_calls::{Next, SentCall, fail_call};
+use mio::net::{TcpListener, TcpStream};
+use mio::{Events, Poll, Token};
+use proxy_core::{CoreFault, Limits, Poll as Polled, Ticket};
+use std::alloc::{AllocError, Global};
+use std::io;
+use std::io::{ErrorKind, Write};
+use std::net::{Net, SocketAddr};
+use std::os::fd::AsRawFd;
+use std::rt::Clock;
+use std::time::{Duration, Instant};
+use tcp_socket::{Got, Ready, watch};
+
+const LISTENER: usize = 1_000_000_000_000;
+
+const LINKS: usize = 1_000_000_000;
+
+const CLIENT_READ: usize = 16_384;
+
+const LINK_READ: usize = 65_536;
+
+const HELD_LIMIT: usize = 2_097_152;
+// So many things are done for a client before the next one's turn.
+const POLLS: usize = 128;
+
+const ACCEPTS: usize = 64;
+
+/// The proxy's end.
+#[derive(Drop)]
+pub struct ProxyEnd {
+    alloc: Global,
+    core: FreshCore,
+    settings: Settings,
+    poll: Poll,
+    events: Events,
+    listener: TcpListener,
+    clients: Clients,
+    links: Vec<Link>,
+    ready_links: Vec<usize>,
+    links_with_output: Vec<usize>,
+    // The list that is being worked off, kept so that none is made anew each turn.
+    work: Vec<usize>,
+    start: Instant,
+    now: u64,
+    is_accepting: bool,
+    // Whether a key or a server became free since busy clients were served.
+    is_freed: bool,
+}
+
+// What a client's polls ended with.
+#[derive(Clone, Copy, PartialEq, Eq)]
+enum Rest {
+    // Nothing is left to do for it.
+    Idle,
+    // A reply is waited for.
+    Waiting,
+    // A key or a server is waited for.
+    Busy,
+    // It takes no more output.
+    Full,
+    // Its time is up.
+    More,
+}
+
+fn watch_stream(poll: &Poll, stream: &TcpStream, token: usize) -> io::Result<()> {
+    stream.set_nodelay(true)?;
+    watch(poll.registry(), stream.as_raw_fd(), token)
+}
+
+fn connect<N: Net>(
+    net: &N,
+    poll: &Poll,
+    address: SocketAddr,
+    token: usize,
+) -> io::Result<TcpStream> {
+    let stream = TcpStream::connect(net, address)?;
+    watch_stream(poll, &stream, token)?;
+    Ok(stream)
+}
+
+fn later(limit: Option<u64>, other: Option<u64>) -> Option<u64> {
+    match (limit, other) {
+        (Some(a), Some(b)) => Some(a.min(b)),
+        (Some(a), None) => Some(a),
+        (None, other) => other,
+    }
+}
+
+impl ProxyEnd {
+    /// Listens, and has no link yet: each is made when the first call is to go out on it.
+    pub fn new<R: Net + Clock + AllocGlobal>(
+        rt: &R,
+        listen: SocketAddr,
+        accepted: Accepted,
+        servers: &[SocketAddr],
+        settings: Settings,
+    ) -> io::Result<ProxyEnd> {
+        let alloc = rt.alloc();
+        let limits = Limits {
+            clients: settings.clients,
+            held: HELD_LIMIT,
+            depth: settings.client_window,
+            window: settings.link_window,
+        };
+        let core = FreshCore::new(alloc, accepted, limits)?;
+        let mut links = Vec::new(alloc);
+        for address in servers {
+            links.push(Link::new(alloc, *address))?;
+        }
+        let poll = Poll::new(rt)?;
+        let listener = TcpListener::bind(rt, listen)?;
+        watch(poll.registry(), listener.as_raw_fd(), LISTENER)?;
+        Ok(ProxyEnd {
+            alloc,
+            core,
+            settings,
+            poll,
+            events: Events::with_capacity(alloc, 1_024)?,
+            listener,
+            clients: Clients::new(alloc),
+            links,
+            ready_links: Vec::new(alloc),
+            links_with_output: Vec::new(alloc),
+            work: Vec::new(alloc),
+            start: Instant::now(rt)?,
+            now: 0,
+            is_accepting: true,
+            is_freed: false,
+        })
+    }
+
+    /// Where it listens.
+    pub fn local_addr(&self) -> io::Result<SocketAddr> {
+        self.listener.local_addr()
+    }
+
+    /// One turn: a wait until something is ready or late, and then all that is ready is done.
+    pub fn turn<R: Net + Clock>(&mut self, rt: &R) -> io::Result<()> {
+        self.wait(rt)?;
+        self.fail_late()?;
+        if self.is_accepting {
+            self.accept_some()?;
+        }
+        self.serve_links()?;
+        self.serve_clients(rt)?;
+        self.serve_busy(rt)?;
+        self.send_links()?;
+        self.send_clients()
+    }
+
+    fn look_at_clock<R: Clock>(&mut self, rt: &R) -> io::Result<()> {
+        let millis = self.start.elapsed(rt)?.as_millis();
+        self.now = u64::try_from(millis).unwrap_or(u64::MAX);
+        Ok(())
+    }
+
+    // Whether something is left to do.
+    fn has_work(&self) -> bool {
+        self.is_accepting
+            || !self.clients.ready.is_empty()
+            || !self.ready_links.is_empty()
+            || (self.is_freed && !self.clients.busy.is_empty())
+    }
+
+    // When the first link is late.
+    fn time_limit(&self) -> Option<u64> {
+        let mut first = None;
+        for link in self.links.as_slice() {
+            first = later(
+                first,
+                link.time_limit(self.settings.call_ms, self.settings.connect_ms),
+            );
+        }
+        first
+    }
+
+    fn wait_limit(&self) -> Option<Duration> {
+        if self.has_work() {
+            return Some(Duration::from_millis(0));
+        }
+        match self.time_limit() {
+            Some(limit) => Some(Duration::from_millis(
+                limit.saturating_sub(self.now).saturating_add(1),
+            )),
+            None => None,
+        }
+    }
+
+    fn wait<R: Clock>(&mut self, rt: &R) -> io::Result<()> {
+        self.look_at_clock(rt)?;
+        let limit = self.wait_limit();
+        self.poll.poll(&mut self.events, limit)?;
+        self.note_events()?;
+        self.look_at_clock(rt)
+    }
+
+    fn note_events(&mut self) -> io::Result<()> {
+        let none = Events::with_capacity(self.alloc, 0)?;
+        let events = std::mem::replace(&mut self.events, none);
+        for event in events.iter() {
+            let Token(token) = event.token();
+            let told = Ready::of(event);
+            if token == LISTENER {
+                self.is_accepting = true;
+            } else if token >= LINKS {
+                self.note_link(token - LINKS, told)?;
+            } else {
+                self.clients.note(token, told)?;
+            }
+        }
+        self.events = events;
+        Ok(())
+    }
+
+    fn note_link(&mut self, at: usize, told: Ready) -> Result<(), AllocError> {
+        let Some(link) = self.links.get_mut(at) else {
+            return Ok(());
+        };
+        let Some(conn) = link.conn.as_mut() else {
+            return Ok(());
+        };
+        note(conn, told);
+        if told.writes && !told.closes {
+            link.is_connected = true;
+        }
+        if told.reads {
+            self.mark_link_ready(at)?;
+        }
+        if told.writes {
+            self.mark_link_output(at)?;
+        }
+        Ok(())
+    }
+
+    fn mark_link_ready(&mut self, at: usize) -> Result<(), AllocError> {
+        if let Some(link) = self.links.get_mut(at) {
+            if !link.is_ready {
+                link.is_ready = true;
+                self.ready_links.push(at)?;
+            }
+        }
+        Ok(())
+    }
+
+    fn mark_link_output(&mut self, at: usize) -> Result<(), AllocError> {
+        if let Some(link) = self.links.get_mut(at) {
+            if !link.has_output {
+                link.has_output = true;
+                self.links_with_output.push(at)?;
+            }
+        }
+        Ok(())
+    }
+
+    // The link's calls have all failed, and it has no connection.
+    fn fail_link(&mut self, at: usize) -> Result<(), AllocError> {
+        let Some(link) = self.links.get_mut(at) else {
+            return Ok(());
+        };
+        link.close(self.now, self.settings.retry_ms);
+        self.is_freed = true;
+        for _ in 0..link.calls.len() {
+            if let Some(client) = link.calls.fail_next(&mut self.core) {
+                self.clients.mark_settled(client)?;
+            }
+        }
+        Ok(())
+    }
+
+    fn is_late(&self, at: usize) -> bool {
+        match self.links.get(at) {
+            Some(link) => match link.time_limit(self.settings.call_ms, self.settings.connect_ms) {
+                Some(limit) => limit < self.now,
+                None => false,
+            },
+            None => false,
+        }
+    }
+
+    fn fail_late(&mut self) -> Result<(), AllocError> {
+        for at in 0..self.links.len() {
+            if self.is_late(at) {
+                self.fail_link(at)?;
+            }
+        }
+        Ok(())
+    }
+
+    fn accept_some(&mut self) -> io::Result<()> {
+        for _ in 0..ACCEPTS {
+            match self.listener.accept() {
+                Ok((stream, _)) => self.take_client(stream)?,
+                Err(_) => {
+                    self.is_accepting = false;
+                    return Ok(());
+                }
+            }
+        }
+        Ok(())
+    }
+
+    // A client came: it is one more, or is told that there are too many.
+    fn take_client(&mut self, stream: TcpStream) -> io::Result<()> {
+        let mut stream = stream;
+        match self.core.open_client() {
+            Ok(id) => {
+                if watch_stream(&self.poll, &stream, id).is_err() {
+                    let _ = self.core.close(id);
+                    return Ok(());
+                }
+                self.clients.insert(id, Client::new(self.alloc, stream))?;
+                Ok(())
+            }
+            Err(_) => {
+                let _ = stream.write(b"SERVER_ERROR too many clients\r\n".as_slice());
+                Ok(())
+            }
+        }
+    }
+
+    // One read, and all whole answers are settled. Whether the link is kept.
+    fn read_link(&mut self, at: usize) -> io::Result<bool> {
+        let Some(link) = self.links.get_mut(at) else {
+            return Ok(true);
+        };
+        let Some(conn) = link.conn.as_mut() else {
+            return Ok(true);
+        };
+        if !conn.readable {
+            return Ok(true);
+        }
+        match conn.read_once(LINK_READ)? {
+            Got::Nothing => Ok(true),
+            Got::Ended | Got::Failed | Got::Full => Ok(false),
+            Got::Bytes => {
+                link.is_connected = true;
+                self.settle_all(at)
+            }
+        }
+    }
+
+    // All whole answers are settled. Whether the link is kept.
+    fn settle_all(&mut self, at: usize) -> io::Result<bool> {
+        let Some(link) = self.links.get_mut(at) else {
+            return Ok(true);
+        };
+        let Some(conn) = link.conn.as_mut() else {
+            return Ok(true);
+        };
+        let mut used = 0usize;
+        let mut is_kept = true;
+        for _ in 0..conn.held.len() {
+            let rest = conn.held.as_slice().get(used..).unwrap_or(b"".as_slice());
+            if rest.is_empty() {
+                break;
+            }
+            match link.calls.settle_next(&mut self.core, rest) {
+                Next::Settled { client, used: len } => {
+                    used = used.saturating_add(len);
+                    self.is_freed = true;
+                    self.clients.mark_settled(client)?;
+                }
+                Next::More => break,
+                Next::Foreign => {
+                    is_kept = false;
+                    break;
+                }
+            }
+        }
+        conn.held.advance(used.min(conn.held.len()));
+        Ok(is_kept)
+    }
+
+    fn serve_link(&mut self, at: usize) -> io::Result<()> {
+        if !self.read_link(at)? {
+            return Ok(self.fail_link(at)?);
+        }
+        let is_more = match self.links.get(at) {
+            Some(link) => match &link.conn {
+                Some(conn) => conn.readable,
+                None => false,
+            },
+            None => false,
+        };
+        if is_more {
+            self.mark_link_ready(at)?;
+        }
+        Ok(())
+    }
+
+    fn serve_links(&mut self) -> io::Result<()> {
+        std::mem::swap(&mut self.work, &mut self.ready_links);
+        for i in 0..self.work.len() {
+            if let Some(at) = self.work.get(i) {
+                let at = *at;
+                if let Some(link) = self.links.get_mut(at) {
+                    link.is_ready = false;
+                }
+                self.serve_link(at)?;
+            }
+        }
+        self.work.clear();
+        Ok(())
+    }
+
+    fn serve_clients<N: Net>(&mut self, net: &N) -> io::Result<()> {
+        std::mem::swap(&mut self.work, &mut self.clients.ready);
+        for i in 0..self.work.len() {
+            if let Some(id) = self.work.get(i) {
+                let id = *id;
+                if let Some(client) = self.clients.get_mut(id) {
+                    client.is_ready = false;
+                }
+                self.serve_client(net, id)?;
+            }
+        }
+        self.work.clear();
+        Ok(())
+    }
+
+    // Clients that wait for a key or a server, if one became free.
+    fn serve_busy<N: Net>(&mut self, net: &N) -> io::Result<()> {
+        if !self.is_freed {
+            return Ok(());
+        }
+        self.is_freed = false;
+        std::mem::swap(&mut self.work, &mut self.clients.busy);
+        for i in 0..self.work.len() {
+            if let Some(id) = self.work.get(i) {
+                let id = *id;
+                if let Some(client) = self.clients.get_mut(id) {
+                    client.is_busy = false;
+                }
+                self.serve_client(net, id)?;
+            }
+        }
+        self.work.clear();
+        Ok(())
+    }
+
+    // One read of the client, and what it holds is given to the core.
+    fn read_client(&mut self, id: usize) -> io::Result<()> {
+        let Some(client) = self.clients.get_mut(id) else {
+            return Ok(());
+        };
+        if client.can_read() {
+            match client.conn.read_once(CLIENT_READ)? {
+                Got::Ended => client.is_ended = true,
+                Got::Failed => client.break_off(),
+                Got::Bytes | Got::Nothing | Got::Full => {}
+            }
+        }
+        if !client.conn.held.is_empty() {
+            match self.core.feed(id, client.conn.held.as_slice()) {
+                Ok(()) => client.conn.held.clear(),
+                // The core takes it when it has done what it holds.
+                Err(CoreFault::InputFull) => {}
+                Err(_) => client.break_off(),
+            }
+        }
+        Ok(())
+    }
+
+    fn may_go_on(&mut self, id: usize) -> bool {
+        match self.clients.get_mut(id) {
+            Some(client) => client.settled > 0 || client.has_room(),
+            None => false,
+        }
+    }
+
+    fn note_went_on(&mut self, id: usize) {
+        if let Some(client) = self.clients.get_mut(id) {
+            client.went_on();
+        }
+    }
+
+    // What can be done for the client is done.
+    fn poll_client<N: Net>(&mut self, net: &N, id: usize) -> io::Result<Rest> {
+        for _ in 0..POLLS {
+            if !self.may_go_on(id) {
+                return Ok(Rest::Full);
+            }
+            match self.core.poll(id) {
+                Ok(Polled::Call(ticket)) => {
+                    self.note_went_on(id);
+                    self.send_call(net, id, ticket)?;
+                }
+                Ok(Polled::Did(_)) => {
+                    self.note_went_on(id);
+                    self.is_freed = true;
+                }
+                Ok(Polled::Own) | Ok(Polled::Refused) => {}
+                Ok(Polled::Idle) => return Ok(Rest::Idle),
+                Ok(Polled::Waiting) => return Ok(Rest::Waiting),
+                Ok(Polled::Busy) => return Ok(Rest::Busy),
+                Err(CoreFault::NoMemory) => {
+                    self.is_freed = true;
+                    self.end_client(id);
+                }
+                Err(_) => {
+                    self.end_client(id);
+                    return Ok(Rest::Idle);
+                }
+            }
+        }
+        Ok(Rest::More)
+    }
+
+    fn end_client(&mut self, id: usize) {
+        if let Some(client) = self.clients.get_mut(id) {
+            client.is_ended = true;
+        }
+    }
+
+    // Whether the link has a connection, or one could be begun.
+    fn is_open<N: Net>(&mut self, net: &N, at: usize) -> bool {
+        let Some(link) = self.links.get_mut(at) else {
+            return false;
+        };
+        if link.conn.is_some() {
+            return true;
+        }
+        if self.now < link.retry_at {
+            return false;
+        }
+        match connect(net, &self.poll, link.address, LINKS.saturating_add(at)) {
+            Ok(stream) => {
+                link.open(self.alloc, stream, self.now);
+                true
+            }
+            Err(_) => {
+                link.retry_at = self.now.saturating_add(self.settings.retry_ms);
+                false
+            }
+        }
+    }
+
+    // The call is written to its server's link, or has failed.
+    fn send_call<N: Net>(&mut self, net: &N, id: usize, ticket: Ticket) -> io::Result<()> {
+        let at = ticket.server.number() as usize;
+        if !self.is_open(net, at) {
+            return Ok(self.refuse_call(id, ticket)?);
+        }
+        let call = SentCall {
+            ticket,
+            client: id,
+            since: self.now,
+        };
+        match self.write_call(at, call) {
+            None => Ok(self.mark_link_output(at)?),
+            Some(call) => Ok(self.refuse_call(id, call.ticket)?),
+        }
+    }
+
+    // The call is written to the link, or given back.
+    fn write_call(&mut self, at: usize, call: SentCall) -> Option<SentCall> {
+        let Some(link) = self.links.get_mut(at) else {
+            return Some(call);
+        };
+        let Some(conn) = link.conn.as_mut() else {
+            return Some(call);
+        };
+        match link.calls.begin(call, &mut conn.unsent) {
+            Ok(()) => None,
+            Err(call) => Some(call),
+        }
+    }
+
+    // The call has failed, and never went out.
+    fn refuse_call(&mut self, id: usize, ticket: Ticket) -> Result<(), AllocError> {
+        fail_call(&mut self.core, ticket);
+        self.clients.mark_settled(id)
+    }
+
+    // What the core has for the client goes behind what is to be sent.
+    fn show_client(&mut self, id: usize) -> io::Result<()> {
+        let Some(client) = self.clients.get_mut(id) else {
+            return Ok(());
+        };
+        let Ok(bytes) = self.core.take_output(id) else {
+            return Ok(());
+        };
+        if bytes.is_empty() {
+            return Ok(());
+        }
+        if client
+            .conn
+            .unsent
+            .extend_from_slice(bytes.as_slice())
+            .is_err()
+        {
+            client.break_off();
+            return Ok(());
+        }
+        Ok(self.clients.mark_output(id)?)
+    }
+
+    // A client that has ended, for which nothing is left to do and to send, is gone.
+    fn close_client(&mut self, id: usize, rest: Rest) {
+        let Some(client) = self.clients.get_mut(id) else {
+            return;
+        };
+        let is_ended = client.is_ended || self.core.is_closed(id);
+        if rest == Rest::Idle
+            && is_ended
+            && client.conn.unsent.is_empty()
+            && self.core.close(id).is_ok()
+        {
+            self.clients.remove(id);
+            self.is_accepting = true;
+        }
+    }
+
+    fn serve_client<N: Net>(&mut self, net: &N, id: usize) -> io::Result<()> {
+        self.read_client(id)?;
+        let rest = self.poll_client(net, id)?;
+        self.show_client(id)?;
+        self.close_client(id, rest);
+        let is_more = match self.clients.get_mut(id) {
+            Some(client) => rest == Rest::More || client.can_read(),
+            None => false,
+        };
+        if rest == Rest::Busy {
+            self.clients.mark_busy(id)?;
+        }
+        if is_more {
+            self.clients.mark_ready(id)?;
+        }
+        Ok(())
+    }
+
+    fn send_link(&mut self, at: usize) -> Result<(), AllocError> {
+        let is_kept = match self.links.get_mut(at) {
+            Some(link) => {
+                link.has_output = false;
+                match link.conn.as_mut() {
+                    Some(conn) => send(conn),
+                    None => true,
+                }
+            }
+            None => true,
+        };
+        if !is_kept {
+            self.fail_link(at)?;
+        }
+        Ok(())
+    }
+
+    fn send_links(&mut self) -> Result<(), AllocError> {
+        std::mem::swap(&mut self.work, &mut self.links_with_output);
+        for i in 0..self.work.len() {
+            if let Some(at) = self.work.get(i) {
+                let at = *at;
+                self.send_link(at)?;
+            }
+        }
+        self.work.clear();
+        Ok(())
+    }
+
+    fn send_client(&mut self, id: usize) -> Result<(), AllocError> {
+        let Some(client) = self.clients.get_mut(id) else {
+            return Ok(());
+        };
+        client.has_output = false;
+        let was_full = !client.has_room();
+        if !send(&mut client.conn) {
+            client.break_off();
+        }
+        let is_empty = client.conn.unsent.is_empty();
+        let is_free = was_full && client.has_room();
+        if is_free || (is_empty && (client.is_ended || self.core.is_closed(id))) {
+            self.clients.mark_ready(id)?;
+        }
+        Ok(())
+    }
+
+    fn send_clients(&mut self) -> io::Result<()> {
+        std::mem::swap(&mut self.work, &mut self.clients.with_output);
+        for i in 0..self.work.len() {
+            if let Some(id) = self.work.get(i) {
+                let id = *id;
+                self.send_client(id)?;
+            }
+        }
+        self.work.clear();
+        Ok(())
+    }
+}

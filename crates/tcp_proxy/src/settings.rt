@@ -1,0 +1,32 @@
+//! How many and how long.
+
+/// How many clients there may be, how many calls may be out, and how long is waited.
+#[derive(Clone, Copy)]
+pub struct Settings {
+    /// How many clients may be connected.
+    pub clients: usize,
+    /// How many commands of one client may have no shown reply.
+    pub client_window: usize,
+    /// How many calls may be out at one server.
+    pub link_window: usize,
+    /// How many milliseconds a call may take.
+    pub call_ms: u64,
+    /// How many milliseconds a connection to a server may take to stand.
+    pub connect_ms: u64,
+    /// For how many milliseconds no connection is tried after one could not be made.
+    pub retry_ms: u64,
+}
+
+impl Settings {
+    /// 1,024 clients, 32 commands of each, 256 calls at each server, and one second each time.
+    pub fn usual() -> Settings {
+        Settings {
+            clients: 1_024,
+            client_window: 32,
+            link_window: 256,
+            call_ms: 1_000,
+            connect_ms: 1_000,
+            retry_ms: 1_000,
+        }
+    }
+}
