@@ -3,14 +3,14 @@
 #![tactic(auto)]
 
 #[cfg(test)]
-mod classic_answers;
+mod answers_classic;
 #[cfg(test)]
-mod classic_requests;
+mod answers_meta;
 #[cfg(test)]
-mod meta_answers;
+mod requests_classic;
 #[cfg(test)]
-mod meta_requests;
+mod requests_meta;
 #[cfg(test)]
-mod mixed_requests;
+mod requests_mixed;
 #[cfg(test)]
 mod streams;

@@ -3,7 +3,7 @@
 #![tactic(auto)]
 
 #[cfg(test)]
-mod connections;
+mod cache_connections;
 #[cfg(test)]
 mod fleets;
 #[cfg(test)]
