@@ -11,11 +11,22 @@ use clap::{Arg, ArgAction, ArgMatches, Command, Error};
 use mc_types::{Key, KeyFault};
 use std::alloc::{AllocError, Global};
 
+/// The form in which a verdict is printed.
+#[derive(Clone, Copy, PartialEq, Eq)]
+pub enum Form {
+    /// The verdict, and the script that shows a gap.
+    Lines,
+    /// The same, and then in words.
+    Explained,
+    /// The tree as a graph, a gap marked.
+    Picture,
+}
+
 /// What is done with an input.
 #[derive(Clone, Copy, PartialEq, Eq)]
 pub enum Task {
-    /// It is a configuration, and the gate's verdict on it is printed: with `explain` also in words.
-    Check { explain: bool },
+    /// It is a configuration, and the gate's verdict on it is printed in this form.
+    Check { form: Form },
     /// It is a script, and it is run: with `any` whatever the gate says of its tree.
     Replay { any: bool },
 }
@@ -75,8 +86,9 @@ const VERSION: &str = "mcgate 1\n";
 const HELP: &str =
     "mcgate sends memcached commands through a tree of routes, and asks of a tree whether it can show deleted data.
 
-usage: mcgate check [--explain] [FILE]
-                                     print the gate's verdict on a configuration, with --explain also in words
+usage: mcgate check [--explain | --dot] [FILE]
+                                     print the gate's verdict on a configuration, with --explain also in words,
+                                     with --dot as a picture
        mcgate replay [--any] [--config FILE] [SCRIPT]
                                      run a script, and print what each client gets
        mcgate where --config FILE KEY..
@@ -92,7 +104,7 @@ Without FILE or SCRIPT the input is standard input. Without any words mcgate is 
 Exit status: 0 accepted or done, 1 refused by the gate, 2 bad arguments or input, 3 memory or a device failed.
 ";
 
-const CHECK_HELP: &str = "usage: mcgate check [--explain] [FILE]
+const CHECK_HELP: &str = "usage: mcgate check [--explain | --dot] [FILE]
 
 Reads a configuration in JSON, of FILE or of standard input, and prints the gate's verdict:
   accepted places=N      no run of the tree shows deleted data; the keys have N places
@@ -104,6 +116,8 @@ Reads a configuration in JSON, of FILE or of standard input, and prints the gate
   config: ..             the first fault of what is no configuration
 With --explain lines that begin with # follow: by which way a read reaches the server, which servers the delete clears and
 which it leaves, and what to change.
+With --dot the tree and its servers are printed as a graph for Graphviz, in place of accepted and refused lines: of a refused
+tree the way by which a read reaches the server and the server are red.
 Exit status: 0 accepted, 1 refused, 2 no configuration, 3 memory or a device failed.
 ";
 
@@ -142,10 +156,14 @@ fn check_command<'a>(alloc: Global) -> Result<Command<'a>, AllocError> {
     let explain = Arg::new(alloc, "explain")
         .long("explain")
         .action(ArgAction::SetTrue);
+    let dot = Arg::new(alloc, "dot")
+        .long("dot")
+        .action(ArgAction::SetTrue);
     Command::new(alloc, "check")
         .disable_help_flag(true)
         .arg(help_flag(alloc))?
         .arg(explain)?
+        .arg(dot)?
         .arg(Arg::new(alloc, "FILE"))
 }
 
@@ -194,17 +212,26 @@ fn command<'a>(alloc: Global) -> Result<Command<'a>, AllocError> {
         .subcommand(serve_command(alloc)?)
 }
 
+// The form of a verdict by its two flags, of which at most one may be given.
+fn form_of(explain: bool, dot: bool) -> Result<Form, ArgumentsFault> {
+    match (explain, dot) {
+        (false, false) => Ok(Form::Lines),
+        (true, false) => Ok(Form::Explained),
+        (false, true) => Ok(Form::Picture),
+        (true, true) => Err(ArgumentsFault::Refused),
+    }
+}
+
 // What the words after `check` ask for.
-fn check_job<'a>(given: &ArgMatches<'a>) -> Job<'a> {
+fn check_job<'a>(given: &ArgMatches<'a>) -> Result<Job<'a>, ArgumentsFault> {
     if given.get_flag("help") {
-        return Job::Print(CHECK_HELP);
+        return Ok(Job::Print(CHECK_HELP));
     }
-    Job::Run {
-        task: Task::Check {
-            explain: given.get_flag("explain"),
-        },
+    let form = form_of(given.get_flag("explain"), given.get_flag("dot"))?;
+    Ok(Job::Run {
+        task: Task::Check { form },
         file: given.get_str("FILE"),
-    }
+    })
 }
 
 // What the words after `replay` ask for.
@@ -265,9 +292,9 @@ fn plain_job<'a>(given: &ArgMatches<'a>) -> Job<'a> {
     }
 }
 
-/// What the arguments ask for, the program's name first: `check [--explain] [FILE]`, `replay [--any] [--config FILE] [SCRIPT]`,
-/// `where --config FILE KEY..`, `cache --listen HOST:PORT --capacity C [--turns N]`, or none at all after it, which is `replay`.
-/// Also `--help`, before or after a word, and `--version`.
+/// What the arguments ask for, the program's name first: `check [--explain | --dot] [FILE]`, `replay [--any] [--config FILE] [SCRIPT]`,
+/// `where --config FILE KEY..`, `cache --listen HOST:PORT --capacity C [--turns N]`, `serve` with its flags, or none at all after it,
+/// which is `replay`. Also `--help`, before or after a word, and `--version`.
 ///
 /// A KEY that is none is [`ArgumentsFault::Key`], and any other arguments are [`ArgumentsFault::Refused`].
 pub fn read_arguments<'a>(
@@ -279,7 +306,7 @@ pub fn read_arguments<'a>(
     };
     let matches = command.try_get_matches_from(arguments)?;
     match matches.subcommand() {
-        Some(("check", given)) => Ok(check_job(given)),
+        Some(("check", given)) => check_job(given),
         Some(("where", given)) => where_job(alloc, given),
         Some(("cache", given)) => cache_job(given),
         Some(("serve", given)) => serve_job(given),

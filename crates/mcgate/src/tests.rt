@@ -1,6 +1,6 @@
 //! The program from its arguments to its exit status.
 
-use crate::arguments::{ArgumentsFault, Job, Task, read_arguments};
+use crate::arguments::{ArgumentsFault, Form, Job, Task, read_arguments};
 use crate::input::{INPUT_LIMIT, InputFault, read_input};
 use crate::program::{End, Stop, end_of, read_configuration, run_events, run_input};
 use crate::text_of;
@@ -77,8 +77,13 @@ fn arguments_that_ask_for_a_replay_over_a_file(rt: HostRuntime) -> Result<(), Fa
 #[test]
 fn arguments_that_ask_for_a_check(rt: HostRuntime) -> Result<(), Fail> {
     let alloc = rt.alloc();
-    let plain = Task::Check { explain: false };
-    let explained = Task::Check { explain: true };
+    let plain = Task::Check { form: Form::Lines };
+    let explained = Task::Check {
+        form: Form::Explained,
+    };
+    let picture = Task::Check {
+        form: Form::Picture,
+    };
     assert!(rt; asked(alloc, &["mcgate", "check"], plain, None)?);
     assert!(rt; asked(alloc, &["mcgate", "check", "f"], plain, Some("f"))?);
     assert!(rt;
@@ -87,6 +92,22 @@ fn arguments_that_ask_for_a_check(rt: HostRuntime) -> Result<(), Fail> {
             &["mcgate", "check", "--explain", "f"],
             explained,
             Some("f")
+        )?
+    );
+    assert!(rt;
+        asked(
+            alloc,
+            &["mcgate", "check", "f", "--dot"],
+            picture,
+            Some("f")
+        )?
+    );
+    assert!(rt;
+        !asked(
+            alloc,
+            &["mcgate", "check", "--explain", "--dot"],
+            picture,
+            None
         )?
     );
     Ok(())
