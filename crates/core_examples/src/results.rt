@@ -1,5 +1,8 @@
 //! The result of a call: a core with one client, whose get of `a` is command 1, its call out at server 0.
 
+ghost use Rattle.std.specs.Prelude.{◌≡◌, IfOk};
+ghost use Rattle.route_tree.specs.Route as route;
+
 use mc_types::{Ask, Body, Dialect, Key, Op, Origin, Outcome, ServerId, Tokens};
 use proxy_core::{Core, CoreFault, Limits, Poll, Ticket};
 use route_tree::{Tree, TreeForm};
@@ -21,7 +24,9 @@ fn ask(alloc: Global) -> Result<Ask, Fail> {
     })
 }
 
-fn server(alloc: Global) -> Result<Tree, Fail> {
+fn server(alloc: Global) -> Result<Tree, Fail>
+    ensures { IfOk result (λ tree. tree ≡ route.Server 0) }
+{
     Ok(Tree::new(alloc, TreeForm::Server(ServerId::new(0)))?)
 }
 
