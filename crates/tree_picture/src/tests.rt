@@ -87,12 +87,10 @@ fn selectors_lines() -> &'static str {
 "#
 }
 
-// The gap of a get and an md, at the keys of the longer prefix, from the warm side.
-fn selectors_gap() -> Result<Gap, Fail> {
-    let Ok(prefix) = Key::read(b"x\"\\") else {
-        return Err(Fail::from("no key"));
-    };
-    Ok(Gap {
+// Whether this is the picture of the gap of a get and an md, at the keys of this prefix, from the warm side.
+fn is_drawn(alloc: Global, prefix: Key) -> Result<bool, Fail> {
+    let config = config(alloc, selectors_text())?;
+    let gap = Gap {
         place: Place {
             prefix: Some(prefix),
             residue: 0,
@@ -101,17 +99,19 @@ fn selectors_gap() -> Result<Gap, Fail> {
         server: ServerId::new(1),
         op: Op::Get,
         deleting: Deleting::Md,
-    })
+    };
+    let way = [Step::Default, Step::Warm];
+    let mut out = Vec::new(alloc);
+    write_gap_picture(&config, &gap, &way, &mut out)?;
+    Ok(out.as_slice() == selectors_lines().as_bytes())
 }
 
 #[test]
 fn way_through_selectors(rt: HostRuntime) -> Result<(), Fail> {
-    let config = config(rt.alloc(), selectors_text())?;
-    let gap = selectors_gap()?;
-    let way = [Step::Default, Step::Warm];
-    let mut out = Vec::new(rt.alloc());
-    write_gap_picture(&config, &gap, &way, &mut out)?;
-    assert_eq!(rt; out.as_slice(), selectors_lines().as_bytes());
+    let Ok(prefix) = Key::read(b"x\"\\") else {
+        return Err(Fail::from("no key"));
+    };
+    assert!(rt; is_drawn(rt.alloc(), prefix)?);
     Ok(())
 }
 
