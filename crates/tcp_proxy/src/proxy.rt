@@ -94,6 +94,13 @@ fn later(limit: Option<u64>, other: Option<u64>) -> Option<u64> {
     }
 }
 
+fn at_most(limit: Option<Duration>, most: Duration) -> Duration {
+    match limit {
+        Some(limit) if limit < most => limit,
+        _ => most,
+    }
+}
+
 impl ProxyEnd {
     /// Listens, and has no link yet: each is made when the first call is to go out on it.
     pub fn new<R: Net + Clock + AllocGlobal>(
@@ -144,7 +151,18 @@ impl ProxyEnd {
 
     /// One turn: a wait until something is ready or late, and then all that is ready is done.
     pub fn turn<R: Net + Clock>(&mut self, rt: &R) -> io::Result<()> {
-        self.wait(rt)?;
+        let limit = self.wait_limit(rt)?;
+        self.turn_by(rt, limit)
+    }
+
+    /// The same, but it waits this long at most, so that several ends can be turned in one thread.
+    pub fn turn_within<R: Net + Clock>(&mut self, rt: &R, most: Duration) -> io::Result<()> {
+        let limit = self.wait_limit(rt)?;
+        self.turn_by(rt, Some(at_most(limit, most)))
+    }
+
+    fn turn_by<R: Net + Clock>(&mut self, rt: &R, limit: Option<Duration>) -> io::Result<()> {
+        self.wait(rt, limit)?;
         self.fail_late()?;
         if self.is_accepting {
             self.accept_some()?;
@@ -182,21 +200,21 @@ impl ProxyEnd {
         first
     }
 
-    fn wait_limit(&self) -> Option<Duration> {
+    // How long may be waited, by the clock of now.
+    fn wait_limit<R: Clock>(&mut self, rt: &R) -> io::Result<Option<Duration>> {
+        self.look_at_clock(rt)?;
         if self.has_work() {
-            return Some(Duration::from_millis(0));
+            return Ok(Some(Duration::from_millis(0)));
         }
         match self.time_limit() {
-            Some(limit) => Some(Duration::from_millis(
+            Some(limit) => Ok(Some(Duration::from_millis(
                 limit.saturating_sub(self.now).saturating_add(1),
-            )),
-            None => None,
+            ))),
+            None => Ok(None),
         }
     }
 
-    fn wait<R: Clock>(&mut self, rt: &R) -> io::Result<()> {
-        self.look_at_clock(rt)?;
-        let limit = self.wait_limit();
+    fn wait<R: Clock>(&mut self, rt: &R, limit: Option<Duration>) -> io::Result<()> {
         self.poll.poll(&mut self.events, limit)?;
         self.note_events()?;
         self.look_at_clock(rt)
