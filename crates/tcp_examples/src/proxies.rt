@@ -38,7 +38,7 @@ fn proxy(rt: &HostRuntime, text: &str, servers: &[SocketAddr]) -> Result<ProxyEn
     Ok(ProxyEnd::new(rt, any_port(rt)?, accepted, servers, Settings::usual())?)
 }
 
-fn ends(rt: &HostRuntime, text: &str) -> Result<Ends, Fail> {
+fn make_ends(rt: &HostRuntime, text: &str) -> Result<Ends, Fail> {
     let first = cache(rt)?;
     let second = cache(rt)?;
     let servers = [first.address()?, second.address()?];
@@ -123,7 +123,7 @@ fn failover() -> &'static str {
 
 #[test]
 fn first_path(rt: HostRuntime) -> Result<(), Fail> {
-    let mut ends = ends(&rt, pool())?;
+    let mut ends = make_ends(&rt, pool())?;
     let mut client = connect(&rt, &ends)?;
     let cases = [
         ("set a 5 0 3\r\nxyz\r\n", "STORED\r\n"),
@@ -144,7 +144,7 @@ fn first_path(rt: HostRuntime) -> Result<(), Fail> {
 // A delete that must reach both servers isn't acknowledged while one is gone, and a get is answered by the other.
 #[test]
 fn all_sync_delete_over_failover(rt: HostRuntime) -> Result<(), Fail> {
-    let mut ends = ends(&rt, failover())?;
+    let mut ends = make_ends(&rt, failover())?;
     let mut client = connect(&rt, &ends)?;
     assert!(rt;
         answers(
@@ -165,7 +165,7 @@ fn all_sync_delete_over_failover(rt: HostRuntime) -> Result<(), Fail> {
 // Replies come in the order of the commands, whichever server answers first.
 #[test]
 fn replies_in_its_own_order(rt: HostRuntime) -> Result<(), Fail> {
-    let mut ends = ends(&rt, pool())?;
+    let mut ends = make_ends(&rt, pool())?;
     let mut client = connect(&rt, &ends)?;
     let piece = "set a 0 0 1\r\n1\r\nset b 0 0 1\r\n2\r\nset c 0 0 1\r\n3\r\nget a b c\r\nfoo\r\n";
     let text =
