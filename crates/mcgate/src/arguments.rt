@@ -8,6 +8,7 @@ use crate::cache_words::{CacheJob, cache_command, cache_job};
 use crate::serve_words::{ServeJob, serve_command, serve_job};
 use clap::error::ErrorKind;
 use clap::{Arg, ArgAction, ArgMatches, Command, Error};
+use mc_text::number::small_number;
 use mc_types::{Key, KeyFault};
 use std::alloc::{AllocError, Global};
 
@@ -150,6 +151,22 @@ pub fn help_flag<'a>(alloc: Global) -> Arg<'a> {
     Arg::new(alloc, "help")
         .long("help")
         .action(ArgAction::SetTrue)
+}
+
+/// A flag with a value.
+pub fn option<'a>(alloc: Global, name: &'static str) -> Arg<'a> {
+    Arg::new(alloc, name).long(name).action(ArgAction::Set)
+}
+
+/// The number after a flag, if the flag stands there: of 1 to 20 digits, in 1..=4294967295.
+pub fn count_of(given: &ArgMatches<'_>, name: &str) -> Result<Option<u32>, ArgumentsFault> {
+    match given.get_str(name) {
+        None => Ok(None),
+        Some(text) => match small_number(text.as_bytes()) {
+            None | Some(0) => Err(ArgumentsFault::Refused),
+            Some(count) => Ok(Some(count)),
+        },
+    }
 }
 
 fn check_command<'a>(alloc: Global) -> Result<Command<'a>, AllocError> {

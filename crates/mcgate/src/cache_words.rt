@@ -1,8 +1,7 @@
 //! The words of `mcgate cache`, and what they ask for.
 
-use crate::arguments::{ArgumentsFault, Job, help_flag};
-use clap::{Arg, ArgAction, ArgMatches, Command};
-use mc_text::number::small_number;
+use crate::arguments::{ArgumentsFault, Job, count_of, help_flag, option};
+use clap::{ArgMatches, Command};
 use std::alloc::{AllocError, Global};
 use tcp_cache::Settings;
 
@@ -26,10 +25,6 @@ C and N are 1..=4294967295. At most 1,024 clients are served at a time.
 Exit status: 0 done, 2 bad arguments, 3 memory or a device failed, also where it can't listen there.
 ";
 
-fn option<'a>(alloc: Global, name: &'static str) -> Arg<'a> {
-    Arg::new(alloc, name).long(name).action(ArgAction::Set)
-}
-
 /// The word and its flags.
 pub fn cache_command<'a>(alloc: Global) -> Result<Command<'a>, AllocError> {
     Command::new(alloc, "cache")
@@ -40,36 +35,18 @@ pub fn cache_command<'a>(alloc: Global) -> Result<Command<'a>, AllocError> {
         .arg(option(alloc, "turns"))
 }
 
-// The turns after which it ends, if that is said.
-fn turns_of(given: &ArgMatches<'_>) -> Result<Option<u32>, ArgumentsFault> {
-    match given.get_str("turns") {
-        None => Ok(None),
-        Some(text) => match small_number(text.as_bytes()) {
-            None | Some(0) => Err(ArgumentsFault::Refused),
-            Some(turns) => Ok(Some(turns)),
-        },
-    }
-}
-
-// The settings for a capacity as a text.
-fn settings_of(text: &str) -> Result<Settings, ArgumentsFault> {
-    match small_number(text.as_bytes()) {
-        Some(capacity) if capacity > 0 => Ok(Settings::of(capacity as usize)),
-        _ => Err(ArgumentsFault::Refused),
-    }
-}
-
 /// What the words after `cache` ask for. Any that ask for nothing are [`ArgumentsFault::Refused`].
 pub fn cache_job<'a>(given: &ArgMatches<'a>) -> Result<Job<'a>, ArgumentsFault> {
     if given.get_flag("help") {
         return Ok(Job::Print(CACHE_HELP));
     }
-    let (Some(listen), Some(capacity)) = (given.get_str("listen"), given.get_str("capacity")) else {
+    let (Some(listen), Some(capacity)) = (given.get_str("listen"), count_of(given, "capacity")?)
+    else {
         return Err(ArgumentsFault::Refused);
     };
     Ok(Job::Cache(CacheJob {
         listen,
-        settings: settings_of(capacity)?,
-        turns: turns_of(given)?,
+        settings: Settings::of(capacity as usize),
+        turns: count_of(given, "turns")?,
     }))
 }

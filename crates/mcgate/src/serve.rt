@@ -4,7 +4,7 @@ use crate::input::InputFault;
 use crate::program::{Stop, decline};
 use crate::serve_words::ServeJob;
 use config_check::checking::{print_fault, print_refused};
-use config_check::status::{BAD_INPUT, DONE};
+use config_check::status::DONE;
 use fresh_gate::{Accepted, judge};
 use mc_types::ServerId;
 use route_json::{Config, read_config};
@@ -59,47 +59,49 @@ fn address_of<N: Net>(net: &N, text: &str) -> Option<SocketAddr> {
     }
 }
 
-// The addresses of the servers in their order, or the text that names none.
-fn addresses_of<'a, N: Net>(
-    net: &N,
-    alloc: Global,
-    servers: &'a Servers,
-) -> Result<Result<Vec<SocketAddr>, &'a str>, Stop> {
-    let mut addresses = Vec::new(alloc);
+// The addresses of the servers in their order. Of one whose text names no host it is told, and its calls will fail.
+fn addresses_of<R: Net + AllocGlobal + Eprint>(
+    rt: &R,
+    servers: &Servers,
+) -> Result<Vec<Option<SocketAddr>>, Stop> {
+    let mut addresses = Vec::new(rt.alloc());
     for number in 0..u32::MAX {
         let Some(text) = servers.get(ServerId::new(number)) else {
             break;
         };
-        let Some(address) = address_of(net, text) else {
-            return Ok(Err(text));
-        };
+        let address = address_of(rt, text);
+        if address.is_none() {
+            eprintln!(rt; "mcgate: server {text}: no such host, its calls fail")?;
+        }
         if addresses.push(address).is_err() {
             return Err(Stop::Memory);
         }
     }
-    Ok(Ok(addresses))
+    Ok(addresses)
 }
 
 // Turns the end, as often as is asked.
-fn turn_on<R: Net + Clock>(rt: &R, end: &mut ProxyEnd, turns: Option<u64>) -> io::Result<()> {
-    for _ in 0..turns.unwrap_or(u64::MAX) {
+fn turn_on<R: Net + Clock>(rt: &R, end: &mut ProxyEnd, turns: Option<u32>) -> io::Result<()> {
+    for _ in 0..turns.map_or(u64::MAX, u64::from) {
         end.turn(rt)?;
     }
     Ok(())
 }
 
-// Tells that it listens, and serves.
-fn serve_at<R: Net + Clock + AllocGlobal + Eprint>(
+/// Serves an accepted configuration, and tells so. The answer is the exit status after the turns that were asked.
+///
+/// [`Stop::Device`] comes where it can't listen there, or the system's wait or clock fails, and [`Stop::Memory`] where memory was
+/// refused for the proxy itself.
+pub fn serve<R: Net + Clock + AllocGlobal + Eprint>(
     rt: &R,
     job: ServeJob<'_>,
     accepted: Accepted,
-    listen: SocketAddr,
-    servers: &[SocketAddr],
 ) -> Result<u8, Stop> {
-    let Ok(mut end) = ProxyEnd::new(rt, listen, accepted, servers, job.settings) else {
-        eprintln!(rt; "listen: can't listen there")?;
-        return Ok(BAD_INPUT);
+    let servers = addresses_of(rt, accepted.config().servers())?;
+    let Some(listen) = address_of(rt, job.listen) else {
+        return Err(Stop::Device);
     };
+    let mut end = ProxyEnd::new(rt, listen, accepted, servers.as_slice(), job.settings)?;
     let address = end.local_addr()?;
     eprintln!(rt;
         "mcgate: serving {} on {}, {} servers, generation 1",
@@ -109,25 +111,4 @@ fn serve_at<R: Net + Clock + AllocGlobal + Eprint>(
     )?;
     turn_on(rt, &mut end, job.turns)?;
     Ok(DONE)
-}
-
-/// Serves an accepted configuration. The answer is the exit status: [`DONE`] after the turns that were asked, [`BAD_INPUT`] where an
-/// address names no place, or nobody can listen there.
-pub fn serve<R: Net + Clock + AllocGlobal + Eprint>(
-    rt: &R,
-    job: ServeJob<'_>,
-    accepted: Accepted,
-) -> Result<u8, Stop> {
-    let found = match addresses_of(rt, rt.alloc(), accepted.config().servers())? {
-        Ok(addresses) => addresses,
-        Err(text) => {
-            eprintln!(rt; "server: no such host: {text}")?;
-            return Ok(BAD_INPUT);
-        }
-    };
-    let Some(listen) = address_of(rt, job.listen) else {
-        eprintln!(rt; "listen: no such address")?;
-        return Ok(BAD_INPUT);
-    };
-    serve_at(rt, job, accepted, listen, found.as_slice())
 }

@@ -1,8 +1,7 @@
 //! The words of `mcgate serve`, and what they ask for.
 
-use crate::arguments::{ArgumentsFault, Job, help_flag};
-use clap::{Arg, ArgAction, ArgMatches, Command};
-use mc_text::number::number;
+use crate::arguments::{ArgumentsFault, Job, count_of, help_flag, option};
+use clap::{ArgMatches, Command};
 use std::alloc::{AllocError, Global};
 use tcp_proxy::Settings;
 
@@ -15,7 +14,7 @@ pub struct ServeJob<'a> {
     pub listen: &'a str,
     pub settings: Settings,
     /// After so many turns it ends; without a number it doesn't.
-    pub turns: Option<u64>,
+    pub turns: Option<u32>,
 }
 
 pub const SERVE_HELP: &str = "usage: mcgate serve --config FILE --listen HOST:PORT [FLAG N ..]
@@ -28,14 +27,12 @@ to the configuration's servers, at their addresses. One line tells on standard e
   --call-ms N            a call that takes longer than so many milliseconds has failed, 1000
   --connect-ms N         so has a connection to a server that takes longer to stand, 1000
   --retry-ms N           for so long no connection is tried after one that failed, 1000
+  --polls N              after so many reads of a server in a row without a whole answer its calls have failed; without it, any number
   --turns N              ends after so many turns; without it, it doesn't end
+Each N is 1..=4294967295.
 A tree that the gate refuses isn't served, and its refused: line is printed.
-Exit status: 0 done, 1 refused by the gate, 2 bad arguments or no configuration, 3 memory or a device failed.
+Exit status: 0 done, 1 refused by the gate, 2 bad arguments or no configuration, 3 memory or a device failed, also where it can't listen there.
 ";
-
-fn option<'a>(alloc: Global, name: &'static str) -> Arg<'a> {
-    Arg::new(alloc, name).long(name).action(ArgAction::Set)
-}
 
 /// The word and its flags.
 pub fn serve_command<'a>(alloc: Global) -> Result<Command<'a>, AllocError> {
@@ -50,49 +47,30 @@ pub fn serve_command<'a>(alloc: Global) -> Result<Command<'a>, AllocError> {
         .arg(option(alloc, "call-ms"))?
         .arg(option(alloc, "connect-ms"))?
         .arg(option(alloc, "retry-ms"))?
+        .arg(option(alloc, "polls"))?
         .arg(option(alloc, "turns"))
 }
 
-// The number after a flag, if the flag stands there.
-fn number_of(given: &ArgMatches<'_>, name: &str) -> Result<Option<u64>, ArgumentsFault> {
-    match given.get_str(name) {
-        None => Ok(None),
-        Some(text) => match number(text.as_bytes()) {
-            Some(number) => Ok(Some(number)),
-            None => Err(ArgumentsFault::Refused),
-        },
-    }
+// The number after a flag, or the usual one.
+fn size_of(given: &ArgMatches<'_>, name: &str, usual: usize) -> Result<usize, ArgumentsFault> {
+    Ok(count_of(given, name)?.map_or(usual, |count| count as usize))
 }
 
-// The number after a flag of something that there has to be one of.
-fn count_of(given: &ArgMatches<'_>, name: &str, usual: usize) -> Result<usize, ArgumentsFault> {
-    match number_of(given, name)? {
-        None => Ok(usual),
-        Some(0) => Err(ArgumentsFault::Refused),
-        Some(number) => match usize::try_from(number) {
-            Ok(count) => Ok(count),
-            Err(_) => Err(ArgumentsFault::Refused),
-        },
-    }
-}
-
-// The milliseconds after a flag.
+// The milliseconds after a flag, or the usual ones.
 fn millis_of(given: &ArgMatches<'_>, name: &str, usual: u64) -> Result<u64, ArgumentsFault> {
-    match number_of(given, name)? {
-        None => Ok(usual),
-        Some(number) => Ok(number),
-    }
+    Ok(count_of(given, name)?.map_or(usual, u64::from))
 }
 
 fn settings_of(given: &ArgMatches<'_>) -> Result<Settings, ArgumentsFault> {
     let usual = Settings::usual();
     Ok(Settings {
-        clients: count_of(given, "clients", usual.clients)?,
-        client_window: count_of(given, "client-window", usual.client_window)?,
-        link_window: count_of(given, "link-window", usual.link_window)?,
+        clients: size_of(given, "clients", usual.clients)?,
+        client_window: size_of(given, "client-window", usual.client_window)?,
+        link_window: size_of(given, "link-window", usual.link_window)?,
         call_ms: millis_of(given, "call-ms", usual.call_ms)?,
         connect_ms: millis_of(given, "connect-ms", usual.connect_ms)?,
         retry_ms: millis_of(given, "retry-ms", usual.retry_ms)?,
+        polls: count_of(given, "polls")?,
     })
 }
 
@@ -108,6 +86,6 @@ pub fn serve_job<'a>(given: &ArgMatches<'a>) -> Result<Job<'a>, ArgumentsFault> 
         file,
         listen,
         settings: settings_of(given)?,
-        turns: number_of(given, "turns")?,
+        turns: count_of(given, "turns")?,
     }))
 }

@@ -28,7 +28,7 @@ fn any_port(rt: &HostRuntime) -> Result<SocketAddr, Fail> {
 }
 
 // A proxy over these servers, on the tree of a configuration of as many.
-fn proxy(rt: &HostRuntime, text: &str, servers: &[SocketAddr]) -> Result<ProxyEnd, Fail> {
+fn proxy(rt: &HostRuntime, text: &str, servers: &[Option<SocketAddr>]) -> Result<ProxyEnd, Fail> {
     let Ok(config) = read_config(rt.alloc(), text) else {
         return Err(Fail::from("no configuration"));
     };
@@ -41,7 +41,7 @@ fn proxy(rt: &HostRuntime, text: &str, servers: &[SocketAddr]) -> Result<ProxyEn
 fn make_ends(rt: &HostRuntime, text: &str) -> Result<Ends, Fail> {
     let first = cache(rt)?;
     let second = cache(rt)?;
-    let servers = [first.address()?, second.address()?];
+    let servers = [Some(first.address()?), Some(second.address()?)];
     let proxy = proxy(rt, text, &servers)?;
     Ok(Ends {
         first: Some(first),

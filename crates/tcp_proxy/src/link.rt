@@ -15,7 +15,8 @@ const LIMITS: Limits = Limits {
 /// One server's link.
 #[derive(Drop)]
 pub struct Link {
-    pub address: SocketAddr,
+    /// None where its server's text names no host.
+    pub address: Option<SocketAddr>,
     pub conn: Option<Conn<TcpStream>>,
     pub calls: LinkCalls,
     /// When the connection was begun, in milliseconds.
@@ -24,13 +25,15 @@ pub struct Link {
     pub is_connected: bool,
     /// Until then no connection is tried.
     pub retry_at: u64,
+    /// How many reads in a row brought no whole answer.
+    pub vain_reads: u32,
     pub is_ready: bool,
     pub has_output: bool,
 }
 
 impl Link {
     /// A link without a connection.
-    pub fn new(alloc: Global, address: SocketAddr) -> Link {
+    pub fn new(alloc: Global, address: Option<SocketAddr>) -> Link {
         Link {
             address,
             conn: None,
@@ -38,6 +41,7 @@ impl Link {
             opened: 0,
             is_connected: false,
             retry_at: 0,
+            vain_reads: 0,
             is_ready: false,
             has_output: false,
         }
@@ -57,6 +61,19 @@ impl Link {
         }
     }
 
+    /// A read brought whole answers, or none. Whether it has failed by that: where calls are out, and so many reads in a row brought none.
+    pub fn has_read(&mut self, has_settled: bool, polls: Option<u32>) -> bool {
+        if has_settled || self.calls.is_empty() {
+            self.vain_reads = 0;
+            return false;
+        }
+        self.vain_reads = self.vain_reads.saturating_add(1);
+        match polls {
+            Some(polls) => polls <= self.vain_reads,
+            None => false,
+        }
+    }
+
     /// A connection was begun.
     pub fn open(&mut self, alloc: Global, stream: TcpStream, now: u64) {
         let mut conn = Conn::new(alloc, stream, LIMITS);
@@ -64,6 +81,7 @@ impl Link {
         conn.writable = false;
         self.conn = Some(conn);
         self.opened = now;
+        self.vain_reads = 0;
         self.is_connected = false;
     }
 

@@ -102,12 +102,13 @@ fn at_most(limit: Option<Duration>, most: Duration) -> Duration {
 }
 
 impl ProxyEnd {
-    /// Listens, and has no link yet: each is made when the first call is to go out on it.
+    /// Listens, and has no link yet: each is made when the first call is to go out on it. The calls of a server without an address
+    /// fail.
     pub fn new<R: Net + Clock + AllocGlobal>(
         rt: &R,
         listen: SocketAddr,
         accepted: Accepted,
-        servers: &[SocketAddr],
+        servers: &[Option<SocketAddr>],
         settings: Settings,
     ) -> io::Result<ProxyEnd> {
         let alloc = rt.alloc();
@@ -356,7 +357,7 @@ impl ProxyEnd {
             return Ok(true);
         }
         match conn.read_once(LINK_READ)? {
-            Got::Nothing => Ok(true),
+            Got::Nothing => Ok(!link.has_read(false, self.settings.polls)),
             Got::Ended | Got::Failed | Got::Full => Ok(false),
             Got::Bytes => {
                 link.is_connected = true;
@@ -394,7 +395,8 @@ impl ProxyEnd {
             }
         }
         conn.held.advance(used.min(conn.held.len()));
-        Ok(is_kept)
+        let has_failed = link.has_read(used > 0, self.settings.polls);
+        Ok(is_kept && !has_failed)
     }
 
     fn serve_link(&mut self, at: usize) -> io::Result<()> {
@@ -546,10 +548,13 @@ impl ProxyEnd {
         if link.conn.is_some() {
             return true;
         }
+        let Some(address) = link.address else {
+            return false;
+        };
         if self.now < link.retry_at {
             return false;
         }
-        match connect(net, &self.poll, link.address, LINKS.saturating_add(at)) {
+        match connect(net, &self.poll, address, LINKS.saturating_add(at)) {
             Ok(stream) => {
                 link.open(self.alloc, stream, self.now);
                 true

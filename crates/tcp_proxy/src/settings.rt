@@ -15,10 +15,12 @@ pub struct Settings {
     pub connect_ms: u64,
     /// For how many milliseconds no connection is tried after one could not be made.
     pub retry_ms: u64,
+    /// After so many reads of a server in a row that brought no whole answer its calls have failed; without a number they may be any.
+    pub polls: Option<u32>,
 }
 
 impl Settings {
-    /// 1,024 clients, 32 commands of each, 256 calls at each server, and one second each time.
+    /// 1,024 clients, 32 commands of each, 256 calls at each server, one second each time, and any number of reads.
     pub fn usual() -> Settings {
         Settings {
             clients: 1_024,
@@ -27,6 +29,7 @@ impl Settings {
             call_ms: 1_000,
             connect_ms: 1_000,
             retry_ms: 1_000,
+            polls: None,
         }
     }
 }
