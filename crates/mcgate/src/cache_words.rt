@@ -35,6 +35,14 @@ pub fn cache_command<'a>(alloc: Global) -> Result<Command<'a>, AllocError> {
         .arg(option(alloc, "turns"))
 }
 
+// The settings for a capacity, of one item at least.
+fn settings_of(capacity: u32) -> Result<Settings, ArgumentsFault> {
+    if capacity == 0 {
+        return Err(ArgumentsFault::Refused);
+    }
+    Ok(Settings::of(capacity as usize))
+}
+
 /// What the words after `cache` ask for. Any that ask for nothing are [`ArgumentsFault::Refused`].
 pub fn cache_job<'a>(given: &ArgMatches<'a>) -> Result<Job<'a>, ArgumentsFault> {
     if given.get_flag("help") {
@@ -46,7 +54,7 @@ pub fn cache_job<'a>(given: &ArgMatches<'a>) -> Result<Job<'a>, ArgumentsFault> 
     };
     Ok(Job::Cache(CacheJob {
         listen,
-        settings: Settings::of(capacity as usize),
+        settings: settings_of(capacity)?,
         turns: count_of(given, "turns")?,
     }))
 }
