@@ -2,6 +2,7 @@
 #![tactic(auto)]
 
 mod arguments;
+mod bad_lines;
 mod cache;
 mod cache_words;
 mod input;
@@ -11,13 +12,17 @@ mod serve_words;
 #[cfg(test)]
 mod tests;
 
-use arguments::{Job, read_arguments};
+use arguments::{Job, Task, read_arguments};
+use bad_lines::{bad_line_of_events, bad_line_of_task};
 use cache::serve_cache;
 use config_check::status::{BAD_INPUT, DONE};
 use input::{InputFault, fault_of, read_input};
+use line_faults::BadLine;
 use program::{Stop, end_of, read_configuration, run_events, run_input, run_keys};
+use route_json::Config;
 use serve::{Judged, read_and_judge, serve};
 use serve_words::ServeJob;
+use std::alloc::AllocError;
 use std::fs::File;
 use std::io;
 use std::io::{BufWriter, ErrorKind, Write};
@@ -52,8 +57,47 @@ fn arguments_of<R: AllocGlobal + Env>(rt: &R) -> Result<Vec<String>, Stop> {
     }
 }
 
+/// Says on standard error what is wrong with a bad line, if there is one. Where memory was refused nothing is said.
+fn tell<R: Eprint>(rt: &R, found: Result<Option<BadLine<'_>>, AllocError>) {
+    if let Ok(Some(bad)) = found {
+        let _ = rt.eprintln(bad);
+    }
+}
+
+/// Does a task with a file or with standard input. What is wrong with a script's bad line is said on standard error.
+fn run_task<R: Files + Input + AllocGlobal + Eprint, W: Write>(
+    rt: &R,
+    task: Task,
+    file: Option<&str>,
+    out: &mut W,
+) -> Result<u8, Stop> {
+    let input = text_of(rt, file);
+    let status = run_input(rt.alloc(), task, &input, out)?;
+    if status == BAD_INPUT {
+        tell(rt, bad_line_of_task(rt.alloc(), task, &input));
+    }
+    Ok(status)
+}
+
+/// The same of a script of events over a configuration.
+fn run_script<R: Files + Input + AllocGlobal + Eprint, W: Write>(
+    rt: &R,
+    any: bool,
+    config: Config,
+    file: Option<&str>,
+    out: &mut W,
+) -> Result<u8, Stop> {
+    let copy = config.copy(rt.alloc());
+    let input = text_of(rt, file);
+    let status = run_events(rt.alloc(), any, config, &input, out)?;
+    if let (BAD_INPUT, Ok(config)) = (status, copy) {
+        tell(rt, bad_line_of_events(rt.alloc(), config, &input));
+    }
+    Ok(status)
+}
+
 /// Runs a script over the configuration of a file; where that is none, its script isn't read.
-fn run_over<R: Files + Input + AllocGlobal, W: Write>(
+fn run_over<R: Files + Input + AllocGlobal + Eprint, W: Write>(
     rt: &R,
     any: bool,
     config: &str,
@@ -61,7 +105,7 @@ fn run_over<R: Files + Input + AllocGlobal, W: Write>(
     out: &mut W,
 ) -> Result<u8, Stop> {
     match read_configuration(rt.alloc(), text_of(rt, Some(config)), out)? {
-        Some(config) => run_events(rt.alloc(), any, config, text_of(rt, file), out),
+        Some(config) => run_script(rt, any, config, file, out),
         None => Ok(BAD_INPUT),
     }
 }
@@ -85,7 +129,7 @@ fn run<R: Files + Input + AllocGlobal + Env + Net + Clock + Eprint, W: Write>(
 ) -> Result<u8, Stop> {
     let arguments = arguments_of(rt)?;
     match read_arguments(rt.alloc(), arguments.as_slice())? {
-        Job::Run { task, file } => run_input(rt.alloc(), task, text_of(rt, file), out),
+        Job::Run { task, file } => run_task(rt, task, file, out),
         Job::RunOver { any, config, file } => run_over(rt, any, config, file, out),
         Job::Where { file, keys } => run_keys(rt.alloc(), &keys, text_of(rt, Some(file)), out),
         Job::Cache(job) => serve_cache(rt, job),

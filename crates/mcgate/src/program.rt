@@ -172,14 +172,14 @@ pub(crate) fn decline<W: Write>(fault: InputFault, out: &mut W) -> Result<u8, St
 pub fn run_input<W: Write>(
     alloc: Global,
     task: Task,
-    input: Result<String, InputFault>,
+    input: &Result<String, InputFault>,
     out: &mut W,
 ) -> Result<u8, Stop>
-    ensures { AnswersInput task input (W.contents out.old) (W.contents out.new) result }
+    ensures { AnswersInput task input.now (W.contents out.old) (W.contents out.new) result }
 {
     match input {
         Ok(text) => run_text(alloc, task, text.as_str(), out),
-        Err(fault) => decline(fault, out),
+        Err(fault) => decline(*fault, out),
     }
 }
 
@@ -263,13 +263,13 @@ pub fn run_events<W: Write>(
     alloc: Global,
     any: bool,
     config: Config,
-    input: Result<String, InputFault>,
+    input: &Result<String, InputFault>,
     out: &mut W,
 ) -> Result<u8, Stop>
-    ensures { AnswersBy (λ text old new status. ReplaysOver any config text old new status) input (W.contents out.old) (W.contents out.new) result }
+    ensures { AnswersBy (λ text old new status. ReplaysOver any config text old new status) input.now (W.contents out.old) (W.contents out.new) result }
 {
     match input {
         Ok(text) => replay_events(alloc, any, config, text.as_str(), out),
-        Err(fault) => decline(fault, out),
+        Err(fault) => decline(*fault, out),
     }
 }

@@ -1,9 +1,11 @@
 //! The program from its arguments to its exit status.
 
 use crate::arguments::{ArgumentsFault, Form, Job, Task, read_arguments};
+use crate::bad_lines::{bad_line_of_events, bad_line_of_task};
 use crate::input::{INPUT_LIMIT, InputFault, read_input};
 use crate::program::{End, Stop, end_of, read_configuration, run_events, run_input};
 use crate::text_of;
+use line_faults::BadLine;
 use route_json::Config;
 use std::alloc::{AllocError, Global};
 use std::io;
@@ -292,7 +294,7 @@ fn ends_of_runs(rt: HostRuntime) -> Result<(), Fail> {
         let End { status, complaint } = end_of(run_input(
             alloc,
             Task::Replay { any: false },
-            input,
+            &input,
             &mut out,
         ));
         assert_eq!(rt; status, want_status);
@@ -342,11 +344,57 @@ fn events_of_an_input(rt: HostRuntime) -> Result<(), Fail> {
     for (input, (want_status, want_complaint), want) in cases {
         let config = Config::of_pool(alloc, 1)?;
         let mut out = Vec::new(alloc);
-        let End { status, complaint } = end_of(run_events(alloc, false, config, input, &mut out));
+        let End { status, complaint } = end_of(run_events(alloc, false, config, &input, &mut out));
         assert_eq!(rt; status, want_status);
         assert_eq!(rt; complaint, want_complaint);
         assert_eq!(rt; out.as_slice(), want.as_bytes());
     }
+    Ok(())
+}
+
+// The words of a bad line on standard error; none where there is none.
+fn words_of(alloc: Global, found: Option<BadLine<'_>>) -> Result<String, Fail> {
+    match found {
+        Some(bad) => Ok(format!(in alloc; "{bad}")?),
+        None => Ok(String::new(alloc)),
+    }
+}
+
+// The same of a task and its input.
+fn words_of_task(alloc: Global, task: Task, text: &str) -> Result<String, Fail> {
+    let input: Result<String, InputFault> = Ok(text.to_string(alloc)?);
+    words_of(alloc, bad_line_of_task(alloc, task, &input)?)
+}
+
+#[test]
+fn words_of_a_bad_line(rt: HostRuntime) -> Result<(), Fail> {
+    let alloc = rt.alloc();
+    let replay = Task::Replay { any: false };
+    let check = Task::Check { form: Form::Lines };
+    let cases = [
+        (
+            replay,
+            "pool 1\n\nlos 0 a\n",
+            "line 3: no event has this word: los",
+        ),
+        (check, "pool 1\n\nlos 0 a\n", ""),
+        (replay, "pool 1\n", ""),
+        (replay, "{}\n", ""),
+    ];
+    for (task, text, want) in cases {
+        let words = words_of_task(alloc, task, text)?;
+        assert_eq!(rt; words.as_str(), want);
+    }
+    Ok(())
+}
+
+#[test]
+fn words_of_a_bad_event(rt: HostRuntime) -> Result<(), Fail> {
+    let alloc = rt.alloc();
+    let config = Config::of_pool(alloc, 1)?;
+    let input: Result<String, InputFault> = Ok("\nrestart 1\n".to_string(alloc)?);
+    let words = words_of(alloc, bad_line_of_events(alloc, config, &input)?)?;
+    assert_eq!(rt; words.as_str(), "line 2: no such server: 1");
     Ok(())
 }
 
