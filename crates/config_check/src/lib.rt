@@ -12,6 +12,3 @@ pub use drawing::run_picture;
 pub use explaining::run_explain;
 pub use status::RunFault;
 pub use verdict::{write_accepted, write_refusal};
-
-#[cfg(test)]
-mod tests;

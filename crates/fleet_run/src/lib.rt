@@ -12,6 +12,3 @@ pub use bad::first_bad_event;
 pub use drive::drive_any;
 pub use memory_fleet::{Loss, Manner, MemoryFleet};
 pub use script::{DriveFault, Event, Output, Report, Script, Transcript};
-
-#[cfg(test)]
-mod tests;

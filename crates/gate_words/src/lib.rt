@@ -12,6 +12,3 @@ pub use explanation::{Explanation, explain};
 pub use standings::Standing;
 pub use ways::{Listed, Step};
 pub use writing::write_explanation;
-
-#[cfg(test)]
-mod tests;

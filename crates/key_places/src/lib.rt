@@ -6,6 +6,3 @@ pub mod running;
 pub mod writing;
 
 pub use running::run_where;
-
-#[cfg(test)]
-mod tests;

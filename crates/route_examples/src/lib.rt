@@ -1,4 +1,4 @@
-//! Worked examples of routes: configurations and their faults, jobs of one command on small trees, the places of trees, and the gate's
+//! Worked examples of routes: plain trees, configurations and their faults, jobs of one command on small trees, the places of trees, and the gate's
 //! verdicts. They stand above the crates that they show, so that a change of an example proves the example alone.
 #![tactic(auto)]
 
@@ -10,3 +10,5 @@ mod gates;
 mod jobs;
 #[cfg(test)]
 mod places;
+#[cfg(test)]
+mod route_trees;

@@ -12,6 +12,3 @@ pub mod quoting;
 pub mod statements;
 
 pub use picture::{write_gap_picture, write_picture};
-
-#[cfg(test)]
-mod tests;

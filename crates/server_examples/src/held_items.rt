@@ -1,8 +1,7 @@
 //! Worked cases of what a server holds, by hand from memcached's protocol.txt, "Increment/Decrement" and "Storage
 //! commands", and from the rule that a stamp is the number of the command whose data began the item.
 
-use crate::agree::agrees;
-use crate::marks::{HeldItem, Mark, held};
+use mc_runs::{HeldItem, Mark, agrees, held};
 use mc_types::{Answer, Ask, Body, Code, Dialect, Fields, Key, Op, Tokens};
 use std::alloc::{AllocError, Global};
 use std::test::Fail;

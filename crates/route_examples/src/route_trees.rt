@@ -5,8 +5,8 @@ ghost use Rattle.std.specs.Prelude.{◌≡◌, ◌<◌, ◌≤◌, ℕ, IfOk, If
 ghost use Rattle.mc_types.specs.KeyText.{IsKey};
 ghost use Rattle.route_tree.specs.Route as route;
 
-use crate::{Place, Plain, PlainForm, Tree, TreeForm};
 use mc_types::{Key, Op, ServerId};
+use route_tree::{Place, Plain, PlainForm, Tree, TreeForm};
 use std::alloc::{AllocError, Global};
 use std::test::Fail;
 

@@ -1,7 +1,7 @@
 //! Scripts that run, that are refused, and that can't be read.
 
-use crate::{run_replay, run_replay_over};
 use config_check::status::{BAD_INPUT, DONE, REFUSED, WRITER};
+use replay::{run_replay, run_replay_over};
 use route_json::{Config, read_config};
 use std::alloc::Global;
 use std::io;

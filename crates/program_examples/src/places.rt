@@ -1,7 +1,7 @@
 //! Blocks of worked keys.
 
-use crate::running::run_where;
 use config_check::status::DONE;
+use key_places::run_where;
 use mc_types::Key;
 use std::alloc::Global;
 use std::test::Fail;

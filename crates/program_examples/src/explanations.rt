@@ -3,8 +3,8 @@
 ghost use Rattle.std.specs.Prelude.{◌≡◌, IfOk};
 ghost use Rattle.route_tree.specs.Plan as plan;
 
-use crate::{explain, write_explanation};
 use coverage::{Deleting, taken};
+use gate_words::{explain, write_explanation};
 use mc_types::{Op, ServerId};
 use route_tree::{Plain, PlainForm};
 use server_addresses::Servers;

@@ -1,7 +1,8 @@
 //! Scripts with known transcripts: what clients of memcached see, and what failures, losses and time do to it.
-use crate::run_replay;
+
 use config_check::run_check;
 use config_check::status::{BAD_INPUT, DONE};
+use replay::run_replay;
 use std::alloc::{AllocError, Global};
 use std::test::Fail;
 

@@ -1,7 +1,6 @@
 //! Scripts as events: which can't be, and what the others hand out.
-use crate::bad::first_bad_event;
-use crate::drive::drive_any;
-use crate::script::{DriveFault, Event, Script, Transcript};
+
+use fleet_run::{DriveFault, Event, Script, Transcript, drive_any, first_bad_event};
 use mc_types::{Key, ServerId};
 use memory_fleet::{Loss, Manner, MemoryFleet};
 use route_json::Config;

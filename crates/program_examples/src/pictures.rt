@@ -1,7 +1,5 @@
 //! Pictures of worked configurations, written out by hand.
 
-use crate::quoting::Quoted;
-use crate::{write_gap_picture, write_picture};
 use coverage::Deleting;
 use fresh_gate::Gap;
 use gate_words::{Listed, Step};
@@ -10,6 +8,8 @@ use route_json::{Config, read_config};
 use route_tree::Place;
 use std::alloc::Global;
 use std::test::Fail;
+use tree_picture::quoting::Quoted;
+use tree_picture::{write_gap_picture, write_picture};
 
 fn config(alloc: Global, text: &str) -> Result<Config, Fail> {
     match read_config(alloc, text) {

@@ -1,9 +1,7 @@
 //! The printed verdicts of worked configurations.
 
-use crate::checking::run_check;
-use crate::drawing::run_picture;
-use crate::explaining::run_explain;
-use crate::status::{BAD_INPUT, DONE, REFUSED, WRITER};
+use config_check::status::{BAD_INPUT, DONE, REFUSED, WRITER};
+use config_check::{run_check, run_explain, run_picture};
 use std::alloc::{AllocError, Global};
 use std::io;
 use std::io::{ErrorKind, Write};
