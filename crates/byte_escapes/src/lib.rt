@@ -4,6 +4,3 @@
 pub mod printing;
 
 pub use printing::{Escaped, EscapedByte};
-
-#[cfg(test)]
-mod tests;

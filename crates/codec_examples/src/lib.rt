@@ -1,11 +1,13 @@
-//! Worked examples of the protocol: requests and answers of both dialects, and streams of messages. They stand above the crates that
-//! they show, so that a change of an example proves the example alone.
+//! Worked examples of the protocol: values and their copies, words and numbers of lines, requests and answers of both dialects,
+//! and streams of messages. They stand above the crates that they show, so that a change of an example proves the example alone.
 #![tactic(auto)]
 
 #[cfg(test)]
 mod answers_classic;
 #[cfg(test)]
 mod answers_meta;
+#[cfg(test)]
+mod parts;
 #[cfg(test)]
 mod requests_classic;
 #[cfg(test)]
@@ -14,3 +16,7 @@ mod requests_meta;
 mod requests_mixed;
 #[cfg(test)]
 mod streams;
+#[cfg(test)]
+mod texts;
+#[cfg(test)]
+mod values;

@@ -6,6 +6,3 @@ pub mod tag;
 
 pub use hash::fnv1a_32;
 pub use tag::{hash_part, key_hash, slot};
-
-#[cfg(test)]
-mod tests;

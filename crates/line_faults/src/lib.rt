@@ -9,6 +9,3 @@ pub mod trouble;
 pub mod words;
 
 pub use finding::{BadLine, Wrong, bad_line_in_events, bad_line_in_script};
-
-#[cfg(test)]
-mod tests;

@@ -7,6 +7,3 @@ mod calls;
 
 pub use asks::is_ask;
 pub use calls::{LinkCalls, Next, SentCall, fail_call};
-
-#[cfg(test)]
-mod tests;

@@ -11,6 +11,3 @@ pub mod word;
 
 pub use ends::Line;
 pub use reading::line;
-
-#[cfg(test)]
-mod tests;

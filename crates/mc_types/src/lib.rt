@@ -18,6 +18,3 @@ pub use error_text::{ErrorText, OwnText};
 pub use key::{Key, KeyFault};
 pub use limits::{DATA_LIMIT, ERROR_TEXT_LIMIT, KEY_LIMIT};
 pub use token::{Opaque, Token, Tokens};
-
-#[cfg(test)]
-mod tests;

@@ -1,9 +1,14 @@
-//! Worked examples of what the program prints: verdicts, explanations, pictures, the places of keys, and scripts. They stand above the
-//! crates that they show, so that a change of an example proves the example alone.
+//! Worked examples of what the program reads and prints: lines of scripts and what is wrong with them, verdicts, explanations,
+//! pictures, the places of keys, and scripts. They stand above the crates that they show, so that a change of an example proves
+//! the example alone.
 #![tactic(auto)]
 
 #[cfg(test)]
+mod bad_lines;
+#[cfg(test)]
 mod driven_scripts;
+#[cfg(test)]
+mod escaped_bytes;
 #[cfg(test)]
 mod explanations;
 #[cfg(test)]
@@ -12,6 +17,8 @@ mod pictures;
 mod places;
 #[cfg(test)]
 mod replays;
+#[cfg(test)]
+mod script_texts;
 #[cfg(test)]
 mod scripts;
 #[cfg(test)]

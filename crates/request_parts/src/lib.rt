@@ -13,6 +13,3 @@ pub use block::{End, block_end};
 pub use own::Own;
 pub use refusal::Why;
 pub use skip::Skip;
-
-#[cfg(test)]
-mod tests;

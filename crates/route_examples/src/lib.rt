@@ -1,13 +1,20 @@
-//! Worked examples of routes: plain trees, configurations and their faults, jobs of one command on small trees, the places of trees, and the gate's
-//! verdicts. They stand above the crates that they show, so that a change of an example proves the example alone.
+//! Worked examples of routes: hashes, names, addresses, plain trees, configurations and their faults, jobs of one command on
+//! small trees, the places of trees, and the gate's verdicts. They stand above the crates that they show, so that a change of an
+//! example proves the example alone.
 #![tactic(auto)]
 
+#[cfg(test)]
+mod addresses;
 #[cfg(test)]
 mod configurations;
 #[cfg(test)]
 mod gates;
 #[cfg(test)]
+mod hashes;
+#[cfg(test)]
 mod jobs;
+#[cfg(test)]
+mod names;
 #[cfg(test)]
 mod places;
 #[cfg(test)]

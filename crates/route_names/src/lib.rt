@@ -8,6 +8,3 @@ pub mod words;
 pub use holders::{Holder, is_field};
 pub use kinds::{Kind, Lists, kind_of};
 pub use words::{behind, op_of};
-
-#[cfg(test)]
-mod tests;

@@ -10,6 +10,4 @@ pub mod laws;
 pub mod meaning;
 pub mod printer;
 pub mod reader;
-#[cfg(test)]
-mod tests;
 pub mod words;

@@ -8,6 +8,3 @@ pub mod servers;
 pub use address::is_address;
 pub use server_text::read_server;
 pub use servers::Servers;
-
-#[cfg(test)]
-mod tests;

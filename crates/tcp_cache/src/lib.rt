@@ -12,6 +12,3 @@ mod settings;
 
 pub use end::CacheEnd;
 pub use settings::Settings;
-
-#[cfg(test)]
-mod tests;

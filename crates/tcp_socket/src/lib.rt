@@ -6,6 +6,3 @@ pub mod readiness;
 
 pub use conn::{Conn, Got, Limits, Sent};
 pub use readiness::{Ready, watch};
-
-#[cfg(test)]
-mod tests;

@@ -1,7 +1,6 @@
 //! Tests: hashes and hash parts that are known from outside.
 
-use crate::hash::fnv1a_32;
-use crate::tag::{hash_part, slot};
+use key_hash::{fnv1a_32, hash_part, slot};
 use mc_types::Key;
 
 // Values of the published test vectors, of a pool of servers that other proxies know (`apple`), and of one with a tag.

@@ -1,17 +1,17 @@
 //! Tests: the lines of scripts.
 
-use crate::configured::ScriptFault;
-use crate::escapes::unescape;
-use crate::event::read_event;
-use crate::fault::LineFault;
-use crate::front::front_of;
-use crate::laws::escapes_are_read_back;
-use crate::printer::{write_bad_line, write_config_fault, write_report, write_transcript};
-use crate::reader::{read_events, read_script};
-use crate::words::{cut, number_under};
 use fleet_run::{Event, Loss, Manner, Output, Report, Transcript};
 use mc_types::ServerId;
 use route_json::{Config, ConfigFault};
+use script_text::configured::ScriptFault;
+use script_text::escapes::unescape;
+use script_text::event::read_event;
+use script_text::fault::LineFault;
+use script_text::front::front_of;
+use script_text::laws::escapes_are_read_back;
+use script_text::printer::{write_bad_line, write_config_fault, write_report, write_transcript};
+use script_text::reader::{read_events, read_script};
+use script_text::words::{cut, number_under};
 use std::alloc::{AllocError, Global};
 use std::test::Fail;
 

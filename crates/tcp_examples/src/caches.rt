@@ -1,12 +1,12 @@
 //! Tests: clients on 127.0.0.1, which are served in turns.
 
-use crate::{CacheEnd, Settings};
 use std::alloc::Global;
 use std::io;
 use std::io::{ErrorKind, Read, Write};
 use std::net::{Shutdown, TcpStream};
 use std::test::Fail;
 use std::time::Duration;
+use tcp_cache::{CacheEnd, Settings};
 
 fn listen(rt: &HostRuntime, settings: Settings) -> io::Result<CacheEnd<HostRuntime>> {
     CacheEnd::listen(rt, "127.0.0.1:0", settings)

@@ -1,6 +1,6 @@
 //! Tests: bytes as they are printed.
 
-use super::*;
+use byte_escapes::{Escaped, EscapedByte};
 use std::test::Fail;
 
 #[test]

@@ -4,10 +4,10 @@ ghost use Rattle.std.specs.Prelude.{◌≡◌, ◌≤◌};
 ghost use Rattle.std.specs.Io.{ReadsAtMost, WritesAtMost};
 ghost use Rattle.std.specs.Io.KnownBytes.{ReadConsumes, WriteAppends, Keeps};
 
-use crate::{Conn, Got, Limits, Sent};
 use std::io;
 use std::io::{ErrorKind, Read, Write};
 use std::test::Fail;
+use tcp_socket::{Conn, Got, Limits, Sent};
 
 // What a stream does when it is next called.
 #[derive(Clone, Copy)]

@@ -1,7 +1,7 @@
 //! Tests: names of routes, fields and operations.
 
-use super::*;
 use mc_types::Op;
+use route_names::{Holder, Kind, Lists, behind, is_field, kind_of, op_of};
 
 // Each operation has its name in the classic dialect.
 #[test]

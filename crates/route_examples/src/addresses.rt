@@ -1,7 +1,7 @@
 //! Worked examples.
 
-use super::*;
 use mc_types::ServerId;
+use server_addresses::{Servers, is_address, read_server};
 use std::alloc::Global;
 use std::test::Fail;
 

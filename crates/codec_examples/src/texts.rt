@@ -1,9 +1,9 @@
 //! Tests: lines, words and numbers.
 
-use super::*;
-use crate::arithmetic::change;
-use crate::number::{number, signed, small_number};
-use crate::word::{Span, next_word};
+use mc_text::arithmetic::change;
+use mc_text::number::{number, signed, small_number};
+use mc_text::word::{Span, next_word};
+use mc_text::{Line, line};
 use std::test::Fail;
 
 #[test]

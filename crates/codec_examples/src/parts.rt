@@ -1,5 +1,6 @@
 //! The lines of refusals, and keys of a line.
-use super::*;
+
+use request_parts::Why;
 
 #[test]
 fn refusal_lines(rt: HostRuntime) {

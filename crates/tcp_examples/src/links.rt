@@ -1,9 +1,9 @@
 //! Two gets of one client, whose calls are out at one server.
 
-use super::*;
 use bytes::BytesMut;
 use fresh_core::FreshCore;
 use fresh_gate::judge;
+use link_calls::{LinkCalls, Next, SentCall};
 use proxy_core::{Limits, Poll, Ticket};
 use route_json::read_config;
 use std::alloc::Global;

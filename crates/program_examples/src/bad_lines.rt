@@ -1,7 +1,7 @@
 //! Bad lines and their words.
 
-use crate::finding::{BadLine, bad_line_in_events, bad_line_in_script};
-use crate::laws::each_line_is_either;
+use line_faults::laws::each_line_is_either;
+use line_faults::{BadLine, bad_line_in_events, bad_line_in_script};
 use route_json::Config;
 use std::alloc::Global;
 use std::test::Fail;

@@ -1,12 +1,9 @@
 //! Tests: keys, opaque texts, bodies and copies.
 
-use crate::answer::{Answer, Code, Fields};
-use crate::ask::{Ask, Dialect, Op};
-use crate::body::Body;
-use crate::call::Outcome;
-use crate::error_text::{ErrorText, OwnText};
-use crate::key::{Key, KeyFault};
-use crate::token::{Opaque, Token, Tokens};
+use mc_types::{
+    Answer, Ask, Body, Code, Dialect, ErrorText, Fields, Key, KeyFault, Op, Opaque, Outcome,
+    OwnText, Token, Tokens,
+};
 use std::test::Fail;
 
 // The limits of protocol.txt: 250 characters, no control characters, no white space.
