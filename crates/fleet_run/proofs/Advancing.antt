@@ -9,7 +9,7 @@ use Rattle.mc_types.specs.Items.{Item}
 use Rattle.mc_runs.specs.Fleet.{AreOn}
 use Rattle.mc_runs.specs.Stale.{stale_since}
 use Rattle.mc_runs.specs.Log.{Part, Point, after_reply}
-use Rattle.mc_runs.specs.Standing.{Standing, Works, Moves}
+use Rattle.mc_runs.specs.Standing.{Standing, Moves}
 use Rattle.mc_runs.proofs.LogWorks.{works_nothing, works_on, works_passed, works_each}
 use Rattle.request_parts.specs.declared.skip.Skip.TheVariants.{Nothing}
 use Rattle.client_requests.specs.declared.request.Request.{Request}
@@ -30,12 +30,12 @@ use Rattle.memory_fleet.specs.Fleets.{holds_of, begun_of}
 use Rattle.route_tree.specs.Route.{Route}
 use Rattle.route_tree.specs.At.{tree_at}
 use Rattle.route_tree.specs.Servers.{CallsStay}
-use Rattle.route_tree.specs.Direct.{words_of}
+use Rattle.route_tree.specs.Word.{Word}
 use Rattle.fleet_run.specs.Gone.{number_in}
 use Rattle.connections.proofs.Requests.{request_behind}
 use Rattle.fleet_run.specs.declared.router.Router.{Router}
 use Rattle.connections.specs.Steps.{place_behind, Shows}
-use Rattle.fleet_run.specs.Serving.{tree_of, point_at, placed, Advances, Asked, next_index, IsOnWay, IsAskAt, ServesAsk}
+use Rattle.fleet_run.specs.Serving.{tree_of, words_by, point_at, placed, Advances, Asked, next_index, IsOnWay, IsAskAt, ServesAsk}
 
 same : {A : Type 0} (c : ℕ) (x y : A) → cond (nat_eq c c) x y ≡ x
 same c x y = ap (λ b. cond b x y) (eq-eqb c c refl)
@@ -61,7 +61,7 @@ placed_moves base c i j old new router router' fleet fleet' place more g =
 pub passes : (old new : Connection) (router : Router) (fleet : MemoryFleet) (said : Said) (next : Place) → ReadsNext old.stream said next → memcached_text.asks_of said ≡ [] → GoesTo old next (memcached_text.passed said) new → Advances old 0 router fleet new 0 router fleet
 passes old new router fleet said next reads none g =
     record {
-      works = λ base c. works_passed memcached_text (words_of (tree_of router)) (placed base c old 0 router fleet) (placed base c new 0 router fleet) c said next
+      works = λ at loaded base c. works_passed memcached_text (words_by at) (placed base c old 0 router fleet) (placed base c new 0 router fleet) c said next
           (record {
             reads = subst (λ (p : Point memcached_text). ReadsNext p.place said next) (sym (same c (point_at old 0) (base.point c))) reads;
             asks = none;
@@ -70,18 +70,20 @@ passes old new router fleet said next reads none g =
           });
       tree = refl;
       count = refl;
+      later = omega arith;
       few = λ e. e;
     }
 
 pub advances_nothing : (x : Connection) (i : ℕ) (router : Router) (fleet : MemoryFleet) → Advances x i router fleet x i router fleet
-advances_nothing x i router fleet = record { works = λ base c. works_nothing memcached_text (words_of (tree_of router)) (placed base c x i router fleet) c; tree = refl; count = refl; few = λ e. e }
+advances_nothing x i router fleet = record { works = λ at loaded base c. works_nothing memcached_text (words_by at) (placed base c x i router fleet) c; tree = refl; count = refl; later = omega arith; few = λ e. e }
 
 pub advances_on : (x y z : Connection) (i j k : ℕ) (p q r : Router) (f g h : MemoryFleet) → Advances x i p f y j q g → Advances y j q g z k r h → Advances x i p f z k r h
 advances_on x y z i j k p q r f g h a b =
     record {
-      works = λ base c. works_on memcached_text (words_of (tree_of p)) (placed base c x i p f) (placed base c y j q g) (placed base c z k r h) c (a.works base c) (subst (λ (n : Route). Works (words_of n) (placed base c y j q g) c (placed base c z k r h)) a.tree (b.works base c));
+      works = λ at loaded base c. works_on memcached_text (words_by at) (placed base c x i p f) (placed base c y j q g) (placed base c z k r h) c (a.works at loaded base c) (b.works at (λ n lt. loaded n (let l = a.later in omega (arith, lt, l)) ∙ sym a.tree) base c);
       tree = b.tree ∙ a.tree;
       count = b.count ∙ a.count;
+      later = let l = a.later in let m = b.later in omega (arith, l, m);
       few = λ e. b.few (a.few e);
     }
 
@@ -115,10 +117,9 @@ replied law old new router router' fleet fleet' held request i ask reply ended p
     let next : Place = behind m rest in
     let behind_is : next ≡ Stands Nothing rest = request_behind held request rest i ask at in
     let part : Part memcached_text = record { message = Whole m; next = next; index = i; ask = ask } in
-    let words = words_of (tree_of router) in
     let on_key : AreOn ask.key asked.calls = (law (tree_at (tree_of router) ask.key) ask Client 0 asked.calls (record { reply = reply; from = asked.from }) asked.word).0 in
     record {
-      works = λ base c.
+      works = λ at_number loaded base c.
           let before : Standing memcached_text = placed base c old i router fleet in
           let after : Standing memcached_text = placed base c new (next_index ended i) router' fleet' in
           let at_front : before.point c ≡ point_at old i = same c (point_at old i) (base.point c) in
@@ -130,7 +131,7 @@ replied law old new router router' fleet fleet' held request i ask reply ended p
           subst (λ (p : Point memcached_text). Moves before c p (memcached_text.shown (Whole m) i reply) after) point
           (subst (λ (l : List ℕ). Moves before c (record { place = place_behind ended old rest; index = next_index ended i }) l after) shown
           (placed_moves base c i (next_index ended i) old new router router' fleet fleet' _ _ g)) in
-          works_each memcached_text words before after c (begun_of fleet + 1) part asked.calls reply asked.from
+          works_each memcached_text (words_by at_number) before after c (begun_of fleet + 1) part asked.calls reply asked.from
           (record {
             next = record {
               reads = subst (λ (p : Point memcached_text). ReadsNext p.place (Whole m) next) (sym at_front) reads;
@@ -143,7 +144,7 @@ replied law old new router router' fleet fleet' held request i ask reply ended p
             named = asked.named_is;
           })
           (record {
-            word = (is, asked.word);
+            word = (is, subst (λ (t : Route). Word (tree_at t ask.key) ask Client 0 asked.calls (record { reply = reply; from = asked.from })) (sym (loaded (begun_of fleet + 1) (omega arith))) asked.word);
             on_key = on_key;
             state = record { holds = holds_of fleet'; found = asked.found };
             made = asked.made;
@@ -155,6 +156,7 @@ replied law old new router router' fleet fleet' held request i ask reply ended p
           });
       tree = asked.tree;
       count = asked.count_is;
+      later = let next = asked.begun_is in omega (arith, next);
       few = λ e.
           let more = asked.stale in
           let one : stale_since (number_in router.gone ask.key) asked.item ≤ 1 = at_most_one (number_in router.gone ask.key) asked.item in

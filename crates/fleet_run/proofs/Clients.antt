@@ -14,9 +14,10 @@ use Rattle.text_codec.specs.TextProtocol.{memcached_text}
 use Rattle.connections.specs.declared.connection.Connection.{Connection}
 use Rattle.connections.specs.Steps.{output_of}
 use Rattle.memory_fleet.specs.declared.fleet.MemoryFleet.{MemoryFleet}
-use Rattle.route_tree.specs.Direct.{words_of}
+use Rattle.memory_fleet.specs.Fleets.{begun_of}
+use Rattle.route_tree.specs.Route.{Route}
 use Rattle.fleet_run.specs.declared.router.Router.{Router}
-use Rattle.fleet_run.specs.Serving.{tree_of, point_at, placed}
+use Rattle.fleet_run.specs.Serving.{tree_of, words_by, IsFrom, point_at, placed}
 use Rattle.fleet_run.specs.Driving.{point_in, output_in, standing_of, ServesPiece}
 
 at_point : (xs : List Connection) (c : ℕ) (x : Connection) → c < length xs → x ≡ get_or xs c x → point_in xs c ≡ point_at x 0
@@ -72,9 +73,9 @@ over true x y z w e = e
 over false x y z w e = refl
 
 -- a piece of one of the clients
-pub piece_taken : (clients : List Connection) (c : ℕ) (x y : Connection) (bytes out : List ℕ) (router router' : Router) (fleet fleet' : MemoryFleet) (given given' : List Shown) → c < length clients → x ≡ get_or clients c x → ServesPiece x router fleet bytes out y router' fleet' → given' ≡ given ++ one_shown c out
-    → TakesUp (words_of (tree_of router)) (standing_of clients router fleet) given (Piece c bytes) (standing_of (set clients c y) router' fleet') given'
-piece_taken clients c x y bytes out router router' fleet fleet' given given' lt is s handed =
+pub piece_taken : (clients : List Connection) (c : ℕ) (x y : Connection) (bytes out : List ℕ) (router router' : Router) (fleet fleet' : MemoryFleet) (given given' : List Shown) → c < length clients → x ≡ get_or clients c x → ServesPiece x router fleet bytes out y router' fleet' → given' ≡ given ++ one_shown c out → (trees : ℕ → Route) → IsFrom (begun_of fleet) (tree_of router) trees
+    → TakesUp (words_by trees) (standing_of clients router fleet) given (Piece c bytes) (standing_of (set clients c y) router' fleet') given'
+piece_taken clients c x y bytes out router router' fleet fleet' given given' lt is s handed trees loaded =
     let old : Standing memcached_text = standing_of clients router fleet in
     let mid : Standing memcached_text = placed old c s.fed 0 router fleet in
     let served : Standing memcached_text = placed old c s.served 0 router' fleet' in
@@ -94,4 +95,4 @@ piece_taken clients c x y bytes out router router' fleet fleet' given given' lt 
       point = λ d. point_set clients c y lt d ∙ where_same (nat_eq c d) (point_at y 0) (point_at s.served 0) (point_in clients d) (λ e. ap (λ (p : Place). let q : Point memcached_text = record { place = p; index = 0 } in q) s.stream);
       rests = record { number = refl; holds = λ a k. refl; turn = refl; named = λ t. refl; stale = refl; gone = λ k. refl };
     } in
-    piece_up memcached_text (words_of (tree_of router)) old mid served taken given given' c bytes out fed (s.serves.advances.works old c) took handed
+    piece_up memcached_text (words_by trees) old mid served taken given given' c bytes out fed (s.serves.advances.works trees loaded old c) took handed

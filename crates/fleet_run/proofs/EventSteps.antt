@@ -1,5 +1,5 @@
 -- Events that no client sends are more of every log.
-use Rattle.std.proofs.Common.{◌≡◌, ℕ, ℤ, ◌+◌, List, ◌∷◌, ◌++◌, Option, refl, sym, ap, ◌∙◌, subst}
+use Rattle.std.proofs.Common.{◌≡◌, ℕ, ℤ, ◌+◌, List, [], ◌∷◌, ◌++◌, Option, refl, sym, ap, ◌∙◌, subst}
 use Rattle.mc_types.specs.Items.{Item}
 use Rattle.mc_runs.specs.Run.{Words, Event, Loses, Restarts, held, IsNewNumber}
 use Rattle.mc_runs.specs.Fleet.{after_event}
@@ -108,6 +108,7 @@ module _ (P : Protocol) (words : Words) where
       taken = λ c. q.output c ∙ s.taken c;
     },
     refl,
+    (Happens (Loses server key) ∷ (Takes (Now (Lose server key)) ∷ []), refl),
   )
   lost_up old new given (Restart server) q holds = λ opening log s. (
     Happens (Restarts server) ∷ (Takes (Now (Restart server)) ∷ log),
@@ -130,4 +131,5 @@ module _ (P : Protocol) (words : Words) where
       taken = λ c. q.output c ∙ s.taken c;
     },
     refl,
+    (Happens (Restarts server) ∷ (Takes (Now (Restart server)) ∷ []), refl),
   )

@@ -6,5 +6,8 @@ pub mod BadEvents
 pub mod Openings
 pub mod EventSteps
 pub mod Driven
+pub mod Belows
+pub mod Due
+pub mod Reloading
 pub mod Commands
 pub mod CountLemmas

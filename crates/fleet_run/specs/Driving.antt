@@ -29,7 +29,7 @@ use Rattle.fleet_run.specs.declared.script.DriveFault.{DriveFault}
 use Rattle.fleet_run.specs.declared.script.DriveFault.TheVariants.{BadEvent, NoMemory, Spent}
 use Rattle.route_tree.specs.Route.{Route}
 use Rattle.route_tree.specs.Direct.{is_direct, words_of}
-use Rattle.fleet_run.specs.Serving.{tree_of, point_at, ServesAll}
+use Rattle.fleet_run.specs.Serving.{tree_of, words_by, IsFrom, point_at, ServesAll}
 use Rattle.fleet_run.specs.Scripted.{Scripted, Piece, Fail, Hold, At, Now, Moment, scripted_of, transcript_of}
 use Rattle.fleet_run.specs.Opening.{opening_of}
 
@@ -144,9 +144,10 @@ module _ (words : Words) (old : Standing memcached_text) (given : List Shown) (f
 
 -- the event was taken up
 pub record TakesEvent (clients : List Connection) (router : Router) (fleet : MemoryFleet) (transcript : Transcript) (event : Event) (clients' : List Connection) (router' : Router) (fleet' : MemoryFleet) (transcript' : Transcript) : Type 0 where
-  pub takes : TakesBy (words_of (tree_of router)) (standing_of clients router fleet) (transcript_of transcript) fleet (standing_of clients' router' fleet') (transcript_of transcript') fleet' (scripted_of event)
+  pub takes : (at : ℕ → Route) → IsFrom (begun_of fleet) (tree_of router) at → TakesBy (words_by at) (standing_of clients router fleet) (transcript_of transcript) fleet (standing_of clients' router' fleet') (transcript_of transcript') fleet' (scripted_of event)
   pub tree : tree_of router' ≡ tree_of router
   pub count : count_of fleet' ≡ count_of fleet
+  pub later : begun_of fleet ≤ begun_of fleet'
   pub few : router.stale ≤ begun_of fleet → router'.stale ≤ begun_of fleet'
   pub clients_are : length clients' ≡ length clients
 

@@ -5,3 +5,4 @@ pub mod Scripted
 pub mod Bad
 pub mod Opening
 pub mod Driving
+pub mod Reloads

@@ -5,7 +5,7 @@ use Rattle.mc_types.specs.declared.answer.Answer.{Answer}
 use Rattle.mc_types.specs.declared.call.Origin.TheVariants.{Client}
 use Rattle.mc_types.specs.Acknowledged.{says_gone}
 use Rattle.mc_types.specs.Items.{Item}
-use Rattle.mc_runs.specs.Run.{Call}
+use Rattle.mc_runs.specs.Run.{Call, Words}
 use Rattle.mc_runs.specs.Stale.{is_delete_op, stale_since}
 use Rattle.mc_runs.specs.Protocol.{IsStuck}
 use Rattle.mc_runs.specs.Log.{Point}
@@ -26,10 +26,9 @@ use Rattle.memory_fleet.specs.declared.event.FleetFault.{FleetFault}
 use Rattle.memory_fleet.specs.declared.event.FleetFault.TheVariants.{NoMemory, Spent}
 use Rattle.route_tree.specs.Route.{Route, IsTree}
 use Rattle.route_tree.specs.At.{tree_at}
-use Rattle.route_tree.specs.Direct.{words_of}
 use Rattle.route_tree.specs.Each.{Each}
 use Rattle.route_tree.specs.Sources.{IsFormed}
-use Rattle.route_tree.specs.Word.{Given, Word}
+use Rattle.route_tree.specs.Word.{Given, Word, tree_words}
 use Rattle.route_job.specs.Executing.{MakesAll}
 use Rattle.route_job.specs.Given.{given_of}
 use Rattle.route_job.specs.declared.done.Done.{Done}
@@ -40,6 +39,14 @@ use Rattle.fleet_run.specs.Gone.{number_in}
 -- the tree that commands go through
 abbrev pub tree_of : Router → Route
 tree_of router = router.tree.now
+
+-- the words of commands of which each has its tree
+abbrev pub words_by : (ℕ → Route) → Words
+words_by at = tree_words (λ number key. tree_at (at number) key)
+
+-- each command above the number has this tree
+abbrev pub IsFrom : ℕ → Route → (ℕ → Route) → Type 0
+IsFrom number tree at = (n : ℕ) → number < n → at n ≡ tree
 
 -- how far the client was served: this key of the message at its front is next
 abbrev pub point_at : Connection → ℕ → Point memcached_text
@@ -59,11 +66,12 @@ placed base c x i router fleet =
       gone = number_in router.gone;
     }
 
--- what was done for the client is more of every log, whoever the others are
+-- what was done for the client is more of every log, whoever the others are, and whichever trees earlier commands had
 pub record Advances (old : Connection) (i : ℕ) (router : Router) (fleet : MemoryFleet) (new : Connection) (j : ℕ) (router' : Router) (fleet' : MemoryFleet) : Type 0 where
-  pub works : (base : Standing memcached_text) (c : ℕ) → Works (words_of (tree_of router)) (placed base c old i router fleet) c (placed base c new j router' fleet')
+  pub works : (at : ℕ → Route) → IsFrom (begun_of fleet) (tree_of router) at → (base : Standing memcached_text) (c : ℕ) → Works (words_by at) (placed base c old i router fleet) c (placed base c new j router' fleet')
   pub tree : tree_of router' ≡ tree_of router
   pub count : count_of fleet' ≡ count_of fleet
+  pub later : begun_of fleet ≤ begun_of fleet'
   -- each command is stale once at most
   pub few : router.stale ≤ begun_of fleet → router'.stale ≤ begun_of fleet'
 

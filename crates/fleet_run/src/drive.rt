@@ -1,17 +1,18 @@
 //! A script, run through a tree of routes on servers in memory.
 
-ghost use Rattle.std.specs.Prelude.{◌≡◌, ◌<◌, ◌≤◌, pos, ◌≤ℤ◌, List, [], true, false, length, map, None, IfOk, IfErr, OnOk, OnErr, MatchResult};
+ghost use Rattle.std.specs.Prelude.{◌≡◌, ◌<◌, ◌≤◌, ◌↔◌, ◌⊎◌, pos, ◌≤ℤ◌, List, [], ◌∷◌, ◌++◌, true, false, length, map, slice_get, Some, None, IsTrue, IfSome, IfOk, IfErr, OnOk, OnErr, MatchResult};
 ghost use Rattle.route_tree.specs.Route.{IsTree};
 ghost use Rattle.memory_fleet.specs.Fleets.{IsNewFleet, IsMoment, count_of, begun_of};
 ghost use Rattle.memory_fleet.specs.declared.event.FleetFault.TheVariants.{NoMemory};
 ghost use Rattle.fleet_run.specs.Serving.{IsServed, SpentBy, tree_of};
 ghost use Rattle.fleet_run.specs.Scripted.{Scripted, scripted_of, transcript_of};
 ghost use Rattle.fleet_run.specs.Bad.{bad_in, first_bad, Refuses};
-ghost use Rattle.fleet_run.specs.Driving.{ServesPiece, HandsOut, TakesEvent, AreNew, Drives, DrivesPart, EndsAsFault, IsSpent, fault_of};
+ghost use Rattle.fleet_run.specs.Driving.{ServesPiece, HandsOut, TakesEvent, AreNew, Drives, EndsAsFault, IsSpent, fault_of};
+ghost use Rattle.fleet_run.specs.Reloads.{AreInOrder, DrivesBy, DrivesPartBy, EndsBy, is_refused, one_more};
 
 use crate::bad::{CLIENTS, first_bad_event};
 use crate::router::Router;
-use crate::script::{DriveFault, Event, Output, Report, Script, Transcript};
+use crate::script::{DriveFault, Event, Output, Reload, Report, Script, Transcript};
 use crate::serve::serve;
 use connections::Connection;
 use memory_fleet::{FleetFault, MemoryFleet};
@@ -108,27 +109,107 @@ fn new_clients(alloc: Global) -> Result<Vec<Connection>, AllocError>
     Ok(clients)
 }
 
-// The events of a script of which none is bad.
+// Whether the reload of this number comes before the event of this place.
+fn is_due(reloads: &[Reload], loaded: usize, next: usize) -> bool
+    ensures { IsTrue result ↔ ((loaded < length reloads.now) × IfSome (slice_get reloads.now loaded) (λ r. r.at ≤ next)) }
+{
+    loaded < reloads.len() && reloads[loaded].at <= next
+}
+
+// Whether an event or a reload is left.
+fn is_left(events: usize, reloads: usize, next: usize, loaded: usize) -> bool
+    ensures { IsTrue result ↔ ((next < events) ⊎ (loaded < reloads)) }
+{
+    next < events || loaded < reloads
+}
+
+// Whether the reload of this number is refused.
+fn is_refused(refused: &[bool], loaded: usize) -> bool
+    ensures { result ≡ is_refused (slice_get refused.now loaded) }
+{
+    match refused.get(loaded) {
+        Some(refused) => *refused,
+        None => false,
+    }
+}
+
+// The reload's tree is in use from now on, unless it is refused.
+fn take_over<'a>(router: &mut Router<'a>, reload: &'a Reload, refused: bool, servers: usize)
+    requires served { IsServed (tree_of router.old) servers }
+    requires there { length reload.now.config.servers ≤ servers }
+    ensures tree { tree_of router.new ≡ one_more refused (Some reload.now) (tree_of router.old) }
+    ensures rest { router.new ≡ record router.old { tree = router.new.tree } }
+    ensures served { IsServed (tree_of router.new) servers }
+{
+    let _servers = servers;
+    if !refused {
+        let tree = reload.config.tree();
+        is_tree(tree);
+        router.load(tree);
+    }
+}
+
+// Notes how much was handed out before a reload.
+fn mark(marks: &mut Vec<usize>, shown: usize) -> Result<(), FleetFault>
+    ensures ok { OnOk result (marks.new.items ≡ marks.old.items ++ shown ∷ []) }
+    ensures err { OnErr result (marks.new.items ≡ marks.old.items) }
+    ensures fault { IfErr result (λ fault. fault ≡ NoMemory) }
+{
+    match marks.push(shown) {
+        Ok(()) => Ok(()),
+        Err(_) => Err(FleetFault::NoMemory),
+    }
+}
+
+// The events of a script of which none is bad, and its reloads, each at its place.
 fn drive_events(
     alloc: Global,
     tree: &Tree,
+    reloads: &[Reload],
+    refused: &[bool],
     fleet: &mut MemoryFleet,
     script: &Script,
     transcript: &mut Transcript,
+    marks: &mut Vec<usize>,
 ) -> Result<Report, FleetFault>
     requires served { IsServed tree.now (count_of fleet.old) }
+    requires order { AreInOrder (length script.now.events.items) (count_of fleet.old) 0 reloads.now }
     requires fleet { IsNewFleet (count_of fleet.old) fleet.old }
     requires transcript { transcript.old.shown.items ≡ [] }
+    requires marks { marks.old.items ≡ [] }
     requires good { first_bad (count_of fleet.old) (map scripted_of script.now.events.items) ≡ None }
-    ensures ok { IfOk result (λ report. Drives tree.now (map scripted_of script.now.events.items) (transcript_of transcript.new) report) }
-    ensures err { OnErr result (DrivesPart tree.now (map scripted_of script.now.events.items) (transcript_of transcript.new)) }
+    ensures ok { IfOk result (λ report. DrivesBy tree.now refused.now reloads.now (map scripted_of script.now.events.items) (transcript_of transcript.new) marks.new.items report) }
+    ensures err { OnErr result (DrivesPartBy tree.now refused.now reloads.now (map scripted_of script.now.events.items) (transcript_of transcript.new) marks.new.items) }
     ensures spent { IfErr result (λ fault. SpentBy fault fleet.new) }
 {
-    direct_is_one_server();
     let mut clients = new_clients(alloc)?;
     let mut router = Router::new(alloc, tree);
-    for event in &script.events {
-        take_up(alloc, &mut clients, &mut router, fleet, event, transcript)?;
+    let servers = fleet.servers();
+    let events = script.events.as_slice();
+    let mut next = 0;
+    let mut loaded = 0;
+    while is_left(events.len(), reloads.len(), next, loaded) {
+        if is_due(reloads, loaded, next) {
+            let shown = transcript.shown.as_slice();
+            mark(marks, shown.len())?;
+            take_over(
+                &mut router,
+                &reloads[loaded],
+                is_refused(refused, loaded),
+                servers,
+            );
+            loaded += 1;
+        } else {
+            take_up(
+                alloc,
+                &mut clients,
+                &mut router,
+                fleet,
+                &events[next],
+                transcript,
+            )?;
+            next += 1;
+        }
     }
     Ok(Report {
         commands: fleet.commands(),
@@ -150,6 +231,47 @@ fn drive_fault(fault: FleetFault) -> DriveFault
     match fault {
         FleetFault::NoMemory => DriveFault::NoMemory,
         FleetFault::Spent => DriveFault::Spent,
+    }
+}
+
+/// Runs a script on servers in memory, one command at a time, each through the tree in use when it begins: that of the
+/// configuration, and after each of the reloads that reload's, unless it is refused. Reloads of which `refused` says nothing aren't.
+///
+/// Of each reload it notes how many outputs were in the transcript before it. All else is as [`drive_any`] says, its faults too; the
+/// reloads stand in the order of their places, and the fleet has a server for each of all configurations'.
+///
+/// Source: mcgate's own.
+pub fn drive_by(
+    alloc: Global,
+    config: &Config,
+    reloads: &[Reload],
+    refused: &[bool],
+    fleet: &mut MemoryFleet,
+    script: &Script,
+    transcript: &mut Transcript,
+    marks: &mut Vec<usize>,
+) -> Result<Report, DriveFault>
+    requires servers { length config.now.servers ≤ count_of fleet.old }
+    requires few { count_of fleet.old ≤ 4294967295 }
+    requires order { AreInOrder (length script.now.events.items) (count_of fleet.old) 0 reloads.now }
+    requires fleet { IsNewFleet (count_of fleet.old) fleet.old }
+    requires transcript { transcript.old.shown.items ≡ [] }
+    requires marks { marks.old.items ≡ [] }
+    ensures refuses { MatchResult result (λ _. first_bad (count_of fleet.old) (map scripted_of script.now.events.items) ≡ None) (Refuses (count_of fleet.old) script.now) }
+    ensures ok { IfOk result (λ report. DrivesBy config.now.tree refused.now reloads.now (map scripted_of script.now.events.items) (transcript_of transcript.new) marks.new.items report) }
+    ensures fault { IfErr result (λ fault. EndsBy config.now.tree refused.now reloads.now (map scripted_of script.now.events.items) transcript.new marks.new.items fault) }
+    ensures spent { IfErr result (λ fault. IsSpent fault fleet.new) }
+{
+    if let Some(index) = first_bad_event(fleet.servers() as u32, script) {
+        return Err(DriveFault::BadEvent(index));
+    }
+    let tree = config.tree();
+    is_tree(tree);
+    match drive_events(
+        alloc, tree, reloads, refused, fleet, script, transcript, marks,
+    ) {
+        Ok(report) => Ok(report),
+        Err(fault) => Err(drive_fault(fault)),
     }
 }
 
@@ -179,14 +301,18 @@ pub fn drive_any(
     ensures fault { IfErr result (λ fault. EndsAsFault config.now.tree (map scripted_of script.now.events.items) transcript.new fault) }
     ensures spent { IfErr result (λ fault. IsSpent fault fleet.new) }
 {
-    let servers = config.servers().len();
-    if let Some(index) = first_bad_event(servers as u32, script) {
-        return Err(DriveFault::BadEvent(index));
-    }
-    let tree = config.tree();
-    is_tree(tree);
-    match drive_events(alloc, tree, fleet, script, transcript) {
-        Ok(report) => Ok(report),
-        Err(fault) => Err(drive_fault(fault)),
-    }
+    direct_is_one_server();
+    let _servers = config.servers().len();
+    let none = Vec::new(alloc);
+    let mut marks = Vec::new(alloc);
+    drive_by(
+        alloc,
+        config,
+        &none,
+        &[],
+        fleet,
+        script,
+        transcript,
+        &mut marks,
+    )
 }

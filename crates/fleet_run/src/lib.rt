@@ -9,6 +9,6 @@ pub mod script;
 pub mod serve;
 
 pub use bad::first_bad_event;
-pub use drive::drive_any;
+pub use drive::{drive_any, drive_by};
 pub use memory_fleet::{Loss, Manner, MemoryFleet};
-pub use script::{DriveFault, Event, Output, Report, Script, Transcript};
+pub use script::{DriveFault, Event, Output, Reload, Report, Script, Transcript};

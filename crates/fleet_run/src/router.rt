@@ -50,6 +50,14 @@ impl<'a> Router<'a> {
         }
     }
 
+    /// Commands from now on go through this tree.
+    pub fn load(&mut self, tree: &'a Tree)
+        ensures tree { self.new.tree.now ≡ tree.now }
+        ensures rest { self.new ≡ record self.old { tree = self.new.tree } }
+    {
+        self.tree = tree;
+    }
+
     /// The command of this number had this reply, which shows an item of this stamp, if it shows one. The only error is want
     /// of memory.
     pub fn count(

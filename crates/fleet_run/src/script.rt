@@ -2,6 +2,7 @@
 
 use mc_types::{Key, ServerId};
 use memory_fleet::{Loss, Manner};
+use route_json::Config;
 
 /// One event of a script.
 #[derive(Drop)]
@@ -25,6 +26,14 @@ pub enum Event {
 #[derive(Drop)]
 pub struct Script {
     pub events: Vec<Event>,
+}
+
+/// A configuration that is loaded while a script runs: before the event of this place, counted from 0, or after the last one
+/// where the place is the number of events.
+#[derive(Drop)]
+pub struct Reload {
+    pub at: usize,
+    pub config: Config,
 }
 
 /// New output of a client.

@@ -1,5 +1,5 @@
 -- One event of a script is more of a log.
-use Rattle.std.proofs.Common.{◌≡◌, ℕ, Bool, true, false, cond, List, [], ◌∷◌, ◌++◌, Option, refl, sym, ap, ◌∙◌, subst, nat_eq}
+use Rattle.std.proofs.Common.{◌≡◌, ℕ, Bool, true, false, cond, List, [], ◌∷◌, ◌++◌, Option, refl, sym, ap, ◌∙◌, subst, nat_eq, append_assoc}
 use Rattle.std.proofs.lemmas.Bool.{eqb-true}
 use Rattle.mc_types.specs.Items.{Item}
 use Rattle.mc_runs.specs.Run.{Words}
@@ -40,6 +40,7 @@ module _ (P : Protocol) (words : Words) where
               ]) refl;
         },
         x.2,
+        (Gives client out ∷ (x.4.0 ++ Takes (Piece client bytes) ∷ []), ap (λ l. Gives client out ∷ l) (x.4.1 ∙ sym (append_assoc x.4.0 (Takes (Piece client bytes) ∷ []) log))),
       )
 
   -- a call is named that is to fail
@@ -53,6 +54,7 @@ module _ (P : Protocol) (words : Words) where
       taken = λ c. named.output c ∙ s.taken c;
     },
     refl,
+    (Takes (Fail turn manner) ∷ [], refl),
   )
 
   -- the log goes on by one event

@@ -140,8 +140,8 @@ module _ {P : Protocol} where
     pub shown : ShownIn state.found from item
     pub counted : IsCounted old number ask item reply new
 
-  -- what was done for one client: each log that led to the old standing goes on to the new one, by no event of the script, and nothing was given out; the other clients stay
+  -- what was done for one client: each log that led to the old standing goes on to the new one, by no event of the script, and nothing was given out; nothing before is changed, and the other clients stay
   pub record Works (words : Words) (old : Standing P) (client : ℕ) (new : Standing P) : Type 0 where
-    pub leads : (opening : ℕ → List ℕ → Option Item) (log : List (Entry P)) → LeadsTo words opening log old → (log' : List (Entry P)) × LeadsTo words opening log' new × (script_of log' ≡ script_of log) × (shown_of log' ≡ shown_of log)
+    pub leads : (opening : ℕ → List ℕ → Option Item) (log : List (Entry P)) → LeadsTo words opening log old → (log' : List (Entry P)) × LeadsTo words opening log' new × (script_of log' ≡ script_of log) × (shown_of log' ≡ shown_of log) × ((more : List (Entry P)) × (log' ≡ more ++ log))
     pub points : (c : ℕ) → nat_eq client c ≡ false → new.point c ≡ old.point c
     pub outputs : (c : ℕ) → nat_eq client c ≡ false → new.output c ≡ old.output c

@@ -14,8 +14,8 @@ module _ {P : Protocol} (words : Words) where
     pub stuck : (c : ℕ) → IsStuck P (now.point c).place
     pub taken : (c : ℕ) → now.output c ≡ []
 
-  -- each log that led there goes on by the event and by what follows from it
+  -- each log that led there goes on by the event and by what follows from it, and nothing before is changed
   abbrev pub TakesUp : Standing P → List Shown → Scripted → Standing P → List Shown → Type 0
   TakesUp old given event new given' =
       (opening : ℕ → List ℕ → Option Item) (log : List (Entry P)) → Stands opening log old given
-      → (log' : List (Entry P)) × Stands opening log' new given' × (script_of log' ≡ script_of log ++ event ∷ [])
+      → (log' : List (Entry P)) × Stands opening log' new given' × (script_of log' ≡ script_of log ++ event ∷ []) × ((more : List (Entry P)) × (log' ≡ more ++ log))

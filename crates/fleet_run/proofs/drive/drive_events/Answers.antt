@@ -1,68 +1,121 @@
-use Rattle.std.proofs.Common.{◌≡◌, ◌<◌, List, length, take, map, refl, sym, ap, ◌∙◌, subst, arith, ℕ, false}
-use Rattle.std.proofs.Math.Seq.{take-length}
-use Rattle.memory_fleet.specs.Fleets.{count_of}
-use Rattle.route_tree.specs.Direct.{words_of}
+use Rattle.std.proofs.Common.{◌≡◌, ◌<◌, ◌≤◌, ◌+◌, ◌++◌, ◌∷◌, [], List, length, take, drop, map, Some, refl, sym, ap, ◌∙◌, subst, arith, ℕ, Bool, false}
+use Rattle.std.specs.Prelude.{slice_get}
+use Rattle.memory_fleet.specs.Fleets.{count_of, begun_of}
+use Rattle.route_tree.specs.Route.{Route}
+use Rattle.fleet_run.specs.declared.router.Router.{Router}
 use Rattle.fleet_run.specs.declared.script.Event.{Event}
+use Rattle.fleet_run.specs.declared.script.Output.{Output}
+use Rattle.fleet_run.specs.Serving.{IsServed, words_by, tree_of}
 use Rattle.fleet_run.specs.Scripted.{scripted_of, transcript_of}
 use Rattle.fleet_run.specs.Bad.{bad_in, first_bad}
-use Rattle.fleet_run.specs.Driving.{standing_of}
+use Rattle.fleet_run.specs.Reloads.{AreInOrder, DrivesBy, DrivesPartBy, one_more}
 use Rattle.fleet_run.proofs.BadEvents.{good_here, not_here}
-use Rattle.fleet_run.proofs.Driven.{Comes, starts, event_on, drives, drives_part, nothing_driven, on_err}
+use Rattle.fleet_run.proofs.Driven.{starts, on_err}
+use Rattle.fleet_run.proofs.Due.{order_on, order_at, due_at, event_left, none_left}
+use Rattle.fleet_run.proofs.Reloading.{begins, goes_on, loads, drives_by, drives_part_by, nothing_driven}
 use Rattle.fleet_run.proofs.drive.drive_events.Goals as goal
 
 pub returns-in_err-clients-clause-err : goal.returns-in_err-clients-clause-err
-returns-in_err-clients-clause-err c = on_err c.from_residual.result (nothing_driven c.args.tree.now (map scripted_of c.args.script.now.events.items) c.args.transcript.now c.requires.transcript)
+returns-in_err-clients-clause-err c = on_err c.from_residual.result (nothing_driven c.args.tree.now c.args.refused.now c.args.reloads.now (map scripted_of c.args.script.now.events.items) c.args.transcript.now c.args.marks.now.items c.requires.transcript c.requires.marks)
 
-pub loop-event-init : goal.loop-event-init
-loop-event-init c =
+pub loop-events-init : goal.loop-events-init
+loop-events-init c =
+    let count = count_of c.args.fleet.now in
     record {
       clients = c.in_ok-clients.ensures.count;
-      tree = c.new-router.ensures.tree;
+      served = subst (λ (t : Route). IsServed t (count_of c.args.fleet.now)) (sym c.new-router.ensures.tree) c.requires.served;
       count = refl;
       few = omega (arith, c.new-router.ensures.stale, c.requires.fleet.begun);
-      ahead = ap (λ (l : List Event). first_bad (count_of c.args.fleet.now) (map scripted_of l)) c.deref-event-items.ensures.value ∙ c.requires.good;
-      comes = starts (words_of c.args.tree.now) c.in_ok-clients.clients.items c.new-router.result c.args.fleet.now c.args.transcript.now (count_of c.args.fleet.now) c.in_ok-clients.ensures c.new-router.ensures.stale c.new-router.ensures.gone c.requires.fleet c.requires.transcript;
+      within = omega arith;
+      loaded = omega arith;
+      order = subst (λ (l : List Event). AreInOrder (length l) (count_of c.args.fleet.now) 0 c.args.reloads.now) (sym c.as_slice-events.ensures.value) c.requires.order;
+      ahead = ap (λ (l : List Event). first_bad (count_of c.args.fleet.now) (map scripted_of l)) c.as_slice-events.ensures.value ∙ c.requires.good;
+      going = begins c.args.tree.now c.args.refused.now c.args.reloads.now c.as_slice-events.result.now c.in_ok-clients.clients.items c.new-router.result c.args.fleet.now c.args.transcript.now c.args.marks.now.items c.new-router.ensures.tree c.requires.marks
+          (starts (words_by (λ n. c.args.tree.now)) c.in_ok-clients.clients.items c.new-router.result c.args.fleet.now c.args.transcript.now (count_of c.args.fleet.now) c.in_ok-clients.ensures c.new-router.ensures.stale c.new-router.ensures.gone c.requires.fleet c.requires.transcript);
     }
+
+pub returns-in_err-mark-clause-err : goal.returns-in_err-mark-clause-err
+returns-in_err-mark-clause-err c =
+    on_err c.from_residual-in_err-mark.result (subst (λ (l : List Event). DrivesPartBy c.args.tree.now c.args.refused.now c.args.reloads.now (map scripted_of l) (transcript_of c.loop-events.transcript) c.mark.new.marks.items) c.as_slice-events.ensures.value
+    (drives_part_by c.args.tree.now c.args.refused.now c.args.reloads.now c.as_slice-events.result.now c.loop-events.next c.loop-events.loaded c.loop-events.clients.items c.loop-events.router c.loop-events.fleet c.loop-events.transcript c.loop-events.transcript c.loop-events.marks.items c.mark.new.marks.items c.loop-events.invariant.going refl c.in_err-mark.ensures.err))
+
+pub loop-events-preserved-then-is_due : goal.loop-events-preserved-then-is_due
+loop-events-preserved-then-is_due c =
+    let v = c.loop-events.invariant in
+    let xs = c.as_slice-events.result.now in
+    let reloads = c.args.reloads.now in
+    let loaded = c.loop-events.loaded in
+    let next = c.loop-events.next in
+    let r = c.index-reloads-loaded.result in
+    let due = c.is_due.ensures.0 c.if-is_due.true in
+    let at : r.at ≡ next = due_at (length xs) (count_of c.args.fleet.now) loaded next reloads r due c.index-reloads-loaded.is v.order in
+    let o = order_at (length xs) (count_of c.args.fleet.now) loaded next reloads r due.0 c.index-reloads-loaded.is v.order in
+    record {
+      clients = v.clients;
+      served = subst (IsServed (tree_of c.take_over.new.router)) c.servers-servers.ensures c.take_over.ensures.served;
+      count = v.count;
+      few = subst (λ (n : ℕ). n ≤ begun_of c.loop-events.fleet) (sym (ap (λ (x : Router). x.stale) c.take_over.ensures.rest)) v.few;
+      within = v.within;
+      loaded = let lt = due.0 in omega (arith, lt);
+      order = subst (λ (n : ℕ). AreInOrder (length xs) (count_of c.args.fleet.now) n (drop (loaded + 1) reloads)) at o.3;
+      ahead = v.ahead;
+      going = loads c.args.tree.now c.args.refused.now reloads xs next loaded c.loop-events.clients.items c.loop-events.router c.take_over.new.router c.loop-events.fleet c.loop-events.transcript c.loop-events.marks.items c.mark.new.marks.items r v.going due.0 c.index-reloads-loaded.is at c.take_over.ensures.rest
+          (c.take_over.ensures.tree ∙ ap (λ (b : Bool). one_more b (Some r) (tree_of c.loop-events.router)) c.is_refused.ensures)
+          (c.in_ok-mark.ensures.ok ∙ ap (λ (l : List Output). c.loop-events.marks.items ++ length l ∷ []) c.as_slice-shown.ensures.value);
+    }
+
+pub bounds-events-next : goal.bounds-events-next
+bounds-events-next c =
+    event_left (length c.as_slice-events.result.now) (count_of c.args.fleet.now) c.loop-events.loaded c.loop-events.next c.args.reloads.now c.is_due.result c.is_due.ensures.1 c.if-is_due.false c.loop-events.invariant.order (c.is_left.ensures.0 c.loop-events-test.true)
 
 pub take_up-requires-clause-good : goal.take_up-requires-clause-good
 take_up-requires-clause-good c =
-    let xs = c.deref-event-items.result.now in
-    let i = c.loop-event.event-index in
-    let x = c.event-item.result in
-    let v = c.loop-event.invariant in
-    let lt : i < length xs = omega (arith, c.loop-event-test.true) in
-    (map scripted_of (take i xs), subst (λ (n : ℕ). bad_in n (map scripted_of (take i xs)) (scripted_of x) ≡ false) (sym v.count) (good_here (count_of c.args.fleet.now) xs i x lt c.event-item.is v.ahead))
-
-pub loop-event-preserved : goal.loop-event-preserved
-loop-event-preserved c =
-    let xs = c.deref-event-items.result.now in
-    let i = c.loop-event.event-index in
-    let x = c.event-item.result in
-    let v = c.loop-event.invariant in
-    let lt : i < length xs = omega (arith, c.loop-event-test.true) in
-    let t = c.in_ok-take_up.ensures.ok in
-    let good : bad_in (count_of c.args.fleet.now) (map scripted_of (take i xs)) (scripted_of x) ≡ false = good_here (count_of c.args.fleet.now) xs i x lt c.event-item.is v.ahead in
-    record {
-      clients = t.clients_are ∙ v.clients;
-      tree = t.tree ∙ v.tree;
-      count = t.count ∙ v.count;
-      few = t.few v.few;
-      ahead = sym (not_here (count_of c.args.fleet.now) xs i x lt c.event-item.is good) ∙ v.ahead;
-      comes = event_on c.args.tree.now c.loop-event.clients.items c.take_up.new.clients.items c.loop-event.router c.take_up.new.router c.loop-event.fleet c.take_up.new.fleet c.loop-event.transcript c.take_up.new.transcript xs i x v.tree lt c.event-item.is
-          (subst (λ (n : ℕ). bad_in n (map scripted_of (take i xs)) (scripted_of x) ≡ false) (sym v.count) good) v.comes t;
-    }
+    let v = c.loop-events.invariant in
+    let xs = c.as_slice-events.result.now in
+    let i = c.loop-events.next in
+    let x = c.index-events-next.result in
+    let lt = event_left (length xs) (count_of c.args.fleet.now) c.loop-events.loaded i c.args.reloads.now c.is_due.result c.is_due.ensures.1 c.if-is_due.false v.order (c.is_left.ensures.0 c.loop-events-test.true) in
+    (map scripted_of (take i xs), subst (λ (n : ℕ). bad_in n (map scripted_of (take i xs)) (scripted_of x) ≡ false) (sym v.count) (good_here (count_of c.args.fleet.now) xs i x lt c.index-events-next.is v.ahead))
 
 pub returns-in_err-take_up-clause-err : goal.returns-in_err-take_up-clause-err
 returns-in_err-take_up-clause-err c =
-    let v = c.loop-event.invariant in
-    on_err c.from_residual-in_err-take_up.result (drives_part c.direct_is_one_server.ensures c.args.tree.now c.loop-event.event-index c.loop-event.fleet c.loop-event.clients.items c.loop-event.router c.args.script.now.events.items c.loop-event.transcript c.take_up.new.transcript
-    (subst (λ (l : List Event). Comes (words_of c.args.tree.now) (map scripted_of (take c.loop-event.event-index l)) (standing_of c.loop-event.clients.items c.loop-event.router c.loop-event.fleet) (transcript_of c.loop-event.transcript) c.loop-event.fleet) c.deref-event-items.ensures.value v.comes) c.in_err-take_up.ensures.err)
+    on_err c.from_residual-in_err-take_up.result (subst (λ (l : List Event). DrivesPartBy c.args.tree.now c.args.refused.now c.args.reloads.now (map scripted_of l) (transcript_of c.take_up.new.transcript) c.loop-events.marks.items) c.as_slice-events.ensures.value
+    (drives_part_by c.args.tree.now c.args.refused.now c.args.reloads.now c.as_slice-events.result.now c.loop-events.next c.loop-events.loaded c.loop-events.clients.items c.loop-events.router c.loop-events.fleet c.loop-events.transcript c.take_up.new.transcript c.loop-events.marks.items c.loop-events.marks.items c.loop-events.invariant.going c.in_err-take_up.ensures.err refl))
+
+pub loop-events-smaller : goal.loop-events-smaller
+loop-events-smaller c =
+    let lt = event_left (length c.as_slice-events.result.now) (count_of c.args.fleet.now) c.loop-events.loaded c.loop-events.next c.args.reloads.now c.is_due.result c.is_due.ensures.1 c.if-is_due.false c.loop-events.invariant.order (c.is_left.ensures.0 c.loop-events-test.true) in
+    omega (arith, lt)
+
+pub loop-events-preserved : goal.loop-events-preserved
+loop-events-preserved c =
+    let v = c.loop-events.invariant in
+    let xs = c.as_slice-events.result.now in
+    let i = c.loop-events.next in
+    let loaded = c.loop-events.loaded in
+    let x = c.index-events-next.result in
+    let lt = event_left (length xs) (count_of c.args.fleet.now) loaded i c.args.reloads.now c.is_due.result c.is_due.ensures.1 c.if-is_due.false v.order (c.is_left.ensures.0 c.loop-events-test.true) in
+    let t = c.in_ok-take_up.ensures.ok in
+    let good : bad_in (count_of c.args.fleet.now) (map scripted_of (take i xs)) (scripted_of x) ≡ false = good_here (count_of c.args.fleet.now) xs i x lt c.index-events-next.is v.ahead in
+    record {
+      clients = t.clients_are ∙ v.clients;
+      served = subst (λ (r : Route). IsServed r (count_of c.args.fleet.now)) (sym t.tree) v.served;
+      count = t.count ∙ v.count;
+      few = t.few v.few;
+      within = omega (arith, lt);
+      loaded = v.loaded;
+      order = order_on (length xs) (count_of c.args.fleet.now) loaded i c.args.reloads.now c.is_due.result c.is_due.ensures.1 c.if-is_due.false v.order;
+      ahead = sym (not_here (count_of c.args.fleet.now) xs i x lt c.index-events-next.is good) ∙ v.ahead;
+      going = goes_on c.args.tree.now c.args.refused.now c.args.reloads.now xs i loaded c.loop-events.clients.items c.take_up.new.clients.items c.loop-events.router c.take_up.new.router c.loop-events.fleet c.take_up.new.fleet c.loop-events.transcript c.take_up.new.transcript c.loop-events.marks.items x v.going lt c.index-events-next.is
+          (subst (λ (n : ℕ). bad_in n (map scripted_of (take i xs)) (scripted_of x) ≡ false) (sym v.count) good) t;
+    }
 
 pub returns-clause-ok : goal.returns-clause-ok
 returns-clause-ok c =
-    let v = c.loop-event.invariant in
-    let items = c.deref-event-items.result.now in
-    let end : c.loop-event.event-index ≡ length items = omega (arith, c.loop-event-test.false, c.loop-event.auto.event-index-end) in
-    let all : take c.loop-event.event-index items ≡ c.args.script.now.events.items = ap (λ n. take n items) end ∙ take-length items ∙ c.deref-event-items.ensures.value in
-    drives c.direct_is_one_server.ensures c.args.tree.now c.loop-event.fleet c.loop-event.clients.items c.loop-event.router (map scripted_of c.args.script.now.events.items) c.loop-event.transcript (record { commands = c.commands.result; calls = c.calls.result; stale = c.loop-event.router.stale })
-    (subst (λ (l : List Event). Comes (words_of c.args.tree.now) (map scripted_of l) (standing_of c.loop-event.clients.items c.loop-event.router c.loop-event.fleet) (transcript_of c.loop-event.transcript) c.loop-event.fleet) all v.comes) c.commands.ensures c.calls.ensures refl
+    let v = c.loop-events.invariant in
+    let xs = c.as_slice-events.result.now in
+    let left = none_left (length xs) (length c.args.reloads.now) c.loop-events.next c.loop-events.loaded c.is_left.result c.is_left.ensures.1 c.loop-events-test.false in
+    let end : c.loop-events.next ≡ length xs = let a = v.within in let b = left.0 in omega (arith, a, b) in
+    let all : c.loop-events.loaded ≡ length c.args.reloads.now = let a = v.loaded in let b = left.1 in omega (arith, a, b) in
+    subst (λ (l : List Event). DrivesBy c.args.tree.now c.args.refused.now c.args.reloads.now (map scripted_of l) (transcript_of c.loop-events.transcript) c.loop-events.marks.items (record { commands = c.commands.result; calls = c.calls.result; stale = c.loop-events.router.stale })) c.as_slice-events.ensures.value
+    (drives_by c.args.tree.now c.args.refused.now c.args.reloads.now xs c.loop-events.next c.loop-events.loaded c.loop-events.clients.items c.loop-events.router c.loop-events.fleet c.loop-events.transcript c.loop-events.marks.items (record { commands = c.commands.result; calls = c.calls.result; stale = c.loop-events.router.stale }) v.going end all c.commands.ensures c.calls.ensures refl)
