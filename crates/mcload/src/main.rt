@@ -1,0 +1,65 @@
+//! A load generator for memcached servers and proxies: clients that keep commands under way, check each answer, and tell
+//! how many commands were answered and how soon, or how many gets showed deleted data.
+#![tactic(auto)]
+
+mod commands;
+mod freshness;
+mod latency;
+mod plan;
+mod run;
+mod tally;
+mod words;
+
+use run::run_job;
+use std::alloc::AllocError;
+use std::io;
+use std::net::Net;
+use std::process::ExitCode;
+use std::rt::{Clock, Env};
+use words::{Settings, USAGE, settings_of};
+
+/// Why the program ends with a line on standard error.
+#[derive(Clone, Copy)]
+pub enum Stop {
+    Usage,
+    /// The bytes of an answer aren't those of any answer to its command.
+    WrongAnswer,
+    /// A connection ended or failed.
+    Lost,
+    /// Memory was refused, or a device failed.
+    Failed,
+}
+
+impl From<io::Error> for Stop {
+    fn from(_error: io::Error) -> Stop {
+        Stop::Failed
+    }
+}
+
+impl From<AllocError> for Stop {
+    fn from(_error: AllocError) -> Stop {
+        Stop::Failed
+    }
+}
+
+fn run_words<R: AllocGlobal + Env + Net + Clock + Print>(rt: &R) -> Result<(), Stop> {
+    let Ok(words) = std::env::args(rt)?.collect::<Vec<String>>(rt.alloc()) else {
+        return Err(Stop::Failed);
+    };
+    match settings_of(words.as_slice()) {
+        Some(settings) => run_job(rt, settings),
+        None => Err(Stop::Usage),
+    }
+}
+
+fn main(rt: HostRuntime) -> ExitCode {
+    let (status, line) = match run_words(&rt) {
+        Ok(()) => return ExitCode::SUCCESS,
+        Err(Stop::WrongAnswer) => (1, "mcload: an answer with wrong bytes"),
+        Err(Stop::Usage) => (2, USAGE),
+        Err(Stop::Lost) => (3, "mcload: a connection was lost"),
+        Err(Stop::Failed) => (3, "mcload: memory refused, or a device failed"),
+    };
+    let _ = rt.eprintln(line);
+    ExitCode::from(status)
+}

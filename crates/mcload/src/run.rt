@@ -1,0 +1,326 @@
+//! The clients' sockets, in turns: who is ready is read and answered commands are counted, and then each sends new ones.
+
+use crate::Stop;
+use crate::commands::Wire;
+use crate::plan::Plan;
+use crate::tally::{Asked, Tally};
+use crate::words::Settings;
+use mio::net::TcpStream;
+use mio::{Events, Poll, Token};
+use std::alloc::Global;
+use std::collections::VecDeque;
+use std::io;
+use std::net::{Net, SocketAddr, ToSocketAddrs};
+use std::os::fd::AsRawFd;
+use std::rt::Clock;
+use std::time::{Duration, Instant};
+use tcp_socket::{Conn, Got, Limits, Ready, Sent, watch};
+
+// The room of one read, in bytes.
+const READ_ROOM: usize = 65_536;
+
+// So many reads and writes are made of a client in a turn.
+const STEPS: usize = 64;
+
+// More than one answer and what one read can bring.
+const LIMITS: Limits = Limits {
+    held: 4_194_304,
+    unsent: 1_048_576,
+};
+
+// So long is waited for the last answers, in nanoseconds.
+const LAST: u64 = 5_000_000_000;
+
+/// A client.
+#[derive(Drop)]
+struct Peer {
+    conn: Conn<TcpStream>,
+    // Its commands under way, the oldest first.
+    asked: VecDeque<Asked>,
+}
+
+impl Peer {
+    fn new(alloc: Global, stream: TcpStream) -> Peer {
+        let mut conn = Conn::new(alloc, stream, LIMITS);
+        conn.readable = false;
+        conn.writable = false;
+        Peer {
+            conn,
+            asked: VecDeque::new(alloc),
+        }
+    }
+
+    fn note(&mut self, told: Ready) {
+        self.conn.readable = self.conn.readable || told.reads;
+        self.conn.writable = self.conn.writable || told.writes;
+        self.conn.closing = self.conn.closing || told.closes;
+    }
+
+    // Whether a read or a write may do something now.
+    fn has_work(&self) -> bool {
+        self.conn.readable || (self.conn.writable && !self.conn.unsent.is_empty())
+    }
+
+    // Whether it still has to send some of what it asked, or takes no more now.
+    fn is_full(&self, depth: u64) -> bool {
+        !self.conn.writable || self.asked.len() as u64 >= depth
+    }
+
+    // One read. Whether the connection stands.
+    fn read(&mut self) -> Result<bool, Stop> {
+        if !self.conn.readable {
+            return Ok(true);
+        }
+        match self.conn.read_once(READ_ROOM)? {
+            Got::Bytes | Got::Nothing => Ok(true),
+            Got::Full | Got::Ended | Got::Failed => Ok(false),
+        }
+    }
+
+    // Whether the connection stands.
+    fn send(&mut self) -> bool {
+        for _ in 0..STEPS {
+            if !self.conn.writable {
+                return true;
+            }
+            match self.conn.send_once() {
+                Sent::Bytes => {}
+                Sent::Nothing => return true,
+                Sent::Failed => return false,
+            }
+        }
+        true
+    }
+}
+
+/// The clients and what came of their commands.
+#[derive(Drop)]
+struct Run<'a> {
+    settings: Settings<'a>,
+    poll: Poll,
+    events: Events,
+    none: Events,
+    peers: Vec<Peer>,
+    wire: Wire,
+    plan: Plan,
+    tally: Tally,
+    start: Instant,
+    // In nanoseconds since the start.
+    now: u64,
+    begun: u64,
+    has_work: bool,
+}
+
+fn connect<N: Net>(
+    net: &N,
+    poll: &Poll,
+    address: SocketAddr,
+    token: usize,
+) -> io::Result<TcpStream> {
+    let stream = TcpStream::connect(net, address)?;
+    stream.set_nodelay(true)?;
+    watch(poll.registry(), stream.as_raw_fd(), token)?;
+    Ok(stream)
+}
+
+// The first address that a text names.
+fn address_of<N: Net>(net: &N, text: &str) -> Result<SocketAddr, Stop> {
+    text.to_socket_addrs(net)?.next().ok_or(Stop::Failed)
+}
+
+fn connect_all<R: Net + AllocGlobal>(
+    rt: &R,
+    poll: &Poll,
+    settings: Settings<'_>,
+) -> Result<Vec<Peer>, Stop> {
+    let address = address_of(rt, settings.address)?;
+    let mut peers = Vec::new(rt.alloc());
+    for token in 0..settings.clients as usize {
+        let stream = connect(rt, poll, address, token)?;
+        if peers.push(Peer::new(rt.alloc(), stream)).is_err() {
+            return Err(Stop::Failed);
+        }
+    }
+    Ok(peers)
+}
+
+impl<'a> Run<'a> {
+    fn new<R: Net + Clock + AllocGlobal>(rt: &R, settings: Settings<'a>) -> Result<Run<'a>, Stop> {
+        let alloc = rt.alloc();
+        let poll = Poll::new(rt)?;
+        let peers = connect_all(rt, &poll, settings)?;
+        Ok(Run {
+            settings,
+            poll,
+            events: Events::with_capacity(alloc, 1_024)?,
+            none: Events::with_capacity(alloc, 0)?,
+            peers,
+            wire: Wire::new(alloc, settings.size)?,
+            plan: Plan::new(settings),
+            tally: Tally::new(alloc, settings)?,
+            start: Instant::now(rt)?,
+            now: 0,
+            begun: 0,
+            has_work: false,
+        })
+    }
+
+    fn look_at_clock<R: Clock>(&mut self, rt: &R) -> io::Result<()> {
+        let nanos = self.start.elapsed(rt)?.as_nanos();
+        self.now = u64::try_from(nanos).unwrap_or(u64::MAX);
+        Ok(())
+    }
+
+    fn note_events(&mut self) {
+        std::mem::swap(&mut self.events, &mut self.none);
+        for event in self.none.iter() {
+            let Token(token) = event.token();
+            if let Some(peer) = self.peers.get_mut(token) {
+                peer.note(Ready::of(event));
+            }
+        }
+        std::mem::swap(&mut self.events, &mut self.none);
+    }
+
+    // The answers of a client that are whole are counted.
+    fn settle(&mut self, id: usize) -> Result<(), Stop> {
+        let Some(peer) = self.peers.get_mut(id) else {
+            return Ok(());
+        };
+        for _ in 0..peer.asked.len() {
+            let Some(asked) = peer.asked.front().copied() else {
+                break;
+            };
+            let Some((answer, len)) = self.wire.read(peer.conn.held.as_slice(), asked.command)?
+            else {
+                return Ok(());
+            };
+            peer.asked.pop_front();
+            peer.conn.held.advance(len.min(peer.conn.held.len()));
+            self.tally.end(asked, answer, self.now)?;
+        }
+        if peer.asked.is_empty() && !peer.conn.held.is_empty() {
+            return Err(Stop::WrongAnswer);
+        }
+        Ok(())
+    }
+
+    // Whether new commands begin.
+    fn is_going_on(&self) -> bool {
+        self.begun < self.settings.commands
+            && self.now < self.settings.seconds.saturating_mul(1_000_000_000)
+    }
+
+    // New commands of a client, as many as it may have under way.
+    fn ask(&mut self, id: usize) -> Result<(), Stop> {
+        for _ in 0..self.settings.depth {
+            if !self.is_going_on() {
+                break;
+            }
+            self.ask_once(id)?;
+        }
+        Ok(())
+    }
+
+    fn ask_once(&mut self, id: usize) -> Result<(), Stop> {
+        let Some(peer) = self.peers.get_mut(id) else {
+            return Ok(());
+        };
+        if peer.is_full(self.settings.depth) {
+            return Ok(());
+        }
+        let command = self.plan.next();
+        let asked = self.tally.begin(command, self.now);
+        self.wire.write(&mut peer.conn.unsent, command)?;
+        if peer.asked.push_back(asked).is_err() {
+            return Err(Stop::Failed);
+        }
+        self.begun = self.begun.saturating_add(1);
+        Ok(())
+    }
+
+    fn read_some<R: Clock>(&mut self, rt: &R, id: usize) -> Result<(), Stop> {
+        for _ in 0..STEPS {
+            let Some(peer) = self.peers.get_mut(id) else {
+                break;
+            };
+            if !peer.conn.readable {
+                break;
+            }
+            if !peer.read()? {
+                return Err(Stop::Lost);
+            }
+            self.look_at_clock(rt)?;
+            self.settle(id)?;
+        }
+        Ok(())
+    }
+
+    fn send(&mut self, id: usize) -> Result<(), Stop> {
+        let Some(peer) = self.peers.get_mut(id) else {
+            return Ok(());
+        };
+        if !peer.send() {
+            return Err(Stop::Lost);
+        }
+        self.has_work = self.has_work || peer.has_work();
+        Ok(())
+    }
+
+    fn turn<R: Clock>(&mut self, rt: &R) -> Result<(), Stop> {
+        let limit = if self.has_work { 0 } else { 100 };
+        self.poll
+            .poll(&mut self.events, Some(Duration::from_millis(limit)))?;
+        self.note_events();
+        self.look_at_clock(rt)?;
+        self.has_work = false;
+        for id in 0..self.peers.len() {
+            self.read_some(rt, id)?;
+            self.ask(id)?;
+            self.send(id)?;
+        }
+        Ok(())
+    }
+
+    // Whether all that began is answered, or has taken too long.
+    fn is_over(&self) -> bool {
+        let limit = self.settings.seconds.saturating_mul(1_000_000_000);
+        !self.is_going_on()
+            && (self.begun <= self.tally.counts.all() || self.now > limit.saturating_add(LAST))
+    }
+
+    fn print<R: Print>(&mut self, rt: &R) -> io::Result<()> {
+        self.tally.latencies.sort();
+        let counts = self.tally.counts;
+        let commands = counts.all();
+        let rate = u128::from(commands) * 1_000_000_000 / u128::from(self.now.max(1));
+        println!(rt;
+            "commands={commands} nanos={} rate={rate} p50={} p99={} hits={} misses={} stored={} deleted={} errors={} stale={}",
+            self.now,
+            self.tally.latencies.percentile(50),
+            self.tally.latencies.percentile(99),
+            counts.hits,
+            counts.misses,
+            counts.stored,
+            counts.deleted,
+            counts.errors,
+            self.tally.freshness.stale()
+        )
+    }
+}
+
+/// Runs what is asked for, and prints a line of what came of it. The times are nanoseconds, the rate commands a second.
+pub fn run_job<R: Net + Clock + AllocGlobal + Print>(
+    rt: &R,
+    settings: Settings<'_>,
+) -> Result<(), Stop> {
+    let mut run = Run::new(rt, settings)?;
+    for _ in 0..u64::MAX {
+        run.turn(rt)?;
+        if run.is_over() {
+            break;
+        }
+    }
+    run.print(rt)?;
+    Ok(())
+}
