@@ -1,0 +1,33 @@
+//! What a server that holds nothing answers at once.
+
+ghost use Rattle.std.specs.Prelude.{IfSome};
+ghost use Rattle.mc_types.specs.Fits.{Fits};
+ghost use Rattle.proxy_core.specs.Settles.{FitsCall};
+
+use mc_types::{Answer, Ask, Dialect, Op, Outcome};
+use proxy_core::Core;
+
+fn answer_to(ask: &Ask) -> Answer
+    ensures { Fits ask.now result }
+{
+    let Dialect::Classic = ask.dialect else {
+        return Answer::Error;
+    };
+    match ask.op {
+        Op::Get | Op::Gat => Answer::Miss,
+        Op::Set | Op::Add | Op::Replace | Op::Append | Op::Prepend => Answer::Stored,
+        Op::Delete => Answer::Deleted,
+        Op::Cas | Op::Incr | Op::Decr | Op::Touch => Answer::NotFound,
+    }
+}
+
+/// The outcome of the call of this number, if it is out.
+#[tactic(auto, using(crate::proofs::Fitting::fits_call))]
+pub fn outcome_of(core: &Core, number: u64) -> Option<Outcome>
+    ensures { IfSome result (λ outcome. FitsCall core.now number outcome) }
+{
+    match core.asked(number) {
+        None => None,
+        Some(ask) => Some(Outcome::Answered(answer_to(ask))),
+    }
+}
