@@ -18,14 +18,15 @@ use Rattle.fleet_run.specs.Opening.{opening_of}
 use Rattle.fleet_run.specs.Driving.{Drives, DrivesPart, EndsAsFault}
 use Rattle.accepted_run.specs.Freshly.{InUse, DrivesFreshly, DrivesPartFreshly, EndsFreshly}
 
-same_config : (xs : List Configuration) (c d : Configuration) → IsLast xs c → IsLast xs d → c ≡ d
+pub same_config : (xs : List Configuration) (c d : Configuration) → IsLast xs c → IsLast xs d → c ≡ d
 same_config xs c d e f = cc
 
 -- what holds of a configuration in use
 pub in_use : (xs : List Configuration) (P : Configuration → Type 0) (c : Configuration) → IsLast xs c → P c → InUse xs P
 in_use xs P c at p d other = subst P (same_config xs c d at other) p
 
-tree_at_number : (xs : List Configuration) (i : ℕ) (c : Configuration) → slice_get xs i ≡ Some c → slice_get (trees_of xs) i ≡ Some c.tree
+-- the tree of a configuration at its place
+pub tree_at_number : (xs : List Configuration) (i : ℕ) (c : Configuration) → slice_get xs i ≡ Some c → slice_get (trees_of xs) i ≡ Some c.tree
 tree_at_number [] i c e = absurd (cc)
 tree_at_number (x ∷ xs) zero c e = cc
 tree_at_number (x ∷ xs) (suc i) c e = tree_at_number xs i c e

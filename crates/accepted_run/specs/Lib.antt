@@ -1,1 +1,2 @@
 pub mod Freshly
+pub mod Reloads

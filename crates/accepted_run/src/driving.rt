@@ -1,15 +1,19 @@
 //! A script, run through the configuration that the gate accepted last.
 
-ghost use Rattle.std.specs.Prelude.{◌≡◌, [], length, map, None, IfOk, IfErr, MatchResult};
-ghost use Rattle.memory_fleet.specs.Fleets.{IsNewFleet};
+ghost use Rattle.std.specs.Prelude.{◌≡◌, ◌≤◌, [], length, map, None, IfOk, IfErr, MatchResult};
+ghost use Rattle.memory_fleet.specs.Fleets.{IsNewFleet, count_of};
 ghost use Rattle.fleet_run.specs.Scripted.{scripted_of, transcript_of};
 ghost use Rattle.fleet_run.specs.Bad.{first_bad, Refuses};
 ghost use Rattle.fleet_run.specs.Driving.{IsSpent};
+ghost use Rattle.fleet_run.specs.Reloads.{AreInOrder};
 ghost use Rattle.accepted_run.specs.Freshly.{InUse, DrivesFreshly, EndsFreshly};
+ghost use Rattle.accepted_run.specs.Reloads.{AreJudged, ReloadsFreshly, EndsReloads};
 
-use fleet_run::{DriveFault, MemoryFleet, Report, Script, Transcript, drive_any};
+use crate::judging::Judged;
+use fleet_run::{DriveFault, MemoryFleet, Reload, Report, Script, Transcript, drive_any, drive_by};
 use fresh_gate::Accepted;
 use fresh_gate::laws::generations_are_fresh;
+use route_json::Config;
 use std::alloc::Global;
 
 /// Runs a script through the tree of the configuration in use, one command at a time, on servers in memory.
@@ -38,4 +42,43 @@ pub fn drive(
     generations_are_fresh();
     let config = accepted.config();
     drive_any(alloc, config, fleet, script, transcript)
+}
+
+/// Runs a script with reloads that the gate was asked for: each command through the tree that was accepted last before it began, one
+/// command at a time, on servers in memory. `first` was in use before the first reload.
+///
+/// All holds that [`drive_by`] says, its faults too; and **the run is fresh over all loaded trees**: once a delete of a key was
+/// acknowledged, no later reply shows data that descend from a store of that key made before that delete, whichever trees the two
+/// ran by. So the report's `stale` is 0.
+///
+/// Source: mcgate's own.
+pub fn drive_judged(
+    alloc: Global,
+    accepted: &Accepted,
+    first: &Config,
+    reloads: &[Reload],
+    judged: &Judged,
+    fleet: &mut MemoryFleet,
+    script: &Script,
+    transcript: &mut Transcript,
+    marks: &mut Vec<usize>,
+) -> Result<Report, DriveFault>
+    requires judged { AreJudged first.now reloads.now judged.now.loadings.items judged.now.refused.items accepted.now }
+    requires servers { length first.now.servers ≤ count_of fleet.old }
+    requires few { count_of fleet.old ≤ 4294967295 }
+    requires order { AreInOrder (length script.now.events.items) (count_of fleet.old) 0 reloads.now }
+    requires fleet { IsNewFleet (count_of fleet.old) fleet.old }
+    requires transcript { transcript.old.shown.items ≡ [] }
+    requires marks { marks.old.items ≡ [] }
+    ensures refuses { MatchResult result (λ _. first_bad (count_of fleet.old) (map scripted_of script.now.events.items) ≡ None) (Refuses (count_of fleet.old) script.now) }
+    ensures ok { IfOk result (λ report. ReloadsFreshly first.now.tree judged.now.loadings.items reloads.now (map scripted_of script.now.events.items) (transcript_of transcript.new) marks.new.items report) }
+    ensures fault { IfErr result (λ fault. EndsReloads first.now.tree judged.now.loadings.items reloads.now (map scripted_of script.now.events.items) transcript.new marks.new.items fault) }
+    ensures spent { IfErr result (λ fault. IsSpent fault fleet.new) }
+{
+    generations_are_fresh();
+    let _in_use = accepted.config();
+    let refused = judged.refused.as_slice();
+    drive_by(
+        alloc, first, reloads, refused, fleet, script, transcript, marks,
+    )
 }

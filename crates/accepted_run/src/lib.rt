@@ -2,5 +2,7 @@
 #![tactic(auto)]
 
 pub mod driving;
+pub mod judging;
 
-pub use driving::drive;
+pub use driving::{drive, drive_judged};
+pub use judging::{Judged, Loading, judge_reloads};

@@ -1,0 +1,80 @@
+-- What a script does through trees that the gate was asked for, one after another. Source: mcgate's own.
+use Rattle.std.specs.Prelude.{◌≡◌, ℕ, Bool, true, false, List, [], ◌∷◌, ◌++◌, length, map, take, Option, Some, None}
+use Rattle.mc_runs.specs.Run.{IsFresh}
+use Rattle.mc_runs.specs.Log.{Shown, run_of}
+use Rattle.route_tree.specs.Route.{Route}
+use Rattle.route_json.specs.Configuration.{Configuration}
+use Rattle.route_json.specs.Servers.{Addresses}
+use Rattle.fresh_gate.specs.Sound.{IsLast, trees_of}
+use Rattle.fresh_gate.specs.Reload.{AreKept, IsReloadFault}
+use Rattle.fresh_gate.specs.declared.reloading.ReloadFault.{ReloadFault}
+use Rattle.fresh_gate.specs.declared.reloading.ReloadFault.TheVariants as faults
+use Rattle.fleet_run.specs.declared.script.Reload.{Reload}
+use Rattle.fleet_run.specs.declared.script.Transcript.{Transcript}
+use Rattle.fleet_run.specs.declared.script.Report.{Report}
+use Rattle.fleet_run.specs.declared.script.DriveFault.{DriveFault}
+use Rattle.fleet_run.specs.declared.script.DriveFault.TheVariants.{BadEvent, NoMemory, Spent}
+use Rattle.fleet_run.specs.Scripted.{Scripted, transcript_of}
+use Rattle.fleet_run.specs.Opening.{opening_of}
+use Rattle.fleet_run.specs.Reloads.{DrivesBy, DrivesPartBy, EndsBy}
+use Rattle.accepted_run.specs.declared.judging.Loading.{Loading}
+use Rattle.accepted_run.specs.declared.judging.Loading.TheVariants.{Loaded, Refused}
+
+-- each list of servers begins with the one before it
+abbrev pub AreChained : Addresses → List Reload → Type 0
+AreChained used [] = Unit {0}
+AreChained used (r ∷ rs) = AreKept used r.config.servers × AreChained r.config.servers rs
+
+-- why the gate refuses the tree, which is never want of memory
+abbrev pub IsReason : List Route → Route → ReloadFault → Type 0
+IsReason trees tree faults.TooManyGenerations = IsReloadFault trees tree faults.TooManyGenerations
+IsReason trees tree (faults.TooManyPlaces generation) = IsReloadFault trees tree (faults.TooManyPlaces generation)
+IsReason trees tree (faults.Uncovered generation gap) = IsReloadFault trees tree (faults.Uncovered generation gap)
+IsReason trees tree faults.NoMemory = ⊥
+
+-- what became of a reload by its fault: nothing is told where memory was refused
+abbrev pub loading_of : ReloadFault → Option Loading
+loading_of faults.TooManyGenerations = Some (Refused faults.TooManyGenerations)
+loading_of (faults.TooManyPlaces generation) = Some (Refused (faults.TooManyPlaces generation))
+loading_of (faults.Uncovered generation gap) = Some (Refused (faults.Uncovered generation gap))
+loading_of faults.NoMemory = None
+
+-- the gate's answer: the configuration is the next generation, of this number, or all stays
+abbrev pub JudgesOne : List Configuration → Reload → Loading → List Configuration → Type 0
+JudgesOne configs r (Loaded n) configs' = (configs' ≡ configs ++ r.config ∷ []) × (n ≡ length configs')
+JudgesOne configs r (Refused fault) configs' = (configs' ≡ configs) × IsReason (trees_of configs) r.config.tree fault
+
+-- its answers, one after another
+abbrev pub Judges : List Configuration → List Reload → List Loading → List Configuration → Type 0
+Judges configs [] [] configs' = configs' ≡ configs
+Judges configs [] (l ∷ ls) configs' = ⊥
+Judges configs (r ∷ rs) [] configs' = ⊥
+Judges configs (r ∷ rs) (l ∷ ls) configs' = (mid : List Configuration) × JudgesOne configs r l mid × Judges mid rs ls configs'
+
+abbrev pub is_refused : Loading → Bool
+is_refused (Loaded n) = false
+is_refused (Refused fault) = true
+
+-- the gate was asked for these reloads in order, the first configuration in use, and answered so
+pub record AreJudged (first : Configuration) (rs : List Reload) (ls : List Loading) (refused : List Bool) (accepted : List Configuration) : Type 0 where
+  pub configs : List Configuration
+  pub first_is : IsLast configs first
+  pub judged : Judges configs rs ls accepted
+  pub refused_are : refused ≡ map is_refused ls
+
+-- the script ran, each command by the tree that was accepted last when it began; its run is fresh, and none of its replies is stale
+pub record ReloadsFreshly (first : Route) (loadings : List Loading) (reloads : List Reload) (events : List Scripted) (given : List Shown) (marks : List ℕ) (report : Report) : Type 0 where
+  pub drives : DrivesBy first (map is_refused loadings) reloads events given marks report
+  pub fresh : IsFresh (opening_of events) (run_of drives.log)
+  pub none_stale : report.stale ≡ 0
+
+-- a part of it ran so, and that part's run is fresh
+pub record ReloadsPartFreshly (first : Route) (loadings : List Loading) (reloads : List Reload) (events : List Scripted) (given : List Shown) (marks : List ℕ) : Type 0 where
+  pub part : DrivesPartBy first (map is_refused loadings) reloads events given marks
+  pub fresh : IsFresh (opening_of (take part.count events)) (run_of part.log)
+
+-- what a fault leaves
+abbrev pub EndsReloads : Route → List Loading → List Reload → List Scripted → Transcript → List ℕ → DriveFault → Type 0
+EndsReloads first loadings reloads events transcript marks (BadEvent index) = EndsBy first (map is_refused loadings) reloads events transcript marks (BadEvent index)
+EndsReloads first loadings reloads events transcript marks NoMemory = ReloadsPartFreshly first loadings reloads events (transcript_of transcript) marks
+EndsReloads first loadings reloads events transcript marks Spent = ReloadsPartFreshly first loadings reloads events (transcript_of transcript) marks
