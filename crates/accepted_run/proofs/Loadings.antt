@@ -1,5 +1,5 @@
 -- The gate's answers to reloads, and that a run by the trees that it accepted is fresh.
-use Rattle.std.proofs.Common.{◌≡◌, ℕ, zero, suc, ◌+◌, ◌-◌, ◌<◌, ◌≤◌, Bool, true, false, cond, List, [], ◌∷◌, ◌++◌, length, length-append, map, take, drop, get_or, nat_lt, slice_get, Option, Some, None, refl, sym, ap, ◌∙◌, subst, arith}
+use Rattle.std.proofs.Common.{◌≡◌, ℕ, zero, suc, ◌+◌, ◌-◌, ◌<◌, ◌≤◌, Bool, true, false, cond, List, [], ◌∷◌, ◌++◌, length, length-append, map, take, drop, get_or, nat_lt, slice_get, Option, Some, refl, sym, ap, ◌∙◌, subst, arith}
 use Rattle.std.specs.Prelude.{IfOk, ok_or}
 use Rattle.std.proofs.Math.Seq.{drop-cons}
 use Rattle.std.proofs.lemmas.Bool.{ltb-true, lt-ltb}
@@ -16,7 +16,7 @@ use Rattle.route_json.specs.Servers.{Addresses}
 use Rattle.fresh_gate.specs.Reload.{AreKept, KeepsNumbers, IsReloadFault}
 use Rattle.fresh_gate.specs.declared.reloading.ReloadFault.{ReloadFault}
 use Rattle.fresh_gate.specs.declared.reloading.ReloadFault.TheVariants as faults
-use Rattle.fresh_gate.specs.Sound.{AreGenerations, AreLoaded, GenerationsAreFresh, IsLast, trees_of}
+use Rattle.fresh_gate.specs.Sound.{AreGenerations, GenerationsAreFresh, IsLast, trees_of}
 use Rattle.fleet_run.specs.declared.script.Reload.{Reload}
 use Rattle.fleet_run.specs.declared.script.Report.{Report}
 use Rattle.fleet_run.specs.declared.script.Transcript.{Transcript}

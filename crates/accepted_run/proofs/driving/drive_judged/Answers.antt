@@ -1,5 +1,4 @@
-use Rattle.std.proofs.Common.{◌≡◌, Bool, List, map, ◌∙◌, subst}
-use Rattle.std.specs.Prelude.{IfOk, IfErr}
+use Rattle.std.proofs.Common.{Bool, List, map, ◌∙◌, subst}
 use Rattle.std.proofs.lemmas.Result.{IfOk-weaker, IfErr-weaker}
 use Rattle.fleet_run.specs.Scripted.{scripted_of, transcript_of}
 use Rattle.fleet_run.specs.Reloads.{DrivesBy, EndsBy}

@@ -1,4 +1,4 @@
-use Rattle.std.proofs.Common.{◌≡◌, ◌++◌, ◌∷◌, [], List, Bool, map, sym, ap, ◌∙◌}
+use Rattle.std.proofs.Common.{◌++◌, ◌∷◌, [], List, Bool, sym, ap, ◌∙◌}
 use Rattle.accepted_run.specs.Reloads.{is_refused}
 use Rattle.accepted_run.proofs.Loadings.{refused_more}
 use Rattle.accepted_run.proofs.judging.refused_of.Goals as goal
