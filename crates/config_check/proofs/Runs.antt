@@ -2,6 +2,7 @@
 use Rattle.std.proofs.Common.{Option, Some, None, Result, Ok, Err, IfSome, inl, inr, refl, map}
 use Rattle.std.specs.Prelude.{IfOk, IfNone}
 use Rattle.route_tree.specs.Route.{Route}
+use Rattle.route_json.specs.Configuration.{Configuration}
 use Rattle.fresh_gate.specs.declared.gap.Gap.{Gap}
 use Rattle.fresh_gate.specs.declared.gap.Reason.TheVariants as reasons
 use Rattle.fresh_gate.specs.Gate.{IsJudged}
@@ -24,11 +25,11 @@ real_gap tree gap judged =
       gap_at = first.first.gap;
     }
 
-shown : (tree : Route) (gap : Gap) (found : Option Script) → IsRealGap tree gap → IfSome found (λ script. IsRefusalRun tree gap (map scripted_of script.events.items)) → IfNone found (IsRealGap tree gap → MayLack tree gap) → ShowsGap tree gap (run_lines found)
-shown tree gap None real some none = inr (none real, refl)
-shown tree gap (Some script) real some none = inl (map scripted_of script.events.items, some, refl)
+shown : (config : Configuration) (gap : Gap) (found : Option Script) → IsRealGap config.tree gap → IfSome found (λ script. IsRefusalRun config gap (map scripted_of script.events.items)) → IfNone found (IsRealGap config.tree gap → MayLack config.tree gap) → ShowsGap config gap (run_lines found)
+shown config gap None real some none = inr (none real, refl)
+shown config gap (Some script) real some none = inl (map scripted_of script.events.items, some, refl)
 
 -- what was found for the gap shows it
-pub found_shows : {E : Type 0} (tree : Route) (gap : Gap) (result : Result (Option Script) E) → IsJudged tree (reasons.Uncovered gap) → IfOk result (λ found. IfSome found (λ script. IsRefusalRun tree gap (map scripted_of script.events.items))) → IfOk result (λ found. IfNone found (IsRealGap tree gap → MayLack tree gap)) → IfOk result (λ found. ShowsGap tree gap (run_lines found))
-found_shows tree gap (Ok found) judged some none = shown tree gap found (real_gap tree gap judged) some none
-found_shows tree gap (Err error) judged some none = tt
+pub found_shows : {E : Type 0} (config : Configuration) (gap : Gap) (result : Result (Option Script) E) → IsJudged config.tree (reasons.Uncovered gap) → IfOk result (λ found. IfSome found (λ script. IsRefusalRun config gap (map scripted_of script.events.items))) → IfOk result (λ found. IfNone found (IsRealGap config.tree gap → MayLack config.tree gap)) → IfOk result (λ found. ShowsGap config gap (run_lines found))
+found_shows config gap (Ok found) judged some none = shown config gap found (real_gap config.tree gap judged) some none
+found_shows config gap (Err error) judged some none = tt

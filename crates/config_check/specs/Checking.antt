@@ -53,23 +53,23 @@ run_lines None = []
 run_lines (Some script) = script_lines (map scripted_of script.events.items)
 
 -- the lines are those of a script that shows the gap, or there are none and the gap may have no such script
-abbrev pub ShowsGap : Route → Gap → List ℕ → Type 0
-ShowsGap tree gap lines =
-    ((events : List Scripted) × IsRefusalRun tree gap events × (lines ≡ script_lines events)) ⊎ (MayLack tree gap × (lines ≡ []))
+abbrev pub ShowsGap : Configuration → Gap → List ℕ → Type 0
+ShowsGap config gap lines =
+    ((events : List Scripted) × IsRefusalRun config gap events × (lines ≡ script_lines events)) ⊎ (MayLack config.tree gap × (lines ≡ []))
 
 -- so it is where the reason is a gap; for another there are no lines
-abbrev pub ShowsReason : Route → Reason → List ℕ → Type 0
-ShowsReason tree (reasons.Uncovered gap) lines = ShowsGap tree gap lines
-ShowsReason tree reasons.TooManyPlaces lines = lines ≡ []
-ShowsReason tree (reasons.BadCertificate row) lines = lines ≡ []
-ShowsReason tree reasons.NoMemory lines = lines ≡ []
+abbrev pub ShowsReason : Configuration → Reason → List ℕ → Type 0
+ShowsReason config (reasons.Uncovered gap) lines = ShowsGap config gap lines
+ShowsReason config reasons.TooManyPlaces lines = lines ≡ []
+ShowsReason config (reasons.BadCertificate row) lines = lines ≡ []
+ShowsReason config reasons.NoMemory lines = lines ≡ []
 
 -- the tree is refused for this reason, and that and then the lines of the script that shows it were written
 pub record ChecksRefused (config : Configuration) (reason : Reason) (old new : Option (List ℕ)) : Type 0 where
   pub told : IsTold reason
   pub judged : IsJudged config.tree reason
   pub run : List ℕ
-  pub shows : ShowsReason config.tree reason run
+  pub shows : ShowsReason config reason run
   pub printed : Appends old new (refusal_line config.servers reason ++ run)
 
 -- the verdict on a configuration was written; status 0: it is accepted; status 1: it is refused

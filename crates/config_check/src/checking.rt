@@ -79,7 +79,7 @@ pub fn print_refused<W: Write>(
 // The script that shows why a configuration is refused, if that is a gap that has one.
 fn run_of(alloc: Global, config: &Config, reason: &Reason) -> Result<Option<Script>, AllocError>
     requires { IsJudged config.now.tree reason.now }
-    ensures { IfOk result (λ found. ShowsReason config.now.tree reason.now (run_lines found)) }
+    ensures { IfOk result (λ found. ShowsReason config.now reason.now (run_lines found)) }
 {
     match reason {
         Reason::Uncovered(gap) => refusal_run(alloc, config, gap),

@@ -1,5 +1,5 @@
 -- What a refusal run is, and that a gap without an all-sync and a warm-up has one.
-use Rattle.std.proofs.Common.{◌≡◌, ℕ, Bool, true, false, not, cond, nat_eq, List, [], map, Option, Some, None, IsSome, IfSome, inr, refl, sym, ap, ◌∙◌, subst}
+use Rattle.std.proofs.Common.{◌≡◌, ℕ, ◌<◌, Bool, true, false, not, cond, nat_eq, List, [], length, map, Option, Some, None, IsSome, IfSome, inr, refl, sym, ap, ◌∙◌, subst}
 use Rattle.mc_types.specs.declared.ask.Op.TheVariants.{Delete}
 use Rattle.std.proofs.lemmas.Bool.{eq-eqb}
 use Rattle.mc_runs.specs.Log.{Scripted, Shown}
@@ -14,6 +14,8 @@ use Rattle.route_tree.specs.Plan.{Plan, IsGood}
 use Rattle.route_tree.specs.Route.{Route, IsTree}
 use Rattle.route_tree.specs.Word.{answer_of_nothing}
 use Rattle.route_tree.proofs.Places.{place_is_enough}
+use Rattle.route_json.specs.Configuration.{Configuration}
+use Rattle.route_json.specs.Fits.{IsBelow}
 use Rattle.coverage.specs.declared.deleting.Deleting.TheVariants as kinds
 use Rattle.coverage.specs.Taking.{IsTaking, dialect_of}
 use Rattle.coverage.proofs.Choices.{not_false}
@@ -23,6 +25,7 @@ use Rattle.fleet_run.specs.declared.script.Script.{Script}
 use Rattle.fleet_run.specs.Scripted.{scripted_of}
 use Rattle.fleet_run.specs.Driving.{Drives}
 use Rattle.fleet_run.specs.Opening.{opening_of}
+use Rattle.fleet_run.specs.Bad.{first_bad}
 use Rattle.refusal_words.specs.Turns.{acks, finds}
 use Rattle.refusal_words.specs.Bait.{delete_of, read_of, answer_of}
 use Rattle.refusal_words.specs.Scripts.{Leaks}
@@ -32,9 +35,11 @@ use Rattle.refusals.specs.declared.failures.Failures.{Failures}
 use Rattle.refusals.specs.Tried.{IsFirstKey}
 use Rattle.refusals.specs.Commands.{script_for, delete_text, read_text}
 use Rattle.refusals.specs.Failing.{both, failures_of}
-use Rattle.refusals.specs.Refusals.{IsRealGap, IsRefusalRun, IsRoundabout, MayLack, IsAnswer}
+use Rattle.refusals.specs.Refusals.{IsRealGap, IsShowing, IsRefusalRun, IsRoundabout, MayLack, IsAnswer}
 use Rattle.refusals.proofs.OneAsk.{quiet_start, one_delete, one_read}
 use Rattle.refusals.proofs.Baited.{baited}
+use Rattle.refusals.proofs.Below.{found_is_below}
+use Rattle.refusals.proofs.Drivable.{script_can}
 
 both_are : (d r : Option ℕ) (f : Failures) → both d r ≡ Some f → (d ≡ Some f.delete) × (r ≡ Some f.read)
 both_are None r f e = absurd (cc)
@@ -49,43 +54,48 @@ both_none (Some d) None e a b = absurd (cc)
 both_none (Some d) (Some r) e a b = cc
 
 -- the computed script
-module _ (tree : Route) (gap : Gap) (key : List ℕ) (f : Failures) (taking : IsTaking gap.op) (first : IsFirstKey tree gap.place key) (computed : failures_of gap.op gap.server (tree_at tree key) ≡ Some f) (good : IsGood (tree_at tree key)) where
-  numbers : (acks gap.server (tree_at tree key) ≡ Some f.delete) × (finds gap.op gap.server (tree_at tree key) ≡ Some f.read)
-  numbers = both_are (acks gap.server (tree_at tree key)) (finds gap.op gap.server (tree_at tree key)) f computed
+module _ (config : Configuration) (gap : Gap) (key : List ℕ) (f : Failures) (taking : IsTaking gap.op) (first : IsFirstKey config.tree gap.place key) (computed : failures_of gap.op gap.server (tree_at config.tree key) ≡ Some f) (good : IsGood (tree_at config.tree key)) (is_tree : IsTree config.tree) (below : IsBelow (length config.servers) config.tree) where
+  numbers : (acks gap.server (tree_at config.tree key) ≡ Some f.delete) × (finds gap.op gap.server (tree_at config.tree key) ≡ Some f.read)
+  numbers = both_are (acks gap.server (tree_at config.tree key)) (finds gap.op gap.server (tree_at config.tree key)) f computed
 
   abbrev events : List Scripted
   events = script_for gap.server key gap.op f.delete f.read
 
-  leaks : Leaks memcached_text (words_of tree) (opening_of events) events
-  leaks = numbers_have_script memcached_text (λ n k. tree_at tree k) (opening_of events) key gap.op kinds.Delete gap.server (delete_text key) (read_text gap.op key) (Whole (message_of (delete_of kinds.Delete key))) (Whole (message_of (read_of gap.op key))) (Stands Nothing []) (Stands Nothing []) first.is_key.key_is taking good good (baited gap.server key f.delete f.read (delete_text key) (read_text gap.op key)) quiet_start (one_delete key (answer_of_nothing (dialect_of kinds.Delete) Delete) first.is_key.key_is) (one_read gap.op key (answer_of gap.op) taking first.is_key.key_is) f.delete f.read numbers.0 numbers.1
+  leaks : Leaks memcached_text (words_of config.tree) (opening_of events) events
+  leaks = numbers_have_script memcached_text (λ n k. tree_at config.tree k) (opening_of events) key gap.op kinds.Delete gap.server (delete_text key) (read_text gap.op key) (Whole (message_of (delete_of kinds.Delete key))) (Whole (message_of (read_of gap.op key))) (Stands Nothing []) (Stands Nothing []) first.is_key.key_is taking good good (baited gap.server key f.delete f.read (delete_text key) (read_text gap.op key)) quiet_start (one_delete key (answer_of_nothing (dialect_of kinds.Delete) Delete) first.is_key.key_is) (one_read gap.op key (answer_of gap.op) taking first.is_key.key_is) f.delete f.read numbers.0 numbers.1
 
-  same_failures : (g : Failures) → failures_of gap.op gap.server (tree_at tree key) ≡ Some g → f ≡ g
+  can_be : first_bad (length config.servers) events ≡ None
+  can_be =
+      let there : gap.server < length config.servers = found_is_below (length config.servers) config.tree key gap.op gap.server f.read is_tree below numbers.1 in
+      script_can (length config.servers) gap.server key gap.op f.delete f.read there first.is_key.key_is taking
+
+  same_failures : (g : Failures) → failures_of gap.op gap.server (tree_at config.tree key) ≡ Some g → f ≡ g
   same_failures g e = some_is f g (sym computed ∙ e)
     where
       some_is : (x y : Failures) → Some x ≡ Some y → x ≡ y
       some_is x y e = cc
 
-  pub computed_run : (script : List Scripted) → script ≡ events → IsRefusalRun tree gap script
-  computed_run script is = subst (IsRefusalRun tree gap) (sym is) (record {
+  pub computed_run : (script : List Scripted) → script ≡ events → IsRefusalRun config gap script
+  computed_run script is = subst (IsRefusalRun config gap) (sym is) (record {
     key = key;
     first = first;
     delete = f.delete;
     read = f.read;
     script_is = refl;
     failing = λ g e. (ap (λ (x : Failures). x.delete) (same_failures g e), ap (λ (x : Failures). x.read) (same_failures g e));
-    leaks = leaks;
+    shows = record { can_be = can_be; leaks = leaks };
   })
 
 -- a driven script
-pub driven_run : (tree : Route) (gap : Gap) (key : List ℕ) (script : List Scripted) → IsFirstKey tree gap.place key → failures_of gap.op gap.server (tree_at tree key) ≡ None → script ≡ script_for gap.server key gap.op 0 0 → Leaks memcached_text (words_of tree) (opening_of script) script → IsRefusalRun tree gap script
-driven_run tree gap key script first none is leaks = record {
+pub driven_run : (config : Configuration) (gap : Gap) (key : List ℕ) (script : List Scripted) → IsFirstKey config.tree gap.place key → failures_of gap.op gap.server (tree_at config.tree key) ≡ None → script ≡ script_for gap.server key gap.op 0 0 → IsShowing config script → IsRefusalRun config gap script
+driven_run config gap key script first none is shows = record {
   key = key;
   first = first;
   delete = 0;
   read = 0;
   script_is = is;
   failing = λ g e. absurd (let a = none in cc);
-  leaks = leaks;
+  shows = shows;
 }
 
 -- where no script is computed for a gap, an all-sync or a warm-up stands in the way
@@ -102,9 +112,9 @@ pub none_answer : (tree t : Route) (gap : Gap) (key : List ℕ) (f : Option Fail
 none_answer tree t gap key f e is_tree first good computed none real =
     inr (none_roundabout tree gap key (subst IsTree e is_tree) first (subst (λ (r : Route). IsGood (tree_at r key)) e good) (subst (λ (r : Route). failures_of gap.op gap.server (tree_at r key) ≡ None) e (sym computed ∙ none)) real)
 
-pub answered : (tree : Route) (gap : Gap) (found : Option Script) → IfSome found (λ script. IsRefusalRun tree gap (map scripted_of script.events.items)) → (IsRealGap tree gap → MayLack tree gap) → IsAnswer tree gap found
-answered tree gap None h n = n
-answered tree gap (Some script) h n = h
+pub answered : (config : Configuration) (gap : Gap) (found : Option Script) → IfSome found (λ script. IsRefusalRun config gap (map scripted_of script.events.items)) → (IsRealGap config.tree gap → MayLack config.tree gap) → IsAnswer config gap found
+answered config gap None h n = n
+answered config gap (Some script) h n = h
 
 -- a driver that counts a stale reply shows a leak
 pub drives_leak : (tree : Route) (events : List Scripted) (given : List Shown) (report : Report) → Drives tree events given report → not (nat_eq report.stale 0) ≡ true → Leaks memcached_text (words_of tree) (opening_of events) events

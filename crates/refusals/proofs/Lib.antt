@@ -1,4 +1,6 @@
 pub mod OneAsk
 pub mod Baited
 pub mod Placed
+pub mod Below
+pub mod Drivable
 pub mod Answering

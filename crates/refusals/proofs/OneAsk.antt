@@ -1,5 +1,5 @@
 -- The commands of a refusal run are read as the asks that they are.
-use Rattle.std.proofs.Common.{◌≡◌, ℕ, true, ◌||◌, ◌+◌, List, [], ◌∷◌, ◌++◌, length, drop, codes, None, refl, sym, ap, ◌∙◌, subst, arith, append-nil, append_assoc}
+use Rattle.std.proofs.Common.{◌≡◌, ℕ, true, List, [], ◌∷◌, ◌++◌, length, drop, codes, refl, sym, ap, ◌∙◌, subst, arith, append-nil, append_assoc}
 use Rattle.std.proofs.Math.Seq.{drop-length}
 use Rattle.std.proofs.lemmas.Fmt.{decimal_digit}
 use Rattle.mc_text.specs.Spelling.{line_of}
@@ -7,7 +7,6 @@ use Rattle.mc_types.specs.declared.ask.Op.{Op}
 use Rattle.mc_types.specs.declared.ask.Op.TheVariants.{Get, Gat, Set, Add, Replace, Append, Prepend, Cas, Delete, Incr, Decr, Touch}
 use Rattle.mc_types.specs.declared.ask.Ask.{Ask}
 use Rattle.mc_types.specs.declared.answer.Answer.{Answer}
-use Rattle.mc_types.specs.Asks.{IsAsk}
 use Rattle.mc_types.specs.KeyText.{IsKey}
 use Rattle.mc_runs.specs.Protocol.{IsStuck}
 use Rattle.request_parts.specs.declared.skip.Skip.TheVariants.{Nothing}

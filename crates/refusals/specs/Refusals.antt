@@ -1,11 +1,12 @@
 -- Scripts that leak for a gap, and when there may be none. Source: mcgate's own.
-use Rattle.std.specs.Prelude.{◌≡◌, ℕ, ◌<◌, [], ◌∷◌, List, Option, Some, MatchOption, map, slice_get, ◌⊎◌}
+use Rattle.std.specs.Prelude.{◌≡◌, ℕ, ◌<◌, [], ◌∷◌, List, length, Option, Some, None, MatchOption, map, slice_get, ◌⊎◌}
 use Rattle.mc_types.specs.declared.ask.Op.TheVariants.{Delete}
 use Rattle.mc_runs.specs.Log.{Scripted}
 use Rattle.route_tree.specs.Place.{tree_at_place}
 use Rattle.route_tree.specs.At.{tree_at}
 use Rattle.route_tree.specs.Route.{Route}
 use Rattle.route_tree.specs.Direct.{words_of}
+use Rattle.route_json.specs.Configuration.{Configuration}
 use Rattle.coverage.specs.declared.table.Class.{Class}
 use Rattle.coverage.specs.declared.table.PlaceTable.{PlaceTable}
 use Rattle.coverage.specs.Places.{place_at}
@@ -16,6 +17,7 @@ use Rattle.text_codec.specs.TextProtocol.{memcached_text}
 use Rattle.fleet_run.specs.declared.script.Script.{Script}
 use Rattle.fleet_run.specs.Scripted.{scripted_of}
 use Rattle.fleet_run.specs.Opening.{opening_of}
+use Rattle.fleet_run.specs.Bad.{first_bad}
 use Rattle.refusal_words.specs.Beside.{IsDirect}
 use Rattle.refusal_words.specs.Scripts.{Leaks}
 use Rattle.refusals.specs.declared.failures.Failures.{Failures}
@@ -34,15 +36,20 @@ pub record IsRealGap (tree : Route) (gap : Gap) : Type 0 where
   pub at : gap.place ≡ place_at class.prefix gap.place.residue table.modulus
   pub gap_at : IsGapAt (tree_at_place tree gap.place) (tree_at_place tree gap.place) gap.server gap.op gap.deleting
 
--- the script, over the first key that is tried and stands at the gap's place, has a run of the tree that isn't fresh, none of whose commands is broken; the failed calls are those that it names, not applied. Where each call but one of the delete and one of the read can fail, so many do before it
-pub record IsRefusalRun (tree : Route) (gap : Gap) (events : List Scripted) : Type 0 where
+-- over the configuration's servers each of the events can be, so that the script can be driven; and it has a run of the tree that isn't fresh
+pub record IsShowing (config : Configuration) (events : List Scripted) : Type 0 where
+  pub can_be : first_bad (length config.servers) events ≡ None
+  pub leaks : Leaks memcached_text (words_of config.tree) (opening_of events) events
+
+-- the script, over the first key that is tried and stands at the gap's place, can be driven and has a run that isn't fresh, none of whose commands is broken; the failed calls are those that it names, not applied. Where each call but one of the delete and one of the read can fail, so many do before it
+pub record IsRefusalRun (config : Configuration) (gap : Gap) (events : List Scripted) : Type 0 where
   pub key : List ℕ
-  pub first : IsFirstKey tree gap.place key
+  pub first : IsFirstKey config.tree gap.place key
   pub delete : ℕ
   pub read : ℕ
   pub script_is : events ≡ script_for gap.server key gap.op delete read
-  pub failing : (f : Failures) → failures_of gap.op gap.server (tree_at tree key) ≡ Some f → (delete ≡ f.delete) × (read ≡ f.read)
-  pub leaks : Leaks memcached_text (words_of tree) (opening_of events) events
+  pub failing : (f : Failures) → failures_of gap.op gap.server (tree_at config.tree key) ≡ Some f → (delete ≡ f.delete) × (read ≡ f.read)
+  pub shows : IsShowing config events
 
 -- an all-sync or a warm-up stands in the plain tree of the delete or of the read, children for other operations aside
 abbrev pub IsRoundabout : Route → Gap → Type 0
@@ -53,5 +60,5 @@ abbrev pub MayLack : Route → Gap → Type 0
 MayLack tree gap = NoneBefore tree gap.place tried ⊎ IsRoundabout tree gap
 
 -- a script that leaks, or a reason for a gap to have none
-abbrev pub IsAnswer : Route → Gap → Option Script → Type 0
-IsAnswer tree gap found = MatchOption found (IsRealGap tree gap → MayLack tree gap) (λ script. IsRefusalRun tree gap (map scripted_of script.events.items))
+abbrev pub IsAnswer : Configuration → Gap → Option Script → Type 0
+IsAnswer config gap found = MatchOption found (IsRealGap config.tree gap → MayLack config.tree gap) (λ script. IsRefusalRun config gap (map scripted_of script.events.items))

@@ -3,16 +3,12 @@ ghost use Rattle.std.specs.Prelude.{◌≡◌, ◌↔◌, [], ◌∷◌, List, S
 ghost use Rattle.mc_runs.specs.Log.{Scripted};
 ghost use Rattle.route_tree.specs.Plan.{IsGood};
 ghost use Rattle.route_tree.specs.At.{tree_at};
-ghost use Rattle.route_tree.specs.Direct.{words_of};
 ghost use Rattle.coverage.specs.Taking.{IsTaking};
 ghost use Rattle.coverage.specs.Tables.{IsTable};
-ghost use Rattle.text_codec.specs.TextProtocol.{memcached_text};
 ghost use Rattle.fleet_run.specs.Scripted.{scripted_of};
-ghost use Rattle.fleet_run.specs.Opening.{opening_of};
-ghost use Rattle.refusal_words.specs.Scripts.{Leaks};
 ghost use Rattle.refusals.specs.Tried.{IsFirstKey};
 ghost use Rattle.refusals.specs.Failing.{failures_of};
-ghost use Rattle.refusals.specs.Refusals.{MayLack, IsRefusalRun, IsRealGap, IsAnswer};
+ghost use Rattle.refusals.specs.Refusals.{MayLack, IsShowing, IsRefusalRun, IsRealGap, IsAnswer};
 
 use crate::failures::{Failures, failures_at};
 use crate::keys::key_at;
@@ -34,9 +30,9 @@ fn is_read(op: Op) -> bool
     }
 }
 
-// Whether the script shows an item that is older than a delete, where it is driven.
+// Whether the script can be driven, and then shows an item that is older than a delete.
 fn is_stale(alloc: Global, config: &Config, script: &Script) -> Result<bool, AllocError>
-    ensures { IfOk result (λ stale. stale ≡ true → Leaks memcached_text (words_of config.now.tree) (opening_of (map scripted_of script.now.events.items)) (map scripted_of script.now.events.items)) }
+    ensures { IfOk result (λ stale. stale ≡ true → IsShowing config.now (map scripted_of script.now.events.items)) }
 {
     let servers = config.servers().len();
     let mut fleet = MemoryFleet::new(alloc, servers as u32)?;
@@ -62,9 +58,10 @@ fn computed_run(
     requires first { IsFirstKey config.now.tree gap.now.place key.now }
     requires computed { failures_of gap.now.op gap.now.server (tree_at config.now.tree key.now) ≡ Some failures }
     requires good { IsGood (tree_at config.now.tree key.now) }
-    ensures { IfOk result (λ script. IsRefusalRun config.now.tree gap.now (map scripted_of script.events.items)) }
+    ensures { IfOk result (λ script. IsRefusalRun config.now gap.now (map scripted_of script.events.items)) }
 {
-    let _config = config;
+    let tree = config.tree();
+    let _form = tree.form();
     script_for(alloc, gap.server, key, gap.op, failures)
 }
 
@@ -83,7 +80,7 @@ fn driven_run(
 ) -> Result<Option<Script>, AllocError>
     requires first { IsFirstKey config.now.tree gap.now.place key.now }
     requires none { failures_of gap.now.op gap.now.server (tree_at config.now.tree key.now) ≡ None }
-    ensures { IfOk result (λ found. IfSome found (λ script. IsRefusalRun config.now.tree gap.now (map scripted_of script.events.items))) }
+    ensures { IfOk result (λ found. IfSome found (λ script. IsRefusalRun config.now gap.now (map scripted_of script.events.items))) }
 {
     let none = Failures { delete: 0, read: 0 };
     let script = script_for(alloc, gap.server, key, gap.op, none)?;
@@ -100,7 +97,7 @@ fn run_over(
 ) -> Result<Option<Script>, AllocError>
     requires taking { IsTaking gap.now.op }
     requires first { IsFirstKey config.now.tree gap.now.place key.now }
-    ensures { IfOk result (IsAnswer config.now.tree gap.now) }
+    ensures { IfOk result (IsAnswer config.now gap.now) }
 {
     let tree = config.tree();
     let _form = tree.form();
@@ -119,7 +116,7 @@ fn run_by(
 ) -> Result<Option<Script>, AllocError>
     requires table { IsTable (config.now.tree ∷ []) table.now }
     requires taking { IsTaking gap.now.op }
-    ensures { IfOk result (IsAnswer config.now.tree gap.now) }
+    ensures { IfOk result (IsAnswer config.now gap.now) }
 {
     match key_at(alloc, config.tree(), table, &gap.place)? {
         Some(key) => run_over(alloc, config, gap, &key),
@@ -129,15 +126,16 @@ fn run_by(
 
 /// For a gap of the configuration's tree, a script that shows it: the gap's server holds `1` under a key at the gap's place, the
 /// key is deleted, and a read of the gap's operation shows that item all the same. Some calls of the delete and of the read
-/// may fail, not applied. The key is the first at the place among the gap's prefix followed by `k0`, `k1`, .. `k65535`; the
-/// delete is the classic one, which leaves the server whenever the delete of the meta dialect does.
+/// may fail, not applied. Over the configuration's servers each event of the script can be, so `drive_any` refuses none. The key is
+/// the first at the place among the gap's prefix followed by `k0`, `k1`, .. `k65535`; the delete is the classic one, which leaves the
+/// server whenever the delete of the meta dialect does.
 ///
 /// `None` comes for a gap of the tree only where no key that is tried is at its place, or an all-sync or a warm-up stands in the
 /// plain tree of the delete or of the read, children for other operations aside. The only error is running out of memory.
 ///
 /// Source: mcgate's own.
 pub fn refusal_run(alloc: Global, config: &Config, gap: &Gap) -> Result<Option<Script>, AllocError>
-    ensures some { IfOk result (λ found. IfSome found (λ script. IsRefusalRun config.now.tree gap.now (map scripted_of script.events.items))) }
+    ensures some { IfOk result (λ found. IfSome found (λ script. IsRefusalRun config.now gap.now (map scripted_of script.events.items))) }
     ensures none { IfOk result (λ found. IfNone found (IsRealGap config.now.tree gap.now → MayLack config.now.tree gap.now)) }
 {
     if !is_read(gap.op) {

@@ -8,7 +8,7 @@ use Rattle.config_check.proofs.checking.run_of.Goals as goal
 
 pub returns-in-Uncovered : goal.returns-in-Uncovered
 returns-in-Uncovered c =
-    let tree = c.args.config.now.tree in
-    let judged = subst (IsJudged tree) c.in-Uncovered.is c.requires in
-    subst (λ (r : Reason). IfOk c.refusal_run.result (λ found. ShowsReason tree r (run_lines found))) (sym c.in-Uncovered.is)
-    (found_shows tree c.in-Uncovered.gap c.refusal_run.result judged c.refusal_run.ensures.some c.refusal_run.ensures.none)
+    let config = c.args.config.now in
+    let judged = subst (IsJudged config.tree) c.in-Uncovered.is c.requires in
+    subst (λ (r : Reason). IfOk c.refusal_run.result (λ found. ShowsReason config r (run_lines found))) (sym c.in-Uncovered.is)
+    (found_shows config c.in-Uncovered.gap c.refusal_run.result judged c.refusal_run.ensures.some c.refusal_run.ensures.none)

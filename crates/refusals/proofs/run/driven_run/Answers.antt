@@ -7,8 +7,8 @@ use Rattle.refusals.proofs.run.driven_run.Goals as goal
 
 pub returns : goal.returns
 returns c =
-    let tree = c.args.config.now.tree in
+    let config = c.args.config.now in
     let gap = c.args.gap.now in
     let script = c.in_ok-script.script in
-    subst (λ (found : Option Script). IfSome found (λ s. IsRefusalRun tree gap (map scripted_of s.events.items))) (sym c.only_if.ensures)
-    (by_stale c.in_ok-stale.stale script (λ s. IsRefusalRun tree gap (map scripted_of s.events.items)) (λ t. driven_run tree gap c.args.key.now (map scripted_of script.events.items) c.requires.first c.requires.none c.in_ok-script.ensures (c.in_ok-stale.ensures t)))
+    subst (λ (found : Option Script). IfSome found (λ s. IsRefusalRun config gap (map scripted_of s.events.items))) (sym c.only_if.ensures)
+    (by_stale c.in_ok-stale.stale script (λ s. IsRefusalRun config gap (map scripted_of s.events.items)) (λ t. driven_run config gap c.args.key.now (map scripted_of script.events.items) c.requires.first c.requires.none c.in_ok-script.ensures (c.in_ok-stale.ensures t)))

@@ -1,0 +1,223 @@
+-- Events that were written as lines are read back.
+use Rattle.std.proofs.Common.{◌≡◌, ℕ, ℤ, ◌+◌, ◌<◌, ◌^◌, false, eqb, List, [], ◌∷◌, ◌++◌, map, codes, Some, None, Result, Ok, All, refl, sym, ap, ◌∙◌, subst, arith, append_assoc}
+use Rattle.std.specs.Prelude.{pos, option_and_then, decimal}
+use Rattle.std.specs.Result.{result_ok}
+use Rattle.std.proofs.lemmas.Bool.{ne_eqb}
+use Rattle.std.proofs.lemmas.List.Splits.{slice_split_at}
+use Rattle.mc_text.proofs.NumberLemmas.{number_below-decimal}
+use Rattle.mc_types.specs.declared.key.KeyFault.{KeyFault}
+use Rattle.mc_types.specs.Fault.{read_key}
+use Rattle.mc_types.specs.KeyText.{IsKey}
+use Rattle.request_parts.proofs.KeyTexts.{is_read}
+use Rattle.mc_runs.specs.Log.{Scripted, Piece, Fail, Hold, At, Now, Moment, Manner, Before, After, Loss, Lose, Restart}
+use Rattle.byte_escapes.specs.Escapes.{escaped}
+use Rattle.script_text.specs.Escapes.{unescaped}
+use Rattle.script_text.specs.Lines.{Parts, cut, lines_of, is_line_end}
+use Rattle.script_text.specs.Events.{nonzero, client_said, server_said, turn_said, key_said, manner_said, piece_said, hold_said, fail_said, item_loss_said, restart_loss_said, loss_said, at_said, said_behind, event_said}
+use Rattle.route_json.specs.Configuration.{Configuration}
+use Rattle.script_text.specs.FirstLine.{WhyNot, first_said}
+use Rattle.script_text.specs.Script.{Meaning, Says, line_means, said_or_not, Numbered, and_then, numbered, or_behind, first_unreadable, told_from, told_behind, told_by, told}
+use Rattle.script_lines.specs.Lines.{manner_text, loss_line, event_line, script_lines}
+use Rattle.script_lines.specs.Laws.{AreBytes, CanBeLost, IsTurn, HasLine, HaveLines, SaysAll, ScriptsAreReadBack}
+use Rattle.script_text.proofs.ReadBack.{escapes_are_read_back}
+use Rattle.script_lines.proofs.Cuts.{Lacks, lacks_both, lacks_all, lacks_by, cut_at, decimal_lacks, escaped_lacks, key_lacks}
+
+-- ---- words
+
+turn_back : (turn : ℕ) → IsTurn turn → turn_said (decimal turn) ≡ Some turn
+turn_back turn h =
+    let some = h.0 in
+    let not0 : eqb turn 0 ≡ false = ne_eqb turn 0 (λ e. omega arith) in
+    ap (option_and_then nonzero) (number_below-decimal (2 ^ 32) turn h.1 (omega arith)) ∙ rw not0 refl
+
+key_back : (key : List ℕ) → IsKey key → AreBytes key → key_said (escaped key) ≡ Some key
+key_back key is bytes =
+    ap (option_and_then (λ (text : List ℕ). result_ok (read_key text))) (escapes_are_read_back key bytes)
+    ∙ ap (λ (r : Result (List ℕ) KeyFault). result_ok r) (is_read key is)
+
+manner_back : (manner : Manner) → manner_said (manner_text manner) ≡ Some manner
+manner_back Before = refl
+manner_back After = refl
+
+manner_lacks : (manner : Manner) → Lacks 10 (manner_text manner)
+manner_lacks Before = lacks_by 10 (codes "before") refl
+manner_lacks After = lacks_by 10 (codes "after") refl
+
+number_lacks : (byte n : ℕ) → byte < 48 → n < 2 ^ 63 → Lacks byte (decimal n)
+number_lacks byte n lt small = decimal_lacks byte n lt (omega arith)
+
+-- ---- lines
+
+-- a first word, and what stands behind it
+event_by : (word text : List ℕ) (event : Scripted) → Lacks 32 word → said_behind word text ≡ Some event → event_said (word ++ 32 ∷ text) ≡ Some event
+event_by word text event lacks said = ap (option_and_then (λ (p : Parts). said_behind p.word p.rest)) (cut_at word text lacks) ∙ said
+
+joined : (a b c : List ℕ) → (((a ++ 32 ∷ []) ++ b) ++ 32 ∷ []) ++ c ≡ a ++ 32 ∷ (b ++ 32 ∷ c)
+joined a b c = append_assoc ((a ++ 32 ∷ []) ++ b) (32 ∷ []) c ∙ append_assoc (a ++ 32 ∷ []) b (32 ∷ c) ∙ append_assoc a (32 ∷ []) (b ++ 32 ∷ c)
+
+-- the line of an event, without its end
+record LineOf (event : Scripted) : Type 0 where
+  line : List ℕ
+  written : event_line event ≡ line ++ 10 ∷ []
+  lacks : Lacks 10 line
+  means : line_means line ≡ Says event
+
+piece_line : (client : ℕ) (bytes : List ℕ) → HasLine (Piece client bytes) → LineOf (Piece client bytes)
+piece_line client bytes h =
+    let lt = h.0 in
+    let d = decimal client in
+    let said : piece_said (d ++ 32 ∷ escaped bytes) ≡ Some (Piece client bytes) =
+    ap (option_and_then (λ (p : Parts). option_and_then (λ (c : ℕ). option_and_then (λ (b : List ℕ). Some (Piece c b)) (unescaped p.rest)) (client_said p.word))) (cut_at d (escaped bytes) (number_lacks 32 client (omega arith) (omega arith)))
+    ∙ ap (option_and_then (λ (c : ℕ). option_and_then (λ (b : List ℕ). Some (Piece c b)) (unescaped (escaped bytes)))) (number_below-decimal 64 client lt (omega arith))
+    ∙ ap (option_and_then (λ (b : List ℕ). Some (Piece client b))) (escapes_are_read_back bytes h.1) in
+    record {
+      line = codes "> " ++ (d ++ 32 ∷ escaped bytes);
+      written = ap (λ (t : List ℕ). codes "> " ++ (t ++ 10 ∷ [])) (append_assoc d (32 ∷ []) (escaped bytes));
+      lacks = lacks_both 10 (codes "> ") (d ++ 32 ∷ escaped bytes) (lacks_by 10 (codes "> ") refl) (lacks_both 10 d (32 ∷ escaped bytes) (number_lacks 10 client (omega arith) (omega arith)) (refl, escaped_lacks bytes h.1));
+      means = ap said_or_not (event_by (codes ">") (d ++ 32 ∷ escaped bytes) (Piece client bytes) (lacks_by 32 (codes ">") refl) said);
+    }
+
+hold_line : (server : ℕ) (key content : List ℕ) → HasLine (Hold server key content) → LineOf (Hold server key content)
+hold_line server key content h =
+    let lt = h.0 in
+    let d = decimal server in
+    let k = escaped key in
+    let t = escaped content in
+    let said : hold_said (d ++ 32 ∷ (k ++ 32 ∷ t)) ≡ Some (Hold server key content) =
+    ap (option_and_then (λ (p : Parts). option_and_then (λ (s : ℕ). option_and_then (λ (q : Parts). option_and_then (λ (x : List ℕ). option_and_then (λ (y : List ℕ). Some (Hold s x y)) (unescaped q.rest)) (key_said q.word)) (cut p.rest)) (server_said p.word))) (cut_at d (k ++ 32 ∷ t) (number_lacks 32 server (omega arith) (omega arith)))
+    ∙ ap (option_and_then (λ (s : ℕ). option_and_then (λ (q : Parts). option_and_then (λ (x : List ℕ). option_and_then (λ (y : List ℕ). Some (Hold s x y)) (unescaped q.rest)) (key_said q.word)) (cut (k ++ 32 ∷ t)))) (number_below-decimal (2 ^ 32) server lt (omega arith))
+    ∙ ap (option_and_then (λ (q : Parts). option_and_then (λ (x : List ℕ). option_and_then (λ (y : List ℕ). Some (Hold server x y)) (unescaped q.rest)) (key_said q.word))) (cut_at k t (key_lacks key h.1.bytes h.2))
+    ∙ ap (option_and_then (λ (x : List ℕ). option_and_then (λ (y : List ℕ). Some (Hold server x y)) (unescaped t))) (key_back key h.1 h.2)
+    ∙ ap (option_and_then (λ (y : List ℕ). Some (Hold server key y))) (escapes_are_read_back content h.3) in
+    record {
+      line = codes "hold " ++ (d ++ 32 ∷ (k ++ 32 ∷ t));
+      written = ap (λ (x : List ℕ). codes "hold " ++ (x ++ 10 ∷ [])) (joined d k t);
+      lacks = lacks_both 10 (codes "hold ") (d ++ 32 ∷ (k ++ 32 ∷ t)) (lacks_by 10 (codes "hold ") refl) (lacks_both 10 d (32 ∷ (k ++ 32 ∷ t)) (number_lacks 10 server (omega arith) (omega arith)) (refl, lacks_both 10 k (32 ∷ t) (escaped_lacks key h.2) (refl, escaped_lacks content h.3)));
+      means = ap said_or_not (event_by (codes "hold") (d ++ 32 ∷ (k ++ 32 ∷ t)) (Hold server key content) (lacks_by 32 (codes "hold") refl) said);
+    }
+
+fail_line : (turn : ℕ) (manner : Manner) → IsTurn turn → LineOf (Fail turn manner)
+fail_line turn manner h =
+    let lt = h.1 in
+    let d = decimal turn in
+    let m = manner_text manner in
+    let said : fail_said (d ++ 32 ∷ m) ≡ Some (Fail turn manner) =
+    ap (option_and_then (λ (p : Parts). option_and_then (λ (n : ℕ). option_and_then (λ (x : Manner). Some (Fail n x)) (manner_said p.rest)) (turn_said p.word))) (cut_at d m (number_lacks 32 turn (omega arith) (omega arith)))
+    ∙ ap (option_and_then (λ (n : ℕ). option_and_then (λ (x : Manner). Some (Fail n x)) (manner_said m))) (turn_back turn h)
+    ∙ ap (option_and_then (λ (x : Manner). Some (Fail turn x))) (manner_back manner) in
+    record {
+      line = codes "fail " ++ (d ++ 32 ∷ m);
+      written = ap (λ (t : List ℕ). codes "fail " ++ (t ++ 10 ∷ [])) (append_assoc d (32 ∷ []) m);
+      lacks = lacks_both 10 (codes "fail ") (d ++ 32 ∷ m) (lacks_by 10 (codes "fail ") refl) (lacks_both 10 d (32 ∷ m) (number_lacks 10 turn (omega arith) (omega arith)) (refl, manner_lacks manner));
+      means = ap said_or_not (event_by (codes "fail") (d ++ 32 ∷ m) (Fail turn manner) (lacks_by 32 (codes "fail") refl) said);
+    }
+
+-- the line of what is lost: its first word, and what stands behind it
+record LossLineOf (loss : Loss) : Type 0 where
+  word : List ℕ
+  text : List ℕ
+  written : loss_line loss ≡ (word ++ 32 ∷ text) ++ 10 ∷ []
+  one_word : Lacks 32 word
+  lacks : Lacks 10 (word ++ 32 ∷ text)
+  said : loss_said word text ≡ Some loss
+  means : line_means (word ++ 32 ∷ text) ≡ Says (Now loss)
+
+lost_line : (loss : Loss) → CanBeLost loss → LossLineOf loss
+lost_line (Lose server key) h =
+    let lt = h.0 in
+    let d = decimal server in
+    let k = escaped key in
+    let said : item_loss_said (d ++ 32 ∷ k) ≡ Some (Lose server key) =
+    ap (option_and_then (λ (p : Parts). option_and_then (λ (s : ℕ). option_and_then (λ (x : List ℕ). Some (Lose s x)) (key_said p.rest)) (server_said p.word))) (cut_at d k (number_lacks 32 server (omega arith) (omega arith)))
+    ∙ ap (option_and_then (λ (s : ℕ). option_and_then (λ (x : List ℕ). Some (Lose s x)) (key_said k))) (number_below-decimal (2 ^ 32) server lt (omega arith))
+    ∙ ap (option_and_then (λ (x : List ℕ). Some (Lose server x))) (key_back key h.1 h.2) in
+    record {
+      word = codes "lose";
+      text = d ++ 32 ∷ k;
+      written = ap (λ (t : List ℕ). codes "lose " ++ (t ++ 10 ∷ [])) (append_assoc d (32 ∷ []) k);
+      one_word = lacks_by 32 (codes "lose") refl;
+      lacks = lacks_both 10 (codes "lose ") (d ++ 32 ∷ k) (lacks_by 10 (codes "lose ") refl) (lacks_both 10 d (32 ∷ k) (number_lacks 10 server (omega arith) (omega arith)) (refl, escaped_lacks key h.2));
+      said = said;
+      means = ap said_or_not (event_by (codes "lose") (d ++ 32 ∷ k) (Now (Lose server key)) (lacks_by 32 (codes "lose") refl) (ap (option_and_then (λ (l : Loss). Some (Now l))) said));
+    }
+lost_line (Restart server) lt =
+    let d = decimal server in
+    let said : restart_loss_said d ≡ Some (Restart server) = ap (option_and_then (λ (s : ℕ). Some (Restart s))) (number_below-decimal (2 ^ 32) server lt (omega arith)) in
+    record {
+      word = codes "restart";
+      text = d;
+      written = refl;
+      one_word = lacks_by 32 (codes "restart") refl;
+      lacks = lacks_both 10 (codes "restart ") d (lacks_by 10 (codes "restart ") refl) (number_lacks 10 server (omega arith) (omega arith));
+      said = said;
+      means = ap said_or_not (event_by (codes "restart") d (Now (Restart server)) (lacks_by 32 (codes "restart") refl) (ap (option_and_then (λ (l : Loss). Some (Now l))) said));
+    }
+
+at_line : (turn : ℕ) (loss : Loss) → IsTurn turn → LossLineOf loss → LineOf (At turn loss)
+at_line turn loss h l =
+    let lt = h.1 in
+    let d = decimal turn in
+    let line = l.word ++ 32 ∷ l.text in
+    let said : at_said (d ++ 32 ∷ line) ≡ Some (At turn loss) =
+    ap (option_and_then (λ (p : Parts). option_and_then (λ (n : ℕ). option_and_then (λ (q : Parts). option_and_then (λ (x : Loss). Some (At n x)) (loss_said q.word q.rest)) (cut p.rest)) (turn_said p.word))) (cut_at d line (number_lacks 32 turn (omega arith) (omega arith)))
+    ∙ ap (option_and_then (λ (n : ℕ). option_and_then (λ (q : Parts). option_and_then (λ (x : Loss). Some (At n x)) (loss_said q.word q.rest)) (cut line))) (turn_back turn h)
+    ∙ ap (option_and_then (λ (q : Parts). option_and_then (λ (x : Loss). Some (At turn x)) (loss_said q.word q.rest))) (cut_at l.word l.text l.one_word)
+    ∙ ap (option_and_then (λ (x : Loss). Some (At turn x))) l.said in
+    record {
+      line = codes "at " ++ (d ++ 32 ∷ line);
+      written = ap (λ (t : List ℕ). codes "at " ++ t) (append_assoc d (32 ∷ []) (loss_line loss) ∙ ap (λ (t : List ℕ). d ++ 32 ∷ t) l.written ∙ sym (append_assoc d (32 ∷ line) (10 ∷ [])));
+      lacks = lacks_both 10 (codes "at ") (d ++ 32 ∷ line) (lacks_by 10 (codes "at ") refl) (lacks_both 10 d (32 ∷ line) (number_lacks 10 turn (omega arith) (omega arith)) (refl, l.lacks));
+      means = ap said_or_not (event_by (codes "at") (d ++ 32 ∷ line) (At turn loss) (lacks_by 32 (codes "at") refl) said);
+    }
+
+moment_line : (n : ℕ) → n < 2 ^ 63 → LineOf (Moment (pos n))
+moment_line n lt = record {
+  line = codes "moment " ++ decimal n;
+  written = refl;
+  lacks = lacks_both 10 (codes "moment ") (decimal n) (lacks_by 10 (codes "moment ") refl) (number_lacks 10 n (omega arith) lt);
+  means = ap said_or_not (event_by (codes "moment") (decimal n) (Moment (pos n)) (lacks_by 32 (codes "moment") refl) (ap (option_and_then (λ (m : ℕ). Some (Moment (pos m)))) (number_below-decimal (2 ^ 63) n lt (omega arith))));
+}
+
+line_of : (event : Scripted) → HasLine event → LineOf event
+line_of (Piece client bytes) h = piece_line client bytes h
+line_of (Hold server key content) h = hold_line server key content h
+line_of (Fail turn manner) h = fail_line turn manner h
+line_of (At turn loss) h = at_line turn loss h.0 (lost_line loss h.1)
+line_of (Now loss) h = let l = lost_line loss h in record { line = l.word ++ 32 ∷ l.text; written = l.written; lacks = l.lacks; means = l.means }
+line_of (Moment moment) h = subst (λ (z : ℤ). LineOf (Moment z)) (sym h.2) (moment_line h.0 h.1)
+
+-- ---- scripts
+
+front_line : (event : Scripted) (events : List Scripted) (l : LineOf event) → lines_of (script_lines (event ∷ events)) ≡ l.line ∷ lines_of (script_lines events)
+front_line event events l =
+    ap (λ (t : List ℕ). lines_of (t ++ script_lines events)) l.written
+    ∙ ap lines_of (append_assoc l.line (10 ∷ []) (script_lines events))
+    ∙ slice_split_at is_line_end l.line 10 (script_lines events) (lacks_all 10 l.line l.lacks) refl
+
+lines_back : (events : List Scripted) → HaveLines events → (n : ℕ) → (map (λ (x : Numbered). x.event) (numbered n (lines_of (script_lines events))) ≡ events) × (first_unreadable n (lines_of (script_lines events)) ≡ None)
+lines_back [] h n = (refl, refl)
+lines_back (event ∷ events) h n =
+    let l = line_of event h.0 in
+    let front = front_line event events l in
+    let behind = lines_of (script_lines events) in
+    let rest = lines_back events h.1 (n + 1) in (
+      ap (λ (ls : List (List ℕ)). map (λ (x : Numbered). x.event) (numbered n ls)) front
+          ∙ ap (λ (m : Meaning). map (λ (x : Numbered). x.event) (and_then m n (numbered (n + 1) behind))) l.means
+          ∙ ap (λ (es : List Scripted). event ∷ es) rest.0,
+      ap (first_unreadable n) front ∙ ap (λ (m : Meaning). or_behind m n (first_unreadable (n + 1) behind)) l.means ∙ rest.1,
+    )
+
+said_again : (events : List Scripted) → HaveLines events → (n : ℕ) (config : Configuration) → SaysAll (told_from n config (lines_of (script_lines events))) config events
+said_again events h n config = let back = lines_back events h n in record { configuration = refl; said = back.0; whole = back.1 }
+
+-- the first line, and those behind it
+told_front : (line : List ℕ) (events : List Scripted) (config : Configuration) → All (λ b. is_line_end b ≡ false) line → first_said line ≡ Ok config → told (line ++ 10 ∷ script_lines events) ≡ Ok (told_from 2 config (lines_of (script_lines events)))
+told_front line events config one said =
+    ap told_by (slice_split_at is_line_end line 10 (script_lines events) one refl)
+    ∙ ap (λ (r : Result Configuration WhyNot). told_behind r (lines_of (script_lines events))) said
+
+pub scripts_are_read_back : ScriptsAreReadBack
+scripts_are_read_back events h = record {
+  over = λ config. said_again events h 1 config;
+  behind = λ line config one said. (told_from 2 config (lines_of (script_lines events)), told_front line events config one said, said_again events h 2 config);
+}
