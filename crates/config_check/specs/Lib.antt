@@ -1,4 +1,5 @@
 pub mod Verdict
+pub mod Reloads
 pub mod Checking
 pub mod Explaining
 pub mod Drawing

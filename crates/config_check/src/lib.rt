@@ -4,6 +4,7 @@
 pub mod checking;
 pub mod drawing;
 pub mod explaining;
+pub mod reload_lines;
 pub mod status;
 pub mod verdict;
 

@@ -14,8 +14,8 @@ use std::fmt::Display;
 use std::io::Write;
 use std::{fmt, io};
 
-// The prefix of a place; no bytes where it has none.
-fn prefix_of(place: &Place) -> &[u8]
+/// The prefix of a place; no bytes where it has none.
+pub(crate) fn prefix_of(place: &Place) -> &[u8]
     ensures { result.now ≡ prefix_text place.now.prefix }
 {
     match &place.prefix {
@@ -39,8 +39,13 @@ fn write_front<W: Write>(address: &[u8], read: &str, delete: &str, out: &mut W) 
     write!(out, "refused: server={address} read={read} delete={delete}")
 }
 
-// Writes the rest of it, the prefix in the escapes.
-fn write_back<W: Write>(prefix: &[u8], residue: u32, modulus: u32, out: &mut W) -> io::Result<()>
+/// Writes the rest of it, the prefix in the escapes.
+pub(crate) fn write_back<W: Write>(
+    prefix: &[u8],
+    residue: u32,
+    modulus: u32,
+    out: &mut W,
+) -> io::Result<()>
     ensures { OnOk result (Appends (W.contents out.old) (W.contents out.new) (line_back prefix.now residue modulus)) }
 {
     let prefix = Escaped(prefix);

@@ -15,9 +15,10 @@ use Rattle.proxy_core.specs.declared.command.Command.{Command}
 use Rattle.proxy_core.specs.declared.proxy.Core.{Core}
 use Rattle.proxy_core.specs.Standing.{has_call_out}
 use Rattle.proxy_core.specs.Settles.{FitsCall, asked, asked_by}
-use Rattle.fresh_core.specs.declared.fresh.FreshCore.{FreshCore}
+use Rattle.link_calls.specs.declared.any_core.AnyCore.{AnyCore}
+use Rattle.link_calls.specs.Cores.{IsSettled}
 use Rattle.link_calls.specs.declared.calls.SentCall.{SentCall}
-use Rattle.link_calls.specs.Calls.{IsReadFor, IsReadNext, IsSettled, first_number, FitsFirst, SettlesFirst}
+use Rattle.link_calls.specs.Calls.{IsReadFor, IsReadNext, first_number, FitsFirst, SettlesFirst}
 
 pub read_for : SpelledAnswersFit → (ask : Ask) (bytes : List ℕ) (read : AnswerRead) → IsAsk ask → Reads ask bytes read → IsReadFor ask bytes read
 read_for fit ask bytes (reads.Answer answer used) is spells = (spells, fit ask bytes answer used is spells)
@@ -46,7 +47,7 @@ fits_first (call ∷ sent) core number outcome e fits = subst (λ n. FitsCall co
     same_number : {m n : ℕ} → ◌≡◌ {A = Option ℕ} (Some m) (Some n) → m ≡ n
     same_number e = cc
 
-pub popped : (old new : List SentCall) (call : SentCall) (core core' : FreshCore) (outcome : Outcome) → old ≡ call ∷ new → IsSettled core call.ticket.number outcome core' → SettlesFirst old core outcome (Some call.client) new core'
+pub popped : (old new : List SentCall) (call : SentCall) (core core' : AnyCore) (outcome : Outcome) → old ≡ call ∷ new → IsSettled core call.ticket.number outcome core' → SettlesFirst old core outcome (Some call.client) new core'
 popped old new call core core' outcome e settled = subst (λ xs. SettlesFirst xs core outcome (Some call.client) new core') (sym e) (refl, refl, settled)
 
 pub fits_popped : (old new : List SentCall) (call : SentCall) (core : Core) (outcome : Outcome) → old ≡ call ∷ new → FitsFirst old core outcome → FitsCall core call.ticket.number outcome

@@ -1,5 +1,5 @@
 -- What is done with the calls of one server that are out. Source: mcgate's own.
-use Rattle.std.specs.Prelude.{◌≡◌, ℕ, List, [], ◌∷◌, Option, Some, None, ◌⊎◌}
+use Rattle.std.specs.Prelude.{◌≡◌, ℕ, List, [], ◌∷◌, Option, Some, None}
 use Rattle.mc_types.specs.Fits.{Fits}
 use Rattle.mc_types.specs.declared.ask.Ask.{Ask}
 use Rattle.mc_types.specs.declared.answer.Answer.{Answer}
@@ -8,18 +8,13 @@ use Rattle.mc_types.specs.declared.call.Outcome.TheVariants.{Answered}
 use Rattle.text_answers.specs.Reading.{Spells, IsCut}
 use Rattle.text_answers.specs.declared.reader.AnswerRead.{AnswerRead}
 use Rattle.text_answers.specs.declared.reader.AnswerRead.TheVariants as reads
-use Rattle.proxy_core.specs.declared.fault.CoreFault.{CoreFault}
 use Rattle.proxy_core.specs.declared.proxy.Core.{Core}
 use Rattle.proxy_core.specs.Settles.{FitsCall, asked}
-use Rattle.fresh_core.specs.declared.fresh.FreshCore.{FreshCore}
-use Rattle.fresh_core.specs.Results.{SettlesFreshly, SettleStops}
+use Rattle.link_calls.specs.declared.any_core.AnyCore.{AnyCore}
+use Rattle.link_calls.specs.Cores.{core_of, IsSettled}
 use Rattle.link_calls.specs.declared.calls.SentCall.{SentCall}
 use Rattle.link_calls.specs.declared.calls.Next.{Next}
 use Rattle.link_calls.specs.declared.calls.Next.TheVariants as nexts
-
--- the core went on by this call's outcome, also where memory was refused; a call that isn't out changes nothing
-abbrev pub IsSettled : FreshCore → ℕ → Outcome → FreshCore → Type 0
-IsSettled core number outcome core' = SettlesFreshly core number outcome core' ⊎ ((fault : CoreFault) × SettleStops core number outcome fault core')
 
 -- what was read is the answer to the ask, or the bytes are cut before its end
 abbrev pub IsReadFor : Ask → List ℕ → AnswerRead → Type 0
@@ -44,7 +39,7 @@ FitsFirst [] core outcome = Unit {0}
 FitsFirst (call ∷ sent) core outcome = FitsCall core call.ticket.number outcome
 
 -- the first call had this outcome and is out no more, and the core went on by that alone; it was this client's
-abbrev pub SettlesFirst : List SentCall → FreshCore → Outcome → Option ℕ → List SentCall → FreshCore → Type 0
+abbrev pub SettlesFirst : List SentCall → AnyCore → Outcome → Option ℕ → List SentCall → AnyCore → Type 0
 SettlesFirst [] core outcome client sent core' = (client ≡ None) × (sent ≡ []) × (core' ≡ core)
 SettlesFirst (call ∷ rest) core outcome client sent core' = (client ≡ Some call.client) × (sent ≡ rest) × IsSettled core call.ticket.number outcome core'
 
@@ -65,8 +60,8 @@ pub record AwaitsFirst (sent : List SentCall) (bytes : List ℕ) (core : Core) :
   pub cut : IsCut ask bytes
 
 -- the first call is settled by its answer, which the bytes begin with, or nothing is done
-abbrev pub SettlesNext : List SentCall → List ℕ → FreshCore → Next → List SentCall → FreshCore → Type 0
+abbrev pub SettlesNext : List SentCall → List ℕ → AnyCore → Next → List SentCall → AnyCore → Type 0
 SettlesNext sent bytes core (nexts.Settled client used) sent' core' =
-    (answer : Answer) × AnswersFirst sent bytes core.core answer used × SettlesFirst sent core (Answered answer) (Some client) sent' core'
-SettlesNext sent bytes core nexts.More sent' core' = AwaitsFirst sent bytes core.core × (sent' ≡ sent) × (core' ≡ core)
+    (answer : Answer) × AnswersFirst sent bytes (core_of core) answer used × SettlesFirst sent core (Answered answer) (Some client) sent' core'
+SettlesNext sent bytes core nexts.More sent' core' = AwaitsFirst sent bytes (core_of core) × (sent' ≡ sent) × (core' ≡ core)
 SettlesNext sent bytes core nexts.Foreign sent' core' = (sent' ≡ sent) × (core' ≡ core)

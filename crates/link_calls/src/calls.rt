@@ -3,13 +3,13 @@
 ghost use Rattle.std.specs.Prelude.{◌≡◌, [], ◌∷◌, ◌++◌, OnOk, IfErr, length, option_map};
 ghost use Rattle.mc_types.specs.Asks.{IsAsk};
 ghost use Rattle.client_requests.specs.Spelling.{spelling_of};
-ghost use Rattle.proxy_core.specs.Settles.{FitsCall};
-ghost use Rattle.link_calls.specs.Calls.{IsSettled, IsReadFor, IsReadNext, first_number, FitsFirst, SettlesFirst, SettlesNext};
+ghost use Rattle.link_calls.specs.Cores.{core_of, IsSettled};
+ghost use Rattle.link_calls.specs.Calls.{IsReadFor, IsReadNext, first_number, FitsFirst, SettlesFirst, SettlesNext};
 ghost use Rattle.mc_types.specs.declared.call.Outcome.TheVariants.{Failed};
 
+use crate::any_core::AnyCore;
 use crate::asks::is_ask;
 use bytes::BytesMut;
-use fresh_core::FreshCore;
 use mc_types::{Ask, Outcome};
 use proxy_core::Ticket;
 use std::alloc::{AllocFailed, Global};
@@ -45,22 +45,11 @@ pub struct LinkCalls {
     sent: VecDeque<SentCall>,
 }
 
-// The call that is out had this outcome, also where memory was refused for what comes of it.
-fn settle(core: &mut FreshCore, ticket: Ticket, outcome: Outcome)
-    requires { FitsCall core.old.core ticket.number outcome }
-    ensures { IsSettled core.old ticket.number outcome core.new }
-{
-    match core.settle(ticket, outcome) {
-        Ok(()) => {}
-        Err(_) => {}
-    }
-}
-
 /// A call that could not go out has failed.
-pub fn fail_call(core: &mut FreshCore, ticket: Ticket)
+pub fn fail_call(core: &mut AnyCore, ticket: Ticket)
     ensures { IsSettled core.old ticket.number Failed core.new }
 {
-    settle(core, ticket, Outcome::Failed);
+    core.settle(ticket, Outcome::Failed);
 }
 
 // What the bytes say to the ask.
@@ -80,8 +69,8 @@ fn read_for(alloc: Global, ask: &Ask, bytes: &[u8]) -> AnswerRead
 
 // What they say to the core's call of this number.
 #[tactic(auto, using(crate::proofs::CallOrder::read_next))]
-fn read_next(alloc: Global, core: &FreshCore, number: u64, bytes: &[u8]) -> AnswerRead
-    ensures { IsReadNext core.now.core number bytes.now result }
+fn read_next(alloc: Global, core: &AnyCore, number: u64, bytes: &[u8]) -> AnswerRead
+    ensures { IsReadNext (core_of core.now) number bytes.now result }
 {
     match core.asked(number) {
         None => AnswerRead::Foreign,
@@ -150,15 +139,15 @@ impl LinkCalls {
 
     // The first call had this outcome: whose it was.
     #[tactic(auto, using(crate::proofs::CallOrder::popped, crate::proofs::CallOrder::fits_popped))]
-    fn settle_first(&mut self, core: &mut FreshCore, outcome: Outcome) -> Option<usize>
-        requires { FitsFirst self.old.sent.items core.old.core outcome }
+    fn settle_first(&mut self, core: &mut AnyCore, outcome: Outcome) -> Option<usize>
+        requires { FitsFirst self.old.sent.items (core_of core.old) outcome }
         ensures { SettlesFirst self.old.sent.items core.old outcome result self.new.sent.items core.new }
     {
         match self.sent.pop_front() {
             None => None,
             Some(call) => {
                 let client = call.client;
-                settle(core, call.ticket, outcome);
+                core.settle(call.ticket, outcome);
                 Some(client)
             }
         }
@@ -169,7 +158,7 @@ impl LinkCalls {
     ///
     /// Source: mcgate's own.
     #[tactic(auto, using(crate::proofs::CallOrder::fits_first))]
-    pub fn settle_next(&mut self, core: &mut FreshCore, bytes: &[u8]) -> Next
+    pub fn settle_next(&mut self, core: &mut AnyCore, bytes: &[u8]) -> Next
         ensures { SettlesNext self.old.sent.items bytes.now core.old result self.new.sent.items core.new }
     {
         let Some(number) = self.first_number() else {
@@ -188,7 +177,7 @@ impl LinkCalls {
     }
 
     /// The first of the calls that are out has failed, if one is: whose it was.
-    pub fn fail_next(&mut self, core: &mut FreshCore) -> Option<usize>
+    pub fn fail_next(&mut self, core: &mut AnyCore) -> Option<usize>
         ensures { SettlesFirst self.old.sent.items core.old Failed result self.new.sent.items core.new }
     {
         self.settle_first(core, Outcome::Failed)

@@ -1,9 +1,11 @@
-//! The calls of one server that are out: written one behind the other, and settled in that order by what the server answers.
-//! No socket is known here; the bytes are values.
+//! The calls of one server that are out: written one behind the other, and settled in that order by what the server answers; and the
+//! core that they belong to. No socket is known here; the bytes are values.
 #![tactic(auto)]
 
+mod any_core;
 mod asks;
 mod calls;
 
+pub use any_core::{AnyCore, LoadFault};
 pub use asks::is_ask;
 pub use calls::{LinkCalls, Next, SentCall, fail_call};

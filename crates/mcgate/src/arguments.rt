@@ -94,7 +94,7 @@ usage: mcgate check [--explain | --dot] [FILE]
                                      run a script, and print what each client gets
        mcgate where --config FILE KEY..
                                      print where keys live in the tree of a configuration
-       mcgate serve --config FILE --listen HOST:PORT
+       mcgate serve --config FILE --listen HOST:PORT [--any]
                                      serve a configuration that the gate accepts, between clients and servers
        mcgate cache --listen HOST:PORT --capacity C
                                      be a memcached server of C items
@@ -153,6 +153,13 @@ pub fn help_flag<'a>(alloc: Global) -> Arg<'a> {
         .action(ArgAction::SetTrue)
 }
 
+/// The flag that asks no gate.
+pub fn any_flag<'a>(alloc: Global) -> Arg<'a> {
+    Arg::new(alloc, "any")
+        .long("any")
+        .action(ArgAction::SetTrue)
+}
+
 /// A flag with a value.
 pub fn option<'a>(alloc: Global, name: &'static str) -> Arg<'a> {
     Arg::new(alloc, name).long(name).action(ArgAction::Set)
@@ -185,16 +192,13 @@ fn check_command<'a>(alloc: Global) -> Result<Command<'a>, AllocError> {
 }
 
 fn replay_command<'a>(alloc: Global) -> Result<Command<'a>, AllocError> {
-    let any = Arg::new(alloc, "any")
-        .long("any")
-        .action(ArgAction::SetTrue);
     let config = Arg::new(alloc, "config")
         .long("config")
         .action(ArgAction::Set);
     Command::new(alloc, "replay")
         .disable_help_flag(true)
         .arg(help_flag(alloc))?
-        .arg(any)?
+        .arg(any_flag(alloc))?
         .arg(config)?
         .arg(Arg::new(alloc, "SCRIPT"))
 }

@@ -9,6 +9,7 @@ mod input;
 mod program;
 mod serve;
 mod serve_words;
+mod serving;
 #[cfg(test)]
 mod tests;
 
@@ -18,9 +19,9 @@ use cache::serve_cache;
 use config_check::status::{BAD_INPUT, DONE};
 use input::{InputFault, fault_of, read_input};
 use line_faults::BadLine;
-use program::{Stop, end_of, read_configuration, run_events, run_input, run_keys};
+use program::{Stop, decline, end_of, read_configuration, run_events, run_input, run_keys};
 use route_json::Config;
-use serve::{Judged, read_and_judge, serve};
+use serve::{Judged, judge_text, serve};
 use serve_words::ServeJob;
 use std::alloc::AllocError;
 use std::fs::File;
@@ -116,9 +117,13 @@ fn run_serve<R: Files + Input + AllocGlobal + Net + Clock + Eprint, W: Write>(
     job: ServeJob<'_>,
     out: &mut W,
 ) -> Result<u8, Stop> {
-    match read_and_judge(rt.alloc(), text_of(rt, Some(job.file)), out)? {
+    let text = match text_of(rt, Some(job.file)) {
+        Ok(text) => text,
+        Err(fault) => return decline(fault, out),
+    };
+    match judge_text(rt.alloc(), job.any, text.as_str(), out)? {
         Judged::Printed(status) => Ok(status),
-        Judged::Accepted(accepted) => serve(rt, job, accepted),
+        Judged::Servable(servable) => serve(rt, job, servable, text, out),
     }
 }
 

@@ -1,114 +1,133 @@
 //! `mcgate serve`: the configuration is read and judged, and then served.
 
-use crate::input::InputFault;
-use crate::program::{Stop, decline};
+use crate::program::Stop;
 use crate::serve_words::ServeJob;
+use crate::serving::{Serving, addresses_of, resolve};
 use config_check::checking::{print_fault, print_refused};
-use config_check::status::DONE;
 use fresh_gate::{Accepted, judge};
-use mc_types::ServerId;
 use route_json::{Config, read_config};
 use server_addresses::Servers;
-use std::alloc::Global;
+use std::alloc::{AllocError, Global};
 use std::io;
-use std::io::Write;
-use std::net::{Net, SocketAddr, ToSocketAddrs};
-use std::rt::Clock;
-use tcp_proxy::ProxyEnd;
+use std::io::{ErrorKind, Write};
+use std::net::{Net, SocketAddr};
+use std::rt::{Clock, Files};
+use tcp_proxy::{ProxyEnd, Settings};
 
-/// What came of an input: a configuration that the gate accepted, or the exit status of what was printed instead.
+/// A configuration that may be served.
+#[derive(Drop)]
+pub enum Servable {
+    /// The gate accepted it.
+    Accepted(Accepted),
+    /// No gate was asked.
+    Unchecked(Config),
+}
+
+/// What came of a text: a configuration that may be served, or the exit status of what was printed instead.
 #[derive(Drop)]
 pub enum Judged {
-    Accepted(Accepted),
+    Servable(Servable),
     Printed(u8),
+}
+
+impl Servable {
+    // Its servers.
+    fn servers(&self, alloc: Global) -> Result<Servers, AllocError> {
+        match self {
+            Servable::Accepted(accepted) => accepted.config().servers().copy(alloc),
+            Servable::Unchecked(config) => config.servers().copy(alloc),
+        }
+    }
 }
 
 // The configuration, if the gate accepts it; else why not is printed, as `mcgate check` prints it before a script.
 fn judge_config<W: Write>(alloc: Global, config: Config, out: &mut W) -> Result<Judged, Stop> {
     match judge(alloc, config) {
-        Ok(accepted) => Ok(Judged::Accepted(accepted)),
+        Ok(accepted) => Ok(Judged::Servable(Servable::Accepted(accepted))),
         Err(refused) => Ok(Judged::Printed(print_refused(&refused.config, &refused.reason, out)?)),
     }
 }
 
-// The same of the configuration of a text, or why it is none is printed.
-fn judge_text<W: Write>(alloc: Global, text: &str, out: &mut W) -> Result<Judged, Stop> {
+// The same, or with `any` the configuration whatever the gate says.
+fn take_config<W: Write>(
+    alloc: Global,
+    any: bool,
+    config: Config,
+    out: &mut W,
+) -> Result<Judged, Stop> {
+    if any {
+        return Ok(Judged::Servable(Servable::Unchecked(config)));
+    }
+    judge_config(alloc, config, out)
+}
+
+/// The configuration of a text, if the gate accepts it, or with `any` of whichever tree; else why not is printed.
+pub fn judge_text<W: Write>(
+    alloc: Global,
+    any: bool,
+    text: &str,
+    out: &mut W,
+) -> Result<Judged, Stop> {
     match read_config(alloc, text) {
-        Ok(config) => judge_config(alloc, config, out),
+        Ok(config) => take_config(alloc, any, config, out),
         Err(fault) => Ok(Judged::Printed(print_fault(text, &fault, out)?)),
     }
 }
 
-/// The configuration of an input, if the gate accepts it; else why not is printed.
-pub fn read_and_judge<W: Write>(
-    alloc: Global,
-    input: Result<String, InputFault>,
-    out: &mut W,
-) -> Result<Judged, Stop> {
-    match input {
-        Ok(text) => judge_text(alloc, text.as_str(), out),
-        Err(fault) => Ok(Judged::Printed(decline(fault, out)?)),
-    }
-}
-
-// The first address that a text names.
-fn address_of<N: Net>(net: &N, text: &str) -> Option<SocketAddr> {
-    match text.to_socket_addrs(net) {
-        Ok(mut addresses) => addresses.next(),
-        Err(_) => None,
-    }
-}
-
-// The addresses of the servers in their order. Of one whose text names no host it is told, and its calls will fail.
-fn addresses_of<R: Net + AllocGlobal + Eprint>(
+// The end that serves it.
+fn end_over<R: Net + Clock + AllocGlobal>(
     rt: &R,
+    listen: SocketAddr,
+    servable: Servable,
+    addresses: &[Option<SocketAddr>],
+    settings: Settings,
+) -> io::Result<ProxyEnd> {
+    match servable {
+        Servable::Accepted(accepted) => ProxyEnd::new(rt, listen, accepted, addresses, settings),
+        Servable::Unchecked(config) => {
+            let tree = config.tree().copy()?;
+            ProxyEnd::unchecked(rt, listen, tree, addresses, settings)
+        }
+    }
+}
+
+// The end that serves it where the job says, with these servers.
+fn open<R: Net + Clock + AllocGlobal + Eprint>(
+    rt: &R,
+    job: &ServeJob<'_>,
+    servable: Servable,
     servers: &Servers,
-) -> Result<Vec<Option<SocketAddr>>, Stop> {
-    let mut addresses = Vec::new(rt.alloc());
-    for number in 0..u32::MAX {
-        let Some(text) = servers.get(ServerId::new(number)) else {
-            break;
-        };
-        let address = address_of(rt, text);
-        if address.is_none() {
-            eprintln!(rt; "mcgate: server {text}: no such host, its calls fail")?;
-        }
-        if addresses.push(address).is_err() {
-            return Err(Stop::Memory);
-        }
+) -> io::Result<ProxyEnd> {
+    let addresses = addresses_of(rt, servers, 0)?;
+    match resolve(rt, job.listen) {
+        Some(listen) => end_over(rt, listen, servable, addresses.as_slice(), job.settings),
+        None => Err(io::Error::from(ErrorKind::AddrNotAvailable)),
     }
-    Ok(addresses)
 }
 
-// Turns the end, as often as is asked.
-fn turn_on<R: Net + Clock>(rt: &R, end: &mut ProxyEnd, turns: Option<u32>) -> io::Result<()> {
-    for _ in 0..turns.map_or(u64::MAX, u64::from) {
-        end.turn(rt)?;
-    }
-    Ok(())
+fn start<R: Net + Clock + AllocGlobal + Eprint>(
+    rt: &R,
+    job: &ServeJob<'_>,
+    servable: Servable,
+    text: String,
+) -> io::Result<Serving> {
+    let servers = servable.servers(rt.alloc())?;
+    let end = open(rt, job, servable, &servers)?;
+    Serving::new(rt, end, servers, text)
 }
 
-/// Serves an accepted configuration, and tells so. The answer is the exit status after the turns that were asked.
+/// Serves a configuration, and tells so; `text` is that of its file. The answer is the exit status after the turns that were asked.
 ///
 /// [`Stop::Device`] comes where it can't listen there, or the system's wait or clock fails, and [`Stop::Memory`] where memory was
-/// refused for the proxy itself.
-pub fn serve<R: Net + Clock + AllocGlobal + Eprint>(
+/// refused for the proxy itself, or for a configuration that is read while it runs.
+pub fn serve<R: Files + Input + Net + Clock + AllocGlobal + Eprint, W: Write>(
     rt: &R,
     job: ServeJob<'_>,
-    accepted: Accepted,
+    servable: Servable,
+    text: String,
+    out: &mut W,
 ) -> Result<u8, Stop> {
-    let servers = addresses_of(rt, accepted.config().servers())?;
-    let Some(listen) = address_of(rt, job.listen) else {
-        return Err(Stop::Device);
-    };
-    let mut end = ProxyEnd::new(rt, listen, accepted, servers.as_slice(), job.settings)?;
-    let address = end.local_addr()?;
-    eprintln!(rt;
-        "mcgate: serving {} on {}, {} servers, generation 1",
-        job.file,
-        address,
-        servers.len()
-    )?;
-    turn_on(rt, &mut end, job.turns)?;
-    Ok(DONE)
+    let mut serving = start(rt, &job, servable, text)?;
+    serving.tell_start(rt, &job)?;
+    serving.run(rt, &job, out)
 }

@@ -1,6 +1,6 @@
 //! The words of `mcgate serve`, and what they ask for.
 
-use crate::arguments::{ArgumentsFault, Job, count_of, help_flag, option};
+use crate::arguments::{ArgumentsFault, Job, any_flag, count_of, help_flag, option};
 use clap::{ArgMatches, Command};
 use std::alloc::{AllocError, Global};
 use tcp_proxy::Settings;
@@ -13,24 +13,39 @@ pub struct ServeJob<'a> {
     /// Where to listen: a host and a port.
     pub listen: &'a str,
     pub settings: Settings,
+    /// A tree that the gate refuses is served too.
+    pub any: bool,
+    /// After so many turns the file is read again.
+    pub reload_every: Option<u32>,
+    /// After so many milliseconds the file is read again.
+    pub reload_ms: Option<u32>,
     /// After so many turns it ends; without a number it doesn't.
     pub turns: Option<u32>,
 }
 
-pub const SERVE_HELP: &str = "usage: mcgate serve --config FILE --listen HOST:PORT [FLAG N ..]
+pub const SERVE_HELP: &str =
+    "usage: mcgate serve --config FILE --listen HOST:PORT [--any] [FLAG N ..]
 
 Reads a configuration in JSON, of FILE, and asks the gate. A tree that it accepts is served at HOST:PORT: what clients send goes
-to the configuration's servers, at their addresses. One line tells on standard error when it listens.
+to the configuration's servers, at their addresses. Lines on standard error tell when it listens, and when a server's connection
+opens, fails or comes back.
   --clients N            at most so many clients at once, 1024 where it is left out
   --client-window N      at most so many commands of one client without a shown reply, 32
   --link-window N        at most so many calls out at one server, 256
   --call-ms N            a call that takes longer than so many milliseconds has failed, 1000
   --connect-ms N         so has a connection to a server that takes longer to stand, 1000
-  --retry-ms N           for so long no connection is tried after one that failed, 1000
+  --fail-limit N         the calls of a server that failed so many times in a row fail at once, 3
+  --retry-ms N           for so long, and then one call tries, 1000
   --polls N              after so many reads of a server in a row without a whole answer its calls have failed; without it, any number
+  --reload-ms N          FILE is read again each N milliseconds; without it and the next one, it isn't
+  --reload-every N       FILE is read again each N turns
   --turns N              ends after so many turns; without it, it doesn't end
+  --any                  serves a tree that the gate refuses too: nothing is promised then
 Each N is 1..=4294967295.
 A tree that the gate refuses isn't served, and its refused: line is printed.
+A text of FILE that is new is judged against each configuration that was loaded, and one of these lines is printed:
+  reload accepted generation=G     commands that begin from now on run by its tree
+  reload refused ..                or config: .., and the tree in use is kept
 Exit status: 0 done, 1 refused by the gate, 2 bad arguments or no configuration, 3 memory or a device failed, also where it can't listen there.
 ";
 
@@ -46,9 +61,13 @@ pub fn serve_command<'a>(alloc: Global) -> Result<Command<'a>, AllocError> {
         .arg(option(alloc, "link-window"))?
         .arg(option(alloc, "call-ms"))?
         .arg(option(alloc, "connect-ms"))?
+        .arg(option(alloc, "fail-limit"))?
         .arg(option(alloc, "retry-ms"))?
         .arg(option(alloc, "polls"))?
-        .arg(option(alloc, "turns"))
+        .arg(option(alloc, "reload-every"))?
+        .arg(option(alloc, "reload-ms"))?
+        .arg(option(alloc, "turns"))?
+        .arg(any_flag(alloc))
 }
 
 // The number after a flag, or the usual one.
@@ -69,6 +88,7 @@ fn settings_of(given: &ArgMatches<'_>) -> Result<Settings, ArgumentsFault> {
         link_window: size_of(given, "link-window", usual.link_window)?,
         call_ms: millis_of(given, "call-ms", usual.call_ms)?,
         connect_ms: millis_of(given, "connect-ms", usual.connect_ms)?,
+        fail_limit: count_of(given, "fail-limit")?.unwrap_or(usual.fail_limit),
         retry_ms: millis_of(given, "retry-ms", usual.retry_ms)?,
         polls: count_of(given, "polls")?,
     })
@@ -86,6 +106,9 @@ pub fn serve_job<'a>(given: &ArgMatches<'a>) -> Result<Job<'a>, ArgumentsFault> 
         file,
         listen,
         settings: settings_of(given)?,
+        any: given.get_flag("any"),
+        reload_every: count_of(given, "reload-every")?,
+        reload_ms: count_of(given, "reload-ms")?,
         turns: count_of(given, "turns")?,
     }))
 }

@@ -167,6 +167,47 @@ fn arguments_that_ask_for_a_cache(rt: HostRuntime) -> Result<(), Fail> {
     Ok(())
 }
 
+// What words that ask to serve ask of the gate and of reading the file again.
+fn asks_to_serve(
+    alloc: Global,
+    words: &[&str],
+) -> Result<Option<(bool, Option<u32>, Option<u32>, u32)>, Fail> {
+    let given = arguments_of(alloc, words)?;
+    match read_arguments(alloc, given.as_slice()) {
+        Ok(Job::Serve(job)) => Ok(Some((
+            job.any,
+            job.reload_every,
+            job.reload_ms,
+            job.settings.fail_limit,
+        ))),
+        _ => Ok(None),
+    }
+}
+
+#[test]
+fn arguments_that_ask_to_serve(rt: HostRuntime) -> Result<(), Fail> {
+    let alloc = rt.alloc();
+    let plain = ["mcgate", "serve", "--listen", "a:1", "--config", "c"];
+    assert!(rt; asks_to_serve(alloc, plain.as_slice())? == Some((false, None, None, 3)));
+    let more = [
+        "mcgate",
+        "serve",
+        "--any",
+        "--listen",
+        "a:1",
+        "--config",
+        "c",
+        "--reload-every",
+        "4",
+        "--reload-ms",
+        "5",
+        "--fail-limit",
+        "6",
+    ];
+    assert!(rt; asks_to_serve(alloc, more.as_slice())? == Some((true, Some(4), Some(5), 6)));
+    Ok(())
+}
+
 // Whether words ask to print a text that begins so.
 fn asks_to_print(alloc: Global, words: &[&str], front: &str) -> Result<bool, Fail> {
     let given = arguments_of(alloc, words)?;
@@ -210,6 +251,7 @@ fn words_that_are_refused(rt: HostRuntime) -> Result<(), Fail> {
         ["mcgate", "where", "k"].as_slice(),
         ["mcgate", "where", "--config", "c"].as_slice(),
         ["mcgate", "cache", "--listen", "a:1"].as_slice(),
+        ["mcgate", "serve", "--config", "c"].as_slice(),
         ["mcgate", "cache", "--listen", "a:1", "--capacity", "0"].as_slice(),
         [
             "mcgate",

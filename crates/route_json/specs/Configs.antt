@@ -37,11 +37,11 @@ abbrev pub config_after : Data → Reading Addresses Route
 config_after (object ms) = object_after (object ms)
 config_after _ = fail NotJson
 
--- the tree and the servers that a value means, or its first fault
-abbrev pub config_of : Data → Result (Route × Addresses) Fault
-config_of d = config_after d []
+-- the tree and the servers that a text means, which may be no JSON, the servers numbered after these; or its first fault
+abbrev pub read_after : Addresses → Option Data → Result (Route × Addresses) Fault
+read_after servers None = Err NotJson
+read_after servers (Some d) = config_after d servers
 
--- the same for a text, which may be no JSON
+-- the same with no servers before
 abbrev pub read_or : Option Data → Result (Route × Addresses) Fault
-read_or None = Err NotJson
-read_or (Some d) = config_of d
+read_or d = read_after [] d

@@ -3,7 +3,7 @@
 ghost use Rattle.std.specs.Prelude.{◌≡◌, IfOk, length};
 ghost use Rattle.serde_json.specs.Read.{read};
 ghost use Rattle.serde_json.specs.View.{view};
-ghost use Rattle.route_json.specs.Configs.{object_after, config_after, read_or};
+ghost use Rattle.route_json.specs.Configs.{object_after, config_after, read_or, read_after};
 ghost use Rattle.route_json.specs.Fault.{Gives};
 ghost use Rattle.route_json.specs.Fits.{IsBelow};
 
@@ -83,9 +83,17 @@ impl Config {
 pub fn read_config(alloc: Global, text: &str) -> Result<Config, ConfigFault>
     ensures { Gives (λ config. (config.tree, config.servers)) result (read_or (read text.now)) }
 {
+    read_config_after(alloc, Servers::new(alloc), text)
+}
+
+/// As [`read_config`], but the servers are numbered after these: a server of theirs keeps its number, and new ones come last.
+pub fn read_config_after(alloc: Global, servers: Servers, text: &str) -> Result<Config, ConfigFault>
+    ensures { Gives (λ config. (config.tree, config.servers)) result (read_after servers (read text.now)) }
+{
     match Value::from_str(alloc, text) {
-        Ok(value) => config_after(alloc, Servers::new(alloc), &value),
+        Ok(value) => config_after(alloc, servers, &value),
         Err(error) => {
+            drop_servers(servers);
             if error.is_memory() {
                 Err(ConfigFault::NoMemory)
             } else {
@@ -94,6 +102,9 @@ pub fn read_config(alloc: Global, text: &str) -> Result<Config, ConfigFault>
         }
     }
 }
+
+// Drops the servers.
+fn drop_servers(_servers: Servers) {}
 
 // The servers are numbered after these.
 fn config_after(alloc: Global, servers: Servers, value: &Value) -> Result<Config, ConfigFault>

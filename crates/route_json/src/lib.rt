@@ -13,6 +13,6 @@ mod pools;
 mod route;
 mod selector;
 
-pub use config::{Config, read_config};
+pub use config::{Config, read_config, read_config_after};
 pub use fault::ConfigFault;
 pub use server_addresses::Servers;

@@ -16,19 +16,19 @@ const LIMITS: Limits = Limits {
     window: 2,
 };
 
-fn core(alloc: Global) -> Result<FreshCore, Fail> {
+fn core(alloc: Global) -> Result<AnyCore, Fail> {
     let text = r#"{"pools":{"A":{"servers":["127.0.0.1:5001"]}},"route":"PoolRoute|A"}"#;
     let Ok(config) = read_config(alloc, text) else {
         return Err("the text is no configuration")?;
     };
     match judge(alloc, config) {
-        Ok(accepted) => Ok(FreshCore::new(alloc, accepted, LIMITS)?),
+        Ok(accepted) => Ok(AnyCore::Fresh(FreshCore::new(alloc, accepted, LIMITS)?)),
         Err(_) => Err("a pool of one server is refused")?,
     }
 }
 
 // The client's next call goes out.
-fn sends(core: &mut FreshCore, calls: &mut LinkCalls, out: &mut BytesMut) -> bool {
+fn sends(core: &mut AnyCore, calls: &mut LinkCalls, out: &mut BytesMut) -> bool {
     match core.poll(0) {
         Ok(Poll::Call(ticket)) => is_sent(ticket, calls, out),
         _ => false,
@@ -44,18 +44,18 @@ fn is_sent(ticket: Ticket, calls: &mut LinkCalls, out: &mut BytesMut) -> bool {
     calls.begin(call, out).is_ok()
 }
 
-fn two_gets(core: &mut FreshCore, calls: &mut LinkCalls, out: &mut BytesMut) -> bool {
+fn two_gets(core: &mut AnyCore, calls: &mut LinkCalls, out: &mut BytesMut) -> bool {
     core.open_client().is_ok()
         && core.feed(0, b"get a\r\nget b\r\n".as_slice()).is_ok()
         && sends(core, calls, out)
         && sends(core, calls, out)
 }
 
-fn ends(core: &mut FreshCore) -> bool {
+fn ends(core: &mut AnyCore) -> bool {
     matches!(core.poll(0), Ok(Poll::Did(_)))
 }
 
-fn shows(core: &mut FreshCore, text: &[u8]) -> bool {
+fn shows(core: &mut AnyCore, text: &[u8]) -> bool {
     match core.take_output(0) {
         Ok(bytes) => bytes.as_slice() == text,
         Err(_) => false,

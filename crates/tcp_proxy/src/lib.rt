@@ -4,8 +4,10 @@
 
 mod clients;
 mod link;
+mod news;
 mod proxy;
 mod settings;
 
+pub use news::{Cause, LinkNews};
 pub use proxy::ProxyEnd;
 pub use settings::Settings;

@@ -1,5 +1,7 @@
 //! One server's link: its connection, if it has one, and the calls that are out.
 
+use crate::news::{Cause, LinkNews};
+use crate::settings::Settings;
 use link_calls::LinkCalls;
 use mio::net::TcpStream;
 use std::alloc::Global;
@@ -12,6 +14,17 @@ const LIMITS: Limits = Limits {
     unsent: 1_048_576,
 };
 
+// Of each link news are told once in so many milliseconds at most.
+const NEWS_MS: u64 = 1_000;
+
+// Why a connection that didn't stand yet failed.
+fn unconnected(cause: Cause) -> Cause {
+    match cause {
+        Cause::Closed | Cause::Broken => Cause::Unreachable,
+        other => other,
+    }
+}
+
 /// One server's link.
 #[derive(Drop)]
 pub struct Link {
@@ -23,12 +36,20 @@ pub struct Link {
     pub opened: u64,
     /// Whether it has stood since.
     pub is_connected: bool,
-    /// Until then no connection is tried.
-    pub retry_at: u64,
+    /// How many times in a row it failed since its server last answered.
+    failures: u32,
+    /// Where those are as many as are allowed: until then its calls fail at once.
+    held_until: u64,
     /// How many reads in a row brought no whole answer.
     pub vain_reads: u32,
     pub is_ready: bool,
     pub has_output: bool,
+    /// What happened last, if that wasn't told yet.
+    news: Option<LinkNews>,
+    /// From when on it may be told.
+    news_from: u64,
+    /// Whether a connection failed since one last stood.
+    was_down: bool,
 }
 
 impl Link {
@@ -40,29 +61,55 @@ impl Link {
             calls: LinkCalls::new(alloc),
             opened: 0,
             is_connected: false,
-            retry_at: 0,
+            failures: 0,
+            held_until: 0,
             vain_reads: 0,
             is_ready: false,
             has_output: false,
+            news: None,
+            news_from: 0,
+            was_down: false,
         }
     }
 
     /// When it fails if nothing comes, in milliseconds: its first call, or its connection, has taken too long then.
-    pub fn time_limit(&self, call_ms: u64, connect_ms: u64) -> Option<u64> {
+    pub fn time_limit(&self, settings: &Settings) -> Option<u64> {
         if self.conn.is_none() {
             return None;
         }
         if !self.is_connected {
-            return Some(self.opened.saturating_add(connect_ms));
+            return Some(self.opened.saturating_add(settings.connect_ms));
         }
         match self.calls.oldest() {
-            Some(since) => Some(since.saturating_add(call_ms)),
+            Some(since) => Some(since.saturating_add(settings.call_ms)),
             None => None,
         }
     }
 
+    /// Why it has failed by now, if it has taken too long.
+    pub fn lateness(&self, now: u64, settings: &Settings) -> Option<Cause> {
+        match self.time_limit(settings) {
+            Some(limit) if limit < now => {
+                if self.is_connected {
+                    Some(Cause::CallLate)
+                } else {
+                    Some(Cause::ConnectLate)
+                }
+            }
+            _ => None,
+        }
+    }
+
+    /// Whether a call fails at once: the server failed too many times in a row, and either it isn't to be tried yet, or a call tries.
+    pub fn is_held_back(&self, now: u64, settings: &Settings) -> bool {
+        settings.fail_limit <= self.failures && (now < self.held_until || !self.calls.is_empty())
+    }
+
     /// A read brought whole answers, or none. Whether it has failed by that: where calls are out, and so many reads in a row brought none.
     pub fn has_read(&mut self, has_settled: bool, polls: Option<u32>) -> bool {
+        if has_settled {
+            self.failures = 0;
+        }
         if has_settled || self.calls.is_empty() {
             self.vain_reads = 0;
             return false;
@@ -85,12 +132,52 @@ impl Link {
         self.is_connected = false;
     }
 
-    /// The connection is gone. One that had not stood isn't tried again for this long.
-    pub fn close(&mut self, now: u64, retry_ms: u64) {
-        self.conn = None;
-        if !self.is_connected {
-            self.retry_at = now.saturating_add(retry_ms);
+    /// Its connection stands. Whether that is news.
+    pub fn stand(&mut self) -> bool {
+        if self.is_connected {
+            return false;
         }
+        self.is_connected = true;
+        self.news = if self.was_down {
+            Some(LinkNews::Back)
+        } else {
+            Some(LinkNews::Opened)
+        };
+        self.was_down = false;
+        true
+    }
+
+    /// The connection is gone, or could not be made.
+    pub fn close(&mut self, cause: Cause, now: u64, settings: &Settings) {
+        let cause = if self.is_connected {
+            cause
+        } else {
+            unconnected(cause)
+        };
+        self.conn = None;
         self.is_connected = false;
+        self.was_down = true;
+        self.failures = self.failures.saturating_add(1);
+        self.held_until = now.saturating_add(settings.retry_ms);
+        self.news = Some(LinkNews::Failed(cause, self.failures));
+    }
+
+    /// When its news may be told, if there are any.
+    pub fn news_limit(&self) -> Option<u64> {
+        if self.news.is_none() {
+            return None;
+        }
+        Some(self.news_from)
+    }
+
+    /// Its news, if they may be told now. Of several the last is told.
+    pub fn take_news(&mut self, now: u64) -> Option<LinkNews> {
+        if now < self.news_from {
+            return None;
+        }
+        let news = self.news?;
+        self.news = None;
+        self.news_from = now.saturating_add(NEWS_MS);
+        Some(news)
     }
 }

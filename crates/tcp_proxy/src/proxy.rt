@@ -3,13 +3,16 @@
 
 use crate::clients::{Client, Clients, note, send};
 use crate::link::Link;
+use crate::news::{Cause, LinkNews};
 use crate::settings::Settings;
 use fresh_core::FreshCore;
-use fresh_gate::Accepted;
-use link_calls::{Next, SentCall, fail_call};
+use fresh_gate::{Accepted, ReloadFault};
+use link_calls::{AnyCore, LoadFault, Next, SentCall, fail_call};
 use mio::net::{TcpListener, TcpStream};
 use mio::{Events, Poll, Token};
-use proxy_core::{CoreFault, Limits, Poll as Polled, Ticket};
+use proxy_core::{Core, CoreFault, Limits, Poll as Polled, Ticket};
+use route_json::Config;
+use route_tree::Tree;
 use std::alloc::{AllocError, Global};
 use std::io;
 use std::io::{ErrorKind, Write};
@@ -37,7 +40,7 @@ const ACCEPTS: usize = 64;
 #[derive(Drop)]
 pub struct ProxyEnd {
     alloc: Global,
-    core: FreshCore,
+    core: AnyCore,
     settings: Settings,
     poll: Poll,
     events: Events,
@@ -53,6 +56,8 @@ pub struct ProxyEnd {
     is_accepting: bool,
     // Whether a key or a server became free since busy clients were served.
     is_freed: bool,
+    // Whether there may be something to tell of a link.
+    has_news: bool,
 }
 
 // What a client's polls ended with.
@@ -86,7 +91,25 @@ fn connect<N: Net>(
     Ok(stream)
 }
 
-fn later(limit: Option<u64>, other: Option<u64>) -> Option<u64> {
+// Why a link failed, if too many reads were in vain.
+fn vain(has_failed: bool) -> Option<Cause> {
+    if has_failed {
+        Some(Cause::VainReads)
+    } else {
+        None
+    }
+}
+
+fn limits_of(settings: Settings) -> Limits {
+    Limits {
+        clients: settings.clients,
+        held: HELD_LIMIT,
+        depth: settings.client_window,
+        window: settings.link_window,
+    }
+}
+
+fn earlier(limit: Option<u64>, other: Option<u64>) -> Option<u64> {
     match (limit, other) {
         (Some(a), Some(b)) => Some(a.min(b)),
         (Some(a), None) => Some(a),
@@ -101,6 +124,45 @@ fn at_most(limit: Option<Duration>, most: Duration) -> Duration {
     }
 }
 
+// What of an end wants the system.
+#[derive(Drop)]
+struct Parts {
+    poll: Poll,
+    events: Events,
+    listener: TcpListener,
+    links: Vec<Link>,
+    start: Instant,
+}
+
+fn links_to(alloc: Global, servers: &[Option<SocketAddr>]) -> Result<Vec<Link>, AllocError> {
+    let mut links = Vec::new(alloc);
+    for address in servers {
+        links.push(Link::new(alloc, *address))?;
+    }
+    Ok(links)
+}
+
+impl Parts {
+    // It listens, and no link has a connection.
+    fn open<R: Net + Clock + AllocGlobal>(
+        rt: &R,
+        listen: SocketAddr,
+        servers: &[Option<SocketAddr>],
+    ) -> io::Result<Parts> {
+        let start = Instant::now(rt)?;
+        let poll = Poll::new(rt)?;
+        let listener = TcpListener::bind(rt, listen)?;
+        watch(poll.registry(), listener.as_raw_fd(), LISTENER)?;
+        Ok(Parts {
+            poll,
+            events: Events::with_capacity(rt.alloc(), 1_024)?,
+            listener,
+            links: links_to(rt.alloc(), servers)?,
+            start,
+        })
+    }
+}
+
 impl ProxyEnd {
     /// Listens, and has no link yet: each is made when the first call is to go out on it. The calls of a server without an address
     /// fail.
@@ -111,38 +173,85 @@ impl ProxyEnd {
         servers: &[Option<SocketAddr>],
         settings: Settings,
     ) -> io::Result<ProxyEnd> {
-        let alloc = rt.alloc();
-        let limits = Limits {
-            clients: settings.clients,
-            held: HELD_LIMIT,
-            depth: settings.client_window,
-            window: settings.link_window,
-        };
-        let core = FreshCore::new(alloc, accepted, limits)?;
-        let mut links = Vec::new(alloc);
-        for address in servers {
-            links.push(Link::new(alloc, *address))?;
-        }
-        let poll = Poll::new(rt)?;
-        let listener = TcpListener::bind(rt, listen)?;
-        watch(poll.registry(), listener.as_raw_fd(), LISTENER)?;
-        Ok(ProxyEnd {
+        let parts = Parts::open(rt, listen, servers)?;
+        let core = FreshCore::new(rt.alloc(), accepted, limits_of(settings))?;
+        Ok(ProxyEnd::of(rt.alloc(), AnyCore::Fresh(core), settings, parts))
+    }
+
+    /// The same on a tree of which no gate was asked: nothing is promised of what replies show.
+    pub fn unchecked<R: Net + Clock + AllocGlobal>(
+        rt: &R,
+        listen: SocketAddr,
+        tree: Tree,
+        servers: &[Option<SocketAddr>],
+        settings: Settings,
+    ) -> io::Result<ProxyEnd> {
+        let parts = Parts::open(rt, listen, servers)?;
+        let core = Core::unchecked(rt.alloc(), tree, limits_of(settings));
+        Ok(ProxyEnd::of(rt.alloc(), AnyCore::Unchecked(core), settings, parts))
+    }
+
+    fn of(alloc: Global, core: AnyCore, settings: Settings, parts: Parts) -> ProxyEnd {
+        let Parts {
+            poll,
+            events,
+            listener,
+            links,
+            start,
+        } = parts;
+        ProxyEnd {
             alloc,
             core,
             settings,
             poll,
-            events: Events::with_capacity(alloc, 1_024)?,
+            events,
             listener,
             clients: Clients::new(alloc),
             links,
             ready_links: Vec::new(alloc),
             links_with_output: Vec::new(alloc),
             work: Vec::new(alloc),
-            start: Instant::now(rt)?,
+            start,
             now: 0,
             is_accepting: true,
             is_freed: false,
-        })
+            has_news: false,
+        }
+    }
+
+    /// Commands that begin from now on run by this configuration's tree, and those that are under way end on the trees on which they
+    /// began. It gives the number of the generation. `servers` are the addresses of all its servers; those in use keep theirs.
+    ///
+    /// After a fault the tree in use is kept; `NoMemory` may also come after the tree was loaded, and then calls of new servers fail.
+    pub fn load(
+        &mut self,
+        config: Config,
+        servers: &[Option<SocketAddr>],
+    ) -> Result<u32, LoadFault> {
+        let generation = self.core.load(self.alloc, config)?;
+        for address in servers.iter().skip(self.links.len()) {
+            if self.links.push(Link::new(self.alloc, *address)).is_err() {
+                return Err(LoadFault::Refused(ReloadFault::NoMemory));
+            }
+        }
+        Ok(generation)
+    }
+
+    /// What happened to a server's link, and the server's number; of each server once a second at most, and of several things the
+    /// last. It is asked after each turn until there is none.
+    pub fn next_news(&mut self) -> Option<(usize, LinkNews)> {
+        if !self.has_news {
+            return None;
+        }
+        for at in 0..self.links.len() {
+            if let Some(link) = self.links.get_mut(at) {
+                if let Some(news) = link.take_news(self.now) {
+                    return Some((at, news));
+                }
+            }
+        }
+        self.has_news = self.news_limit().is_some();
+        None
     }
 
     /// Where it listens.
@@ -193,12 +302,26 @@ impl ProxyEnd {
     fn time_limit(&self) -> Option<u64> {
         let mut first = None;
         for link in self.links.as_slice() {
-            first = later(
-                first,
-                link.time_limit(self.settings.call_ms, self.settings.connect_ms),
-            );
+            first = earlier(first, link.time_limit(&self.settings));
         }
         first
+    }
+
+    // When the first news of a link may be told.
+    fn news_limit(&self) -> Option<u64> {
+        let mut first = None;
+        for link in self.links.as_slice() {
+            first = earlier(first, link.news_limit());
+        }
+        first
+    }
+
+    // When something is to be done though nothing is ready.
+    fn next_limit(&self) -> Option<u64> {
+        if self.has_news {
+            return earlier(self.time_limit(), self.news_limit());
+        }
+        self.time_limit()
     }
 
     // How long may be waited, by the clock of now.
@@ -207,7 +330,7 @@ impl ProxyEnd {
         if self.has_work() {
             return Ok(Some(Duration::from_millis(0)));
         }
-        match self.time_limit() {
+        match self.next_limit() {
             Some(limit) => Ok(Some(Duration::from_millis(
                 limit.saturating_sub(self.now).saturating_add(1),
             ))),
@@ -247,8 +370,8 @@ impl ProxyEnd {
             return Ok(());
         };
         note(conn, told);
-        if told.writes && !told.closes {
-            link.is_connected = true;
+        if told.writes && !told.closes && link.stand() {
+            self.has_news = true;
         }
         if told.reads {
             self.mark_link_ready(at)?;
@@ -280,11 +403,12 @@ impl ProxyEnd {
     }
 
     // The link's calls have all failed, and it has no connection.
-    fn fail_link(&mut self, at: usize) -> Result<(), AllocError> {
+    fn fail_link(&mut self, at: usize, cause: Cause) -> Result<(), AllocError> {
         let Some(link) = self.links.get_mut(at) else {
             return Ok(());
         };
-        link.close(self.now, self.settings.retry_ms);
+        link.close(cause, self.now, &self.settings);
+        self.has_news = true;
         self.is_freed = true;
         for _ in 0..link.calls.len() {
             if let Some(client) = link.calls.fail_next(&mut self.core) {
@@ -294,20 +418,17 @@ impl ProxyEnd {
         Ok(())
     }
 
-    fn is_late(&self, at: usize) -> bool {
+    fn lateness(&self, at: usize) -> Option<Cause> {
         match self.links.get(at) {
-            Some(link) => match link.time_limit(self.settings.call_ms, self.settings.connect_ms) {
-                Some(limit) => limit < self.now,
-                None => false,
-            },
-            None => false,
+            Some(link) => link.lateness(self.now, &self.settings),
+            None => None,
         }
     }
 
     fn fail_late(&mut self) -> Result<(), AllocError> {
         for at in 0..self.links.len() {
-            if self.is_late(at) {
-                self.fail_link(at)?;
+            if let Some(cause) = self.lateness(at) {
+                self.fail_link(at, cause)?;
             }
         }
         Ok(())
@@ -345,34 +466,38 @@ impl ProxyEnd {
         }
     }
 
-    // One read, and all whole answers are settled. Whether the link is kept.
-    fn read_link(&mut self, at: usize) -> io::Result<bool> {
+    // One read, and all whole answers are settled. Why the link fails by that, if it does.
+    fn read_link(&mut self, at: usize) -> io::Result<Option<Cause>> {
         let Some(link) = self.links.get_mut(at) else {
-            return Ok(true);
+            return Ok(None);
         };
         let Some(conn) = link.conn.as_mut() else {
-            return Ok(true);
+            return Ok(None);
         };
         if !conn.readable {
-            return Ok(true);
+            return Ok(None);
         }
         match conn.read_once(LINK_READ)? {
-            Got::Nothing => Ok(!link.has_read(false, self.settings.polls)),
-            Got::Ended | Got::Failed | Got::Full => Ok(false),
+            Got::Nothing => Ok(vain(link.has_read(false, self.settings.polls))),
+            Got::Ended => Ok(Some(Cause::Closed)),
+            Got::Failed => Ok(Some(Cause::Broken)),
+            Got::Full => Ok(Some(Cause::Foreign)),
             Got::Bytes => {
-                link.is_connected = true;
+                if link.stand() {
+                    self.has_news = true;
+                }
                 self.settle_all(at)
             }
         }
     }
 
-    // All whole answers are settled. Whether the link is kept.
-    fn settle_all(&mut self, at: usize) -> io::Result<bool> {
+    // All whole answers are settled. Why the link fails by that, if it does.
+    fn settle_all(&mut self, at: usize) -> io::Result<Option<Cause>> {
         let Some(link) = self.links.get_mut(at) else {
-            return Ok(true);
+            return Ok(None);
         };
         let Some(conn) = link.conn.as_mut() else {
-            return Ok(true);
+            return Ok(None);
         };
         let mut used = 0usize;
         let mut is_kept = true;
@@ -396,12 +521,15 @@ impl ProxyEnd {
         }
         conn.held.advance(used.min(conn.held.len()));
         let has_failed = link.has_read(used > 0, self.settings.polls);
-        Ok(is_kept && !has_failed)
+        if !is_kept {
+            return Ok(Some(Cause::Foreign));
+        }
+        Ok(vain(has_failed))
     }
 
     fn serve_link(&mut self, at: usize) -> io::Result<()> {
-        if !self.read_link(at)? {
-            return Ok(self.fail_link(at)?);
+        if let Some(cause) = self.read_link(at)? {
+            return Ok(self.fail_link(at, cause)?);
         }
         let is_more = match self.links.get(at) {
             Some(link) => match &link.conn {
@@ -540,27 +668,28 @@ impl ProxyEnd {
         }
     }
 
-    // Whether the link has a connection, or one could be begun.
+    // Whether a call may go out on the link: it has a connection, or one could be begun, and it isn't held back.
     fn is_open<N: Net>(&mut self, net: &N, at: usize) -> bool {
         let Some(link) = self.links.get_mut(at) else {
             return false;
         };
+        if link.is_held_back(self.now, &self.settings) {
+            return false;
+        }
         if link.conn.is_some() {
             return true;
         }
         let Some(address) = link.address else {
             return false;
         };
-        if self.now < link.retry_at {
-            return false;
-        }
         match connect(net, &self.poll, address, LINKS.saturating_add(at)) {
             Ok(stream) => {
                 link.open(self.alloc, stream, self.now);
                 true
             }
             Err(_) => {
-                link.retry_at = self.now.saturating_add(self.settings.retry_ms);
+                link.close(Cause::Unreachable, self.now, &self.settings);
+                self.has_news = true;
                 false
             }
         }
@@ -672,7 +801,7 @@ impl ProxyEnd {
             None => true,
         };
         if !is_kept {
-            self.fail_link(at)?;
+            self.fail_link(at, Cause::Broken)?;
         }
         Ok(())
     }

@@ -13,14 +13,16 @@ pub struct Settings {
     pub call_ms: u64,
     /// How many milliseconds a connection to a server may take to stand.
     pub connect_ms: u64,
-    /// For how many milliseconds no connection is tried after one could not be made.
+    /// After how many failures of a server in a row its calls fail at once.
+    pub fail_limit: u32,
+    /// For how many milliseconds they do, before one call tries it.
     pub retry_ms: u64,
     /// After so many reads of a server in a row that brought no whole answer its calls have failed; without a number they may be any.
     pub polls: Option<u32>,
 }
 
 impl Settings {
-    /// 1,024 clients, 32 commands of each, 256 calls at each server, one second each time, and any number of reads.
+    /// 1,024 clients, 32 commands of each, 256 calls at each server, one second each time, three failures, and any number of reads.
     pub fn usual() -> Settings {
         Settings {
             clients: 1_024,
@@ -28,6 +30,7 @@ impl Settings {
             link_window: 256,
             call_ms: 1_000,
             connect_ms: 1_000,
+            fail_limit: 3,
             retry_ms: 1_000,
             polls: None,
         }

@@ -1,0 +1,258 @@
+//! A proxy that runs: its turns, what is told of its servers, and the configurations that are loaded meanwhile.
+
+use crate::input::InputFault;
+use crate::program::Stop;
+use crate::serve_words::ServeJob;
+use crate::text_of;
+use config_check::reload_lines::{write_kept, write_loaded, write_unchecked};
+use config_check::status::DONE;
+use fresh_gate::ReloadFault;
+use link_calls::LoadFault;
+use mc_types::ServerId;
+use route_json::{Config, ConfigFault, read_config_after};
+use server_addresses::Servers;
+use std::alloc::{AllocError, Global};
+use std::io;
+use std::io::Write;
+use std::net::{Net, SocketAddr, ToSocketAddrs};
+use std::rt::{Clock, Files};
+use std::time::{Duration, Instant};
+use tcp_proxy::ProxyEnd;
+
+/// The first address that a text names.
+pub fn resolve<N: Net>(net: &N, text: &str) -> Option<SocketAddr> {
+    match text.to_socket_addrs(net) {
+        Ok(mut addresses) => addresses.next(),
+        Err(_) => None,
+    }
+}
+
+/// The addresses of the servers in their order; those before `from` stand without one, as they are known. Of one whose text names no
+/// host it is told, and its calls will fail.
+pub fn addresses_of<R: Net + AllocGlobal + Eprint>(
+    rt: &R,
+    servers: &Servers,
+    from: u32,
+) -> io::Result<Vec<Option<SocketAddr>>> {
+    let mut addresses = Vec::new(rt.alloc());
+    for number in 0..u32::MAX {
+        let Some(text) = servers.get(ServerId::new(number)) else {
+            break;
+        };
+        addresses.push(if number < from {
+            None
+        } else {
+            told_address(rt, text)?
+        })?;
+    }
+    Ok(addresses)
+}
+
+fn told_address<R: Net + Eprint>(rt: &R, text: &str) -> io::Result<Option<SocketAddr>> {
+    let address = resolve(rt, text);
+    if address.is_none() {
+        eprintln!(rt; "mcgate: server {text}: no such host, its calls fail")?;
+    }
+    Ok(address)
+}
+
+/// A proxy that runs.
+#[derive(Drop)]
+pub struct Serving {
+    end: ProxyEnd,
+    /// The servers in use.
+    servers: Servers,
+    /// What the file last had.
+    text: String,
+    /// When that was.
+    since: Instant,
+    /// How many turns ago.
+    turns: u32,
+}
+
+// A configuration that was read, and its servers once more.
+fn read_after(
+    alloc: Global,
+    servers: &Servers,
+    text: &str,
+) -> Result<(Config, Servers), ConfigFault> {
+    let config = read_config_after(alloc, servers.copy(alloc)?, text)?;
+    let servers = config.servers().copy(alloc)?;
+    Ok((config, servers))
+}
+
+// Prints why a text is no configuration.
+fn print_fault<W: Write>(fault: &ConfigFault, out: &mut W) -> Result<(), Stop> {
+    match fault {
+        ConfigFault::NoMemory => Err(Stop::Memory),
+        told => Ok(writeln!(out, "config: {told}")?),
+    }
+}
+
+// Prints that a configuration was loaded.
+fn print_loaded<W: Write>(any: bool, generation: u32, out: &mut W) -> io::Result<()> {
+    if any {
+        write_unchecked(generation, out)
+    } else {
+        write_loaded(generation, out)
+    }
+}
+
+// Prints why it was not.
+fn print_kept<W: Write>(servers: &Servers, fault: LoadFault, out: &mut W) -> Result<(), Stop> {
+    match fault {
+        LoadFault::Refused(ReloadFault::NoMemory) => Err(Stop::Memory),
+        LoadFault::Refused(fault) => Ok(write_kept(servers, &fault, out)?),
+        LoadFault::OtherServers => Ok(writeln!(out, "reload refused: other servers")?),
+    }
+}
+
+impl Serving {
+    /// Of this end, by a configuration of these servers, whose text this is.
+    pub fn new<R: Clock>(
+        rt: &R,
+        end: ProxyEnd,
+        servers: Servers,
+        text: String,
+    ) -> io::Result<Serving> {
+        Ok(Serving {
+            end,
+            servers,
+            text,
+            since: Instant::now(rt)?,
+            turns: 0,
+        })
+    }
+
+    /// Tells that it listens, and with a tree of which no gate was asked what that means.
+    pub fn tell_start<R: Eprint>(&self, rt: &R, job: &ServeJob<'_>) -> io::Result<()> {
+        let address = self.end.local_addr()?;
+        if job.any {
+            eprintln!(rt;
+                "mcgate: WARNING: --any: no gate was asked, nothing is promised: replies may show deleted data"
+            )?;
+        }
+        eprintln!(rt;
+            "mcgate: serving {} on {}, {} servers, generation 1",
+            job.file,
+            address,
+            self.servers.len()
+        )?;
+        Ok(())
+    }
+
+    /// Turns it as often as is asked; what happens to servers is told, and the file is read again, when that is due. The answer is
+    /// the exit status.
+    pub fn run<R: Files + Input + Net + Clock + AllocGlobal + Eprint, W: Write>(
+        &mut self,
+        rt: &R,
+        job: &ServeJob<'_>,
+        out: &mut W,
+    ) -> Result<u8, Stop> {
+        for _ in 0..job.turns.map_or(u64::MAX, u64::from) {
+            self.turn(rt, job)?;
+            self.tell_news(rt);
+            if self.is_due(rt, job)? {
+                self.look(rt, job, out)?;
+            }
+        }
+        Ok(DONE)
+    }
+
+    fn millis<R: Clock>(&self, rt: &R) -> io::Result<u64> {
+        let millis = self.since.elapsed(rt)?.as_millis();
+        Ok(u64::try_from(millis).unwrap_or(u64::MAX))
+    }
+
+    // One turn, which doesn't wait longer than until the file is to be read again.
+    fn turn<R: Net + Clock>(&mut self, rt: &R, job: &ServeJob<'_>) -> io::Result<()> {
+        self.turns = self.turns.saturating_add(1);
+        let Some(reload_ms) = job.reload_ms else {
+            return self.end.turn(rt);
+        };
+        let rest = u64::from(reload_ms).saturating_sub(self.millis(rt)?);
+        self.end.turn_within(rt, Duration::from_millis(rest))
+    }
+
+    // Tells what happened to servers. Where it can't be told nothing else is done.
+    fn tell_news<R: Eprint>(&mut self, rt: &R) {
+        for _ in 0..self.servers.len() {
+            let Some((at, news)) = self.end.next_news() else {
+                return;
+            };
+            let Ok(number) = u32::try_from(at) else {
+                return;
+            };
+            if let Some(text) = self.servers.get(ServerId::new(number)) {
+                let _ = eprintln!(rt; "mcgate: server {text}: {news}");
+            }
+        }
+    }
+
+    // Whether the file is to be read again.
+    fn is_due<R: Clock>(&self, rt: &R, job: &ServeJob<'_>) -> io::Result<bool> {
+        if let Some(every) = job.reload_every {
+            if every <= self.turns {
+                return Ok(true);
+            }
+        }
+        match job.reload_ms {
+            None => Ok(false),
+            Some(reload_ms) => Ok(u64::from(reload_ms) <= self.millis(rt)?),
+        }
+    }
+
+    // Reads the file. A text that it hadn't before is loaded; where it can't be read nothing is done.
+    fn look<R: Files + Input + Net + Clock + AllocGlobal + Eprint, W: Write>(
+        &mut self,
+        rt: &R,
+        job: &ServeJob<'_>,
+        out: &mut W,
+    ) -> Result<(), Stop> {
+        self.turns = 0;
+        self.since = Instant::now(rt)?;
+        match text_of(rt, Some(job.file)) {
+            Ok(text) => self.take_text(rt, job.any, text, out),
+            Err(InputFault::NoMemory) => Err(Stop::Memory),
+            Err(_) => Ok(()),
+        }
+    }
+
+    fn take_text<R: Net + AllocGlobal + Eprint, W: Write>(
+        &mut self,
+        rt: &R,
+        any: bool,
+        text: String,
+        out: &mut W,
+    ) -> Result<(), Stop> {
+        if text.as_str() == self.text.as_str() {
+            return Ok(());
+        }
+        self.text = text;
+        match read_after(rt.alloc(), &self.servers, self.text.as_str()) {
+            Ok((config, servers)) => self.load(rt, any, config, servers, out)?,
+            Err(fault) => print_fault(&fault, out)?,
+        }
+        Ok(out.flush()?)
+    }
+
+    // Loads a configuration of these servers, and prints what came of that.
+    fn load<R: Net + AllocGlobal + Eprint, W: Write>(
+        &mut self,
+        rt: &R,
+        any: bool,
+        config: Config,
+        servers: Servers,
+        out: &mut W,
+    ) -> Result<(), Stop> {
+        let known = u32::try_from(self.servers.len()).unwrap_or(u32::MAX);
+        let addresses = addresses_of(rt, &servers, known)?;
+        match self.end.load(config, addresses.as_slice()) {
+            Ok(generation) => {
+                self.servers = servers;
+                Ok(print_loaded(any, generation, out)?)
+            }
+            Err(fault) => print_kept(&servers, fault, out),
+        }
+    }
+}

@@ -1,0 +1,60 @@
+//! What there is to tell of a server's link.
+
+use std::fmt;
+use std::fmt::Display;
+
+/// Why a link failed.
+#[derive(Clone, Copy, PartialEq, Eq)]
+pub enum Cause {
+    /// No connection could be made.
+    Unreachable,
+    /// A connection took too long to stand.
+    ConnectLate,
+    /// A call took too long.
+    CallLate,
+    /// The server closed the connection.
+    Closed,
+    /// Reading or writing failed.
+    Broken,
+    /// The server sent what can't be an answer to the oldest call, or what nothing asked for.
+    Foreign,
+    /// As many reads in a row as were set brought no whole answer.
+    VainReads,
+}
+
+/// What happened to a server's link.
+#[derive(Clone, Copy, PartialEq, Eq)]
+pub enum LinkNews {
+    /// A connection stands, the first one.
+    Opened,
+    /// It failed, so many times in a row since the server last answered.
+    Failed(Cause, u32),
+    /// A connection stands again.
+    Back,
+}
+
+// Why a link failed, in words.
+fn words_of(cause: Cause) -> &'static str {
+    match cause {
+        Cause::Unreachable => "no connection could be made",
+        Cause::ConnectLate => "a connection took too long to stand",
+        Cause::CallLate => "a call took too long",
+        Cause::Closed => "it closed the connection",
+        Cause::Broken => "reading or writing failed",
+        Cause::Foreign => "it sent what is no answer to the oldest call",
+        Cause::VainReads => "too many reads brought no whole answer",
+    }
+}
+
+impl Display for LinkNews {
+    fn fmt<W: fmt::Write>(&self, f: &mut fmt::Formatter<W>) -> fmt::Result {
+        match *self {
+            LinkNews::Opened => f.write_str("connected"),
+            LinkNews::Back => f.write_str("back"),
+            LinkNews::Failed(cause, times) => {
+                let words = words_of(cause);
+                write!(f, "failed: {words}, {times} in a row")
+            }
+        }
+    }
+}
