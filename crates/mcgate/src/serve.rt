@@ -1,6 +1,5 @@
 //! `mcgate serve`: the configuration is read and judged, and then served.
 
-use crate::input::InputFault;
 use crate::program::{Stop, decline};
 use crate::serve_words::ServeJob;
 use config_check::checking::{print_fault, print_refused};
@@ -15,6 +14,7 @@ use std::io::Write;
 use std::net::{Net, SocketAddr, ToSocketAddrs};
 use std::rt::Clock;
 use tcp_proxy::ProxyEnd;
+use text_input::InputFault;
 
 /// What came of an input: a configuration that the gate accepted, or the exit status of what was printed instead.
 #[derive(Drop)]
