@@ -1,2 +1,1 @@
-pub mod InputLemmas
 pub mod StopLemmas

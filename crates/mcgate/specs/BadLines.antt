@@ -7,7 +7,7 @@ use Rattle.line_faults.specs.Finding.{IsWrong, FindsIn}
 use Rattle.line_faults.specs.declared.finding.BadLine.{BadLine}
 use Rattle.mcgate.specs.declared.arguments.Task.{Task}
 use Rattle.mcgate.specs.declared.arguments.Task.TheVariants as tasks
-use Rattle.mcgate.specs.declared.input.InputFault.{InputFault}
+use Rattle.text_input.specs.declared.reading.InputFault.{InputFault}
 
 -- what is found in an input is found so in its text; in one that was not read nothing is
 abbrev pub FindsBy : (List ℕ → Option BadLine → Type 0) → Result (String Global) InputFault → Option BadLine → Type 0

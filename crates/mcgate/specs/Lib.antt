@@ -1,4 +1,3 @@
-pub mod Input
 pub mod Stops
 pub mod Program
 pub mod BadLines

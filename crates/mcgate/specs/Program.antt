@@ -13,8 +13,8 @@ use Rattle.mcgate.specs.declared.arguments.Form.{Form}
 use Rattle.mcgate.specs.declared.arguments.Form.TheVariants as forms
 use Rattle.mcgate.specs.declared.arguments.Task.{Task}
 use Rattle.mcgate.specs.declared.arguments.Task.TheVariants as tasks
-use Rattle.mcgate.specs.declared.input.InputFault.{InputFault}
-use Rattle.mcgate.specs.declared.input.InputFault.TheVariants.{TooLarge, NotUtf8, NoMemory, Device}
+use Rattle.text_input.specs.declared.reading.InputFault.{InputFault}
+use Rattle.text_input.specs.declared.reading.InputFault.TheVariants.{TooLarge, NotUtf8, NoMemory, Device}
 use Rattle.mcgate.specs.declared.program.Stop.{Stop}
 use Rattle.mcgate.specs.declared.program.Stop.TheVariants as stops
 

@@ -10,8 +10,6 @@ use Rattle.config_check.specs.declared.status.RunFault.{RunFault}
 use Rattle.config_check.specs.declared.status.RunFault.TheVariants as runs
 use Rattle.mcgate.specs.declared.arguments.ArgumentsFault.{ArgumentsFault}
 use Rattle.mcgate.specs.declared.arguments.ArgumentsFault.TheVariants as arguments
-use Rattle.mcgate.specs.declared.input.InputFault.{InputFault}
-use Rattle.mcgate.specs.declared.input.InputFault.TheVariants as inputs
 use Rattle.mcgate.specs.declared.program.Stop.{Stop}
 use Rattle.mcgate.specs.declared.program.Stop.TheVariants as stops
 
@@ -19,11 +17,6 @@ use Rattle.mcgate.specs.declared.program.Stop.TheVariants as stops
 abbrev pub arguments_fault_at : RefusalKind → ArgumentsFault
 arguments_fault_at refusal_kinds.OutOfMemory = arguments.NoMemory
 arguments_fault_at _ = arguments.Refused
-
--- what a device's error means for an input
-abbrev pub input_fault_at : ErrorKind → InputFault
-input_fault_at io_kinds.OutOfMemory = inputs.NoMemory
-input_fault_at _ = inputs.Device
 
 -- what a device's error means for the program
 abbrev pub stop_at : ErrorKind → Stop

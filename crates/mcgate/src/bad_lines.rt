@@ -4,10 +4,10 @@ ghost use Rattle.std.specs.Prelude.{IfOk};
 ghost use Rattle.mcgate.specs.BadLines.{FindsInTask, FindsInEvents};
 
 use crate::arguments::Task;
-use crate::input::InputFault;
 use line_faults::{BadLine, bad_line_in_events, bad_line_in_script};
 use route_json::Config;
 use std::alloc::{AllocError, Global};
+use text_input::InputFault;
 
 /// The first bad line of a task's input and what is wrong with it, where that is a script with its configuration. `None` where no
 /// line is bad, and where the input is no script. The only error is running out of memory.

@@ -5,7 +5,6 @@ mod arguments;
 mod bad_lines;
 mod cache;
 mod cache_words;
-mod input;
 mod program;
 mod serve;
 mod serve_words;
@@ -17,7 +16,6 @@ use arguments::{Job, Task, read_arguments};
 use bad_lines::{bad_line_of_events, bad_line_of_task};
 use cache::serve_cache;
 use config_check::status::{BAD_INPUT, DONE};
-use input::{InputFault, fault_of, read_input};
 use line_faults::BadLine;
 use program::{Stop, decline, end_of, read_configuration, run_events, run_input, run_keys};
 use route_json::Config;
@@ -30,6 +28,7 @@ use std::io::{BufWriter, ErrorKind, Write};
 use std::net::Net;
 use std::process::ExitCode;
 use std::rt::{Clock, Env, Files};
+use text_input::{InputFault, fault_of, read_input};
 
 /// The text of a file, or of standard input where none is named.
 pub(crate) fn text_of<R: Files + Input + AllocGlobal>(

@@ -8,7 +8,6 @@ ghost use Rattle.key_places.specs.Finding.{FindsKeys};
 ghost use Rattle.mcgate.specs.Stops.{stop_at, stop_by, stop_of, key_line, end_of};
 
 use crate::arguments::{ArgumentsFault, Form, Task};
-use crate::input::InputFault;
 use config_check::checking::print_fault;
 use config_check::status::{BAD_INPUT, NO_MEMORY, WRITER};
 use config_check::{RunFault, run_check, run_explain, run_picture};
@@ -19,6 +18,7 @@ use route_json::{Config, read_config};
 use std::alloc::Global;
 use std::io;
 use std::io::{ErrorKind, Write};
+use text_input::InputFault;
 
 /// Why the program ends with a line on standard error.
 #[derive(Clone, Copy)]

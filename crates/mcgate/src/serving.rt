@@ -1,6 +1,5 @@
 //! A proxy that runs: its turns, what is told of its servers, and the configurations that are loaded meanwhile.
 
-use crate::input::InputFault;
 use crate::program::Stop;
 use crate::serve_words::ServeJob;
 use crate::text_of;
@@ -18,6 +17,7 @@ use std::net::{Net, SocketAddr, ToSocketAddrs};
 use std::rt::{Clock, Files};
 use std::time::{Duration, Instant};
 use tcp_proxy::ProxyEnd;
+use text_input::InputFault;
 
 /// The first address that a text names.
 pub fn resolve<N: Net>(net: &N, text: &str) -> Option<SocketAddr> {

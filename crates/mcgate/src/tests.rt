@@ -2,7 +2,6 @@
 
 use crate::arguments::{ArgumentsFault, Form, Job, Task, read_arguments};
 use crate::bad_lines::{bad_line_of_events, bad_line_of_task};
-use crate::input::{INPUT_LIMIT, InputFault, read_input};
 use crate::program::{End, Stop, end_of, read_configuration, run_events, run_input};
 use crate::text_of;
 use line_faults::BadLine;
@@ -11,6 +10,7 @@ use std::alloc::{AllocError, Global};
 use std::io;
 use std::io::ErrorKind;
 use std::test::Fail;
+use text_input::{INPUT_LIMIT, InputFault, read_input};
 
 fn arguments_of(alloc: Global, words: &[&str]) -> Result<Vec<String>, AllocError> {
     let mut given = Vec::new(alloc);

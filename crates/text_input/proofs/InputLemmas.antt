@@ -4,9 +4,9 @@ use Rattle.std.specs.Prelude.{IfSome, option_map}
 use Rattle.std.specs.Str.{IsUtf8}
 use Rattle.std.proofs.lemmas.Bool.{cases_lt}
 use Rattle.std.proofs.lemmas.List.{take_all, length-take-le, length-take}
-use Rattle.mcgate.specs.Input.{ReadsInput, IsFailure}
-use Rattle.mcgate.specs.declared.input.InputFault.{InputFault}
-use Rattle.mcgate.specs.declared.input.InputFault.TheVariants.{TooLarge, NotUtf8, NoMemory, Device}
+use Rattle.text_input.specs.Input.{ReadsInput, IsFailure}
+use Rattle.text_input.specs.declared.reading.InputFault.{InputFault}
+use Rattle.text_input.specs.declared.reading.InputFault.TheVariants.{TooLarge, NotUtf8, NoMemory, Device}
 
 -- fewer than were asked for: that is all
 all_of : (n : ℕ) (xs : List ℕ) → length (take (n + 1) xs) ≤ n → take (n + 1) xs ≡ xs

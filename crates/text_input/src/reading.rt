@@ -1,9 +1,8 @@
-//! The input: its bytes as text, or why they are none.
+//! How an input is read.
 
 ghost use Rattle.std.specs.Prelude.{◌≡◌, IfSome, string_bytes};
 ghost use Rattle.std.specs.IoError.{error_kind};
-ghost use Rattle.mcgate.specs.Input.{ReadsInput, IsFailure};
-ghost use Rattle.mcgate.specs.Stops.{input_fault_at};
+ghost use Rattle.text_input.specs.Input.{ReadsInput, IsFailure, input_fault_at};
 
 use std::alloc::Global;
 use std::io;

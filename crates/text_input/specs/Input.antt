@@ -1,8 +1,10 @@
 -- What the program takes as its input. Source: mcgate's own.
 use Rattle.std.specs.Prelude.{◌≡◌, ℕ, ◌<◌, ◌≤◌, List, length, Result, Ok, Err}
 use Rattle.std.specs.Str.{IsUtf8}
-use Rattle.mcgate.specs.declared.input.InputFault.{InputFault}
-use Rattle.mcgate.specs.declared.input.InputFault.TheVariants.{TooLarge, NotUtf8, NoMemory, Device}
+use Rattle.std.specs.declared.io.ErrorKind.{ErrorKind}
+use Rattle.std.specs.declared.io.ErrorKind.TheVariants.{OutOfMemory}
+use Rattle.text_input.specs.declared.reading.InputFault.{InputFault}
+use Rattle.text_input.specs.declared.reading.InputFault.TheVariants.{TooLarge, NotUtf8, NoMemory, Device}
 
 -- bytes as text, at most so many of them, or why they are none: their number first, then UTF-8
 abbrev pub ReadsInput : {T : Type 0} → (T → List ℕ) → ℕ → List ℕ → Result T InputFault → Type 0
@@ -18,3 +20,8 @@ IsFailure TooLarge = ⊥
 IsFailure NotUtf8 = ⊥
 IsFailure NoMemory = Unit {0}
 IsFailure Device = Unit {0}
+
+-- what a device's error means for an input
+abbrev pub input_fault_at : ErrorKind → InputFault
+input_fault_at OutOfMemory = NoMemory
+input_fault_at _ = Device
