@@ -17,9 +17,16 @@ loaded_line generation = codes "reload accepted generation=" ++ decimal generati
 abbrev pub unchecked_line : ℕ → List ℕ
 unchecked_line generation = codes "reload unchecked generation=" ++ decimal generation ++ codes "\n"
 
--- reload refused generation=G server=A read=OP delete=D
+-- reload refused generation=G
+abbrev pub kept_head : ℕ → List ℕ
+kept_head generation = codes "reload refused generation=" ++ decimal generation
+
+-- and then server=A read=OP delete=D
+abbrev pub kept_asks : (address read delete : List ℕ) → List ℕ
+kept_asks address read delete = codes " server=" ++ escaped address ++ codes " read=" ++ read ++ codes " delete=" ++ delete
+
 abbrev pub kept_front : (generation : ℕ) (address read delete : List ℕ) → List ℕ
-kept_front generation address read delete = codes "reload refused generation=" ++ decimal generation ++ codes " server=" ++ escaped address ++ codes " read=" ++ read ++ codes " delete=" ++ delete
+kept_front generation address read delete = kept_head generation ++ kept_asks address read delete
 
 -- a gap by its fields
 abbrev pub kept_fields : (generation : ℕ) (address read delete prefix : List ℕ) (residue modulus : ℕ) → List ℕ

@@ -2,7 +2,7 @@
 
 ghost use Rattle.std.specs.Prelude.{◌≡◌, OnOk};
 ghost use Rattle.std.specs.Io.KnownBytes.{Appends};
-ghost use Rattle.config_check.specs.Reloads.{loaded_line, unchecked_line, kept_front, kept_fields, kept_gap, kept_line};
+ghost use Rattle.config_check.specs.Reloads.{loaded_line, unchecked_line, kept_head, kept_asks, kept_front, kept_fields, kept_gap, kept_line};
 
 use crate::verdict::{prefix_of, write_back};
 use byte_escapes::Escaped;
@@ -27,7 +27,22 @@ pub fn write_unchecked<W: Write>(generation: u32, out: &mut W) -> io::Result<()>
     writeln!(out, "reload unchecked generation={generation}")
 }
 
-// Writes the front of a gap's line, the address in the escapes.
+// Writes the head of a gap's line.
+fn write_head<W: Write>(generation: u32, out: &mut W) -> io::Result<()>
+    ensures { OnOk result (Appends (W.contents out.old) (W.contents out.new) (kept_head generation)) }
+{
+    write!(out, "reload refused generation={generation}")
+}
+
+// Writes which server it is and what is asked there, the address in the escapes.
+fn write_asks<W: Write>(address: &[u8], read: &str, delete: &str, out: &mut W) -> io::Result<()>
+    ensures { OnOk result (Appends (W.contents out.old) (W.contents out.new) (kept_asks address.now read.now delete.now)) }
+{
+    let address = Escaped(address);
+    write!(out, " server={address} read={read} delete={delete}")
+}
+
+// Writes the front of a gap's line.
 fn write_front<W: Write>(
     generation: u32,
     address: &[u8],
@@ -37,11 +52,9 @@ fn write_front<W: Write>(
 ) -> io::Result<()>
     ensures { OnOk result (Appends (W.contents out.old) (W.contents out.new) (kept_front generation address.now read.now delete.now)) }
 {
-    let address = Escaped(address);
-    write!(
-        out,
-        "reload refused generation={generation} server={address} read={read} delete={delete}"
-    )
+    write_head(generation, out)?;
+    write_asks(address, read, delete, out)?;
+    Ok(())
 }
 
 // Writes the line of a gap by its fields.
