@@ -1,9 +1,7 @@
 //! How the message at the front of a client's bytes is read, in whichever dialect it is.
-ghost use Rattle.std.specs.Prelude.{◌≡◌, ℕ, List, true, false, None};
+ghost use Rattle.std.specs.Prelude.{◌≡◌, ℕ, List};
 ghost use Rattle.text_requests.specs.Message as texts;
-ghost use Rattle.text_requests.specs.CommandWords as text_words;
 ghost use Rattle.meta_requests.specs.Message as metas;
-ghost use Rattle.meta_requests.specs.CommandWords as meta_words;
 ghost use Rattle.client_requests.specs.Both.{Classic, Meta, lift_found};
 ghost use Rattle.client_requests.specs.Message.{IsMeant, Reads};
 
@@ -50,17 +48,8 @@ fn of_meta(read: meta_requests::Read) -> Read
     }
 }
 
-// Whether a word has the form of the meta commands, `m` and one byte more, which no classic command has. A word of this form
-// that is none of them is unknown in both dialects: so the words are looked up in one dialect alone.
-fn has_meta_form(word: &[u8]) -> bool
-    ensures meta { result ≡ false → meta_words.verb_of word.now ≡ None }
-    ensures classic { result ≡ true → text_words.verb_of word.now ≡ None }
-{
-    matches!(word, [b'm', _])
-}
-
-/// The message that the bytes begin with, in either dialect: the line is found once, and the form of its first word decides
-/// the dialect, which alone looks the word up. It takes no memory, and time linear in its line: no data are looked at.
+/// The message that the bytes begin with, in either dialect: the line is found once, and its first word decides. It takes
+/// no memory, and time linear in its line: no data are looked at.
 ///
 /// Source: memcached's protocol.txt.
 pub fn read_request(bytes: &[u8]) -> Read
@@ -78,12 +67,10 @@ pub fn read_request(bytes: &[u8]) -> Read
                     skip: Skip::Nothing,
                 };
             }
-            Some(first) => {
-                if has_meta_form(&bytes[..end][first.start..first.end]) {
-                    return of_meta(meta_requests::read_behind(bytes, end, used, first));
-                }
-                return of_classic(text_requests::read_behind(bytes, end, used, first));
-            }
+            Some(first) => match meta_requests::verbs::verb(&bytes[..end][first.start..first.end]) {
+                None => return of_classic(text_requests::read_behind(bytes, end, used, first)),
+                Some(_) => return of_meta(meta_requests::read_behind(bytes, end, used, first)),
+            },
         },
     }
 }
