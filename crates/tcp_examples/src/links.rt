@@ -3,7 +3,7 @@
 use bytes::BytesMut;
 use fresh_core::FreshCore;
 use fresh_gate::judge;
-use link_calls::{LinkCalls, Next, SentCall};
+use link_calls::{AnyCore, LinkCalls, Next, SentCall};
 use proxy_core::{Limits, Poll, Ticket};
 use route_json::read_config;
 use std::alloc::Global;
