@@ -1,7 +1,7 @@
 //! A proxy over two cache servers: what a client is answered, also where a server is gone.
 
 use fresh_gate::judge;
-use route_json::{Config, read_config, read_config_after};
+use route_json::{Config, read_config};
 use std::alloc::Global;
 use std::io;
 use std::io::{ErrorKind, Read, Write};
@@ -9,7 +9,7 @@ use std::net::{SocketAddr, TcpStream};
 use std::test::Fail;
 use std::time::Duration;
 use tcp_cache::CacheEnd;
-use tcp_proxy::{Cause, LinkNews, ProxyEnd, Settings};
+use tcp_proxy::{ProxyEnd, Settings};
 
 // The ends that are turned by turns. A server that is killed is none any more.
 #[derive(Drop)]
@@ -177,89 +177,5 @@ fn replies_in_its_own_order(rt: HostRuntime) -> Result<(), Fail> {
     let text =
         "STORED\r\nSTORED\r\nSTORED\r\nVALUE a 0 1\r\n1\r\nVALUE b 0 1\r\n2\r\nVALUE c 0 1\r\n3\r\nEND\r\nERROR\r\n";
     assert!(rt; answers(&rt, &mut ends, &mut client, piece, text)?);
-    Ok(())
-}
-
-// A configuration over the same two servers, read after another's.
-fn config_after(alloc: Global, first: &str, text: &str) -> Result<Config, Fail> {
-    let first = config(alloc, first)?;
-    match read_config_after(alloc, first.servers().copy(alloc)?, text) {
-        Ok(config) => Ok(config),
-        Err(_) => Err(Fail::from("no configuration")),
-    }
-}
-
-fn first_alone() -> &'static str {
-    r#"{"pools":{"A":{"servers":["a:1"]}},"route":"PoolRoute|A"}"#
-}
-
-fn all_sync() -> &'static str {
-    r#"{"pools":{"A":{"servers":["a:1"]},"B":{"servers":["b:1"]}},"route":{"type":"OperationSelectorRoute","default_policy":"PoolRoute|A","operation_policies":{"delete":{"type":"AllSyncRoute","children":["PoolRoute|A","PoolRoute|B"]}}}}"#
-}
-
-// Loads a configuration after the one that the ends began with.
-fn loads(rt: &HostRuntime, ends: &mut Ends, first: &str, text: &str) -> Result<Option<u32>, Fail> {
-    let servers = addresses(ends)?;
-    let config = config_after(rt.alloc(), first, text)?;
-    match ends.proxy.load(config, &servers) {
-        Ok(generation) => Ok(Some(generation)),
-        Err(_) => Ok(None),
-    }
-}
-
-fn addresses(ends: &Ends) -> io::Result<[Option<SocketAddr>; 2]> {
-    Ok([address(&ends.first)?, address(&ends.second)?])
-}
-
-fn address(end: &Option<CacheEnd<HostRuntime>>) -> io::Result<Option<SocketAddr>> {
-    match end {
-        Some(end) => Ok(Some(end.address()?)),
-        None => Ok(None),
-    }
-}
-
-// A tree is loaded whose own deletes reach both servers, and one that reads the second server isn't: the first tree's deletes
-// didn't reach it.
-#[test]
-fn trees_loaded_while_it_runs(rt: HostRuntime) -> Result<(), Fail> {
-    let mut ends = make_ends(&rt, first_alone())?;
-    let mut client = connect(&rt, &ends)?;
-    let stored = "STORED\r\n";
-    assert!(rt; answers(&rt, &mut ends, &mut client, "set a 0 0 1\r\n1\r\n", stored)?);
-    assert!(rt; loads(&rt, &mut ends, first_alone(), failover())?.is_none());
-    assert!(rt; loads(&rt, &mut ends, first_alone(), all_sync())? == Some(2));
-    let shown = "VALUE a 0 1\r\n1\r\nEND\r\n";
-    assert!(rt; answers(&rt, &mut ends, &mut client, "get a\r\n", shown)?);
-    let not_found = "NOT_FOUND\r\n";
-    assert!(rt; answers(&rt, &mut ends, &mut client, "delete b\r\n", not_found)?);
-    Ok(())
-}
-
-// What is told of a link next.
-fn told(rt: &HostRuntime, ends: &mut Ends) -> io::Result<Option<(usize, LinkNews)>> {
-    for _ in 0..4_000 {
-        turn(rt, ends)?;
-        let news = ends.proxy.next_news();
-        if news.is_some() {
-            return Ok(news);
-        }
-    }
-    Ok(None)
-}
-
-// A client's gets of a server that is gone fail, time after time, and so is told.
-#[test]
-fn a_server_that_is_gone(rt: HostRuntime) -> Result<(), Fail> {
-    let mut ends = make_ends(&rt, first_alone())?;
-    let mut client = connect(&rt, &ends)?;
-    assert!(rt; answers(&rt, &mut ends, &mut client, "get a\r\n", "END\r\n")?);
-    assert!(rt; told(&rt, &mut ends)? == Some((0, LinkNews::Opened)));
-    ends.first = None;
-    let failed = "SERVER_ERROR call failed\r\n";
-    for _ in 0..5 {
-        assert!(rt; answers(&rt, &mut ends, &mut client, "get a\r\n", failed)?);
-    }
-    let news = told(&rt, &mut ends)?;
-    assert!(rt; matches!(news, Some((0, LinkNews::Failed(Cause::Unreachable, _)))));
     Ok(())
 }
