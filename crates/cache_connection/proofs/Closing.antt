@@ -1,8 +1,8 @@
 -- Which messages close a stream.
 use Rattle.std.proofs.Common.{◌≡◌, ℕ, ◌-◌, Bool, true, false, cond, eqb, List, [], ◌∷◌, length, drop, Option, Some, None, refl, sym, ◌∙◌, ◌↔◌}
 use Rattle.mc_text.specs.Line.{LF}
-use Rattle.request_parts.specs.declared.own.Own.{Own}
-use Rattle.request_parts.specs.declared.own.Own.TheVariants.{Version, Quit, Noop}
+use Rattle.request_parts.specs.declared.proxy_command.ProxyCommand.{ProxyCommand}
+use Rattle.request_parts.specs.declared.proxy_command.ProxyCommand.TheVariants.{Version, Quit, Noop}
 use Rattle.request_parts.specs.declared.skip.Skip.{Skip}
 use Rattle.request_parts.specs.declared.skip.Skip.TheVariants.{Nothing, Bytes, ThroughNewline}
 use Rattle.request_parts.specs.Message.{Served, Refusal}
@@ -30,7 +30,7 @@ skipped_stands Nothing bytes e = stands Nothing bytes e
 skipped_stands (Bytes n) bytes e = passing_stands _ n bytes e
 skipped_stands ThroughNewline bytes e = through_stands bytes e
 
-own_closes : (own : Option Own) (rest : List ℕ) → (behind_own own rest ≡ Closed) ↔ (own ≡ Some Quit)
+own_closes : (own : Option ProxyCommand) (rest : List ℕ) → (behind_own own rest ≡ Closed) ↔ (own ≡ Some Quit)
 own_closes None rest = (λ e. absurd (stands Nothing rest e), λ e. absurd (cc))
 own_closes (Some Version) rest = (λ e. absurd (stands Nothing rest e), λ e. absurd (cc))
 own_closes (Some Noop) rest = (λ e. absurd (stands Nothing rest e), λ e. absurd (cc))

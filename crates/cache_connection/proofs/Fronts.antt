@@ -2,8 +2,8 @@
 use Rattle.std.proofs.Common.{◌≡◌, ℕ, ℤ, ◌<◌, List, [], ◌++◌, length, drop, Option, inl, refl, sym, ap, ◌∙◌, subst, arith, append_assoc}
 use Rattle.mc_text.specs.Line.{IsTooLong}
 use Rattle.mc_runs.specs.Stream.{Done}
-use Rattle.request_parts.specs.declared.own.Own.{Own}
-use Rattle.request_parts.specs.declared.refusal.Why.{Why}
+use Rattle.request_parts.specs.declared.proxy_command.ProxyCommand.{ProxyCommand}
+use Rattle.request_parts.specs.declared.refusal.RefusalReason.{RefusalReason}
 use Rattle.request_parts.specs.declared.skip.Skip.{Skip}
 use Rattle.request_parts.specs.declared.skip.Skip.TheVariants.{Nothing}
 use Rattle.client_requests.specs.declared.reader.Read.TheVariants as reads
@@ -46,24 +46,24 @@ pub breaks_first : (moment : ℤ) (place next : Place) (c : Contents) (said : Sa
 breaks_first moment place next c said reads = record { said = said; next = next; reads = reads; answers = []; left = c; answered = refl; new_is = inl refl }
 
 -- a request without an ask: what mcgate itself was asked
-pub own_done : (moment : ℤ) (old new : Connection) (c : Contents) (request : Request) (own : Option Own) (used : ℕ) → used ≡ used_of request → IsFront old request → length (asks_of (message_at old request)) ≡ 0 → own ≡ own_of (message_at old request)
+pub own_done : (moment : ℤ) (old new : Connection) (c : Contents) (request : Request) (own : Option ProxyCommand) (used : ℕ) → used ≡ used_of request → IsFront old request → length (asks_of (message_at old request)) ≡ 0 → own ≡ own_of (message_at old request)
     → GoesTo old (behind_own own (drop used (held_at old.stream))) (own_passed own) new → ServesFront moment old c new c
 own_done moment old new c request own used used_is front none own_is told =
     let held : List ℕ = held_at old.stream in
     let g : GoesTo old (behind_own own (drop (used_of request) held)) (own_passed own) new = subst (λ (n : ℕ). GoesTo old (behind_own own (drop n held)) (own_passed own) new) used_is told in
     let m : Message = message_at old request in
     let rest : List ℕ = drop (used_of request) held in
-    let next : behind_own own rest ≡ behind m rest = ap (λ (o : Option Own). behind_own o rest) own_is ∙ own_next held request rest in
+    let next : behind_own own rest ≡ behind m rest = ap (λ (o : Option ProxyCommand). behind_own o rest) own_is ∙ own_next held request rest in
     let text : own_passed own ≡ passed_text (Whole m) = ap own_passed own_is ∙ own_text held request in
     passes moment old new c (Whole m) (behind m rest) (reads_front old request front) (empty_is (asks_of m) none)
     (subst (λ (p : Place). GoesTo old p (passed_text (Whole m)) new) next (subst (λ (l : List ℕ). GoesTo old (behind_own own rest) l new) text g))
     (shorter_by old new held rest (behind_own own rest) front.place g.place_is (own_len own rest) (fewer held m (used_of request) front.read.begins))
 
-refused_reads : (place : Place) (held : List ℕ) (why : Why) (used : ℕ) (skip : Skip) → place ≡ Stands Nothing held → Begins held (Refusal why skip) used → ReadsNext place (Whole (Refusal why skip)) (skipped skip (drop used held))
+refused_reads : (place : Place) (held : List ℕ) (why : RefusalReason) (used : ℕ) (skip : Skip) → place ≡ Stands Nothing held → Begins held (Refusal why skip) used → ReadsNext place (Whole (Refusal why skip)) (skipped skip (drop used held))
 refused_reads place held why used skip at begins = subst (λ (p : Place). ReadsNext p (Whole (Refusal why skip)) (skipped skip (drop used held))) (sym at) (used, begins, refl)
 
 -- a refused message
-pub refused_done : (moment : ℤ) (old new : Connection) (c : Contents) (held : List ℕ) (why : Why) (used : ℕ) (skip : Skip) → old.stream ≡ Stands Nothing held → Begins held (Refusal why skip) used → GoesTo old (skipped skip (drop used held)) (refusal_text why) new → ServesFront moment old c new c
+pub refused_done : (moment : ℤ) (old new : Connection) (c : Contents) (held : List ℕ) (why : RefusalReason) (used : ℕ) (skip : Skip) → old.stream ≡ Stands Nothing held → Begins held (Refusal why skip) used → GoesTo old (skipped skip (drop used held)) (refusal_text why) new → ServesFront moment old c new c
 refused_done moment old new c held why used skip place begins g =
     let next : Place = skipped skip (drop used held) in
     passes moment old new c (Whole (Refusal why skip)) next (refused_reads old.stream held why used skip place begins) refl g

@@ -2,7 +2,7 @@
 use Rattle.std.specs.Prelude.{◌≡◌, ◌≢◌, ℕ, ℤ, ◌↔◌, List, [], ◌∷◌, ◌++◌, Some}
 use Rattle.mc_types.specs.declared.answer.Answer.{Answer}
 use Rattle.mc_runs.specs.Stream.{Done}
-use Rattle.request_parts.specs.declared.own.Own.TheVariants.{Quit}
+use Rattle.request_parts.specs.declared.proxy_command.ProxyCommand.TheVariants.{Quit}
 use Rattle.client_requests.specs.Both.{own_by}
 use Rattle.request_parts.specs.Message.{Served, Refusal}
 use Rattle.request_parts.specs.Stream.{Place, Closed}

@@ -6,8 +6,8 @@ use Rattle.std.proofs.lemmas.Bool.{eqb-true}
 use Rattle.std.proofs.lemmas.Slice.Eq.{bytes_eq-Decides}
 use Rattle.mc_text.specs.Line.{without_cr}
 use Rattle.mc_text.specs.Word.{words}
-use Rattle.request_parts.specs.declared.refusal.Why.{Why}
-use Rattle.request_parts.specs.declared.refusal.Why.TheVariants.{Unknown}
+use Rattle.request_parts.specs.declared.refusal.RefusalReason.{RefusalReason}
+use Rattle.request_parts.specs.declared.refusal.RefusalReason.TheVariants.{Unknown}
 use Rattle.request_parts.specs.declared.skip.Skip.{Skip}
 use Rattle.request_parts.specs.Tests.{Word}
 use Rattle.request_parts.specs.Message as parts
@@ -39,7 +39,7 @@ message_is m k u n e = let pair = some_is (m, u) (k, n) e in (ap (λ x. x.0) pai
 block_is : {A : Type 0} (p o : A) (b block : List ℕ) → Served p b ≡ Served o block → (p ≡ o) × (b ≡ block)
 block_is p o b block e = (cc, cc)
 
-refused_is : {A : Type 0} (why : Why) (skip : Skip) (o : A) (block : List ℕ) → Refusal why skip ≡ Served o block → ⊥
+refused_is : {A : Type 0} (why : RefusalReason) (skip : Skip) (o : A) (block : List ℕ) → Refusal why skip ≡ Served o block → ⊥
 refused_is why skip o block e = cc
 
 -- a message of both that is one of the dialect
@@ -55,7 +55,7 @@ found_lowered f one None o block n e = absurd cc
 found_lowered f one (Some x) o block n e = lowered f one x.0 x.1 o block n e
 
 -- a refusal serves nothing
-refused_never : {A : Type 0} (why : Why) (skip : Skip) (used : ℕ) (o : A) (block : List ℕ) (n : ℕ) → found_as {A = A} (Refusal why skip) used ≡ found_as (Served o block) n → ⊥
+refused_never : {A : Type 0} (why : RefusalReason) (skip : Skip) (used : ℕ) (o : A) (block : List ℕ) (n : ℕ) → found_as {A = A} (Refusal why skip) used ≡ found_as (Served o block) n → ⊥
 refused_never why skip used o block n e = refused_is why skip o block (message_is (Refusal why skip) (Served o block) used n e).0
 
 same_classic : (a b : texts.Order) → Classic a ≡ Classic b → a ≡ b
@@ -132,7 +132,7 @@ no_classic word v e =
 unknown : (line : List Word) (word : Word) (ws : List Word) (used : ℕ) (rest : List ℕ) (o : texts.Order) (block : List ℕ) (n : ℕ) → line ≡ word ∷ ws → text_words.verb_of word ≡ None → in_classic line used rest ≡ Some (Served o block, n) → ⊥
 unknown line word ws used rest o block n is none e =
     let refused : texts.order_of line ≡ Err Unknown = rw (is, none) refl in
-    let same : in_classic line used rest ≡ Some (Refusal Unknown (texts.skip_of line), used) = ap (λ (r : Result texts.Order Why). meaning_of classic_grammar r (texts.skip_of line) used rest) refused in
+    let same : in_classic line used rest ≡ Some (Refusal Unknown (texts.skip_of line), used) = ap (λ (r : Result texts.Order RefusalReason). meaning_of classic_grammar r (texts.skip_of line) used rest) refused in
     refused_never Unknown (texts.skip_of line) used o block n (sym same ∙ e)
 
 raised_by : (v : Option Verb) (word : Word) (ws : List Word) (used : ℕ) (rest : List ℕ) (o : texts.Order) (block : List ℕ) (n : ℕ) → verb_of word ≡ v → in_classic (word ∷ ws) used rest ≡ Some (Served o block, n) → meaning_of both_grammar (order_by v (word ∷ ws)) (skip_by v (word ∷ ws)) used rest ≡ Some (Served (Classic o) block, n)
@@ -146,7 +146,7 @@ classic_among (word ∷ ws) used rest o block n e = raised_by (verb_of word) wor
 meta_raised_by : (v : Option Verb) (word : Word) (ws : List Word) (used : ℕ) (rest : List ℕ) (o : metas.Order) (block : List ℕ) (n : ℕ) → verb_of word ≡ v → in_meta (word ∷ ws) used rest ≡ Some (Served o block, n) → meaning_of both_grammar (order_by v (word ∷ ws)) (skip_by v (word ∷ ws)) used rest ≡ Some (Served (Meta o) block, n)
 meta_raised_by None word ws used rest o block n is e =
     let refused : metas.order_of (word ∷ ws) ≡ Err Unknown = rw is refl in
-    let same : in_meta (word ∷ ws) used rest ≡ Some (Refusal Unknown (metas.skip_of (word ∷ ws)), used) = ap (λ (r : Result metas.Order Why). meaning_of meta_grammar r (metas.skip_of (word ∷ ws)) used rest) refused in
+    let same : in_meta (word ∷ ws) used rest ≡ Some (Refusal Unknown (metas.skip_of (word ∷ ws)), used) = ap (λ (r : Result metas.Order RefusalReason). meaning_of meta_grammar r (metas.skip_of (word ∷ ws)) used rest) refused in
     absurd (refused_never Unknown (metas.skip_of (word ∷ ws)) used o block n (sym same ∙ e))
 meta_raised_by (Some v) word ws used rest o block n is e = meta_lifted (metas.order_of (word ∷ ws)) (metas.skip_of (word ∷ ws)) used rest ∙ ap (lift_found Meta) e
 

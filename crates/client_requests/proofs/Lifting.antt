@@ -3,8 +3,8 @@ use Rattle.std.proofs.Common.{◌≡◌, ℕ, ◌+◌, ◌-◌, List, [], ◌∷
 use Rattle.mc_text.specs.Line.{TakesLine, without_cr}
 use Rattle.mc_text.specs.Word.{words, text_at, IsNextWord}
 use Rattle.mc_text.specs.declared.word.Span.{Span}
-use Rattle.request_parts.specs.declared.refusal.Why.{Why}
-use Rattle.request_parts.specs.declared.refusal.Why.TheVariants.{Unknown}
+use Rattle.request_parts.specs.declared.refusal.RefusalReason.{RefusalReason}
+use Rattle.request_parts.specs.declared.refusal.RefusalReason.TheVariants.{Unknown}
 use Rattle.request_parts.specs.declared.skip.Skip.{Skip}
 use Rattle.request_parts.specs.declared.skip.Skip.TheVariants.{Nothing}
 use Rattle.request_parts.specs.declared.block.End.{End}
@@ -32,11 +32,11 @@ rest_lifted : {A B : Type 0} (f : A → B) (o : A) (used : ℕ) (rest : List ℕ
 rest_lifted f o used rest None = refl
 rest_lifted f o used rest (Some n) = block_lifted f o used (take n rest) (end_of (drop n rest))
 
-pub classic_lifted : (r : Result texts.Order Why) (skip : Skip) (used : ℕ) (rest : List ℕ) → meaning_of both_grammar (mapped Classic r) skip used rest ≡ lift_found Classic (meaning_of classic_grammar r skip used rest)
+pub classic_lifted : (r : Result texts.Order RefusalReason) (skip : Skip) (used : ℕ) (rest : List ℕ) → meaning_of both_grammar (mapped Classic r) skip used rest ≡ lift_found Classic (meaning_of classic_grammar r skip used rest)
 classic_lifted (Err why) skip used rest = refl
 classic_lifted (Ok o) skip used rest = rest_lifted Classic o used rest _
 
-pub meta_lifted : (r : Result metas.Order Why) (skip : Skip) (used : ℕ) (rest : List ℕ) → meaning_of both_grammar (mapped Meta r) skip used rest ≡ lift_found Meta (meaning_of meta_grammar r skip used rest)
+pub meta_lifted : (r : Result metas.Order RefusalReason) (skip : Skip) (used : ℕ) (rest : List ℕ) → meaning_of both_grammar (mapped Meta r) skip used rest ≡ lift_found Meta (meaning_of meta_grammar r skip used rest)
 meta_lifted (Err why) skip used rest = refl
 meta_lifted (Ok o) skip used rest = rest_lifted Meta o used rest _
 
@@ -55,7 +55,7 @@ meta_by : (line : List Word) (word : Word) (ws : List Word) (verb : Verb) (used 
 meta_by line word ws verb used rest is some =
     let order : order_of line ≡ mapped Meta (metas.order_of line) = ap order_of is ∙ order_meta (verb_of word) verb (word ∷ ws) some ∙ ap (λ (l : List Word). mapped Meta (metas.order_of l)) (sym is) in
     let skip : skip_of line ≡ metas.skip_of line = ap skip_of is ∙ skip_meta (verb_of word) verb (word ∷ ws) some ∙ ap (λ (l : List Word). metas.skip_of l) (sym is) in
-    ap (λ (r : Result Order Why). meaning_of both_grammar r (skip_of line) used rest) order ∙ ap (λ (k : Skip). meaning_of both_grammar (mapped Meta (metas.order_of line)) k used rest) skip ∙ meta_lifted (metas.order_of line) (metas.skip_of line) used rest
+    ap (λ (r : Result Order RefusalReason). meaning_of both_grammar r (skip_of line) used rest) order ∙ ap (λ (k : Skip). meaning_of both_grammar (mapped Meta (metas.order_of line)) k used rest) skip ∙ meta_lifted (metas.order_of line) (metas.skip_of line) used rest
 
 -- the first word of a line that was taken
 module _ (bytes : List ℕ) (end used : ℕ) (line : TakesLine bytes end used) where

@@ -3,7 +3,7 @@ use Rattle.std.specs.Prelude.{ℕ, ◌+◌, Bool, false, List, [], Option, Some,
 use Rattle.std.specs.List.{AllByRecursion}
 use Rattle.mc_types.specs.Asks.{IsAsk}
 use Rattle.mc_types.specs.declared.ask.Ask.{Ask}
-use Rattle.request_parts.specs.declared.own.Own.{Own}
+use Rattle.request_parts.specs.declared.proxy_command.ProxyCommand.{ProxyCommand}
 use Rattle.request_parts.specs.Message.{Served, Refusal}
 use Rattle.text_requests.specs.Asks as texts
 use Rattle.meta_requests.specs.Asks as metas
@@ -37,7 +37,7 @@ quiet_of (Served order block) = is_quiet order
 quiet_of (Refusal why skip) = false
 
 -- what a message asks of mcgate itself
-abbrev pub own_of : Message → Option Own
+abbrev pub own_of : Message → Option ProxyCommand
 own_of (Served order block) = own_by order
 own_of (Refusal why skip) = None
 

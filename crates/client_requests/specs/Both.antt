@@ -1,10 +1,10 @@
 -- Both dialects as one grammar: the command word tells which one a line is of. Source: memcached's protocol.txt, "Commands" and "Meta Commands".
 use Rattle.std.specs.Prelude.{ℕ, List, [], ◌∷◌, Option, Some, None, Result, Ok, Err}
-use Rattle.request_parts.specs.declared.refusal.Why.{Why}
-use Rattle.request_parts.specs.declared.refusal.Why.TheVariants.{Unknown}
+use Rattle.request_parts.specs.declared.refusal.RefusalReason.{RefusalReason}
+use Rattle.request_parts.specs.declared.refusal.RefusalReason.TheVariants.{Unknown}
 use Rattle.request_parts.specs.declared.skip.Skip.{Skip}
 use Rattle.request_parts.specs.declared.skip.Skip.TheVariants.{Nothing}
-use Rattle.request_parts.specs.declared.own.Own.{Own}
+use Rattle.request_parts.specs.declared.proxy_command.ProxyCommand.{ProxyCommand}
 use Rattle.request_parts.specs.Tests.{Word}
 use Rattle.request_parts.specs.Grammar.{Grammar}
 use Rattle.request_parts.specs.Message.{Message, Served, Refusal, Found}
@@ -20,16 +20,16 @@ pub data Order : Type 0 where
   Classic : (order : texts.Order) → Order
   Meta : (order : metas.Order) → Order
 
-abbrev pub mapped : {A B : Type 0} → (A → B) → Result A Why → Result B Why
+abbrev pub mapped : {A B : Type 0} → (A → B) → Result A RefusalReason → Result B RefusalReason
 mapped f (Ok x) = Ok (f x)
 mapped f (Err why) = Err why
 
 -- a line whose first word means this among the meta commands
-abbrev pub order_by : Option Verb → List Word → Result Order Why
+abbrev pub order_by : Option Verb → List Word → Result Order RefusalReason
 order_by None line = mapped Classic (texts.order_of line)
 order_by (Some verb) line = mapped Meta (metas.order_of line)
 
-abbrev pub order_of : List Word → Result Order Why
+abbrev pub order_of : List Word → Result Order RefusalReason
 order_of [] = Err Unknown
 order_of (word ∷ words) = order_by (verb_of word) (word ∷ words)
 
@@ -45,7 +45,7 @@ abbrev pub block_len : Order → Option ℕ
 block_len (Classic order) = text_lines.block_len order
 block_len (Meta order) = meta_lines.block_len order
 
-abbrev pub own_by : Order → Option Own
+abbrev pub own_by : Order → Option ProxyCommand
 own_by (Classic order) = text_lines.own_by order
 own_by (Meta order) = meta_lines.own_by order
 

@@ -9,7 +9,7 @@ use crate::request::Request;
 use mc_text::ends::Line;
 use mc_text::reading::line;
 use mc_text::word::next_word;
-use request_parts::{Skip, Why};
+use request_parts::{RefusalReason, Skip};
 
 /// What the bytes of a client begin with.
 #[derive(Clone, Copy)]
@@ -21,7 +21,11 @@ pub enum Read {
     /// A message that is served.
     Request(Request),
     /// A message that is refused: it takes `used` bytes, and what `skip` says is passed over after them.
-    Refused { why: Why, used: usize, skip: Skip },
+    Refused {
+        why: RefusalReason,
+        used: usize,
+        skip: Skip,
+    },
 }
 
 fn of_classic(read: text_requests::Read) -> Read
@@ -62,7 +66,7 @@ pub fn read_request(bytes: &[u8]) -> Read
         Line::At { end, used } => match next_word(&bytes[..end], 0) {
             None => {
                 return Read::Refused {
-                    why: Why::Unknown,
+                    why: RefusalReason::Unknown,
                     used,
                     skip: Skip::Nothing,
                 };

@@ -6,7 +6,7 @@ ghost use Rattle.client_requests.specs.Message.{IsReadFrom, message_in, used_of}
 ghost use Rattle.client_requests.specs.Asks.{asks_of, quiet_of, own_of, request_of, taken_of, counted, IsWalk, IsClientAsk};
 
 use mc_types::Ask;
-use request_parts::Own;
+use request_parts::ProxyCommand;
 use std::alloc::{AllocError, Global};
 
 /// A request that is served, in the dialect of its command word.
@@ -44,7 +44,7 @@ impl Request {
     }
 
     /// What it asks of mcgate itself, if it does. It takes no memory.
-    pub fn own(&self) -> Option<Own>
+    pub fn own(&self) -> Option<ProxyCommand>
         ensures { (bytes : List ℕ) → result ≡ own_of (message_in bytes self.now) }
     {
         match self {

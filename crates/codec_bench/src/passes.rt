@@ -11,7 +11,8 @@ use mc_text::search::first_byte;
 use mc_types::Ask;
 use std::alloc::{AllocError, Global};
 use text_codec::{
-    AnswerRead, Read, Request, Skip, Why, read_answer, read_request, write_answer, write_ask,
+    AnswerRead, Read, RefusalReason, Request, Skip, read_answer, read_request, write_answer,
+    write_ask,
 };
 
 // what stands after the first line, if it ends
@@ -44,7 +45,7 @@ fn passed(rest: &[u8], skip: Skip) -> &[u8] {
     }
 }
 
-fn behind_refused(bytes: &[u8], why: Why, used: usize, skip: Skip) -> &[u8]
+fn behind_refused(bytes: &[u8], why: RefusalReason, used: usize, skip: Skip) -> &[u8]
     requires { Begins bytes.now (Refusal why skip) used }
 {
     let _why = why;

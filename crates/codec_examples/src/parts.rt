@@ -1,24 +1,36 @@
 //! The lines of refusals, and keys of a line.
 
-use request_parts::Why;
+use request_parts::RefusalReason;
 
 #[test]
 fn refusal_lines(rt: HostRuntime) {
     for (why, line) in [
-        (Why::Unknown, b"ERROR".as_slice()),
-        (Why::BadKey, b"CLIENT_ERROR bad key".as_slice()),
-        (Why::BadNumber, b"CLIENT_ERROR bad number".as_slice()),
+        (RefusalReason::Unknown, b"ERROR".as_slice()),
+        (RefusalReason::BadKey, b"CLIENT_ERROR bad key".as_slice()),
         (
-            Why::FlagNotServed,
+            RefusalReason::BadNumber,
+            b"CLIENT_ERROR bad number".as_slice(),
+        ),
+        (
+            RefusalReason::FlagNotServed,
             b"CLIENT_ERROR flag not served".as_slice(),
         ),
-        (Why::FlagTwice, b"CLIENT_ERROR flag twice".as_slice()),
-        (Why::BadToken, b"CLIENT_ERROR bad token".as_slice()),
         (
-            Why::TooLarge,
+            RefusalReason::FlagTwice,
+            b"CLIENT_ERROR flag twice".as_slice(),
+        ),
+        (
+            RefusalReason::BadToken,
+            b"CLIENT_ERROR bad token".as_slice(),
+        ),
+        (
+            RefusalReason::TooLarge,
             b"SERVER_ERROR object too large for cache".as_slice(),
         ),
-        (Why::BadChunk, b"CLIENT_ERROR bad data chunk".as_slice()),
+        (
+            RefusalReason::BadChunk,
+            b"CLIENT_ERROR bad data chunk".as_slice(),
+        ),
     ] {
         assert!(rt; why.line() == line);
     }

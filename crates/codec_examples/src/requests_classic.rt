@@ -2,9 +2,9 @@
 
 use bytes::BytesMut;
 use std::test::Fail;
-use text_requests::{Own, Read, Request, Skip, Why, read_request, write_ask};
+use text_requests::{ProxyCommand, Read, RefusalReason, Request, Skip, read_request, write_ask};
 
-fn refused(bytes: &[u8], why: Why, used: usize, skip: Skip) -> bool {
+fn refused(bytes: &[u8], why: RefusalReason, used: usize, skip: Skip) -> bool {
     match read_request(bytes) {
         Read::Refused {
             why: is,
@@ -28,7 +28,7 @@ fn bad_data_chunk(rt: HostRuntime) {
     assert!(rt;
         refused(
             b"set a 0 0 1\r\nxyz\r\nget a\r\n",
-            Why::BadChunk,
+            RefusalReason::BadChunk,
             14,
             Skip::ThroughNewline
         )
@@ -36,7 +36,7 @@ fn bad_data_chunk(rt: HostRuntime) {
     assert!(rt;
         refused(
             b"set a 0 0 1\r\nx\r\r\n",
-            Why::BadChunk,
+            RefusalReason::BadChunk,
             14,
             Skip::ThroughNewline
         )
@@ -44,7 +44,7 @@ fn bad_data_chunk(rt: HostRuntime) {
     assert!(rt;
         refused(
             b"set a 0 0 1\r\nx\n",
-            Why::BadChunk,
+            RefusalReason::BadChunk,
             14,
             Skip::ThroughNewline
         )
@@ -55,16 +55,30 @@ fn bad_data_chunk(rt: HostRuntime) {
 
 #[test]
 fn unknown_words_and_noreply(rt: HostRuntime) {
-    assert!(rt; refused(b" \r\n", Why::Unknown, 3, Skip::Nothing));
-    assert!(rt; refused(b"foo\r\n", Why::Unknown, 5, Skip::Nothing));
-    assert!(rt; refused(b"GET a\r\n", Why::Unknown, 7, Skip::Nothing));
-    assert!(rt; refused(b"get\r\n", Why::Unknown, 5, Skip::Nothing));
-    assert!(rt; refused(b"mn\r\n", Why::Unknown, 4, Skip::Nothing));
-    assert!(rt; refused(b"ms a 1\r\n", Why::Unknown, 8, Skip::Nothing));
-    assert!(rt; refused(b"version 1\r\n", Why::Unknown, 11, Skip::Nothing));
-    assert!(rt; refused(b"delete a 1\r\n", Why::Unknown, 12, Skip::Nothing));
-    assert!(rt; refused(b"delete a noreply 0\r\n", Why::Unknown, 20, Skip::Nothing));
-    assert!(rt; refused(b"set a 0 0 1 no\r\n", Why::Unknown, 16, Skip::Bytes(3)));
+    assert!(rt; refused(b" \r\n", RefusalReason::Unknown, 3, Skip::Nothing));
+    assert!(rt; refused(b"foo\r\n", RefusalReason::Unknown, 5, Skip::Nothing));
+    assert!(rt; refused(b"GET a\r\n", RefusalReason::Unknown, 7, Skip::Nothing));
+    assert!(rt; refused(b"get\r\n", RefusalReason::Unknown, 5, Skip::Nothing));
+    assert!(rt; refused(b"mn\r\n", RefusalReason::Unknown, 4, Skip::Nothing));
+    assert!(rt; refused(b"ms a 1\r\n", RefusalReason::Unknown, 8, Skip::Nothing));
+    assert!(rt; refused(b"version 1\r\n", RefusalReason::Unknown, 11, Skip::Nothing));
+    assert!(rt; refused(b"delete a 1\r\n", RefusalReason::Unknown, 12, Skip::Nothing));
+    assert!(rt;
+        refused(
+            b"delete a noreply 0\r\n",
+            RefusalReason::Unknown,
+            20,
+            Skip::Nothing
+        )
+    );
+    assert!(rt;
+        refused(
+            b"set a 0 0 1 no\r\n",
+            RefusalReason::Unknown,
+            16,
+            Skip::Bytes(3)
+        )
+    );
     assert!(rt; served(b"delete a 0\r\n", false));
     assert!(rt; served(b"delete a noreply\r\n", true));
     assert!(rt; served(b"delete a 0 noreply\r\n", true));
@@ -79,7 +93,7 @@ fn refusals_in_order(rt: HostRuntime) {
     assert!(rt;
         refused(
             b"set \x7f x 0 4294967295\r\n",
-            Why::BadKey,
+            RefusalReason::BadKey,
             22,
             Skip::Bytes(4_294_967_297)
         )
@@ -87,7 +101,7 @@ fn refusals_in_order(rt: HostRuntime) {
     assert!(rt;
         refused(
             b"set a x 0 4294967295\r\n",
-            Why::BadNumber,
+            RefusalReason::BadNumber,
             22,
             Skip::Bytes(4_294_967_297)
         )
@@ -95,7 +109,7 @@ fn refusals_in_order(rt: HostRuntime) {
     assert!(rt;
         refused(
             b"set a 0 0 4294967295\r\n",
-            Why::TooLarge,
+            RefusalReason::TooLarge,
             22,
             Skip::Bytes(4_294_967_297)
         )
@@ -103,7 +117,7 @@ fn refusals_in_order(rt: HostRuntime) {
     assert!(rt;
         refused(
             b"set a 0 0 4294967296\r\n",
-            Why::BadNumber,
+            RefusalReason::BadNumber,
             22,
             Skip::Nothing
         )
@@ -111,7 +125,7 @@ fn refusals_in_order(rt: HostRuntime) {
     assert!(rt;
         refused(
             b"set a 0 0 1048577\r\n",
-            Why::TooLarge,
+            RefusalReason::TooLarge,
             19,
             Skip::Bytes(1_048_579)
         )
@@ -119,19 +133,33 @@ fn refusals_in_order(rt: HostRuntime) {
     assert!(rt;
         refused(
             b"set a 4294967296 0 1\r\n",
-            Why::BadNumber,
+            RefusalReason::BadNumber,
             22,
             Skip::Bytes(3)
         )
     );
-    assert!(rt; refused(b"cas a 0 0 1 x\r\n", Why::BadNumber, 15, Skip::Bytes(3)));
-    assert!(rt; refused(b"cas a 0 0 1\r\n", Why::Unknown, 13, Skip::Bytes(3)));
-    assert!(rt; refused(b"gat x \x7f\r\n", Why::BadKey, 9, Skip::Nothing));
-    assert!(rt; refused(b"gat x a\r\n", Why::BadNumber, 9, Skip::Nothing));
+    assert!(rt;
+        refused(
+            b"cas a 0 0 1 x\r\n",
+            RefusalReason::BadNumber,
+            15,
+            Skip::Bytes(3)
+        )
+    );
+    assert!(rt;
+        refused(
+            b"cas a 0 0 1\r\n",
+            RefusalReason::Unknown,
+            13,
+            Skip::Bytes(3)
+        )
+    );
+    assert!(rt; refused(b"gat x \x7f\r\n", RefusalReason::BadKey, 9, Skip::Nothing));
+    assert!(rt; refused(b"gat x a\r\n", RefusalReason::BadNumber, 9, Skip::Nothing));
     assert!(rt;
         refused(
             b"incr a 18446744073709551616\r\n",
-            Why::BadNumber,
+            RefusalReason::BadNumber,
             29,
             Skip::Nothing
         )
@@ -139,7 +167,7 @@ fn refusals_in_order(rt: HostRuntime) {
     assert!(rt;
         refused(
             b"touch a 9223372036854775808\r\n",
-            Why::BadNumber,
+            RefusalReason::BadNumber,
             29,
             Skip::Nothing
         )
@@ -155,10 +183,10 @@ fn key_lengths(rt: HostRuntime) -> Result<(), Fail> {
     assert!(rt; served(bytes.as_slice(), false));
     bytes.truncate(254);
     bytes.extend_from_slice(b"k\r\n")?;
-    assert!(rt; refused(bytes.as_slice(), Why::BadKey, 257, Skip::Nothing));
+    assert!(rt; refused(bytes.as_slice(), RefusalReason::BadKey, 257, Skip::Nothing));
     assert!(rt; served(b"get \x80\xff\r\n", false));
-    assert!(rt; refused(b"get a \x7f\r\n", Why::BadKey, 9, Skip::Nothing));
-    assert!(rt; refused(b"get a\tb\r\n", Why::BadKey, 9, Skip::Nothing));
+    assert!(rt; refused(b"get a \x7f\r\n", RefusalReason::BadKey, 9, Skip::Nothing));
+    assert!(rt; refused(b"get a\tb\r\n", RefusalReason::BadKey, 9, Skip::Nothing));
     Ok(())
 }
 
@@ -264,8 +292,8 @@ fn one_spelling(rt: HostRuntime) -> Result<(), Fail> {
 #[test]
 fn asked_of_itself(rt: HostRuntime) {
     for (bytes, want) in [
-        (b"version\r\n".as_slice(), Own::Version),
-        (b"quit\r\n".as_slice(), Own::Quit),
+        (b"version\r\n".as_slice(), ProxyCommand::Version),
+        (b"quit\r\n".as_slice(), ProxyCommand::Quit),
     ] {
         match read_request(bytes) {
             Read::Request(request) => {
@@ -274,5 +302,5 @@ fn asked_of_itself(rt: HostRuntime) {
             _ => assert!(rt; false),
         }
     }
-    assert!(rt; Why::BadChunk.line() == b"CLIENT_ERROR bad data chunk".as_slice());
+    assert!(rt; RefusalReason::BadChunk.line() == b"CLIENT_ERROR bad data chunk".as_slice());
 }

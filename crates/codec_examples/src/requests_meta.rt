@@ -1,9 +1,9 @@
 //! Requests with known answers: refusals by the table, cuts, and the one spelling.
 use bytes::BytesMut;
-use meta_requests::{Own, Read, Request, Skip, Why, read_request, write_ask};
+use meta_requests::{ProxyCommand, Read, RefusalReason, Request, Skip, read_request, write_ask};
 use std::test::Fail;
 
-fn refused(bytes: &[u8], why: Why, skip: Skip) -> bool {
+fn refused(bytes: &[u8], why: RefusalReason, skip: Skip) -> bool {
     match read_request(bytes) {
         Read::Refused {
             why: is,
@@ -39,10 +39,22 @@ fn flag_not_served(rt: HostRuntime) {
         } else {
             Skip::Nothing
         };
-        assert!(rt; refused(line, Why::FlagNotServed, skip));
+        assert!(rt; refused(line, RefusalReason::FlagNotServed, skip));
     }
-    assert!(rt; refused(b"ms a 1 C1 ME\r\n", Why::FlagNotServed, Skip::Bytes(3)));
-    assert!(rt; refused(b"ms a 1 Ma C1\r\n", Why::FlagNotServed, Skip::Bytes(3)));
+    assert!(rt;
+        refused(
+            b"ms a 1 C1 ME\r\n",
+            RefusalReason::FlagNotServed,
+            Skip::Bytes(3)
+        )
+    );
+    assert!(rt;
+        refused(
+            b"ms a 1 Ma C1\r\n",
+            RefusalReason::FlagNotServed,
+            Skip::Bytes(3)
+        )
+    );
     assert!(rt; matches!(read_request(b"ms a 1 C1 Ms\r\n"), Read::More));
     assert!(rt; matches!(read_request(b"ms a 1 C1\r\n"), Read::More));
 }
@@ -51,66 +63,87 @@ fn flag_not_served(rt: HostRuntime) {
 #[test]
 fn refusals_in_order(rt: HostRuntime) {
     for (line, why) in [
-        (b" \r\n".as_slice(), Why::Unknown),
-        (b"MG a\r\n".as_slice(), Why::Unknown),
-        (b"me a\r\n".as_slice(), Why::Unknown),
-        (b"get a\r\n".as_slice(), Why::Unknown),
-        (b"mg\r\n".as_slice(), Why::Unknown),
-        (b"md\r\n".as_slice(), Why::Unknown),
-        (b"ma\r\n".as_slice(), Why::Unknown),
-        (b"ms a\r\n".as_slice(), Why::Unknown),
-        (b"mn 1\r\n".as_slice(), Why::Unknown),
-        (b"mg \x7f z\r\n".as_slice(), Why::BadKey),
-        (b"md \x7f z\r\n".as_slice(), Why::BadKey),
-        (b"ma \x7f z\r\n".as_slice(), Why::BadKey),
-        (b"ms \x7f x z\r\n".as_slice(), Why::BadKey),
-        (b"ms a x z\r\n".as_slice(), Why::BadNumber),
-        (b"ms a 4294967296 z\r\n".as_slice(), Why::BadNumber),
-        (b"mg a vx z\r\n".as_slice(), Why::BadToken),
-        (b"mg a v v z\r\n".as_slice(), Why::FlagTwice),
-        (b"mg a v vx\r\n".as_slice(), Why::FlagTwice),
-        (b"mg a z vx v v\r\n".as_slice(), Why::FlagNotServed),
-        (b"mg a Tx\r\n".as_slice(), Why::BadToken),
-        (b"mg a T9223372036854775808\r\n".as_slice(), Why::BadToken),
-        (b"mg a O\r\n".as_slice(), Why::BadToken),
-        (b"md a q q\r\n".as_slice(), Why::FlagTwice),
-        (b"md a C18446744073709551616\r\n".as_slice(), Why::BadToken),
-        (b"md a C\r\n".as_slice(), Why::BadToken),
-        (b"ma a D1 D1\r\n".as_slice(), Why::FlagTwice),
-        (b"ma a D-1\r\n".as_slice(), Why::BadToken),
-        (b"ma a MS\r\n".as_slice(), Why::BadToken),
-        (b"ma a MII\r\n".as_slice(), Why::BadToken),
+        (b" \r\n".as_slice(), RefusalReason::Unknown),
+        (b"MG a\r\n".as_slice(), RefusalReason::Unknown),
+        (b"me a\r\n".as_slice(), RefusalReason::Unknown),
+        (b"get a\r\n".as_slice(), RefusalReason::Unknown),
+        (b"mg\r\n".as_slice(), RefusalReason::Unknown),
+        (b"md\r\n".as_slice(), RefusalReason::Unknown),
+        (b"ma\r\n".as_slice(), RefusalReason::Unknown),
+        (b"ms a\r\n".as_slice(), RefusalReason::Unknown),
+        (b"mn 1\r\n".as_slice(), RefusalReason::Unknown),
+        (b"mg \x7f z\r\n".as_slice(), RefusalReason::BadKey),
+        (b"md \x7f z\r\n".as_slice(), RefusalReason::BadKey),
+        (b"ma \x7f z\r\n".as_slice(), RefusalReason::BadKey),
+        (b"ms \x7f x z\r\n".as_slice(), RefusalReason::BadKey),
+        (b"ms a x z\r\n".as_slice(), RefusalReason::BadNumber),
+        (
+            b"ms a 4294967296 z\r\n".as_slice(),
+            RefusalReason::BadNumber,
+        ),
+        (b"mg a vx z\r\n".as_slice(), RefusalReason::BadToken),
+        (b"mg a v v z\r\n".as_slice(), RefusalReason::FlagTwice),
+        (b"mg a v vx\r\n".as_slice(), RefusalReason::FlagTwice),
+        (
+            b"mg a z vx v v\r\n".as_slice(),
+            RefusalReason::FlagNotServed,
+        ),
+        (b"mg a Tx\r\n".as_slice(), RefusalReason::BadToken),
+        (
+            b"mg a T9223372036854775808\r\n".as_slice(),
+            RefusalReason::BadToken,
+        ),
+        (b"mg a O\r\n".as_slice(), RefusalReason::BadToken),
+        (b"md a q q\r\n".as_slice(), RefusalReason::FlagTwice),
+        (
+            b"md a C18446744073709551616\r\n".as_slice(),
+            RefusalReason::BadToken,
+        ),
+        (b"md a C\r\n".as_slice(), RefusalReason::BadToken),
+        (b"ma a D1 D1\r\n".as_slice(), RefusalReason::FlagTwice),
+        (b"ma a D-1\r\n".as_slice(), RefusalReason::BadToken),
+        (b"ma a MS\r\n".as_slice(), RefusalReason::BadToken),
+        (b"ma a MII\r\n".as_slice(), RefusalReason::BadToken),
     ] {
         assert!(rt; refused(line, why, Skip::Nothing));
     }
     for (line, why) in [
-        (b"ms a 1 c c\r\n".as_slice(), Why::FlagTwice),
-        (b"ms a 1 F4294967296\r\n".as_slice(), Why::BadToken),
-        (b"ms a 1 MI\r\n".as_slice(), Why::BadToken),
-        (b"ms a 1 C1 MA Fx\r\n".as_slice(), Why::BadToken),
-        (b"ms \x7f 1\r\n".as_slice(), Why::BadKey),
+        (b"ms a 1 c c\r\n".as_slice(), RefusalReason::FlagTwice),
+        (
+            b"ms a 1 F4294967296\r\n".as_slice(),
+            RefusalReason::BadToken,
+        ),
+        (b"ms a 1 MI\r\n".as_slice(), RefusalReason::BadToken),
+        (b"ms a 1 C1 MA Fx\r\n".as_slice(), RefusalReason::BadToken),
+        (b"ms \x7f 1\r\n".as_slice(), RefusalReason::BadKey),
     ] {
         assert!(rt; refused(line, why, Skip::Bytes(3)));
     }
     assert!(rt;
         refused(
             b"ms a 1048577 C1 MA\r\n",
-            Why::FlagNotServed,
+            RefusalReason::FlagNotServed,
             Skip::Bytes(1_048_579)
         )
     );
-    assert!(rt; refused(b"ms a 1048577\r\n", Why::TooLarge, Skip::Bytes(1_048_579)));
+    assert!(rt;
+        refused(
+            b"ms a 1048577\r\n",
+            RefusalReason::TooLarge,
+            Skip::Bytes(1_048_579)
+        )
+    );
     assert!(rt;
         refused(
             b"ms a 4294967295\r\n",
-            Why::TooLarge,
+            RefusalReason::TooLarge,
             Skip::Bytes(4_294_967_297)
         )
     );
     assert!(rt; matches!(read_request(b"ms a 1048576\r\n"), Read::More));
     match read_request(b"ms a 1\r\nxyz\r\n") {
         Read::Refused { why, used, skip } => assert!(rt;
-            why == Why::BadChunk && used == 9 && skip == Skip::ThroughNewline
+            why == RefusalReason::BadChunk && used == 9 && skip == Skip::ThroughNewline
         ),
         _ => assert!(rt; false),
     }
@@ -124,8 +157,8 @@ fn texts_of_32_and_33_bytes(rt: HostRuntime) -> Result<(), Fail> {
     assert!(rt; served(bytes.as_slice(), false));
     bytes.truncate(38);
     bytes.extend_from_slice(b"~\r\n")?;
-    assert!(rt; refused(bytes.as_slice(), Why::BadToken, Skip::Nothing));
-    assert!(rt; refused(b"mg a O\x80\r\n", Why::BadToken, Skip::Nothing));
+    assert!(rt; refused(bytes.as_slice(), RefusalReason::BadToken, Skip::Nothing));
+    assert!(rt; refused(b"mg a O\x80\r\n", RefusalReason::BadToken, Skip::Nothing));
     Ok(())
 }
 
@@ -212,7 +245,9 @@ fn asked_of_itself(rt: HostRuntime) {
     match read_request(b"mn\r\nmg a\r\n") {
         Read::Request(request) => {
             assert!(rt;
-                request.own() == Some(Own::Noop) && request.asks() == 0 && request.used == 4
+                request.own() == Some(ProxyCommand::Noop)
+                    && request.asks() == 0
+                    && request.used == 4
             );
         }
         _ => assert!(rt; false),

@@ -1,6 +1,6 @@
 //! Both dialects on one connection.
 use client_requests::{Read, Request, read_request};
-use request_parts::{Skip, Why};
+use request_parts::{RefusalReason, Skip};
 
 #[test]
 fn dialects_mixed(rt: HostRuntime) {
@@ -19,10 +19,10 @@ fn dialects_mixed(rt: HostRuntime) {
     assert!(rt; matches!(read_request(b"mn\r\n"), Read::Request(Request::Meta(_))));
     assert!(rt; matches!(read_request(b"ms a 1\r\n"), Read::More));
     for (bytes, want) in [
-        (b"me a\r\n".as_slice(), Why::Unknown),
-        (b"mgx a\r\n".as_slice(), Why::Unknown),
-        (b" \r\n".as_slice(), Why::Unknown),
-        (b"mg a z\r\n".as_slice(), Why::FlagNotServed),
+        (b"me a\r\n".as_slice(), RefusalReason::Unknown),
+        (b"mgx a\r\n".as_slice(), RefusalReason::Unknown),
+        (b" \r\n".as_slice(), RefusalReason::Unknown),
+        (b"mg a z\r\n".as_slice(), RefusalReason::FlagNotServed),
     ] {
         match read_request(bytes) {
             Read::Refused { why, used, skip } => assert!(rt;

@@ -5,7 +5,7 @@ use mc_types::{Answer, Ask, Body, Code, Dialect, ErrorText, Fields, Key, Op, Own
 use std::alloc::{AllocError, Global};
 use std::test::Fail;
 use text_codec::{
-    AnswerRead, Own, Read, Request, TextStream, ends_message, read_answer, read_request,
+    AnswerRead, ProxyCommand, Read, Request, TextStream, ends_message, read_answer, read_request,
     write_long_line, write_own, write_part, write_refusal,
 };
 
@@ -240,9 +240,9 @@ fn a_line_too_long(rt: HostRuntime) -> Result<(), Fail> {
 #[test]
 fn answers_of_its_own(rt: HostRuntime) -> Result<(), Fail> {
     let mut out = BytesMut::new(rt.alloc());
-    write_own(Own::Version, &mut out)?;
-    write_own(Own::Quit, &mut out)?;
-    write_own(Own::Noop, &mut out)?;
+    write_own(ProxyCommand::Version, &mut out)?;
+    write_own(ProxyCommand::Quit, &mut out)?;
+    write_own(ProxyCommand::Noop, &mut out)?;
     assert_eq!(rt; out.as_slice(), b"VERSION mcgate-1\r\nMN\r\n".as_slice());
     Ok(())
 }

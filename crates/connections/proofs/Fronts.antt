@@ -2,9 +2,9 @@
 use Rattle.std.proofs.Common.{◌≡◌, ℕ, ◌<◌, ◌≤◌, List, [], ◌∷◌, length, Option, Some, None, refl, ap, arith, slice_get}
 use Rattle.mc_types.specs.declared.ask.Ask.{Ask}
 use Rattle.mc_runs.specs.Protocol.{IsStuck}
-use Rattle.request_parts.specs.declared.own.Own.{Own}
-use Rattle.request_parts.specs.declared.own.Own.TheVariants.{Version, Quit, Noop}
-use Rattle.request_parts.specs.declared.refusal.Why.{Why}
+use Rattle.request_parts.specs.declared.proxy_command.ProxyCommand.{ProxyCommand}
+use Rattle.request_parts.specs.declared.proxy_command.ProxyCommand.TheVariants.{Version, Quit, Noop}
+use Rattle.request_parts.specs.declared.refusal.RefusalReason.{RefusalReason}
 use Rattle.request_parts.specs.declared.skip.Skip.{Skip}
 use Rattle.request_parts.specs.declared.skip.Skip.TheVariants.{Nothing, Bytes, ThroughNewline}
 use Rattle.text_requests.specs.Order.{Retrieval, Storage, Swapping, Deletion, Touching, Counting, OfItself}
@@ -29,7 +29,7 @@ empty_is [] e = refl
 empty_is (ask ∷ asks) e = absurd (omega arith)
 
 -- after what mcgate itself was asked no more is held
-pub own_len : (own : Option Own) (rest : List ℕ) → length (held_at (behind_own own rest)) ≤ length rest
+pub own_len : (own : Option ProxyCommand) (rest : List ℕ) → length (held_at (behind_own own rest)) ≤ length rest
 own_len None rest = omega arith
 own_len (Some Version) rest = omega arith
 own_len (Some Quit) rest = omega arith
@@ -68,7 +68,7 @@ read_front Closed read is some = absurd (some is)
 pub request_is_some : (request : Request) → reads.Request request ≡ reads.More → ⊥
 request_is_some request e = cc
 
-pub refused_is_some : (why : Why) (used : ℕ) (skip : Skip) → reads.Refused why used skip ≡ reads.More → ⊥
+pub refused_is_some : (why : RefusalReason) (used : ℕ) (skip : Skip) → reads.Refused why used skip ≡ reads.More → ⊥
 refused_is_some why used skip e = cc
 
 pub long_is_some : reads.TooLong ≡ reads.More → ⊥

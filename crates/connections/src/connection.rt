@@ -13,7 +13,8 @@ use bytes::BytesMut;
 use mc_types::{Answer, Ask};
 use std::alloc::{AllocError, Global};
 use text_codec::{
-    Own, Skip, TextStream, Why, ends_message, write_long_line, write_own, write_part, write_refusal,
+    ProxyCommand, RefusalReason, Skip, TextStream, ends_message, write_long_line, write_own,
+    write_part, write_refusal,
 };
 
 /// One client: the bytes that it sent and that were not done yet, and the output that it was not given yet.
@@ -44,7 +45,7 @@ impl Connection {
     }
 
     /// A refused message is answered and done. The only error is running out of memory, which leaves the connection as it was.
-    pub fn refuse(&mut self, why: Why, used: usize, skip: Skip) -> Result<(), AllocError>
+    pub fn refuse(&mut self, why: RefusalReason, used: usize, skip: Skip) -> Result<(), AllocError>
         requires { used ≤ length (held_at self.old.stream) }
         ensures ok { OnOk result ((held : List ℕ) → self.old.stream ≡ Stands Nothing held → GoesTo self.old (skipped skip (drop used held)) (refusal_text why) self.new) }
         ensures err { OnErr result (GoesTo self.old self.old.stream [] self.new) }
@@ -67,7 +68,7 @@ impl Connection {
 
     /// A message that asks mcgate itself, or nothing, is answered and done. The only error is running out of memory, which
     /// leaves the connection as it was.
-    pub fn answer_own(&mut self, own: Option<Own>, used: usize) -> Result<(), AllocError>
+    pub fn answer_own(&mut self, own: Option<ProxyCommand>, used: usize) -> Result<(), AllocError>
         requires { used ≤ length (held_at self.old.stream) }
         ensures ok { OnOk result ((held : List ℕ) → self.old.stream ≡ Stands Nothing held → GoesTo self.old (behind_own own (drop used held)) (own_passed own) self.new) }
         ensures err { OnErr result (GoesTo self.old self.old.stream [] self.new) }
@@ -76,7 +77,7 @@ impl Connection {
             write_own(own, &mut self.output)?;
         }
         self.stream.pass_request(used);
-        if let Some(Own::Quit) = own {
+        if let Some(ProxyCommand::Quit) = own {
             self.stream.close();
         }
         Ok(())

@@ -1,8 +1,8 @@
 -- What is done message by message.
 use Rattle.std.proofs.Common.{◌≡◌, ℕ, ◌+◌, Bool, true, false, List, [], length, drop, Option, refl, sym, ap, ◌∙◌, subst, arith}
 use Rattle.mc_text.specs.Line.{IsTooLong}
-use Rattle.request_parts.specs.declared.own.Own.{Own}
-use Rattle.request_parts.specs.declared.refusal.Why.{Why}
+use Rattle.request_parts.specs.declared.proxy_command.ProxyCommand.{ProxyCommand}
+use Rattle.request_parts.specs.declared.refusal.RefusalReason.{RefusalReason}
 use Rattle.request_parts.specs.declared.skip.Skip.{Skip}
 use Rattle.request_parts.specs.declared.skip.Skip.TheVariants.{Nothing}
 use Rattle.client_requests.specs.declared.request.Request.{Request}
@@ -26,14 +26,14 @@ use Rattle.connections.proofs.Requests.{own_next, own_text}
 use Rattle.fleet_run.proofs.Advancing.{passes, advances_on}
 
 -- a request without an ask: what mcgate itself was asked
-pub own_done : (old new : Connection) (router : Router) (fleet : MemoryFleet) (request : Request) (own : Option Own) (used : ℕ) → used ≡ used_of request → (front : IsFront old request) → length (asks_of (message_in front.held request)) ≡ 0 → own ≡ own_of (message_in front.held request)
+pub own_done : (old new : Connection) (router : Router) (fleet : MemoryFleet) (request : Request) (own : Option ProxyCommand) (used : ℕ) → used ≡ used_of request → (front : IsFront old request) → length (asks_of (message_in front.held request)) ≡ 0 → own ≡ own_of (message_in front.held request)
     → GoesTo old (behind_own own (drop used front.held)) (own_passed own) new → ServesRequest old router fleet new router fleet
 own_done old new router fleet request own used used_is front none own_is told =
     let held : List ℕ = front.held in
     let g : GoesTo old (behind_own own (drop (used_of request) held)) (own_passed own) new = subst (λ (n : ℕ). GoesTo old (behind_own own (drop n held)) (own_passed own) new) used_is told in
     let m : Message = message_in held request in
     let rest : List ℕ = drop (used_of request) held in
-    let next : behind_own own rest ≡ behind m rest = ap (λ (o : Option Own). behind_own o rest) own_is ∙ own_next held request rest in
+    let next : behind_own own rest ≡ behind m rest = ap (λ (o : Option ProxyCommand). behind_own o rest) own_is ∙ own_next held request rest in
     let text : own_passed own ≡ memcached_text.passed (Whole m) = ap own_passed own_is ∙ own_text held request in
     let reads : ReadsNext old.stream (Whole m) (behind m rest) = subst (λ (p : Place). ReadsNext p (Whole m) (behind m rest)) (sym front.place) (used_of request, front.read.begins, refl) in
     record {
@@ -42,7 +42,7 @@ own_done old new router fleet request own used used_is front none own_is told =
     }
 
 -- a refused message
-pub refused_done : (old new : Connection) (router : Router) (fleet : MemoryFleet) (held : List ℕ) (why : Why) (used : ℕ) (skip : Skip) → old.stream ≡ Stands Nothing held → Begins held (Refusal why skip) used → GoesTo old (skipped skip (drop used held)) (refusal_text why) new → ServesRequest old router fleet new router fleet
+pub refused_done : (old new : Connection) (router : Router) (fleet : MemoryFleet) (held : List ℕ) (why : RefusalReason) (used : ℕ) (skip : Skip) → old.stream ≡ Stands Nothing held → Begins held (Refusal why skip) used → GoesTo old (skipped skip (drop used held)) (refusal_text why) new → ServesRequest old router fleet new router fleet
 refused_done old new router fleet held why used skip place begins g =
     let said : Said = Whole (Refusal why skip) in
     let next : Place = skipped skip (drop used held) in

@@ -3,7 +3,7 @@ use Rattle.std.proofs.Common.{◌≡◌, ℕ, ◌+◌, ◌-◌, ◌≤◌, List,
 use Rattle.std.proofs.lemmas.List.{length-append, take_at}
 use Rattle.mc_text.specs.Line.{TakesLine, without_cr}
 use Rattle.mc_text.specs.Word.{words, text_at}
-use Rattle.request_parts.specs.declared.refusal.Why.TheVariants.{Unknown}
+use Rattle.request_parts.specs.declared.refusal.RefusalReason.TheVariants.{Unknown}
 use Rattle.request_parts.specs.declared.skip.Skip.TheVariants.{Nothing}
 use Rattle.request_parts.specs.Message.{Refusal, with_rest}
 use Rattle.request_parts.proofs.Fronts.{text_at-take, IsIn-le, length-front, length-part, line_text, begins_meant, none_begins}

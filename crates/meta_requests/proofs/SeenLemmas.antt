@@ -6,8 +6,8 @@ use Rattle.std.proofs.lemmas.List.{length-set, get_or-set_same, get_or-set_other
 use Rattle.std.proofs.lemmas.List.Folds.{list_any-append}
 use Rattle.mc_text.specs.Word.{words, text_at, IsNextWord}
 use Rattle.mc_text.specs.declared.word.Span.{Span}
-use Rattle.request_parts.specs.declared.refusal.Why.{Why}
-use Rattle.request_parts.specs.declared.refusal.Why.TheVariants.{FlagNotServed, FlagTwice, BadToken}
+use Rattle.request_parts.specs.declared.refusal.RefusalReason.{RefusalReason}
+use Rattle.request_parts.specs.declared.refusal.RefusalReason.TheVariants.{FlagNotServed, FlagTwice, BadToken}
 use Rattle.request_parts.specs.Tests.{Word, ◌>>=◌}
 use Rattle.meta_requests.specs.declared.command.Kind.{Kind}
 use Rattle.meta_requests.specs.declared.command.Values.{Values}

@@ -10,8 +10,8 @@ use Rattle.mc_types.specs.Tokens as served
 use Rattle.mc_types.specs.Asks.{of_get, of_store, of_delete, of_count}
 use Rattle.mc_types.specs.declared.token.Token.{Token}
 use Rattle.mc_types.specs.declared.token.Token.TheVariants as tokens
-use Rattle.request_parts.specs.declared.refusal.Why.{Why}
-use Rattle.request_parts.specs.declared.refusal.Why.TheVariants.{FlagNotServed, FlagTwice, BadToken}
+use Rattle.request_parts.specs.declared.refusal.RefusalReason.{RefusalReason}
+use Rattle.request_parts.specs.declared.refusal.RefusalReason.TheVariants.{FlagNotServed, FlagTwice, BadToken}
 use Rattle.request_parts.specs.Tests.{Word, ◌>>=◌}
 use Rattle.meta_requests.specs.declared.command.Kind.{Kind}
 use Rattle.meta_requests.specs.declared.command.Kind.TheVariants.{Get, Store, Delete, Count}
@@ -164,20 +164,20 @@ pub record HasPassed (kind : Kind) (before : List Word) (word flag : Word) : Typ
   pub served : is_served kind (letter_of word) ≡ true
   pub first : stands_in (letter_of word) before ≡ false
 
-ok_is : {A : Type 0} (x y : A) → ◌≡◌ {A = Result A Why} (Ok x) (Ok y) → x ≡ y
+ok_is : {A : Type 0} (x y : A) → ◌≡◌ {A = Result A RefusalReason} (Ok x) (Ok y) → x ≡ y
 ok_is x y e = cc
 
 passed : (kind : Kind) (before : List Word) (word flag : Word) (s t v : Bool) → is_served kind (letter_of word) ≡ s → stands_in (letter_of word) before ≡ t → has_value kind (letter_of word) (text_of word) ≡ v → flag_of kind before word ≡ Ok flag → HasPassed kind before word flag
-passed kind before word flag false t v a b c e = let f : ◌≡◌ {A = Result Word Why} (Err FlagNotServed) (Ok flag) = rw a at e in absurd cc
-passed kind before word flag true true v a b c e = let f : ◌≡◌ {A = Result Word Why} (Err FlagTwice) (Ok flag) = rw (a, b) at e in absurd cc
-passed kind before word flag true false false a b c e = let f : ◌≡◌ {A = Result Word Why} (Err BadToken) (Ok flag) = rw (a, b, c) at e in absurd cc
-passed kind before word flag true false true a b c e = let f : ◌≡◌ {A = Result Word Why} (Ok word) (Ok flag) = rw (a, b, c) at e in record { same = sym (ok_is word flag f); served = a; first = b }
+passed kind before word flag false t v a b c e = let f : ◌≡◌ {A = Result Word RefusalReason} (Err FlagNotServed) (Ok flag) = rw a at e in absurd cc
+passed kind before word flag true true v a b c e = let f : ◌≡◌ {A = Result Word RefusalReason} (Err FlagTwice) (Ok flag) = rw (a, b) at e in absurd cc
+passed kind before word flag true false false a b c e = let f : ◌≡◌ {A = Result Word RefusalReason} (Err BadToken) (Ok flag) = rw (a, b, c) at e in absurd cc
+passed kind before word flag true false true a b c e = let f : ◌≡◌ {A = Result Word RefusalReason} (Ok word) (Ok flag) = rw (a, b, c) at e in record { same = sym (ok_is word flag f); served = a; first = b }
 
 pub has_passed : (kind : Kind) (before : List Word) (word flag : Word) → flag_of kind before word ≡ Ok flag → HasPassed kind before word flag
 has_passed kind before word flag e = passed kind before word flag _ _ _ refl refl refl e
 
 -- the first test was passed, and so were the others
-then_passed : (r : Result Word Why) (f : Word → Result (List Word) Why) (o : List Word) → r >>= f ≡ Ok o → (x : Word) × (r ≡ Ok x) × (f x ≡ Ok o)
+then_passed : (r : Result Word RefusalReason) (f : Word → Result (List Word) RefusalReason) (o : List Word) → r >>= f ≡ Ok o → (x : Word) × (r ≡ Ok x) × (f x ≡ Ok o)
 then_passed (Ok x) f o e = (x, refl, e)
 then_passed (Err why) f o e = absurd cc
 

@@ -14,8 +14,8 @@ use Rattle.mc_types.specs.declared.token.Token.{Token}
 use Rattle.mc_types.specs.declared.ask.Ask.{Ask}
 use Rattle.mc_types.specs.declared.ask.Op.{Op}
 use Rattle.mc_types.specs.declared.ask.Op.TheVariants as ops
-use Rattle.request_parts.specs.declared.refusal.Why.{Why}
-use Rattle.request_parts.specs.declared.refusal.Why.TheVariants.{FlagNotServed}
+use Rattle.request_parts.specs.declared.refusal.RefusalReason.{RefusalReason}
+use Rattle.request_parts.specs.declared.refusal.RefusalReason.TheVariants.{FlagNotServed}
 use Rattle.request_parts.specs.Tests.{Word, ◌>>=◌, key_of, small_of, fitting}
 use Rattle.request_parts.specs.Message.{Served, Refusal}
 use Rattle.request_parts.proofs.Ranges.{passed, is_ok, a_key, below_limit, signed, fits}
@@ -69,8 +69,8 @@ by_asking kind (k ∷ ws) o h =
 
 compared : (flags all : List Word) → comparing flags ≡ Ok all → flags ≡ all
 compared flags all e = elim (cases_Bool (mixes (values_of Store flags))) [
-  | inl same ↦ let f : ◌≡◌ {A = Result (List Word) Why} (Err FlagNotServed) (Ok all) = rw same at e in absurd cc
-  | inr other ↦ let f : ◌≡◌ {A = Result (List Word) Why} (Ok flags) (Ok all) = rw other at e in is_ok flags all f
+  | inl same ↦ let f : ◌≡◌ {A = Result (List Word) RefusalReason} (Err FlagNotServed) (Ok all) = rw same at e in absurd cc
+  | inr other ↦ let f : ◌≡◌ {A = Result (List Word) RefusalReason} (Ok flags) (Ok all) = rw other at e in is_ok flags all f
 ]
 
 by_storing : (ws : List Word) (o : Order) → storing ws ≡ Ok o → IsSound o

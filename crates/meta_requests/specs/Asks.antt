@@ -9,7 +9,7 @@ use Rattle.mc_types.specs.declared.ask.Op.{Op}
 use Rattle.mc_types.specs.declared.ask.Op.TheVariants as ops
 use Rattle.mc_types.specs.declared.ask.Dialect.TheVariants.{Meta}
 use Rattle.mc_types.specs.declared.ask.Ask.{Ask}
-use Rattle.request_parts.specs.declared.own.Own.{Own}
+use Rattle.request_parts.specs.declared.proxy_command.ProxyCommand.{ProxyCommand}
 use Rattle.request_parts.specs.Message.{Served, Refusal}
 use Rattle.request_parts.specs.Tests.{Word}
 use Rattle.meta_requests.specs.declared.command.Kind.{Kind}
@@ -70,7 +70,7 @@ quiet_of (Served order block) = is_quiet order
 quiet_of (Refusal why skip) = false
 
 -- what a message asks of mcgate itself
-abbrev pub own_of : Message → Option Own
+abbrev pub own_of : Message → Option ProxyCommand
 own_of (Served order block) = own_by order
 own_of (Refusal why skip) = None
 

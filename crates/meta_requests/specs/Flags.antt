@@ -7,8 +7,8 @@ use Rattle.mc_types.specs.declared.ask.Op.{Op}
 use Rattle.mc_types.specs.declared.ask.Op.TheVariants as ops
 use Rattle.mc_types.specs.declared.token.Token.{Token}
 use Rattle.mc_types.specs.declared.token.Token.TheVariants as tokens
-use Rattle.request_parts.specs.declared.refusal.Why.{Why}
-use Rattle.request_parts.specs.declared.refusal.Why.TheVariants.{FlagNotServed, FlagTwice, BadToken}
+use Rattle.request_parts.specs.declared.refusal.RefusalReason.{RefusalReason}
+use Rattle.request_parts.specs.declared.refusal.RefusalReason.TheVariants.{FlagNotServed, FlagTwice, BadToken}
 use Rattle.request_parts.specs.Tests.{Word, ◌>>=◌}
 use Rattle.meta_requests.specs.declared.command.Kind.{Kind}
 use Rattle.meta_requests.specs.declared.command.Kind.TheVariants.{Get, Store, Delete, Count}
@@ -90,7 +90,7 @@ has_value kind letter text =
     else is_empty text
 
 -- the tests of one flag, after those that stand before it: its letter, its having come before, its value
-abbrev pub flag_of : Kind → List Word → Word → Result Word Why
+abbrev pub flag_of : Kind → List Word → Word → Result Word RefusalReason
 flag_of kind before word =
     if not (is_served kind (letter_of word)) then Err FlagNotServed
     else if stands_in (letter_of word) before then Err FlagTwice
@@ -98,7 +98,7 @@ flag_of kind before word =
     else Err BadToken
 
 -- the flags of a line, these before and those that follow: each is tested before the next
-abbrev pub flags_of : Kind → List Word → List Word → Result (List Word) Why
+abbrev pub flags_of : Kind → List Word → List Word → Result (List Word) RefusalReason
 flags_of kind before [] = Ok before
 flags_of kind before (word ∷ words) = do
   flag ← flag_of kind before word

@@ -1,6 +1,6 @@
 -- The meta dialect's lines, as a grammar of requests.
 use Rattle.std.specs.Prelude.{ℕ, Option, Some, None}
-use Rattle.request_parts.specs.declared.own.Own.{Own}
+use Rattle.request_parts.specs.declared.proxy_command.ProxyCommand.{ProxyCommand}
 use Rattle.request_parts.specs.Grammar.{Grammar}
 use Rattle.meta_requests.specs.Order.{Order, Asking, OfItself, order_of, skip_of}
 
@@ -10,7 +10,7 @@ block_len (Asking kind key n flags) = n
 block_len (OfItself own) = None
 
 -- what an order asks of mcgate itself
-abbrev pub own_by : Order → Option Own
+abbrev pub own_by : Order → Option ProxyCommand
 own_by (Asking kind key n flags) = None
 own_by (OfItself own) = Some own
 

@@ -2,12 +2,12 @@
 use Rattle.std.specs.Prelude.{ℕ, Bool, true, false, List, [], ◌∷◌, Option, Some, None, Result, Ok, Err, if◌then◌else◌, ◌&&◌, not, slice_get}
 use Rattle.mc_types.specs.declared.ask.Op.{Op}
 use Rattle.mc_types.specs.declared.ask.Op.TheVariants as ops
-use Rattle.request_parts.specs.declared.refusal.Why.{Why}
-use Rattle.request_parts.specs.declared.refusal.Why.TheVariants.{Unknown, FlagNotServed}
+use Rattle.request_parts.specs.declared.refusal.RefusalReason.{RefusalReason}
+use Rattle.request_parts.specs.declared.refusal.RefusalReason.TheVariants.{Unknown, FlagNotServed}
 use Rattle.request_parts.specs.declared.skip.Skip.{Skip}
 use Rattle.request_parts.specs.declared.skip.Skip.TheVariants.{Nothing}
-use Rattle.request_parts.specs.declared.own.Own.{Own}
-use Rattle.request_parts.specs.declared.own.Own.TheVariants as owns
+use Rattle.request_parts.specs.declared.proxy_command.ProxyCommand.{ProxyCommand}
+use Rattle.request_parts.specs.declared.proxy_command.ProxyCommand.TheVariants as owns
 use Rattle.request_parts.specs.Tests.{Word, ◌>>=◌, key_of, small_of, fitting, skip_by, length_in}
 use Rattle.meta_requests.specs.declared.command.Kind.{Kind}
 use Rattle.meta_requests.specs.declared.command.Kind.TheVariants.{Get, Store, Delete, Count}
@@ -20,7 +20,7 @@ use Rattle.meta_requests.specs.Flags.{flags_of, values_of, is_some}
 -- what a request line asks: of a key, with the length of the data of `ms`, and the flags as they stand there; or of mcgate itself
 pub data Order : Type 0 where
   Asking : (kind : Kind) (key : Word) (length : Option ℕ) (flags : List Word) → Order
-  OfItself : (own : Own) → Order
+  OfItself : (own : ProxyCommand) → Order
 
 -- no mode, or that of a set
 abbrev pub sets : Option Op → Bool
@@ -33,11 +33,11 @@ abbrev pub mixes : Values → Bool
 mixes v = is_some v.cas && not (sets v.mode)
 
 -- the flags of `ms`: a cas number is compared by a set alone
-abbrev pub comparing : List Word → Result (List Word) Why
+abbrev pub comparing : List Word → Result (List Word) RefusalReason
 comparing flags = if mixes (values_of Store flags) then Err FlagNotServed else Ok flags
 
 -- `mg`, `md` and `ma`: key, flags
-abbrev pub asking : Kind → List Word → Result Order Why
+abbrev pub asking : Kind → List Word → Result Order RefusalReason
 asking kind [] = Err Unknown
 asking kind (key ∷ words) = do
   key ← key_of key
@@ -45,7 +45,7 @@ asking kind (key ∷ words) = do
   Ok (Asking kind key None flags)
 
 -- `ms`: key, length, flags
-abbrev pub storing : List Word → Result Order Why
+abbrev pub storing : List Word → Result Order RefusalReason
 storing (key ∷ length ∷ words) = do
   key ← key_of key
   length ← small_of length
@@ -55,12 +55,12 @@ storing (key ∷ length ∷ words) = do
 storing _ = Err Unknown
 
 -- `mn`: nothing
-abbrev pub noop : List Word → Result Order Why
+abbrev pub noop : List Word → Result Order RefusalReason
 noop [] = Ok (OfItself owns.Noop)
 noop (word ∷ words) = Err Unknown
 
 -- what the words after a command word ask
-abbrev pub ordered_by : Option Verb → List Word → Result Order Why
+abbrev pub ordered_by : Option Verb → List Word → Result Order RefusalReason
 ordered_by None words = Err Unknown
 ordered_by (Some (Keyed Get)) words = asking Get words
 ordered_by (Some (Keyed Store)) words = storing words
@@ -69,7 +69,7 @@ ordered_by (Some (Keyed Count)) words = asking Count words
 ordered_by (Some Noop) words = noop words
 
 -- what the words of a line ask, or the first test that they fail
-abbrev pub order_of : List Word → Result Order Why
+abbrev pub order_of : List Word → Result Order RefusalReason
 order_of [] = Err Unknown
 order_of (word ∷ words) = ordered_by (verb_of word) words
 

@@ -3,7 +3,7 @@ use Rattle.std.specs.Prelude.{◌≡◌, ℕ, ◌<◌, Bool, false, List, [], �
 use Rattle.mc_text.specs.Word.{words, text_at}
 use Rattle.request_parts.specs.Places.{IsIn}
 use Rattle.request_parts.specs.Tests.{Word}
-use Rattle.request_parts.specs.declared.refusal.Why.{Why}
+use Rattle.request_parts.specs.declared.refusal.RefusalReason.{RefusalReason}
 use Rattle.meta_requests.specs.declared.command.Kind.{Kind}
 use Rattle.meta_requests.specs.declared.command.Flags.{Flags}
 use Rattle.meta_requests.specs.declared.command.Command.{Command}
@@ -42,5 +42,5 @@ Passes kind word seen values seen' values' =
     (before : List Word) → HasSeen before seen → (flag_of kind before word ≡ Ok word) × HasSeen (before ++ word ∷ []) seen' × (values' ≡ value_more kind word values)
 
 -- the flag fails a test after those that were seen
-abbrev pub Fails : Kind → Word → List Bool → Why → Type 0
+abbrev pub Fails : Kind → Word → List Bool → RefusalReason → Type 0
 Fails kind word seen why = (before : List Word) → HasSeen before seen → flag_of kind before word ≡ Err why

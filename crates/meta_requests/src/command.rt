@@ -1,7 +1,7 @@
 //! What a meta line asks, and what the bytes of a client begin with.
 use mc_text::word::Span;
 use mc_types::Op;
-use request_parts::{Own, Skip, Why};
+use request_parts::{ProxyCommand, RefusalReason, Skip};
 
 /// The meta commands that ask something of a key.
 #[derive(Clone, Copy)]
@@ -64,7 +64,7 @@ pub enum Command {
         flags: Flags,
     },
     /// `mn`.
-    Own(Own),
+    Own(ProxyCommand),
 }
 
 /// A request that is served: what its line asks, and where its data block stands in the bytes that were read.
@@ -87,5 +87,9 @@ pub enum Read {
     /// A message that is served.
     Request(Request),
     /// A message that is refused: it takes `used` bytes, and what `skip` says is passed over after them.
-    Refused { why: Why, used: usize, skip: Skip },
+    Refused {
+        why: RefusalReason,
+        used: usize,
+        skip: Skip,
+    },
 }

@@ -8,22 +8,27 @@ ghost use Rattle.meta_requests.specs.Places.{AreFlags, flags_in, Passes, Fails};
 use crate::command::{Flags, Kind, Values};
 use crate::values::is_served;
 use mc_text::word::{Span, next_word};
-use request_parts::Why;
+use request_parts::RefusalReason;
 
 // one flag more, if its letter is served and wasn't seen, and its value is one
-fn next_flag(kind: Kind, seen: &mut [bool; 256], word: &[u8], values: Values) -> Result<Values, Why>
+fn next_flag(
+    kind: Kind,
+    seen: &mut [bool; 256],
+    word: &[u8],
+    values: Values,
+) -> Result<Values, RefusalReason>
     requires { 0 < length word.now }
     ensures { MatchResult result (λ new. Passes kind word.now seen.old values seen.new new) (λ why. Fails kind word.now seen.old why) }
 {
     let letter = word[0];
     if !is_served(kind, letter) {
-        return Err(Why::FlagNotServed);
+        return Err(RefusalReason::FlagNotServed);
     }
     if seen[usize::from(letter)] {
-        return Err(Why::FlagTwice);
+        return Err(RefusalReason::FlagTwice);
     }
     match values.with(kind, letter, &word[1..]) {
-        None => Err(Why::BadToken),
+        None => Err(RefusalReason::BadToken),
         Some(new) => {
             seen[usize::from(letter)] = true;
             Ok(new)
@@ -33,7 +38,7 @@ fn next_flag(kind: Kind, seen: &mut [bool; 256], word: &[u8], values: Values) ->
 
 /// The flags that stand from a place of the line on, or the first test that they fail. For one flag, the tests of its
 /// letter, of its having come before and of its value come together before the next flag.
-pub fn flags(line: &[u8], at: usize, kind: Kind) -> Result<Flags, Why>
+pub fn flags(line: &[u8], at: usize, kind: Kind) -> Result<Flags, RefusalReason>
     requires { at ≤ length line.now }
     ensures order { Gives (flags_in line.now) result (flags_of kind [] (words (drop at line.now))) }
     ensures within { IfOk result (AreFlags kind line.now) }

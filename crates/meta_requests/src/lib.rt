@@ -13,5 +13,5 @@ pub mod writer;
 
 pub use command::{Command, Kind, Read, Request, Verb};
 pub use reader::{read_behind, read_request};
-pub use request_parts::{Own, Skip, Why};
+pub use request_parts::{ProxyCommand, RefusalReason, Skip};
 pub use writer::write_ask;

@@ -11,7 +11,7 @@ use crate::verbs::verb;
 use mc_text::word::{Span, next_word};
 use mc_types::{DATA_LIMIT, Op};
 use request_parts::parts::{key, length_at, small, word};
-use request_parts::{Own, Skip, Why};
+use request_parts::{ProxyCommand, RefusalReason, Skip};
 
 fn sets(mode: Option<Op>) -> bool
     ensures { result ≡ sets mode }
@@ -30,7 +30,7 @@ fn mixes(values: Values) -> bool
 }
 
 // what `mg`, `md` and `ma` ask
-fn asking(line: &[u8], at: usize, kind: Kind) -> Result<Command, Why>
+fn asking(line: &[u8], at: usize, kind: Kind) -> Result<Command, RefusalReason>
     requires { at ≤ length line.now }
     ensures order { Gives (order_in line.now) result (asking kind (words (drop at line.now))) }
     ensures within { IfOk result (LiesIn line.now) }
@@ -47,7 +47,7 @@ fn asking(line: &[u8], at: usize, kind: Kind) -> Result<Command, Why>
 }
 
 // what `ms` asks
-fn storing(line: &[u8], at: usize) -> Result<Command, Why>
+fn storing(line: &[u8], at: usize) -> Result<Command, RefusalReason>
     requires { at ≤ length line.now }
     ensures order { Gives (order_in line.now) result (storing (words (drop at line.now))) }
     ensures within { IfOk result (LiesIn line.now) }
@@ -58,10 +58,10 @@ fn storing(line: &[u8], at: usize) -> Result<Command, Why>
     let length = small(line, second)?;
     let flags = flags(line, second.end, Kind::Store)?;
     if mixes(flags.values) {
-        return Err(Why::FlagNotServed);
+        return Err(RefusalReason::FlagNotServed);
     }
     if length > DATA_LIMIT {
-        return Err(Why::TooLarge);
+        return Err(RefusalReason::TooLarge);
     }
     Ok(Command::Keyed {
         key,
@@ -72,24 +72,24 @@ fn storing(line: &[u8], at: usize) -> Result<Command, Why>
 }
 
 // what `mn` asks
-fn noop(line: &[u8], at: usize) -> Result<Command, Why>
+fn noop(line: &[u8], at: usize) -> Result<Command, RefusalReason>
     requires { at ≤ length line.now }
     ensures order { Gives (order_in line.now) result (noop (words (drop at line.now))) }
     ensures within { IfOk result (LiesIn line.now) }
 {
     match next_word(line, at) {
-        None => Ok(Command::Own(Own::Noop)),
-        Some(_) => Err(Why::Unknown),
+        None => Ok(Command::Own(ProxyCommand::Noop)),
+        Some(_) => Err(RefusalReason::Unknown),
     }
 }
 
-fn ordered(line: &[u8], at: usize, verb: Option<Verb>) -> Result<Command, Why>
+fn ordered(line: &[u8], at: usize, verb: Option<Verb>) -> Result<Command, RefusalReason>
     requires { at ≤ length line.now }
     ensures order { Gives (order_in line.now) result (ordered_by verb (words (drop at line.now))) }
     ensures within { IfOk result (LiesIn line.now) }
 {
     match verb {
-        None => Err(Why::Unknown),
+        None => Err(RefusalReason::Unknown),
         Some(Verb::Keyed(Kind::Get)) => asking(line, at, Kind::Get),
         Some(Verb::Keyed(Kind::Store)) => storing(line, at),
         Some(Verb::Keyed(Kind::Delete)) => asking(line, at, Kind::Delete),
@@ -99,7 +99,7 @@ fn ordered(line: &[u8], at: usize, verb: Option<Verb>) -> Result<Command, Why>
 }
 
 /// What a line with this first word asks, or the first test that it fails.
-pub fn command(line: &[u8], first: Span) -> Result<Command, Why>
+pub fn command(line: &[u8], first: Span) -> Result<Command, RefusalReason>
     requires { IsNextWord line.now 0 first }
     ensures order { Gives (order_in line.now) result (order_of (words line.now)) }
     ensures within { IfOk result (LiesIn line.now) }

@@ -11,7 +11,7 @@ ghost use Rattle.meta_requests.specs.Asks.{asks_of, quiet_of, own_of, get_op, st
 use crate::command::{Command, Flags, Kind, Request, Values};
 use mc_text::word::{Span, next_word};
 use mc_types::{Ask, Body, Dialect, Key, Op, Opaque, Token, Tokens};
-use request_parts::Own;
+use request_parts::ProxyCommand;
 use request_parts::parts::key_at;
 use std::alloc::{AllocError, Global};
 
@@ -128,7 +128,7 @@ fn ask_by(kind: Kind, key: Key, values: Values, tokens: Tokens, body: Body) -> A
 
 impl Request {
     /// What it asks of mcgate itself, if it does. It takes no memory.
-    pub fn own(&self) -> Option<Own>
+    pub fn own(&self) -> Option<ProxyCommand>
         ensures { (bytes : List ℕ) → result ≡ own_of (message_in bytes self.now) }
     {
         match self.command {

@@ -3,8 +3,8 @@ use Rattle.std.proofs.Common.{◌≡◌, ℕ, ◌+◌, ◌≤◌, Bool, true, fa
 use Rattle.mc_types.specs.declared.ask.Ask.{Ask}
 use Rattle.mc_runs.specs.Log.{Part}
 use Rattle.mc_runs.specs.Overlap.{Front}
-use Rattle.request_parts.specs.declared.own.Own.{Own}
-use Rattle.request_parts.specs.declared.refusal.Why.{Why}
+use Rattle.request_parts.specs.declared.proxy_command.ProxyCommand.{ProxyCommand}
+use Rattle.request_parts.specs.declared.refusal.RefusalReason.{RefusalReason}
 use Rattle.request_parts.specs.declared.skip.Skip.{Skip}
 use Rattle.request_parts.specs.declared.skip.Skip.TheVariants.{Nothing}
 use Rattle.request_parts.specs.Message.{Refusal}
@@ -50,7 +50,7 @@ reads_front place request front =
 pub used_held : (place : Place) (request : Request) → IsFront place request → used_of request ≤ length (held_at place)
 used_held place request front = used_within both_grammar (held_at place) (message_in (held_at place) request) (used_of request) front.read.begins
 
-pub used_refused : (place : Place) (why : Why) (used : ℕ) (skip : Skip) → IsReadAt place (reads.Refused why used skip) → used ≤ length (held_at place)
+pub used_refused : (place : Place) (why : RefusalReason) (used : ℕ) (skip : Skip) → IsReadAt place (reads.Refused why used skip) → used ≤ length (held_at place)
 used_refused place why used skip is =
     let f = read_front place (reads.Refused why used skip) is (refused_is_some why used skip) in
     subst (λ (p : Place). used ≤ length (held_at p)) (sym f.1) (used_within both_grammar f.0 (Refusal why skip) used f.2)
@@ -83,7 +83,7 @@ long_line_passed x y is served none g =
     passes x y LongLine Closed (subst (λ (p : Place). ReadsNext p LongLine Closed) (sym f.1) (f.2, refl)) refl served none g
 
 -- a refused message
-pub refused_passed : (x y : Client) (why : Why) (used : ℕ) (skip : Skip) → IsReadAt x.stream (reads.Refused why used skip) → x.dropped ≡ false → x.queue.items ≡ []
+pub refused_passed : (x y : Client) (why : RefusalReason) (used : ℕ) (skip : Skip) → IsReadAt x.stream (reads.Refused why used skip) → x.dropped ≡ false → x.queue.items ≡ []
     → ((held : List ℕ) → x.stream ≡ Stands Nothing held → GoesTo x (skipped skip (drop used held)) (refusal_text why) y) → PassesFront x Refused y
 refused_passed x y why used skip is served none g =
     let f = read_front x.stream (reads.Refused why used skip) is (refused_is_some why used skip) in
@@ -95,7 +95,7 @@ told_own held (Classic r) = refl
 told_own held (Meta r) = refl
 
 -- what mcgate itself was asked
-pub own_passed_by : (x y : Client) (request : Request) (own : Option Own) (used : ℕ) → IsReadAt x.stream (reads.Request request) → asks_of (message_in (held_at x.stream) request) ≡ [] → x.dropped ≡ false → x.queue.items ≡ []
+pub own_passed_by : (x y : Client) (request : Request) (own : Option ProxyCommand) (used : ℕ) → IsReadAt x.stream (reads.Request request) → asks_of (message_in (held_at x.stream) request) ≡ [] → x.dropped ≡ false → x.queue.items ≡ []
     → used ≡ used_of request → own ≡ own_of (message_in (held_at x.stream) request)
     → ((held : List ℕ) → x.stream ≡ Stands Nothing held → GoesTo x (behind_own own (drop used held)) (own_passed own) y) → PassesFront x AsOwn y
 own_passed_by x y request own used is asks served none used_is own_is goes =
@@ -103,7 +103,7 @@ own_passed_by x y request own used is asks served none used_is own_is goes =
     let held = held_at x.stream in
     let m : Message = message_in held request in
     let rest : List ℕ = drop (used_of request) held in
-    let next : behind_own own (drop used held) ≡ behind m rest = ap (λ n. behind_own own (drop n held)) used_is ∙ ap (λ (o : Option Own). behind_own o rest) own_is ∙ own_next held request rest in
+    let next : behind_own own (drop used held) ≡ behind m rest = ap (λ n. behind_own own (drop n held)) used_is ∙ ap (λ (o : Option ProxyCommand). behind_own o rest) own_is ∙ own_next held request rest in
     let text : own_passed own ≡ passed_text (Whole m) = ap own_passed own_is ∙ own_text held request in
     subst (λ p. PassesFront x p y) (told_own held request)
     (passes x y (Whole m) (behind m rest) (reads_front x.stream request front) asks served none

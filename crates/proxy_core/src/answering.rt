@@ -10,7 +10,9 @@ ghost use Rattle.proxy_core.specs.Fronts.{Stays, GoesTo, AsksNone, PassesFront};
 
 use crate::client::Client;
 use std::alloc::AllocError;
-use text_codec::{Own, Read, Skip, Why, write_long_line, write_own, write_refusal};
+use text_codec::{
+    ProxyCommand, Read, RefusalReason, Skip, write_long_line, write_own, write_refusal,
+};
 
 /// What a message was that was passed.
 #[derive(Clone, Copy)]
@@ -35,7 +37,7 @@ impl Client {
     }
 
     // A refused message is answered and done.
-    fn refuse(&mut self, why: Why, used: usize, skip: Skip) -> Result<(), AllocError>
+    fn refuse(&mut self, why: RefusalReason, used: usize, skip: Skip) -> Result<(), AllocError>
         requires { used ≤ length (held_at self.old.stream) }
         ensures ok { OnOk result ((held : List ℕ) → self.old.stream ≡ Stands Nothing held → GoesTo self.old (skipped skip (drop used held)) (refusal_text why) self.new) }
         ensures err { OnErr result (Stays self.old self.new) }
@@ -48,7 +50,7 @@ impl Client {
     }
 
     // A message that asks mcgate itself, or nothing, is answered and done.
-    fn answer_own(&mut self, own: Option<Own>, used: usize) -> Result<(), AllocError>
+    fn answer_own(&mut self, own: Option<ProxyCommand>, used: usize) -> Result<(), AllocError>
         requires { used ≤ length (held_at self.old.stream) }
         ensures ok { OnOk result ((held : List ℕ) → self.old.stream ≡ Stands Nothing held → GoesTo self.old (behind_own own (drop used held)) (own_passed own) self.new) }
         ensures err { OnErr result (Stays self.old self.new) }
@@ -57,7 +59,7 @@ impl Client {
             write_own(own, &mut self.output)?;
         }
         self.stream.pass_request(used);
-        if let Some(Own::Quit) = own {
+        if let Some(ProxyCommand::Quit) = own {
             self.stream.close();
         }
         self.index = 0;

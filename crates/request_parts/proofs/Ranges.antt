@@ -8,23 +8,23 @@ use Rattle.std.proofs.lemmas.Int.{ints}
 use Rattle.mc_text.specs.Number.{is_number, number_below, signed_number}
 use Rattle.mc_types.specs.KeyText.{IsKey}
 use Rattle.mc_types.specs.Asks.{IsExptime, data_limit}
-use Rattle.request_parts.specs.declared.refusal.Why.{Why}
-use Rattle.request_parts.specs.declared.refusal.Why.TheVariants.{BadKey, BadNumber, TooLarge}
+use Rattle.request_parts.specs.declared.refusal.RefusalReason.{RefusalReason}
+use Rattle.request_parts.specs.declared.refusal.RefusalReason.TheVariants.{BadKey, BadNumber, TooLarge}
 use Rattle.request_parts.specs.Tests.{Word, ◌>>=◌, is_key, key_of, small_of, wide_of, exptime_of, fitting}
 use Rattle.request_parts.proofs.KeyTexts.{key_is}
 
 -- the first test was passed, and so were the others
-pub passed : {A B : Type 0} → (r : Result A Why) (f : A → Result B Why) (o : B) → r >>= f ≡ Ok o → (x : A) × (r ≡ Ok x) × (f x ≡ Ok o)
+pub passed : {A B : Type 0} → (r : Result A RefusalReason) (f : A → Result B RefusalReason) (o : B) → r >>= f ≡ Ok o → (x : A) × (r ≡ Ok x) × (f x ≡ Ok o)
 passed (Ok x) f o e = (x, refl, e)
 passed (Err why) f o e = absurd cc
 
-pub is_ok : {A : Type 0} → (x y : A) → ◌≡◌ {A = Result A Why} (Ok x) (Ok y) → x ≡ y
+pub is_ok : {A : Type 0} → (x y : A) → ◌≡◌ {A = Result A RefusalReason} (Ok x) (Ok y) → x ≡ y
 is_ok x y e = cc
 
 pub a_key : (w k : Word) → key_of w ≡ Ok k → IsKey k
 a_key w k e = elim (cases_Bool (is_key w)) [
-  | inl same ↦ let f : ◌≡◌ {A = Result Word Why} (Ok w) (Ok k) = rw same at e in subst IsKey (is_ok w k f) (key_is w same)
-  | inr other ↦ let f : ◌≡◌ {A = Result Word Why} (Err BadKey) (Ok k) = rw other at e in absurd cc
+  | inl same ↦ let f : ◌≡◌ {A = Result Word RefusalReason} (Ok w) (Ok k) = rw same at e in subst IsKey (is_ok w k f) (key_is w same)
+  | inr other ↦ let f : ◌≡◌ {A = Result Word RefusalReason} (Err BadKey) (Ok k) = rw other at e in absurd cc
 ]
 
 pub below_limit : (limit n : ℕ) (w : Word) → number_below limit w ≡ Some n → n < limit
@@ -36,7 +36,7 @@ below_limit limit n w e = elim (cases_Bool (is_number w && ltb (digits_value 10 
   | inr other ↦ let f : None ≡ Some n = rw other at e in absurd cc
 ]
 
-pub from_ok_or : {A : Type 0} → (o : Option A) (x : A) → ok_or {E = Why} o BadNumber ≡ Ok x → o ≡ Some x
+pub from_ok_or : {A : Type 0} → (o : Option A) (x : A) → ok_or {E = RefusalReason} o BadNumber ≡ Ok x → o ≡ Some x
 from_ok_or None x e = absurd cc
 from_ok_or (Some y) x e = cc
 
@@ -74,6 +74,6 @@ an_exptime w z e = signed w z (from_ok_or (signed_number w) z e)
 
 pub fits : {A : Type 0} (n : ℕ) (o p : A) → fitting n o ≡ Ok p → (n ≤ data_limit) × (o ≡ p)
 fits {A = A} n o p e = elim (cases_Bool (leb n data_limit)) [
-  | inl same ↦ let f : ◌≡◌ {A = Result A Why} (Ok o) (Ok p) = rw same at e in (leb-true n data_limit same, is_ok o p f)
-  | inr other ↦ let f : ◌≡◌ {A = Result A Why} (Err TooLarge) (Ok p) = rw other at e in absurd cc
+  | inl same ↦ let f : ◌≡◌ {A = Result A RefusalReason} (Ok o) (Ok p) = rw same at e in (leb-true n data_limit same, is_ok o p f)
+  | inr other ↦ let f : ◌≡◌ {A = Result A RefusalReason} (Err TooLarge) (Ok p) = rw other at e in absurd cc
 ]

@@ -4,8 +4,8 @@ use Rattle.std.proofs.lemmas.List.{length-take}
 use Rattle.mc_text.specs.Line.{without_cr}
 use Rattle.mc_text.specs.Word.{words}
 use Rattle.mc_types.specs.Asks.{data_limit}
-use Rattle.request_parts.specs.declared.refusal.Why.{Why}
-use Rattle.request_parts.specs.declared.refusal.Why.TheVariants.{Unknown}
+use Rattle.request_parts.specs.declared.refusal.RefusalReason.{RefusalReason}
+use Rattle.request_parts.specs.declared.refusal.RefusalReason.TheVariants.{Unknown}
 use Rattle.request_parts.specs.declared.skip.Skip.{Skip}
 use Rattle.request_parts.specs.declared.skip.Skip.TheVariants.{Nothing}
 use Rattle.request_parts.specs.declared.block.End.{End}
@@ -21,7 +21,7 @@ message_first None = Refusal Unknown Nothing
 served_is : {Order : Type 0} (o p : Order) (a b : List ℕ) (i j : ℕ) → ◌≡◌ {A = Found Order} (Some (Served o a, i)) (Some (Served p b, j)) → (o ≡ p) × (a ≡ b)
 served_is o p a b i j e = let g : Served o a ≡ Served p b = ap message_first e in (cc, cc)
 
-refused_is_not : {A Order : Type 0} (why : Why) (skip : Skip) (p : Order) (b : List ℕ) (i j : ℕ) → ◌≡◌ {A = Found Order} (Some (Refusal why skip, i)) (Some (Served p b, j)) → A
+refused_is_not : {A Order : Type 0} (why : RefusalReason) (skip : Skip) (p : Order) (b : List ℕ) (i j : ℕ) → ◌≡◌ {A = Found Order} (Some (Refusal why skip, i)) (Some (Served p b, j)) → A
 refused_is_not why skip p b i j e = let g : Refusal why skip ≡ Served p b = ap message_first e in absurd (cc)
 
 with_end : {Order : Type 0} (o p : Order) (block b : List ℕ) (used j : ℕ) (end : End) → with_block o used block end ≡ Some (Served p b, j) → (o ≡ p) × (block ≡ b)
@@ -42,7 +42,7 @@ module _ (G : Grammar) (IsSound : G.Order → Type 0) (sound : (ws : List Word) 
       let le = block_short o n h is in
       record { sound = subst IsSound s.0 h; short = subst (λ (t : List ℕ). length t ≤ data_limit) s.1 (omega (arith, length-take n rest)) }
 
-  by_line : (ws : List Word) (line : Result G.Order Why) (p : G.Order) (skip : Skip) (used j : ℕ) (rest b : List ℕ) → G.order_of ws ≡ line → meaning_of G line skip used rest ≡ Some (Served p b, j) → IsServed G IsSound p b
+  by_line : (ws : List Word) (line : Result G.Order RefusalReason) (p : G.Order) (skip : Skip) (used j : ℕ) (rest b : List ℕ) → G.order_of ws ≡ line → meaning_of G line skip used rest ≡ Some (Served p b, j) → IsServed G IsSound p b
   by_line ws (Err why) p skip used j rest b is e = refused_is_not why skip p b used j e
   by_line ws (Ok o) p skip used j rest b is e = by_len o p used j rest b (G.block_len o) (sound ws o is) refl e
 

@@ -5,14 +5,14 @@ use Rattle.std.proofs.lemmas.List.{length-append, length-drop, length-take, take
 use Rattle.std.proofs.Math.Seq.{drop-append-add}
 use Rattle.mc_text.specs.Line.{IsOneLine, IsTooLong, LF, CR, without_cr}
 use Rattle.mc_text.specs.Word.{words}
-use Rattle.request_parts.specs.declared.refusal.Why.{Why}
-use Rattle.request_parts.specs.declared.refusal.Why.TheVariants.{BadChunk}
+use Rattle.request_parts.specs.declared.refusal.RefusalReason.{RefusalReason}
+use Rattle.request_parts.specs.declared.refusal.RefusalReason.TheVariants.{BadChunk}
 use Rattle.request_parts.specs.declared.skip.Skip.{Skip}
 use Rattle.request_parts.specs.declared.skip.Skip.TheVariants.{Nothing, Bytes, ThroughNewline}
 use Rattle.request_parts.specs.declared.block.End.{End}
 use Rattle.request_parts.specs.declared.block.End.TheVariants.{Open, Good, Bad}
-use Rattle.request_parts.specs.declared.own.Own.{Own}
-use Rattle.request_parts.specs.declared.own.Own.TheVariants.{Version, Quit, Noop}
+use Rattle.request_parts.specs.declared.proxy_command.ProxyCommand.{ProxyCommand}
+use Rattle.request_parts.specs.declared.proxy_command.ProxyCommand.TheVariants.{Version, Quit, Noop}
 use Rattle.request_parts.specs.Grammar.{Grammar}
 use Rattle.request_parts.specs.Message.{Message, Served, Refusal, Begins, meaning_of, with_rest, with_block, end_of}
 use Rattle.request_parts.specs.Stream.{Place, Stands, Closed, through_newline, skipped, extended, behind_own, behind, Goes, IsStuck}
@@ -103,7 +103,7 @@ skipped-append (Bytes n) bytes more =
       | inr ge ↦ rw (le-ltb (length bytes) n ge, le-ltb (length (bytes ++ more)) n (omega arith)) (ap (λ (l : List ℕ). Stands Nothing l) (drop-append-le n bytes more ge))
     ]
 
-own-append : (own : Option Own) (rest more : List ℕ) → behind_own own (rest ++ more) ≡ extended (behind_own own rest) more
+own-append : (own : Option ProxyCommand) (rest more : List ℕ) → behind_own own (rest ++ more) ≡ extended (behind_own own rest) more
 own-append None rest more = refl
 own-append (Some Version) rest more = refl
 own-append (Some Noop) rest more = refl
@@ -113,7 +113,7 @@ too_long_still : (bytes more : List ℕ) → IsTooLong bytes → IsTooLong (byte
 too_long_still bytes more h = record { long = let a = h.long in omega (arith, length-append bytes more); one = subst IsOneLine (sym (take-append-le 65536 bytes more h.long)) h.one }
 
 module _ (G : Grammar) where
-  meaning_stays : (line : Result G.Order Why) (skip : Skip) (used : ℕ) (rest more : List ℕ) (x : Message G.Order × ℕ) → meaning_of G line skip used rest ≡ Some x → meaning_of G line skip used (rest ++ more) ≡ Some x
+  meaning_stays : (line : Result G.Order RefusalReason) (skip : Skip) (used : ℕ) (rest more : List ℕ) (x : Message G.Order × ℕ) → meaning_of G line skip used rest ≡ Some x → meaning_of G line skip used (rest ++ more) ≡ Some x
   meaning_stays (Err why) skip used rest more x e = e
   meaning_stays (Ok order) skip used rest more x e = go (G.block_len order) e
     where
@@ -135,7 +135,7 @@ module _ (G : Grammar) where
       let same : (m, i) ≡ (n, j) = some_is (m, i) (n, j) (sym b.says ∙ rw (both.0, both.1) c.says) in
       (ap (λ (x : Message G.Order × ℕ). x.0) same, ap (λ (x : Message G.Order × ℕ). x.1) same)
 
-  within : (line : Result G.Order Why) (skip : Skip) (used : ℕ) (rest : List ℕ) (x : Message G.Order × ℕ) → meaning_of G line skip used rest ≡ Some x → x.1 ≤ used + length rest
+  within : (line : Result G.Order RefusalReason) (skip : Skip) (used : ℕ) (rest : List ℕ) (x : Message G.Order × ℕ) → meaning_of G line skip used rest ≡ Some x → x.1 ≤ used + length rest
   within (Err why) skip used rest x e = let is : used ≡ x.1 = ap (λ (y : Message G.Order × ℕ). y.1) (some_is (Refusal why skip, used) x e) in omega arith
   within (Ok order) skip used rest x e = within_rest order used rest x (G.block_len order) e
 
@@ -190,7 +190,7 @@ module _ (G : Grammar) where
   pub too_long_begins_nothing : TooLongBeginsNothing G
   too_long_begins_nothing bytes more message used long b = not_too_long (bytes ++ more) b.text b.rest b.line (too_long_still bytes more long)
 
-  some_by_line : (line : Result G.Order Why) (skip : Skip) (used : ℕ) (rest : List ℕ) (x : Message G.Order × ℕ) → 1 ≤ used → meaning_of G line skip used rest ≡ Some x → 1 ≤ x.1
+  some_by_line : (line : Result G.Order RefusalReason) (skip : Skip) (used : ℕ) (rest : List ℕ) (x : Message G.Order × ℕ) → 1 ≤ used → meaning_of G line skip used rest ≡ Some x → 1 ≤ x.1
   some_by_line (Err why) skip used rest x some e = let is : used ≡ x.1 = ap (λ (y : Message G.Order × ℕ). y.1) (some_is (Refusal why skip, used) x e) in omega arith
   some_by_line (Ok order) skip used rest x some e = some_by_rest order used rest x (G.block_len order) some e
 

@@ -15,7 +15,7 @@ use Rattle.mc_text.proofs.NumberLemmas.{number_below-decimal}
 use Rattle.mc_text.proofs.ReadBack.{signed_are_read_back}
 use Rattle.mc_types.specs.KeyText.{IsKey, is_key_byte}
 use Rattle.mc_types.specs.Asks.{IsExptime}
-use Rattle.request_parts.specs.declared.refusal.Why.{Why}
+use Rattle.request_parts.specs.declared.refusal.RefusalReason.{RefusalReason}
 use Rattle.request_parts.specs.Tests.{Word, is_key, key_of, small_of, wide_of, exptime_of, block_text}
 use Rattle.request_parts.specs.Grammar.{Grammar}
 use Rattle.request_parts.specs.Message.{Served, Begins, meaning, meaning_of, with_rest}
@@ -90,7 +90,7 @@ module _ (G : Grammar) (ws : List Word) (o : G.Order) (are : AreTokens ws) (few 
   means : (more : List ℕ) → meaning G (spaced ws ++ CR ∷ []) more ≡ with_rest o (length (spaced ws ++ CR ∷ []) + 1) more (G.block_len o)
   means more =
       ap (λ (line : List Word). meaning_of G (G.order_of line) (G.skip_of line) (length (spaced ws ++ CR ∷ []) + 1) more) (line_words ws (plain_words ws (are_plain ws are)))
-      ∙ ap (λ (r : Result G.Order Why). meaning_of G r (G.skip_of ws) (length (spaced ws ++ CR ∷ []) + 1) more) asks
+      ∙ ap (λ (r : Result G.Order RefusalReason). meaning_of G r (G.skip_of ws) (length (spaced ws ++ CR ∷ []) + 1) more) asks
 
   begins_line : (more : List ℕ) → G.block_len o ≡ None → Begins G (line_of ws ++ more) (Served o []) (length (line_of ws))
   begins_line more none = record {

@@ -2,8 +2,8 @@
 use Rattle.std.specs.Prelude.{◌≡◌, ℕ, ◌+◌, ◌&&◌, List, [], ◌∷◌, length, take, drop, Option, Some, None, Result, Ok, Err, ◌==◌, if◌then◌else◌}
 use Rattle.mc_text.specs.Line.{IsLine, LF, CR, without_cr}
 use Rattle.mc_text.specs.Word.{words}
-use Rattle.request_parts.specs.declared.refusal.Why.{Why}
-use Rattle.request_parts.specs.declared.refusal.Why.TheVariants.{BadChunk}
+use Rattle.request_parts.specs.declared.refusal.RefusalReason.{RefusalReason}
+use Rattle.request_parts.specs.declared.refusal.RefusalReason.TheVariants.{BadChunk}
 use Rattle.request_parts.specs.declared.skip.Skip.{Skip}
 use Rattle.request_parts.specs.declared.skip.Skip.TheVariants.{ThroughNewline}
 use Rattle.request_parts.specs.declared.block.End.{End}
@@ -13,7 +13,7 @@ use Rattle.request_parts.specs.Grammar.{Grammar}
 -- a message: one that is served, with its data block, or one that is refused, with what is passed over after it
 pub data Message (Order : Type 0) : Type 0 where
   Served : (order : Order) (block : List ℕ) → Message Order
-  Refusal : (why : Why) (skip : Skip) → Message Order
+  Refusal : (why : RefusalReason) (skip : Skip) → Message Order
 
 -- how a data block ends, by what follows its data
 abbrev pub end_of : List ℕ → End
@@ -38,7 +38,7 @@ with_rest order used rest (Some n) = with_block order used (take n rest) (end_of
 
 module _ (G : Grammar) where
   -- what a line means, with what follows it
-  abbrev pub meaning_of : Result G.Order Why → Skip → ℕ → List ℕ → Found G.Order
+  abbrev pub meaning_of : Result G.Order RefusalReason → Skip → ℕ → List ℕ → Found G.Order
   meaning_of (Ok order) skip used rest = with_rest order used rest (G.block_len order)
   meaning_of (Err why) skip used rest = Some (Refusal why skip, used)
 

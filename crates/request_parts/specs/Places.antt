@@ -1,7 +1,7 @@
 -- What a span, and what was read by spans, stand for.
 use Rattle.std.specs.Prelude.{◌≡◌, ℕ, ◌≤◌, Result, Ok, Err}
 use Rattle.mc_text.specs.declared.word.Span.{Span}
-use Rattle.request_parts.specs.declared.refusal.Why.{Why}
+use Rattle.request_parts.specs.declared.refusal.RefusalReason.{RefusalReason}
 
 -- the span lies in so many bytes
 pub record IsIn (n : ℕ) (s : Span) : Type 0 where
@@ -9,6 +9,6 @@ pub record IsIn (n : ℕ) (s : Span) : Type 0 where
   pub within : s.end ≤ n
 
 -- what was returned, seen by view, is what the words say
-abbrev pub Gives : {X Y : Type 0} → (X → Y) → Result X Why → Result Y Why → Type 0
+abbrev pub Gives : {X Y : Type 0} → (X → Y) → Result X RefusalReason → Result Y RefusalReason → Type 0
 Gives view (Ok x) read = read ≡ Ok (view x)
 Gives view (Err e) read = read ≡ Err e

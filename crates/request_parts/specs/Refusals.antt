@@ -1,10 +1,10 @@
 -- What is answered to a line that is refused. Source: memcached's protocol.txt, "Error strings"; "bad data chunk" and "object too large for cache" are memcached's texts, the others mcgate's own.
 use Rattle.std.specs.Prelude.{ℕ, List, codes}
-use Rattle.request_parts.specs.declared.refusal.Why.{Why}
-use Rattle.request_parts.specs.declared.refusal.Why.TheVariants.{Unknown, BadKey, BadNumber, FlagNotServed, FlagTwice, BadToken, TooLarge, BadChunk}
+use Rattle.request_parts.specs.declared.refusal.RefusalReason.{RefusalReason}
+use Rattle.request_parts.specs.declared.refusal.RefusalReason.TheVariants.{Unknown, BadKey, BadNumber, FlagNotServed, FlagTwice, BadToken, TooLarge, BadChunk}
 
 -- the line, without its end
-abbrev pub refusal_line : Why → List ℕ
+abbrev pub refusal_line : RefusalReason → List ℕ
 refusal_line Unknown = codes "ERROR"
 refusal_line BadKey = codes "CLIENT_ERROR bad key"
 refusal_line BadNumber = codes "CLIENT_ERROR bad number"

@@ -1,8 +1,8 @@
 -- The messages of a stream, one after another. Source: mcgate's own.
 use Rattle.std.specs.Prelude.{◌≡◌, ℕ, ◌-◌, List, [], ◌∷◌, ◌++◌, length, drop, Option, Some, None, ◌==◌, nat_lt, if◌then◌else◌}
 use Rattle.mc_text.specs.Line.{LF}
-use Rattle.request_parts.specs.declared.own.Own.{Own}
-use Rattle.request_parts.specs.declared.own.Own.TheVariants.{Version, Quit, Noop}
+use Rattle.request_parts.specs.declared.proxy_command.ProxyCommand.{ProxyCommand}
+use Rattle.request_parts.specs.declared.proxy_command.ProxyCommand.TheVariants.{Version, Quit, Noop}
 use Rattle.request_parts.specs.declared.skip.Skip.{Skip}
 use Rattle.request_parts.specs.declared.skip.Skip.TheVariants.{Nothing, Bytes, ThroughNewline}
 use Rattle.request_parts.specs.Grammar.{Grammar}
@@ -30,7 +30,7 @@ extended (Stands skip held) more = skipped skip (held ++ more)
 extended Closed more = Closed
 
 -- after what mcgate itself was asked: `quit` is the last message of its stream
-abbrev pub behind_own : Option Own → List ℕ → Place
+abbrev pub behind_own : Option ProxyCommand → List ℕ → Place
 behind_own None rest = Stands Nothing rest
 behind_own (Some Version) rest = Stands Nothing rest
 behind_own (Some Noop) rest = Stands Nothing rest

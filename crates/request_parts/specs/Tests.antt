@@ -5,8 +5,8 @@ use Rattle.std.specs.List.{list_all}
 use Rattle.mc_text.specs.Number.{number_below, signed_number}
 use Rattle.mc_types.specs.KeyText.{is_key_byte}
 use Rattle.mc_types.specs.Asks.{data_limit}
-use Rattle.request_parts.specs.declared.refusal.Why.{Why}
-use Rattle.request_parts.specs.declared.refusal.Why.TheVariants.{BadKey, BadNumber, TooLarge}
+use Rattle.request_parts.specs.declared.refusal.RefusalReason.{RefusalReason}
+use Rattle.request_parts.specs.declared.refusal.RefusalReason.TheVariants.{BadKey, BadNumber, TooLarge}
 use Rattle.request_parts.specs.declared.skip.Skip.{Skip}
 use Rattle.request_parts.specs.declared.skip.Skip.TheVariants.{Nothing, Bytes}
 
@@ -16,7 +16,7 @@ Word = List ℕ
 
 infixl 10 ◌>>=◌
 -- the tests in turn: the first that fails decides
-abbrev pub ◌>>=◌ : {A B : Type 0} → Result A Why → (A → Result B Why) → Result B Why
+abbrev pub ◌>>=◌ : {A B : Type 0} → Result A RefusalReason → (A → Result B RefusalReason) → Result B RefusalReason
 (Ok x) >>= f = f x
 (Err e) >>= f = Err e
 
@@ -25,23 +25,23 @@ abbrev pub is_key : Word → Bool
 is_key word = nat_le 1 (length word) && nat_le (length word) KEY_LIMIT && list_all is_key_byte word
 
 -- a key
-abbrev pub key_of : Word → Result Word Why
+abbrev pub key_of : Word → Result Word RefusalReason
 key_of word = if is_key word then Ok word else Err BadKey
 
 -- flags or a length: a number below 2^32
-abbrev pub small_of : Word → Result ℕ Why
+abbrev pub small_of : Word → Result ℕ RefusalReason
 small_of word = ok_or (number_below (2 ^ 32) word) BadNumber
 
 -- a cas number, or by how much is counted: a number below 2^64
-abbrev pub wide_of : Word → Result ℕ Why
+abbrev pub wide_of : Word → Result ℕ RefusalReason
 wide_of word = ok_or (number_below (2 ^ 64) word) BadNumber
 
 -- a number of 64 bits with a sign
-abbrev pub exptime_of : Word → Result ℤ Why
+abbrev pub exptime_of : Word → Result ℤ RefusalReason
 exptime_of word = ok_or (signed_number word) BadNumber
 
 -- what is asked with data of so many bytes: at most 1,048,576
-abbrev pub fitting : {A : Type 0} → ℕ → A → Result A Why
+abbrev pub fitting : {A : Type 0} → ℕ → A → Result A RefusalReason
 fitting length order = if nat_le length data_limit then Ok order else Err TooLarge
 
 -- a data block with its end

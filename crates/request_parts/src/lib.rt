@@ -4,12 +4,12 @@
 
 pub mod block;
 pub mod key_bytes;
-pub mod own;
 pub mod parts;
+pub mod proxy_command;
 pub mod refusal;
 pub mod skip;
 
 pub use block::{End, block_end};
-pub use own::Own;
-pub use refusal::Why;
+pub use proxy_command::ProxyCommand;
+pub use refusal::RefusalReason;
 pub use skip::Skip;

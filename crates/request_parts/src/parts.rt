@@ -7,7 +7,7 @@ ghost use Rattle.request_parts.specs.Tests.{is_key, key_of, small_of, wide_of, e
 ghost use Rattle.request_parts.specs.Places.{Gives, IsIn};
 
 use crate::key_bytes::are_key_bytes;
-use crate::refusal::Why;
+use crate::refusal::RefusalReason;
 use mc_text::number::{number, signed, small_number};
 use mc_text::word::{Span, next_word};
 use mc_types::{KEY_LIMIT, Key};
@@ -20,11 +20,11 @@ pub fn is_key(word: &[u8]) -> bool
 }
 
 /// The next word, which must be there.
-pub fn word(line: &[u8], at: usize) -> Result<Span, Why>
+pub fn word(line: &[u8], at: usize) -> Result<Span, RefusalReason>
     requires { at ≤ length line.now }
-    ensures { MatchResult result (IsNextWord line.now at) (λ e. (e ≡ Why.Unknown) × (words (drop at line.now) ≡ [])) }
+    ensures { MatchResult result (IsNextWord line.now at) (λ e. (e ≡ RefusalReason.Unknown) × (words (drop at line.now) ≡ [])) }
 {
-    next_word(line, at).ok_or(Why::Unknown)
+    next_word(line, at).ok_or(RefusalReason::Unknown)
 }
 
 /// The word at a place among the words of a line from a byte on.
@@ -50,7 +50,7 @@ pub fn length_at(line: &[u8], from: usize, place: usize) -> Option<u32>
 }
 
 /// The key that a word must be.
-pub fn key(line: &[u8], word: Span) -> Result<Span, Why>
+pub fn key(line: &[u8], word: Span) -> Result<Span, RefusalReason>
     requires { IsIn (length line.now) word }
     ensures key { Gives (text_at line.now) result (key_of (text_at line.now word)) }
     ensures same { IfOk result (λ s. s ≡ word) }
@@ -58,32 +58,32 @@ pub fn key(line: &[u8], word: Span) -> Result<Span, Why>
     if is_key(&line[word.start..word.end]) {
         Ok(word)
     } else {
-        Err(Why::BadKey)
+        Err(RefusalReason::BadKey)
     }
 }
 
 /// The flags or the length that a word must be.
-pub fn small(line: &[u8], word: Span) -> Result<u32, Why>
+pub fn small(line: &[u8], word: Span) -> Result<u32, RefusalReason>
     requires { IsIn (length line.now) word }
     ensures { result ≡ small_of (text_at line.now word) }
 {
-    small_number(&line[word.start..word.end]).ok_or(Why::BadNumber)
+    small_number(&line[word.start..word.end]).ok_or(RefusalReason::BadNumber)
 }
 
 /// The number below 2^64 that a word must be.
-pub fn wide(line: &[u8], word: Span) -> Result<u64, Why>
+pub fn wide(line: &[u8], word: Span) -> Result<u64, RefusalReason>
     requires { IsIn (length line.now) word }
     ensures { result ≡ wide_of (text_at line.now word) }
 {
-    number(&line[word.start..word.end]).ok_or(Why::BadNumber)
+    number(&line[word.start..word.end]).ok_or(RefusalReason::BadNumber)
 }
 
 /// The exptime that a word must be.
-pub fn exptime(line: &[u8], word: Span) -> Result<i64, Why>
+pub fn exptime(line: &[u8], word: Span) -> Result<i64, RefusalReason>
     requires { IsIn (length line.now) word }
     ensures { result ≡ exptime_of (text_at line.now word) }
 {
-    signed(&line[word.start..word.end]).ok_or(Why::BadNumber)
+    signed(&line[word.start..word.end]).ok_or(RefusalReason::BadNumber)
 }
 
 /// The key that stands there.

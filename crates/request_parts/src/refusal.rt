@@ -5,7 +5,7 @@ ghost use Rattle.request_parts.specs.Refusals.{refusal_line};
 /// Why a line is refused. The tests are made in this order, and the first that fails decides; those of one meta flag come
 /// together before the next flag's, and `FlagNotServed` is told once more after them, of a `C` whose `ms` isn't a set.
 #[derive(Clone, Copy, PartialEq, Eq)]
-pub enum Why {
+pub enum RefusalReason {
     /// No command is spelled so: its word, the number of its words, or another word where `noreply` or `0` may stand.
     Unknown,
     /// A key isn't 1 to 250 bytes, or has a control character or the byte 127 in it.
@@ -24,20 +24,20 @@ pub enum Why {
     BadChunk,
 }
 
-impl Why {
+impl RefusalReason {
     /// The line that the client is answered, without its `\r\n`. It takes no memory.
     pub fn line(self) -> &'static [u8]
         ensures { result.now ≡ refusal_line self }
     {
         match self {
-            Why::Unknown => b"ERROR".as_slice(),
-            Why::BadKey => b"CLIENT_ERROR bad key".as_slice(),
-            Why::BadNumber => b"CLIENT_ERROR bad number".as_slice(),
-            Why::FlagNotServed => b"CLIENT_ERROR flag not served".as_slice(),
-            Why::FlagTwice => b"CLIENT_ERROR flag twice".as_slice(),
-            Why::BadToken => b"CLIENT_ERROR bad token".as_slice(),
-            Why::TooLarge => b"SERVER_ERROR object too large for cache".as_slice(),
-            Why::BadChunk => b"CLIENT_ERROR bad data chunk".as_slice(),
+            RefusalReason::Unknown => b"ERROR".as_slice(),
+            RefusalReason::BadKey => b"CLIENT_ERROR bad key".as_slice(),
+            RefusalReason::BadNumber => b"CLIENT_ERROR bad number".as_slice(),
+            RefusalReason::FlagNotServed => b"CLIENT_ERROR flag not served".as_slice(),
+            RefusalReason::FlagTwice => b"CLIENT_ERROR flag twice".as_slice(),
+            RefusalReason::BadToken => b"CLIENT_ERROR bad token".as_slice(),
+            RefusalReason::TooLarge => b"SERVER_ERROR object too large for cache".as_slice(),
+            RefusalReason::BadChunk => b"CLIENT_ERROR bad data chunk".as_slice(),
         }
     }
 }

@@ -1,3 +1,4 @@
+pub mod Adding
 pub mod Each
 pub mod Numbers
 pub mod Slots

@@ -10,9 +10,9 @@ use Rattle.mc_types.specs.declared.answer.Code.{Code}
 use Rattle.mc_types.specs.declared.answer.Code.TheVariants.{Hd, Va, En, Ns, Ex, Nf}
 use Rattle.mc_types.specs.declared.answer.Answer.{Answer}
 use Rattle.mc_types.specs.declared.answer.Answer.TheVariants as answers
-use Rattle.request_parts.specs.declared.own.Own.{Own}
-use Rattle.request_parts.specs.declared.own.Own.TheVariants.{Version, Quit, Noop}
-use Rattle.request_parts.specs.declared.refusal.Why.{Why}
+use Rattle.request_parts.specs.declared.proxy_command.ProxyCommand.{ProxyCommand}
+use Rattle.request_parts.specs.declared.proxy_command.ProxyCommand.TheVariants.{Version, Quit, Noop}
+use Rattle.request_parts.specs.declared.refusal.RefusalReason.{RefusalReason}
 use Rattle.request_parts.specs.Refusals.{refusal_line}
 use Rattle.text_answers.specs.Spelling.{spelling_of, value_of, end_text}
 
@@ -115,12 +115,12 @@ abbrev pub ends_with : List Ask → ℕ → Answer → Bool
 ends_with asks i reply = is_failure reply || is_last asks i
 
 -- what mcgate itself answers
-abbrev pub own_answer : Own → List ℕ
+abbrev pub own_answer : ProxyCommand → List ℕ
 own_answer Version = codes "VERSION mcgate-1\r\n"
 own_answer Quit = []
 own_answer Noop = codes "MN\r\n"
 
-abbrev pub refusal_text : Why → List ℕ
+abbrev pub refusal_text : RefusalReason → List ℕ
 refusal_text why = refusal_line why ++ codes "\r\n"
 
 abbrev pub long_line_text : List ℕ

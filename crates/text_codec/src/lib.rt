@@ -15,6 +15,6 @@ pub mod stream;
 pub use client_requests::{Asks, Read, Request, read_request, write_ask};
 pub use mc_text::{Line, line};
 pub use replies::{ends_message, write_long_line, write_own, write_part, write_refusal};
-pub use request_parts::{Own, Skip, Why};
+pub use request_parts::{ProxyCommand, RefusalReason, Skip};
 pub use stream::TextStream;
 pub use text_answers::{AnswerRead, read_answer, write_answer, write_end, write_value};

@@ -6,7 +6,7 @@ ghost use Rattle.text_codec.specs.Replies.{shows_values, hidden_code, hidden_ans
 
 use bytes::BytesMut;
 use mc_types::{Answer, Ask, Code, Dialect, Op};
-use request_parts::{Own, Why};
+use request_parts::{ProxyCommand, RefusalReason};
 use std::alloc::AllocError;
 use text_answers::{write_answer, write_end, write_value};
 
@@ -108,18 +108,18 @@ pub fn write_part(
 
 /// Appends what mcgate itself answers: its version, `MN` to `mn`, and nothing to `quit`. The only error is running out of memory, which
 /// leaves the buffer as it was.
-pub fn write_own(own: Own, out: &mut BytesMut) -> Result<(), AllocError>
+pub fn write_own(own: ProxyCommand, out: &mut BytesMut) -> Result<(), AllocError>
     ensures ok { OnOk result (out.new.items ≡ out.old.items ++ own_answer own) }
     ensures err { OnErr result (out.new.items ≡ out.old.items) }
 {
     match own {
-        Own::Version => out.extend_from_slice(b"VERSION mcgate-1\r\n"),
-        Own::Quit => Ok(()),
-        Own::Noop => out.extend_from_slice(b"MN\r\n"),
+        ProxyCommand::Version => out.extend_from_slice(b"VERSION mcgate-1\r\n"),
+        ProxyCommand::Quit => Ok(()),
+        ProxyCommand::Noop => out.extend_from_slice(b"MN\r\n"),
     }
 }
 
-fn put_refusal(why: Why, out: &mut BytesMut) -> Result<(), AllocError>
+fn put_refusal(why: RefusalReason, out: &mut BytesMut) -> Result<(), AllocError>
     ensures ok { OnOk result (out.new.items ≡ out.old.items ++ refusal_text why) }
     ensures err { OnErr result (take (length out.old.items) out.new.items ≡ out.old.items) }
 {
@@ -129,7 +129,7 @@ fn put_refusal(why: Why, out: &mut BytesMut) -> Result<(), AllocError>
 
 /// Appends the line that a refused message is answered. The only error is running out of memory, which leaves the buffer as
 /// it was.
-pub fn write_refusal(why: Why, out: &mut BytesMut) -> Result<(), AllocError>
+pub fn write_refusal(why: RefusalReason, out: &mut BytesMut) -> Result<(), AllocError>
     ensures ok { OnOk result (out.new.items ≡ out.old.items ++ refusal_text why) }
     ensures err { OnErr result (out.new.items ≡ out.old.items) }
 {

@@ -2,7 +2,7 @@
 use Rattle.std.proofs.Common.{◌≡◌, ℕ, ◌-◌, List, [], length, take, drop, Some, Ok, refl, ap, ◌∙◌, arith}
 use Rattle.mc_text.specs.Line.{TakesLine, without_cr}
 use Rattle.mc_text.specs.Word.{words}
-use Rattle.request_parts.specs.declared.refusal.Why.TheVariants.{Unknown}
+use Rattle.request_parts.specs.declared.refusal.RefusalReason.TheVariants.{Unknown}
 use Rattle.request_parts.specs.declared.skip.Skip.TheVariants.{Nothing}
 use Rattle.request_parts.specs.Places.{IsIn}
 use Rattle.request_parts.specs.Message.{Refusal, with_rest}

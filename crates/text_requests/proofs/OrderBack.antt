@@ -9,7 +9,7 @@ use Rattle.mc_types.specs.Asks.{IsAsk, IsExptime, data_limit}
 use Rattle.mc_types.specs.declared.ask.Ask.{Ask}
 use Rattle.mc_types.specs.declared.ask.Op.{Op}
 use Rattle.mc_types.specs.declared.ask.Op.TheVariants.{Get, Gat, Set, Add, Replace, Append, Prepend, Cas, Delete, Incr, Decr, Touch}
-use Rattle.request_parts.specs.declared.refusal.Why.{Why}
+use Rattle.request_parts.specs.declared.refusal.RefusalReason.{RefusalReason}
 use Rattle.text_requests.specs.declared.command.Verb.{Verb}
 use Rattle.text_requests.specs.declared.command.Verb.TheVariants as verbs
 use Rattle.text_requests.specs.declared.command.StoreKind.{StoreKind}
@@ -110,35 +110,35 @@ fitting_back n o le = rw (le-leb n data_limit le) refl
 
 storage_back : (kind : StoreKind) (ask : Ask) → IsFit ask → storage kind (store_words ask []) ≡ Ok (Storage kind (storing ask) false)
 storage_back kind ask f =
-    ap (λ (r : Result Storing Why). r >>= (λ stored. fitting stored.length (Storage kind stored false))) (storing_back (storing ask) f.key f.flags f.exptime f.body)
+    ap (λ (r : Result Storing RefusalReason). r >>= (λ stored. fitting stored.length (Storage kind stored false))) (storing_back (storing ask) f.key f.flags f.exptime f.body)
     ∙ fitting_back (length ask.body) (Storage kind (storing ask) false) f.body
 
 swapping_back : (ask : Ask) → IsFit ask → swapping (store_words ask (decimal (cas_in ask) ∷ [])) ≡ Ok (Swapping (storing ask) (cas_in ask) false)
 swapping_back ask f =
-    ap (λ (r : Result Storing Why). r >>= (λ stored. wide_of (decimal (cas_in ask)) >>= (λ cas. fitting stored.length (Swapping stored cas false)))) (storing_back (storing ask) f.key f.flags f.exptime f.body)
-    ∙ ap (λ (r : Result ℕ Why). r >>= (λ cas. fitting (length ask.body) (Swapping (storing ask) cas false))) (wide_back (cas_in ask) f.cas)
+    ap (λ (r : Result Storing RefusalReason). r >>= (λ stored. wide_of (decimal (cas_in ask)) >>= (λ cas. fitting stored.length (Swapping stored cas false)))) (storing_back (storing ask) f.key f.flags f.exptime f.body)
+    ∙ ap (λ (r : Result ℕ RefusalReason). r >>= (λ cas. fitting (length ask.body) (Swapping (storing ask) cas false))) (wide_back (cas_in ask) f.cas)
     ∙ fitting_back (length ask.body) (Swapping (storing ask) (cas_in ask) false) f.body
 
 getting_back : (with_cas : Bool) (key : Word) → IsKey key → getting with_cas (key ∷ []) ≡ Ok (Retrieval None with_cas (key ∷ []))
-getting_back with_cas key k = ap (λ (r : Result (List Word) Why). r >>= (λ keys. Ok (Retrieval None with_cas keys))) (keys_back key k)
+getting_back with_cas key k = ap (λ (r : Result (List Word) RefusalReason). r >>= (λ keys. Ok (Retrieval None with_cas keys))) (keys_back key k)
 
 gat_back : (with_cas : Bool) (key : Word) (z : ℤ) → IsKey key → IsExptime z → getting_and_touching with_cas (signed_decimal z ∷ key ∷ []) ≡ Ok (Retrieval (Some z) with_cas (key ∷ []))
 gat_back with_cas key z k e =
-    ap (λ (r : Result (List Word) Why). r >>= (λ keys. exptime_of (signed_decimal z) >>= (λ exptime. Ok (Retrieval (Some exptime) with_cas keys)))) (keys_back key k)
-    ∙ ap (λ (r : Result ℤ Why). r >>= (λ exptime. Ok (Retrieval (Some exptime) with_cas (key ∷ [])))) (exptime_back z e)
+    ap (λ (r : Result (List Word) RefusalReason). r >>= (λ keys. exptime_of (signed_decimal z) >>= (λ exptime. Ok (Retrieval (Some exptime) with_cas keys)))) (keys_back key k)
+    ∙ ap (λ (r : Result ℤ RefusalReason). r >>= (λ exptime. Ok (Retrieval (Some exptime) with_cas (key ∷ [])))) (exptime_back z e)
 
 counting_back : (up : Bool) (key : Word) (delta : ℕ) → IsKey key → delta < 2 ^ 64 → counting up (key ∷ decimal delta ∷ []) ≡ Ok (Counting up key delta false)
 counting_back up key delta k lt =
-    ap (λ (r : Result Word Why). r >>= (λ key. wide_of (decimal delta) >>= (λ delta. Ok (Counting up key delta false)))) (key_back key k)
-    ∙ ap (λ (r : Result ℕ Why). r >>= (λ delta. Ok (Counting up key delta false))) (wide_back delta lt)
+    ap (λ (r : Result Word RefusalReason). r >>= (λ key. wide_of (decimal delta) >>= (λ delta. Ok (Counting up key delta false)))) (key_back key k)
+    ∙ ap (λ (r : Result ℕ RefusalReason). r >>= (λ delta. Ok (Counting up key delta false))) (wide_back delta lt)
 
 touching_back : (key : Word) (z : ℤ) → IsKey key → IsExptime z → touching (key ∷ signed_decimal z ∷ []) ≡ Ok (Touching key z false)
 touching_back key z k e =
-    ap (λ (r : Result Word Why). r >>= (λ key. exptime_of (signed_decimal z) >>= (λ exptime. Ok (Touching key exptime false)))) (key_back key k)
-    ∙ ap (λ (r : Result ℤ Why). r >>= (λ exptime. Ok (Touching key exptime false))) (exptime_back z e)
+    ap (λ (r : Result Word RefusalReason). r >>= (λ key. exptime_of (signed_decimal z) >>= (λ exptime. Ok (Touching key exptime false)))) (key_back key k)
+    ∙ ap (λ (r : Result ℤ RefusalReason). r >>= (λ exptime. Ok (Touching key exptime false))) (exptime_back z e)
 
 deletion_back : (key : Word) → IsKey key → deletion (key ∷ []) ≡ Ok (Deletion key false)
-deletion_back key k = ap (λ (r : Result Word Why). r >>= (λ key. Ok (Deletion key false))) (key_back key k)
+deletion_back key k = ap (λ (r : Result Word RefusalReason). r >>= (λ key. Ok (Deletion key false))) (key_back key k)
 
 by_verb : (w : Word) (ws : List Word) (v : Option Verb) (o : Order) → verb_of w ≡ v → ordered_by v ws ≡ Ok o → order_of (w ∷ ws) ≡ Ok o
 by_verb w ws v o is e = ap (λ (v : Option Verb). ordered_by v ws) is ∙ e

@@ -5,9 +5,9 @@ use Rattle.std.specs.List.{AllByRecursion, list_all}
 use Rattle.std.proofs.lemmas.Bool.{cases_Bool, and_parts}
 use Rattle.mc_types.specs.KeyText.{IsKey}
 use Rattle.mc_types.specs.Asks.{IsExptime, data_limit}
-use Rattle.request_parts.specs.declared.refusal.Why.{Why}
-use Rattle.request_parts.specs.declared.refusal.Why.TheVariants.{BadKey}
-use Rattle.request_parts.specs.declared.own.Own.{Own}
+use Rattle.request_parts.specs.declared.refusal.RefusalReason.{RefusalReason}
+use Rattle.request_parts.specs.declared.refusal.RefusalReason.TheVariants.{BadKey}
+use Rattle.request_parts.specs.declared.proxy_command.ProxyCommand.{ProxyCommand}
 use Rattle.request_parts.specs.Tests.{Word, is_key, key_of, small_of, wide_of, exptime_of}
 use Rattle.request_parts.proofs.KeyTexts.{key_is}
 use Rattle.request_parts.proofs.Ranges.{passed, is_ok, a_key, a_small, a_wide, an_exptime, fits}
@@ -39,8 +39,8 @@ keys_are (w ∷ ws) e = let a = and_parts (is_key w) (list_all is_key ws) e in (
 some_keys : (ws ks : List Word) → keys_of ws ≡ Ok ks → AllByRecursion IsKey ks
 some_keys [] ks e = absurd cc
 some_keys (w ∷ ws) ks e = elim (cases_Bool (list_all is_key (w ∷ ws))) [
-  | inl same ↦ let f : ◌≡◌ {A = Result (List Word) Why} (Ok (w ∷ ws)) (Ok ks) = rw same at e in subst (AllByRecursion IsKey) (is_ok (w ∷ ws) ks f) (keys_are (w ∷ ws) same)
-  | inr other ↦ let f : ◌≡◌ {A = Result (List Word) Why} (Err BadKey) (Ok ks) = rw other at e in absurd cc
+  | inl same ↦ let f : ◌≡◌ {A = Result (List Word) RefusalReason} (Ok (w ∷ ws)) (Ok ks) = rw same at e in subst (AllByRecursion IsKey) (is_ok (w ∷ ws) ks f) (keys_are (w ∷ ws) same)
+  | inr other ↦ let f : ◌≡◌ {A = Result (List Word) RefusalReason} (Err BadKey) (Ok ks) = rw other at e in absurd cc
 ]
 
 storing : (k f e n : Word) (s : Storing) → storing_of k f e n ≡ Ok s → IsSoundStoring s
@@ -118,7 +118,7 @@ by_retrieval : (touching with_cas : Bool) (ws : List Word) (o : Order) → retri
 by_retrieval true with_cas ws o h = by_getting_and_touching with_cas ws o h
 by_retrieval false with_cas ws o h = by_getting with_cas ws o h
 
-by_itself : (own : Own) (ws : List Word) (o : Order) → of_itself own ws ≡ Ok o → IsSound o
+by_itself : (own : ProxyCommand) (ws : List Word) (o : Order) → of_itself own ws ≡ Ok o → IsSound o
 by_itself own [] o h = subst IsSound (is_ok (OfItself own) o h) tt
 by_itself own (w ∷ ws) o h = absurd cc
 

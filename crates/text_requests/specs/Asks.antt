@@ -7,7 +7,7 @@ use Rattle.mc_types.specs.declared.ask.Op.TheVariants as ops
 use Rattle.mc_types.specs.declared.ask.Dialect.TheVariants.{Classic}
 use Rattle.mc_types.specs.declared.ask.Ask.{Ask}
 use Rattle.request_parts.specs.Tests.{Word}
-use Rattle.request_parts.specs.declared.own.Own.{Own}
+use Rattle.request_parts.specs.declared.proxy_command.ProxyCommand.{ProxyCommand}
 use Rattle.text_requests.specs.declared.command.StoreKind.{StoreKind}
 use Rattle.text_requests.specs.declared.command.StoreKind.TheVariants as kinds
 use Rattle.text_requests.specs.declared.command.Command.{Command}
@@ -99,7 +99,7 @@ quiet_of (Served order block) = is_quiet order
 quiet_of (Refusal why skip) = false
 
 -- what a message asks of mcgate itself
-abbrev pub own_of : Message → Option Own
+abbrev pub own_of : Message → Option ProxyCommand
 own_of (Served order block) = own_by order
 own_of (Refusal why skip) = None
 

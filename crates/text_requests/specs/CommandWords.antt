@@ -5,7 +5,7 @@ use Rattle.request_parts.specs.Tests.{Word}
 use Rattle.text_requests.specs.declared.command.Verb.{Verb}
 use Rattle.text_requests.specs.declared.command.Verb.TheVariants as verbs
 use Rattle.text_requests.specs.declared.command.StoreKind.TheVariants as kinds
-use Rattle.request_parts.specs.declared.own.Own.TheVariants as owns
+use Rattle.request_parts.specs.declared.proxy_command.ProxyCommand.TheVariants as owns
 
 -- a command word, and what it means
 abbrev pub Entry : Type 0

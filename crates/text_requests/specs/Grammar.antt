@@ -1,6 +1,6 @@
 -- The classic dialect's lines, as a grammar of requests.
 use Rattle.std.specs.Prelude.{ℕ, Option, Some, None}
-use Rattle.request_parts.specs.declared.own.Own.{Own}
+use Rattle.request_parts.specs.declared.proxy_command.ProxyCommand.{ProxyCommand}
 use Rattle.request_parts.specs.Grammar.{Grammar}
 use Rattle.text_requests.specs.Order.{Order, Storage, Swapping, OfItself, order_of, skip_of}
 
@@ -11,7 +11,7 @@ block_len (Swapping stored cas quiet) = Some stored.length
 block_len _ = None
 
 -- what an order asks of mcgate itself
-abbrev pub own_by : Order → Option Own
+abbrev pub own_by : Order → Option ProxyCommand
 own_by (OfItself own) = Some own
 own_by _ = None
 

@@ -7,9 +7,9 @@ use Rattle.text_requests.specs.CommandWords.{verb_of}
 use Rattle.text_requests.specs.declared.command.Verb.{Verb}
 use Rattle.text_requests.specs.declared.command.Verb.TheVariants as verbs
 use Rattle.text_requests.specs.declared.command.StoreKind.{StoreKind}
-use Rattle.request_parts.specs.declared.own.Own.{Own}
-use Rattle.request_parts.specs.declared.refusal.Why.{Why}
-use Rattle.request_parts.specs.declared.refusal.Why.TheVariants.{Unknown, BadKey}
+use Rattle.request_parts.specs.declared.proxy_command.ProxyCommand.{ProxyCommand}
+use Rattle.request_parts.specs.declared.refusal.RefusalReason.{RefusalReason}
+use Rattle.request_parts.specs.declared.refusal.RefusalReason.TheVariants.{Unknown, BadKey}
 use Rattle.request_parts.specs.declared.skip.Skip.{Skip}
 use Rattle.request_parts.specs.declared.skip.Skip.TheVariants.{Nothing}
 
@@ -28,32 +28,32 @@ pub data Order : Type 0 where
   Deletion : (key : Word) (quiet : Bool) → Order
   Touching : (key : Word) (exptime : ℤ) (quiet : Bool) → Order
   Counting : (up : Bool) (key : Word) (delta : ℕ) (quiet : Bool) → Order
-  OfItself : (own : Own) → Order
+  OfItself : (own : ProxyCommand) → Order
 
 -- a key or more
-abbrev pub keys_of : List Word → Result (List Word) Why
+abbrev pub keys_of : List Word → Result (List Word) RefusalReason
 keys_of [] = Err Unknown
 keys_of (key ∷ keys) = if list_all is_key (key ∷ keys) then Ok (key ∷ keys) else Err BadKey
 
 -- whether `noreply` stands there, and nothing else
-abbrev pub noreply_of : List Word → Result Bool Why
+abbrev pub noreply_of : List Word → Result Bool RefusalReason
 noreply_of [] = Ok false
 noreply_of (word ∷ []) = if bytes_eq word (codes "noreply") then Ok true else Err Unknown
 noreply_of (word ∷ other ∷ more) = Err Unknown
 
 -- the same, after the 0 that may stand there
-abbrev pub delete_tail_of : List Word → Result Bool Why
+abbrev pub delete_tail_of : List Word → Result Bool RefusalReason
 delete_tail_of [] = Ok false
 delete_tail_of (word ∷ more) = if bytes_eq word (codes "0") then noreply_of more else noreply_of (word ∷ more)
 
 -- `get` and `gets`: keys
-abbrev pub getting : Bool → List Word → Result Order Why
+abbrev pub getting : Bool → List Word → Result Order RefusalReason
 getting with_cas words = do
   keys ← keys_of words
   Ok (Retrieval None with_cas keys)
 
 -- `gat` and `gats`: an exptime, keys
-abbrev pub getting_and_touching : Bool → List Word → Result Order Why
+abbrev pub getting_and_touching : Bool → List Word → Result Order RefusalReason
 getting_and_touching with_cas (exptime ∷ words) = do
   keys ← keys_of words
   exptime ← exptime_of exptime
@@ -61,12 +61,12 @@ getting_and_touching with_cas (exptime ∷ words) = do
 getting_and_touching with_cas [] = Err Unknown
 
 -- a retrieval, with an exptime or without
-abbrev pub retrieval : Bool → Bool → List Word → Result Order Why
+abbrev pub retrieval : Bool → Bool → List Word → Result Order RefusalReason
 retrieval false with_cas words = getting with_cas words
 retrieval true with_cas words = getting_and_touching with_cas words
 
 -- key, flags, exptime, length
-abbrev pub storing_of : Word → Word → Word → Word → Result Storing Why
+abbrev pub storing_of : Word → Word → Word → Word → Result Storing RefusalReason
 storing_of key flags exptime length = do
   key ← key_of key
   flags ← small_of flags
@@ -75,7 +75,7 @@ storing_of key flags exptime length = do
   Ok (record { key = key; flags = flags; exptime = exptime; length = length })
 
 -- `set add replace append prepend`: key, flags, exptime, length, and `noreply` or not
-abbrev pub storage : StoreKind → List Word → Result Order Why
+abbrev pub storage : StoreKind → List Word → Result Order RefusalReason
 storage kind (key ∷ flags ∷ exptime ∷ length ∷ more) = do
   quiet ← noreply_of more
   stored ← storing_of key flags exptime length
@@ -83,7 +83,7 @@ storage kind (key ∷ flags ∷ exptime ∷ length ∷ more) = do
 storage kind _ = Err Unknown
 
 -- `cas`: the same with a cas number after the length
-abbrev pub swapping : List Word → Result Order Why
+abbrev pub swapping : List Word → Result Order RefusalReason
 swapping (key ∷ flags ∷ exptime ∷ length ∷ cas ∷ more) = do
   quiet ← noreply_of more
   stored ← storing_of key flags exptime length
@@ -92,7 +92,7 @@ swapping (key ∷ flags ∷ exptime ∷ length ∷ cas ∷ more) = do
 swapping _ = Err Unknown
 
 -- `delete`: key, 0 or not, `noreply` or not
-abbrev pub deletion : List Word → Result Order Why
+abbrev pub deletion : List Word → Result Order RefusalReason
 deletion [] = Err Unknown
 deletion (key ∷ more) = do
   quiet ← delete_tail_of more
@@ -100,7 +100,7 @@ deletion (key ∷ more) = do
   Ok (Deletion key quiet)
 
 -- `touch`: key, exptime, `noreply` or not
-abbrev pub touching : List Word → Result Order Why
+abbrev pub touching : List Word → Result Order RefusalReason
 touching (key ∷ exptime ∷ more) = do
   quiet ← noreply_of more
   key ← key_of key
@@ -109,7 +109,7 @@ touching (key ∷ exptime ∷ more) = do
 touching _ = Err Unknown
 
 -- `incr` and `decr`: key, by how much, `noreply` or not
-abbrev pub counting : Bool → List Word → Result Order Why
+abbrev pub counting : Bool → List Word → Result Order RefusalReason
 counting up (key ∷ delta ∷ more) = do
   quiet ← noreply_of more
   key ← key_of key
@@ -118,12 +118,12 @@ counting up (key ∷ delta ∷ more) = do
 counting up _ = Err Unknown
 
 -- `version` and `quit`: nothing
-abbrev pub of_itself : Own → List Word → Result Order Why
+abbrev pub of_itself : ProxyCommand → List Word → Result Order RefusalReason
 of_itself own [] = Ok (OfItself own)
 of_itself own (word ∷ more) = Err Unknown
 
 -- what the words after a command word ask
-abbrev pub ordered_by : Option Verb → List Word → Result Order Why
+abbrev pub ordered_by : Option Verb → List Word → Result Order RefusalReason
 ordered_by None words = Err Unknown
 ordered_by (Some (verbs.Store kind)) words = storage kind words
 ordered_by (Some verbs.Cas) words = swapping words
@@ -134,7 +134,7 @@ ordered_by (Some (verbs.Count up)) words = counting up words
 ordered_by (Some (verbs.Own own)) words = of_itself own words
 
 -- what the words of a line ask, or the first test that they fail
-abbrev pub order_of : List Word → Result Order Why
+abbrev pub order_of : List Word → Result Order RefusalReason
 order_of [] = Err Unknown
 order_of (word ∷ words) = ordered_by (verb_of word) words
 

@@ -1,6 +1,6 @@
 //! What a line asks, and what the bytes of a client begin with.
 use mc_text::word::Span;
-use request_parts::{Own, Skip, Why};
+use request_parts::{ProxyCommand, RefusalReason, Skip};
 
 /// The stores without a cas number, each named as its command word.
 #[derive(Clone, Copy)]
@@ -25,7 +25,7 @@ pub enum Verb {
     Touch,
     /// `incr` up, `decr` down.
     Count { up: bool },
-    Own(Own),
+    Own(ProxyCommand),
 }
 
 /// The key and the numbers that each store has.
@@ -91,7 +91,7 @@ pub enum Command {
         delta: u64,
     },
     /// `version` and `quit`.
-    Own(Own),
+    Own(ProxyCommand),
 }
 
 /// A request that is served: what its line asks, and where its data block stands in the bytes that were read.
@@ -114,5 +114,9 @@ pub enum Read {
     /// A message that is served.
     Request(Request),
     /// A message that is refused: it takes `used` bytes, and what `skip` says is passed over after them.
-    Refused { why: Why, used: usize, skip: Skip },
+    Refused {
+        why: RefusalReason,
+        used: usize,
+        skip: Skip,
+    },
 }

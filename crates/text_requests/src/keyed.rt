@@ -9,10 +9,10 @@ use crate::command::Command;
 use crate::parts::{delete_tail, noreply};
 use mc_text::word::next_word;
 use request_parts::parts::{exptime, key, wide, word};
-use request_parts::{Own, Why};
+use request_parts::{ProxyCommand, RefusalReason};
 
 /// What `delete` asks.
-pub fn deletion(line: &[u8], at: usize) -> Result<Command, Why>
+pub fn deletion(line: &[u8], at: usize) -> Result<Command, RefusalReason>
     requires { at ≤ length line.now }
     ensures order { Gives (order_in line.now) result (deletion (words (drop at line.now))) }
     ensures within { IfOk result (LiesIn line.now) }
@@ -24,7 +24,7 @@ pub fn deletion(line: &[u8], at: usize) -> Result<Command, Why>
 }
 
 /// What `touch` asks.
-pub fn touching(line: &[u8], at: usize) -> Result<Command, Why>
+pub fn touching(line: &[u8], at: usize) -> Result<Command, RefusalReason>
     requires { at ≤ length line.now }
     ensures order { Gives (order_in line.now) result (touching (words (drop at line.now))) }
     ensures within { IfOk result (LiesIn line.now) }
@@ -42,7 +42,7 @@ pub fn touching(line: &[u8], at: usize) -> Result<Command, Why>
 }
 
 /// What `incr` and `decr` ask.
-pub fn counting(line: &[u8], at: usize, up: bool) -> Result<Command, Why>
+pub fn counting(line: &[u8], at: usize, up: bool) -> Result<Command, RefusalReason>
     requires { at ≤ length line.now }
     ensures order { Gives (order_in line.now) result (counting up (words (drop at line.now))) }
     ensures within { IfOk result (LiesIn line.now) }
@@ -61,13 +61,13 @@ pub fn counting(line: &[u8], at: usize, up: bool) -> Result<Command, Why>
 }
 
 /// What `version` and `quit` ask.
-pub fn of_itself(line: &[u8], at: usize, own: Own) -> Result<Command, Why>
+pub fn of_itself(line: &[u8], at: usize, own: ProxyCommand) -> Result<Command, RefusalReason>
     requires { at ≤ length line.now }
     ensures order { Gives (order_in line.now) result (of_itself own (words (drop at line.now))) }
     ensures within { IfOk result (LiesIn line.now) }
 {
     match next_word(line, at) {
         None => Ok(Command::Own(own)),
-        Some(_) => Err(Why::Unknown),
+        Some(_) => Err(RefusalReason::Unknown),
     }
 }

@@ -17,5 +17,5 @@ pub mod writer;
 pub use command::{Read, Request};
 pub use reader::{read_behind, read_request};
 pub use request::Asks;
-pub use request_parts::{Own, Skip, Why};
+pub use request_parts::{ProxyCommand, RefusalReason, Skip};
 pub use writer::write_ask;

@@ -12,15 +12,15 @@ use crate::stores::{storage, swapping};
 use crate::verbs::verb;
 use mc_text::word::{Span, next_word};
 use request_parts::parts::length_at;
-use request_parts::{Skip, Why};
+use request_parts::{RefusalReason, Skip};
 
-fn ordered(line: &[u8], at: usize, verb: Option<Verb>) -> Result<Command, Why>
+fn ordered(line: &[u8], at: usize, verb: Option<Verb>) -> Result<Command, RefusalReason>
     requires { at ≤ length line.now }
     ensures order { Gives (order_in line.now) result (ordered_by verb (words (drop at line.now))) }
     ensures within { IfOk result (LiesIn line.now) }
 {
     match verb {
-        None => Err(Why::Unknown),
+        None => Err(RefusalReason::Unknown),
         Some(Verb::Store(kind)) => storage(line, at, kind),
         Some(Verb::Cas) => swapping(line, at),
         Some(Verb::Retrieve { touching, with_cas }) => retrieval(line, at, touching, with_cas),
@@ -32,7 +32,7 @@ fn ordered(line: &[u8], at: usize, verb: Option<Verb>) -> Result<Command, Why>
 }
 
 /// What a line with this first word asks, or the first test that it fails.
-pub fn command(line: &[u8], first: Span) -> Result<Command, Why>
+pub fn command(line: &[u8], first: Span) -> Result<Command, RefusalReason>
     requires { IsNextWord line.now 0 first }
     ensures order { Gives (order_in line.now) result (order_of (words line.now)) }
     ensures within { IfOk result (LiesIn line.now) }

@@ -4,10 +4,10 @@ ghost use Rattle.mc_text.specs.Word.{words};
 ghost use Rattle.text_requests.specs.Order.{noreply_of, delete_tail_of};
 
 use mc_text::word::next_word;
-use request_parts::Why;
+use request_parts::RefusalReason;
 
 /// Whether `noreply` stands there; nothing else may.
-pub fn noreply(line: &[u8], at: usize) -> Result<bool, Why>
+pub fn noreply(line: &[u8], at: usize) -> Result<bool, RefusalReason>
     requires { at ≤ length line.now }
     ensures { result ≡ noreply_of (words (drop at line.now)) }
 {
@@ -15,18 +15,18 @@ pub fn noreply(line: &[u8], at: usize) -> Result<bool, Why>
         None => Ok(false),
         Some(word) => {
             if &line[word.start..word.end] != b"noreply".as_slice() {
-                return Err(Why::Unknown);
+                return Err(RefusalReason::Unknown);
             }
             match next_word(line, word.end) {
                 None => Ok(true),
-                Some(_) => Err(Why::Unknown),
+                Some(_) => Err(RefusalReason::Unknown),
             }
         }
     }
 }
 
 /// The same, after the 0 that may stand there.
-pub fn delete_tail(line: &[u8], at: usize) -> Result<bool, Why>
+pub fn delete_tail(line: &[u8], at: usize) -> Result<bool, RefusalReason>
     requires { at ≤ length line.now }
     ensures { result ≡ delete_tail_of (words (drop at line.now)) }
 {

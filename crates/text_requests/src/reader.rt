@@ -11,7 +11,7 @@ use crate::line_words::{command, skip};
 use mc_text::ends::Line;
 use mc_text::reading::line;
 use mc_text::word::{Span, next_word};
-use request_parts::{End, Skip, Why, block_end};
+use request_parts::{End, RefusalReason, Skip, block_end};
 
 fn with_block(bytes: &[u8], used: usize, command: Command, len: usize) -> Read
     requires used { used ≤ length bytes.now }
@@ -31,7 +31,7 @@ fn with_block(bytes: &[u8], used: usize, command: Command, len: usize) -> Read
             used: end + 2,
         }),
         End::Bad => Read::Refused {
-            why: Why::BadChunk,
+            why: RefusalReason::BadChunk,
             used: end,
             skip: Skip::ThroughNewline,
         },
@@ -94,7 +94,7 @@ pub fn read_request(bytes: &[u8]) -> Read
         Line::At { end, used } => match next_word(&bytes[..end], 0) {
             Some(first) => read_behind(bytes, end, used, first),
             None => Read::Refused {
-                why: Why::Unknown,
+                why: RefusalReason::Unknown,
                 used,
                 skip: Skip::Nothing,
             },

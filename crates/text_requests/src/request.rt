@@ -10,7 +10,7 @@ ghost use Rattle.text_requests.specs.Asks.{asks_of, quiet_of, own_of, bare_ask, 
 use crate::command::{Command, Request, StoreKind, Stored};
 use mc_text::word::{Span, next_word};
 use mc_types::{Ask, Body, Dialect, Key, Op, Tokens};
-use request_parts::Own;
+use request_parts::ProxyCommand;
 use request_parts::parts::{key_at, nth_word};
 use std::alloc::{AllocError, Global};
 
@@ -132,7 +132,7 @@ pub struct Asks {
 
 impl Request {
     /// What it asks of mcgate itself, if it does. It takes no memory.
-    pub fn own(&self) -> Option<Own>
+    pub fn own(&self) -> Option<ProxyCommand>
         ensures { (bytes : List ℕ) → result ≡ own_of (message_in bytes self.now) }
     {
         match self.command {

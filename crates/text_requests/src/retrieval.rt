@@ -10,7 +10,7 @@ ghost use Rattle.request_parts.specs.Places.{Gives};
 use crate::command::{Command, Keys};
 use crate::next_key::{NextKey, next_key};
 use mc_text::word::Span;
-use request_parts::Why;
+use request_parts::RefusalReason;
 use request_parts::parts::{exptime, word};
 
 // how many words there are, if each is a key
@@ -33,14 +33,14 @@ fn count_keys(line: &[u8], at: usize) -> Option<usize>
     }
 }
 
-fn keys(line: &[u8], at: usize) -> Result<Keys, Why>
+fn keys(line: &[u8], at: usize) -> Result<Keys, RefusalReason>
     requires { at ≤ length line.now }
     ensures keys { Gives (keys_in line.now) result (keys_of (words (drop at line.now))) }
     ensures within { IfOk result (AreIn line.now) }
 {
-    let count = count_keys(line, at).ok_or(Why::BadKey)?;
+    let count = count_keys(line, at).ok_or(RefusalReason::BadKey)?;
     if count == 0 {
-        return Err(Why::Unknown);
+        return Err(RefusalReason::Unknown);
     }
     Ok(Keys {
         span: Span {
@@ -51,7 +51,7 @@ fn keys(line: &[u8], at: usize) -> Result<Keys, Why>
     })
 }
 
-fn getting(line: &[u8], at: usize, with_cas: bool) -> Result<Command, Why>
+fn getting(line: &[u8], at: usize, with_cas: bool) -> Result<Command, RefusalReason>
     requires { at ≤ length line.now }
     ensures order { Gives (order_in line.now) result (getting with_cas (words (drop at line.now))) }
     ensures within { IfOk result (LiesIn line.now) }
@@ -64,7 +64,7 @@ fn getting(line: &[u8], at: usize, with_cas: bool) -> Result<Command, Why>
     })
 }
 
-fn getting_and_touching(line: &[u8], at: usize, with_cas: bool) -> Result<Command, Why>
+fn getting_and_touching(line: &[u8], at: usize, with_cas: bool) -> Result<Command, RefusalReason>
     requires { at ≤ length line.now }
     ensures order { Gives (order_in line.now) result (getting_and_touching with_cas (words (drop at line.now))) }
     ensures within { IfOk result (LiesIn line.now) }
@@ -80,7 +80,12 @@ fn getting_and_touching(line: &[u8], at: usize, with_cas: bool) -> Result<Comman
 }
 
 /// What `get`, `gets`, `gat` and `gats` ask.
-pub fn retrieval(line: &[u8], at: usize, touching: bool, with_cas: bool) -> Result<Command, Why>
+pub fn retrieval(
+    line: &[u8],
+    at: usize,
+    touching: bool,
+    with_cas: bool,
+) -> Result<Command, RefusalReason>
     requires { at ≤ length line.now }
     ensures order { Gives (order_in line.now) result (retrieval touching with_cas (words (drop at line.now))) }
     ensures within { IfOk result (LiesIn line.now) }

@@ -9,7 +9,7 @@ use crate::command::{Command, StoreKind, Stored};
 use crate::parts::noreply;
 use mc_text::word::Span;
 use mc_types::DATA_LIMIT;
-use request_parts::Why;
+use request_parts::RefusalReason;
 use request_parts::parts::{exptime, key, small, wide, word};
 
 /// The words that each store has, in order.
@@ -21,9 +21,9 @@ pub struct StoreWords {
     length: Span,
 }
 
-fn store_words(line: &[u8], at: usize) -> Result<StoreWords, Why>
+fn store_words(line: &[u8], at: usize) -> Result<StoreWords, RefusalReason>
     requires { at ≤ length line.now }
-    ensures { MatchResult result (AreStoreWords line.now at) (λ e. (e ≡ Why.Unknown) × (length (words (drop at line.now)) < 4)) }
+    ensures { MatchResult result (AreStoreWords line.now at) (λ e. (e ≡ RefusalReason.Unknown) × (length (words (drop at line.now)) < 4)) }
 {
     let key = word(line, at)?;
     let flags = word(line, key.end)?;
@@ -37,7 +37,7 @@ fn store_words(line: &[u8], at: usize) -> Result<StoreWords, Why>
     })
 }
 
-fn stored_in(line: &[u8], found: StoreWords) -> Result<Stored, Why>
+fn stored_in(line: &[u8], found: StoreWords) -> Result<Stored, RefusalReason>
     requires { AreSpans (length line.now) found }
     ensures value { Gives (storing_in line.now) result (storing_of (text_at line.now found.key) (text_at line.now found.flags) (text_at line.now found.exptime) (text_at line.now found.length)) }
     ensures same { IfOk result (λ s. s.key ≡ found.key) }
@@ -55,7 +55,7 @@ fn stored_in(line: &[u8], found: StoreWords) -> Result<Stored, Why>
 }
 
 /// What `set`, `add`, `replace`, `append` and `prepend` ask.
-pub fn storage(line: &[u8], at: usize, kind: StoreKind) -> Result<Command, Why>
+pub fn storage(line: &[u8], at: usize, kind: StoreKind) -> Result<Command, RefusalReason>
     requires { at ≤ length line.now }
     ensures order { Gives (order_in line.now) result (storage kind (words (drop at line.now))) }
     ensures within { IfOk result (LiesIn line.now) }
@@ -64,7 +64,7 @@ pub fn storage(line: &[u8], at: usize, kind: StoreKind) -> Result<Command, Why>
     let quiet = noreply(line, found.length.end)?;
     let stored = stored_in(line, found)?;
     if stored.length > DATA_LIMIT {
-        return Err(Why::TooLarge);
+        return Err(RefusalReason::TooLarge);
     }
     Ok(Command::Storage {
         kind,
@@ -74,7 +74,7 @@ pub fn storage(line: &[u8], at: usize, kind: StoreKind) -> Result<Command, Why>
 }
 
 /// What `cas` asks.
-pub fn swapping(line: &[u8], at: usize) -> Result<Command, Why>
+pub fn swapping(line: &[u8], at: usize) -> Result<Command, RefusalReason>
     requires { at ≤ length line.now }
     ensures order { Gives (order_in line.now) result (swapping (words (drop at line.now))) }
     ensures within { IfOk result (LiesIn line.now) }
@@ -85,7 +85,7 @@ pub fn swapping(line: &[u8], at: usize) -> Result<Command, Why>
     let stored = stored_in(line, found)?;
     let cas = wide(line, cas)?;
     if stored.length > DATA_LIMIT {
-        return Err(Why::TooLarge);
+        return Err(RefusalReason::TooLarge);
     }
     Ok(Command::Swapping { stored, cas, quiet })
 }

@@ -3,7 +3,7 @@ ghost use Rattle.std.specs.Prelude.{◌≡◌};
 ghost use Rattle.text_requests.specs.CommandWords.{verb_of, found_in, of_three, of_four, of_five, of_six, of_seven};
 
 use crate::command::{StoreKind, Verb};
-use request_parts::Own;
+use request_parts::ProxyCommand;
 
 fn three(word: &[u8]) -> Option<Verb>
     ensures { result ≡ found_in of_three word.now }
@@ -47,7 +47,7 @@ fn four(word: &[u8]) -> Option<Verb>
     } else if word == b"decr".as_slice() {
         Some(Verb::Count { up: false })
     } else if word == b"quit".as_slice() {
-        Some(Verb::Own(Own::Quit))
+        Some(Verb::Own(ProxyCommand::Quit))
     } else {
         None
     }
@@ -83,7 +83,7 @@ fn seven(word: &[u8]) -> Option<Verb>
     } else if word == b"prepend".as_slice() {
         Some(Verb::Store(StoreKind::Prepend))
     } else if word == b"version".as_slice() {
-        Some(Verb::Own(Own::Version))
+        Some(Verb::Own(ProxyCommand::Version))
     } else {
         None
     }

@@ -1,7 +1,7 @@
 use Rattle.request_parts.proofs.Fronts.{nothing_begins}
 use Rattle.meta_requests.specs.Grammar.{meta_grammar}
 use Rattle.meta_requests.specs.declared.command.Read.TheVariants as reads
-use Rattle.request_parts.specs.declared.refusal.Why.TheVariants.{Unknown}
+use Rattle.request_parts.specs.declared.refusal.RefusalReason.TheVariants.{Unknown}
 use Rattle.request_parts.specs.declared.skip.Skip.TheVariants.{Nothing}
 use Rattle.meta_requests.proofs.Front.{reads-from_line, no_word}
 use Rattle.meta_requests.proofs.reader.read_request.Goals as goal

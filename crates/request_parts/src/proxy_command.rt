@@ -2,7 +2,7 @@
 
 /// What a request asks of mcgate itself.
 #[derive(Clone, Copy, PartialEq, Eq)]
-pub enum Own {
+pub enum ProxyCommand {
     /// The name and version.
     Version,
     /// To be closed.
