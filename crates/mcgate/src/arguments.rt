@@ -8,7 +8,7 @@ use crate::cache_words::{CacheJob, cache_command, cache_job};
 use crate::serve_words::{ServeJob, serve_command, serve_job};
 use clap::error::ErrorKind;
 use clap::{Arg, ArgAction, ArgMatches, Command, Error};
-use mc_text::number::small_number;
+use mc_text::number::u32_number;
 use mc_types::{Key, KeyFault};
 use std::alloc::{AllocError, Global};
 
@@ -169,7 +169,7 @@ pub fn option<'a>(alloc: Global, name: &'static str) -> Arg<'a> {
 pub fn count_of(given: &ArgMatches<'_>, name: &str) -> Result<Option<u32>, ArgumentsFault> {
     match given.get_str(name) {
         None => Ok(None),
-        Some(text) => match small_number(text.as_bytes()) {
+        Some(text) => match u32_number(text.as_bytes()) {
             None | Some(0) => Err(ArgumentsFault::Refused),
             Some(count) => Ok(Some(count)),
         },

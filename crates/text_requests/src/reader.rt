@@ -7,7 +7,7 @@ ghost use Rattle.text_requests.specs.Message.{Reads, IsMeant, meaning, command_b
 ghost use Rattle.request_parts.specs.Message.{end_of, with_rest};
 
 use crate::command::{Command, Read, Request};
-use crate::line_words::{command, skip};
+use crate::command_line::{command, skip};
 use mc_text::ends::Line;
 use mc_text::reading::line;
 use mc_text::word::{Span, next_word};

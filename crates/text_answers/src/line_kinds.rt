@@ -15,7 +15,7 @@ pub struct HitLine {
 
 /// What the first line of an answer says to an ask.
 #[derive(Drop)]
-pub enum Said {
+pub enum FirstLine {
     /// The line is the whole answer.
     Whole(Answer),
     /// A hit: its data and the line `END` follow.

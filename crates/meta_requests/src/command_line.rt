@@ -10,7 +10,7 @@ use crate::flags::flags;
 use crate::verbs::verb;
 use mc_text::word::{Span, next_word};
 use mc_types::{DATA_LIMIT, Op};
-use request_parts::parts::{key, length_at, small, word};
+use request_parts::parts::{key, length_at, u32_of, word};
 use request_parts::{ProxyCommand, RefusalReason, Skip};
 
 fn sets(mode: Option<Op>) -> bool
@@ -55,7 +55,7 @@ fn storing(line: &[u8], at: usize) -> Result<Command, RefusalReason>
     let first = word(line, at)?;
     let second = word(line, first.end)?;
     let key = key(line, first)?;
-    let length = small(line, second)?;
+    let length = u32_of(line, second)?;
     let flags = flags(line, second.end, Kind::Store)?;
     if mixes(flags.values) {
         return Err(RefusalReason::FlagNotServed);
