@@ -7,8 +7,8 @@ use Rattle.route_json.specs.declared.fault.ConfigFault.{ConfigFault}
 use Rattle.route_json.specs.Fault.{Fails, fault_of}
 use Rattle.route_json.specs.Configs.{read_or}
 use Rattle.route_json.specs.Configuration.{Configuration}
-use Rattle.coverage.specs.declared.table.PlaceTable.{PlaceTable}
-use Rattle.coverage.specs.Tables.{IsTable, row_count}
+use Rattle.certificates.specs.declared.table.PlaceTable.{PlaceTable}
+use Rattle.certificates.specs.Tables.{IsTable, row_count}
 use Rattle.fresh_gate.specs.declared.gap.Gap.{Gap}
 use Rattle.fresh_gate.specs.declared.gap.Reason.{Reason}
 use Rattle.fresh_gate.specs.declared.gap.Reason.TheVariants as reasons

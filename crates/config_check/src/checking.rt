@@ -11,7 +11,7 @@ ghost use Rattle.config_check.specs.Checking.{Checks, ChecksConfig, ChecksRefuse
 
 use crate::status::{BAD_INPUT, DONE, REFUSED, RunFault, answer_of};
 use crate::verdict::{write_accepted, write_refusal};
-use coverage::places;
+use certificates::places;
 use fleet_run::Script;
 use fresh_gate::{Reason, judge};
 use refusals::refusal_run;

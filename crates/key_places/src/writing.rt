@@ -5,13 +5,13 @@ ghost use Rattle.std.specs.Io.KnownBytes.{Appends};
 ghost use Rattle.route_tree.specs.At.{tree_at};
 ghost use Rattle.route_tree.specs.Place.{prefix_text};
 ghost use Rattle.key_places.specs.Asking as spec;
-ghost use Rattle.coverage.specs.Tables.{IsTable};
+ghost use Rattle.certificates.specs.Tables.{IsTable};
 ghost use Rattle.key_places.specs.Blocks.{key_line, place_line, server_text, servers_text, op_front, op_line, op_lines, all_ops, WritesBlock, WritesBlocks};
 
 use crate::asking::add_asked;
 use byte_escapes::Escaped;
+use certificates::PlaceTable;
 use config_check::RunFault;
-use coverage::PlaceTable;
 use gate_words::names::{address_of, op_name};
 use key_hash::{hash_part, key_hash};
 use mc_types::{Key, Op, ServerId};

@@ -1,10 +1,10 @@
 //! The keys that are tried for a place.
 ghost use Rattle.std.specs.Prelude.{◌≡◌, ◌↔◌, ◌++◌, [], ◌∷◌, IfOk, IsTrue};
 ghost use Rattle.route_tree.specs.Place.{prefix_text};
-ghost use Rattle.coverage.specs.Tables.{IsTable};
+ghost use Rattle.certificates.specs.Tables.{IsTable};
 ghost use Rattle.refusals.specs.Tried.{tried_text, IsTried, IsFirstTried};
 
-use coverage::PlaceTable;
+use certificates::PlaceTable;
 use itoa::Buffer;
 use mc_types::Key;
 use route_tree::{Place, Tree};
