@@ -13,6 +13,7 @@ use crate::collecting::{add_prefixes, add_sizes, add_sizes_at};
 use crate::multiples::common_multiple;
 use crate::table::{Class, PlaceFault, PlaceTable};
 use crate::texts::ordered;
+use coverage::prefixes::prefix_text;
 use mc_types::Key;
 use route_tree::Tree;
 use std::alloc::{AllocError, Global};
@@ -132,11 +133,7 @@ fn class_of_two(
     requires common { Each (λ n. n ∣ whole) (sizes first.now ++ sizes second.now) }
     ensures { IfOk result (λ class. (class.prefix ≡ prefix.now) × IsClass (first.now ∷ second.now ∷ []) class) }
 {
-    let text: &[u8] = match prefix {
-        Some(key) => key.as_bytes(),
-        None => &[],
-    };
-    let modulus = modulus_at(alloc, first, second, whole, text)?;
+    let modulus = modulus_at(alloc, first, second, whole, prefix_text(prefix))?;
     Ok(Class {
         prefix: *prefix,
         modulus,

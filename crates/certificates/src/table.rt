@@ -3,6 +3,7 @@
 ghost use Rattle.std.specs.Prelude.{◌≡◌};
 ghost use Rattle.route_tree.specs.Place.{prefix_text};
 
+use coverage::prefixes::prefix_text;
 use mc_types::{Key, ServerId};
 
 /// The keys that this prefix begins, or none of the table's prefixes, where no longer one does.
@@ -18,10 +19,7 @@ impl Class {
     pub fn text(&self) -> &[u8]
         ensures { result.now ≡ prefix_text self.now.prefix }
     {
-        match &self.prefix {
-            Some(prefix) => prefix.as_bytes(),
-            None => &[],
-        }
+        prefix_text(&self.prefix)
     }
 }
 

@@ -4,8 +4,9 @@ ghost use Rattle.std.specs.Prelude.{◌≡◌, OnOk};
 ghost use Rattle.std.specs.Io.KnownBytes.{Appends};
 ghost use Rattle.config_check.specs.Reloads.{loaded_line, unchecked_line, kept_head, kept_asks, kept_front, kept_fields, kept_gap, kept_line};
 
-use crate::verdict::{prefix_of, write_back};
+use crate::verdict::write_back;
 use byte_escapes::Escaped;
+use coverage::prefixes::prefix_text;
 use fresh_gate::{Gap, ReloadFault};
 use gate_words::names::{address_of, delete_name, op_name};
 use route_json::Servers;
@@ -82,7 +83,7 @@ fn write_gap<W: Write>(servers: &Servers, generation: u32, gap: &Gap, out: &mut 
     let address = address_of(servers, gap.server).as_bytes();
     let read = op_name(gap.op);
     let delete = delete_name(gap.deleting);
-    let prefix = prefix_of(&gap.place);
+    let prefix = prefix_text(&gap.place.prefix);
     write_fields(
         generation,
         address,

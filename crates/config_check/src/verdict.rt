@@ -2,27 +2,16 @@
 
 ghost use Rattle.std.specs.Prelude.{◌≡◌, OnOk};
 ghost use Rattle.std.specs.Io.KnownBytes.{Appends};
-ghost use Rattle.route_tree.specs.Place.{prefix_text};
 ghost use Rattle.config_check.specs.Verdict.{accepted_line, line_front, line_back, fields_line, gap_line, refusal_line};
 
 use byte_escapes::Escaped;
+use coverage::prefixes::prefix_text;
 use fresh_gate::{Gap, Reason};
 use gate_words::names::{address_of, delete_name, op_name};
 use route_json::Servers;
-use route_tree::Place;
 use std::fmt::Display;
 use std::io::Write;
 use std::{fmt, io};
-
-/// The prefix of a place; no bytes where it has none.
-pub(crate) fn prefix_of(place: &Place) -> &[u8]
-    ensures { result.now ≡ prefix_text place.now.prefix }
-{
-    match &place.prefix {
-        Some(key) => key.as_bytes(),
-        None => &[],
-    }
-}
 
 /// Writes the line of an accepted configuration: `accepted places=N`, with the number of its places. The format is mcgate's own.
 pub fn write_accepted<W: Write>(places: u32, out: &mut W) -> io::Result<()>
@@ -76,7 +65,7 @@ fn write_gap<W: Write>(servers: &Servers, gap: &Gap, out: &mut W) -> io::Result<
     let address = address_of(servers, gap.server).as_bytes();
     let read = op_name(gap.op);
     let delete = delete_name(gap.deleting);
-    let prefix = prefix_of(&gap.place);
+    let prefix = prefix_text(&gap.place.prefix);
     write_fields(
         address,
         read,
