@@ -1,4 +1,4 @@
-use Rattle.config_check.proofs.Lines.{both_written}
+use Rattle.gate_words.proofs.Written.{both_written}
 use Rattle.config_check.proofs.verdict.write_gap.Goals as goal
 
 pub returns : goal.returns
