@@ -1,7 +1,7 @@
 //! The printed verdicts of worked configurations.
 
 use config_check::status::{BAD_INPUT, DONE, REFUSED, WRITER};
-use config_check::{run_check, run_explain, run_picture};
+use config_check::{Form, run_check};
 use std::alloc::{AllocError, Global};
 use std::io;
 use std::io::{ErrorKind, Write};
@@ -10,7 +10,7 @@ use std::test::Fail;
 // Whether the text has this status, and exactly this is printed of it.
 fn prints(alloc: Global, text: &str, status: u8, printed: &str) -> bool {
     let mut out = Vec::new(alloc);
-    run_check(alloc, text, &mut out) == status && out.as_slice() == printed.as_bytes()
+    run_check(alloc, Form::Lines, text, &mut out) == status && out.as_slice() == printed.as_bytes()
 }
 
 // The route over pool A of one server, 127.0.0.1:5001, and B of one, 127.0.0.1:5002.
@@ -34,7 +34,7 @@ fn is_printed(alloc: Global, route: &str, status: u8, printed: &str) -> Result<b
 fn is_explained(alloc: Global, route: &str, status: u8, words: &str) -> Result<bool, Fail> {
     let text = over_two_pools(alloc, route)?;
     let mut out = Vec::new(alloc);
-    let ended = run_explain(alloc, text.as_str(), &mut out);
+    let ended = run_check(alloc, Form::Explained, text.as_str(), &mut out);
     Ok(ended == status && out.as_slice().ends_with(words.as_bytes()))
 }
 
@@ -66,7 +66,7 @@ fn warm_up_in_words(rt: HostRuntime) -> Result<(), Fail> {
 fn is_drawn(alloc: Global, route: &str, status: u8, drawn: &str) -> Result<bool, Fail> {
     let text = over_two_pools(alloc, route)?;
     let mut out = Vec::new(alloc);
-    let ended = run_picture(alloc, text.as_str(), &mut out);
+    let ended = run_check(alloc, Form::Picture, text.as_str(), &mut out);
     Ok(ended == status && out.as_slice() == drawn.as_bytes())
 }
 
@@ -324,9 +324,12 @@ fn writers_that_fail(rt: HostRuntime) -> Result<(), Fail> {
     let text = over_two_pools(rt.alloc(), "\"PoolRoute|A\"")?;
     for room in 0..10 {
         let mut out = Full { room };
-        assert_eq!(rt; run_check(rt.alloc(), text.as_str(), &mut out), WRITER);
+        assert_eq!(rt;
+            run_check(rt.alloc(), Form::Lines, text.as_str(), &mut out),
+            WRITER
+        );
         let mut bad = Full { room };
-        assert_eq!(rt; run_check(rt.alloc(), "", &mut bad), WRITER);
+        assert_eq!(rt; run_check(rt.alloc(), Form::Lines, "", &mut bad), WRITER);
     }
     Ok(())
 }
