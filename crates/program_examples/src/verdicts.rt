@@ -1,10 +1,9 @@
 //! The printed verdicts of worked configurations.
 
+use crate::full_writer::Full;
 use config_check::status::{BAD_INPUT, DONE, REFUSED, WRITER};
 use config_check::{Form, run_check};
 use std::alloc::{AllocError, Global};
-use std::io;
-use std::io::{ErrorKind, Write};
 use std::test::Fail;
 
 // Whether the text has this status, and exactly this is printed of it.
@@ -296,27 +295,6 @@ fn too_many_places(rt: HostRuntime) -> Result<(), Fail> {
     let fewer = both_pools(alloc, 512, 512)?;
     assert!(rt; prints(alloc, fewer.as_str(), DONE, "accepted places=512\n"));
     Ok(())
-}
-
-// Takes so many bytes, and then fails.
-#[derive(Drop)]
-struct Full {
-    room: usize,
-}
-
-impl Write for Full {
-    fn write(&mut self, bytes: &[u8]) -> io::Result<usize> {
-        let count = bytes.len().min(self.room);
-        if count == 0 {
-            return Err(io::Error::from(ErrorKind::StorageFull));
-        }
-        self.room -= count;
-        Ok(count)
-    }
-
-    fn flush(&mut self) -> io::Result<()> {
-        Ok(())
-    }
 }
 
 #[test]
