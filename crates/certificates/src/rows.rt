@@ -9,7 +9,7 @@ use coverage::pools::Pool;
 use mc_types::ServerId;
 use std::alloc::AllocError;
 
-// Whether a row that rises still does with this server behind it.
+// Whether a row that rises still does with this server after it.
 fn goes_last(row: &[ServerId], server: ServerId) -> bool
     ensures { result ≡ true → IsRising row.now → IsRising (row.now ++ server ∷ []) }
 {

@@ -38,7 +38,7 @@ fn first_turn(way: &[Step]) -> usize
     }
 }
 
-// The steps behind the first.
+// The steps after the first.
 fn later(way: &[Step]) -> &[Step]
     ensures { result.now ≡ later way.now }
 {
