@@ -1,3 +1,2 @@
 pub mod Statuses
-pub mod Lines
 pub mod Runs

@@ -8,20 +8,10 @@ use crate::cache_words::{CacheJob, cache_command, cache_job};
 use crate::serve_words::{ServeJob, serve_command, serve_job};
 use clap::error::ErrorKind;
 use clap::{Arg, ArgAction, ArgMatches, Command, Error};
+use config_check::Form;
 use mc_text::number::u32_number;
 use mc_types::{Key, KeyFault};
 use std::alloc::{AllocError, Global};
-
-/// The form in which a verdict is printed.
-#[derive(Clone, Copy, PartialEq, Eq)]
-pub enum Form {
-    /// The verdict, and the script that shows a gap.
-    Lines,
-    /// The same, and then in words.
-    Explained,
-    /// The tree as a graph, a gap marked.
-    Picture,
-}
 
 /// What is done with an input.
 #[derive(Clone, Copy, PartialEq, Eq)]

@@ -1,5 +1,5 @@
 use Rattle.config_check.specs.Checking.{run_lines}
-use Rattle.config_check.proofs.Lines.{both_written}
+use Rattle.gate_words.proofs.Written.{both_written}
 use Rattle.config_check.proofs.checking.check_refused.Goals as goal
 
 pub returns-clause-ok : goal.returns-clause-ok
