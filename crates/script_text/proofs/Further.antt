@@ -41,7 +41,7 @@ module _ (servers : Addresses) (first : ℕ) (all : List (List ℕ)) where
   }
 
   module _ (events : List Event) (lines : List ℕ) (reloads : List Reload) (number : ℕ) (here : List (List ℕ)) (line : List ℕ) (left : List (List ℕ)) (h : Further events lines reloads number here) (at : here ≡ line ∷ left) where
-    used : Addresses
+    abbrev used : Addresses
     used = servers_known servers reloads
 
     module _ (m : Meaning) (means : m ≡ line_means used line) where
