@@ -8,7 +8,7 @@ use Rattle.std.specs.List.{position_or_len, before_first, after_first}
 use Rattle.std.proofs.lemmas.List.Splits.{slice_split_none, slice_split_first, length-slice_split}
 use Rattle.std.proofs.lemmas.List.Sums.{prefix_len_passes, count_by-le-length}
 use Rattle.std.proofs.lemmas.List.{length-drop, length-take}
-use Rattle.script_text.specs.Lines.{is_line_end, lines_of, cut, Parts}
+use Rattle.script_text.specs.Lines.{is_line_end, lines_of, cut}
 use Rattle.script_text.specs.Seen.{texts_seen}
 
 not_false : (b : Bool) → not b ≡ true → b ≡ false

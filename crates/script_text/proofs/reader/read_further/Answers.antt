@@ -1,4 +1,4 @@
-use Rattle.std.proofs.Common.{◌≡◌, ◌+◌, ◌∷◌, length, sym, ap, ◌∙◌, arith, rules}
+use Rattle.std.proofs.Common.{◌≡◌, ◌+◌, ◌∷◌, length, sym, ap, ◌∙◌, arith}
 use Rattle.route_json.specs.Servers.{Addresses}
 use Rattle.script_text.specs.Behind.{lines_behind}
 use Rattle.script_text.specs.Read.{meaning_of}
