@@ -18,6 +18,7 @@ use Rattle.fleet_run.specs.Scripted.{Scripted, scripted_of}
 use Rattle.refusals.specs.Refusals.{IsRefusalRun, MayLack}
 use Rattle.script_text.specs.Printed.{config_fault_line}
 use Rattle.script_lines.specs.Lines.{script_lines}
+use Rattle.script_lines.specs.Laws.{AreReadBack}
 use Rattle.config_check.specs.Verdict.{accepted_line, refusal_line}
 use Rattle.config_check.specs.declared.status.RunFault.{RunFault}
 use Rattle.config_check.specs.declared.status.RunFault.TheVariants.{NoMemory, Writer}
@@ -52,10 +53,10 @@ abbrev pub run_lines : Option Script → List ℕ
 run_lines None = []
 run_lines (Some script) = script_lines (map scripted_of script.events.items)
 
--- the lines are those of a script that shows the gap, or there are none and the gap may have no such script
+-- the lines are those of a script that shows the gap, and are read back as that script; or there are none and the gap may have no such script
 abbrev pub ShowsGap : Configuration → Gap → List ℕ → Type 0
 ShowsGap config gap lines =
-    ((events : List Scripted) × IsRefusalRun config gap events × (lines ≡ script_lines events)) ⊎ (MayLack config.tree gap × (lines ≡ []))
+    ((events : List Scripted) × IsRefusalRun config gap events × AreReadBack events × (lines ≡ script_lines events)) ⊎ (MayLack config.tree gap × (lines ≡ []))
 
 -- so it is where the reason is a gap; for another there are no lines
 abbrev pub ShowsReason : Configuration → Reason → List ℕ → Type 0
@@ -63,6 +64,14 @@ ShowsReason config (reasons.Uncovered gap) lines = ShowsGap config gap lines
 ShowsReason config reasons.TooManyPlaces lines = lines ≡ []
 ShowsReason config (reasons.BadCertificate row) lines = lines ≡ []
 ShowsReason config reasons.NoMemory lines = lines ≡ []
+
+-- the script that was found for a reason, which a gap alone may have; or there is none
+abbrev pub IsFoundFor : Configuration → Reason → Option Script → Type 0
+IsFoundFor config (reasons.Uncovered gap) None = MayLack config.tree gap
+IsFoundFor config (reasons.Uncovered gap) (Some script) = IsRefusalRun config gap (map scripted_of script.events.items)
+IsFoundFor config reasons.TooManyPlaces found = found ≡ None
+IsFoundFor config (reasons.BadCertificate row) found = found ≡ None
+IsFoundFor config reasons.NoMemory found = found ≡ None
 
 -- the tree is refused for this reason, and that and then the lines of the script that shows it were written
 pub record ChecksRefused (config : Configuration) (reason : Reason) (old new : Option (List ℕ)) : Type 0 where

@@ -1,13 +1,15 @@
 //! What is printed of a configuration that is accepted or refused, and of a text that is none.
 
-ghost use Rattle.std.specs.Prelude.{◌≡◌, IfOk, IfErr, OnOk};
+ghost use Rattle.std.specs.Prelude.{◌≡◌, ◌≤◌, IfOk, IfErr, IfSome, OnOk, All};
 ghost use Rattle.std.specs.Io.KnownBytes.{Appends};
 ghost use Rattle.serde_json.specs.Read.{read};
 ghost use Rattle.route_json.specs.Configs.{read_or};
 ghost use Rattle.route_json.specs.Fault.{Fails, fault_of};
 ghost use Rattle.fresh_gate.specs.Gate.{IsCertified, IsJudged};
+ghost use Rattle.fleet_run.specs.Scripted.{scripted_of};
+ghost use Rattle.script_lines.specs.Laws.{HasWidths};
 ghost use Rattle.config_check.specs.Verdict.{refusal_line};
-ghost use Rattle.config_check.specs.Checking.{ChecksRefused, IsTold, PrintsAccepted, PrintsRefused, ShowsReason, PrintsFault, StopsUnwritten, HasPlaces, run_lines};
+ghost use Rattle.config_check.specs.Checking.{ChecksRefused, IsTold, PrintsAccepted, PrintsRefused, IsFoundFor, PrintsFault, StopsUnwritten, HasPlaces, run_lines};
 
 use crate::status::{BAD_INPUT, DONE, REFUSED, RunFault};
 use crate::verdict::{write_accepted, write_refusal};
@@ -79,7 +81,7 @@ pub fn print_refused<W: Write>(
 // The script that shows why a configuration is refused, if that is a gap that has one.
 fn run_of(alloc: Global, config: &Config, reason: &Reason) -> Result<Option<Script>, AllocError>
     requires { IsJudged config.now.tree reason.now }
-    ensures { IfOk result (λ found. ShowsReason config.now reason.now (run_lines found)) }
+    ensures { IfOk result (IsFoundFor config.now reason.now) }
 {
     match reason {
         Reason::Uncovered(gap) => refusal_run(alloc, config, gap),
@@ -89,7 +91,8 @@ fn run_of(alloc: Global, config: &Config, reason: &Reason) -> Result<Option<Scri
 
 // Writes the lines of a script, if there is one.
 fn print_run<W: Write>(run: &Option<Script>, out: &mut W) -> io::Result<()>
-    ensures { OnOk result (Appends (W.contents out.old) (W.contents out.new) (run_lines run.now)) }
+    ensures lines { OnOk result (Appends (W.contents out.old) (W.contents out.new) (run_lines run.now)) }
+    ensures widths { OnOk result (IfSome run.now (λ script. All (λ event. HasWidths (scripted_of event)) script.events.items)) }
 {
     match run {
         Some(script) => write_script(script, out),
