@@ -67,8 +67,9 @@ module _ (any : Bool) (reloads : List Reload) (loadings : List Loading) (marks :
       → left number before rest ≡ shown_lines (map shown_by (take due rest)) ++ load_line any number reload (slice_get loadings number) ++ left (number + 1) mark (drop due rest)
   one_more_load number before mark due reload rest marked there mark_is reload_is fits is =
       let cut = capped rest due (mark - before) fits is in
-      let ms = drop-cons marks number mark marked ∙ ap (λ (m : ℕ). m ∷ drop (number + 1) marks) (sym mark_is) in
-      let rs = drop-cons reloads number reload there ∙ ap (λ (r : Reload). r ∷ drop (number + 1) reloads) (sym reload_is) in
+      let next : suc number ≡ number + 1 = omega arith in
+      let ms = drop-cons marks number mark marked ∙ ap (λ (n : ℕ). get_or marks number mark ∷ drop n marks) next ∙ ap (λ (m : ℕ). m ∷ drop (number + 1) marks) (sym mark_is) in
+      let rs = drop-cons reloads number reload there ∙ ap (λ (n : ℕ). get_or reloads number reload ∷ drop n reloads) next ∙ ap (λ (r : Reload). r ∷ drop (number + 1) reloads) (sym reload_is) in
       let behind = load_lines any (number + 1) (drop (number + 1) reloads) loadings in
       ap (λ (m : List ℕ). with_loads before (map shown_by rest) m (load_lines any number (drop number reloads) loadings)) ms
       ∙ ap (λ (r : List Reload). with_loads before (map shown_by rest) (mark ∷ drop (number + 1) marks) (load_lines any number r loadings)) rs

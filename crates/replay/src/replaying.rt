@@ -1,6 +1,6 @@
 //! Scripts that are run, and what is printed of them.
 
-ghost use Rattle.std.specs.Prelude.{◌≡◌, ◌≤◌, ◌-◌, ◌∷◌, ◌×◌, ◌⊎◌, [], false, true, None, Ok, IfOk, IfErr, OnOk, MatchResult, length, map, slice_get};
+ghost use Rattle.std.specs.Prelude.{◌≡◌, ◌≤◌, ◌+◌, ◌-◌, ◌∷◌, ◌⊎◌, [], false, true, None, Ok, IfOk, IfErr, OnOk, MatchResult, length, map, slice_get};
 ghost use Rattle.std.specs.Io.KnownBytes.{Appends};
 ghost use Rattle.config_check.specs.declared.status.RunFault.TheVariants.{Writer};
 ghost use Rattle.config_check.specs.Reloads.{unchecked_line};
