@@ -2,7 +2,7 @@
 use Rattle.std.proofs.Common.{◌≡◌, ℕ, ◌+◌, ◌-◌, ◌≤◌, arith, ◌<◌, ◌++◌, Bool, true, false, List, [], ◌∷◌, length, map, take, drop, get_or, slice_get, zero, suc, Option, Some, None, Result, Ok, Err, refl, sym, ap, ◌∙◌, subst, inl, inr, append_assoc}
 use Rattle.std.specs.Prelude.{IsSome, IfOk, IfErr, ◌⊎◌}
 use Rattle.std.specs.Io.KnownBytes.{Appends}
-use Rattle.std.proofs.Math.Seq.{drop-cons, take-length, drop-length}
+use Rattle.std.proofs.Math.Seq.{drop-cons}
 use Rattle.std.proofs.lemmas.List.{length-map, take_all, drop_all, take-map, drop-map}
 use Rattle.std.proofs.lemmas.Option.{slice_get-get_or, slice_get_within}
 use Rattle.route_tree.specs.Direct.{DirectIsOneServer}
@@ -35,7 +35,7 @@ use Rattle.accepted_run.specs.Reloads.{AreChained, AreJudged, Judges, ReloadsFre
 use Rattle.config_check.specs.Checking.{PrintsRefused, StopsUnwritten}
 use Rattle.config_check.specs.declared.status.RunFault.{RunFault}
 use Rattle.config_check.specs.declared.status.RunFault.TheVariants.{NoMemory, Writer}
-use Rattle.replay.specs.Replay.{ReplaysTold, RunsScript, RunsGood, RunsTree, PrintsPart, BreaksTreeOff, BreaksScriptOff, BreaksOff, Wrote, BrokeOff, AreLoadings, HasReloads, events_of, reloads_of, servers_of, load_line, load_lines, with_loads, transcript_lines}
+use Rattle.replay.specs.Replay.{ReplaysTold, RunsScript, RunsGood, RunsTree, BreaksTreeOff, BreaksScriptOff, BreaksOff, Wrote, BrokeOff, AreLoadings, HasReloads, events_of, reloads_of, servers_of, load_line, load_lines, with_loads, transcript_lines}
 
 pub both_written : (old mid new : Option (List ℕ)) (a b : List ℕ) → Appends old mid a → Appends mid new b → Appends old new (a ++ b)
 both_written None mid new a b x y = tt

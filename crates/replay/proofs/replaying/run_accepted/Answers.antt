@@ -1,8 +1,4 @@
-use Rattle.std.proofs.Common.{◌≡◌, ◌∷◌, [], List, refl, sym, ap, ◌∙◌, subst}
 use Rattle.std.proofs.lemmas.Result.{IfOk-weaker, IfErr-weaker}
-use Rattle.route_json.specs.Configuration.{Configuration}
-use Rattle.fleet_run.specs.declared.script.Reload.{Reload}
-use Rattle.accepted_run.specs.Reloads.{Judges}
 use Rattle.replay.specs.Replay.{events_of, reloads_of}
 use Rattle.replay.proofs.Printing.{enough, in_order, new_fleet, chain_in_use, are_judged, are_loadings, runs_accepted, breaks_accepted}
 use Rattle.replay.proofs.replaying.run_accepted.Goals as goal

@@ -1,4 +1,4 @@
-use Rattle.std.proofs.Common.{◌≡◌, ℕ, List, length, ◌+◌, arith, subst, sym, refl}
+use Rattle.std.proofs.Common.{ℕ, List, length, arith, subst, sym, refl}
 use Rattle.std.specs.Io.KnownBytes.{Appends}
 use Rattle.replay.proofs.Printing.{one_more_load, none_left, both_written, ended}
 use Rattle.replay.proofs.replaying.write_entries.Goals as goal

@@ -1,4 +1,4 @@
-use Rattle.std.proofs.Common.{◌≡◌, ◌≤◌, ◌-◌, ℕ, List, Option, map}
+use Rattle.std.proofs.Common.{◌≤◌, ◌-◌, ℕ, List, Option, map}
 use Rattle.std.specs.Io.KnownBytes.{Appends}
 use Rattle.fleet_run.specs.Scripted.{shown_by}
 use Rattle.replay.specs.Replay.{transcript_lines}
