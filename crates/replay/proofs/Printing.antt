@@ -2,7 +2,7 @@
 use Rattle.std.proofs.Common.{◌≡◌, ℕ, ◌+◌, ◌-◌, ◌≤◌, arith, ◌<◌, ◌++◌, Bool, true, false, List, [], ◌∷◌, length, map, take, drop, get_or, slice_get, zero, suc, Option, Some, None, Result, Ok, Err, refl, sym, ap, ◌∙◌, subst, inl, inr, append_assoc}
 use Rattle.std.specs.Prelude.{IsSome, IfOk, IfErr, ◌⊎◌}
 use Rattle.std.specs.Io.KnownBytes.{Appends}
-use Rattle.std.proofs.Math.Seq.{drop-cons, take-length, drop-length}
+use Rattle.std.proofs.Math.Seq.{drop-cons}
 use Rattle.std.proofs.lemmas.List.{length-map, take_all, drop_all, take-map, drop-map}
 use Rattle.std.proofs.lemmas.Option.{slice_get-get_or, slice_get_within}
 use Rattle.route_tree.specs.Direct.{DirectIsOneServer}
@@ -24,7 +24,7 @@ use Rattle.fleet_run.specs.Driving.{Drives, DrivesPart}
 use Rattle.fleet_run.specs.Reloads.{AreInOrder, DrivesBy, DrivesPartBy, EndsBy}
 use Rattle.fleet_run.proofs.Reloading.{drives, ends_as}
 use Rattle.fresh_gate.specs.Gate.{IsCertified}
-use Rattle.fresh_gate.specs.Sound.{IsLast}
+use Rattle.fresh_gate.specs.Sound.{IsLast, AreGenerations, trees_of}
 use Rattle.fresh_gate.specs.Reload.{AreKept}
 use Rattle.memory_fleet.specs.declared.fleet.MemoryFleet.{MemoryFleet}
 use Rattle.memory_fleet.specs.Fleets.{IsNewFleet, count_of}
@@ -35,7 +35,7 @@ use Rattle.accepted_run.specs.Reloads.{AreChained, AreJudged, Judges, ReloadsFre
 use Rattle.config_check.specs.Checking.{PrintsRefused, StopsUnwritten}
 use Rattle.config_check.specs.declared.status.RunFault.{RunFault}
 use Rattle.config_check.specs.declared.status.RunFault.TheVariants.{NoMemory, Writer}
-use Rattle.replay.specs.Replay.{ReplaysTold, RunsScript, RunsGood, RunsTree, PrintsPart, BreaksTreeOff, BreaksScriptOff, BreaksOff, Wrote, BrokeOff, AreLoadings, HasReloads, events_of, reloads_of, servers_of, load_line, load_lines, with_loads, transcript_lines}
+use Rattle.replay.specs.Replay.{ReplaysTold, RunsScript, RunsGood, RunsTree, BreaksTreeOff, BreaksScriptOff, BreaksOff, Wrote, BrokeOff, AreLoadings, HasReloads, events_of, reloads_of, servers_of, load_line, load_lines, with_loads, transcript_lines}
 
 pub both_written : (old mid new : Option (List ℕ)) (a b : List ℕ) → Appends old mid a → Appends mid new b → Appends old new (a ++ b)
 both_written None mid new a b x y = tt
@@ -62,18 +62,22 @@ module _ (any : Bool) (reloads : List Reload) (loadings : List Loading) (marks :
   abbrev pub left : (number before : ℕ) → List Output → List ℕ
   left number before rest = with_loads before (map shown_by rest) (drop number marks) (load_lines any number (drop number reloads) loadings)
 
-  pub one_more_load : (number before mark due : ℕ) (reload : Reload) (rest : List Output) → number < length marks → number < length reloads → mark ≡ get_or marks number mark → reload ≡ get_or reloads number reload
-      → (due ≤ mark - before) × (due ≤ length rest) → (due ≡ mark - before) ⊎ (due ≡ length rest)
-      → left number before rest ≡ shown_lines (map shown_by (take due rest)) ++ load_line any number reload (slice_get loadings number) ++ left (number + 1) mark (drop due rest)
-  one_more_load number before mark due reload rest marked there mark_is reload_is fits is =
-      let cut = capped rest due (mark - before) fits is in
-      let ms = drop-cons marks number mark marked ∙ ap (λ (m : ℕ). m ∷ drop (number + 1) marks) (sym mark_is) in
-      let rs = drop-cons reloads number reload there ∙ ap (λ (r : Reload). r ∷ drop (number + 1) reloads) (sym reload_is) in
+  pub one_more_load : (number before mark cut due : ℕ) (reload : Reload) (rest shown later : List Output) → number < length marks → number < length reloads → mark ≡ get_or marks number 0 → reload ≡ get_or reloads number reload
+      → cut ≡ mark - before → (due ≤ cut) × (due ≤ length rest) → (due ≡ cut) ⊎ (due ≡ length rest) → shown ≡ take due rest → later ≡ drop due rest
+      → left number before rest ≡ shown_lines (map shown_by shown) ++ load_line any number reload (slice_get loadings number) ++ left (number + 1) mark later
+  one_more_load number before mark cut due reload rest shown later marked there mark_is reload_is cut_is fits is shown_is later_is =
+      let ends = capped rest due cut fits is in
+      let head = ap (λ (n : ℕ). take n rest) (sym cut_is) ∙ sym ends.0 ∙ sym shown_is in
+      let tail = ap (λ (n : ℕ). drop n rest) (sym cut_is) ∙ sym ends.1 ∙ sym later_is in
+      let next : suc number ≡ number + 1 = omega arith in
+      let ms = drop-cons marks number 0 marked ∙ ap (λ (n : ℕ). get_or marks number 0 ∷ drop n marks) next ∙ ap (λ (m : ℕ). m ∷ drop (number + 1) marks) (sym mark_is) in
+      let rs = drop-cons reloads number reload there ∙ ap (λ (n : ℕ). get_or reloads number reload ∷ drop n reloads) next ∙ ap (λ (r : Reload). r ∷ drop (number + 1) reloads) (sym reload_is) in
+      let line = load_line any number reload (slice_get loadings number) in
       let behind = load_lines any (number + 1) (drop (number + 1) reloads) loadings in
       ap (λ (m : List ℕ). with_loads before (map shown_by rest) m (load_lines any number (drop number reloads) loadings)) ms
       ∙ ap (λ (r : List Reload). with_loads before (map shown_by rest) (mark ∷ drop (number + 1) marks) (load_lines any number r loadings)) rs
-      ∙ ap (λ (s : List Shown). shown_lines s ++ load_line any number reload (slice_get loadings number) ++ with_loads mark (drop (mark - before) (map shown_by rest)) (drop (number + 1) marks) behind) (take-map shown_by (mark - before) rest ∙ ap (map shown_by) (sym cut.0))
-      ∙ ap (λ (s : List Shown). shown_lines (map shown_by (take due rest)) ++ load_line any number reload (slice_get loadings number) ++ with_loads mark s (drop (number + 1) marks) behind) (drop-map shown_by (mark - before) rest ∙ ap (map shown_by) (sym cut.1))
+      ∙ ap (λ (s : List Shown). shown_lines s ++ line ++ with_loads mark (drop (mark - before) (map shown_by rest)) (drop (number + 1) marks) behind) (take-map shown_by (mark - before) rest ∙ ap (map shown_by) head)
+      ∙ ap (λ (s : List Shown). shown_lines (map shown_by shown) ++ line ++ with_loads mark s (drop (number + 1) marks) behind) (drop-map shown_by (mark - before) rest ∙ ap (map shown_by) tail)
 
   -- where no further reload has a mark, or none is there
   no_lines : (before : ℕ) (shown : List Shown) (ms : List ℕ) → with_loads before shown ms [] ≡ shown_lines shown
@@ -145,9 +149,9 @@ pub are_judged : (first : Configuration) (rs : List Reload) (ls : List Loading) 
 are_judged first rs ls refused before accepted one judged are =
     record { configs = before; first_is = subst (λ (cs : List Configuration). IsLast cs first) (sym one) refl; judged = judged; refused_are = are }
 
-pub are_loadings : (first : Configuration) (reloads rs : List Reload) (ls : List Loading) (before accepted : List Configuration) → rs ≡ reloads → IsCertified first.tree → before ≡ first ∷ [] → Judges before rs ls accepted → AreLoadings false first reloads ls
-are_loadings first reloads rs ls before accepted rs_are certified one judged =
-    (certified, accepted, subst (λ (x : List Reload). Judges (first ∷ []) x ls accepted) rs_are (subst (λ (cs : List Configuration). Judges cs rs ls accepted) one judged))
+pub are_loadings : (first : Configuration) (reloads rs : List Reload) (ls : List Loading) (before accepted : List Configuration) → rs ≡ reloads → IsCertified first.tree → before ≡ first ∷ [] → Judges before rs ls accepted → AreGenerations (trees_of accepted) → AreLoadings false first reloads ls
+are_loadings first reloads rs ls before accepted rs_are certified one judged generations =
+    (certified, accepted, subst (λ (x : List Reload). Judges (first ∷ []) x ls accepted) rs_are (subst (λ (cs : List Configuration). Judges cs rs ls accepted) one judged), generations)
 
 pub has_reloads : (read : Result ConfiguredScript ScriptFault)
     → IfOk read (λ s. AreInOrder (length s.script.events.items) (length (servers_known s.config.servers s.reloads.items)) 0 s.reloads.items)

@@ -7,6 +7,7 @@ use Rattle.route_json.specs.declared.fault.ConfigFault.{ConfigFault}
 use Rattle.route_json.specs.Configuration.{Configuration}
 use Rattle.route_json.specs.Servers.{Addresses}
 use Rattle.fresh_gate.specs.Gate.{IsCertified}
+use Rattle.fresh_gate.specs.Sound.{AreGenerations, trees_of}
 use Rattle.fleet_run.specs.declared.script.Script.{Script}
 use Rattle.fleet_run.specs.declared.script.Reload.{Reload}
 use Rattle.fleet_run.specs.declared.script.Report.{Report}
@@ -89,10 +90,10 @@ BrokeOff driven lines old new Writer = Unit {0}
 
 -- ---- a script through a configuration's tree and those that it loads, which are gated unless they may be any
 
--- what became of the reloads: the gate wasn't asked, and each is loaded; or it accepted the first configuration, and answered so of each reload's against all accepted before
+-- what became of the reloads: the gate wasn't asked, and each is loaded; or it accepted the first configuration, and answered so of each reload's against all accepted before, and all that it accepted are generations
 abbrev pub AreLoadings : Bool → Configuration → List Reload → List Loading → Type 0
 AreLoadings true config reloads loadings = loadings ≡ []
-AreLoadings false config reloads loadings = IsCertified config.tree × (accepted : List Configuration) × Judges (config ∷ []) reloads loadings accepted
+AreLoadings false config reloads loadings = IsCertified config.tree × (accepted : List Configuration) × Judges (config ∷ []) reloads loadings accepted × AreGenerations (trees_of accepted)
 
 -- the events ran, each command through the tree in use when it began, and the lines of the transcript and of the report were written. Where the gate was asked the run is fresh, and no reply is stale
 pub record RunsTree (any : Bool) (config : Configuration) (reloads : List Reload) (events : List Scripted) (old new : Option (List ℕ)) : Type 0 where

@@ -1,12 +1,13 @@
 //! Scripts that are run, and what is printed of them.
 
-ghost use Rattle.std.specs.Prelude.{◌≡◌, ◌≤◌, ◌-◌, ◌∷◌, ◌×◌, ◌⊎◌, [], false, true, None, Ok, IfOk, IfErr, OnOk, MatchResult, length, map, slice_get};
+ghost use Rattle.std.specs.Prelude.{◌≡◌, ◌≤◌, ◌+◌, ◌-◌, ◌++◌, ◌∷◌, ◌⊎◌, [], false, true, None, Ok, IfOk, IfErr, OnOk, MatchResult, length, map, slice_get};
 ghost use Rattle.std.specs.Io.KnownBytes.{Appends};
 ghost use Rattle.config_check.specs.declared.status.RunFault.TheVariants.{Writer};
 ghost use Rattle.config_check.specs.Reloads.{unchecked_line};
 ghost use Rattle.fresh_gate.specs.Gate.{IsCertified};
 ghost use Rattle.fleet_run.specs.Bad.{first_bad};
 ghost use Rattle.fleet_run.specs.Scripted.{shown_by, transcript_of};
+ghost use Rattle.script_text.specs.Printed.{shown_lines};
 ghost use Rattle.script_text.specs.Script.{told, told_over};
 ghost use Rattle.replay.specs.Replay.{loading_line, load_line, transcript_lines, Replays, ReplaysOver, IsReading, ReplaysRead, BreaksReadOff, RunsScript, RunsGood, RunsTree, BreaksTreeOff, BreaksScriptOff, HasReloads, IsBrokenOff, BreaksOff, Wrote, BrokeOff, events_of, reloads_of, servers_of};
 
@@ -70,6 +71,22 @@ fn write_load<W: Write>(
     }
 }
 
+// Writes outputs, and then the line of the reload of this number, counted from 0.
+fn write_then_load<W: Write>(
+    outputs: &[Output],
+    any: bool,
+    number: usize,
+    reload: &Reload,
+    loadings: &[Loading],
+    out: &mut W,
+) -> Result<(), RunFault>
+    ensures ok { OnOk result (Appends (W.contents out.old) (W.contents out.new) (shown_lines (map shown_by outputs.now) ++ load_line any number reload.now (slice_get loadings.now number))) }
+    ensures err { IfErr result (λ fault. fault ≡ Writer) }
+{
+    write_outputs(outputs, out)?;
+    write_load(any, number, reload, loadings, out)
+}
+
 fn least(one: usize, other: usize) -> usize
     ensures fits { (result ≤ one) × (result ≤ other) }
     ensures is_one { (result ≡ one) ⊎ (result ≡ other) }
@@ -96,9 +113,9 @@ fn write_entries<W: Write>(
     while number < count {
         let mark = marks[number];
         let due = least(mark.saturating_sub(before), rest.len());
-        write_outputs(&rest[..due], out)?;
-        write_load(any, number, &reloads[number], loadings, out)?;
-        rest = &rest[due..];
+        let (shown, later) = rest.split_at(due);
+        write_then_load(shown, any, number, &reloads[number], loadings, out)?;
+        rest = later;
         before = mark;
         number += 1;
     }
@@ -177,6 +194,7 @@ fn run_accepted<W: Write>(
     direct_is_one_server();
     let reloads = script.reloads.as_slice();
     let judged = judge_reloads(alloc, accepted, reloads)?;
+    let _in_use = accepted.config();
     let mut fleet = MemoryFleet::new(alloc, script.server_count())?;
     let mut transcript = Transcript {
         shown: Vec::new(alloc),
@@ -237,13 +255,13 @@ fn run_good<W: Write>(
 fn run_script<W: Write>(
     alloc: Global,
     any: bool,
-    configured: ConfiguredScript,
+    configured: &ConfiguredScript,
     out: &mut W,
 ) -> Result<u8, RunFault>
-    requires lines { length configured.lines.items ≡ length configured.script.events.items }
-    requires reloads { HasReloads configured }
-    ensures ok { IfOk result (RunsScript any configured (W.contents out.old) (W.contents out.new)) }
-    ensures err { IfErr result (BreaksScriptOff any configured (W.contents out.old) (W.contents out.new)) }
+    requires lines { length configured.now.lines.items ≡ length configured.now.script.events.items }
+    requires reloads { HasReloads configured.now }
+    ensures ok { IfOk result (RunsScript any configured.now (W.contents out.old) (W.contents out.new)) }
+    ensures err { IfErr result (BreaksScriptOff any configured.now (W.contents out.old) (W.contents out.new)) }
 {
     match first_bad_event(configured.server_count(), &configured.script) {
         Some(event) => {
@@ -251,7 +269,7 @@ fn run_script<W: Write>(
             write_bad_line(line, out)?;
             Ok(BAD_INPUT)
         }
-        None => run_good(alloc, any, &configured, out),
+        None => run_good(alloc, any, configured, out),
     }
 }
 
@@ -268,7 +286,7 @@ fn replay_read<W: Write>(
     ensures err { IfErr result (BreaksReadOff any read (W.contents out.old) (W.contents out.new)) }
 {
     match read {
-        Ok(configured) => run_script(alloc, any, configured, out),
+        Ok(configured) => run_script(alloc, any, &configured, out),
         Err(ScriptFault::Config(fault)) => {
             write_config_fault(&fault, out)?;
             Ok(BAD_INPUT)

@@ -1,8 +1,4 @@
-use Rattle.std.proofs.Common.{◌≡◌, ◌∷◌, [], List, refl, sym, ap, ◌∙◌, subst}
 use Rattle.std.proofs.lemmas.Result.{IfOk-weaker, IfErr-weaker}
-use Rattle.route_json.specs.Configuration.{Configuration}
-use Rattle.fleet_run.specs.declared.script.Reload.{Reload}
-use Rattle.accepted_run.specs.Reloads.{Judges}
 use Rattle.replay.specs.Replay.{events_of, reloads_of}
 use Rattle.replay.proofs.Printing.{enough, in_order, new_fleet, chain_in_use, are_judged, are_loadings, runs_accepted, breaks_accepted}
 use Rattle.replay.proofs.replaying.run_accepted.Goals as goal
@@ -25,7 +21,7 @@ drive_judged-driven-requires-clause-fleet g c = new_fleet c.server_count.result 
 pub returns-clause-ok : goal.returns-clause-ok
 returns-clause-ok g c =
     let s = c.args.script.now in
-    let judged = are_loadings s.config (reloads_of s) _ _ c.args.accepted.now _ c.as_slice-reloads.ensures.value c.requires.certified c.requires.accepted c.in_ok-judged.ensures.judged in
+    let judged = are_loadings s.config (reloads_of s) _ _ c.args.accepted.now _ c.as_slice-reloads.ensures.value c.requires.certified c.requires.accepted c.in_ok-judged.ensures.judged c.config-in_use.ensures.generations in
     IfOk-weaker c.write_driven.result _ _
     (λ status w. (w.0, runs_accepted c.direct_is_one_server.ensures s.config (reloads_of s) c.in_ok-judged.judged.loadings.items (events_of s) c.drive_judged-driven.result c.drive_judged-driven.new.transcript c.drive_judged-driven.new.marks.items _ _ _ _ _ c.as_slice-reloads.ensures.value c.as_slice-loadings.ensures.value c.as_slice-marks.ensures.value judged c.drive_judged-driven.ensures.ok w.1))
     c.write_driven.ensures.ok
@@ -33,7 +29,7 @@ returns-clause-ok g c =
 pub returns-clause-err : goal.returns-clause-err
 returns-clause-err g c =
     let s = c.args.script.now in
-    let judged = are_loadings s.config (reloads_of s) _ _ c.args.accepted.now _ c.as_slice-reloads.ensures.value c.requires.certified c.requires.accepted c.in_ok-judged.ensures.judged in
+    let judged = are_loadings s.config (reloads_of s) _ _ c.args.accepted.now _ c.as_slice-reloads.ensures.value c.requires.certified c.requires.accepted c.in_ok-judged.ensures.judged c.config-in_use.ensures.generations in
     IfErr-weaker c.write_driven.result _ _
     (λ fault b. breaks_accepted c.direct_is_one_server.ensures s.config (reloads_of s) c.in_ok-judged.judged.loadings.items (events_of s) c.drive_judged-driven.result c.drive_judged-driven.new.transcript c.drive_judged-driven.new.marks.items _ _ _ _ _ c.as_slice-reloads.ensures.value c.as_slice-loadings.ensures.value c.as_slice-marks.ensures.value judged c.drive_judged-driven.ensures.fault fault b)
     c.write_driven.ensures.err

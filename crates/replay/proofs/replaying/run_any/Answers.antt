@@ -1,4 +1,4 @@
-use Rattle.std.proofs.Common.{arith, refl, [], List, ◌∙◌, ap}
+use Rattle.std.proofs.Common.{refl, []}
 use Rattle.std.proofs.lemmas.Result.{IfOk-weaker, IfErr-weaker}
 use Rattle.replay.specs.Replay.{events_of, reloads_of}
 use Rattle.replay.proofs.Printing.{enough, in_order, new_fleet, runs_any, breaks_any}

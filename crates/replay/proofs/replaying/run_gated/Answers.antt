@@ -1,4 +1,4 @@
-use Rattle.std.proofs.Common.{◌≡◌, sym, ◌∙◌, ap, subst, ◌∷◌, [], List, refl, inr, inl}
+use Rattle.std.proofs.Common.{sym, ◌∙◌, ap, subst, ◌∷◌, []}
 use Rattle.std.proofs.lemmas.Result.{IfOk-weaker, IfErr-weaker}
 use Rattle.route_json.specs.Configuration.{Configuration}
 use Rattle.fresh_gate.specs.Gate.{IsCertified, IsJudged}

@@ -1,9 +1,12 @@
-use Rattle.std.proofs.Common.{◌≡◌, ◌≤◌, ℕ, List, Option, map}
+use Rattle.std.proofs.Common.{◌≤◌, ◌-◌, ℕ, List, Option, map}
 use Rattle.std.specs.Io.KnownBytes.{Appends}
 use Rattle.fleet_run.specs.Scripted.{shown_by}
 use Rattle.replay.specs.Replay.{transcript_lines}
 use Rattle.replay.proofs.Printing.{left}
 use Rattle.replay.proofs.replaying.write_entries.Given as goal
+
+abbrev pub decreases-loop-number : goal.decreases-loop-number
+decreases-loop-number g l = l.count - l.number
 
 abbrev pub invariant-loop-number : goal.invariant-loop-number
 invariant-loop-number g l = record {
