@@ -1,5 +1,5 @@
 -- The commands of the two dialects by the lengths of their words.
-use Rattle.std.proofs.Common.{◌≡◌, ℕ, true, false, eqb, List, [], ◌∷◌, length, Option, Some, None, refl, sym, ap, ◌∙◌, arith}
+use Rattle.std.proofs.Common.{◌≡◌, true, false, eqb, List, [], ◌∷◌, length, Some, None, refl, sym, ap, ◌∙◌, arith}
 use Rattle.std.specs.Str.{bytes_eq}
 use Rattle.std.specs.List.{list_all}
 use Rattle.std.proofs.lemmas.Bool.{eqb-true}
@@ -22,14 +22,6 @@ two_letters (entry ∷ entries) word v all e =
 -- a meta command has two letters
 pub meta_length : (word : Word) (v : Verb) → verb_of word ≡ Some v → length word ≡ 2
 meta_length word v e = two_letters meta_words word v refl e
-
-none_by : (o : Option Verb) (word : Word) → verb_of word ≡ o → (length word ≡ 2 → ⊥) → verb_of word ≡ None
-none_by None word is other = is
-none_by (Some v) word is other = absurd (other (meta_length word v is))
-
--- so a word of another length is none
-pub no_meta : (word : Word) → (length word ≡ 2 → ⊥) → verb_of word ≡ None
-no_meta word other = none_by (verb_of word) word refl other
 
 -- no classic command has two letters
 pub no_classic : (word : Word) → length word ≡ 2 → text_words.verb_of word ≡ None

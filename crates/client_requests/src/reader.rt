@@ -55,8 +55,8 @@ fn of_meta(read: meta_requests::Read) -> Read
     }
 }
 
-// The dialect that alone can have a command of this word: each meta command has two letters, and no classic one has. A word that
-// is no command of either is unknown in both.
+// The dialect that alone can have this word as a command: each meta command has two letters, and no classic one has. A word
+// that is no command is unknown in both.
 fn dialect_of(word: &[u8]) -> Dialect
     ensures classic { result ≡ Dialect.Classic → meta_words.verb_of word.now ≡ None }
     ensures meta { result ≡ Dialect.Meta → text_words.verb_of word.now ≡ None }
@@ -67,8 +67,8 @@ fn dialect_of(word: &[u8]) -> Dialect
     }
 }
 
-/// The message that the bytes begin with, in either dialect: the line is found once, and the form of its first word decides
-/// the dialect, which alone looks the word up. It takes no memory, and time linear in its line: no data are looked at.
+/// The message that the bytes begin with, in either dialect: the line is found once, the length of its first word tells the
+/// dialect, and the word is looked up there alone. It takes no memory, and time linear in its line: no data are looked at.
 ///
 /// Source: memcached's protocol.txt.
 pub fn read_request(bytes: &[u8]) -> Read

@@ -53,7 +53,7 @@ fn block_len(command: &Command) -> Option<usize>
 
 /// The message of the line that was found, whose first word is known, and of what follows the line. It takes no memory.
 ///
-/// A reader of several dialects finds the line and looks at its first word once, and then calls this.
+/// A reader of several dialects finds the line and its first word once, and then calls this.
 pub fn read_behind(bytes: &[u8], end: usize, used: usize, first: Span) -> Read
     requires line { TakesLine bytes.now end used }
     requires first { IsNextWord (take end bytes.now) 0 first }

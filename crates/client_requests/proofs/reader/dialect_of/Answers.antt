@@ -1,4 +1,4 @@
-use Rattle.client_requests.proofs.WordLengths.{no_classic, no_meta}
+use Rattle.client_requests.proofs.WordLengths.{no_classic}
 use Rattle.client_requests.proofs.reader.dialect_of.Goals as goal
 
 pub returns-in-2-clause-meta : goal.returns-in-2-clause-meta
