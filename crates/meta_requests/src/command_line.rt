@@ -1,13 +1,13 @@
 //! What the words of a line ask, and what is passed over after it.
 ghost use Rattle.std.specs.Prelude.{◌≡◌, ◌≤◌, length, drop, IfOk};
-ghost use Rattle.mc_text.specs.Word.{words, IsNextWord};
+ghost use Rattle.mc_text.specs.Word.{words, text_at, IsNextWord};
 ghost use Rattle.request_parts.specs.Places.{Gives};
+ghost use Rattle.meta_requests.specs.CommandWords.{verb_of};
 ghost use Rattle.meta_requests.specs.Order.{order_of, ordered_by, asking, storing, noop, sets, mixes, is_store, skip_of};
 ghost use Rattle.meta_requests.specs.Places.{LiesIn, order_in};
 
 use crate::command::{Command, Kind, Values, Verb};
 use crate::flags::flags;
-use crate::verbs::verb;
 use mc_text::word::{Span, next_word};
 use mc_types::{DATA_LIMIT, Op};
 use request_parts::parts::{key, length_at, u32_of, word};
@@ -98,13 +98,18 @@ fn ordered(line: &[u8], at: usize, verb: Option<Verb>) -> Result<Command, Refusa
     }
 }
 
-/// What a line with this first word asks, or the first test that it fails.
-pub fn command(line: &[u8], first: Span) -> Result<Command, RefusalReason>
-    requires { IsNextWord line.now 0 first }
+/// What a line asks whose first word means this, or the first test that it fails.
+pub(crate) fn command(
+    line: &[u8],
+    first: Span,
+    verb: Option<Verb>,
+) -> Result<Command, RefusalReason>
+    requires first { IsNextWord line.now 0 first }
+    requires verb { verb ≡ verb_of (text_at line.now first) }
     ensures order { Gives (order_in line.now) result (order_of (words line.now)) }
     ensures within { IfOk result (LiesIn line.now) }
 {
-    ordered(line, first.end, verb(&line[first.start..first.end]))
+    ordered(line, first.end, verb)
 }
 
 fn stores(verb: Option<Verb>) -> bool
@@ -116,20 +121,17 @@ fn stores(verb: Option<Verb>) -> bool
     }
 }
 
-/// What is passed over after the line, if it is refused: the data that the third word of `ms` tells of.
-pub fn skip(line: &[u8]) -> Skip
+/// What is passed over after such a line, if it is refused: the data that the third word of `ms` tells of.
+pub(crate) fn skip(line: &[u8], first: Span, verb: Option<Verb>) -> Skip
+    requires first { IsNextWord line.now 0 first }
+    requires verb { verb ≡ verb_of (text_at line.now first) }
     ensures { result ≡ skip_of (words line.now) }
 {
-    match next_word(line, 0) {
+    if !stores(verb) {
+        return Skip::Nothing;
+    }
+    match length_at(line, first.end, 1) {
+        Some(n) => Skip::Bytes(u64::from(n) + 2),
         None => Skip::Nothing,
-        Some(first) => {
-            if !stores(verb(&line[first.start..first.end])) {
-                return Skip::Nothing;
-            }
-            match length_at(line, first.end, 1) {
-                Some(n) => Skip::Bytes(u64::from(n) + 2),
-                None => Skip::Nothing,
-            }
-        }
     }
 }

@@ -1,6 +1,7 @@
 //! What the words of a line ask, and what is passed over after it.
 ghost use Rattle.std.specs.Prelude.{◌≡◌, ◌≤◌, length, drop, IfOk};
-ghost use Rattle.mc_text.specs.Word.{words, IsNextWord};
+ghost use Rattle.mc_text.specs.Word.{words, text_at, IsNextWord};
+ghost use Rattle.text_requests.specs.CommandWords.{verb_of};
 ghost use Rattle.text_requests.specs.Order.{order_of, ordered_by, is_store, skip_of};
 ghost use Rattle.request_parts.specs.Places.{Gives};
 ghost use Rattle.text_requests.specs.Places.{LiesIn, order_in};
@@ -9,8 +10,7 @@ use crate::command::{Command, Verb};
 use crate::keyed::{counting, deletion, of_itself, touching};
 use crate::retrieval::retrieval;
 use crate::stores::{storage, swapping};
-use crate::verbs::verb;
-use mc_text::word::{Span, next_word};
+use mc_text::word::Span;
 use request_parts::parts::length_at;
 use request_parts::{RefusalReason, Skip};
 
@@ -31,13 +31,18 @@ fn ordered(line: &[u8], at: usize, verb: Option<Verb>) -> Result<Command, Refusa
     }
 }
 
-/// What a line with this first word asks, or the first test that it fails.
-pub fn command(line: &[u8], first: Span) -> Result<Command, RefusalReason>
-    requires { IsNextWord line.now 0 first }
+/// What a line asks whose first word means this, or the first test that it fails.
+pub(crate) fn command(
+    line: &[u8],
+    first: Span,
+    verb: Option<Verb>,
+) -> Result<Command, RefusalReason>
+    requires first { IsNextWord line.now 0 first }
+    requires verb { verb ≡ verb_of (text_at line.now first) }
     ensures order { Gives (order_in line.now) result (order_of (words line.now)) }
     ensures within { IfOk result (LiesIn line.now) }
 {
-    ordered(line, first.end, verb(&line[first.start..first.end]))
+    ordered(line, first.end, verb)
 }
 
 fn stores(verb: Option<Verb>) -> bool
@@ -49,20 +54,17 @@ fn stores(verb: Option<Verb>) -> bool
     }
 }
 
-/// What is passed over after the line, if it is refused.
-pub fn skip(line: &[u8]) -> Skip
+/// What is passed over after such a line, if it is refused.
+pub(crate) fn skip(line: &[u8], first: Span, verb: Option<Verb>) -> Skip
+    requires first { IsNextWord line.now 0 first }
+    requires verb { verb ≡ verb_of (text_at line.now first) }
     ensures { result ≡ skip_of (words line.now) }
 {
-    match next_word(line, 0) {
+    if !stores(verb) {
+        return Skip::Nothing;
+    }
+    match length_at(line, first.end, 3) {
+        Some(n) => Skip::Bytes(u64::from(n) + 2),
         None => Skip::Nothing,
-        Some(first) => {
-            if !stores(verb(&line[first.start..first.end])) {
-                return Skip::Nothing;
-            }
-            match length_at(line, first.end, 3) {
-                Some(n) => Skip::Bytes(u64::from(n) + 2),
-                None => Skip::Nothing,
-            }
-        }
     }
 }
