@@ -42,7 +42,8 @@ fn lines_that_cannot_be_read(rt: HostRuntime) -> Result<(), Fail> {
             "line 2: no time, 0 to 9223372036854775807: -1",
         ),
         (
-            "pool 1\n> 0 \\q",
+            r#"pool 1
+> 0 \q"#,
             "line 2: a backslash that begins none of \\r, \\n, \\\\ and \\xHH",
         ),
         ("pool 1\nhold 0  x", "line 2: a key is empty"),
@@ -92,7 +93,8 @@ fn lines_of_events_that_cannot_be(rt: HostRuntime) -> Result<(), Fail> {
 
 // a line that loads a pool of the server s0:1 and another one
 fn pool_of_two() -> &'static str {
-    "reload {\"pools\":{\"A\":{\"servers\":[\"s0:1\",\"h:1\"]}},\"route\":\"PoolRoute|A\"}\n"
+    r#"reload {"pools":{"A":{"servers":["s0:1","h:1"]}},"route":"PoolRoute|A"}
+"#
 }
 
 #[test]

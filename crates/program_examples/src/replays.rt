@@ -26,7 +26,8 @@ fn scripts_that_are_run(rt: HostRuntime) {
             "config: bad field route\n",
         ),
         (
-            "{\"pools\":{},\"route\":\"NullRoute\"}\n",
+            r#"{"pools":{},"route":"NullRoute"}
+"#,
             DONE,
             "done 0 commands 0 calls 0 stale\n",
         ),
@@ -36,7 +37,10 @@ fn scripts_that_are_run(rt: HostRuntime) {
             "script: bad line 3\n",
         ),
         (
-            "pool 1\n> 0 get a\\r\\n\nhold 0 a 1\n",
+            r#"pool 1
+> 0 get a\r\n
+hold 0 a 1
+"#,
             BAD_INPUT,
             "script: bad line 3\n",
         ),
@@ -71,7 +75,13 @@ fn trees_that_are_refused(rt: HostRuntime) -> Result<(), Fail> {
     let refusal = "refused: server=127.0.0.1:5001 read=get delete=delete prefix= residue=0/1\n";
     let cases = [
         ("", false, REFUSED, refusal),
-        ("> 0 get a\\r\\n\n", false, REFUSED, refusal),
+        (
+            r#"> 0 get a\r\n
+"#,
+            false,
+            REFUSED,
+            refusal,
+        ),
         ("", true, DONE, "done 0 commands 0 calls 0 stale\n"),
         ("fail 0 before", false, BAD_INPUT, "script: bad line 2\n"),
         ("x", false, BAD_INPUT, "script: bad line 2\n"),
@@ -107,7 +117,9 @@ fn config_of(alloc: Global, text: &str) -> Result<Config, Fail> {
 fn events_over_a_configuration(rt: HostRuntime) -> Result<(), Fail> {
     let refusal = "refused: server=127.0.0.1:5001 read=get delete=delete prefix= residue=0/1\n";
     let none = "done 0 commands 0 calls 0 stale\n";
-    let miss = "< 0 END\\r\\n\ndone 1 commands 1 calls 0 stale\n";
+    let miss = r#"< 0 END\r\n
+done 1 commands 1 calls 0 stale
+"#;
     let cases = [
         (OVER_LINES, "", false, DONE, none),
         (OVER_LINES, "> 0 get a\\r\\n", false, DONE, miss),

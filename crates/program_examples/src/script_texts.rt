@@ -222,7 +222,7 @@ fn pool_line_alone(rt: HostRuntime) -> Result<(), Fail> {
 fn configuration(alloc: Global, route: &str, further: &str) -> Result<String, AllocError> {
     let mut text = String::from_str(
         alloc,
-        "{\"pools\":{\"A\":{\"servers\":[\"127.0.0.1:5001\"]},\"B\":{\"servers\":[\"127.0.0.1:5002\"]}},\"route\":",
+        r#"{"pools":{"A":{"servers":["127.0.0.1:5001"]},"B":{"servers":["127.0.0.1:5002"]}},"route":"#,
     )?;
     text.push_str(route)?;
     text.push('}')?;
@@ -231,10 +231,10 @@ fn configuration(alloc: Global, route: &str, further: &str) -> Result<String, Al
 }
 
 const BY_PREFIX: &str =
-    "{\"type\":\"PrefixSelectorRoute\",\"policies\":{\"a\":\"PoolRoute|A\",\"ab\":\"PoolRoute|B\"},\"wildcard\":\"PoolRoute|A\"}";
+    r#"{"type":"PrefixSelectorRoute","policies":{"a":"PoolRoute|A","ab":"PoolRoute|B"},"wildcard":"PoolRoute|A"}"#;
 
 const WITHOUT_WILDCARD: &str =
-    "{\"type\":\"PrefixSelectorRoute\",\"policies\":{\"a\":\"PoolRoute|A\",\"ab\":\"PoolRoute|B\"}}";
+    r#"{"type":"PrefixSelectorRoute","policies":{"a":"PoolRoute|A","ab":"PoolRoute|B"}}"#;
 
 #[test]
 fn scripts_of_a_configuration(rt: HostRuntime) -> Result<(), Fail> {
@@ -255,8 +255,10 @@ fn scripts_of_a_configuration(rt: HostRuntime) -> Result<(), Fail> {
 
 #[test]
 fn scripts_that_load_others(rt: HostRuntime) -> Result<(), Fail> {
-    let text =
-        "pool 1\nmoment 5\nreload {\"pools\":{\"A\":{\"servers\":[\"h:1\",\"s0:1\"]}},\"route\":\"PoolRoute|A\"}\nrestart 1";
+    let text = r#"pool 1
+moment 5
+reload {"pools":{"A":{"servers":["h:1","s0:1"]}},"route":"PoolRoute|A"}
+restart 1"#;
     let Ok(read) = read_script(rt.alloc(), text) else {
         return Err(Fail::from("a bad line"));
     };
@@ -323,7 +325,11 @@ fn configurations_with_a_fault(rt: HostRuntime) -> Result<(), Fail> {
         (" pool 1", "not JSON"),
         ("Pool 1", "not JSON"),
         ("{\"pools\":{}}", "bad field route"),
-        ("{\"pools\":{},\n\"route\":\"NullRoute\"}", "not JSON"),
+        (
+            r#"{"pools":{},
+"route":"NullRoute"}"#,
+            "not JSON",
+        ),
     ];
     for (text, want) in cases {
         let line = config_fault(rt.alloc(), text)?;

@@ -40,10 +40,18 @@ fn letters(alloc: Global, head: &str, count: usize, tail: &str) -> Result<String
 
 #[test]
 fn first_path(rt: HostRuntime) {
-    let script =
-        "pool 1\n> 0 set a 5 0 3\\r\\nxyz\\r\\n\n> 0 get a\\r\\n\n> 0 delete a\\r\\n\n> 0 get a\\r\\n\n";
-    let lines =
-        "< 0 STORED\\r\\n\n< 0 VALUE a 5 3\\r\\nxyz\\r\\nEND\\r\\n\n< 0 DELETED\\r\\n\n< 0 END\\r\\n\ndone 4 commands 4 calls 0 stale\n";
+    let script = r#"pool 1
+> 0 set a 5 0 3\r\nxyz\r\n
+> 0 get a\r\n
+> 0 delete a\r\n
+> 0 get a\r\n
+"#;
+    let lines = r#"< 0 STORED\r\n
+< 0 VALUE a 5 3\r\nxyz\r\nEND\r\n
+< 0 DELETED\r\n
+< 0 END\r\n
+done 4 commands 4 calls 0 stale
+"#;
     assert!(rt; prints(rt.alloc(), script, lines));
 }
 
@@ -54,10 +62,15 @@ fn empty_script(rt: HostRuntime) {
 
 #[test]
 fn hash_tags_and_a_restart(rt: HostRuntime) {
-    let script =
-        "pool 2\n> 0 set a 0 0 1\\r\\n1\\r\\nset b 0 0 1\\r\\n2\\r\\nset x{a}y 0 0 1\\r\\n3\\r\\n\nrestart 0\n> 0 get a b x{a}y\\r\\n\n";
-    let lines =
-        "< 0 STORED\\r\\nSTORED\\r\\nSTORED\\r\\n\n< 0 VALUE b 0 1\\r\\n2\\r\\nEND\\r\\n\ndone 6 commands 6 calls 0 stale\n";
+    let script = r#"pool 2
+> 0 set a 0 0 1\r\n1\r\nset b 0 0 1\r\n2\r\nset x{a}y 0 0 1\r\n3\r\n
+restart 0
+> 0 get a b x{a}y\r\n
+"#;
+    let lines = r#"< 0 STORED\r\nSTORED\r\nSTORED\r\n
+< 0 VALUE b 0 1\r\n2\r\nEND\r\n
+done 6 commands 6 calls 0 stale
+"#;
     assert!(rt; prints(rt.alloc(), script, lines));
 }
 
@@ -80,7 +93,7 @@ done 4 commands 4 calls 0 stale
 fn two_servers(alloc: Global, route: &str) -> Result<String, AllocError> {
     let mut line = String::from_str(
         alloc,
-        "{\"pools\":{\"A\":{\"servers\":[\"127.0.0.1:5001\"]},\"B\":{\"servers\":[\"127.0.0.1:5002\"]}},\"route\":",
+        r#"{"pools":{"A":{"servers":["127.0.0.1:5001"]},"B":{"servers":["127.0.0.1:5002"]}},"route":"#,
     )?;
     line.push_str(route)?;
     line.push_str("}\n")?;
@@ -94,7 +107,9 @@ fn key_lengths_and_longest_prefix(rt: HostRuntime) -> Result<(), Fail> {
         prints(
             rt.alloc(),
             longest.as_str(),
-            "< 0 END\\r\\n\ndone 1 commands 1 calls 0 stale\n"
+            r#"< 0 END\r\n
+done 1 commands 1 calls 0 stale
+"#
         )
     );
     let longer = letters(rt.alloc(), "get ", 251, "\\r\\n")?;
@@ -102,21 +117,29 @@ fn key_lengths_and_longest_prefix(rt: HostRuntime) -> Result<(), Fail> {
         prints(
             rt.alloc(),
             longer.as_str(),
-            "< 0 CLIENT_ERROR bad key\\r\\n\ndone 0 commands 0 calls 0 stale\n"
+            r#"< 0 CLIENT_ERROR bad key\r\n
+done 0 commands 0 calls 0 stale
+"#
         )
     );
     let mut script = two_servers(
         rt.alloc(),
-        "{\"type\":\"PrefixSelectorRoute\",\"policies\":{\"a\":\"PoolRoute|A\",\"ab\":\"PoolRoute|B\"},\"wildcard\":\"PoolRoute|A\"}",
+        r#"{"type":"PrefixSelectorRoute","policies":{"a":"PoolRoute|A","ab":"PoolRoute|B"},"wildcard":"PoolRoute|A"}"#,
     )?;
     script.push_str(
-        "> 0 set ab 0 0 1\\r\\n1\\r\\nset a 0 0 1\\r\\n2\\r\\n\nrestart 1\n> 0 get ab a\\r\\n\n",
+        r#"> 0 set ab 0 0 1\r\n1\r\nset a 0 0 1\r\n2\r\n
+restart 1
+> 0 get ab a\r\n
+"#,
     )?;
     assert!(rt;
         prints(
             rt.alloc(),
             script.as_str(),
-            "< 0 STORED\\r\\nSTORED\\r\\n\n< 0 VALUE a 0 1\\r\\n2\\r\\nEND\\r\\n\ndone 4 commands 4 calls 0 stale\n"
+            r#"< 0 STORED\r\nSTORED\r\n
+< 0 VALUE a 0 1\r\n2\r\nEND\r\n
+done 4 commands 4 calls 0 stale
+"#
         )
     );
     Ok(())
@@ -132,7 +155,11 @@ fn items_held_from_the_start(rt: HostRuntime) -> Result<(), Fail> {
         prints(
             rt.alloc(),
             script.as_str(),
-            "< 0 SERVER_ERROR call failed\\r\\n\n< 0 VALUE a 0 3 1\\r\\nxyz\\r\\nVALUE b 0 0 2\\r\\n\\r\\nEND\\r\\n\n< 0 DELETED\\r\\nEND\\r\\n\ndone 5 commands 5 calls 0 stale\n"
+            r#"< 0 SERVER_ERROR call failed\r\n
+< 0 VALUE a 0 3 1\r\nxyz\r\nVALUE b 0 0 2\r\n\r\nEND\r\n
+< 0 DELETED\r\nEND\r\n
+done 5 commands 5 calls 0 stale
+"#
         )
     );
     Ok(())
@@ -144,12 +171,17 @@ fn the_oldest_of_1025_held_items_is_pushed_out(rt: HostRuntime) -> Result<(), Fa
     for number in 0..1025 {
         writeln!(&mut script, "hold 0 k{} 1", number)?;
     }
-    script.push_str("> 0 get k0 k1 k1024\\r\\n\n")?;
+    script.push_str(
+        r#"> 0 get k0 k1 k1024\r\n
+"#,
+    )?;
     assert!(rt;
         prints(
             rt.alloc(),
             script.as_str(),
-            "< 0 VALUE k1 0 1\\r\\n1\\r\\nVALUE k1024 0 1\\r\\n1\\r\\nEND\\r\\n\ndone 3 commands 3 calls 0 stale\n"
+            r#"< 0 VALUE k1 0 1\r\n1\r\nVALUE k1024 0 1\r\n1\r\nEND\r\n
+done 3 commands 3 calls 0 stale
+"#
         )
     );
     Ok(())
@@ -157,19 +189,32 @@ fn the_oldest_of_1025_held_items_is_pushed_out(rt: HostRuntime) -> Result<(), Fa
 
 #[test]
 fn cas_numbers_go_on_over_a_restart(rt: HostRuntime) {
-    let script =
-        "pool 1\n> 0 set a 0 0 1\\r\\n1\\r\\ngets a\\r\\n\nrestart 0\n> 0 set a 0 0 1\\r\\n1\\r\\ngets a\\r\\n\n";
-    let lines =
-        "< 0 STORED\\r\\nVALUE a 0 1 1\\r\\n1\\r\\nEND\\r\\n\n< 0 STORED\\r\\nVALUE a 0 1 2\\r\\n1\\r\\nEND\\r\\n\ndone 4 commands 4 calls 0 stale\n";
+    let script = r#"pool 1
+> 0 set a 0 0 1\r\n1\r\ngets a\r\n
+restart 0
+> 0 set a 0 0 1\r\n1\r\ngets a\r\n
+"#;
+    let lines = r#"< 0 STORED\r\nVALUE a 0 1 1\r\n1\r\nEND\r\n
+< 0 STORED\r\nVALUE a 0 1 2\r\n1\r\nEND\r\n
+done 4 commands 4 calls 0 stale
+"#;
     assert!(rt; prints(rt.alloc(), script, lines));
 }
 
 #[test]
 fn what_has_expired_is_gone_though_the_moment_goes_back(rt: HostRuntime) {
-    let script =
-        "pool 1\n> 0 set a 0 10 1\\r\\n1\\r\\nset b 0 0 1\\r\\n2\\r\\n\nmoment 10\n> 0 get b\\r\\n\nmoment 0\n> 0 get a\\r\\n\n";
-    let lines =
-        "< 0 STORED\\r\\nSTORED\\r\\n\n< 0 VALUE b 0 1\\r\\n2\\r\\nEND\\r\\n\n< 0 END\\r\\n\ndone 4 commands 4 calls 0 stale\n";
+    let script = r#"pool 1
+> 0 set a 0 10 1\r\n1\r\nset b 0 0 1\r\n2\r\n
+moment 10
+> 0 get b\r\n
+moment 0
+> 0 get a\r\n
+"#;
+    let lines = r#"< 0 STORED\r\nSTORED\r\n
+< 0 VALUE b 0 1\r\n2\r\nEND\r\n
+< 0 END\r\n
+done 4 commands 4 calls 0 stale
+"#;
     assert!(rt; prints(rt.alloc(), script, lines));
 }
 
@@ -180,24 +225,24 @@ fn configuration_faults(rt: HostRuntime) -> Result<(), Fail> {
         ("[]", "not JSON"),
         ("{}", "bad field pools"),
         (
-            "{\"pools\":{\"A\":{\"servers\":[]}},\"route\":\"NullRoute\"}",
+            r#"{"pools":{"A":{"servers":[]}},"route":"NullRoute"}"#,
             "empty pool A",
         ),
         (
-            "{\"pools\":{\"A\":{\"servers\":[\"h:0\"]}},\"route\":\"NullRoute\"}",
+            r#"{"pools":{"A":{"servers":["h:0"]}},"route":"NullRoute"}"#,
             "bad address h:0",
         ),
-        ("{\"pools\":{},\"route\":\"PoolRoute|Z\"}", "no pool Z"),
+        (r#"{"pools":{},"route":"PoolRoute|Z"}"#, "no pool Z"),
         (
-            "{\"pools\":{},\"route\":\"RandomRoute\"}",
+            r#"{"pools":{},"route":"RandomRoute"}"#,
             "unknown route RandomRoute",
         ),
         (
-            "{\"pools\":{},\"route\":{\"type\":\"AllSyncRoute\",\"children\":[]}}",
+            r#"{"pools":{},"route":{"type":"AllSyncRoute","children":[]}}"#,
             "no children",
         ),
         (
-            "{\"pools\":{},\"route\":{\"type\":\"PrefixSelectorRoute\",\"policies\":{\"\":\"NullRoute\"}}}",
+            r#"{"pools":{},"route":{"type":"PrefixSelectorRoute","policies":{"":"NullRoute"}}}"#,
             "bad prefix ",
         ),
     ];
@@ -239,14 +284,17 @@ fn a_set_cut_anywhere(rt: HostRuntime) -> Result<(), Fail> {
             prints(
                 rt.alloc(),
                 script.as_str(),
-                "< 0 STORED\\r\\n\ndone 1 commands 1 calls 0 stale\n"
+                r#"< 0 STORED\r\n
+done 1 commands 1 calls 0 stale
+"#
             )
         );
     }
     assert!(rt;
         prints(
             rt.alloc(),
-            "pool 1\n> 0 set a 0 0 3\\r\\nxy",
+            r#"pool 1
+> 0 set a 0 0 3\r\nxy"#,
             "done 0 commands 0 calls 0 stale\n"
         )
     );
@@ -260,7 +308,9 @@ fn largest_data(rt: HostRuntime) -> Result<(), Fail> {
         prints(
             rt.alloc(),
             largest.as_str(),
-            "< 0 STORED\\r\\n\ndone 1 commands 1 calls 0 stale\n"
+            r#"< 0 STORED\r\n
+done 1 commands 1 calls 0 stale
+"#
         )
     );
     let larger = letters(
@@ -273,7 +323,9 @@ fn largest_data(rt: HostRuntime) -> Result<(), Fail> {
         prints(
             rt.alloc(),
             larger.as_str(),
-            "< 0 SERVER_ERROR object too large for cache\\r\\nEND\\r\\n\ndone 1 commands 1 calls 0 stale\n"
+            r#"< 0 SERVER_ERROR object too large for cache\r\nEND\r\n
+done 1 commands 1 calls 0 stale
+"#
         )
     );
     Ok(())
@@ -281,48 +333,82 @@ fn largest_data(rt: HostRuntime) -> Result<(), Fail> {
 
 #[test]
 fn bad_data_chunk(rt: HostRuntime) {
-    let script = "pool 1\n> 0 set a 0 0 1\\r\\nxyz\\r\\nget a\\r\\n\n";
-    let lines = "< 0 CLIENT_ERROR bad data chunk\\r\\nEND\\r\\n\ndone 1 commands 1 calls 0 stale\n";
+    let script = r#"pool 1
+> 0 set a 0 0 1\r\nxyz\r\nget a\r\n
+"#;
+    let lines = r#"< 0 CLIENT_ERROR bad data chunk\r\nEND\r\n
+done 1 commands 1 calls 0 stale
+"#;
     assert!(rt; prints(rt.alloc(), script, lines));
 }
 
 #[test]
 fn failed_but_applied(rt: HostRuntime) {
-    let script = "pool 1\nfail 1 after\n> 0 set a 0 0 1\\r\\n1\\r\\n\n> 0 get a\\r\\n\n";
-    let lines =
-        "< 0 SERVER_ERROR call failed\\r\\n\n< 0 VALUE a 0 1\\r\\n1\\r\\nEND\\r\\n\ndone 2 commands 2 calls 0 stale\n";
+    let script = r#"pool 1
+fail 1 after
+> 0 set a 0 0 1\r\n1\r\n
+> 0 get a\r\n
+"#;
+    let lines = r#"< 0 SERVER_ERROR call failed\r\n
+< 0 VALUE a 0 1\r\n1\r\nEND\r\n
+done 2 commands 2 calls 0 stale
+"#;
     assert!(rt; prints(rt.alloc(), script, lines));
 }
 
 #[test]
 fn failed_before_it_was_applied(rt: HostRuntime) {
-    let script = "pool 1\nfail 1 before\n> 0 get a b\\r\\n\n";
-    let lines = "< 0 SERVER_ERROR call failed\\r\\n\ndone 1 commands 1 calls 0 stale\n";
+    let script = r#"pool 1
+fail 1 before
+> 0 get a b\r\n
+"#;
+    let lines = r#"< 0 SERVER_ERROR call failed\r\n
+done 1 commands 1 calls 0 stale
+"#;
     assert!(rt; prints(rt.alloc(), script, lines));
 }
 
 #[test]
 fn arithmetic_and_stamps(rt: HostRuntime) {
-    let script =
-        "pool 1\n> 0 set n 0 0 20\\r\\n18446744073709551615\\r\\n\n> 0 incr n 1\\r\\n\n> 0 append n 0 0 1\\r\\n5\\r\\n\n> 0 get n\\r\\n\nrestart 0\n> 0 incr n 1\\r\\n\n";
-    let lines =
-        "< 0 STORED\\r\\n\n< 0 0\\r\\n\n< 0 STORED\\r\\n\n< 0 VALUE n 0 2\\r\\n05\\r\\nEND\\r\\n\n< 0 NOT_FOUND\\r\\n\ndone 5 commands 5 calls 0 stale\n";
+    let script = r#"pool 1
+> 0 set n 0 0 20\r\n18446744073709551615\r\n
+> 0 incr n 1\r\n
+> 0 append n 0 0 1\r\n5\r\n
+> 0 get n\r\n
+restart 0
+> 0 incr n 1\r\n
+"#;
+    let lines = r#"< 0 STORED\r\n
+< 0 0\r\n
+< 0 STORED\r\n
+< 0 VALUE n 0 2\r\n05\r\nEND\r\n
+< 0 NOT_FOUND\r\n
+done 5 commands 5 calls 0 stale
+"#;
     assert!(rt; prints(rt.alloc(), script, lines));
 }
 
 #[test]
 fn unknown_words_and_noreply(rt: HostRuntime) {
-    let script =
-        "pool 1\n> 0 \\r\\nfoo\\r\\nget\\r\\ndelete a 0\\r\\n\n> 0 set a 0 0 1 noreply\\r\\n1\\r\\ngets a\\r\\n\n";
-    let lines =
-        "< 0 ERROR\\r\\nERROR\\r\\nERROR\\r\\nNOT_FOUND\\r\\n\n< 0 VALUE a 0 1 1\\r\\n1\\r\\nEND\\r\\n\ndone 3 commands 3 calls 0 stale\n";
+    let script = r#"pool 1
+> 0 \r\nfoo\r\nget\r\ndelete a 0\r\n
+> 0 set a 0 0 1 noreply\r\n1\r\ngets a\r\n
+"#;
+    let lines = r#"< 0 ERROR\r\nERROR\r\nERROR\r\nNOT_FOUND\r\n
+< 0 VALUE a 0 1 1\r\n1\r\nEND\r\n
+done 3 commands 3 calls 0 stale
+"#;
     assert!(rt; prints(rt.alloc(), script, lines));
 }
 
 #[test]
 fn flag_not_served(rt: HostRuntime) {
-    let script = "pool 1\n> 0 md a I\\r\\n\n";
-    let lines = "< 0 CLIENT_ERROR flag not served\\r\\n\ndone 0 commands 0 calls 0 stale\n";
+    let script = r#"pool 1
+> 0 md a I\r\n
+"#;
+    let lines = r#"< 0 CLIENT_ERROR flag not served\r\n
+done 0 commands 0 calls 0 stale
+"#;
     assert!(rt; prints(rt.alloc(), script, lines));
 }
 
@@ -368,35 +454,50 @@ done 5 commands 5 calls 0 stale
 
 #[test]
 fn expiry_by_the_moment(rt: HostRuntime) {
-    let script =
-        "pool 1\n> 0 set a 0 10 1\\r\\n1\\r\\n\nmoment 9\n> 0 get a\\r\\n\nmoment 10\n> 0 get a\\r\\n\n";
-    let lines =
-        "< 0 STORED\\r\\n\n< 0 VALUE a 0 1\\r\\n1\\r\\nEND\\r\\n\n< 0 END\\r\\n\ndone 3 commands 3 calls 0 stale\n";
+    let script = r#"pool 1
+> 0 set a 0 10 1\r\n1\r\n
+moment 9
+> 0 get a\r\n
+moment 10
+> 0 get a\r\n
+"#;
+    let lines = r#"< 0 STORED\r\n
+< 0 VALUE a 0 1\r\n1\r\nEND\r\n
+< 0 END\r\n
+done 3 commands 3 calls 0 stale
+"#;
     assert!(rt; prints(rt.alloc(), script, lines));
 }
 
 #[test]
 fn two_clients_interleaved(rt: HostRuntime) {
-    let script = "pool 1\n> 0 set a 0 0 1\\r\\n\n> 1 get a\\r\\n\n> 0 1\\r\\n\n";
-    let lines = "< 1 END\\r\\n\n< 0 STORED\\r\\n\ndone 2 commands 2 calls 0 stale\n";
+    let script = r#"pool 1
+> 0 set a 0 0 1\r\n
+> 1 get a\r\n
+> 0 1\r\n
+"#;
+    let lines = r#"< 1 END\r\n
+< 0 STORED\r\n
+done 2 commands 2 calls 0 stale
+"#;
     assert!(rt; prints(rt.alloc(), script, lines));
 }
 
-const ALL: &str = "{\"type\":\"AllSyncRoute\",\"children\":[\"PoolRoute|A\",\"PoolRoute|B\"]}";
+const ALL: &str = r#"{"type":"AllSyncRoute","children":["PoolRoute|A","PoolRoute|B"]}"#;
 
-const FIRST: &str = "{\"type\":\"FailoverRoute\",\"children\":[\"PoolRoute|A\",\"PoolRoute|B\"]}";
+const FIRST: &str = r#"{"type":"FailoverRoute","children":["PoolRoute|A","PoolRoute|B"]}"#;
 
 const WARM_UP: &str =
-    "{\"type\":\"WarmUpRoute\",\"cold\":\"PoolRoute|A\",\"warm\":\"PoolRoute|B\",\"exptime\":0}";
+    r#"{"type":"WarmUpRoute","cold":"PoolRoute|A","warm":"PoolRoute|B","exptime":0}"#;
 
 /// The two servers behind one route, and another for deletes, on one line.
 fn with_deletes(alloc: Global, others: &str, deletes: &str) -> Result<String, AllocError> {
     let mut route = String::from_str(
         alloc,
-        "{\"type\":\"OperationSelectorRoute\",\"default_policy\":",
+        r#"{"type":"OperationSelectorRoute","default_policy":"#,
     )?;
     route.push_str(others)?;
-    route.push_str(",\"operation_policies\":{\"delete\":")?;
+    route.push_str(r#","operation_policies":{"delete":"#)?;
     route.push_str(deletes)?;
     route.push_str("}}")?;
     two_servers(alloc, route.as_str())
@@ -431,8 +532,16 @@ fn all_sync_delete_over_failover(rt: HostRuntime) -> Result<(), Fail> {
         prints_over(
             rt.alloc(),
             line,
-            "hold 1 a 7\nfail 2 before\n> 0 delete a\\r\\n\nfail 1 before\n> 0 get a\\r\\n\n",
-            "< 0 SERVER_ERROR call failed\\r\\n\n< 0 VALUE a 0 1\\r\\n7\\r\\nEND\\r\\n\ndone 2 commands 4 calls 0 stale\n"
+            r#"hold 1 a 7
+fail 2 before
+> 0 delete a\r\n
+fail 1 before
+> 0 get a\r\n
+"#,
+            r#"< 0 SERVER_ERROR call failed\r\n
+< 0 VALUE a 0 1\r\n7\r\nEND\r\n
+done 2 commands 4 calls 0 stale
+"#
         )?
     );
     Ok(())
@@ -446,8 +555,12 @@ fn exists_outranks_not_found(rt: HostRuntime) -> Result<(), Fail> {
         prints_over(
             rt.alloc(),
             line,
-            "hold 1 a 7\n> 0 md a C9\\r\\n\n",
-            "< 0 EX\\r\\n\ndone 1 commands 2 calls 0 stale\n"
+            r#"hold 1 a 7
+> 0 md a C9\r\n
+"#,
+            r#"< 0 EX\r\n
+done 1 commands 2 calls 0 stale
+"#
         )?
     );
     Ok(())
@@ -462,8 +575,15 @@ fn warm_up_accepted(rt: HostRuntime) -> Result<(), Fail> {
         prints_over(
             rt.alloc(),
             line,
-            "hold 1 a 7\nfail 3 before\n> 0 mg a v\\r\\n\n> 0 mg a v\\r\\n\n",
-            "< 0 EN\\r\\n\n< 0 VA 1\\r\\n7\\r\\n\ndone 2 commands 8 calls 0 stale\n"
+            r#"hold 1 a 7
+fail 3 before
+> 0 mg a v\r\n
+> 0 mg a v\r\n
+"#,
+            r#"< 0 EN\r\n
+< 0 VA 1\r\n7\r\n
+done 2 commands 8 calls 0 stale
+"#
         )?
     );
     Ok(())
@@ -477,14 +597,25 @@ fn warm_up_accepted_with_classic_gets(rt: HostRuntime) -> Result<(), Fail> {
         prints_over(
             rt.alloc(),
             line,
-            "hold 1 a 7\nfail 3 before\n> 0 get a\\r\\n\n> 0 get a\\r\\n\n> 0 get a\\r\\n\n",
-            "< 0 VALUE a 0 1\\r\\n7\\r\\nEND\\r\\n\n< 0 VALUE a 0 1\\r\\n7\\r\\nEND\\r\\n\n< 0 VALUE a 0 1\\r\\n7\\r\\nEND\\r\\n\ndone 3 commands 7 calls 0 stale\n"
+            r#"hold 1 a 7
+fail 3 before
+> 0 get a\r\n
+> 0 get a\r\n
+> 0 get a\r\n
+"#,
+            r#"< 0 VALUE a 0 1\r\n7\r\nEND\r\n
+< 0 VALUE a 0 1\r\n7\r\nEND\r\n
+< 0 VALUE a 0 1\r\n7\r\nEND\r\n
+done 3 commands 7 calls 0 stale
+"#
         )?
     );
     Ok(())
 }
 
-const LEAKED: &str = "< 0 NOT_FOUND\\r\\n\n< 0 VALUE k0 0 1\\r\\n1\\r\\nEND\\r\\n\n";
+const LEAKED: &str = r#"< 0 NOT_FOUND\r\n
+< 0 VALUE k0 0 1\r\n1\r\nEND\r\n
+"#;
 
 /// Those two lines, and then this report.
 fn leaked(alloc: Global, report: &str) -> Result<String, AllocError> {
@@ -501,7 +632,11 @@ fn failover_leak(rt: HostRuntime) -> Result<(), Fail> {
         prints_over_any(
             rt.alloc(),
             line,
-            "hold 0 k0 1\nfail 1 before\n> 0 delete k0\\r\\n\n> 0 get k0\\r\\n\n",
+            r#"hold 0 k0 1
+fail 1 before
+> 0 delete k0\r\n
+> 0 get k0\r\n
+"#,
             lines.as_str()
         )?
     );
@@ -510,7 +645,11 @@ fn failover_leak(rt: HostRuntime) -> Result<(), Fail> {
         prints_over_any(
             rt.alloc(),
             line,
-            "hold 1 k0 1\n> 0 delete k0\\r\\n\nfail 1 before\n> 0 get k0\\r\\n\n",
+            r#"hold 1 k0 1
+> 0 delete k0\r\n
+fail 1 before
+> 0 get k0\r\n
+"#,
             lines.as_str()
         )?
     );
@@ -525,7 +664,10 @@ fn warm_up_leak(rt: HostRuntime) -> Result<(), Fail> {
         prints_over_any(
             rt.alloc(),
             line,
-            "hold 1 k0 1\n> 0 delete k0\\r\\n\n> 0 get k0\\r\\n\n",
+            r#"hold 1 k0 1
+> 0 delete k0\r\n
+> 0 get k0\r\n
+"#,
             lines.as_str()
         )?
     );
@@ -540,7 +682,10 @@ fn null_delete_and_first_of_worst(rt: HostRuntime) -> Result<(), Fail> {
         prints_over_any(
             rt.alloc(),
             line,
-            "hold 0 k0 1\n> 0 delete k0\\r\\n\n> 0 get k0\\r\\n\n",
+            r#"hold 0 k0 1
+> 0 delete k0\r\n
+> 0 get k0\r\n
+"#,
             lines.as_str()
         )?
     );
@@ -549,28 +694,51 @@ fn null_delete_and_first_of_worst(rt: HostRuntime) -> Result<(), Fail> {
 
 #[test]
 fn a_lost_item(rt: HostRuntime) {
-    let script = "pool 1\nhold 0 a 7\nhold 0 b 8\nlose 0 a\n> 0 get a b\\r\\n\n";
-    let lines = "< 0 VALUE b 0 1\\r\\n8\\r\\nEND\\r\\n\ndone 2 commands 2 calls 0 stale\n";
+    let script = r#"pool 1
+hold 0 a 7
+hold 0 b 8
+lose 0 a
+> 0 get a b\r\n
+"#;
+    let lines = r#"< 0 VALUE b 0 1\r\n8\r\nEND\r\n
+done 2 commands 2 calls 0 stale
+"#;
     assert!(rt; prints(rt.alloc(), script, lines));
 }
 
 #[test]
 fn losses_just_before_a_call(rt: HostRuntime) {
-    let second =
-        "pool 1\nhold 0 a 7\nat 2 lose 0 a\n> 0 get a\\r\\n\n> 0 get a\\r\\n\nat 1 restart 0\n";
-    let lines =
-        "< 0 VALUE a 0 1\\r\\n7\\r\\nEND\\r\\n\n< 0 END\\r\\n\ndone 2 commands 2 calls 0 stale\n";
+    let second = r#"pool 1
+hold 0 a 7
+at 2 lose 0 a
+> 0 get a\r\n
+> 0 get a\r\n
+at 1 restart 0
+"#;
+    let lines = r#"< 0 VALUE a 0 1\r\n7\r\nEND\r\n
+< 0 END\r\n
+done 2 commands 2 calls 0 stale
+"#;
     assert!(rt; prints(rt.alloc(), second, lines));
-    let failed =
-        "pool 1\nhold 0 a 7\nfail 1 before\nat 1 restart 0\n> 0 get a\\r\\n\n> 0 get a\\r\\n\n";
-    let lines =
-        "< 0 SERVER_ERROR call failed\\r\\n\n< 0 END\\r\\n\ndone 2 commands 2 calls 0 stale\n";
+    let failed = r#"pool 1
+hold 0 a 7
+fail 1 before
+at 1 restart 0
+> 0 get a\r\n
+> 0 get a\r\n
+"#;
+    let lines = r#"< 0 SERVER_ERROR call failed\r\n
+< 0 END\r\n
+done 2 commands 2 calls 0 stale
+"#;
     assert!(rt; prints(rt.alloc(), failed, lines));
 }
 
 /// What a client does with a key that begins with `session:`.
-const SESSION: &str =
-    "> 0 set session:a 0 0 1\\r\\n1\\r\\n\n> 0 get session:a\\r\\n\n> 0 delete session:a\\r\\n\n";
+const SESSION: &str = r#"> 0 set session:a 0 0 1\r\n1\r\n
+> 0 get session:a\r\n
+> 0 delete session:a\r\n
+"#;
 
 /// Whether a configuration is accepted with so many places, and runs that session: its delete has this reply, and the report this
 /// number of calls.
@@ -583,7 +751,11 @@ fn runs_session(
 ) -> Result<bool, Fail> {
     let script = format!(in alloc; "{config}\n{SESSION}")?;
     let lines = format!(in alloc;
-        "< 0 STORED\\r\\n\n< 0 VALUE session:a 0 1\\r\\n1\\r\\nEND\\r\\n\n< 0 {reply}\\r\\n\ndone 3 commands {calls} calls 0 stale\n"
+        r#"< 0 STORED\r\n
+< 0 VALUE session:a 0 1\r\n1\r\nEND\r\n
+< 0 {reply}\r\n
+done 3 commands {calls} calls 0 stale
+"#
     )?;
     let verdict = format!(in alloc; "accepted places={places}\n")?;
     let mut out = Vec::new(alloc);
@@ -600,16 +772,16 @@ fn runs_session(
 fn usual_set_ups(rt: HostRuntime) -> Result<(), Fail> {
     let alloc = rt.alloc();
     let pool =
-        "{\"pools\": {\"A\": {\"servers\": [\"10.0.0.1:11211\", \"10.0.0.2:11211\"]}}, \"route\": \"PoolRoute|A\"}";
+        r#"{"pools": {"A": {"servers": ["10.0.0.1:11211", "10.0.0.2:11211"]}}, "route": "PoolRoute|A"}"#;
     assert!(rt; runs_session(alloc, pool, 2, "DELETED", 3)?);
     let replicas =
-        "{\"pools\": {\"A\": {\"servers\": [\"10.0.0.1:11211\"]}, \"B\": {\"servers\": [\"10.0.0.2:11211\"]}}, \"route\": {\"type\": \"OperationSelectorRoute\", \"default_policy\": {\"type\": \"FailoverRoute\", \"children\": [\"PoolRoute|A\", \"PoolRoute|B\"]}, \"operation_policies\": {\"delete\": {\"type\": \"AllSyncRoute\", \"children\": [\"PoolRoute|A\", \"PoolRoute|B\"]}}}}";
+        r#"{"pools": {"A": {"servers": ["10.0.0.1:11211"]}, "B": {"servers": ["10.0.0.2:11211"]}}, "route": {"type": "OperationSelectorRoute", "default_policy": {"type": "FailoverRoute", "children": ["PoolRoute|A", "PoolRoute|B"]}, "operation_policies": {"delete": {"type": "AllSyncRoute", "children": ["PoolRoute|A", "PoolRoute|B"]}}}}"#;
     assert!(rt; runs_session(alloc, replicas, 1, "NOT_FOUND", 4)?);
     let warm_up =
-        "{\"pools\": {\"cold\": {\"servers\": [\"10.0.0.3:11211\"]}, \"warm\": {\"servers\": [\"10.0.0.1:11211\"]}}, \"route\": {\"type\": \"OperationSelectorRoute\", \"default_policy\": {\"type\": \"WarmUpRoute\", \"cold\": \"PoolRoute|cold\", \"warm\": \"PoolRoute|warm\", \"exptime\": 3600}, \"operation_policies\": {\"delete\": {\"type\": \"AllSyncRoute\", \"children\": [\"PoolRoute|cold\", \"PoolRoute|warm\"]}}}}";
+        r#"{"pools": {"cold": {"servers": ["10.0.0.3:11211"]}, "warm": {"servers": ["10.0.0.1:11211"]}}, "route": {"type": "OperationSelectorRoute", "default_policy": {"type": "WarmUpRoute", "cold": "PoolRoute|cold", "warm": "PoolRoute|warm", "exptime": 3600}, "operation_policies": {"delete": {"type": "AllSyncRoute", "children": ["PoolRoute|cold", "PoolRoute|warm"]}}}}"#;
     assert!(rt; runs_session(alloc, warm_up, 1, "NOT_FOUND", 4)?);
     let prefixes =
-        "{\"pools\": {\"sessions\": {\"servers\": [\"10.0.1.1:11211\"]}, \"rest\": {\"servers\": [\"10.0.2.1:11211\", \"10.0.2.2:11211\"]}}, \"route\": {\"type\": \"PrefixSelectorRoute\", \"policies\": {\"session:\": \"PoolRoute|sessions\"}, \"wildcard\": \"PoolRoute|rest\"}}";
+        r#"{"pools": {"sessions": {"servers": ["10.0.1.1:11211"]}, "rest": {"servers": ["10.0.2.1:11211", "10.0.2.2:11211"]}}, "route": {"type": "PrefixSelectorRoute", "policies": {"session:": "PoolRoute|sessions"}, "wildcard": "PoolRoute|rest"}}"#;
     assert!(rt; runs_session(alloc, prefixes, 4, "DELETED", 3)?);
     Ok(())
 }
@@ -643,10 +815,18 @@ fn reload_against_every_generation(rt: HostRuntime) -> Result<(), Fail> {
 
 /// Server 1 holds an item whose key is deleted on server 0 before the two reloads, and read after them.
 fn moved_key(alloc: Global) -> Result<String, AllocError> {
-    let mut events = String::from_str(alloc, "hold 1 a 7\n> 0 delete a\\r\\n\n")?;
+    let mut events = String::from_str(
+        alloc,
+        r#"hold 1 a 7
+> 0 delete a\r\n
+"#,
+    )?;
     let reloads = two_reloads(alloc)?;
     events.push_str(reloads.as_str())?;
-    events.push_str("> 0 get a\\r\\n\n")?;
+    events.push_str(
+        r#"> 0 get a\r\n
+"#,
+    )?;
     Ok(events)
 }
 
@@ -659,7 +839,12 @@ fn reload_hides_a_moved_key(rt: HostRuntime) -> Result<(), Fail> {
             rt.alloc(),
             line,
             events.as_str(),
-            "< 0 NOT_FOUND\\r\\n\nreload accepted generation=2\nreload refused generation=1 server=127.0.0.1:5002 read=get delete=delete prefix= residue=0/1\n< 0 END\\r\\n\ndone 2 commands 2 calls 0 stale\n"
+            r#"< 0 NOT_FOUND\r\n
+reload accepted generation=2
+reload refused generation=1 server=127.0.0.1:5002 read=get delete=delete prefix= residue=0/1
+< 0 END\r\n
+done 2 commands 2 calls 0 stale
+"#
         )?
     );
     Ok(())
@@ -674,7 +859,12 @@ fn reload_unchecked_shows_a_moved_key(rt: HostRuntime) -> Result<(), Fail> {
             rt.alloc(),
             line,
             events.as_str(),
-            "< 0 NOT_FOUND\\r\\n\nreload unchecked generation=2\nreload unchecked generation=3\n< 0 VALUE a 0 1\\r\\n7\\r\\nEND\\r\\n\ndone 2 commands 2 calls 1 stale\n"
+            r#"< 0 NOT_FOUND\r\n
+reload unchecked generation=2
+reload unchecked generation=3
+< 0 VALUE a 0 1\r\n7\r\nEND\r\n
+done 2 commands 2 calls 1 stale
+"#
         )?
     );
     Ok(())

@@ -195,14 +195,14 @@ hold 0 k0 1
 // Whether this fault is printed of pool A with this list of servers.
 fn is_fault_of_servers(alloc: Global, servers: &str, printed: &str) -> Result<bool, Fail> {
     let text = format!(in alloc;
-        "{{\"pools\":{{\"A\":{{\"servers\":{servers}}}}},\"route\":\"NullRoute\"}}"
+        r#"{{"pools":{{"A":{{"servers":{servers}}}}},"route":"NullRoute"}}"#
     )?;
     Ok(prints(alloc, text.as_str(), BAD_INPUT, printed))
 }
 
 // Whether this fault is printed of a route over no pools.
 fn is_fault_of_route(alloc: Global, route: &str, printed: &str) -> Result<bool, Fail> {
-    let text = format!(in alloc; "{{\"pools\":{{}},\"route\":{route}}}")?;
+    let text = format!(in alloc; r#"{{"pools":{{}},"route":{route}}}"#)?;
     Ok(prints(alloc, text.as_str(), BAD_INPUT, printed))
 }
 
@@ -282,7 +282,7 @@ fn both_pools(alloc: Global, a: u32, b: u32) -> Result<String, Fail> {
     let first = servers_of(alloc, "a", a)?;
     let second = servers_of(alloc, "b", b)?;
     let text = format!(in alloc;
-        "{{\"pools\":{{\"A\":{{\"servers\":{first}}},\"B\":{{\"servers\":{second}}}}},\"route\":{{\"type\":\"AllSyncRoute\",\"children\":[\"PoolRoute|A\",\"PoolRoute|B\"]}}}}"
+        r#"{{"pools":{{"A":{{"servers":{first}}},"B":{{"servers":{second}}}}},"route":{{"type":"AllSyncRoute","children":["PoolRoute|A","PoolRoute|B"]}}}}"#
     )?;
     Ok(text)
 }
