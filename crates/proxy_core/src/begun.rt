@@ -7,11 +7,10 @@ ghost use Rattle.route_tree.specs.At.{tree_at};
 ghost use Rattle.route_tree.specs.Route.{IsTree};
 ghost use Rattle.route_tree.specs.Word.{Given, Word};
 ghost use Rattle.route_job.specs.Jobs.{Comes, IsCalling};
-ghost use Rattle.proxy_core.specs.Begun.{IsBegun, ticket_of, HasRoom, Puts};
+ghost use Rattle.proxy_core.specs.Begun.{IsBegun, ticket_of};
 
 use crate::command::Command;
 use crate::ticket::Ticket;
-use indexmap::IndexMap;
 use mc_types::Ask;
 use route_job::{Job, Step};
 use route_tree::Tree;
@@ -54,17 +53,6 @@ pub fn command_of(
             drop_ask(kept);
             Err(error)
         }
-    }
-}
-
-/// It is under way, under this number.
-pub fn put_command(commands: &mut IndexMap<u64, Command>, number: u64, command: Command)
-    requires { HasRoom commands.old }
-    ensures { (n : ℕ) → Puts commands.old number command commands.new n }
-{
-    match commands.insert(number, command) {
-        Ok(_) => {}
-        Err(_) => unreachable!(),
     }
 }
 

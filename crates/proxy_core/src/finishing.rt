@@ -62,7 +62,7 @@ impl Core {
         let Some(place) = place else {
             return None;
         };
-        let Some(command) = self.commands.swap_remove(&number) else {
+        let Some(command) = self.commands.remove(number) else {
             unreachable!();
         };
         let (ask, done) = done_of(command);

@@ -5,6 +5,8 @@ pub mod answering;
 pub mod begun;
 pub mod client;
 pub mod command;
+pub mod command_table;
+pub mod counts;
 pub mod fault;
 pub mod finishing;
 pub mod freeing;

@@ -13,10 +13,10 @@ ghost use Rattle.proxy_core.specs.declared.fault.CoreFault.TheVariants.{NoMemory
 ghost use Rattle.proxy_core.specs.Nexts.{IsNextOf};
 
 use crate::answering::Passed;
-use crate::begun::{command_of, drop_ask, drop_command, put_command};
+use crate::begun::{command_of, drop_ask, drop_command};
 use crate::command::Command;
 use crate::fault::CoreFault;
-use crate::looking::{Ready, Turn, first_ready, has_key, turn_of};
+use crate::looking::{Ready, Turn, first_ready, turn_of};
 use crate::nexts::Next;
 use crate::note::Poll;
 use crate::proxy::Core;
@@ -57,7 +57,7 @@ impl Core {
         ensures ok { OnOk result (BeginsAt self.old client ask self.new) }
         ensures err { IfErr result (λ fault. StopsFirst client self.old fault self.new) }
     {
-        if self.commands.reserve(1).is_err() {
+        if self.commands.make_room().is_err() {
             drop_command(command);
             drop_ask(ask);
             return Err(CoreFault::NoMemory);
@@ -71,7 +71,7 @@ impl Core {
             drop_command(command);
             return Err(CoreFault::NoMemory);
         }
-        put_command(&mut self.commands, number, command);
+        self.commands.put(number, command);
         self.number = number;
         Ok(())
     }
@@ -102,12 +102,9 @@ impl Core {
         ensures ok { IfOk result (λ ticket. GoesBy self.old (IsSent ticket) self.new) }
         ensures err { IfErr result (λ fault. StopsFirst client self.old fault self.new) }
     {
-        match self.commands.get_mut(&number) {
-            None => unreachable!(),
-            Some(command) => match command.send(number) {
-                Ok(ticket) => Ok(ticket),
-                Err(_) => Err(CoreFault::NoMemory),
-            },
+        match self.commands.send(number) {
+            Ok(ticket) => Ok(ticket),
+            Err(_) => Err(CoreFault::NoMemory),
         }
     }
 
@@ -200,7 +197,7 @@ impl Core {
             Ok(ask) => ask,
             Err(fault) => return Err(fault),
         };
-        if has_key(&ask.key, &self.commands) {
+        if self.commands.has_key(&ask.key) {
             drop_ask(ask);
             return Ok(Poll::Busy);
         }
@@ -291,7 +288,7 @@ impl Core {
     }
 
     /// The next thing that can be done for a client: a command of it goes on, its next command begins, or a message that asks
-    /// no server is answered. A command begins where no other on its key is under way: all commands are looked at for it.
+    /// no server is answered. A command begins where no other on its key is under way.
     ///
     /// `NoClient`. `Spent` where the last number that there is was given out: the core is as it was. `NoMemory`: nothing is
     /// done for the client any more, whose output so far is kept, and those of its commands of which no call is out are broken
