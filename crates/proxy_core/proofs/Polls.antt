@@ -236,7 +236,7 @@ ended_goes old new client number x y can place is given ask note reply was here 
     let same : ask ≡ h.0.ask = ask_is ∙ sym h.1 in (
       h.0,
       given.reply,
-      told.key ∙ ap (λ (k : Ask). k.key) same,
+      told.asked ∙ same,
       subst (λ (k : Ask). IsTrue note.acknowledged ↔ Acknowledges k given.reply) same told.acknowledged,
       h.2 ∙ (λ i. Ends (own i) (sym told.number_is i) h.0 given.reply (sym told.from i) ∷ []),
     ))

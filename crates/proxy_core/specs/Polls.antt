@@ -107,7 +107,7 @@ IsSent ticket entries = entries ≡ Sends ticket.number ticket.server ticket.ask
 -- a command ended that is told so
 abbrev pub IsEnded : ℕ → Note → List (Entry dialect) → Type 0
 IsEnded client note entries =
-    (part : Part dialect) × (reply : Answer) × (note.key ≡ part.ask.key) × (IsTrue note.acknowledged ↔ Acknowledges part.ask reply) × (entries ≡ Ends client note.number part reply note.from ∷ [])
+    (part : Part dialect) × (reply : Answer) × (note.ask ≡ part.ask) × (IsTrue note.acknowledged ↔ Acknowledges part.ask reply) × (entries ≡ Ends client note.number part reply note.from ∷ [])
 
 -- replies of the client's commands were shown
 abbrev pub AreShown : ℕ → List (Entry dialect) → Type 0

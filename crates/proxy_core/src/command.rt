@@ -8,15 +8,17 @@ ghost use Rattle.proxy_core.specs.Out.{has_call_out};
 ghost use Rattle.proxy_core.specs.Counts.{is_called};
 ghost use Rattle.proxy_core.specs.Settles.{TakesOutcome, asked_by};
 
+use crate::held_job::HeldJob;
+use crate::shared::SharedAsk;
 use mc_types::{Ask, Key, Outcome, ServerId};
-use route_job::{Job, Step};
+use route_job::Step;
 use std::alloc::{AllocError, Global};
 
 /// A command that has begun and has not ended.
 #[derive(Drop)]
 pub struct Command {
-    pub job: Job,
-    pub ask: Ask,
+    pub job: HeldJob,
+    pub ask: SharedAsk,
     /// Whose it is.
     pub client: usize,
     /// Whether its next call is out.
@@ -28,7 +30,7 @@ impl Command {
     pub fn key(&self) -> Key
         ensures { result ≡ self.now.ask.key }
     {
-        self.ask.key
+        *self.ask.key()
     }
 
     /// Whether a call of it is out. It takes no memory.

@@ -87,7 +87,7 @@ fn both(a: bool, b: bool) -> bool
 fn any_on(key: &Key, commands: &IndexMap<u64, Command>) -> bool
     ensures { result ≡ has_key key.now commands.now }
 {
-    commands.values().any(|command| command.ask.key == *key)
+    commands.values().any(|command| *command.ask.key() == *key)
 }
 
 // How many calls are out at the server, by looking at each command.
@@ -170,7 +170,7 @@ impl CommandTable {
 
     /// The next call of the command of this number, which is out then. The only error is running out of memory, which leaves
     /// all commands as they were.
-    pub fn send(&mut self, number: u64) -> Result<Ticket, AllocError>
+    pub fn send(&mut self, alloc: Global, number: u64) -> Result<Ticket, AllocError>
         requires { IsAtCall self.old number }
         ensures ok { IfOk result (λ ticket. CallsOut self.old number ticket self.new) }
         ensures err { OnErr result (self.new ≡ self.old) }
@@ -178,7 +178,7 @@ impl CommandTable {
         let Some(command) = self.by_number.get_mut(&number) else {
             unreachable!();
         };
-        let ticket = command.send(number)?;
+        let ticket = command.send(alloc, number)?;
         let is_counted = count_one(ticket.server.number(), &mut self.at_server);
         self.is_counted = both(self.is_counted, is_counted);
         Ok(ticket)

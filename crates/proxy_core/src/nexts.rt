@@ -9,7 +9,7 @@ ghost use Rattle.proxy_core.specs.Fronts.{AsksNone};
 ghost use Rattle.proxy_core.specs.Nexts.{IsNextOf};
 
 use crate::client::{Client, Pending};
-use mc_types::Ask;
+use crate::shared::SharedAsk;
 use std::alloc::{AllocError, Global};
 use std::collections::VecDeque;
 use text_codec::{Read, Request};
@@ -92,11 +92,12 @@ impl Client {
     }
 
     /// The ask of the next key of the request at its front. The only error is running out of memory.
-    pub fn next_ask(&self, alloc: Global, request: &Request) -> Result<Ask, AllocError>
+    pub fn next_ask(&self, alloc: Global, request: &Request) -> Result<SharedAsk, AllocError>
         requires { CanAsk request.now self.now }
         ensures begins { IfOk result (λ ask. CanBegin request.now ask self.now) }
         ensures asks { IfOk result IsAsk }
     {
-        request.ask(alloc, self.stream.held(), self.index)
+        let ask = request.ask(alloc, self.stream.held(), self.index)?;
+        SharedAsk::new(alloc, ask)
     }
 }

@@ -20,8 +20,8 @@ use crate::looking::{Ready, Turn, first_ready, turn_of};
 use crate::nexts::Next;
 use crate::note::Poll;
 use crate::proxy::Core;
+use crate::shared::SharedAsk;
 use crate::ticket::Ticket;
-use mc_types::Ask;
 use text_codec::{Read, Request};
 
 impl Core {
@@ -45,7 +45,7 @@ impl Core {
         &mut self,
         client: usize,
         request: &Request,
-        ask: Ask,
+        ask: SharedAsk,
         command: Command,
     ) -> Result<(), CoreFault>
         requires key { ForClient self.old client (CanBegin request.now ask) }
@@ -77,7 +77,12 @@ impl Core {
     }
 
     // The next key of the request at the client's front begins.
-    fn begin_key(&mut self, client: usize, request: &Request, ask: Ask) -> Result<(), CoreFault>
+    fn begin_key(
+        &mut self,
+        client: usize,
+        request: &Request,
+        ask: SharedAsk,
+    ) -> Result<(), CoreFault>
         requires key { ForClient self.old client (CanBegin request.now ask) }
         requires alone { has_key ask.key self.old.commands ≡ false }
         requires well_formed { IsAsk ask }
@@ -102,7 +107,7 @@ impl Core {
         ensures ok { IfOk result (λ ticket. GoesBy self.old (IsSent ticket) self.new) }
         ensures err { IfErr result (λ fault. StopsFirst client self.old fault self.new) }
     {
-        match self.commands.send(number) {
+        match self.commands.send(self.alloc, number) {
             Ok(ticket) => Ok(ticket),
             Err(_) => Err(CoreFault::NoMemory),
         }
@@ -172,7 +177,7 @@ impl Core {
         self.act(client, self.number, turn)
     }
 
-    fn next_ask(&self, client: usize, request: &Request) -> Result<Ask, CoreFault>
+    fn next_ask(&self, client: usize, request: &Request) -> Result<SharedAsk, CoreFault>
         requires { ForClient self.now client (CanAsk request.now) }
         ensures begins { IfOk result (λ ask. ForClient self.now client (CanBegin request.now ask)) }
         ensures asks { IfOk result IsAsk }
@@ -197,7 +202,7 @@ impl Core {
             Ok(ask) => ask,
             Err(fault) => return Err(fault),
         };
-        if self.commands.has_key(&ask.key) {
+        if self.commands.has_key(ask.key()) {
             drop_ask(ask);
             return Ok(Poll::Busy);
         }

@@ -1,8 +1,9 @@
-use Rattle.std.proofs.Common.{sym, refl, ◌∙◌, subst, inr}
+use Rattle.std.proofs.Common.{ℕ, List, sym, refl, ap, ◌∙◌, subst, inr}
 use Rattle.proxy_core.specs.declared.fault.CoreFault.{CoreFault}
 use Rattle.proxy_core.specs.declared.fault.CoreFault.TheVariants.{NoMemory}
 use Rattle.proxy_core.specs.declared.note.Poll.TheVariants.{Busy}
 use Rattle.proxy_core.specs.Fronts.{IsAskAt}
+use Rattle.proxy_core.specs.Ready.{has_key}
 use Rattle.proxy_core.specs.Polls.{CanAsk, IsServed, CanBegin, Acts, Polls, StopsAfter, SoEnded, ReadFault}
 use Rattle.proxy_core.proofs.Chains.{goes_nowhere}
 use Rattle.proxy_core.proofs.Polls.{first_stops, begun_stops, begun_polls, nothing_polls, for_map, if_err, if_ok}
@@ -17,7 +18,7 @@ pub returns-then-has_key-clause-ok : goal.returns-then-has_key-clause-ok
 returns-then-has_key-clause-ok c =
     let old = c.args.self.now in
     nothing_polls old c.args.client Busy (λ entries e. e)
-    (inr (refl, (c.args.request.now, c.in-Ok.ask, for_map old c.args.client (CanBegin c.args.request.now c.in-Ok.ask) (λ x. IsAskAt x c.args.request.now c.in-Ok.ask) (λ x can. can.at) c.in-Ok.ensures.begins, sym c.has_key.ensures ∙ c.if-has_key.true)))
+    (inr (refl, (c.args.request.now, c.in-Ok.ask, for_map old c.args.client (CanBegin c.args.request.now c.in-Ok.ask) (λ x. IsAskAt x c.args.request.now c.in-Ok.ask) (λ x can. can.at) c.in-Ok.ensures.begins, ap (λ (k : List ℕ). has_key k old.commands) (sym c.key.ensures) ∙ sym c.has_key.ensures ∙ c.if-has_key.true)))
 
 pub returns-in-Ok-begin_key-clause-ok : goal.returns-in-Ok-begin_key-clause-ok
 returns-in-Ok-begin_key-clause-ok c =
