@@ -8,7 +8,7 @@ ghost use Rattle.proxy_core.specs.Ready.{has_key};
 ghost use Rattle.proxy_core.specs.Begun.{IsBegun};
 ghost use Rattle.proxy_core.specs.Ready.{IsTurn};
 ghost use Rattle.proxy_core.specs.Finishing.{CanEnd};
-ghost use Rattle.proxy_core.specs.Polls.{ForClient, IsPassing, IsPassed, StopsFirst, CanBegin, BeginsAt, CanSend, IsSent, IsServed, DropsOne, DropsAll, Acts, SoEnded, StopsAfter, CanAsk, Polls, ReadFault, PollFault};
+ghost use Rattle.proxy_core.specs.Polls.{ForClient, IsPassing, IsPassed, StopsFirst, CanBegin, BeginsAt, CanSend, IsSent, IsServed, CanAskBelow, DropsOne, DropsAll, Acts, SoEnded, StopsAfter, CanAsk, Polls, ReadFault, PollFault};
 ghost use Rattle.proxy_core.specs.declared.fault.CoreFault.TheVariants.{NoMemory};
 ghost use Rattle.proxy_core.specs.Nexts.{IsNextOf};
 
@@ -194,7 +194,7 @@ impl Core {
 
     // The next key of the request at the client's front begins, and goes on as it can.
     fn begin_next(&mut self, client: usize, request: &Request) -> Result<Poll, CoreFault>
-        requires { ForClient self.old client (CanAsk request.now) }
+        requires { ForClient self.old client (CanAskBelow self.old.limits.depth request.now) }
         ensures ok { IfOk result (λ poll. Polls self.old client poll self.new) }
         ensures err { IfErr result (λ fault. ReadFault self.old client fault self.new) }
     {
@@ -229,7 +229,7 @@ impl Core {
     // What is next for the client.
     fn next_of(&self, client: usize) -> Next
         requires { ForClient self.now client IsServed }
-        ensures { ForClient self.now client (λ x. IsNextOf x result) }
+        ensures { ForClient self.now client (λ x. IsNextOf self.now.limits.depth x result) }
     {
         match self.clients.get(client) {
             None => unreachable!(),
@@ -261,7 +261,7 @@ impl Core {
     // What stands at the client's front is done, or begins.
     fn read_on(&mut self, client: usize, next: Next) -> Result<Poll, CoreFault>
         requires served { ForClient self.old client IsServed }
-        requires next { ForClient self.old client (λ x. IsNextOf x next) }
+        requires next { ForClient self.old client (λ x. IsNextOf self.old.limits.depth x next) }
         ensures ok { IfOk result (λ poll. Polls self.old client poll self.new) }
         ensures err { IfErr result (λ fault. ReadFault self.old client fault self.new) }
     {
@@ -293,7 +293,8 @@ impl Core {
     }
 
     /// The next thing that can be done for a client: a command of it goes on, its next command begins, or a message that asks
-    /// no server is answered. A command begins where no other on its key is under way.
+    /// no server is answered. A command begins where no other on its key is under way, and where fewer commands of its client
+    /// than the depth have no shown reply.
     ///
     /// `NoClient`. `Spent` where the last number that there is was given out: the core is as it was. `NoMemory`: nothing is
     /// done for the client any more, whose output so far is kept, and those of its commands of which no call is out are broken

@@ -7,7 +7,7 @@ use std::alloc::{AllocError, Global};
 use std::marker::Model;
 use std::rc::Rc;
 
-/// An ask that is shared: a copy of it takes no memory. An ask by value is some four hundred bytes, and a command's goes through many hands.
+/// An ask that is shared: a copy of it takes no memory. An ask by value is some four hundred bytes, and goes through many hands.
 #[derive(Drop)]
 pub struct SharedAsk {
     ask: Rc<Ask>,
