@@ -8,20 +8,10 @@ use crate::cache_words::{CacheJob, cache_command, cache_job};
 use crate::serve_words::{ServeJob, serve_command, serve_job};
 use clap::error::ErrorKind;
 use clap::{Arg, ArgAction, ArgMatches, Command, Error};
-use mc_text::number::small_number;
+use config_check::Form;
+use mc_text::number::u32_number;
 use mc_types::{Key, KeyFault};
 use std::alloc::{AllocError, Global};
-
-/// The form in which a verdict is printed.
-#[derive(Clone, Copy, PartialEq, Eq)]
-pub enum Form {
-    /// The verdict, and the script that shows a gap.
-    Lines,
-    /// The same, and then in words.
-    Explained,
-    /// The tree as a graph, a gap marked.
-    Picture,
-}
 
 /// What is done with an input.
 #[derive(Clone, Copy, PartialEq, Eq)]
@@ -124,13 +114,18 @@ Exit status: 0 accepted, 1 refused, 2 no configuration, 3 memory or a device fai
 
 const REPLAY_HELP: &str = "usage: mcgate replay [--any] [--config FILE] [SCRIPT]
 
-Reads a script, of the file SCRIPT or of standard input: a configuration on its first line, or pool N, and then one event a line.
-With --config the configuration is the text of FILE, of any number of lines, and each line of the script is an event.
-Runs it over servers in memory, and prints what each client gets and a report:
+Reads a script, of the file SCRIPT or of standard input: a configuration on its first line, or pool N, and then one event a line,
+or reload and a configuration, which is loaded there.
+With --config the configuration is the text of FILE, of any number of lines, and each line of the script is one of the others.
+Runs it over servers in memory, and prints what each client gets, what became of reloads, and a report:
   < C TEXT               new output of client C
+  reload accepted generation=G
+                         the G-th tree is in use from here on
+  reload refused ..      the gate refuses it with the trees before it, and the one in use stays
   done N commands M calls K stale
                          K replies showed what had been deleted
-A tree that the gate refuses isn't run, and its refused: line is printed; with --any every tree is run.
+A first tree that the gate refuses isn't run, and its refused: line is printed; with --any every tree is run, and a reload is
+unchecked in place of accepted.
 Exit status: 0 done, 1 refused by the gate, 2 bad script, 3 memory or a device failed.
 ";
 
@@ -169,7 +164,7 @@ pub fn option<'a>(alloc: Global, name: &'static str) -> Arg<'a> {
 pub fn count_of(given: &ArgMatches<'_>, name: &str) -> Result<Option<u32>, ArgumentsFault> {
     match given.get_str(name) {
         None => Ok(None),
-        Some(text) => match small_number(text.as_bytes()) {
+        Some(text) => match u32_number(text.as_bytes()) {
             None | Some(0) => Err(ArgumentsFault::Refused),
             Some(count) => Ok(Some(count)),
         },

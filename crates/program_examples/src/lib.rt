@@ -12,9 +12,13 @@ mod escaped_bytes;
 #[cfg(test)]
 mod explanations;
 #[cfg(test)]
+mod full_writer;
+#[cfg(test)]
 mod pictures;
 #[cfg(test)]
 mod places;
+#[cfg(test)]
+mod reloads;
 #[cfg(test)]
 mod replays;
 #[cfg(test)]
