@@ -1,15 +1,11 @@
 //! The commands that have begun and have not ended.
 
-ghost use Rattle.std.specs.Prelude.{◌≡◌, ◌+◌, ◌++◌, ◌∷◌, [], ◌-◌, ◌<◌, ℕ, true, false, Some, None, if◌then◌else◌, nat_eq, IfOk, OnOk, OnErr, IfSome, IfNone, IsSome, MatchOption, option_copied};
-ghost use Rattle.indexmap.specs.IndexMap.{get, values, index_map_len, IsEmpty, IsUnchanged};
+ghost use Rattle.std.specs.Prelude.{◌≡◌, ◌+◌, ◌++◌, ◌∷◌, [], ℕ, true, false, Some, None, if◌then◌else◌, nat_eq, IfOk, OnOk, OnErr, IsSome, option_copied};
+ghost use Rattle.indexmap.specs.IndexMap.{get, index_map_len, IsEmpty};
 ghost use Rattle.mc_runs.specs.Single.{FitsOutcome};
-ghost use Rattle.route_job.specs.Jobs.{server_in, IsCalling};
 ghost use Rattle.route_job.specs.Rest.{ask_under};
-ghost use Rattle.proxy_core.specs.Begun.{ticket_of, HasRoom, Puts};
-ghost use Rattle.proxy_core.specs.Counts.{is_on, is_called, SetsCount};
-ghost use Rattle.proxy_core.specs.Faults.{has_commands};
+ghost use Rattle.proxy_core.specs.Begun.{HasRoom, Puts};
 ghost use Rattle.proxy_core.specs.Ready.{has_key, calls_at};
-ghost use Rattle.proxy_core.specs.Settles.{TakesOutcome, HasIdle, IsAllOut};
 ghost use Rattle.proxy_core.specs.Standing.{has_call_out};
 ghost use Rattle.proxy_core.specs.Tables.{IsAtCall, CallsOut, IsCallerOf, TakesAt};
 
