@@ -4,7 +4,7 @@ ghost use Rattle.std.specs.Prelude.{◌≡◌, IfOk};
 ghost use Rattle.route_tree.specs.Route as route;
 
 use mc_types::{Ask, Body, Dialect, Key, Op, Origin, Outcome, ServerId, Tokens};
-use proxy_core::{Core, CoreFault, Limits, Poll, Ticket};
+use proxy_core::{Core, CoreFault, Limits, Poll, SharedAsk, Ticket};
 use route_tree::{Tree, TreeForm};
 use std::alloc::Global;
 use std::test::Fail;
@@ -43,7 +43,7 @@ fn with_a_call_out(alloc: Global, tree: Tree) -> Result<Core, Fail> {
 // The call of command `number` failed.
 fn fails(alloc: Global, core: &mut Core, number: u64) -> Result<Result<(), CoreFault>, Fail> {
     let ticket = Ticket {
-        ask: ask(alloc)?,
+        ask: SharedAsk::new(alloc, ask(alloc)?)?,
         number,
         origin: Origin::Client,
         server: ServerId::new(0),

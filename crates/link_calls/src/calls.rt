@@ -125,7 +125,7 @@ impl LinkCalls {
         ensures err { IfErr result (λ given. (given ≡ call) × (self.new.sent.items ≡ self.old.sent.items) × (out.new.items ≡ out.old.items)) }
     {
         let len = out.len();
-        if !is_ask(&call.ticket.ask) || write_ask(&call.ticket.ask, out).is_err() {
+        if !is_ask(call.ticket.ask.get()) || write_ask(call.ticket.ask.get(), out).is_err() {
             return Err(call);
         }
         match self.sent.push_back(call) {

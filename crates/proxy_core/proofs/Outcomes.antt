@@ -1,11 +1,6 @@
 -- What `settle` did, by what it wrote.
 use Rattle.std.proofs.Common.{◌≡◌, ℕ, Bool, true, false, cond, List, [], ◌∷◌, ◌++◌, Option, Some, None, refl, sym, ap, ◌∙◌, subst, nat_eq}
 use Rattle.std.proofs.lemmas.Bool.{eqb-true, eq-eqb}
-use Rattle.std.proofs.lemmas.Map.Steps.{set_value_same}
-use Rattle.std.specs.Prelude.{IsSome}
-use Rattle.std.specs.HashMap.{HashMap, get_by, WritesThrough}
-use Rattle.indexmap.specs.Layout.{hash_map}
-use Rattle.indexmap.specs.IndexMap as map
 use Rattle.mc_types.specs.declared.call.Outcome.{Outcome}
 use Rattle.mc_runs.specs.Overlap as log
 use Rattle.mc_runs.specs.Overlap.{Entry, Slot, Owner}
@@ -14,17 +9,13 @@ use Rattle.proxy_core.specs.declared.command.Command.{Command}
 use Rattle.proxy_core.specs.declared.proxy.Core.{Core}
 use Rattle.proxy_core.specs.Standing.{dialect, client_at, command_at, output_by, dropped_by, is_call, has_call_out, IsHeld}
 use Rattle.proxy_core.specs.Steps.{Resolves}
-use Rattle.proxy_core.specs.Settles.{TakesOutcome, FitsCall, HasNoCall, SettlesBy, Settles, AreIdle, freed, FreesSome, FreesIdle, DropsBy, TakesOut, Breaks}
+use Rattle.proxy_core.specs.Settles.{TakesOutcome, FitsCall, SettlesBy, Settles, AreIdle, freed, FreesSome, FreesIdle, DropsBy, TakesOut, Breaks}
 use Rattle.proxy_core.proofs.Broken.{settles_alone, settles_then, settles_as, breaks}
 use Rattle.proxy_core.proofs.Came.{Came}
 use Rattle.proxy_core.proofs.Chains.{Then}
 use Rattle.proxy_core.proofs.Commands.{some_command, no_command, call_is_true}
 use Rattle.proxy_core.proofs.Ending.{frees}
 use Rattle.proxy_core.proofs.Freed.{dropped_is}
-
--- what was looked up, written back, changes nothing
-pub same_map : {K X S : Type 0} (eq : K → K → Bool) (test : K → Bool) (m n : HashMap K X S) (w : X) → get_by test m ≡ Some w → WritesThrough eq test m w n → n ≡ m
-same_map eq test m n w at through = λ i. hash_map ((through.0 ∙ set_value_same test m.entries w at) i) (through.5 i) (through.6 i)
 
 out_parts : (a : Command) → has_call_out a ≡ true → (a.is_out ≡ true) × (is_call a.job.pending ≡ true)
 out_parts a e = by a.is_out (is_call a.job.pending) e
@@ -146,11 +137,3 @@ module _ (old mid out new : Core) (number : ℕ) (a : Command) (outcome : Outcom
           | false ↦ λ differs. ap output_by (taken.others c differs)
         ]) refl;
       }
-
--- the command of a number, written through its place
-pub written_by : (old : Core) (commands : _) (number : ℕ) (a b : Command) → command_at old number ≡ Some a → WritesThrough nat_eq (nat_eq number) old.commands b commands → (n : ℕ) → map.get nat_eq commands n ≡ cond (nat_eq number n) (Some b) (command_at old n)
-written_by old commands number a b was through = (through.3 (subst IsSome (sym was) refl)).0
-
--- no call of this number is out, and nothing was written
-pub refused : (old new : Core) (number : ℕ) (a : Command) → command_at old number ≡ Some a → has_call_out a ≡ false → new ≡ old → HasNoCall old number × (new ≡ old)
-refused old new number a was out same = ((λ c e. subst (λ (d : Command). has_call_out d ≡ false) (some_command (sym was ∙ e)) out), same)

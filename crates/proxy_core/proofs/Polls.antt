@@ -35,7 +35,7 @@ use Rattle.proxy_core.specs.Steps.{Turns}
 use Rattle.proxy_core.specs.Fronts.{Stays, PassesFront, BeginsKey}
 use Rattle.proxy_core.specs.Ready.{has_key, IsIdle}
 use Rattle.proxy_core.specs.Begun.{IsBegun, ticket_of}
-use Rattle.proxy_core.specs.Polls.{ForClient, IsPassed, IsNothing, HasBegun, BeginsAt, CanSend, IsSent, IsEnded, IsServed, AreShown, queue_len, ShowsNext, StopsFirst, StopsAfter, Acts, Polls, IsPolled, IsHeldUp, IsWhy, SoEnded, SoFar, ReadFault, Perhaps, BeginsOne, DropsAll, StopsAt}
+use Rattle.proxy_core.specs.Polls.{ForClient, IsPassed, IsNothing, HasBegun, BeginsAt, CanSend, IsSent, IsEnded, IsServed, AreShown, queue_len, ShowsNext, StopsFirst, StopsAfter, IsBelowDepth, BeginsBelow, Acts, Polls, IsPolled, IsHeldUp, IsWhy, SoEnded, SoFar, ReadFault, Perhaps, BeginsOne, DropsAll, StopsAt}
 use Rattle.proxy_core.specs.Settles.{freed}
 use Rattle.proxy_core.specs.Heads.{ShowsOne}
 use Rattle.proxy_core.specs.Replying.{IsPlace, Answers}
@@ -236,7 +236,7 @@ ended_goes old new client number x y can place is given ask note reply was here 
     let same : ask ≡ h.0.ask = ask_is ∙ sym h.1 in (
       h.0,
       given.reply,
-      told.key ∙ ap (λ (k : Ask). k.key) same,
+      told.asked ∙ same,
       subst (λ (k : Ask). IsTrue note.acknowledged ↔ Acknowledges k given.reply) same told.acknowledged,
       h.2 ∙ (λ i. Ends (own i) (sym told.number_is i) h.0 given.reply (sym told.from i) ∷ []),
     ))
@@ -385,23 +385,32 @@ why_of old new client (polls.Did note) h = tt
 pub acts_polls : (old new : Core) (client : ℕ) (poll : Poll) → Acts old client poll new → Polls old client poll new
 acts_polls old new client poll a = record { goes = polled_as old new client poll a.goes; why = why_of old new client poll a.why }
   where
-    polled_as : (old new : Core) (client : ℕ) (poll : Poll) → GoesBy old (IsPolled client poll) new → GoesBy old (Then (Perhaps (BeginsOne client)) (IsPolled client poll)) new
+    polled_as : (old new : Core) (client : ℕ) (poll : Poll) → GoesBy old (IsPolled client poll) new → GoesBy old (Then (Perhaps (BeginsBelow old client)) (IsPolled client poll)) new
     polled_as old new client poll g =
-        goes_as old new (Then IsNothing (IsPolled client poll)) (Then (Perhaps (BeginsOne client)) (IsPolled client poll)) (λ entries h. (h.0, h.1, inl h.2, h.3, h.4)) (goes_then old old new IsNothing (IsPolled client poll) (goes_nowhere old) g)
+        goes_as old new (Then IsNothing (IsPolled client poll)) (Then (Perhaps (BeginsBelow old client)) (IsPolled client poll)) (λ entries h. (h.0, h.1, inl h.2, h.3, h.4)) (goes_then old old new IsNothing (IsPolled client poll) (goes_nowhere old) g)
 
 -- and where a command did
-pub begun_polls : (old mid new : Core) (client : ℕ) (ask : Ask) (poll : Poll) → BeginsAt old client ask mid → Acts mid client poll new → Polls old client poll new
-begun_polls old mid new client ask poll a b =
+pub begun_polls : (old mid new : Core) (client : ℕ) (ask : Ask) (poll : Poll) → IsBelowDepth old client → BeginsAt old client ask mid → Acts mid client poll new → Polls old client poll new
+begun_polls old mid new client ask poll below a b =
     record {
-      goes = goes_as old new (Then (HasBegun client mid.number ask) (IsPolled client poll)) (Then (Perhaps (BeginsOne client)) (IsPolled client poll)) (λ entries h. (h.0, h.1, inr (mid.number, ask, h.2), h.3, h.4))
+      goes = goes_as old new (Then (HasBegun client mid.number ask) (IsPolled client poll)) (Then (Perhaps (BeginsBelow old client)) (IsPolled client poll)) (λ entries h. (h.0, h.1, inr (below, (mid.number, ask, h.2)), h.3, h.4))
           (goes_then old mid new (HasBegun client mid.number ask) (IsPolled client poll) a.goes b.goes);
       why = why_of old new client poll b.why;
     }
 
+-- what happened, where nobody asks for the depth
+begins_one : (old : Core) (client : ℕ) (entries : List (Entry dialect)) → Perhaps (BeginsBelow old client) entries → Perhaps (BeginsOne client) entries
+begins_one old client entries (inl none) = inl none
+begins_one old client entries (inr begins) = inr begins.1
+
+pub polls_goes : (old new : Core) (client : ℕ) (poll : Poll) → Polls old client poll new → GoesBy old (Then (Perhaps (BeginsOne client)) (IsPolled client poll)) new
+polls_goes old new client poll polled =
+    goes_as old new (Then (Perhaps (BeginsBelow old client)) (IsPolled client poll)) (Then (Perhaps (BeginsOne client)) (IsPolled client poll)) (λ entries h. (h.0, h.1, begins_one old client h.0 h.2, h.3, h.4)) polled.goes
+
 -- an answer by which nothing happened
 pub nothing_polls : (old : Core) (client : ℕ) (poll : Poll) → ((entries : List (Entry dialect)) → IsNothing entries → IsPolled client poll entries) → IsWhy old client poll old → Polls old client poll old
 nothing_polls old client poll f why =
-    record { goes = goes_as old old IsNothing (Then (Perhaps (BeginsOne client)) (IsPolled client poll)) (λ entries e. ([], [], inl refl, f [] refl, e)) (goes_nowhere old); why = why }
+    record { goes = goes_as old old IsNothing (Then (Perhaps (BeginsBelow old client)) (IsPolled client poll)) (λ entries e. ([], [], inl refl, f [] refl, e)) (goes_nowhere old); why = why }
 
 -- what holds of a client gives what else holds of it
 pub for_map : (core : Core) (client : ℕ) (P Q : Client → Type 0) → ((x : Client) → P x → Q x) → ForClient core client P → ForClient core client Q

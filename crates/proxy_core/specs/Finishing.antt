@@ -19,7 +19,7 @@ pub record CanEnd (core : Core) (client number : ℕ) : Type 0 where
 -- what is told of a command that ended so
 pub record IsNote (number : ℕ) (ask : Ask) (given : Given) (note : Note) (reply : Answer) : Type 0 where
   pub number_is : note.number ≡ number
-  pub key : note.key ≡ ask.key
+  pub asked : note.ask ≡ ask
   pub from : note.from ≡ given.from
   pub reply_is : reply ≡ given.reply
   pub acknowledged : IsTrue note.acknowledged ↔ Acknowledges ask given.reply

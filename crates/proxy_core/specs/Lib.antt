@@ -1,3 +1,5 @@
+pub mod Out
+pub mod Counts
 pub mod Clients
 pub mod Standing
 pub mod Faults
@@ -11,4 +13,5 @@ pub mod Ending
 pub mod Replying
 pub mod Finishing
 pub mod Settles
+pub mod Tables
 pub mod Nexts

@@ -81,6 +81,10 @@ pub record CanAsk (request : Request) (x : Client) : Type 0 where
   pub ready : x.waits ≡ false
   pub served : x.dropped ≡ false
 
+-- and it has fewer commands whose replies were not shown than this
+abbrev pub CanAskBelow : ℕ → Request → Client → Type 0
+CanAskBelow depth request x = CanAsk request x × (length x.queue.items < depth)
+
 -- a command of this ask began
 abbrev pub HasBegun : ℕ → ℕ → Ask → List (Entry dialect) → Type 0
 HasBegun client number ask entries = (part : Part dialect) × (part.ask ≡ ask) × (entries ≡ Starts client number part ∷ [])
@@ -107,7 +111,7 @@ IsSent ticket entries = entries ≡ Sends ticket.number ticket.server ticket.ask
 -- a command ended that is told so
 abbrev pub IsEnded : ℕ → Note → List (Entry dialect) → Type 0
 IsEnded client note entries =
-    (part : Part dialect) × (reply : Answer) × (note.key ≡ part.ask.key) × (IsTrue note.acknowledged ↔ Acknowledges part.ask reply) × (entries ≡ Ends client note.number part reply note.from ∷ [])
+    (part : Part dialect) × (reply : Answer) × (note.ask ≡ part.ask) × (IsTrue note.acknowledged ↔ Acknowledges part.ask reply) × (entries ≡ Ends client note.number part reply note.from ∷ [])
 
 -- replies of the client's commands were shown
 abbrev pub AreShown : ℕ → List (Entry dialect) → Type 0
@@ -131,6 +135,14 @@ Perhaps IsKind entries = IsNothing entries ⊎ IsKind entries
 
 abbrev pub BeginsOne : ℕ → List (Entry dialect) → Type 0
 BeginsOne client entries = (number : ℕ) × (ask : Ask) × HasBegun client number ask entries
+
+-- the client has fewer commands whose replies were not shown than it may have
+abbrev pub IsBelowDepth : Core → ℕ → Type 0
+IsBelowDepth core client = ForClient core client (λ x. length x.queue.items < core.limits.depth)
+
+-- a command begins, below the depth
+abbrev pub BeginsBelow : Core → ℕ → List (Entry dialect) → Type 0
+BeginsBelow core client entries = IsBelowDepth core client × BeginsOne client entries
 
 abbrev pub EndsOne : ℕ → List (Entry dialect) → Type 0
 EndsOne client entries = (note : Note) × IsEnded client note entries
@@ -183,7 +195,7 @@ pub record Acts (old : Core) (client : ℕ) (poll : Poll) (new : Core) : Type 0 
   pub why : IsHeldUp client poll new
 
 pub record Polls (old : Core) (client : ℕ) (poll : Poll) (new : Core) : Type 0 where
-  pub goes : GoesBy old (Then (Perhaps (BeginsOne client)) (IsPolled client poll)) new
+  pub goes : GoesBy old (Then (Perhaps (BeginsBelow old client)) (IsPolled client poll)) new
   pub why : IsWhy old client poll new
 
 -- a command ended, perhaps, and replies were shown

@@ -1,21 +1,17 @@
 -- What of the commands under way stands in the way of another, and which can go on. Source: mcgate's own.
-use Rattle.std.specs.Prelude.{◌≡◌, ℕ, ◌<◌, ◌≤◌, Bool, true, false, List, Some, if◌then◌else◌, nat_eq, count_by}
-use Rattle.std.specs.Cmp.Lexicographic.{pointwise}
+use Rattle.std.specs.Prelude.{◌≡◌, ℕ, ◌<◌, ◌≤◌, Bool, true, false, List, Some, nat_eq, count_by}
 use Rattle.std.specs.List.{list_any}
 use Rattle.indexmap.specs.IndexMap as map
 use Rattle.route_job.specs.Jobs.{server_in, IsCalling, IsDone}
 use Rattle.proxy_core.specs.declared.command.Command.{Command}
 use Rattle.proxy_core.specs.declared.looking.Turn.{Turn}
 use Rattle.proxy_core.specs.declared.looking.Turn.TheVariants as turns
-use Rattle.proxy_core.specs.Standing.{has_call_out}
+pub use Rattle.proxy_core.specs.Counts.{is_called}
+use Rattle.proxy_core.specs.Counts.{is_on}
 
 -- a command on this key is under way
 abbrev pub has_key : List ℕ → {S : Type 0} → map.IndexMap ℕ Command S → Bool
-has_key key commands = list_any (λ (x : Command). pointwise nat_eq x.ask.key key) (map.values commands)
-
--- the call of a command is out at this server
-abbrev pub is_called : ℕ → Command → Bool
-is_called server command = if has_call_out command then nat_eq (server_in command.job.pending) server else false
+has_key key commands = list_any (is_on key) (map.values commands)
 
 -- how many calls are out at a server
 abbrev pub calls_at : ℕ → {S : Type 0} → map.IndexMap ℕ Command S → ℕ

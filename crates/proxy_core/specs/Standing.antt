@@ -21,13 +21,12 @@ use Rattle.route_tree.specs.Word.{Given, Word, tree_words}
 use Rattle.route_job.specs.Jobs.{Comes}
 use Rattle.route_job.specs.Rest.{ask_under, origin_under}
 use Rattle.route_job.specs.Jobs.{server_in}
-use Rattle.route_job.specs.declared.frame.Pending.TheVariants.{Enter, Call as Calling, Back}
-use Rattle.route_job.specs.declared.frame.Pending.{Pending as NextStep}
 use Rattle.proxy_core.specs.declared.client.Pending.{Pending}
 use Rattle.proxy_core.specs.declared.client.Client.{Client}
 use Rattle.proxy_core.specs.declared.command.Command.{Command}
 use Rattle.proxy_core.specs.declared.limits.Limits.{Limits}
 use Rattle.proxy_core.specs.declared.proxy.Core.{Core}
+pub use Rattle.proxy_core.specs.Out.{is_call, has_call_out}
 
 -- what clients say, and what they are shown for it
 abbrev pub dialect : Protocol
@@ -141,15 +140,6 @@ pub record IsLeftOf (plan : Plan) (command : Command) : Type 0 where
   pub before : List Call
   pub rest : (calls : List Call) (given : Given) → Comes command.job calls given ↔ Word plan command.ask OfClient 0 (before ++ calls) given
   pub some : (calls : List Call) × (given : Given) × Comes command.job calls given
-
-abbrev pub is_call : NextStep → Bool
-is_call (Enter tree) = false
-is_call (Calling server) = true
-is_call (Back done) = false
-
--- a call of the command is out: the one that its job shows
-abbrev pub has_call_out : Command → Bool
-has_call_out command = if command.is_out then is_call command.job.pending else false
 
 -- the ticket at this server of a command of this number
 abbrev pub ticket_by : Option Command → ℕ → ℕ → Option Ticket

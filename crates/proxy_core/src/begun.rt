@@ -7,28 +7,30 @@ ghost use Rattle.route_tree.specs.At.{tree_at};
 ghost use Rattle.route_tree.specs.Route.{IsTree};
 ghost use Rattle.route_tree.specs.Word.{Given, Word};
 ghost use Rattle.route_job.specs.Jobs.{Comes, IsCalling};
-ghost use Rattle.proxy_core.specs.Begun.{IsBegun, ticket_of, HasRoom, Puts};
+ghost use Rattle.proxy_core.specs.Begun.{IsBegun, ticket_of};
 
 use crate::command::Command;
+use crate::held_job::HeldJob;
+use crate::shared::SharedAsk;
 use crate::ticket::Ticket;
-use indexmap::IndexMap;
 use mc_types::Ask;
 use route_job::{Job, Step};
 use route_tree::Tree;
 use std::alloc::{AllocError, Global};
 
 /// A drop that is a call keeps the proof of a caller short.
-pub fn drop_ask(_ask: Ask) {}
+pub fn drop_ask(_ask: SharedAsk) {}
 
 /// The same of a command.
 pub fn drop_command(_command: Command) {}
 
 // A job of a copy of the ask.
-fn job_of(alloc: Global, tree: &Tree, ask: &Ask) -> Result<Job, AllocError>
+fn job_of(alloc: Global, tree: &Tree, ask: &Ask) -> Result<HeldJob, AllocError>
     ensures { IfOk result (λ job. (calls : List Call) (given : Given) → Comes job calls given ↔ Word (tree_at tree.now ask.now.key) ask.now OfClient 0 calls given) }
 {
     let ask = ask.copy()?;
-    Job::new(alloc, tree, ask)
+    let job = Job::new(alloc, tree, ask)?;
+    HeldJob::new(alloc, job)
 }
 
 /// A command of a client for this ask, as it begins on this tree. The only error is running out of memory.
@@ -36,14 +38,14 @@ pub fn command_of(
     alloc: Global,
     tree: &Tree,
     client: usize,
-    ask: &Ask,
+    ask: &SharedAsk,
 ) -> Result<Command, AllocError>
     ensures begun { IfOk result (λ command. IsBegun tree.now client ask.now command) }
     ensures tree { IsTree tree.now }
 {
     let _form = tree.form();
     let kept = ask.copy()?;
-    match job_of(alloc, tree, ask) {
+    match job_of(alloc, tree, ask.get()) {
         Ok(job) => Ok(Command {
             job,
             ask: kept,
@@ -57,19 +59,8 @@ pub fn command_of(
     }
 }
 
-/// It is under way, under this number.
-pub fn put_command(commands: &mut IndexMap<u64, Command>, number: u64, command: Command)
-    requires { HasRoom commands.old }
-    ensures { (n : ℕ) → Puts commands.old number command commands.new n }
-{
-    match commands.insert(number, command) {
-        Ok(_) => {}
-        Err(_) => unreachable!(),
-    }
-}
-
 // The call that the job shows.
-fn ticket_of(number: u64, job: &Job) -> Result<Ticket, AllocError>
+fn ticket_of(alloc: Global, number: u64, job: &HeldJob) -> Result<Ticket, AllocError>
     requires { IsCalling job.now }
     ensures { IfOk result (λ ticket. ticket ≡ ticket_of number job.now) }
 {
@@ -79,7 +70,7 @@ fn ticket_of(number: u64, job: &Job) -> Result<Ticket, AllocError>
             ask,
             origin,
         } => Ok(Ticket {
-            ask: ask.copy()?,
+            ask: SharedAsk::new(alloc, ask.copy()?)?,
             number,
             origin,
             server,
@@ -90,13 +81,13 @@ fn ticket_of(number: u64, job: &Job) -> Result<Ticket, AllocError>
 
 impl Command {
     /// Its next call, which is out then. The only error is running out of memory, which leaves the command as it was.
-    pub fn send(&mut self, number: u64) -> Result<Ticket, AllocError>
+    pub fn send(&mut self, alloc: Global, number: u64) -> Result<Ticket, AllocError>
         requires { IsCalling self.old.job }
         ensures ticket { IfOk result (λ ticket. ticket ≡ ticket_of number self.old.job) }
         ensures out { IfOk result (λ ticket. self.new ≡ record self.old { is_out = true }) }
         ensures err { OnErr result (self.new ≡ self.old) }
     {
-        let ticket = ticket_of(number, &self.job)?;
+        let ticket = ticket_of(alloc, number, &self.job)?;
         self.is_out = true;
         Ok(ticket)
     }

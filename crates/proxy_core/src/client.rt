@@ -4,8 +4,9 @@ ghost use Rattle.std.specs.Prelude.{◌≡◌, false, ◌↔◌, IsTrue, OnOk, O
 ghost use Rattle.proxy_core.specs.Clients.{IsNew, IsEnded, TakesPiece, Takes, HasRoom, RoomFault, LosesOutput};
 
 use crate::fault::CoreFault;
+use crate::shared::SharedAsk;
 use bytes::BytesMut;
-use mc_types::{Answer, Ask};
+use mc_types::Answer;
 use std::alloc::{AllocError, Global};
 use std::collections::VecDeque;
 use text_codec::TextStream;
@@ -13,7 +14,7 @@ use text_codec::TextStream;
 /// A command of a client whose reply was not shown yet.
 #[derive(Drop)]
 pub struct Pending {
-    pub ask: Ask,
+    pub ask: SharedAsk,
     pub reply: Option<Answer>,
     pub number: u64,
     /// Whether its message wants no answer.

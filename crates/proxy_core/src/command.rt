@@ -1,20 +1,24 @@
 //! A command that has begun and has not ended.
 
-ghost use Rattle.std.specs.Prelude.{◌≡◌, true, OnOk, Some, option_map};
+ghost use Rattle.std.specs.Prelude.{◌≡◌, true, false, OnOk, Some, option_map};
 ghost use Rattle.mc_runs.specs.Single.{FitsOutcome};
+ghost use Rattle.route_job.specs.Jobs.{server_in};
 ghost use Rattle.route_job.specs.Rest.{ask_under};
-ghost use Rattle.proxy_core.specs.Standing.{has_call_out};
+ghost use Rattle.proxy_core.specs.Out.{has_call_out};
+ghost use Rattle.proxy_core.specs.Counts.{is_called};
 ghost use Rattle.proxy_core.specs.Settles.{TakesOutcome, asked_by};
 
-use mc_types::{Ask, Outcome};
-use route_job::{Job, Step};
+use crate::held_job::HeldJob;
+use crate::shared::SharedAsk;
+use mc_types::{Ask, Key, Outcome, ServerId};
+use route_job::Step;
 use std::alloc::{AllocError, Global};
 
 /// A command that has begun and has not ended.
 #[derive(Drop)]
 pub struct Command {
-    pub job: Job,
-    pub ask: Ask,
+    pub job: HeldJob,
+    pub ask: SharedAsk,
     /// Whose it is.
     pub client: usize,
     /// Whether its next call is out.
@@ -22,6 +26,13 @@ pub struct Command {
 }
 
 impl Command {
+    /// Its key.
+    pub fn key(&self) -> Key
+        ensures { result ≡ self.now.ask.key }
+    {
+        *self.ask.key()
+    }
+
     /// Whether a call of it is out. It takes no memory.
     pub fn has_call_out(&self) -> bool
         ensures { result ≡ has_call_out self.now }
@@ -31,6 +42,28 @@ impl Command {
                 Step::Call { .. } => true,
                 Step::Done(_) => false,
             }
+    }
+
+    /// Whether a call of it is out at this server. It takes no memory.
+    pub fn is_called(&self, server: ServerId) -> bool
+        ensures { result ≡ is_called server self.now }
+    {
+        self.is_out
+            && match self.job.next() {
+                Step::Call { server: at, .. } => at == server,
+                Step::Done(_) => false,
+            }
+    }
+
+    /// The server of its call that is out. It takes no memory.
+    pub fn server(&self) -> ServerId
+        requires { has_call_out self.now ≡ true }
+        ensures { result ≡ server_in self.now.job.pending }
+    {
+        match self.job.next() {
+            Step::Call { server, .. } => server,
+            Step::Done(_) => unreachable!(),
+        }
     }
 
     /// What its call that is out asks, if one is. It takes no memory.
@@ -50,6 +83,8 @@ impl Command {
     pub fn take(&mut self, alloc: Global, outcome: Outcome) -> Result<(), AllocError>
         requires out { has_call_out self.old ≡ true }
         requires fits { FitsOutcome (ask_under self.old.job.frames.items self.old.job.ask) outcome }
+        ensures idle { self.new.is_out ≡ false }
+        ensures ask { self.new.ask ≡ self.old.ask }
         ensures ok { OnOk result (TakesOutcome self.old outcome self.new) }
     {
         self.is_out = false;

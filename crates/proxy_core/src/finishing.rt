@@ -7,16 +7,16 @@ ghost use Rattle.proxy_core.specs.Standing.{GoesBy};
 ghost use Rattle.proxy_core.specs.Polls.{ForClient, IsServed, IsEnded, AreShown, ShowsNext, StopsFirst, StopsAfter};
 ghost use Rattle.proxy_core.specs.Finishing.{CanEnd, IsNote};
 
-use crate::begun::drop_ask;
 use crate::command::Command;
 use crate::fault::CoreFault;
 use crate::note::Note;
 use crate::proxy::Core;
-use mc_types::{Answer, Ask};
+use crate::shared::SharedAsk;
+use mc_types::Answer;
 use route_job::Done;
 
 // How a command ended whose job is done.
-fn done_of(command: Command) -> (Ask, Done)
+fn done_of(command: Command) -> (SharedAsk, Done)
     requires { IsDone command.job }
     ensures ask { result.0 ≡ command.ask }
     ensures done { Comes command.job [] (given_of result.1) }
@@ -32,18 +32,17 @@ fn done_of(command: Command) -> (Ask, Done)
 }
 
 // What is told of it, and its reply.
-fn note_of(number: u64, ask: Ask, done: Done) -> (Note, Answer)
+fn note_of(number: u64, ask: SharedAsk, done: Done) -> (Note, Answer)
     ensures { IsNote number ask (given_of done) result.0 result.1 }
 {
     let Done { from, reply } = done;
-    let acknowledged = reply.acknowledges(&ask);
+    let acknowledged = reply.acknowledges(ask.get());
     let note = Note {
-        key: ask.key,
+        ask,
         from,
         number,
         acknowledged,
     };
-    drop_ask(ask);
     (note, reply)
 }
 
@@ -62,7 +61,7 @@ impl Core {
         let Some(place) = place else {
             return None;
         };
-        let Some(command) = self.commands.swap_remove(&number) else {
+        let Some(command) = self.commands.remove(number) else {
             unreachable!();
         };
         let (ask, done) = done_of(command);

@@ -4,7 +4,9 @@ ghost use Rattle.std.specs.Prelude.{◌≡◌, ◌+◌, ℕ, None, if◌then◌e
 ghost use Rattle.indexmap.specs.IndexMap.{get, values, index_map_len};
 ghost use Rattle.proxy_core.specs.Settles.{is_idle, HasIdle, IsAllOut, FreesIdle};
 
+use crate::begun::drop_command;
 use crate::command::Command;
+use crate::command_table::CommandTable;
 use crate::proxy::Core;
 use indexmap::IndexMap;
 
@@ -23,7 +25,7 @@ fn first_place(client: usize, commands: &IndexMap<u64, Command>) -> Option<usize
         .position(|command| is_idle(client, command))
 }
 
-// The number of a command of this client of which no call is out.
+// The number of a command of this client of which no call is out, by looking at all of them.
 fn first_idle(client: usize, commands: &IndexMap<u64, Command>) -> Option<u64>
     ensures some { IfSome result (λ n. HasIdle client commands.now n) }
     ensures none { IfNone result (IsAllOut client commands.now) }
@@ -36,11 +38,21 @@ fn first_idle(client: usize, commands: &IndexMap<u64, Command>) -> Option<u64>
 }
 
 /// The command of this number is taken out. It takes no memory.
-pub fn remove(number: u64, commands: &mut IndexMap<u64, Command>)
+pub fn remove(number: u64, commands: &mut CommandTable)
     ensures gone { (n : ℕ) → get nat_eq commands.new n ≡ (if nat_eq number n then None else get nat_eq commands.old n) }
     ensures less { IsSome (get nat_eq commands.old number) → index_map_len commands.new + 1 ≡ index_map_len commands.old }
 {
-    commands.swap_remove(&number);
+    if let Some(command) = commands.remove(number) {
+        drop_command(command);
+    }
+}
+
+// The same, of those that are under way.
+fn idle_in(client: usize, commands: &CommandTable) -> Option<u64>
+    ensures some { IfSome result (λ n. HasIdle client commands.now n) }
+    ensures none { IfNone result (IsAllOut client commands.now) }
+{
+    first_idle(client, commands.by_number())
 }
 
 impl Core {
@@ -48,7 +60,7 @@ impl Core {
     pub(crate) fn free_idle(&mut self, client: usize)
         ensures { FreesIdle self.old client self.new }
     {
-        while let Some(number) = first_idle(client, &self.commands) {
+        while let Some(number) = idle_in(client, &self.commands) {
             remove(number, &mut self.commands);
         }
     }

@@ -19,7 +19,13 @@ fn write_reply(pending: &Pending, output: &mut BytesMut) -> Result<bool, AllocEr
     match &pending.reply {
         None => Ok(false),
         Some(reply) => {
-            write_part(pending.quiet, pending.last, &pending.ask, reply, output)?;
+            write_part(
+                pending.quiet,
+                pending.last,
+                pending.ask.get(),
+                reply,
+                output,
+            )?;
             Ok(true)
         }
     }

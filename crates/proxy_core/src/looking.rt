@@ -1,13 +1,13 @@
-//! What is asked of all commands that are under way.
+//! What commands that are under way can do next.
 
 ghost use Rattle.std.specs.Prelude.{◌≡◌, IfSome};
 ghost use Rattle.proxy_core.specs.Faults.{has_commands};
-ghost use Rattle.proxy_core.specs.Ready.{has_key, is_called, calls_at, IsTurn};
+ghost use Rattle.proxy_core.specs.Ready.{IsTurn};
 
 use crate::client::Pending;
 use crate::command::Command;
+use crate::command_table::CommandTable;
 use indexmap::IndexMap;
-use mc_types::{Key, ServerId};
 use route_job::Step;
 use std::collections::VecDeque;
 
@@ -24,46 +24,25 @@ pub enum Turn {
     Rests,
 }
 
-/// Whether one of the commands is this client's.
-pub fn has_commands(client: usize, commands: &IndexMap<u64, Command>) -> bool
+// Whether one of the commands is this client's.
+fn any_of(client: usize, commands: &IndexMap<u64, Command>) -> bool
     ensures { result ≡ has_commands client commands.now }
 {
     commands.values().any(|command| command.client == client)
 }
 
-/// Whether a command on this key is under way. All of them are looked at: a map by key isn't there yet.
-pub fn has_key(key: &Key, commands: &IndexMap<u64, Command>) -> bool
-    ensures { result ≡ has_key key.now commands.now }
+/// Whether one of the commands is this client's, by looking at all of them.
+pub fn has_commands(client: usize, commands: &CommandTable) -> bool
+    ensures { result ≡ has_commands client commands.now }
 {
-    commands.values().any(|command| command.ask.key == *key)
-}
-
-// Whether the command's call is out at this server.
-fn is_called(server: ServerId, command: &Command) -> bool
-    ensures { result ≡ is_called server command.now }
-{
-    command.is_out
-        && match command.job.next() {
-            Step::Call { server: at, .. } => at == server,
-            Step::Done(_) => false,
-        }
-}
-
-/// How many calls are out at a server. All commands are looked at.
-pub fn calls_at(server: ServerId, commands: &IndexMap<u64, Command>) -> usize
-    ensures { result ≡ calls_at server commands.now }
-{
-    commands
-        .values()
-        .filter(|command| is_called(server, command))
-        .count()
+    any_of(client, commands.by_number())
 }
 
 /// What the command of this number can do, where it is this client's.
-pub fn turn_of(client: usize, window: usize, number: u64, commands: &IndexMap<u64, Command>) -> Turn
+pub fn turn_of(client: usize, window: usize, number: u64, commands: &CommandTable) -> Turn
     ensures { IsTurn client window commands.now number result }
 {
-    let Some(command) = commands.get(&number) else {
+    let Some(command) = commands.get(number) else {
         return Turn::Rests;
     };
     if command.client != client || command.is_out {
@@ -72,7 +51,7 @@ pub fn turn_of(client: usize, window: usize, number: u64, commands: &IndexMap<u6
     match command.job.next() {
         Step::Done(_) => Turn::Ends,
         Step::Call { server, .. } => {
-            if calls_at(server, commands) < window {
+            if commands.calls_at(server) < window {
                 Turn::Sends
             } else {
                 Turn::Full
@@ -103,7 +82,7 @@ pub fn first_ready(
     client: usize,
     window: usize,
     queue: &VecDeque<Pending>,
-    commands: &IndexMap<u64, Command>,
+    commands: &CommandTable,
 ) -> Option<Ready>
     ensures { IfSome result (λ ready. IsTurn client window commands.now ready.number ready.turn) }
 {

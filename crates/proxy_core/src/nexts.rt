@@ -1,6 +1,6 @@
 //! What is next for a client whose commands can't go on.
 
-ghost use Rattle.std.specs.Prelude.{◌≡◌, ◌↔◌, [], false, IsTrue, IfOk};
+ghost use Rattle.std.specs.Prelude.{◌≡◌, ◌↔◌, ℕ, [], false, IsTrue, IfOk};
 ghost use Rattle.mc_types.specs.Asks.{IsAsk};
 ghost use Rattle.text_codec.specs.Held.{IsReadAt};
 ghost use Rattle.client_requests.specs.declared.reader.Read.TheVariants.{More, Request as Requests};
@@ -9,7 +9,7 @@ ghost use Rattle.proxy_core.specs.Fronts.{AsksNone};
 ghost use Rattle.proxy_core.specs.Nexts.{IsNextOf};
 
 use crate::client::{Client, Pending};
-use mc_types::Ask;
+use crate::shared::SharedAsk;
 use std::alloc::{AllocError, Global};
 use std::collections::VecDeque;
 use text_codec::{Read, Request};
@@ -38,7 +38,7 @@ impl Client {
     fn key_of(&self, depth: usize, request: Request) -> Next
         requires at { IsReadAt self.now.stream (Requests request) }
         requires served { self.now.dropped ≡ false }
-        ensures { IsNextOf self.now result }
+        ensures { IsNextOf depth self.now result }
     {
         if self.waits || depth <= self.queue.len() || request.asks() <= self.index {
             return Next::Later;
@@ -49,7 +49,7 @@ impl Client {
     // No whole message stands there.
     fn nothing(&self) -> Next
         requires { IsReadAt self.now.stream More }
-        ensures { IsNextOf self.now result }
+        ensures { (depth : ℕ) → IsNextOf depth self.now result }
     {
         if is_free(&self.queue) {
             Next::Nothing
@@ -63,7 +63,7 @@ impl Client {
         requires at { IsReadAt self.now.stream read }
         requires asks { AsksNone self.now.stream read }
         requires served { self.now.dropped ≡ false }
-        ensures { IsNextOf self.now result }
+        ensures { (depth : ℕ) → IsNextOf depth self.now result }
     {
         if is_free(&self.queue) {
             Next::Passing(read)
@@ -75,7 +75,7 @@ impl Client {
     /// What is next for it, where so many commands may have no shown reply. It takes no memory.
     pub fn next(&self, depth: usize) -> Next
         requires { self.now.dropped ≡ false }
-        ensures { IsNextOf self.now result }
+        ensures { IsNextOf depth self.now result }
     {
         match self.stream.read() {
             Read::More => self.nothing(),
@@ -92,11 +92,12 @@ impl Client {
     }
 
     /// The ask of the next key of the request at its front. The only error is running out of memory.
-    pub fn next_ask(&self, alloc: Global, request: &Request) -> Result<Ask, AllocError>
+    pub fn next_ask(&self, alloc: Global, request: &Request) -> Result<SharedAsk, AllocError>
         requires { CanAsk request.now self.now }
         ensures begins { IfOk result (λ ask. CanBegin request.now ask self.now) }
         ensures asks { IfOk result IsAsk }
     {
-        request.ask(alloc, self.stream.held(), self.index)
+        let ask = request.ask(alloc, self.stream.held(), self.index)?;
+        SharedAsk::new(alloc, ask)
     }
 }

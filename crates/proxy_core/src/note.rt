@@ -1,13 +1,13 @@
 //! What is told of a command that ended, and of what was done for a client.
 
+use crate::shared::SharedAsk;
 use crate::ticket::Ticket;
-use mc_types::Key;
 
-/// A command that ended: its number, its key, whether it was a delete that was acknowledged, and the number of the call whose item
+/// A command that ended: its number, its ask, whether it was a delete that was acknowledged, and the number of the call whose item
 /// its reply shows, if it shows one.
-#[derive(Clone, Copy)]
+#[derive(Drop)]
 pub struct Note {
-    pub key: Key,
+    pub ask: SharedAsk,
     pub from: Option<u64>,
     pub number: u64,
     pub acknowledged: bool,

@@ -8,20 +8,20 @@ ghost use Rattle.proxy_core.specs.Ready.{has_key};
 ghost use Rattle.proxy_core.specs.Begun.{IsBegun};
 ghost use Rattle.proxy_core.specs.Ready.{IsTurn};
 ghost use Rattle.proxy_core.specs.Finishing.{CanEnd};
-ghost use Rattle.proxy_core.specs.Polls.{ForClient, IsPassing, IsPassed, StopsFirst, CanBegin, BeginsAt, CanSend, IsSent, IsServed, DropsOne, DropsAll, Acts, SoEnded, StopsAfter, CanAsk, Polls, ReadFault, PollFault};
+ghost use Rattle.proxy_core.specs.Polls.{ForClient, IsPassing, IsPassed, StopsFirst, CanBegin, BeginsAt, CanSend, IsSent, IsServed, CanAskBelow, DropsOne, DropsAll, Acts, SoEnded, StopsAfter, CanAsk, Polls, ReadFault, PollFault};
 ghost use Rattle.proxy_core.specs.declared.fault.CoreFault.TheVariants.{NoMemory};
 ghost use Rattle.proxy_core.specs.Nexts.{IsNextOf};
 
 use crate::answering::Passed;
-use crate::begun::{command_of, drop_ask, drop_command, put_command};
+use crate::begun::{command_of, drop_ask, drop_command};
 use crate::command::Command;
 use crate::fault::CoreFault;
-use crate::looking::{Ready, Turn, first_ready, has_key, turn_of};
+use crate::looking::{Ready, Turn, first_ready, turn_of};
 use crate::nexts::Next;
 use crate::note::Poll;
 use crate::proxy::Core;
+use crate::shared::SharedAsk;
 use crate::ticket::Ticket;
-use mc_types::Ask;
 use text_codec::{Read, Request};
 
 impl Core {
@@ -45,7 +45,7 @@ impl Core {
         &mut self,
         client: usize,
         request: &Request,
-        ask: Ask,
+        ask: SharedAsk,
         command: Command,
     ) -> Result<(), CoreFault>
         requires key { ForClient self.old client (CanBegin request.now ask) }
@@ -57,7 +57,7 @@ impl Core {
         ensures ok { OnOk result (BeginsAt self.old client ask self.new) }
         ensures err { IfErr result (λ fault. StopsFirst client self.old fault self.new) }
     {
-        if self.commands.reserve(1).is_err() {
+        if self.commands.make_room().is_err() {
             drop_command(command);
             drop_ask(ask);
             return Err(CoreFault::NoMemory);
@@ -71,13 +71,18 @@ impl Core {
             drop_command(command);
             return Err(CoreFault::NoMemory);
         }
-        put_command(&mut self.commands, number, command);
+        self.commands.put(number, command);
         self.number = number;
         Ok(())
     }
 
     // The next key of the request at the client's front begins.
-    fn begin_key(&mut self, client: usize, request: &Request, ask: Ask) -> Result<(), CoreFault>
+    fn begin_key(
+        &mut self,
+        client: usize,
+        request: &Request,
+        ask: SharedAsk,
+    ) -> Result<(), CoreFault>
         requires key { ForClient self.old client (CanBegin request.now ask) }
         requires alone { has_key ask.key self.old.commands ≡ false }
         requires well_formed { IsAsk ask }
@@ -102,12 +107,9 @@ impl Core {
         ensures ok { IfOk result (λ ticket. GoesBy self.old (IsSent ticket) self.new) }
         ensures err { IfErr result (λ fault. StopsFirst client self.old fault self.new) }
     {
-        match self.commands.get_mut(&number) {
-            None => unreachable!(),
-            Some(command) => match command.send(number) {
-                Ok(ticket) => Ok(ticket),
-                Err(_) => Err(CoreFault::NoMemory),
-            },
+        match self.commands.send(self.alloc, number) {
+            Ok(ticket) => Ok(ticket),
+            Err(_) => Err(CoreFault::NoMemory),
         }
     }
 
@@ -175,7 +177,7 @@ impl Core {
         self.act(client, self.number, turn)
     }
 
-    fn next_ask(&self, client: usize, request: &Request) -> Result<Ask, CoreFault>
+    fn next_ask(&self, client: usize, request: &Request) -> Result<SharedAsk, CoreFault>
         requires { ForClient self.now client (CanAsk request.now) }
         ensures begins { IfOk result (λ ask. ForClient self.now client (CanBegin request.now ask)) }
         ensures asks { IfOk result IsAsk }
@@ -192,7 +194,7 @@ impl Core {
 
     // The next key of the request at the client's front begins, and goes on as it can.
     fn begin_next(&mut self, client: usize, request: &Request) -> Result<Poll, CoreFault>
-        requires { ForClient self.old client (CanAsk request.now) }
+        requires { ForClient self.old client (CanAskBelow self.old.limits.depth request.now) }
         ensures ok { IfOk result (λ poll. Polls self.old client poll self.new) }
         ensures err { IfErr result (λ fault. ReadFault self.old client fault self.new) }
     {
@@ -200,7 +202,7 @@ impl Core {
             Ok(ask) => ask,
             Err(fault) => return Err(fault),
         };
-        if has_key(&ask.key, &self.commands) {
+        if self.commands.has_key(ask.key()) {
             drop_ask(ask);
             return Ok(Poll::Busy);
         }
@@ -227,7 +229,7 @@ impl Core {
     // What is next for the client.
     fn next_of(&self, client: usize) -> Next
         requires { ForClient self.now client IsServed }
-        ensures { ForClient self.now client (λ x. IsNextOf x result) }
+        ensures { ForClient self.now client (λ x. IsNextOf self.now.limits.depth x result) }
     {
         match self.clients.get(client) {
             None => unreachable!(),
@@ -259,7 +261,7 @@ impl Core {
     // What stands at the client's front is done, or begins.
     fn read_on(&mut self, client: usize, next: Next) -> Result<Poll, CoreFault>
         requires served { ForClient self.old client IsServed }
-        requires next { ForClient self.old client (λ x. IsNextOf x next) }
+        requires next { ForClient self.old client (λ x. IsNextOf self.old.limits.depth x next) }
         ensures ok { IfOk result (λ poll. Polls self.old client poll self.new) }
         ensures err { IfErr result (λ fault. ReadFault self.old client fault self.new) }
     {
@@ -291,7 +293,8 @@ impl Core {
     }
 
     /// The next thing that can be done for a client: a command of it goes on, its next command begins, or a message that asks
-    /// no server is answered. A command begins where no other on its key is under way: all commands are looked at for it.
+    /// no server is answered. A command begins where no other on its key is under way, and where fewer commands of its client
+    /// than the depth have no shown reply.
     ///
     /// `NoClient`. `Spent` where the last number that there is was given out: the core is as it was. `NoMemory`: nothing is
     /// done for the client any more, whose output so far is kept, and those of its commands of which no call is out are broken

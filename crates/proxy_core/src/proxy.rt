@@ -6,11 +6,10 @@ ghost use Rattle.proxy_core.specs.Standing.{IsFresh, IsOut, Opens, Feeds, Gives,
 ghost use Rattle.proxy_core.specs.Faults.{IsClosed, CanOpen, CanFeed, CanClose, OpenFault, FeedFault, OutputFault, CloseFault};
 
 use crate::client::Client;
-use crate::command::Command;
+use crate::command_table::CommandTable;
 use crate::fault::{CoreFault, ReloadFault};
 use crate::limits::Limits;
 use crate::looking::has_commands;
-use indexmap::IndexMap;
 use route_tree::Tree;
 use slab::Slab;
 use std::alloc::Global;
@@ -20,7 +19,7 @@ use std::alloc::Global;
 pub struct Core {
     pub(crate) clients: Slab<Client>,
     /// The commands that have begun and have not ended, by number.
-    pub(crate) commands: IndexMap<u64, Command>,
+    pub(crate) commands: CommandTable,
     pub(crate) tree: Tree,
     /// The last number that was given to a command.
     pub(crate) number: u64,
@@ -37,7 +36,7 @@ impl Core {
     {
         Core {
             clients: Slab::new(alloc),
-            commands: IndexMap::new(alloc),
+            commands: CommandTable::new(alloc),
             tree,
             number: 0,
             limits,

@@ -37,7 +37,7 @@ impl Core {
     pub fn asked(&self, number: u64) -> Option<&Ask>
         ensures { option_map (λ ask. ask.now) result ≡ asked self.now number }
     {
-        match self.commands.get(&number) {
+        match self.commands.get(number) {
             None => None,
             Some(command) => command.asked(),
         }
@@ -55,16 +55,11 @@ impl Core {
         ensures err { IfErr result (λ fault. SettleFault self.old ticket.number outcome fault self.new) }
     {
         let number = ticket.into_number();
-        let Some(command) = self.commands.get_mut(&number) else {
+        let Some(client) = self.commands.caller(number) else {
             forget(outcome);
             return Err(CoreFault::NoTicket);
         };
-        if !command.has_call_out() {
-            forget(outcome);
-            return Err(CoreFault::NoTicket);
-        }
-        let client = command.client;
-        match command.take(self.alloc, outcome) {
+        match self.commands.take(self.alloc, number, outcome) {
             Ok(()) => {
                 if self.is_dropped(client) {
                     remove(number, &mut self.commands);

@@ -7,7 +7,7 @@ ghost use Rattle.text_codec.specs.Held.{held_at};
 ghost use Rattle.proxy_core.specs.Fronts.{Stays, IsAskAt, MovesOn, BeginsKey};
 
 use crate::client::{Client, Pending};
-use mc_types::Ask;
+use crate::shared::SharedAsk;
 use std::alloc::AllocError;
 use std::collections::VecDeque;
 use text_codec::Request;
@@ -38,7 +38,12 @@ impl Client {
 
     /// The next key of the request at the front begins under this number. The only error is running out of memory, which leaves
     /// the client as it was.
-    pub fn begin(&mut self, request: &Request, ask: Ask, number: u64) -> Result<(), AllocError>
+    pub fn begin(
+        &mut self,
+        request: &Request,
+        ask: SharedAsk,
+        number: u64,
+    ) -> Result<(), AllocError>
         requires at { IsAskAt self.old request.now ask }
         requires ready { self.old.waits ≡ false }
         ensures ok { OnOk result (BeginsKey self.old ask number self.new) }

@@ -2,12 +2,13 @@
 
 ghost use Rattle.std.specs.Prelude.{◌≡◌};
 
-use mc_types::{Ask, Origin, ServerId};
+use crate::shared::SharedAsk;
+use mc_types::{Origin, ServerId};
 
 /// A call that is out: the command's next call, which nobody else has. It is handed back with its outcome.
 #[derive(Drop)]
 pub struct Ticket {
-    pub ask: Ask,
+    pub ask: SharedAsk,
     /// The command's number.
     pub number: u64,
     pub origin: Origin,

@@ -641,7 +641,7 @@ impl ProxyEnd {
                     self.note_went_on(id);
                     self.send_call(net, id, ticket)?;
                 }
-                Ok(Polled::Did(_)) => {
+                Ok(Polled::Did(_note)) => {
                     self.note_went_on(id);
                     self.is_freed = true;
                 }

@@ -2,4 +2,4 @@ use Rattle.connections.proofs.Fronts.{more_stuck}
 use Rattle.proxy_core.proofs.client.Client.nothing.Goals as goal
 
 pub returns-then-is_free : goal.returns-then-is_free
-returns-then-is_free c = (c.is_free.ensures.0 c.if-is_free.true, more_stuck c.args.self.now.stream c.requires)
+returns-then-is_free c = λ depth. (c.is_free.ensures.0 c.if-is_free.true, more_stuck c.args.self.now.stream c.requires)

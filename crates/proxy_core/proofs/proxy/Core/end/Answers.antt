@@ -16,11 +16,11 @@ returns-clause-ended c =
     let t = written old c.args.client x y was in
     let place = c.in-Some-place.place in
     let is : IsPlace x c.args.number place = subst (λ (z : Client). IsPlace z c.args.number place) (some_client (c.in-Some.ensures ∙ was)) c.in-Some-place.ensures in
-    let can = ends_as old c.args.client c.args.number c.requires.done c.in-Some-swap_remove.command (sym c.in-Some-swap_remove.ensures.value) in
+    let can = ends_as old c.args.client c.args.number c.requires.done c.in-Some-remove.command (sym c.in-Some-remove.ensures.value) in
     ended_goes old _ c.args.client c.args.number x y can place is (given_of c.done_of-ask.result.1) c.done_of-ask.result.0 c.note_of-note.result.0 c.note_of-note.result.1
     was t.is t.others (of_client old c.args.client IsServed x was c.requires.served)
     c.done_of-ask.ensures.done c.done_of-ask.ensures.ask c.note_of-note.ensures (c.answer.ensures c.args.number is)
-    c.swap_remove.ensures.updates.0 refl refl
+    c.remove.ensures.gone refl refl
 
 pub returns-clause-served : goal.returns-clause-served
 returns-clause-served c =

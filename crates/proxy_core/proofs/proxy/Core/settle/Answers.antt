@@ -1,56 +1,46 @@
-use Rattle.std.proofs.Common.{◌≡◌, cond, Some, refl, sym, ap, ◌∙◌, subst, nat_eq}
-use Rattle.std.specs.HashMap.{WritesThrough}
+use Rattle.std.proofs.Common.{◌≡◌, cond, Some, refl, sym, ap, ◌∙◌, subst, true}
+use Rattle.proxy_core.specs.declared.command.Command.{Command}
 use Rattle.proxy_core.specs.declared.proxy.Core.{Core}
-use Rattle.proxy_core.specs.Standing.{command_at}
-use Rattle.proxy_core.specs.Settles.{FitsCall, HasNoCall, Settles, Breaks}
-use Rattle.proxy_core.proofs.Outcomes.{same_map, written_by, refused, goes_further, is_freed, breaks_off}
+use Rattle.proxy_core.specs.Standing.{command_at, client_at, dropped_by, has_call_out}
+use Rattle.proxy_core.specs.Settles.{FitsCall, Settles, Breaks, TakesOut, FreesIdle}
+use Rattle.proxy_core.proofs.Commands.{some_command}
+use Rattle.proxy_core.proofs.Outcomes.{goes_further, is_freed, breaks_off}
 use Rattle.proxy_core.proofs.proxy.Core.settle.Goals as goal
-
-pub returns-then-not-has_call_out-clause-err : goal.returns-then-not-has_call_out-clause-err
-returns-then-not-has_call_out-clause-err c =
-    let old = c.args.self.now in
-    let number = c.into_number-number.result in
-    let a = c.in-Some.command.now in
-    let through : WritesThrough nat_eq (nat_eq number) old.commands a (c.get_mut.follows.lender a) = c.get_mut.follows.holds a in
-    let new : Core = record old { commands = c.get_mut.follows.lender a } in
-    subst (λ n. HasNoCall old n × (new ≡ old)) c.into_number-number.ensures
-    (refused old new number a (sym c.in-Some.ensures.value) (sym c.if-not-has_call_out.ensures) (ap (λ m. record old { commands = m }) (same_map nat_eq (nat_eq number) old.commands (c.get_mut.follows.lender a) a (sym c.in-Some.ensures.value) through)))
 
 pub returns-then-is_dropped-clause-ok : goal.returns-then-is_dropped-clause-ok
 returns-then-is_dropped-clause-ok c =
     let old = c.args.self.now in
     let number = c.into_number-number.result in
-    let a = c.in-Some.command.now in
-    let b = c.take.new.self in
-    let through : WritesThrough nat_eq (nat_eq number) old.commands b (c.get_mut.follows.lender b) = c.get_mut.follows.holds b in
-    let mid : Core = record old { commands = c.get_mut.follows.lender b } in
+    let caller = c.in-Some.ensures in
+    let taken = c.in-Ok.ensures in
+    let same : caller.0 ≡ taken.before = some_command (sym caller.1 ∙ taken.was) in
+    let mid : Core = record old { commands = c.take.new.self } in
     let new : Core = record old { commands = c.remove.new.commands } in
-    let was = sym c.in-Some.ensures.value in
     subst (λ n. Settles old n c.args.outcome new) c.into_number-number.ensures
-    (is_freed old mid number a b c.args.outcome was (sym c.if-not-has_call_out.ensures) (subst (λ n. FitsCall old n c.args.outcome) (sym c.into_number-number.ensures) c.requires.fits) c.in-Ok.ensures.ok (written_by old mid.commands number a b was through) (λ d. refl) refl refl (sym c.if-is_dropped.ensures) new c.remove.ensures.gone (λ d. refl) refl refl)
+    (is_freed old mid number taken.before taken.after c.args.outcome taken.was (subst (λ (a : Command). has_call_out a ≡ true) same caller.2) (subst (λ n. FitsCall old n c.args.outcome) (sym c.into_number-number.ensures) c.requires.fits) taken.takes taken.replaces (λ d. refl) refl refl
+    (ap (λ (a : Command). dropped_by (client_at old a.client)) (sym same) ∙ ap (λ d. dropped_by (client_at old d)) (sym caller.3) ∙ sym c.if-is_dropped.ensures) new c.remove.ensures.gone (λ d. refl) refl refl)
 
 pub returns-else-is_dropped-clause-ok : goal.returns-else-is_dropped-clause-ok
 returns-else-is_dropped-clause-ok c =
     let old = c.args.self.now in
     let number = c.into_number-number.result in
-    let a = c.in-Some.command.now in
-    let b = c.take.new.self in
-    let through : WritesThrough nat_eq (nat_eq number) old.commands b (c.get_mut.follows.lender b) = c.get_mut.follows.holds b in
-    let mid : Core = record old { commands = c.get_mut.follows.lender b } in
-    let was = sym c.in-Some.ensures.value in
+    let caller = c.in-Some.ensures in
+    let taken = c.in-Ok.ensures in
+    let same : caller.0 ≡ taken.before = some_command (sym caller.1 ∙ taken.was) in
+    let mid : Core = record old { commands = c.take.new.self } in
     subst (λ n. Settles old n c.args.outcome mid) c.into_number-number.ensures
-    (goes_further old mid number a b c.args.outcome was (sym c.if-not-has_call_out.ensures) (subst (λ n. FitsCall old n c.args.outcome) (sym c.into_number-number.ensures) c.requires.fits) c.in-Ok.ensures.ok (written_by old mid.commands number a b was through) (λ d. refl) refl refl (sym c.if-is_dropped.ensures))
+    (goes_further old mid number taken.before taken.after c.args.outcome taken.was (subst (λ (a : Command). has_call_out a ≡ true) same caller.2) (subst (λ n. FitsCall old n c.args.outcome) (sym c.into_number-number.ensures) c.requires.fits) taken.takes taken.replaces (λ d. refl) refl refl
+    (ap (λ (a : Command). dropped_by (client_at old a.client)) (sym same) ∙ ap (λ d. dropped_by (client_at old d)) (sym caller.3) ∙ sym c.if-is_dropped.ensures))
 
 pub returns-in-Err-clause-err : goal.returns-in-Err-clause-err
 returns-in-Err-clause-err c =
     let old = c.args.self.now in
     let number = c.into_number-number.result in
-    let a = c.in-Some.command.now in
-    let b = c.take.new.self in
-    let through : WritesThrough nat_eq (nat_eq number) old.commands b (c.get_mut.follows.lender b) = c.get_mut.follows.holds b in
-    let mid : Core = record old { commands = c.get_mut.follows.lender b } in
-    let was = sym c.in-Some.ensures.value in
-    let wrote = written_by old mid.commands number a b was through in
+    let caller = c.in-Some.ensures in
+    let taken = c.in-Err.ensures in
+    let same : caller.0 ≡ taken.before = some_command (sym caller.1 ∙ taken.was) in
+    let mid : Core = record old { commands = c.take.new.self } in
     subst (λ n. Breaks old n c.args.outcome c.free_idle.new.self) c.into_number-number.ensures
-    (breaks_off old mid c.take_out.new.self c.free_idle.new.self number a c.args.outcome was (sym c.if-not-has_call_out.ensures) (subst (λ n. FitsCall old n c.args.outcome) (sym c.into_number-number.ensures) c.requires.fits)
-    (λ n differs. wrote n ∙ ap (λ z. cond z (Some b) (command_at old n)) differs) (λ d. refl) refl refl c.take_out.ensures c.free_idle.ensures)
+    (breaks_off old mid c.take_out.new.self c.free_idle.new.self number caller.0 c.args.outcome caller.1 caller.2 (subst (λ n. FitsCall old n c.args.outcome) (sym c.into_number-number.ensures) c.requires.fits)
+    (λ n differs. taken.replaces n ∙ ap (λ z. cond z (Some taken.after) (command_at old n)) differs) (λ d. refl) refl refl
+    (subst (λ d. TakesOut mid number d c.take_out.new.self) caller.3 c.take_out.ensures) (subst (λ d. FreesIdle c.take_out.new.self d c.free_idle.new.self) caller.3 c.free_idle.ensures))

@@ -1,0 +1,55 @@
+//! How many there are of each kind: commands on each key, calls out at each server.
+
+ghost use Rattle.std.specs.Prelude.{◌≡◌, ◌+◌, ◌-◌, true};
+ghost use Rattle.std.specs.Map.{count_at};
+ghost use Rattle.indexmap.specs.IndexMap.{get};
+ghost use Rattle.proxy_core.specs.Counts.{SetsCount};
+
+use indexmap::IndexMap;
+use std::hash::Hash;
+
+/// How many there are of it. It takes no memory.
+pub fn count_of<K: Eq + Hash>(key: &K, counts: &IndexMap<K, usize>) -> usize
+    ensures { result ≡ count_at (get K.eq counts.now) key.now }
+{
+    match counts.get(key) {
+        None => 0,
+        Some(count) => *count,
+    }
+}
+
+// There are so many of it now. Whether that is counted: not where memory was refused.
+fn set_count<K: Eq + Hash + Copy + Drop>(
+    key: K,
+    count: usize,
+    counts: &mut IndexMap<K, usize>,
+) -> bool
+    ensures { result ≡ true → SetsCount K.eq key count counts.old counts.new }
+{
+    if count == 0 {
+        counts.swap_remove(&key);
+        return true;
+    }
+    counts.insert(key, count).is_ok()
+}
+
+/// There is one more of it. Whether that is counted: not where memory was refused.
+pub fn count_one<K: Eq + Hash + Copy + Drop>(key: K, counts: &mut IndexMap<K, usize>) -> bool
+    ensures { result ≡ true → SetsCount K.eq key (count_at (get K.eq counts.old) key + 1) counts.old counts.new }
+{
+    match count_of(&key, counts).checked_add(1) {
+        None => false,
+        Some(more) => set_count(key, more, counts),
+    }
+}
+
+/// There is one less of it. Whether that is counted.
+pub fn uncount_one<K: Eq + Hash + Copy + Drop>(key: K, counts: &mut IndexMap<K, usize>) -> bool
+    ensures { result ≡ true → SetsCount K.eq key (count_at (get K.eq counts.old) key - 1) counts.old counts.new }
+{
+    let count = count_of(&key, counts);
+    match count.checked_sub(1) {
+        None => false,
+        Some(fewer) => set_count(key, fewer, counts),
+    }
+}

@@ -1,0 +1,67 @@
+//! A job that stays where it is while its command is moved.
+
+ghost use Rattle.std.specs.Prelude.{◌≡◌, ◌↔◌, List, [], ◌∷◌, IfOk, OnOk};
+ghost use Rattle.mc_runs.specs.Run.{Call as CallMade};
+ghost use Rattle.mc_runs.specs.Single.{FitsOutcome};
+ghost use Rattle.route_tree.specs.Word.{Given};
+ghost use Rattle.route_job.specs.Given.{given_of};
+ghost use Rattle.route_job.specs.Jobs.{Comes, call_of, IsNext, IsCalling, IsDone};
+
+use mc_types::Outcome;
+use route_job::{Done, Job, Step};
+use std::alloc::{AllocError, Global};
+use std::marker::Model;
+
+/// A job on the heap. A job by value is some five hundred bytes, and a command goes through many hands.
+#[derive(Drop)]
+pub struct HeldJob {
+    job: Box<Job>,
+}
+
+impl Model for HeldJob {
+    ghost use Rattle.route_job.specs.declared.job.Job.{Job as JobOf};
+
+    ghost Value = { JobOf };
+
+    ghost use Rattle.std.specs.Coded.{codes};
+    ghost use Rattle.route_job.specs.contracts.job.Job as jobs;
+
+    ghost coded = { Prim.hlevel (codes, jobs.the_row.coded) };
+
+    ghost view = { λ h. h.job.value };
+}
+
+impl HeldJob {
+    /// This job. The only error is running out of memory.
+    pub fn new(alloc: Global, job: Job) -> Result<HeldJob, AllocError>
+        ensures { IfOk result (λ held. held ≡ job) }
+    {
+        let job = Box::new(alloc, job)?;
+        Ok(HeldJob { job })
+    }
+
+    /// As `Job::next`.
+    pub fn next(&self) -> Step<'_>
+        ensures { IsNext self.now result }
+    {
+        self.job.as_ref().next()
+    }
+
+    /// As `Job::take`.
+    pub fn take(&mut self, alloc: Global, outcome: Outcome) -> Result<(), AllocError>
+        requires calling { IsCalling self.old }
+        requires fits { FitsOutcome (call_of self.old outcome).ask outcome }
+        ensures rest { OnOk result ((calls : List CallMade) (given : Given) → Comes self.new calls given ↔ Comes self.old (call_of self.old outcome ∷ calls) given) }
+    {
+        self.job.take(alloc, outcome)
+    }
+
+    /// As `Job::into_done`.
+    pub fn into_done(self) -> Done
+        requires { IsDone self }
+        ensures { (calls : List CallMade) (given : Given) → Comes self calls given ↔ ((calls ≡ []) × (given ≡ given_of result)) }
+    {
+        let HeldJob { job } = self;
+        Box::into_inner(job).into_done()
+    }
+}

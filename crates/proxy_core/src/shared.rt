@@ -1,0 +1,54 @@
+//! An ask that several hold.
+
+ghost use Rattle.std.specs.Prelude.{◌≡◌, IfOk};
+
+use mc_types::{Ask, Key};
+use std::alloc::{AllocError, Global};
+use std::marker::Model;
+use std::rc::Rc;
+
+/// An ask that is shared: a copy of it takes no memory. An ask by value is some four hundred bytes, and goes through many hands.
+#[derive(Drop)]
+pub struct SharedAsk {
+    ask: Rc<Ask>,
+}
+
+impl Model for SharedAsk {
+    ghost use Rattle.mc_types.specs.declared.ask.Ask.{Ask as AskOf};
+
+    ghost Value = { AskOf };
+
+    ghost view = { λ s. s.ask.value };
+}
+
+impl SharedAsk {
+    /// This ask. The only error is running out of memory.
+    pub fn new(alloc: Global, ask: Ask) -> Result<SharedAsk, AllocError>
+        ensures { IfOk result (λ shared. shared ≡ ask) }
+    {
+        let ask = Rc::new(alloc, ask)?;
+        Ok(SharedAsk { ask })
+    }
+
+    /// The ask.
+    pub fn get(&self) -> &Ask
+        ensures { result.now ≡ self.now }
+    {
+        self.ask.as_ref()
+    }
+
+    /// Its key.
+    pub fn key(&self) -> &Key
+        ensures { result.now ≡ self.now.key }
+    {
+        &self.get().key
+    }
+
+    /// The same ask once more, shared: it takes no memory, and is refused only where the count of sharers is full.
+    pub fn copy(&self) -> Result<SharedAsk, AllocError>
+        ensures { IfOk result (λ ask. ask ≡ self.now) }
+    {
+        let ask = self.ask.clone()?;
+        Ok(SharedAsk { ask })
+    }
+}
