@@ -1,0 +1,7 @@
+use Rattle.std.proofs.Common.{sym, subst}
+use Rattle.route_json.specs.Configuration.{Configuration}
+use Rattle.fresh_gate.specs.Gate.{IsJudged}
+use Rattle.loopback.proofs.running.run_good.Goals as goal
+
+pub print_refused-requires : goal.print_refused-requires
+print_refused-requires g c = subst (λ (k : Configuration). IsJudged k.tree c.in-Err.refused.reason) (sym c.in-Err.ensures.refused.0) c.in-Err.ensures.refused.1
