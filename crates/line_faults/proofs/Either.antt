@@ -97,7 +97,10 @@ behind word text = elim (cases_Bool (bytes_eq word (codes ">"))) [
             | inl e ↦ rw (a, b, c, d, f, e) (at text)
             | inr g ↦ elim (cases_Bool (bytes_eq word (codes "moment"))) [
               | inl e ↦ rw (a, b, c, d, f, g, e) (moment text)
-              | inr h ↦ rw (a, b, c, d, f, g, h) tt
+              | inr h ↦ elim (cases_Bool (bytes_eq word (codes "reload"))) [
+                | inl e ↦ rw (a, b, c, d, f, g, h, e) tt
+                | inr i ↦ rw (a, b, c, d, f, g, h, i) tt
+              ]
             ]
           ]
         ]

@@ -1,1 +1,3 @@
 pub mod Either
+pub mod Meanings
+pub mod Found

@@ -21,10 +21,10 @@ pub data Trouble : Type 0 where
   NoEvent NoManner NoLoss : List ℕ → Trouble
   Wants : Form → Trouble
   NoNumber : Number → List ℕ → Trouble
-  NoEscape : Trouble
+  NoEscape NoConfiguration : Trouble
   NoKey : KeyFault → Trouble
 
--- the words of the events
+-- the words of the events, and of a reload
 abbrev pub form_of : List ℕ → Option Form
 form_of word =
     if bytes_eq word (codes ">") then Some forms.Piece
@@ -34,6 +34,7 @@ form_of word =
     else if bytes_eq word (codes "restart") then Some forms.Restart
     else if bytes_eq word (codes "at") then Some forms.At
     else if bytes_eq word (codes "moment") then Some forms.Moment
+    else if bytes_eq word (codes "reload") then Some forms.Reload
     else None
 
 -- the trouble where nothing was read
@@ -111,7 +112,7 @@ lost_trouble text = in_parts forms.At (λ p. loss_trouble p.word p.rest) (cut te
 abbrev pub at_trouble : List ℕ → Option Trouble
 at_trouble text = in_parts forms.At (λ p. or_else (number_trouble numbers.Turn p.word) (lost_trouble p.rest)) (cut text)
 
--- after the word of an event
+-- after the word of a line; what `reload JSON` loads is no event, so its trouble counts only where the JSON is no configuration
 abbrev pub form_trouble : Form → List ℕ → Option Trouble
 form_trouble forms.Piece text = piece_trouble text
 form_trouble forms.Hold text = hold_trouble text
@@ -120,6 +121,7 @@ form_trouble forms.Lose text = item_loss_trouble text
 form_trouble forms.Restart text = number_trouble numbers.Server text
 form_trouble forms.At text = at_trouble text
 form_trouble forms.Moment text = number_trouble numbers.Moment text
+form_trouble forms.Reload text = Some NoConfiguration
 
 abbrev pub named_trouble : Option Form → List ℕ → List ℕ → Option Trouble
 named_trouble None word text = Some (NoEvent word)
@@ -147,6 +149,7 @@ trouble_of t.NoEscape = NoEscape
 trouble_of (t.NoKey fault) = NoKey fault
 trouble_of (t.NoManner word) = NoManner word.now
 trouble_of (t.NoLoss word) = NoLoss word.now
+trouble_of t.NoConfiguration = NoConfiguration
 
 -- what a check of a part answers, by its trouble
 abbrev pub Finds : {A : Type 0} → Option Trouble → Result A Halt → Type 0

@@ -23,6 +23,7 @@ form_words forms.Lose = codes "wanted: lose S KEY"
 form_words forms.Restart = codes "wanted: restart S"
 form_words forms.At = codes "wanted: at K lose S KEY, or at K restart S"
 form_words forms.Moment = codes "wanted: moment N"
+form_words forms.Reload = codes "wanted: reload JSON"
 
 abbrev pub number_words : Number → List ℕ
 number_words numbers.Client = codes "no client, 0 to 63: "
@@ -43,6 +44,7 @@ trouble_words t.NoEscape = codes "a backslash that begins none of \\r, \\n, \\\\
 trouble_words (t.NoKey fault) = key_words fault
 trouble_words (t.NoManner word) = codes "neither before nor after: " ++ escaped word.now
 trouble_words (t.NoLoss word) = codes "neither lose nor restart: " ++ escaped word.now
+trouble_words t.NoConfiguration = codes "reload wants a configuration: mcgate check says what is wrong with it"
 
 abbrev pub misfit_words : Misfit → List ℕ
 misfit_words (m.NoClient client) = codes "no client, 0 to 63: " ++ decimal client

@@ -1,8 +1,9 @@
 //! The first bad line of a script, and what is wrong with it.
 
-ghost use Rattle.std.specs.Prelude.{◌≡◌, ◌+◌, ◌<◌, ◌^◌, Ok, IfOk, length};
+ghost use Rattle.std.specs.Prelude.{◌≡◌, ◌+◌, ◌<◌, ◌^◌, IfOk, length, map};
 ghost use Rattle.script_text.specs.Behind.{lines_behind};
-ghost use Rattle.script_text.specs.Script.{told_from, bad_line};
+ghost use Rattle.fleet_run.specs.Scripted.{scripted_of};
+ghost use Rattle.script_text.specs.Script.{either, bad_event_line};
 ghost use Rattle.script_text.specs.Lines.{lines_of};
 ghost use Rattle.line_faults.specs.Finding.{IsWrongLine, IsWrong, FindsIn};
 ghost use Rattle.line_faults.specs.Lines.{line_numbered};
@@ -10,13 +11,14 @@ ghost use Rattle.line_faults.specs.Lines.{line_numbered};
 use crate::lines::line_numbered;
 use crate::misfit::{Misfit, misfit_of};
 use crate::trouble::{Halt, Trouble, check_line};
-use fleet_run::first_bad_event;
+use fleet_run::{Script, first_bad_event};
 use route_json::Config;
-use script_text::configured::ScriptFault;
+use script_text::configured::{ScriptFault, servers_known};
 use script_text::event::read_event;
 use script_text::fault::LineFault;
 use script_text::front::front_of;
-use script_text::reader::{read_behind, read_first};
+use script_text::meaning::Reading;
+use script_text::reader::{read_first, read_further};
 use std::alloc::{AllocError, Global};
 
 /// What is wrong with a line.
@@ -24,7 +26,7 @@ use std::alloc::{AllocError, Global};
 pub enum Wrong<'a> {
     /// It begins with `pool`, and is no pool line.
     Pool,
-    /// It says no event.
+    /// It says no event, and loads no configuration.
     Unread(Trouble<'a>),
     /// It says an event that can't be.
     Unfit(Misfit),
@@ -52,27 +54,24 @@ fn wrong_line(alloc: Global, servers: u32, line: &[u8]) -> Result<Wrong<'_>, All
     }
 }
 
-// The number of the first bad line of events over a configuration, behind so many other lines.
-fn bad_number(
-    alloc: Global,
-    config: Config,
-    above: usize,
-    further: Option<&str>,
-) -> Result<Option<usize>, AllocError>
-    requires { above + length (lines_behind further) < 2 ^ 64 }
-    ensures { IfOk result (λ number. number ≡ bad_line (Ok (told_from (above + 1) config (lines_behind further.entry)))) }
+// The number of the first bad line of what was read, over so many servers.
+fn bad_number(servers: u32, reading: Reading) -> Option<usize>
+    ensures { result ≡ either (bad_event_line servers (map scripted_of reading.events.items) reading.lines.items) reading.unreadable }
 {
-    match read_behind(alloc, config, above, further) {
-        Ok(script) => match first_bad_event(script.server_count(), &script.script) {
-            Some(event) => Ok(script.line_of(event)),
-            None => Ok(None),
-        },
-        Err(ScriptFault::BadLine(number)) => Ok(Some(number)),
-        Err(_) => Err(AllocError),
+    let Reading {
+        events,
+        reloads: _,
+        lines,
+        unreadable,
+    } = reading;
+    let script = Script { events };
+    match first_bad_event(servers, &script) {
+        Some(event) => lines.get(event).copied().or(unreadable),
+        None => unreadable,
     }
 }
 
-// The same, and what is wrong with it.
+// The first bad line over a configuration, behind so many other lines, and what is wrong with it.
 fn bad_line_behind<'a>(
     alloc: Global,
     config: Config,
@@ -82,8 +81,9 @@ fn bad_line_behind<'a>(
     requires { above + length (lines_behind further) < 2 ^ 64 }
     ensures { IfOk result (IsWrong (above + 1) (lines_behind further.entry) config) }
 {
-    let servers = config.servers().len() as u32;
-    let Some(number) = bad_number(alloc, config, above, further)? else {
+    let reading = read_further(alloc, config.servers(), above, further)?;
+    let servers = servers_known(config.servers(), &reading.reloads).len() as u32;
+    let Some(number) = bad_number(servers, reading) else {
         return Ok(None);
     };
     let line = line_numbered(above, further, number);
@@ -110,7 +110,7 @@ pub fn bad_line_in_script(alloc: Global, text: &str) -> Result<Option<BadLine<'_
     }
 }
 
-/// The same of a script of events alone, over a configuration from elsewhere.
+/// The same of a script without a configuration, over a configuration from elsewhere.
 ///
 /// Source: mcgate's own.
 pub fn bad_line_in_events<'a>(

@@ -11,7 +11,7 @@ use script_text::fault::LineFault;
 use script_text::words::{cut, number_under};
 use std::alloc::Global;
 
-/// The events of a script by their words.
+/// The lines of a script by their words: the events, and the reload.
 #[derive(Clone, Copy)]
 pub enum Form {
     Piece,
@@ -21,6 +21,7 @@ pub enum Form {
     Restart,
     At,
     Moment,
+    Reload,
 }
 
 /// What a word is to number.
@@ -41,7 +42,7 @@ pub enum Number {
 pub enum Trouble<'a> {
     /// No event has this word.
     NoEvent(&'a [u8]),
-    /// The event of this form wants more words.
+    /// The line of this form wants more words.
     Wants(Form),
     /// This word isn't such a number.
     NoNumber(Number, &'a [u8]),
@@ -53,6 +54,8 @@ pub enum Trouble<'a> {
     NoManner(&'a [u8]),
     /// This is neither `lose` nor `restart`.
     NoLoss(&'a [u8]),
+    /// The JSON after `reload` is no configuration.
+    NoConfiguration,
 }
 
 /// Why a line was not read to its end.
@@ -67,7 +70,7 @@ pub enum Halt<'a> {
 impl Form {
     ghost use Rattle.line_faults.specs.Troubles.{form_of};
 
-    /// The event that this word names.
+    /// The line that this word names.
     pub fn of(word: &[u8]) -> Option<Form>
         ensures { result ≡ form_of word.now }
     {
@@ -85,6 +88,8 @@ impl Form {
             Some(Form::At)
         } else if word == b"moment".as_slice() {
             Some(Form::Moment)
+        } else if word == b"reload".as_slice() {
+            Some(Form::Reload)
         } else {
             None
         }
@@ -232,10 +237,12 @@ fn check_form(alloc: Global, form: Form, text: &[u8]) -> Result<(), Halt<'_>>
         Form::Restart => check_number(Number::Server, text),
         Form::At => check_at(alloc, text),
         Form::Moment => check_number(Number::Moment, text),
+        Form::Reload => Err(Halt::Trouble(Trouble::NoConfiguration)),
     }
 }
 
-/// That a line says an event, or else the first of its parts that can't be read.
+/// That a line says an event, or else the first of its parts that can't be read. Of a line `reload JSON` that is the JSON: whether it
+/// is a configuration isn't asked here.
 ///
 /// `Ok` comes exactly where [`script_text::event::read_event`] reads an event, unless memory was refused.
 pub fn check_line(alloc: Global, line: &[u8]) -> Result<(), Halt<'_>>

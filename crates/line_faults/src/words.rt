@@ -11,7 +11,7 @@ use mc_types::KeyFault;
 use std::fmt;
 use std::fmt::Display;
 
-// What the words of an event are.
+// What the words of a line are.
 fn form_words(form: Form) -> &'static str
     ensures { result.now ≡ form_words form }
 {
@@ -23,6 +23,7 @@ fn form_words(form: Form) -> &'static str
         Form::Restart => "wanted: restart S",
         Form::At => "wanted: at K lose S KEY, or at K restart S",
         Form::Moment => "wanted: moment N",
+        Form::Reload => "wanted: reload JSON",
     }
 }
 
@@ -65,6 +66,9 @@ impl Display for Trouble<'_> {
             Trouble::NoKey(fault) => f.write_str(key_words(*fault)),
             Trouble::NoManner(word) => write!(f, "neither before nor after: {}", Escaped(word)),
             Trouble::NoLoss(word) => write!(f, "neither lose nor restart: {}", Escaped(word)),
+            Trouble::NoConfiguration => f.write_str(
+                "reload wants a configuration: mcgate check says what is wrong with it",
+            ),
         }
     }
 }

@@ -1,35 +1,38 @@
 -- What is printed of a script that is run over TCP, by how that ends. No clause says what sockets carry: of a run it is said that the gate accepted its tree, and that
--- lines of what clients got were written, with the last one behind them. Source: mcgate's own.
+-- lines of what clients got and of what became of reloads were written, with the last one behind them. Source: mcgate's own.
 use Rattle.std.specs.Prelude.{◌≡◌, ℕ, ◌++◌, ◌⊎◌, List, length, map, Option, Some, None, Result, Ok}
 use Rattle.std.specs.Io.KnownBytes.{Appends}
 use Rattle.route_json.specs.Configuration.{Configuration}
 use Rattle.route_json.specs.declared.fault.ConfigFault.{ConfigFault}
 use Rattle.fresh_gate.specs.Gate.{IsCertified}
-use Rattle.fleet_run.specs.Scripted.{Scripted, Shown, scripted_of}
+use Rattle.fleet_run.specs.declared.script.Reload.{Reload}
+use Rattle.fleet_run.specs.Scripted.{Scripted, scripted_of}
 use Rattle.fleet_run.specs.Bad.{first_bad}
 use Rattle.script_text.specs.FirstLine.{WhyNot, TellsFault}
-use Rattle.script_text.specs.Script.{Told, told, bad_line, bad_event_line, ReadsScript}
+use Rattle.script_text.specs.Script.{Told, told, bad_line, bad_event_line, servers_known, ReadsScript}
 use Rattle.script_text.specs.declared.configured.ConfiguredScript.{ConfiguredScript}
 use Rattle.script_text.specs.declared.configured.ScriptFault.{ScriptFault}
-use Rattle.script_text.specs.Printed.{shown_lines, bad_line_line, config_fault_line}
+use Rattle.script_text.specs.Printed.{bad_line_line, config_fault_line}
 use Rattle.config_check.specs.Checking.{PrintsRefused}
 use Rattle.config_check.specs.declared.status.RunFault.{RunFault}
 use Rattle.config_check.specs.declared.status.RunFault.TheVariants.{NoMemory, Writer}
 use Rattle.loopback.specs.declared.ends.Counts.{Counts}
-use Rattle.loopback.specs.Printed.{done_line}
+use Rattle.loopback.specs.declared.entries.Entry.{Entry}
+use Rattle.loopback.specs.Printed.{entry_lines, done_line}
 
 -- ---- a script of which no line is bad
 
--- lines of what clients got were written, and the last one
-pub record WritesRun (old new : Option (List ℕ)) : Type 0 where
-  pub shown : List Shown
+-- lines of what clients got and of what became of these reloads were written, and the last one
+pub record WritesRun (reloads : List Reload) (old new : Option (List ℕ)) : Type 0 where
+  pub shown : List Entry
   pub counts : Counts
-  pub printed : Appends old new (shown_lines shown ++ done_line counts)
+  pub printed : Appends old new (entry_lines reloads shown ++ done_line counts)
 
--- lines of what clients got were written
+-- such lines were written, of some reloads
 pub record WritesPart (old new : Option (List ℕ)) : Type 0 where
-  pub shown : List Shown
-  pub printed : Appends old new (shown_lines shown)
+  pub reloads : List Reload
+  pub shown : List Entry
+  pub printed : Appends old new (entry_lines reloads shown)
 
 -- memory was refused: before the run, and nothing was written; or during it. Nothing is said of a writer or a device that failed
 abbrev pub BreaksOff : Option (List ℕ) → Option (List ℕ) → RunFault → Type 0
@@ -37,8 +40,8 @@ BreaksOff old new NoMemory = (new ≡ old) ⊎ WritesPart old new
 BreaksOff old new Writer = Unit {0}
 
 -- status 0: the gate accepted the configuration, and the script ran; status 1: it refused it, and that was written
-abbrev pub RunsGood : Configuration → Option (List ℕ) → Option (List ℕ) → ℕ → Type 0
-RunsGood config old new status = ((status ≡ 0) × IsCertified config.tree × WritesRun old new) ⊎ ((status ≡ 1) × PrintsRefused config old new)
+abbrev pub RunsGood : Configuration → List Reload → Option (List ℕ) → Option (List ℕ) → ℕ → Type 0
+RunsGood config reloads old new status = ((status ≡ 0) × IsCertified config.tree × WritesRun reloads old new) ⊎ ((status ≡ 1) × PrintsRefused config old new)
 
 -- ---- a script that was read
 
@@ -46,9 +49,9 @@ RunsGood config old new status = ((status ≡ 0) × IsCertified config.tree × W
 abbrev pub events_of : ConfiguredScript → List Scripted
 events_of script = map scripted_of script.script.events.items
 
--- how many servers it has
+-- how many servers all its configurations have together
 abbrev pub servers_of : ConfiguredScript → ℕ
-servers_of script = length script.config.servers
+servers_of script = length (servers_known script.config.servers script.reloads.items)
 
 -- an event can't be, and the line of the first such was written
 pub record HasBadEvent (script : ConfiguredScript) (old new : Option (List ℕ)) : Type 0 where
@@ -59,7 +62,7 @@ pub record HasBadEvent (script : ConfiguredScript) (old new : Option (List ℕ))
 -- each of its events can be, and it ran or was refused; or one can't, and the line of the first was written
 abbrev pub RunsScript : ConfiguredScript → Option (List ℕ) → Option (List ℕ) → ℕ → Type 0
 RunsScript script old new status =
-    ((first_bad (servers_of script) (events_of script) ≡ None) × RunsGood script.config old new status)
+    ((first_bad (servers_of script) (events_of script) ≡ None) × RunsGood script.config script.reloads.items old new status)
     ⊎ ((status ≡ 2) × HasBadEvent script old new)
 
 -- ---- what a text says
@@ -69,7 +72,7 @@ pub record Ran (t : Result Told WhyNot) (old new : Option (List ℕ)) (status : 
   pub script : Told
   pub said : t ≡ Ok script
   pub good : bad_line (Ok script) ≡ None
-  pub runs : RunsGood script.configuration old new status
+  pub runs : RunsGood script.configuration script.loads old new status
 
 -- a line is bad, and that was written
 pub record HasBadLine (t : Result Told WhyNot) (old new : Option (List ℕ)) : Type 0 where

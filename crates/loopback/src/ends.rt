@@ -1,9 +1,12 @@
 //! All ends together, which are turned by turns until what a client sent is done with.
 
 use crate::clients::ClientEnd;
+use crate::entries::Entry;
 use crate::servers::Servers;
-use fleet_run::{Event, Output, Script, Transcript};
-use fresh_gate::Accepted;
+use fleet_run::{Event, Output, Reload, Script};
+use fresh_gate::{Accepted, ReloadFault};
+use link_calls::LoadFault;
+use route_json::Config;
 use std::alloc::{AllocError, Global};
 use std::io;
 use std::io::ErrorKind;
@@ -137,6 +140,21 @@ impl Ends {
         Ok(None)
     }
 
+    /// A configuration is to be in use. The answer is the number of its generation, or why the gate refused it.
+    pub fn load(&mut self, config: &Config) -> io::Result<Result<u32, ReloadFault>> {
+        let addresses = self.servers.addresses()?;
+        let config = config.copy(self.alloc)?;
+        match self.proxy.load(config, addresses.as_slice()) {
+            Ok(generation) => Ok(Ok(generation)),
+            Err(LoadFault::Refused(ReloadFault::NoMemory)) => Err(io::Error::from(
+                ErrorKind::OutOfMemory,
+            )),
+            Err(LoadFault::Refused(fault)) => Ok(Err(fault)),
+            // A script numbers the servers of each configuration after those before it.
+            Err(LoadFault::OtherServers) => Err(io::Error::from(ErrorKind::InvalidInput)),
+        }
+    }
+
     // A piece comes from a client, and all that is complete is served.
     fn serve<R: Net + Clock>(
         &mut self,
@@ -224,8 +242,7 @@ impl Ends {
                 return Err(io::Error::from(ErrorKind::TimedOut));
             }
         }
-        self.forget_lost(place);
-        Ok(())
+        self.note_end(place)
     }
 
     // One turn of each end.
@@ -249,31 +266,82 @@ impl Ends {
         Ok(())
     }
 
-    // What was under way when the connection of a client ended is lost: the proxy doesn't read it, nor the client.
-    fn forget_lost(&mut self, place: usize) {
+    // Where the connection of a client has ended the proxy reads no more of what it sent. All that there was for it has come, or the
+    // connection has failed.
+    fn note_end(&mut self, place: usize) -> io::Result<()> {
         let is_ended = match self.client(place) {
             Some(client) => client.is_ended(),
             None => false,
         };
         if is_ended {
             let tally = self.proxy.tally();
+            if tally.shown != self.received {
+                return Err(io::Error::from(ErrorKind::ConnectionAborted));
+            }
             self.sent = tally.read;
-            self.received = tally.shown;
         }
+        Ok(())
     }
 }
 
-/// Takes up the events of a script, and puts what clients get into the transcript.
+// Takes up an event. What a client gets is shown.
+fn take_event<R: Net + Clock + AllocGlobal>(
+    rt: &R,
+    ends: &mut Ends,
+    event: &Event,
+    shown: &mut Vec<Entry>,
+) -> io::Result<()> {
+    if let Some(output) = ends.take_up(rt, event)? {
+        shown.push(Entry::Shown(output))?;
+    }
+    Ok(())
+}
+
+// Loads the configuration of a reload, of this number. What came of that is shown.
+fn take_reload(
+    ends: &mut Ends,
+    number: usize,
+    reload: &Reload,
+    shown: &mut Vec<Entry>,
+) -> io::Result<()> {
+    let entry = match ends.load(&reload.config)? {
+        Ok(generation) => Entry::Loaded(generation),
+        Err(fault) => Entry::Kept(number, fault),
+    };
+    shown.push(entry)?;
+    Ok(())
+}
+
+/// Takes up the events and the reloads of a script, each reload before the event of its place.
 pub fn drive<R: Net + Clock + AllocGlobal>(
     rt: &R,
     ends: &mut Ends,
     script: &Script,
-    transcript: &mut Transcript,
+    reloads: &[Reload],
+    shown: &mut Vec<Entry>,
 ) -> io::Result<()> {
-    for event in script.events.as_slice() {
-        if let Some(output) = ends.take_up(rt, event)? {
-            transcript.shown.push(output)?;
+    let mut loaded = 0;
+    for (place, event) in script.events.as_slice().iter().enumerate() {
+        loaded = load_due(ends, reloads, loaded, place, shown)?;
+        take_event(rt, ends, event, shown)?;
+    }
+    load_due(ends, reloads, loaded, usize::MAX, shown)?;
+    Ok(())
+}
+
+// Loads those reloads from this number on that come before the event of this place. The answer is the number of the first that is left.
+fn load_due(
+    ends: &mut Ends,
+    reloads: &[Reload],
+    loaded: usize,
+    place: usize,
+    shown: &mut Vec<Entry>,
+) -> io::Result<usize> {
+    for number in loaded..reloads.len() {
+        match reloads.get(number) {
+            Some(reload) if reload.at <= place => take_reload(ends, number, reload, shown)?,
+            _ => return Ok(number),
         }
     }
-    Ok(())
+    Ok(reloads.len())
 }

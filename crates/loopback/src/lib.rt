@@ -7,6 +7,7 @@
 mod calls;
 mod clients;
 mod ends;
+mod entries;
 mod printing;
 mod running;
 mod servers;

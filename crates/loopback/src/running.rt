@@ -4,15 +4,15 @@ ghost use Rattle.std.specs.Prelude.{◌≡◌, ◌≤◌, IfOk, IfErr, length};
 ghost use Rattle.loopback.specs.Running.{IsReading, WritesRun, BreaksOff, RunsGood, RunsScript, RunsRead, Runs};
 
 use crate::ends::{Counts, Ends, drive};
+use crate::entries::{Entry, write_entries};
 use crate::printing::write_done;
 use config_check::RunFault;
 use config_check::checking::print_refused;
 use config_check::status::{BAD_INPUT, DONE, answer_of};
-use fleet_run::{Script, Transcript, first_bad_event};
+use fleet_run::{Reload, first_bad_event};
 use fresh_gate::{Accepted, judge};
-use route_json::Config;
 use script_text::configured::{ConfiguredScript, ScriptFault};
-use script_text::printer::{write_bad_line, write_config_fault, write_transcript};
+use script_text::printer::{write_bad_line, write_config_fault};
 use script_text::reader::read_script;
 use std::io;
 use std::io::{ErrorKind, Write};
@@ -27,29 +27,36 @@ fn fault_of(error: &io::Error) -> RunFault {
     }
 }
 
-// Runs the events over the ends. What clients got stands in the transcript, also where the run was broken off.
+// Runs the events and the reloads over the ends. What is to be shown stands in the list, also where the run was broken off.
 fn drive_ends<R: Net + Clock + AllocGlobal>(
     rt: &R,
     accepted: Accepted,
-    script: &Script,
-    transcript: &mut Transcript,
+    script: &ConfiguredScript,
+    shown: &mut Vec<Entry>,
 ) -> io::Result<Counts> {
-    let servers = accepted.config().servers().len();
+    let servers = script.server_count() as usize;
     let mut ends = Ends::open(rt, accepted, servers)?;
-    drive(rt, &mut ends, script, transcript)?;
+    drive(
+        rt,
+        &mut ends,
+        &script.script,
+        script.reloads.as_slice(),
+        shown,
+    )?;
     Ok(ends.counts())
 }
 
-// Writes the transcript of a script, and the last line where it ran to its end.
+// Writes what a script shows, and the last line where it ran to its end.
 fn write_driven<W: Write>(
     driven: &io::Result<Counts>,
-    transcript: &Transcript,
+    reloads: &[Reload],
+    shown: &[Entry],
     out: &mut W,
 ) -> Result<u8, RunFault>
-    ensures ok { IfOk result (λ status. (status ≡ 0) × WritesRun (W.contents out.old) (W.contents out.new)) }
+    ensures ok { IfOk result (λ status. (status ≡ 0) × WritesRun reloads.now (W.contents out.old) (W.contents out.new)) }
     ensures err { IfErr result (BreaksOff (W.contents out.old) (W.contents out.new)) }
 {
-    write_transcript(transcript, out)?;
+    write_entries(reloads, shown, out)?;
     match driven {
         Ok(counts) => {
             write_done(*counts, out)?;
@@ -63,30 +70,28 @@ fn write_driven<W: Write>(
 fn run_accepted<R: Net + Clock + AllocGlobal, W: Write>(
     rt: &R,
     accepted: Accepted,
-    script: &Script,
+    script: &ConfiguredScript,
     out: &mut W,
 ) -> Result<u8, RunFault>
-    ensures ok { IfOk result (λ status. (status ≡ 0) × WritesRun (W.contents out.old) (W.contents out.new)) }
+    ensures ok { IfOk result (λ status. (status ≡ 0) × WritesRun script.now.reloads.items (W.contents out.old) (W.contents out.new)) }
     ensures err { IfErr result (BreaksOff (W.contents out.old) (W.contents out.new)) }
 {
-    let mut transcript = Transcript {
-        shown: Vec::new(rt.alloc()),
-    };
-    let driven = drive_ends(rt, accepted, script, &mut transcript);
-    write_driven(&driven, &transcript, out)
+    let mut shown = Vec::new(rt.alloc());
+    let driven = drive_ends(rt, accepted, script, &mut shown);
+    write_driven(&driven, script.reloads.as_slice(), shown.as_slice(), out)
 }
 
 // Runs a script through its tree if the gate accepts it, or else writes why it is refused.
 fn run_good<R: Net + Clock + AllocGlobal, W: Write>(
     rt: &R,
-    config: Config,
-    script: &Script,
+    script: &ConfiguredScript,
     out: &mut W,
 ) -> Result<u8, RunFault>
-    ensures ok { IfOk result (RunsGood config (W.contents out.old) (W.contents out.new)) }
+    ensures ok { IfOk result (RunsGood script.now.config script.now.reloads.items (W.contents out.old) (W.contents out.new)) }
     ensures err { IfErr result (BreaksOff (W.contents out.old) (W.contents out.new)) }
 {
-    match judge(rt.alloc(), config) {
+    let first = script.config.copy(rt.alloc())?;
+    match judge(rt.alloc(), first) {
         Ok(accepted) => run_accepted(rt, accepted, script, out),
         Err(refused) => print_refused(&refused.config, &refused.reason, out),
     }
@@ -95,11 +100,11 @@ fn run_good<R: Net + Clock + AllocGlobal, W: Write>(
 // Runs a script whose lines could be read, or writes the line of the first event that can't be.
 fn run_script<R: Net + Clock + AllocGlobal, W: Write>(
     rt: &R,
-    configured: ConfiguredScript,
+    configured: &ConfiguredScript,
     out: &mut W,
 ) -> Result<u8, RunFault>
-    requires { length configured.lines.items ≡ length configured.script.events.items }
-    ensures ok { IfOk result (RunsScript configured (W.contents out.old) (W.contents out.new)) }
+    requires { length configured.now.lines.items ≡ length configured.now.script.events.items }
+    ensures ok { IfOk result (RunsScript configured.now (W.contents out.old) (W.contents out.new)) }
     ensures err { IfErr result (BreaksOff (W.contents out.old) (W.contents out.new)) }
 {
     match first_bad_event(configured.server_count(), &configured.script) {
@@ -108,7 +113,7 @@ fn run_script<R: Net + Clock + AllocGlobal, W: Write>(
             write_bad_line(line, out)?;
             Ok(BAD_INPUT)
         }
-        None => run_good(rt, configured.config, &configured.script, out),
+        None => run_good(rt, configured, out),
     }
 }
 
@@ -123,7 +128,7 @@ fn run_read<R: Net + Clock + AllocGlobal, W: Write>(
     ensures err { IfErr result (BreaksOff (W.contents out.old) (W.contents out.new)) }
 {
     match read {
-        Ok(configured) => run_script(rt, configured, out),
+        Ok(configured) => run_script(rt, &configured, out),
         Err(ScriptFault::Config(fault)) => {
             write_config_fault(&fault, out)?;
             Ok(BAD_INPUT)
@@ -148,7 +153,7 @@ fn run_text<R: Net + Clock + AllocGlobal, W: Write>(
 }
 
 /// Runs a script with proxy, clients and servers as ends of TCP connections on 127.0.0.1, all in this thread, and prints what each
-/// client gets, and how many commands and calls there were; or the fault of its configuration, or the line that is bad, or why the gate
+/// client gets, what became of each reload, and how many commands and calls there were; or the fault of its configuration, or the line that is bad, or why the gate
 /// refuses its tree. Faults are looked for in this order, and before anything runs.
 ///
 /// Ports are those that the system picks, whatever the configuration's addresses say. Calls are made one at a time, in the order in

@@ -130,13 +130,18 @@ Exit status: 0 accepted, 1 refused, 2 no configuration, 3 memory or a device fai
 
 const REPLAY_HELP: &str = "usage: mcgate replay [--any] [--config FILE] [SCRIPT]
 
-Reads a script, of the file SCRIPT or of standard input: a configuration on its first line, or pool N, and then one event a line.
-With --config the configuration is the text of FILE, of any number of lines, and each line of the script is an event.
-Runs it over servers in memory, and prints what each client gets and a report:
+Reads a script, of the file SCRIPT or of standard input: a configuration on its first line, or pool N, and then one event a line,
+or reload and a configuration, which is loaded there.
+With --config the configuration is the text of FILE, of any number of lines, and each line of the script is one of the others.
+Runs it over servers in memory, and prints what each client gets, what became of reloads, and a report:
   < C TEXT               new output of client C
+  reload accepted generation=G
+                         the G-th tree is in use from here on
+  reload refused ..      the gate refuses it with the trees before it, and the one in use stays
   done N commands M calls K stale
                          K replies showed what had been deleted
-A tree that the gate refuses isn't run, and its refused: line is printed; with --any every tree is run.
+A first tree that the gate refuses isn't run, and its refused: line is printed; with --any every tree is run, and a reload is
+unchecked in place of accepted.
 Exit status: 0 done, 1 refused by the gate, 2 bad script, 3 memory or a device failed.
 ";
 

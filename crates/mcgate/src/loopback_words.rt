@@ -6,9 +6,10 @@ use std::alloc::{AllocError, Global};
 
 pub const LOOPBACK_HELP: &str = "usage: mcgate loopback [SCRIPT]
 
-Reads a script, of the file SCRIPT or of standard input: a configuration on its first line, or pool N, and then one event a line.
+Reads a script, of the file SCRIPT or of standard input: a configuration on its first line, or pool N, and then one event a line,
+or reload and a configuration, which is loaded there.
 Runs it with the proxy, its clients and cache servers as ends of TCP connections on 127.0.0.1, in one thread and at ports that the
-system picks, and prints what mcgate replay prints of it, but no count of stale replies:
+system picks. It prints what mcgate replay prints, but no count of stale replies:
   < C TEXT               new output of client C
   done N commands M calls
 A tree that the gate refuses isn't run, and its refused: line is printed.

@@ -58,6 +58,11 @@ fn lines_that_cannot_be_read(rt: HostRuntime) -> Result<(), Fail> {
             "pool 1\nat 1 hold 0",
             "line 2: neither lose nor restart: hold",
         ),
+        ("pool 1\nreload", "line 2: wanted: reload JSON"),
+        (
+            "pool 1\nreload {}",
+            "line 2: reload wants a configuration: mcgate check says what is wrong with it",
+        ),
     ];
     for (text, want) in cases {
         let words = words_in_script(rt.alloc(), text)?;
@@ -82,6 +87,39 @@ fn lines_of_events_that_cannot_be(rt: HostRuntime) -> Result<(), Fail> {
         let words = words_in_script(rt.alloc(), text)?;
         assert_eq!(rt; words.as_str(), want);
     }
+    Ok(())
+}
+
+// a line that loads a pool of the server s0:1 and another one
+fn pool_of_two() -> &'static str {
+    "reload {\"pools\":{\"A\":{\"servers\":[\"s0:1\",\"h:1\"]}},\"route\":\"PoolRoute|A\"}\n"
+}
+
+#[test]
+fn servers_that_are_loaded(rt: HostRuntime) -> Result<(), Fail> {
+    let cases = [
+        ("", ""),
+        ("restart 2\n", "line 4: no such server: 2"),
+        (
+            "reload {}\n",
+            "line 4: reload wants a configuration: mcgate check says what is wrong with it",
+        ),
+    ];
+    for (end, want) in cases {
+        let alloc = rt.alloc();
+        let text = format!(in alloc; "pool 1\nrestart 1\n{}{}", pool_of_two(), end)?;
+        let words = words_in_script(alloc, text.as_str())?;
+        assert_eq!(rt; words.as_str(), want);
+    }
+    Ok(())
+}
+
+#[test]
+fn servers_that_are_loaded_too_late(rt: HostRuntime) -> Result<(), Fail> {
+    let alloc = rt.alloc();
+    let text = format!(in alloc; "pool 1\nrestart 1\nreload {{}}\n{}", pool_of_two())?;
+    let words = words_in_script(alloc, text.as_str())?;
+    assert_eq!(rt; words.as_str(), "line 2: no such server: 1");
     Ok(())
 }
 

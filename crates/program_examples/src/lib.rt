@@ -16,6 +16,8 @@ mod pictures;
 #[cfg(test)]
 mod places;
 #[cfg(test)]
+mod reloads;
+#[cfg(test)]
 mod replays;
 #[cfg(test)]
 mod script_texts;

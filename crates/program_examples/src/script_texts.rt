@@ -1,6 +1,6 @@
 //! Tests: the lines of scripts.
 
-use fleet_run::{Event, Loss, Manner, Output, Report, Transcript};
+use fleet_run::{Event, Loss, Manner, Output, Report};
 use mc_types::ServerId;
 use route_json::{Config, ConfigFault};
 use script_text::configured::ScriptFault;
@@ -9,7 +9,7 @@ use script_text::event::read_event;
 use script_text::fault::LineFault;
 use script_text::front::front_of;
 use script_text::laws::escapes_are_read_back;
-use script_text::printer::{write_bad_line, write_config_fault, write_report, write_transcript};
+use script_text::printer::{write_bad_line, write_config_fault, write_outputs, write_report};
 use script_text::reader::{read_events, read_script};
 use script_text::words::{cut, number_under};
 use std::alloc::{AllocError, Global};
@@ -253,6 +253,25 @@ fn scripts_of_a_configuration(rt: HostRuntime) -> Result<(), Fail> {
     Ok(())
 }
 
+#[test]
+fn scripts_that_load_others(rt: HostRuntime) -> Result<(), Fail> {
+    let text =
+        "pool 1\nmoment 5\nreload {\"pools\":{\"A\":{\"servers\":[\"h:1\",\"s0:1\"]}},\"route\":\"PoolRoute|A\"}\nrestart 1";
+    let Ok(read) = read_script(rt.alloc(), text) else {
+        return Err(Fail::from("a bad line"));
+    };
+    assert_eq!(rt; read.config.servers().len(), 1);
+    assert_eq!(rt; read.script.events.len(), 2);
+    assert_eq!(rt; read.line_of(1), Some(4));
+    assert_eq!(rt; read.server_count(), 2);
+    assert_eq!(rt; read.reloads.len(), 1);
+    assert_eq!(rt; read.reloads[0].at, 1);
+    let servers = read.reloads[0].config.servers();
+    assert_eq!(rt; servers.get(ServerId::new(0)), Some("s0:1"));
+    assert_eq!(rt; servers.get(ServerId::new(1)), Some("h:1"));
+    Ok(())
+}
+
 // the number of the script's bad line, where that is its fault
 fn bad_line(alloc: Global, text: &str) -> Option<usize> {
     match read_script(alloc, text) {
@@ -382,7 +401,7 @@ fn lines_that_are_printed(rt: HostRuntime) -> Result<(), Fail> {
         client: 63,
         bytes: Vec::from_slice(rt.alloc(), b"\xff".as_slice())?,
     })?;
-    write_transcript(&Transcript { shown }, &mut out)?;
+    write_outputs(shown.as_slice(), &mut out)?;
     let report = Report {
         commands: 2,
         calls: 3,

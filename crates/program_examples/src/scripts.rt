@@ -613,3 +613,98 @@ fn usual_set_ups(rt: HostRuntime) -> Result<(), Fail> {
     assert!(rt; runs_session(alloc, prefixes, 4, "DELETED", 3)?);
     Ok(())
 }
+
+/// Two reload lines: deletes are sent to both servers, and then all commands to server 1.
+fn two_reloads(alloc: Global) -> Result<String, AllocError> {
+    let mut lines = String::from_str(alloc, "reload ")?;
+    let first = with_deletes(alloc, "\"PoolRoute|A\"", ALL)?;
+    lines.push_str(first.as_str())?;
+    lines.push_str("reload ")?;
+    let second = two_servers(alloc, "\"PoolRoute|B\"")?;
+    lines.push_str(second.as_str())?;
+    Ok(lines)
+}
+
+// The first tree's deletes don't reach server 1.
+#[test]
+fn reload_against_every_generation(rt: HostRuntime) -> Result<(), Fail> {
+    let line = two_servers(rt.alloc(), "\"PoolRoute|A\"")?;
+    let reloads = two_reloads(rt.alloc())?;
+    assert!(rt;
+        prints_over(
+            rt.alloc(),
+            line,
+            reloads.as_str(),
+            "reload accepted generation=2\nreload refused generation=1 server=127.0.0.1:5002 read=get delete=delete prefix= residue=0/1\ndone 0 commands 0 calls 0 stale\n"
+        )?
+    );
+    Ok(())
+}
+
+/// Server 1 holds an item whose key is deleted on server 0 before the two reloads, and read after them.
+fn moved_key(alloc: Global) -> Result<String, AllocError> {
+    let mut events = String::from_str(alloc, "hold 1 a 7\n> 0 delete a\\r\\n\n")?;
+    let reloads = two_reloads(alloc)?;
+    events.push_str(reloads.as_str())?;
+    events.push_str("> 0 get a\\r\\n\n")?;
+    Ok(events)
+}
+
+#[test]
+fn reload_hides_a_moved_key(rt: HostRuntime) -> Result<(), Fail> {
+    let line = two_servers(rt.alloc(), "\"PoolRoute|A\"")?;
+    let events = moved_key(rt.alloc())?;
+    assert!(rt;
+        prints_over(
+            rt.alloc(),
+            line,
+            events.as_str(),
+            "< 0 NOT_FOUND\\r\\n\nreload accepted generation=2\nreload refused generation=1 server=127.0.0.1:5002 read=get delete=delete prefix= residue=0/1\n< 0 END\\r\\n\ndone 2 commands 2 calls 0 stale\n"
+        )?
+    );
+    Ok(())
+}
+
+#[test]
+fn reload_unchecked_shows_a_moved_key(rt: HostRuntime) -> Result<(), Fail> {
+    let line = two_servers(rt.alloc(), "\"PoolRoute|A\"")?;
+    let events = moved_key(rt.alloc())?;
+    assert!(rt;
+        prints_over_any(
+            rt.alloc(),
+            line,
+            events.as_str(),
+            "< 0 NOT_FOUND\\r\\n\nreload unchecked generation=2\nreload unchecked generation=3\n< 0 VALUE a 0 1\\r\\n7\\r\\nEND\\r\\n\ndone 2 commands 2 calls 1 stale\n"
+        )?
+    );
+    Ok(())
+}
+
+/// A configuration's line, and sixteen lines that load it again.
+fn sixteen_reloads(alloc: Global) -> Result<String, AllocError> {
+    let line = two_servers(alloc, "\"PoolRoute|A\"")?;
+    let mut script = String::from_str(alloc, line.as_str())?;
+    for _ in 0..16 {
+        script.push_str("reload ")?;
+        script.push_str(line.as_str())?;
+    }
+    Ok(script)
+}
+
+/// The lines of the generations 2 to 16, and of the reload behind them.
+fn sixteen_lines(alloc: Global) -> Result<String, Fail> {
+    let mut lines = String::new(alloc);
+    for generation in 2..17 {
+        writeln!(&mut lines, "reload accepted generation={}", generation)?;
+    }
+    lines.push_str("reload refused: too many generations\ndone 0 commands 0 calls 0 stale\n")?;
+    Ok(lines)
+}
+
+#[test]
+fn sixteen_generations(rt: HostRuntime) -> Result<(), Fail> {
+    let script = sixteen_reloads(rt.alloc())?;
+    let lines = sixteen_lines(rt.alloc())?;
+    assert!(rt; prints(rt.alloc(), script.as_str(), lines.as_str()));
+    Ok(())
+}

@@ -1,26 +1,41 @@
 -- From the script that was read to what its text says, and from what a drive did to what was printed of it.
-use Rattle.std.proofs.Common.{◌≡◌, ℕ, ◌≤◌, arith, ◌<◌, ◌++◌, Bool, true, false, List, [], ◌∷◌, length, Option, Some, None, Result, Ok, Err, refl, sym, ap, ◌∙◌, subst, inl, inr, append_assoc}
-use Rattle.std.specs.Prelude.{slice_get, IsSome, IfOk, IfErr}
+use Rattle.std.proofs.Common.{◌≡◌, ℕ, ◌+◌, ◌-◌, ◌≤◌, arith, ◌<◌, ◌++◌, Bool, true, false, List, [], ◌∷◌, length, map, take, drop, get_or, slice_get, zero, suc, Option, Some, None, Result, Ok, Err, refl, sym, ap, ◌∙◌, subst, inl, inr, append_assoc}
+use Rattle.std.specs.Prelude.{IsSome, IfOk, IfErr, ◌⊎◌}
 use Rattle.std.specs.Io.KnownBytes.{Appends}
-use Rattle.std.proofs.lemmas.List.{length-map}
-use Rattle.std.proofs.lemmas.Option.{slice_get-get_or}
-use Rattle.route_tree.specs.Route.{Route}
+use Rattle.std.proofs.Math.Seq.{drop-cons}
+use Rattle.std.proofs.lemmas.List.{length-map, take_all, drop_all, take-map, drop-map}
+use Rattle.std.proofs.lemmas.Option.{slice_get-get_or, slice_get_within}
+use Rattle.route_tree.specs.Direct.{DirectIsOneServer}
 use Rattle.route_json.specs.Configuration.{Configuration}
+use Rattle.route_json.specs.Servers.{Addresses}
 use Rattle.script_text.specs.FirstLine.{WhyNot}
-use Rattle.script_text.specs.Script.{Told, bad_line, bad_event_line, either, servers_said, events_said, lines_said, IsScriptOf, ReadsScript, Numbered}
+use Rattle.script_text.specs.Printed.{shown_lines, report_line}
+use Rattle.script_text.specs.Script.{Told, bad_line, bad_event_line, either, servers_said, events_said, lines_said, servers_known, AreChainedFrom, IsScriptOf, ReadsScript, Numbered}
 use Rattle.script_text.specs.declared.configured.ConfiguredScript.{ConfiguredScript}
+use Rattle.fleet_run.specs.declared.script.Output.{Output}
+use Rattle.fleet_run.specs.declared.script.Reload.{Reload}
 use Rattle.fleet_run.specs.declared.script.Report.{Report}
 use Rattle.fleet_run.specs.declared.script.Transcript.{Transcript}
 use Rattle.fleet_run.specs.declared.script.DriveFault.{DriveFault}
-use Rattle.fleet_run.specs.Scripted.{Scripted, scripted_of, transcript_of}
+use Rattle.fleet_run.specs.declared.script.DriveFault.TheVariants as faults
+use Rattle.fleet_run.specs.Scripted.{Scripted, Shown, shown_by, scripted_of, transcript_of}
 use Rattle.fleet_run.specs.Bad.{first_bad}
-use Rattle.fleet_run.specs.Driving.{Drives, EndsAsFault}
+use Rattle.fleet_run.specs.Driving.{Drives, DrivesPart}
+use Rattle.fleet_run.specs.Reloads.{AreInOrder, DrivesBy, DrivesPartBy, EndsBy}
+use Rattle.fleet_run.proofs.Reloading.{drives, ends_as}
 use Rattle.fresh_gate.specs.Gate.{IsCertified}
-use Rattle.fresh_gate.specs.Sound.{IsLast}
-use Rattle.accepted_run.specs.Freshly.{DrivesFreshly, EndsFreshly}
+use Rattle.fresh_gate.specs.Sound.{IsLast, AreGenerations, trees_of}
+use Rattle.fresh_gate.specs.Reload.{AreKept}
+use Rattle.memory_fleet.specs.declared.fleet.MemoryFleet.{MemoryFleet}
+use Rattle.memory_fleet.specs.Fleets.{IsNewFleet, count_of}
+use Rattle.script_text.specs.declared.configured.ScriptFault.{ScriptFault}
+use Rattle.accepted_run.specs.declared.judging.Loading.{Loading}
+use Rattle.accepted_run.specs.Freshly.{InUse}
+use Rattle.accepted_run.specs.Reloads.{AreChained, AreJudged, Judges, ReloadsFreshly, ReloadsPartFreshly, EndsReloads, is_refused}
+use Rattle.config_check.specs.Checking.{PrintsRefused, StopsUnwritten}
 use Rattle.config_check.specs.declared.status.RunFault.{RunFault}
 use Rattle.config_check.specs.declared.status.RunFault.TheVariants.{NoMemory, Writer}
-use Rattle.replay.specs.Replay.{ReplaysTold, RunsScript, RunsGood, RunsTree, BreaksTreeOff, BreaksScriptOff, BreaksOff, Wrote, BrokeOff, events_of, servers_of}
+use Rattle.replay.specs.Replay.{ReplaysTold, RunsScript, RunsGood, RunsTree, BreaksTreeOff, BreaksScriptOff, BreaksOff, Wrote, BrokeOff, AreLoadings, HasReloads, events_of, reloads_of, servers_of, load_line, load_lines, with_loads, transcript_lines}
 
 pub both_written : (old mid new : Option (List ℕ)) (a b : List ℕ) → Appends old mid a → Appends mid new b → Appends old new (a ++ b)
 both_written None mid new a b x y = tt
@@ -31,8 +46,123 @@ both_written (Some xs) (Some ys) (Some zs) a b x y = y ∙ ap (λ (t : List ℕ)
 pub is_there : (lines : List ℕ) (at : ℕ) (o : Option ℕ) → o ≡ slice_get lines at → at < length lines → IsSome o
 is_there lines at o e lt = rw (e, slice_get-get_or lines at 0 lt)
 
-runs_said : (any : Bool) (t : Told) (script : ConfiguredScript) (old new : Option (List ℕ)) (status : ℕ) → IsScriptOf t script → RunsGood any script.config (events_of script) old new status → RunsGood any t.configuration (events_said t) old new status
-runs_said any t script old new status h p = rw (← h.configuration, ← h.events) p
+-- ---- the lines of outputs and reloads
+
+-- so many as are there
+capped : (xs : List Output) (k n : ℕ) → (k ≤ n) × (k ≤ length xs) → (k ≡ n) ⊎ (k ≡ length xs) → (take k xs ≡ take n xs) × (drop k xs ≡ drop n xs)
+capped xs k n fits (inl e) = (ap (λ (m : ℕ). take m xs) e, ap (λ (m : ℕ). drop m xs) e)
+capped xs k n fits (inr e) =
+    let f = fits.0 in
+    let all : length xs ≤ n = omega (arith, e, f) in
+    let here : length xs ≤ k = omega (arith, e) in
+    (take_all k xs here ∙ sym (take_all n xs all), drop_all k xs here ∙ sym (drop_all n xs all))
+
+module _ (any : Bool) (reloads : List Reload) (loadings : List Loading) (marks : List ℕ) where
+  -- what is still to be written, where so many reloads have their lines
+  abbrev pub left : (number before : ℕ) → List Output → List ℕ
+  left number before rest = with_loads before (map shown_by rest) (drop number marks) (load_lines any number (drop number reloads) loadings)
+
+  pub one_more_load : (number before mark cut due : ℕ) (reload : Reload) (rest shown later : List Output) → number < length marks → number < length reloads → mark ≡ get_or marks number 0 → reload ≡ get_or reloads number reload
+      → cut ≡ mark - before → (due ≤ cut) × (due ≤ length rest) → (due ≡ cut) ⊎ (due ≡ length rest) → shown ≡ take due rest → later ≡ drop due rest
+      → left number before rest ≡ shown_lines (map shown_by shown) ++ load_line any number reload (slice_get loadings number) ++ left (number + 1) mark later
+  one_more_load number before mark cut due reload rest shown later marked there mark_is reload_is cut_is fits is shown_is later_is =
+      let ends = capped rest due cut fits is in
+      let head = ap (λ (n : ℕ). take n rest) (sym cut_is) ∙ sym ends.0 ∙ sym shown_is in
+      let tail = ap (λ (n : ℕ). drop n rest) (sym cut_is) ∙ sym ends.1 ∙ sym later_is in
+      let next : suc number ≡ number + 1 = omega arith in
+      let ms = drop-cons marks number 0 marked ∙ ap (λ (n : ℕ). get_or marks number 0 ∷ drop n marks) next ∙ ap (λ (m : ℕ). m ∷ drop (number + 1) marks) (sym mark_is) in
+      let rs = drop-cons reloads number reload there ∙ ap (λ (n : ℕ). get_or reloads number reload ∷ drop n reloads) next ∙ ap (λ (r : Reload). r ∷ drop (number + 1) reloads) (sym reload_is) in
+      let line = load_line any number reload (slice_get loadings number) in
+      let behind = load_lines any (number + 1) (drop (number + 1) reloads) loadings in
+      ap (λ (m : List ℕ). with_loads before (map shown_by rest) m (load_lines any number (drop number reloads) loadings)) ms
+      ∙ ap (λ (r : List Reload). with_loads before (map shown_by rest) (mark ∷ drop (number + 1) marks) (load_lines any number r loadings)) rs
+      ∙ ap (λ (s : List Shown). shown_lines s ++ line ++ with_loads mark (drop (mark - before) (map shown_by rest)) (drop (number + 1) marks) behind) (take-map shown_by (mark - before) rest ∙ ap (map shown_by) head)
+      ∙ ap (λ (s : List Shown). shown_lines (map shown_by shown) ++ line ++ with_loads mark s (drop (number + 1) marks) behind) (drop-map shown_by (mark - before) rest ∙ ap (map shown_by) tail)
+
+  -- where no further reload has a mark, or none is there
+  no_lines : (before : ℕ) (shown : List Shown) (ms : List ℕ) → with_loads before shown ms [] ≡ shown_lines shown
+  no_lines before shown [] = refl
+  no_lines before shown (m ∷ ms) = refl
+
+  pub none_left : (number before : ℕ) (rest : List Output) → (length marks ≤ number) ⊎ (length reloads ≤ number) → left number before rest ≡ shown_lines (map shown_by rest)
+  none_left number before rest (inl few) = ap (λ (m : List ℕ). with_loads before (map shown_by rest) m (load_lines any number (drop number reloads) loadings)) (drop_all number marks few)
+  none_left number before rest (inr few) =
+      ap (λ (r : List Reload). with_loads before (map shown_by rest) (drop number marks) (load_lines any number r loadings)) (drop_all number reloads few) ∙ no_lines before (map shown_by rest) (drop number marks)
+
+-- a count that ended by the end of one of two lists
+pub ended : (a b count n : ℕ) → (count ≡ a) ⊎ (count ≡ b) → count ≤ n → (a ≤ n) ⊎ (b ≤ n)
+ended a b count n (inl e) le = inl (omega (arith, e, le))
+ended a b count n (inr e) le = inr (omega (arith, e, le))
+
+-- ---- servers
+
+there : (xs : Addresses) (i : ℕ) → i < length xs → (e : List ℕ) × (slice_get xs i ≡ Some e)
+there [] i lt = absurd (omega (arith, lt))
+there (z ∷ xs) zero lt = (z, refl)
+there (z ∷ xs) (suc i) lt = there xs i (omega (arith, lt))
+
+no_fewer : (used new : Addresses) → AreKept used new → length used ≤ length new
+no_fewer [] new kept = omega arith
+no_fewer (x ∷ xs) new kept =
+    let lt : length xs < length (x ∷ xs) = omega arith in
+    let last = there (x ∷ xs) (length xs) lt in
+    let within = slice_get_within new (length xs) last.0 (kept (length xs) lt ∙ last.1) in
+    omega (arith, within)
+
+-- those of the first configuration are among those known in the end
+pub first_few : (used : Addresses) (rs : List Reload) → AreChainedFrom used rs → length used ≤ length (servers_known used rs)
+first_few used [] chained = omega arith
+first_few used (r ∷ rs) chained =
+    let one = no_fewer used r.config.servers chained.0 in
+    let more = first_few r.config.servers rs chained.1 in
+    omega (arith, one, more)
+
+pub chained_also : (used : Addresses) (rs : List Reload) → AreChainedFrom used rs → AreChained used rs
+chained_also used [] chained = chained
+chained_also used (r ∷ rs) chained = (chained.0, chained_also r.config.servers rs chained.1)
+
+pub enough : (script : ConfiguredScript) (servers : ℕ) (fleet : MemoryFleet) → servers ≡ servers_of script → IsNewFleet servers fleet → HasReloads script → length script.config.servers ≤ count_of fleet
+enough script servers fleet is new has =
+    let few = first_few script.config.servers (reloads_of script) has.chained in
+    let count = new.count in
+    omega (arith, few, is, count)
+
+pub in_order : (script : ConfiguredScript) (reloads : List Reload) (servers : ℕ) (fleet : MemoryFleet) → reloads ≡ reloads_of script → servers ≡ servers_of script → IsNewFleet servers fleet → HasReloads script → AreInOrder (length script.script.events.items) (count_of fleet) 0 reloads
+in_order script reloads servers fleet same is new has =
+    subst (λ (rs : List Reload). AreInOrder (length script.script.events.items) (count_of fleet) 0 rs) (sym same)
+    (subst (λ (n : ℕ). AreInOrder (length script.script.events.items) n 0 (reloads_of script)) (sym (new.count ∙ is)) has.order)
+
+pub new_fleet : (servers : ℕ) (fleet : MemoryFleet) → IsNewFleet servers fleet → IsNewFleet (count_of fleet) fleet
+new_fleet servers fleet new = subst (λ (n : ℕ). IsNewFleet n fleet) (sym new.count) new
+
+same : (a b : Configuration) → Some a ≡ Some b → a ≡ b
+same a b e = cc
+
+-- what the gate is asked for, the first configuration alone being in use
+pub chain_in_use : (script : ConfiguredScript) (accepted : List Configuration) (rs : List Reload) → rs ≡ reloads_of script → accepted ≡ script.config ∷ [] → HasReloads script → InUse accepted (λ config. AreChained config.servers rs)
+chain_in_use script accepted rs rs_are one has config last =
+    let is = same script.config config (subst (λ (cs : List Configuration). IsLast cs config) one last) in
+    subst (λ (x : List Reload). AreChained config.servers x) (sym rs_are)
+    (subst (λ (c : Configuration). AreChained c.servers (reloads_of script)) is (chained_also script.config.servers (reloads_of script) has.chained))
+
+pub are_judged : (first : Configuration) (rs : List Reload) (ls : List Loading) (refused : List Bool) (before accepted : List Configuration) → before ≡ first ∷ [] → Judges before rs ls accepted → refused ≡ map is_refused ls → AreJudged first rs ls refused accepted
+are_judged first rs ls refused before accepted one judged are =
+    record { configs = before; first_is = subst (λ (cs : List Configuration). IsLast cs first) (sym one) refl; judged = judged; refused_are = are }
+
+pub are_loadings : (first : Configuration) (reloads rs : List Reload) (ls : List Loading) (before accepted : List Configuration) → rs ≡ reloads → IsCertified first.tree → before ≡ first ∷ [] → Judges before rs ls accepted → AreGenerations (trees_of accepted) → AreLoadings false first reloads ls
+are_loadings first reloads rs ls before accepted rs_are certified one judged generations =
+    (certified, accepted, subst (λ (x : List Reload). Judges (first ∷ []) x ls accepted) rs_are (subst (λ (cs : List Configuration). Judges cs rs ls accepted) one judged), generations)
+
+pub has_reloads : (read : Result ConfiguredScript ScriptFault)
+    → IfOk read (λ s. AreInOrder (length s.script.events.items) (length (servers_known s.config.servers s.reloads.items)) 0 s.reloads.items)
+    → IfOk read (λ s. AreChainedFrom s.config.servers s.reloads.items) → IfOk read HasReloads
+has_reloads (Ok s) order chained = record { order = order; chained = chained }
+has_reloads (Err fault) order chained = tt
+
+-- ---- what a text says
+
+runs_said : (any : Bool) (t : Told) (script : ConfiguredScript) (old new : Option (List ℕ)) (status : ℕ) → IsScriptOf t script → RunsGood any script.config (reloads_of script) (events_of script) old new status → RunsGood any t.configuration t.loads (events_said t) old new status
+runs_said any t script old new status h p = rw (← h.configuration, ← h.events, ← h.reloads) p
 
 either_none : (o : Option ℕ) → either o None ≡ o
 either_none None = refl
@@ -48,7 +178,8 @@ paired (Ok t) script h =
 bad_is : (t : Told) (script : ConfiguredScript) → IsScriptOf t script → bad_line (Ok t) ≡ bad_event_line (servers_of script) (events_of script) script.lines.items
 bad_is t script h =
     ap (λ (o : Option ℕ). either (bad_event_line (servers_said t) (events_said t) (lines_said t)) o) h.whole ∙ either_none (bad_event_line (servers_said t) (events_said t) (lines_said t))
-    ∙ ap (λ (c : Configuration). bad_event_line (length c.servers) (events_said t) (lines_said t)) (sym h.configuration)
+    ∙ ap (λ (c : Configuration). bad_event_line (length (servers_known c.servers t.loads)) (events_said t) (lines_said t)) (sym h.configuration)
+    ∙ ap (λ (rs : List Reload). bad_event_line (length (servers_known script.config.servers rs)) (events_said t) (lines_said t)) (sym h.reloads)
     ∙ ap (λ (es : List Scripted). bad_event_line (servers_of script) es (lines_said t)) (sym h.events)
     ∙ ap (λ (ls : List ℕ). bad_event_line (servers_of script) (events_of script) ls) (sym h.lines)
 
@@ -57,8 +188,8 @@ replays any (Err why) script old new status h r = absurd h
 replays any (Ok t) script old new status h (inl r) = inl (record { script = t; said = refl; good = bad_is t script h ∙ rw (r.good) refl; runs = runs_said any t script old new status h r.runs })
 replays any (Ok t) script old new status h (inr r) = inr (r.0, inr (record { line = r.1.line; bad = bad_is t script h ∙ r.1.bad; printed = r.1.printed }))
 
-broken_said : (any : Bool) (t : Told) (script : ConfiguredScript) (old new : Option (List ℕ)) → IsScriptOf t script → BreaksTreeOff any script.config.tree (events_of script) old new NoMemory → BreaksTreeOff any t.configuration.tree (events_said t) old new NoMemory
-broken_said any t script old new h p = rw (← h.configuration, ← h.events) p
+broken_said : (any : Bool) (t : Told) (script : ConfiguredScript) (old new : Option (List ℕ)) → IsScriptOf t script → BreaksTreeOff any script.config (reloads_of script) (events_of script) old new NoMemory → BreaksTreeOff any t.configuration t.loads (events_said t) old new NoMemory
+broken_said any t script old new h p = rw (← h.configuration, ← h.events, ← h.reloads) p
 
 pub breaks_off : (any : Bool) (t : Result Told WhyNot) (script : ConfiguredScript) (old new : Option (List ℕ)) (fault : RunFault) → ReadsScript t (Ok script) → BreaksScriptOff any script old new fault → BreaksOff any t old new fault
 breaks_off any (Err why) script old new fault h b = absurd h
@@ -68,71 +199,108 @@ breaks_off any (Ok t) script old new Writer h b = tt
 true_is_not_false : true ≡ false → ⊥
 true_is_not_false e = cc
 
-module _ (tree : Route) (events : List Scripted) (driven : Result Report DriveFault) (transcript : Transcript) (old new : Option (List ℕ)) where
-  -- through a tree that no gate has seen
-  pub runs_any : IfOk driven (Drives tree events (transcript_of transcript)) → Wrote driven transcript old new → RunsTree true tree events old new
-  runs_any ran w = record {
-    shown = transcript_of transcript;
-    report = w.report;
-    drives = subst (λ (r : Result Report DriveFault). IfOk r (Drives tree events (transcript_of transcript))) w.driven_is ran;
-    printed = w.printed;
-    accepted = λ e. absurd (true_is_not_false e);
-    fresh = λ e. absurd (true_is_not_false e);
-    none_stale = λ e. absurd (true_is_not_false e);
-  }
+-- ---- what a drive did
 
-  pub breaks_any : IfErr driven (EndsAsFault tree events transcript) → (fault : RunFault) → BrokeOff driven transcript old new fault → BreaksTreeOff true tree events old new fault
-  breaks_any ends NoMemory b = inr (record {
-    shown = transcript_of transcript;
-    part = subst (λ (r : Result Report DriveFault). IfErr r (EndsAsFault tree events transcript)) b.0 ends;
-    printed = b.1;
-    accepted = λ e. absurd (true_is_not_false e);
-    fresh = λ e. absurd (true_is_not_false e);
-  })
-  breaks_any ends Writer b = tt
+module _ (law : DirectIsOneServer) (config : Configuration) (reloads : List Reload) (loadings : List Loading) (events : List Scripted) where
+  alone : (shown : List Shown) (marks : List ℕ) (report : Report) → DrivesBy config.tree (map is_refused loadings) reloads events shown marks report → reloads ≡ [] → Drives config.tree events shown report
+  alone shown marks report d none =
+      drives law config.tree (map is_refused loadings) events shown marks report (subst (λ (rs : List Reload). DrivesBy config.tree (map is_refused loadings) rs events shown marks report) none d)
 
-  -- through an accepted tree
-  pub runs_accepted : IsCertified tree → IfOk driven (DrivesFreshly tree events (transcript_of transcript)) → Wrote driven transcript old new → RunsTree false tree events old new
-  runs_accepted certified ran w =
-      let freshly = subst (λ (r : Result Report DriveFault). IfOk r (DrivesFreshly tree events (transcript_of transcript))) w.driven_is ran in
-      record {
-        shown = transcript_of transcript;
-        report = w.report;
-        drives = freshly.drives;
-        printed = w.printed;
-        accepted = λ e. certified;
-        fresh = λ e. freshly.fresh;
-        none_stale = λ e. freshly.none_stale;
-      }
+  part_alone : (t : Transcript) (marks : List ℕ) → DrivesPartBy config.tree (map is_refused loadings) reloads events (transcript_of t) marks → reloads ≡ [] → DrivesPart config.tree events (transcript_of t)
+  part_alone t marks d none =
+      ends_as law config.tree (map is_refused loadings) events t marks faults.NoMemory (subst (λ (rs : List Reload). DrivesPartBy config.tree (map is_refused loadings) rs events (transcript_of t) marks) none d)
 
-  pub breaks_accepted : IsCertified tree → IfErr driven (EndsFreshly tree events transcript) → (fault : RunFault) → BrokeOff driven transcript old new fault → BreaksTreeOff false tree events old new fault
-  breaks_accepted certified ends NoMemory b =
-      let freshly = subst (λ (r : Result Report DriveFault). IfErr r (EndsFreshly tree events transcript)) b.0 ends in
-      inr (record {
-        shown = transcript_of transcript;
-        part = freshly.part;
-        printed = b.1;
-        accepted = λ e. certified;
-        fresh = λ e. freshly.fresh;
-      })
-  breaks_accepted certified ends Writer b = tt
+  module _ (driven : Result Report DriveFault) (t : Transcript) (marks : List ℕ) (old new : Option (List ℕ)) (rs : List Reload) (ls : List Loading) (ms : List ℕ) (rs_are : rs ≡ reloads) (ls_are : ls ≡ loadings) (ms_are : ms ≡ marks) where
+    lines_are : (any : Bool) → transcript_lines any rs ls (transcript_of t) ms ≡ transcript_lines any reloads loadings (transcript_of t) marks
+    lines_are any =
+        ap (λ (r : List Reload). transcript_lines any r ls (transcript_of t) ms) rs_are
+        ∙ ap (λ (l : List Loading). transcript_lines any reloads l (transcript_of t) ms) ls_are
+        ∙ ap (λ (m : List ℕ). transcript_lines any reloads loadings (transcript_of t) m) ms_are
 
-good_status : (any : Bool) (config : Configuration) (events : List Scripted) (old new : Option (List ℕ)) (status : ℕ) → RunsGood any config events old new status → status ≤ 1
-good_status any config events old new status (inl ran) = let e = ran.0 in omega (arith, e)
-good_status any config events old new status (inr refused) = let e = refused.0 in omega (arith, e)
+    -- through trees that no gate has seen
+    pub runs_any : loadings ≡ [] → IfOk driven (DrivesBy config.tree (map is_refused loadings) rs events (transcript_of t) marks) → Wrote driven (transcript_lines true rs ls (transcript_of t) ms) old new → RunsTree true config reloads events old new
+    runs_any none ran w =
+        let r = subst (λ (r : Result Report DriveFault). IfOk r (DrivesBy config.tree (map is_refused loadings) rs events (transcript_of t) marks)) w.driven_is ran in
+        let d = subst (λ (x : List Reload). DrivesBy config.tree (map is_refused loadings) x events (transcript_of t) marks w.report) rs_are r in
+        record {
+          loadings = loadings;
+          shown = transcript_of t;
+          marks = marks;
+          report = w.report;
+          drives = d;
+          printed = subst (λ (l : List ℕ). Appends old new (l ++ report_line w.report)) (lines_are true) w.printed;
+          are_loadings = none;
+          fresh = λ e. absurd (true_is_not_false e);
+          none_stale = λ e. absurd (true_is_not_false e);
+          alone = alone (transcript_of t) marks w.report d;
+        }
+
+    pub breaks_any : loadings ≡ [] → IfErr driven (EndsBy config.tree (map is_refused loadings) rs events t marks) → (fault : RunFault) → BrokeOff driven (transcript_lines true rs ls (transcript_of t) ms) old new fault → BreaksTreeOff true config reloads events old new fault
+    breaks_any none ends NoMemory b =
+        let r = subst (λ (r : Result Report DriveFault). IfErr r (EndsBy config.tree (map is_refused loadings) rs events t marks)) b.0 ends in
+        let d = subst (λ (x : List Reload). DrivesPartBy config.tree (map is_refused loadings) x events (transcript_of t) marks) rs_are r in
+        inr (record {
+          loadings = loadings;
+          shown = transcript_of t;
+          marks = marks;
+          part = d;
+          printed = subst (λ (l : List ℕ). Appends old new l) (lines_are true) b.1;
+          are_loadings = none;
+          fresh = λ e. absurd (true_is_not_false e);
+          alone = part_alone t marks d;
+        })
+    breaks_any none ends Writer b = tt
+
+    -- through trees that the gate accepted
+    pub runs_accepted : AreLoadings false config reloads loadings → IfOk driven (ReloadsFreshly config.tree loadings rs events (transcript_of t) marks) → Wrote driven (transcript_lines false rs ls (transcript_of t) ms) old new → RunsTree false config reloads events old new
+    runs_accepted judged ran w =
+        let r = subst (λ (r : Result Report DriveFault). IfOk r (ReloadsFreshly config.tree loadings rs events (transcript_of t) marks)) w.driven_is ran in
+        let freshly = subst (λ (x : List Reload). ReloadsFreshly config.tree loadings x events (transcript_of t) marks w.report) rs_are r in
+        record {
+          loadings = loadings;
+          shown = transcript_of t;
+          marks = marks;
+          report = w.report;
+          drives = freshly.drives;
+          printed = subst (λ (l : List ℕ). Appends old new (l ++ report_line w.report)) (lines_are false) w.printed;
+          are_loadings = judged;
+          fresh = λ e. freshly.fresh;
+          none_stale = λ e. freshly.none_stale;
+          alone = alone (transcript_of t) marks w.report freshly.drives;
+        }
+
+    pub breaks_accepted : AreLoadings false config reloads loadings → IfErr driven (EndsReloads config.tree loadings rs events t marks) → (fault : RunFault) → BrokeOff driven (transcript_lines false rs ls (transcript_of t) ms) old new fault → BreaksTreeOff false config reloads events old new fault
+    breaks_accepted judged ends NoMemory b =
+        let r = subst (λ (r : Result Report DriveFault). IfErr r (EndsReloads config.tree loadings rs events t marks)) b.0 ends in
+        let freshly = subst (λ (x : List Reload). ReloadsPartFreshly config.tree loadings x events (transcript_of t) marks) rs_are r in
+        inr (record {
+          loadings = loadings;
+          shown = transcript_of t;
+          marks = marks;
+          part = freshly.part;
+          printed = subst (λ (l : List ℕ). Appends old new l) (lines_are false) b.1;
+          are_loadings = judged;
+          fresh = λ e. freshly.fresh;
+          alone = part_alone t marks freshly.part;
+        })
+    breaks_accepted judged ends Writer b = tt
+
+-- through a first tree that the gate refused
+pub refused_first : (config refused : Configuration) (reloads : List Reload) (events : List Scripted) (old new : Option (List ℕ)) (status : ℕ) → refused ≡ config → (status ≡ 1) × PrintsRefused refused old new → RunsGood false config reloads events old new status
+refused_first config refused reloads events old new status is p = inr (p.0, refl, subst (λ (c : Configuration). PrintsRefused c old new) is p.1)
+
+pub unwritten : (config : Configuration) (reloads : List Reload) (events : List Scripted) (old new : Option (List ℕ)) (fault : RunFault) → StopsUnwritten old new fault → BreaksTreeOff false config reloads events old new fault
+unwritten config reloads events old new NoMemory kept = inl kept
+unwritten config reloads events old new Writer kept = tt
+
+good_status : (any : Bool) (config : Configuration) (reloads : List Reload) (events : List Scripted) (old new : Option (List ℕ)) (status : ℕ) → RunsGood any config reloads events old new status → status ≤ 1
+good_status any config reloads events old new status (inl ran) = let e = ran.0 in omega (arith, e)
+good_status any config reloads events old new status (inr refused) = let e = refused.0 in omega (arith, e)
 
 pub replays_status : (any : Bool) (t : Result Told WhyNot) (old new : Option (List ℕ)) (status : ℕ) → ReplaysTold any t old new status → status ≤ 2
-replays_status any t old new status (inl ran) = let few = good_status any ran.script.configuration (events_said ran.script) old new status ran.runs in omega (arith, few)
+replays_status any t old new status (inl ran) = let few = good_status any ran.script.configuration ran.script.loads (events_said ran.script) old new status ran.runs in omega (arith, few)
 replays_status any t old new status (inr bad) = let e = bad.0 in omega (arith, e)
 
 -- the line of an event that can't be
 pub event_line : (servers n : ℕ) (events : List Scripted) (lines : List ℕ) (at : ℕ) (o : Option ℕ) (line : ℕ) → n ≡ servers → Some at ≡ first_bad n events → o ≡ slice_get lines at → o ≡ Some line → bad_event_line servers events lines ≡ Some line
 event_line servers n events lines at o line e found is some = rw (← e, ← found, ← is) some
-
-same : (a b : Configuration) → Some a ≡ Some b → a ≡ b
-same a b e = cc
-
--- of a configuration that is in use alone
-pub certified_alone : (configs : List Configuration) (config used : Configuration) → configs ≡ config ∷ [] → IsLast configs used → IsCertified config.tree → IsCertified used.tree
-certified_alone configs config used one last certified =
-    subst (λ (c : Configuration). IsCertified c.tree) (same config used (subst (λ (l : List Configuration). IsLast l used) one last)) certified

@@ -1,28 +1,33 @@
 -- What a replay prints, by how it ends. Source: mcgate's own.
-use Rattle.std.specs.Prelude.{◌≡◌, ℕ, Bool, false, ◌++◌, ◌⊎◌, List, length, map, take, Option, Some, None, Result, Ok, Err}
+use Rattle.std.specs.Prelude.{◌≡◌, ℕ, ◌+◌, ◌-◌, Bool, true, false, ◌++◌, ◌⊎◌, List, [], ◌∷◌, length, map, take, drop, slice_get, Option, Some, None, Result, Ok, Err}
 use Rattle.std.specs.Io.KnownBytes.{Appends}
 use Rattle.mc_runs.specs.Run.{IsFresh}
 use Rattle.mc_runs.specs.Log.{run_of}
-use Rattle.route_tree.specs.Route.{Route}
 use Rattle.route_json.specs.declared.fault.ConfigFault.{ConfigFault}
 use Rattle.route_json.specs.Configuration.{Configuration}
+use Rattle.route_json.specs.Servers.{Addresses}
 use Rattle.fresh_gate.specs.Gate.{IsCertified}
-use Rattle.fresh_gate.specs.Sound.{IsLast}
+use Rattle.fresh_gate.specs.Sound.{AreGenerations, trees_of}
 use Rattle.fleet_run.specs.declared.script.Script.{Script}
+use Rattle.fleet_run.specs.declared.script.Reload.{Reload}
 use Rattle.fleet_run.specs.declared.script.Report.{Report}
-use Rattle.fleet_run.specs.declared.script.Transcript.{Transcript}
 use Rattle.fleet_run.specs.declared.script.DriveFault.{DriveFault}
 use Rattle.fleet_run.specs.declared.script.DriveFault.TheVariants as drive_faults
-use Rattle.fleet_run.specs.Scripted.{Scripted, Shown, scripted_of, transcript_of}
+use Rattle.fleet_run.specs.Scripted.{Scripted, Shown, scripted_of}
 use Rattle.fleet_run.specs.Opening.{opening_of}
 use Rattle.fleet_run.specs.Driving.{Drives, DrivesPart}
+use Rattle.fleet_run.specs.Reloads.{AreInOrder, DrivesBy, DrivesPartBy}
+use Rattle.accepted_run.specs.declared.judging.Loading.{Loading}
+use Rattle.accepted_run.specs.declared.judging.Loading.TheVariants.{Loaded, Refused}
+use Rattle.accepted_run.specs.Reloads.{Judges, is_refused}
 use Rattle.script_text.specs.FirstLine.{WhyNot, TellsFault}
-use Rattle.script_text.specs.Script.{Told, told, told_over, bad_line, bad_event_line, events_said, ReadsScript}
+use Rattle.script_text.specs.Script.{Told, told, told_over, bad_line, bad_event_line, events_said, servers_known, AreChainedFrom, ReadsScript}
 use Rattle.script_text.specs.declared.configured.ConfiguredScript.{ConfiguredScript}
 use Rattle.script_text.specs.declared.configured.ScriptFault.{ScriptFault}
 use Rattle.script_text.specs.Printed.{shown_lines, report_line, bad_line_line, config_fault_line}
 use Rattle.fleet_run.specs.Bad.{first_bad}
 use Rattle.config_check.specs.Checking.{PrintsRefused}
+use Rattle.config_check.specs.Reloads.{loaded_line, unchecked_line, kept_line}
 use Rattle.config_check.specs.declared.status.RunFault.{RunFault}
 use Rattle.config_check.specs.declared.status.RunFault.TheVariants.{NoMemory, Writer}
 
@@ -34,65 +39,105 @@ scripted script = map scripted_of script.events.items
 abbrev pub events_of : ConfiguredScript → List Scripted
 events_of script = scripted script.script
 
--- how many servers it has
+-- the configurations that it loads
+abbrev pub reloads_of : ConfiguredScript → List Reload
+reloads_of script = script.reloads.items
+
+-- how many servers all its configurations have together
 abbrev pub servers_of : ConfiguredScript → ℕ
-servers_of script = length script.config.servers
+servers_of script = length (servers_known script.config.servers script.reloads.items)
+
+-- ---- the lines of a transcript
+
+-- the line of what the gate answered to a configuration of these servers
+abbrev pub loading_line : Addresses → Loading → List ℕ
+loading_line servers (Loaded generation) = loaded_line generation
+loading_line servers (Refused fault) = kept_line servers fault
+
+-- the line of a reload of this number, counted from 0: what the gate answered, or where it isn't asked that it is the next generation; the first configuration is generation 1
+abbrev pub load_line : Bool → ℕ → Reload → Option Loading → List ℕ
+load_line true number reload loading = unchecked_line (number + 2)
+load_line false number reload None = []
+load_line false number reload (Some loading) = loading_line reload.config.servers loading
+
+-- the lines of reloads, of which the first has this number
+abbrev pub load_lines : Bool → ℕ → List Reload → List Loading → List (List ℕ)
+load_lines any number [] loadings = []
+load_lines any number (reload ∷ reloads) loadings = load_line any number reload (slice_get loadings number) ∷ load_lines any (number + 1) reloads loadings
+
+-- the lines of outputs and of reloads: each reload's stands before the output of its mark, counted from 0, or after the last; so many outputs stand before these. A reload without a mark has no line
+abbrev pub with_loads : ℕ → List Shown → List ℕ → List (List ℕ) → List ℕ
+with_loads before shown [] lines = shown_lines shown
+with_loads before shown (mark ∷ marks) [] = shown_lines shown
+with_loads before shown (mark ∷ marks) (line ∷ lines) = shown_lines (take (mark - before) shown) ++ line ++ with_loads mark (drop (mark - before) shown) marks lines
+
+-- the lines of a run's transcript
+abbrev pub transcript_lines : Bool → List Reload → List Loading → List Shown → List ℕ → List ℕ
+transcript_lines any reloads loadings shown marks = with_loads 0 shown marks (load_lines any 0 reloads loadings)
 
 -- ---- what was printed of a script by how it ran
 
--- it ran to its end, and the lines of the transcript and of the report were written
-pub record Wrote (driven : Result Report DriveFault) (transcript : Transcript) (old new : Option (List ℕ)) : Type 0 where
+-- it ran to its end, and these lines and that of the report were written
+pub record Wrote (driven : Result Report DriveFault) (lines : List ℕ) (old new : Option (List ℕ)) : Type 0 where
   pub report : Report
   pub driven_is : driven ≡ Ok report
-  pub printed : Appends old new (shown_lines (transcript_of transcript) ++ report_line report)
+  pub printed : Appends old new (lines ++ report_line report)
 
--- memory was refused, and the lines of the transcript were written; nothing is said of a writer that failed
-abbrev pub BrokeOff : Result Report DriveFault → Transcript → Option (List ℕ) → Option (List ℕ) → RunFault → Type 0
-BrokeOff driven transcript old new NoMemory = (driven ≡ Err drive_faults.NoMemory) × Appends old new (shown_lines (transcript_of transcript))
-BrokeOff driven transcript old new Writer = Unit {0}
+-- memory was refused, and these lines were written; nothing is said of a writer that failed
+abbrev pub BrokeOff : Result Report DriveFault → List ℕ → Option (List ℕ) → Option (List ℕ) → RunFault → Type 0
+BrokeOff driven lines old new NoMemory = (driven ≡ Err drive_faults.NoMemory) × Appends old new lines
+BrokeOff driven lines old new Writer = Unit {0}
 
--- so it is with the tree in use
-abbrev pub IsInUse : List Configuration → (Route → Type 0) → Type 0
-IsInUse configs P = (config : Configuration) → IsLast configs config → P config.tree
+-- ---- a script through a configuration's tree and those that it loads, which are gated unless they may be any
 
--- ---- a script through a tree, which is gated unless it may be any
+-- what became of the reloads: the gate wasn't asked, and each is loaded; or it accepted the first configuration, and answered so of each reload's against all accepted before, and all that it accepted are generations
+abbrev pub AreLoadings : Bool → Configuration → List Reload → List Loading → Type 0
+AreLoadings true config reloads loadings = loadings ≡ []
+AreLoadings false config reloads loadings = IsCertified config.tree × (accepted : List Configuration) × Judges (config ∷ []) reloads loadings accepted × AreGenerations (trees_of accepted)
 
--- the events ran through the tree, and the lines of the transcript and of the report were written. Where the gate was asked it
--- accepted the tree, the run is fresh, and no reply is stale
-pub record RunsTree (any : Bool) (tree : Route) (events : List Scripted) (old new : Option (List ℕ)) : Type 0 where
+-- the events ran, each command through the tree in use when it began, and the lines of the transcript and of the report were written. Where the gate was asked the run is fresh, and no reply is stale
+pub record RunsTree (any : Bool) (config : Configuration) (reloads : List Reload) (events : List Scripted) (old new : Option (List ℕ)) : Type 0 where
+  pub loadings : List Loading
   pub shown : List Shown
+  pub marks : List ℕ
   pub report : Report
-  pub drives : Drives tree events shown report
-  pub printed : Appends old new (shown_lines shown ++ report_line report)
-  pub accepted : any ≡ false → IsCertified tree
+  pub drives : DrivesBy config.tree (map is_refused loadings) reloads events shown marks report
+  pub printed : Appends old new (transcript_lines any reloads loadings shown marks ++ report_line report)
+  pub are_loadings : AreLoadings any config reloads loadings
   pub fresh : any ≡ false → IsFresh (opening_of events) (run_of drives.log)
   pub none_stale : any ≡ false → report.stale ≡ 0
+  -- where nothing is loaded, all commands have the one tree
+  pub alone : reloads ≡ [] → Drives config.tree events shown report
 
--- a part of the events ran through the tree, and the lines of its transcript were written
-pub record PrintsPart (any : Bool) (tree : Route) (events : List Scripted) (old new : Option (List ℕ)) : Type 0 where
+-- a part of the events ran so, and the lines of its transcript were written
+pub record PrintsPart (any : Bool) (config : Configuration) (reloads : List Reload) (events : List Scripted) (old new : Option (List ℕ)) : Type 0 where
+  pub loadings : List Loading
   pub shown : List Shown
-  pub part : DrivesPart tree events shown
-  pub printed : Appends old new (shown_lines shown)
-  pub accepted : any ≡ false → IsCertified tree
+  pub marks : List ℕ
+  pub part : DrivesPartBy config.tree (map is_refused loadings) reloads events shown marks
+  pub printed : Appends old new (transcript_lines any reloads loadings shown marks)
+  pub are_loadings : AreLoadings any config reloads loadings
   pub fresh : any ≡ false → IsFresh (opening_of (take part.count events)) (run_of part.log)
+  -- where nothing is loaded, all commands have the one tree
+  pub alone : reloads ≡ [] → DrivesPart config.tree events shown
 
 -- memory was refused before the run, and nothing was written; or during it, and the transcript so far was. Nothing is said of a
 -- writer that failed
-abbrev pub BreaksTreeOff : Bool → Route → List Scripted → Option (List ℕ) → Option (List ℕ) → RunFault → Type 0
-BreaksTreeOff any tree events old new NoMemory = (new ≡ old) ⊎ PrintsPart any tree events old new
-BreaksTreeOff any tree events old new Writer = Unit {0}
+abbrev pub BreaksTreeOff : Bool → Configuration → List Reload → List Scripted → Option (List ℕ) → Option (List ℕ) → RunFault → Type 0
+BreaksTreeOff any config reloads events old new NoMemory = (new ≡ old) ⊎ PrintsPart any config reloads events old new
+BreaksTreeOff any config reloads events old new Writer = Unit {0}
 
--- status 0: it ran; status 1: the gate was asked, it refused the configuration, and that was written
-abbrev pub RunsGood : Bool → Configuration → List Scripted → Option (List ℕ) → Option (List ℕ) → ℕ → Type 0
-RunsGood any config events old new status =
-    ((status ≡ 0) × RunsTree any config.tree events old new) ⊎ ((status ≡ 1) × (any ≡ false) × PrintsRefused config old new)
+-- status 0: it ran; status 1: the gate was asked, it refused the first configuration, and that was written
+abbrev pub RunsGood : Bool → Configuration → List Reload → List Scripted → Option (List ℕ) → Option (List ℕ) → ℕ → Type 0
+RunsGood any config reloads events old new status =
+    ((status ≡ 0) × RunsTree any config reloads events old new) ⊎ ((status ≡ 1) × (any ≡ false) × PrintsRefused config old new)
 
 -- ---- a script that was read
 
 -- each of its events can be, and it ran or was refused
 pub record RanScript (any : Bool) (script : ConfiguredScript) (old new : Option (List ℕ)) (status : ℕ) : Type 0 where
   pub good : first_bad (servers_of script) (events_of script) ≡ None
-  pub runs : RunsGood any script.config (events_of script) old new status
+  pub runs : RunsGood any script.config (reloads_of script) (events_of script) old new status
 
 -- one can't, and the line of the first was written
 pub record HasBadEvent (script : ConfiguredScript) (old new : Option (List ℕ)) : Type 0 where
@@ -104,7 +149,12 @@ abbrev pub RunsScript : Bool → ConfiguredScript → Option (List ℕ) → Opti
 RunsScript any script old new status = RanScript any script old new status ⊎ ((status ≡ 2) × HasBadEvent script old new)
 
 abbrev pub BreaksScriptOff : Bool → ConfiguredScript → Option (List ℕ) → Option (List ℕ) → RunFault → Type 0
-BreaksScriptOff any script old new fault = BreaksTreeOff any script.config.tree (events_of script) old new fault
+BreaksScriptOff any script old new fault = BreaksTreeOff any script.config (reloads_of script) (events_of script) old new fault
+
+-- its reloads stand in the order of their places, and each list of servers begins with the one before it
+pub record HasReloads (script : ConfiguredScript) : Type 0 where
+  pub order : AreInOrder (length script.script.events.items) (servers_of script) 0 (reloads_of script)
+  pub chained : AreChainedFrom script.config.servers (reloads_of script)
 
 -- ---- what a text says
 
@@ -113,7 +163,7 @@ pub record Ran (any : Bool) (t : Result Told WhyNot) (old new : Option (List ℕ
   pub script : Told
   pub said : t ≡ Ok script
   pub good : bad_line (Ok script) ≡ None
-  pub runs : RunsGood any script.configuration (events_said script) old new status
+  pub runs : RunsGood any script.configuration script.loads (events_said script) old new status
 
 -- a line is bad, and that was written
 pub record HasBadLine (t : Result Told WhyNot) (old new : Option (List ℕ)) : Type 0 where
@@ -135,7 +185,7 @@ ReplaysTold any t old new status = Ran any t old new status ⊎ ((status ≡ 2) 
 pub record RanInPart (any : Bool) (t : Result Told WhyNot) (old new : Option (List ℕ)) : Type 0 where
   pub script : Told
   pub said : t ≡ Ok script
-  pub prints : PrintsPart any script.configuration.tree (events_said script) old new
+  pub prints : PrintsPart any script.configuration script.loads (events_said script) old new
 
 -- memory was refused before the run, and nothing was written; or during it
 abbrev pub IsBrokenOff : Bool → Result Told WhyNot → Option (List ℕ) → Option (List ℕ) → Type 0

@@ -1,6 +1,7 @@
 -- Events that were written as lines are read back.
-use Rattle.std.proofs.Common.{◌≡◌, ℕ, ℤ, ◌+◌, ◌<◌, ◌^◌, false, eqb, List, [], ◌∷◌, ◌++◌, map, codes, Some, None, Result, Ok, All, refl, sym, ap, ◌∙◌, subst, arith, append_assoc}
-use Rattle.std.specs.Prelude.{pos, option_and_then, decimal}
+use Rattle.std.proofs.Common.{◌≡◌, ℕ, ℤ, ◌+◌, ◌<◌, ◌^◌, false, eqb, List, [], ◌∷◌, ◌++◌, map, codes, Option, Some, None, Result, Ok, All, refl, sym, ap, ◌∙◌, subst, arith, append_assoc}
+use Rattle.std.specs.Prelude.{pos, option_and_then, decimal, if◌then◌else◌}
+use Rattle.std.specs.Str.{bytes_eq}
 use Rattle.std.specs.Result.{result_ok}
 use Rattle.std.proofs.lemmas.Bool.{ne_eqb}
 use Rattle.std.proofs.lemmas.List.Splits.{slice_split_at}
@@ -15,8 +16,9 @@ use Rattle.script_text.specs.Escapes.{unescaped}
 use Rattle.script_text.specs.Lines.{Parts, cut, lines_of, is_line_end}
 use Rattle.script_text.specs.Events.{nonzero, client_said, server_said, turn_said, key_said, manner_said, piece_said, hold_said, fail_said, item_loss_said, restart_loss_said, loss_said, at_said, said_behind, event_said}
 use Rattle.route_json.specs.Configuration.{Configuration}
+use Rattle.route_json.specs.Servers.{Addresses}
 use Rattle.script_text.specs.FirstLine.{WhyNot, first_said}
-use Rattle.script_text.specs.Script.{Meaning, Says, line_means, said_or_not, Numbered, and_then, numbered, or_behind, first_unreadable, told_from, told_behind, told_by, told}
+use Rattle.script_text.specs.Script.{Meaning, Says, line_means, said_or_not, reload_said, load_or_event, used_after, count_after, Numbered, and_then, numbered, or_behind, first_unreadable, load_then, loaded, told_from, told_behind, told_by, told}
 use Rattle.script_lines.specs.Lines.{manner_text, loss_line, event_line, script_lines}
 use Rattle.script_lines.specs.Laws.{AreBytes, CanBeLost, IsTurn, HasLine, HaveLines, SaysAll, ScriptsAreReadBack}
 use Rattle.script_text.proofs.ReadBack.{escapes_are_read_back}
@@ -52,6 +54,16 @@ number_lacks byte n lt small = decimal_lacks byte n lt (omega arith)
 event_by : (word text : List ℕ) (event : Scripted) → Lacks 32 word → said_behind word text ≡ Some event → event_said (word ++ 32 ∷ text) ≡ Some event
 event_by word text event lacks said = ap (option_and_then (λ (p : Parts). said_behind p.word p.rest)) (cut_at word text lacks) ∙ said
 
+-- where the first word isn't `reload`, the line says that event, whatever servers are known
+no_reload : (word text : List ℕ) → Lacks 32 word → bytes_eq word (codes "reload") ≡ false → reload_said (word ++ 32 ∷ text) ≡ None
+no_reload word text lacks other =
+    ap (option_and_then (λ (p : Parts). if bytes_eq p.word (codes "reload") then Some p.rest else None)) (cut_at word text lacks) ∙ rw other refl
+
+means_by : (word text : List ℕ) (event : Scripted) → Lacks 32 word → bytes_eq word (codes "reload") ≡ false → said_behind word text ≡ Some event → (used : Addresses)
+    → load_or_event used (reload_said (word ++ 32 ∷ text)) (word ++ 32 ∷ text) ≡ Says event
+means_by word text event lacks other said used =
+    ap (λ (o : Option (List ℕ)). load_or_event used o (word ++ 32 ∷ text)) (no_reload word text lacks other) ∙ ap said_or_not (event_by word text event lacks said)
+
 joined : (a b c : List ℕ) → (((a ++ 32 ∷ []) ++ b) ++ 32 ∷ []) ++ c ≡ a ++ 32 ∷ (b ++ 32 ∷ c)
 joined a b c = append_assoc ((a ++ 32 ∷ []) ++ b) (32 ∷ []) c ∙ append_assoc (a ++ 32 ∷ []) b (32 ∷ c) ∙ append_assoc a (32 ∷ []) (b ++ 32 ∷ c)
 
@@ -60,7 +72,7 @@ record LineOf (event : Scripted) : Type 0 where
   line : List ℕ
   written : event_line event ≡ line ++ 10 ∷ []
   lacks : Lacks 10 line
-  means : line_means line ≡ Says event
+  means : (used : Addresses) → line_means used line ≡ Says event
 
 piece_line : (client : ℕ) (bytes : List ℕ) → HasLine (Piece client bytes) → LineOf (Piece client bytes)
 piece_line client bytes h =
@@ -74,7 +86,7 @@ piece_line client bytes h =
       line = codes "> " ++ (d ++ 32 ∷ escaped bytes);
       written = ap (λ (t : List ℕ). codes "> " ++ (t ++ 10 ∷ [])) (append_assoc d (32 ∷ []) (escaped bytes));
       lacks = lacks_both 10 (codes "> ") (d ++ 32 ∷ escaped bytes) (lacks_by 10 (codes "> ") refl) (lacks_both 10 d (32 ∷ escaped bytes) (number_lacks 10 client (omega arith) (omega arith)) (refl, escaped_lacks bytes h.1));
-      means = ap said_or_not (event_by (codes ">") (d ++ 32 ∷ escaped bytes) (Piece client bytes) (lacks_by 32 (codes ">") refl) said);
+      means = means_by (codes ">") (d ++ 32 ∷ escaped bytes) (Piece client bytes) (lacks_by 32 (codes ">") refl) refl said;
     }
 
 hold_line : (server : ℕ) (key content : List ℕ) → HasLine (Hold server key content) → LineOf (Hold server key content)
@@ -93,7 +105,7 @@ hold_line server key content h =
       line = codes "hold " ++ (d ++ 32 ∷ (k ++ 32 ∷ t));
       written = ap (λ (x : List ℕ). codes "hold " ++ (x ++ 10 ∷ [])) (joined d k t);
       lacks = lacks_both 10 (codes "hold ") (d ++ 32 ∷ (k ++ 32 ∷ t)) (lacks_by 10 (codes "hold ") refl) (lacks_both 10 d (32 ∷ (k ++ 32 ∷ t)) (number_lacks 10 server (omega arith) (omega arith)) (refl, lacks_both 10 k (32 ∷ t) (escaped_lacks key h.2) (refl, escaped_lacks content h.3)));
-      means = ap said_or_not (event_by (codes "hold") (d ++ 32 ∷ (k ++ 32 ∷ t)) (Hold server key content) (lacks_by 32 (codes "hold") refl) said);
+      means = means_by (codes "hold") (d ++ 32 ∷ (k ++ 32 ∷ t)) (Hold server key content) (lacks_by 32 (codes "hold") refl) refl said;
     }
 
 fail_line : (turn : ℕ) (manner : Manner) → IsTurn turn → LineOf (Fail turn manner)
@@ -109,7 +121,7 @@ fail_line turn manner h =
       line = codes "fail " ++ (d ++ 32 ∷ m);
       written = ap (λ (t : List ℕ). codes "fail " ++ (t ++ 10 ∷ [])) (append_assoc d (32 ∷ []) m);
       lacks = lacks_both 10 (codes "fail ") (d ++ 32 ∷ m) (lacks_by 10 (codes "fail ") refl) (lacks_both 10 d (32 ∷ m) (number_lacks 10 turn (omega arith) (omega arith)) (refl, manner_lacks manner));
-      means = ap said_or_not (event_by (codes "fail") (d ++ 32 ∷ m) (Fail turn manner) (lacks_by 32 (codes "fail") refl) said);
+      means = means_by (codes "fail") (d ++ 32 ∷ m) (Fail turn manner) (lacks_by 32 (codes "fail") refl) refl said;
     }
 
 -- the line of what is lost: its first word, and what stands behind it
@@ -120,7 +132,7 @@ record LossLineOf (loss : Loss) : Type 0 where
   one_word : Lacks 32 word
   lacks : Lacks 10 (word ++ 32 ∷ text)
   said : loss_said word text ≡ Some loss
-  means : line_means (word ++ 32 ∷ text) ≡ Says (Now loss)
+  means : (used : Addresses) → line_means used (word ++ 32 ∷ text) ≡ Says (Now loss)
 
 lost_line : (loss : Loss) → CanBeLost loss → LossLineOf loss
 lost_line (Lose server key) h =
@@ -138,7 +150,7 @@ lost_line (Lose server key) h =
       one_word = lacks_by 32 (codes "lose") refl;
       lacks = lacks_both 10 (codes "lose ") (d ++ 32 ∷ k) (lacks_by 10 (codes "lose ") refl) (lacks_both 10 d (32 ∷ k) (number_lacks 10 server (omega arith) (omega arith)) (refl, escaped_lacks key h.2));
       said = said;
-      means = ap said_or_not (event_by (codes "lose") (d ++ 32 ∷ k) (Now (Lose server key)) (lacks_by 32 (codes "lose") refl) (ap (option_and_then (λ (l : Loss). Some (Now l))) said));
+      means = means_by (codes "lose") (d ++ 32 ∷ k) (Now (Lose server key)) (lacks_by 32 (codes "lose") refl) refl (ap (option_and_then (λ (l : Loss). Some (Now l))) said);
     }
 lost_line (Restart server) lt =
     let d = decimal server in
@@ -150,7 +162,7 @@ lost_line (Restart server) lt =
       one_word = lacks_by 32 (codes "restart") refl;
       lacks = lacks_both 10 (codes "restart ") d (lacks_by 10 (codes "restart ") refl) (number_lacks 10 server (omega arith) (omega arith));
       said = said;
-      means = ap said_or_not (event_by (codes "restart") d (Now (Restart server)) (lacks_by 32 (codes "restart") refl) (ap (option_and_then (λ (l : Loss). Some (Now l))) said));
+      means = means_by (codes "restart") d (Now (Restart server)) (lacks_by 32 (codes "restart") refl) refl (ap (option_and_then (λ (l : Loss). Some (Now l))) said);
     }
 
 at_line : (turn : ℕ) (loss : Loss) → IsTurn turn → LossLineOf loss → LineOf (At turn loss)
@@ -167,7 +179,7 @@ at_line turn loss h l =
       line = codes "at " ++ (d ++ 32 ∷ line);
       written = ap (λ (t : List ℕ). codes "at " ++ t) (append_assoc d (32 ∷ []) (loss_line loss) ∙ ap (λ (t : List ℕ). d ++ 32 ∷ t) l.written ∙ sym (append_assoc d (32 ∷ line) (10 ∷ [])));
       lacks = lacks_both 10 (codes "at ") (d ++ 32 ∷ line) (lacks_by 10 (codes "at ") refl) (lacks_both 10 d (32 ∷ line) (number_lacks 10 turn (omega arith) (omega arith)) (refl, l.lacks));
-      means = ap said_or_not (event_by (codes "at") (d ++ 32 ∷ line) (At turn loss) (lacks_by 32 (codes "at") refl) said);
+      means = means_by (codes "at") (d ++ 32 ∷ line) (At turn loss) (lacks_by 32 (codes "at") refl) refl said;
     }
 
 moment_line : (n : ℕ) → n < 2 ^ 63 → LineOf (Moment (pos n))
@@ -175,7 +187,7 @@ moment_line n lt = record {
   line = codes "moment " ++ decimal n;
   written = refl;
   lacks = lacks_both 10 (codes "moment ") (decimal n) (lacks_by 10 (codes "moment ") refl) (number_lacks 10 n (omega arith) lt);
-  means = ap said_or_not (event_by (codes "moment") (decimal n) (Moment (pos n)) (lacks_by 32 (codes "moment") refl) (ap (option_and_then (λ (m : ℕ). Some (Moment (pos m)))) (number_below-decimal (2 ^ 63) n lt (omega arith))));
+  means = means_by (codes "moment") (decimal n) (Moment (pos n)) (lacks_by 32 (codes "moment") refl) refl (ap (option_and_then (λ (m : ℕ). Some (Moment (pos m)))) (number_below-decimal (2 ^ 63) n lt (omega arith)));
 }
 
 line_of : (event : Scripted) → HasLine event → LineOf event
@@ -194,21 +206,31 @@ front_line event events l =
     ∙ ap lines_of (append_assoc l.line (10 ∷ []) (script_lines events))
     ∙ slice_split_at is_line_end l.line 10 (script_lines events) (lacks_all 10 l.line l.lacks) refl
 
-lines_back : (events : List Scripted) → HaveLines events → (n : ℕ) → (map (λ (x : Numbered). x.event) (numbered n (lines_of (script_lines events))) ≡ events) × (first_unreadable n (lines_of (script_lines events)) ≡ None)
-lines_back [] h n = (refl, refl)
-lines_back (event ∷ events) h n =
+-- what these lines say over any servers, from any number and place on
+record AllSaid (used : Addresses) (n at : ℕ) (events : List Scripted) (lines : List (List ℕ)) : Type 0 where
+  said : map (λ (x : Numbered). x.event) (numbered used n lines) ≡ events
+  whole : first_unreadable used n lines ≡ None
+  nothing_loaded : loaded used at lines ≡ []
+
+lines_back : (events : List Scripted) → HaveLines events → (used : Addresses) (n at : ℕ) → AllSaid used n at events (lines_of (script_lines events))
+lines_back [] h used n at = record { said = refl; whole = refl; nothing_loaded = refl }
+lines_back (event ∷ events) h used n at =
     let l = line_of event h.0 in
     let front = front_line event events l in
     let behind = lines_of (script_lines events) in
-    let rest = lines_back events h.1 (n + 1) in (
-      ap (λ (ls : List (List ℕ)). map (λ (x : Numbered). x.event) (numbered n ls)) front
-          ∙ ap (λ (m : Meaning). map (λ (x : Numbered). x.event) (and_then m n (numbered (n + 1) behind))) l.means
-          ∙ ap (λ (es : List Scripted). event ∷ es) rest.0,
-      ap (first_unreadable n) front ∙ ap (λ (m : Meaning). or_behind m n (first_unreadable (n + 1) behind)) l.means ∙ rest.1,
-    )
+    let rest = lines_back events h.1 used (n + 1) (at + 1) in
+    record {
+      said = ap (λ (ls : List (List ℕ)). map (λ (x : Numbered). x.event) (numbered used n ls)) front
+          ∙ ap (λ (m : Meaning). map (λ (x : Numbered). x.event) (and_then m n (numbered (used_after m used) (n + 1) behind))) (l.means used)
+          ∙ ap (λ (es : List Scripted). event ∷ es) rest.said;
+      whole = ap (first_unreadable used n) front ∙ ap (λ (m : Meaning). or_behind m n (first_unreadable (used_after m used) (n + 1) behind)) (l.means used) ∙ rest.whole;
+      nothing_loaded = ap (loaded used at) front ∙ ap (λ (m : Meaning). load_then m at (loaded (used_after m used) (count_after m at) behind)) (l.means used) ∙ rest.nothing_loaded;
+    }
 
 said_again : (events : List Scripted) → HaveLines events → (n : ℕ) (config : Configuration) → SaysAll (told_from n config (lines_of (script_lines events))) config events
-said_again events h n config = let back = lines_back events h n in record { configuration = refl; said = back.0; whole = back.1 }
+said_again events h n config =
+    let back = lines_back events h config.servers n 0 in
+    record { configuration = refl; said = back.said; whole = back.whole; nothing_loaded = back.nothing_loaded }
 
 -- the first line, and those behind it
 told_front : (line : List ℕ) (events : List Scripted) (config : Configuration) → All (λ b. is_line_end b ≡ false) line → first_said line ≡ Ok config → told (line ++ 10 ∷ script_lines events) ≡ Ok (told_from 2 config (lines_of (script_lines events)))

@@ -36,11 +36,12 @@ abbrev pub HaveLines : List Scripted → Type 0
 HaveLines [] = Unit {0}
 HaveLines (event ∷ events) = HasLine event × HaveLines events
 
--- a text that was read says this configuration and these events, and each of its lines can be read
+-- a text that was read says this configuration and these events, each of its lines can be read, and none loads anything
 pub record SaysAll (t : Told) (config : Configuration) (events : List Scripted) : Type 0 where
   pub configuration : t.configuration ≡ config
   pub said : events_said t ≡ events
   pub whole : t.unreadable ≡ None
+  pub nothing_loaded : t.loads ≡ []
 
 -- the lines of these events say them, over a configuration from elsewhere and behind each first line that says one
 pub record AreReadBack (events : List Scripted) : Type 0 where

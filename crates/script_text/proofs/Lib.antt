@@ -1,3 +1,5 @@
 pub mod EscapeLemmas
 pub mod LineLemmas
+pub mod Further
+pub mod Loads
 pub mod ReadBack

@@ -1,28 +1,64 @@
 -- What the text of a script says. Source: mcgate's own.
-use Rattle.std.specs.Prelude.{◌≡◌, ℕ, ◌+◌, ◌==◌, if◌then◌else◌, List, [], ◌∷◌, length, map, Option, Some, None, Result, Ok, Err, slice_get, IsSome}
+use Rattle.std.specs.Prelude.{◌≡◌, ℕ, ◌+◌, ◌==◌, if◌then◌else◌, List, [], ◌∷◌, codes, length, map, Option, Some, None, Result, Ok, Err, slice_get, IsSome}
+use Rattle.std.specs.Str.{bytes_eq}
+use Rattle.serde_json.specs.Read.{read}
+use Rattle.route_json.specs.Configs.{read_after}
 use Rattle.route_json.specs.Configuration.{Configuration}
+use Rattle.route_json.specs.Servers.{Addresses}
+use Rattle.fresh_gate.specs.Reload.{AreKept}
+use Rattle.fleet_run.specs.declared.script.Reload.{Reload}
 use Rattle.fleet_run.specs.Scripted.{Scripted, scripted_of}
 use Rattle.fleet_run.specs.Bad.{first_bad}
-use Rattle.script_text.specs.Lines.{lines_of}
+use Rattle.script_text.specs.Lines.{lines_of, cut}
 use Rattle.script_text.specs.Events.{event_said, ◌>>=◌}
-use Rattle.script_text.specs.FirstLine.{WhyNot, BadFirstLine, HasFault, first_said, TellsFault}
+use Rattle.script_text.specs.FirstLine.{WhyNot, BadFirstLine, HasFault, first_said, read_or_fault, TellsFault}
 use Rattle.script_text.specs.declared.configured.ConfiguredScript.{ConfiguredScript}
 use Rattle.script_text.specs.declared.configured.ScriptFault.{ScriptFault}
 use Rattle.script_text.specs.declared.configured.ScriptFault.TheVariants.{Config, BadLine, NoMemory}
 
--- what a further line is: no event, an event, or a line that can't be read
+-- what a further line is: no event, an event, a configuration that is loaded, or a line that can't be read
 pub data Meaning : Type 0 where
   Nothing Unreadable : Meaning
   Says : Scripted → Meaning
+  Loads : Configuration → Meaning
 
 abbrev pub said_or_not : Option Scripted → Meaning
 said_or_not None = Unreadable
 said_or_not (Some event) = Says event
 
--- an empty line and one that begins with `#` are no event; every other line says one, or can't be read
-abbrev pub line_means : List ℕ → Meaning
-line_means [] = Nothing
-line_means (b ∷ line) = if b == 35 then Nothing else said_or_not (event_said (b ∷ line))
+abbrev pub loads_or_not : Result Configuration WhyNot → Meaning
+loads_or_not (Ok c) = Loads c
+loads_or_not (Err why) = Unreadable
+
+-- the JSON of a line `reload JSON`
+abbrev pub reload_said : List ℕ → Option (List ℕ)
+reload_said line = do
+  parts ← cut line
+  if bytes_eq parts.word (codes "reload") then Some parts.rest else None
+
+-- a line with this JSON loads a configuration, its servers numbered after those known; one with none says an event
+abbrev pub load_or_event : Addresses → Option (List ℕ) → List ℕ → Meaning
+load_or_event used None line = said_or_not (event_said line)
+load_or_event used (Some json) line = loads_or_not (read_or_fault (read_after used (read json)))
+
+-- over the servers known so far: an empty line and one that begins with `#` are no event; every other line says one, loads a configuration, or can't be read
+abbrev pub line_means : Addresses → List ℕ → Meaning
+line_means used [] = Nothing
+line_means used (b ∷ line) = if b == 35 then Nothing else load_or_event used (reload_said (b ∷ line)) (b ∷ line)
+
+-- the servers known after a line
+abbrev pub used_after : Meaning → Addresses → Addresses
+used_after Nothing used = used
+used_after Unreadable used = used
+used_after (Says event) used = used
+used_after (Loads c) used = c.servers
+
+-- how many events there are after a line
+abbrev pub count_after : Meaning → ℕ → ℕ
+count_after Nothing at = at
+count_after Unreadable at = at
+count_after (Says event) at = at + 1
+count_after (Loads c) at = at
 
 -- an event, and the number of its line
 pub record Numbered : Type 0 where
@@ -34,32 +70,57 @@ abbrev pub and_then : Meaning → ℕ → List Numbered → List Numbered
 and_then Nothing n behind = behind
 and_then Unreadable n behind = []
 and_then (Says event) n behind = record { line = n; event = event } ∷ behind
+and_then (Loads c) n behind = behind
 
--- the events of lines, up to the first that can't be read; the first line has this number
-abbrev pub numbered : ℕ → List (List ℕ) → List Numbered
-numbered n [] = []
-numbered n (line ∷ lines) = and_then (line_means line) n (numbered (n + 1) lines)
+-- the events of lines over the servers known, up to the first that can't be read; the first line has this number
+abbrev pub numbered : Addresses → ℕ → List (List ℕ) → List Numbered
+numbered used n [] = []
+numbered used n (line ∷ lines) = and_then (line_means used line) n (numbered (used_after (line_means used line) used) (n + 1) lines)
 
 -- the line of this number where it can't be read, else what is found after it
 abbrev pub or_behind : Meaning → ℕ → Option ℕ → Option ℕ
 or_behind Nothing n behind = behind
 or_behind Unreadable n behind = Some n
 or_behind (Says event) n behind = behind
+or_behind (Loads c) n behind = behind
 
 -- the number of the first line that can't be read
-abbrev pub first_unreadable : ℕ → List (List ℕ) → Option ℕ
-first_unreadable n [] = None
-first_unreadable n (line ∷ lines) = or_behind (line_means line) n (first_unreadable (n + 1) lines)
+abbrev pub first_unreadable : Addresses → ℕ → List (List ℕ) → Option ℕ
+first_unreadable used n [] = None
+first_unreadable used n (line ∷ lines) = or_behind (line_means used line) n (first_unreadable (used_after (line_means used line) used) (n + 1) lines)
 
--- what the text of a script says: its configuration, the events before the first line that can't be read, and that line's number
+-- what a line loads after so many events, and then what the lines after it do
+abbrev pub load_then : Meaning → ℕ → List Reload → List Reload
+load_then Nothing at behind = behind
+load_then Unreadable at behind = []
+load_then (Says event) at behind = behind
+load_then (Loads c) at behind = record { at = at; config = c } ∷ behind
+
+-- what lines load, up to the first that can't be read, each after the events before it; so many events came before the lines
+abbrev pub loaded : Addresses → ℕ → List (List ℕ) → List Reload
+loaded used at [] = []
+loaded used at (line ∷ lines) = load_then (line_means used line) at (loaded (used_after (line_means used line) used) (count_after (line_means used line) at) lines)
+
+-- the servers known after all that was loaded
+abbrev pub servers_known : Addresses → List Reload → Addresses
+servers_known used [] = used
+servers_known used (r ∷ rs) = servers_known r.config.servers rs
+
+-- each list of servers begins with the one before it
+abbrev pub AreChainedFrom : Addresses → List Reload → Type 0
+AreChainedFrom used [] = Unit {0}
+AreChainedFrom used (r ∷ rs) = AreKept used r.config.servers × AreChainedFrom r.config.servers rs
+
+-- what the text of a script says: its configuration, the events and what is loaded before the first line that can't be read, and that line's number
 pub record Told : Type 0 where
   pub configuration : Configuration
   pub said : List Numbered
+  pub loads : List Reload
   pub unreadable : Option ℕ
 
--- what lines of events say over a configuration; the first line has this number
+-- what further lines say over a configuration; the first of them has this number
 abbrev pub told_from : ℕ → Configuration → List (List ℕ) → Told
-told_from first c lines = record { configuration = c; said = numbered first lines; unreadable = first_unreadable first lines }
+told_from first c lines = record { configuration = c; said = numbered c.servers first lines; loads = loaded c.servers 0 lines; unreadable = first_unreadable c.servers first lines }
 
 -- what a first line and further lines say
 abbrev pub told_behind : Result Configuration WhyNot → List (List ℕ) → Result Told WhyNot
@@ -75,7 +136,7 @@ told_by (first ∷ further) = told_behind (first_said first) further
 abbrev pub told : List ℕ → Result Told WhyNot
 told text = told_by (lines_of text)
 
--- what a text says of which each line is an event, over a configuration from elsewhere
+-- what a text says of which each line is a further line, over a configuration from elsewhere
 abbrev pub told_over : Configuration → List ℕ → Told
 told_over c text = told_from 1 c (lines_of text)
 
@@ -98,9 +159,9 @@ abbrev pub either : Option ℕ → Option ℕ → Option ℕ
 either None other = other
 either (Some n) other = Some n
 
--- how many servers a script has
+-- how many servers are known: those of the configuration and of each that was loaded
 abbrev pub servers_said : Told → ℕ
-servers_said t = length t.configuration.servers
+servers_said t = length (servers_known t.configuration.servers t.loads)
 
 -- the number of the first bad line: the first, that of an event that can't be, or else the one that can't be read; a configuration with a fault is no bad line
 abbrev pub bad_line : Result Told WhyNot → Option ℕ
@@ -114,11 +175,12 @@ IsUnreadable (Ok t) = IsSome t.unreadable
 IsUnreadable (Err BadFirstLine) = Unit {0}
 IsUnreadable (Err (HasFault fault)) = ⊥
 
--- a script that was read: each line can be, and these are the configuration, the events and their lines
+-- a script that was read: each line can be, and these are the configuration, the events, what is loaded, and the events' lines
 pub record IsScriptOf (t : Told) (s : ConfiguredScript) : Type 0 where
   pub whole : t.unreadable ≡ None
   pub configuration : s.config ≡ t.configuration
   pub events : map scripted_of s.script.events.items ≡ events_said t
+  pub reloads : s.reloads.items ≡ t.loads
   pub lines : s.lines.items ≡ lines_said t
 
 -- what `read_script` answers, by what the text says

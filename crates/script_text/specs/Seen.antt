@@ -1,7 +1,13 @@
 -- What is seen of the program's own types.
+use Rattle.std.specs.Prelude.{ℕ, List}
+use denote.Ref.{Bor}
 use Rattle.script_text.specs.declared.words.Parts as words
 use Rattle.script_text.specs.Lines.{Parts}
 
 -- the two parts of a text that was cut
 abbrev pub parts_seen : words.Parts → Parts
 parts_seen p = record { word = p.word.now; rest = p.rest.now }
+
+-- the same as two texts
+abbrev pub texts_seen : Bor (List ℕ) × Bor (List ℕ) → Parts
+texts_seen p = record { word = p.0.now; rest = p.1.now }

@@ -2,10 +2,11 @@
 
 ghost use Rattle.std.specs.Prelude.{◌≡◌, MatchOption, length, slice_get};
 ghost use Rattle.route_json.specs.Fault.{fault_of};
+ghost use Rattle.script_text.specs.Script.{servers_known};
 ghost use Rattle.script_text.specs.declared.configured.ScriptFault.TheVariants.{Config as ConfigFaulty, NoMemory};
 
-use fleet_run::Script;
-use route_json::{Config, ConfigFault};
+use fleet_run::{Reload, Script};
+use route_json::{Config, ConfigFault, Servers};
 use std::alloc::AllocError;
 
 /// A script over the servers of a configuration.
@@ -14,16 +15,19 @@ pub struct ConfiguredScript {
     /// What the first line says. Its tree has one server for each key.
     pub config: Config,
     pub script: Script,
+    /// The configurations that its reload lines load, in their order. The servers of each are numbered after those of the one
+    /// before it.
+    pub reloads: Vec<Reload>,
     /// For each event the number of its line, counted from 1 over all lines of the input.
     pub lines: Vec<usize>,
 }
 
 impl ConfiguredScript {
-    /// How many servers the configuration has.
+    /// How many servers the configuration and those that are loaded have together.
     pub fn server_count(&self) -> u32
-        ensures { result ≡ length self.now.config.servers }
+        ensures { result ≡ length (servers_known self.now.config.servers self.now.reloads.items) }
     {
-        self.config.servers().len() as u32
+        servers_known(self.config.servers(), &self.reloads).len() as u32
     }
 
     /// The number of this event's line. Events are counted from 0, as [`fleet_run::DriveFault::BadEvent`] counts them.
@@ -31,6 +35,16 @@ impl ConfiguredScript {
         ensures { result ≡ slice_get self.now.lines.items event }
     {
         self.lines.get(event).copied()
+    }
+}
+
+/// The servers known after these were loaded, of which each numbers its servers after those known before it.
+pub fn servers_known<'a>(servers: &'a Servers, reloads: &'a [Reload]) -> &'a Servers
+    ensures { result.now ≡ servers_known servers.now reloads.now }
+{
+    match reloads.last() {
+        Some(reload) => reload.config.servers(),
+        None => servers,
     }
 }
 

@@ -1,22 +1,22 @@
 //! The lines that a run prints.
 
-ghost use Rattle.std.specs.Prelude.{OnOk, IsSome};
+ghost use Rattle.std.specs.Prelude.{OnOk, IsSome, map};
 ghost use Rattle.std.specs.Io.KnownBytes.{Appends};
-ghost use Rattle.fleet_run.specs.Scripted.{transcript_of};
+ghost use Rattle.fleet_run.specs.Scripted.{shown_by};
 ghost use Rattle.route_json.specs.Fault.{fault_of};
 ghost use Rattle.script_text.specs.Printed.{shown_lines, report_line, bad_line_line, config_fault_line};
 
 use byte_escapes::Escaped;
-use fleet_run::{Report, Transcript};
+use fleet_run::{Output, Report};
 use route_json::ConfigFault;
 use std::io;
 use std::io::Write;
 
-/// Writes a line `< C TEXT` for each entry of the transcript, with the bytes in the escapes. The format is mcgate's own.
-pub fn write_transcript<W: Write>(transcript: &Transcript, out: &mut W) -> io::Result<()>
-    ensures { OnOk result (Appends (W.contents out.old) (W.contents out.new) (shown_lines (transcript_of transcript.now))) }
+/// Writes a line `< C TEXT` for each output of a transcript, with the bytes in the escapes. The format is mcgate's own.
+pub fn write_outputs<W: Write>(outputs: &[Output], out: &mut W) -> io::Result<()>
+    ensures { OnOk result (Appends (W.contents out.old) (W.contents out.new) (shown_lines (map shown_by outputs.now))) }
 {
-    for output in &transcript.shown {
+    for output in outputs {
         let bytes = Escaped(output.bytes.as_slice());
         writeln!(out, "< {} {}", output.client, bytes)?;
     }

@@ -1,22 +1,24 @@
 //! Scripts as text: their first line, and their events.
 ghost use Rattle.std.specs.Prelude.{◌≡◌, ◌+◌, ◌≤◌, ◌<◌, ◌^◌, Ok, IfOk, IfSome, map, length};
 ghost use Rattle.serde_json.specs.Read.{read};
+ghost use Rattle.fleet_run.specs.Reloads.{AreInOrder};
 ghost use Rattle.fleet_run.specs.Scripted.{scripted_of};
-ghost use Rattle.route_json.specs.Configs.{read_or};
+ghost use Rattle.route_json.specs.Configs.{read_or, read_after};
 ghost use Rattle.script_text.specs.Behind.{lines_behind};
 ghost use Rattle.script_text.specs.FirstLine.{size_said, pool_said, pool_or_bad, read_or_fault, first_said, ReadsFirst};
-ghost use Rattle.script_text.specs.Script.{numbered, first_unreadable, line_means, told_from, told, told_over, bad_event_line, ReadsScript};
+ghost use Rattle.script_text.specs.Events.{event_said};
+ghost use Rattle.script_text.specs.Script.{said_or_not, loads_or_not, line_means, servers_known, told_from, told, told_over, bad_event_line, AreChainedFrom, ReadsScript};
 ghost use Rattle.script_text.specs.Lines.{lines_of};
 ghost use Rattle.script_text.specs.Read.{meaning_of, ReadsLines};
 
-use crate::configured::{ConfiguredScript, ScriptFault};
+use crate::configured::{ConfiguredScript, ScriptFault, servers_known};
 use crate::event::read_event;
 use crate::fault::LineFault;
 use crate::front::front_of;
 use crate::meaning::{Meaning, Reading};
-use crate::words::{cut, number_under};
-use fleet_run::{Script, first_bad_event};
-use route_json::{Config, read_config};
+use crate::words::{cut, number_under, reload_json};
+use fleet_run::{Reload, Script, first_bad_event};
+use route_json::{Config, Servers, read_config, read_config_after};
 use route_tree::POOL_LIMIT;
 use std::alloc::{AllocError, Global};
 
@@ -69,12 +71,25 @@ pub fn read_first(alloc: Global, line: &str) -> Result<Config, ScriptFault>
     }
 }
 
-fn read_line(alloc: Global, line: &[u8]) -> Result<Meaning, AllocError>
-    ensures { IfOk result (λ m. meaning_of m ≡ line_means line.now) }
+fn json_config_after(alloc: Global, servers: Servers, json: &str) -> Result<Config, ScriptFault>
+    ensures { ReadsFirst (read_or_fault (read_after servers (read json.now))) result }
 {
-    if line.is_empty() || line[0] == b'#' {
-        return Ok(Meaning::Nothing);
+    Ok(read_config_after(alloc, servers, json)?)
+}
+
+fn read_reload(alloc: Global, known: &Servers, json: &str) -> Result<Meaning, AllocError>
+    ensures { IfOk result (λ m. meaning_of m ≡ loads_or_not (read_or_fault (read_after known.now (read json.now)))) }
+{
+    match json_config_after(alloc, known.copy(alloc)?, json) {
+        Ok(config) => Ok(Meaning::Loads(config)),
+        Err(ScriptFault::NoMemory) => Err(AllocError),
+        Err(ScriptFault::Config(_)) | Err(ScriptFault::BadLine(_)) => Ok(Meaning::Unreadable),
     }
+}
+
+fn read_said(alloc: Global, line: &[u8]) -> Result<Meaning, AllocError>
+    ensures { IfOk result (λ m. meaning_of m ≡ said_or_not (event_said line.now)) }
+{
     match read_event(alloc, line) {
         Ok(event) => Ok(Meaning::Says(event)),
         Err(LineFault::Unreadable) => Ok(Meaning::Unreadable),
@@ -82,12 +97,32 @@ fn read_line(alloc: Global, line: &[u8]) -> Result<Meaning, AllocError>
     }
 }
 
-// What lines say behind so many others.
-fn read_further(alloc: Global, above: usize, further: Option<&str>) -> Result<Reading, AllocError>
+fn read_line(alloc: Global, known: &Servers, line: &str) -> Result<Meaning, AllocError>
+    ensures { IfOk result (λ m. meaning_of m ≡ line_means known.now line.now) }
+{
+    let bytes = line.as_bytes();
+    if bytes.is_empty() || bytes[0] == b'#' {
+        return Ok(Meaning::Nothing);
+    }
+    match reload_json(line) {
+        Some(json) => read_reload(alloc, known, json),
+        None => read_said(alloc, bytes),
+    }
+}
+
+/// What lines say over the servers known before them, behind so many other lines, which are counted too. The only error is running
+/// out of memory.
+pub fn read_further(
+    alloc: Global,
+    servers: &Servers,
+    above: usize,
+    further: Option<&str>,
+) -> Result<Reading, AllocError>
     requires { above + length (lines_behind further) < 2 ^ 64 }
-    ensures { IfOk result (ReadsLines (above + 1) (lines_behind further.entry)) }
+    ensures { IfOk result (ReadsLines servers.now (above + 1) (lines_behind further.entry)) }
 {
     let mut events = Vec::new(alloc);
+    let mut reloads = Vec::new(alloc);
     let mut lines = Vec::new(alloc);
     let mut number = above;
     let mut rest = further;
@@ -95,15 +130,20 @@ fn read_further(alloc: Global, above: usize, further: Option<&str>) -> Result<Re
         let front = front_of(text);
         number += 1;
         rest = front.rest;
-        match read_line(alloc, front.line.as_bytes())? {
+        match read_line(alloc, servers_known(servers, &reloads), front.line)? {
             Meaning::Nothing => {}
             Meaning::Says(event) => {
                 events.push(event)?;
                 lines.push(number)?;
             }
+            Meaning::Loads(config) => {
+                let at = events.len();
+                reloads.push(Reload { at, config })?;
+            }
             Meaning::Unreadable => {
                 return Ok(Reading {
                     events,
+                    reloads,
                     lines,
                     unreadable: Some(number),
                 });
@@ -112,13 +152,14 @@ fn read_further(alloc: Global, above: usize, further: Option<&str>) -> Result<Re
     }
     Ok(Reading {
         events,
+        reloads,
         lines,
         unreadable: None,
     })
 }
 
 fn bad_event_line(script: &ConfiguredScript) -> Option<usize>
-    ensures { result ≡ bad_event_line (length script.now.config.servers) (map scripted_of script.now.script.events.items) script.now.lines.items }
+    ensures { result ≡ bad_event_line (length (servers_known script.now.config.servers script.now.reloads.items)) (map scripted_of script.now.script.events.items) script.now.lines.items }
 {
     match first_bad_event(script.server_count(), &script.script) {
         Some(event) => script.line_of(event),
@@ -136,16 +177,20 @@ pub fn read_behind(
     further: Option<&str>,
 ) -> Result<ConfiguredScript, ScriptFault>
     requires { above + length (lines_behind further) < 2 ^ 64 }
-    ensures { ReadsScript (Ok (told_from (above + 1) config (lines_behind further.entry))) result }
+    ensures script { ReadsScript (Ok (told_from (above + 1) config (lines_behind further.entry))) result }
+    ensures order { IfOk result (λ s. AreInOrder (length s.script.events.items) (length (servers_known s.config.servers s.reloads.items)) 0 s.reloads.items) }
+    ensures chained { IfOk result (λ s. AreChainedFrom s.config.servers s.reloads.items) }
 {
     let Reading {
         events,
+        reloads,
         lines,
         unreadable,
-    } = read_further(alloc, above, further)?;
+    } = read_further(alloc, config.servers(), above, further)?;
     let script = ConfiguredScript {
         config,
         script: Script { events },
+        reloads,
         lines,
     };
     match unreadable {
@@ -157,25 +202,30 @@ pub fn read_behind(
 /// The script that a text says, with the number of each event's line.
 ///
 /// The first line is `pool N` (N in 1..=1024), which means one pool of the servers `s0:1`, `s1:1`, .., or a configuration in JSON.
-/// A line that begins with `pool` is meant to be the first of these, every other the second. Each further line is one event; empty
-/// lines and those that begin with `#` are none. The format is mcgate's own.
+/// A line that begins with `pool` is meant to be the first of these, every other the second. Each further line is one event, or
+/// `reload JSON`, which loads the configuration in JSON there: its servers are numbered after those of the configuration or reload
+/// line before it, so that a server known keeps its number. Empty lines and those that begin with `#` are neither. The format is
+/// mcgate's own.
 ///
 /// Faults are looked for in this order, and running out of memory is the only other error:
 /// - [`ScriptFault::BadLine`] of 1 where the first line begins with `pool` and is no pool line.
 /// - [`ScriptFault::Config`], the first fault of a configuration.
-/// - [`ScriptFault::BadLine`] where a further line can't be read. It has the number of the first line that is bad: where an event
-///   before the unreadable line is one that the run would refuse, it is that event's line. Such an event alone is no fault here:
+/// - [`ScriptFault::BadLine`] where a further line can't be read, as a reload line whose JSON is no configuration. It has the number
+///   of the first line that is bad: where an event before the unreadable line is one that the run would refuse, it is that event's
+///   line; a server is unknown to it where no configuration read before the unreadable line has it. Such an event alone is no fault here:
 ///   [`ConfiguredScript::line_of`] tells its line once the run has refused it.
 pub fn read_script(alloc: Global, text: &str) -> Result<ConfiguredScript, ScriptFault>
-    ensures { ReadsScript (told text.now) result }
+    ensures script { ReadsScript (told text.now) result }
+    ensures order { IfOk result (λ s. AreInOrder (length s.script.events.items) (length (servers_known s.config.servers s.reloads.items)) 0 s.reloads.items) }
+    ensures chained { IfOk result (λ s. AreChainedFrom s.config.servers s.reloads.items) }
 {
     let front = front_of(text);
     let config = read_first(alloc, front.line)?;
     read_behind(alloc, config, 1, front.rest)
 }
 
-/// The script that a text says over a configuration from elsewhere: each line of the text is an event, and the first has the
-/// number 1. Empty lines and those that begin with `#` are none. The lines are mcgate's own.
+/// The script that a text says over a configuration from elsewhere: each line of the text is as [`read_script`]'s further ones, and
+/// the first has the number 1. The lines are mcgate's own.
 ///
 /// [`ScriptFault::BadLine`] comes as of [`read_script`]'s further lines, and otherwise running out of memory is the only error.
 pub fn read_events(
@@ -183,7 +233,9 @@ pub fn read_events(
     config: Config,
     text: &str,
 ) -> Result<ConfiguredScript, ScriptFault>
-    ensures { ReadsScript (Ok (told_over config text.now)) result }
+    ensures script { ReadsScript (Ok (told_over config text.now)) result }
+    ensures order { IfOk result (λ s. AreInOrder (length s.script.events.items) (length (servers_known s.config.servers s.reloads.items)) 0 s.reloads.items) }
+    ensures chained { IfOk result (λ s. AreChainedFrom s.config.servers s.reloads.items) }
 {
     read_behind(alloc, config, 0, Some(text))
 }

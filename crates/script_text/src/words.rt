@@ -4,7 +4,8 @@ ghost use Rattle.std.specs.Prelude.{◌≡◌, ◌^◌, option_map, position, If
 ghost use Rattle.mc_text.specs.Number.{number_below};
 ghost use Rattle.mc_text.specs.Word.{is_space};
 ghost use Rattle.script_text.specs.Lines.{cut};
-ghost use Rattle.script_text.specs.Seen.{parts_seen};
+ghost use Rattle.script_text.specs.Script.{reload_said};
+ghost use Rattle.script_text.specs.Seen.{parts_seen, texts_seen};
 
 use mc_text::number::number;
 
@@ -31,6 +32,23 @@ pub fn cut(text: &[u8]) -> Option<Parts<'_>>
             rest: &text[at + 1..],
         }),
         None => None,
+    }
+}
+
+// The same of a text that is a string.
+fn cut_text(text: &str) -> Option<(&str, &str)>
+    ensures { option_map texts_seen result ≡ cut text.now }
+{
+    text.split_once(' ')
+}
+
+/// The JSON of a line `reload JSON`.
+pub fn reload_json(line: &str) -> Option<&str>
+    ensures { option_map (λ json. json.now) result ≡ reload_said line.now }
+{
+    match cut_text(line) {
+        Some((word, json)) if word == "reload" => Some(json),
+        _ => None,
     }
 }
 

@@ -228,6 +228,46 @@ fn losses_and_clients(rt: HostRuntime) {
     assert!(rt; prints(&rt, losses_script(), losses_lines()));
 }
 
+// A with deletes that go to both.
+fn cleared() -> &'static str {
+    r#"{"type":"OperationSelectorRoute","default_policy":"PoolRoute|A","operation_policies":{"delete":{"type":"AllSyncRoute","children":["PoolRoute|A","PoolRoute|B"]}}}"#
+}
+
+// The configuration of both pools with a route.
+fn config_of(rt: &HostRuntime, route: &str) -> Result<String, Fail> {
+    let pools =
+        r#"{"pools":{"A":{"servers":["127.0.0.1:5001"]},"B":{"servers":["127.0.0.1:5002"]}},"route":"#;
+    Ok(format!(in rt.alloc(); "{pools}{route}}}")?)
+}
+
+// A script that begins with A alone, and loads a tree that clears both and then B alone.
+fn moving_script(rt: &HostRuntime) -> Result<String, Fail> {
+    let first = config_of(rt, "\"PoolRoute|A\"")?;
+    let second = config_of(rt, cleared())?;
+    let third = config_of(rt, "\"PoolRoute|B\"")?;
+    let before = r"hold 1 a 7
+> 0 delete a\r\n";
+    let reloads = format!(in rt.alloc(); "reload {second}\nreload {third}\n")?;
+    Ok(format!(in rt.alloc(); "{first}\n{before}\n{reloads}> 0 get a\\r\\n\n")?)
+}
+
+fn moving_lines() -> &'static str {
+    r"< 0 NOT_FOUND\r\n
+reload accepted generation=2
+reload refused generation=1 server=127.0.0.1:5002 read=get delete=delete prefix= residue=0/1
+< 0 END\r\n
+done 2 commands 2 calls
+"
+}
+
+// The second reload is refused: a delete by the first tree left what B holds.
+#[test]
+fn reload_hides_a_moved_key(rt: HostRuntime) -> Result<(), Fail> {
+    let script = moving_script(&rt)?;
+    assert!(rt; prints(&rt, script.as_str(), moving_lines()));
+    Ok(())
+}
+
 fn leak() -> &'static str {
     r#"{"type":"FailoverRoute","children":["PoolRoute|A","PoolRoute|B"]}"#
 }

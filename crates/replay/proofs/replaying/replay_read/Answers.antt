@@ -3,8 +3,11 @@ use Rattle.std.proofs.lemmas.Result.{IfOk-weaker, IfErr-weaker}
 use Rattle.replay.proofs.Printing.{replays, breaks_off, paired}
 use Rattle.replay.proofs.replaying.replay_read.Goals as goal
 
-pub run_script-requires : goal.run_script-requires
-run_script-requires g c = paired c.requires.told c.in-Ok.configured (rw c.in-Ok.is at c.requires.reads)
+pub run_script-requires-clause-lines : goal.run_script-requires-clause-lines
+run_script-requires-clause-lines g c = paired c.requires.reading.told c.in-Ok.configured (rw c.in-Ok.is at c.requires.reading.reads)
+
+pub run_script-requires-clause-reloads : goal.run_script-requires-clause-reloads
+run_script-requires-clause-reloads g c = rw c.in-Ok.is at c.requires.reloads
 
 pub returns-in-Ok-clause-ok : goal.returns-in-Ok-clause-ok
 returns-in-Ok-clause-ok g c =
