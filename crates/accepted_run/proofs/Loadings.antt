@@ -93,7 +93,7 @@ judges_more configs mid new (y ∷ rs) (x ∷ ls) r l e j = (e.0, e.1, judges_mo
 pub one_more_judged : (configs mid new : List Configuration) (reloads : List Reload) (i : ℕ) (ls : List Loading) (r : Reload) (l : Loading) → i < length reloads → r ≡ get_or reloads i r → Judges configs (take i reloads) ls mid → JudgesOne mid r l new → Judges configs (take (i + 1) reloads) (ls ++ l ∷ []) new
 one_more_judged configs mid new reloads i ls r l lt is j one = subst (λ (rs : List Reload). Judges configs rs (ls ++ l ∷ []) new) (sym (one_more_taken reloads i r lt is)) (judges_more configs mid new (take i reloads) ls r l j one)
 
--- what the gate says to a fault's configuration, want of memory aside
+-- what the gate says to a fault's configuration, running out of memory aside
 pub judged_refused : {E : Type 0} (configs configs' : List Configuration) (r : Reload) (fault : ReloadFault) (o : Option Loading) (e : E) → o ≡ loading_of fault → (configs' ≡ configs) × IsReloadFault (trees_of configs) r.config.tree fault → IfOk (ok_or o e) (λ l. JudgesOne configs r l configs')
 judged_refused configs configs' r fault o e is why = subst (λ (p : Option Loading). IfOk (ok_or p e) (λ l. JudgesOne configs r l configs')) (sym is) (by fault why)
   where

@@ -25,7 +25,7 @@ abbrev pub AreChained : Addresses → List Reload → Type 0
 AreChained used [] = Unit {0}
 AreChained used (r ∷ rs) = AreKept used r.config.servers × AreChained r.config.servers rs
 
--- why the gate refuses the tree, which is never want of memory
+-- why the gate refuses the tree, which is never running out of memory
 abbrev pub IsReason : List Route → Route → ReloadFault → Type 0
 IsReason trees tree faults.TooManyGenerations = IsReloadFault trees tree faults.TooManyGenerations
 IsReason trees tree (faults.TooManyPlaces generation) = IsReloadFault trees tree (faults.TooManyPlaces generation)

@@ -4,7 +4,7 @@ ghost use Rattle.std.specs.Prelude.{◌≡◌, ◌≤◌, [], length, map, None,
 ghost use Rattle.memory_fleet.specs.Fleets.{IsNewFleet, count_of};
 ghost use Rattle.fleet_run.specs.Scripted.{scripted_of, transcript_of};
 ghost use Rattle.fleet_run.specs.Bad.{first_bad, Refuses};
-ghost use Rattle.fleet_run.specs.Driving.{IsSpent};
+ghost use Rattle.fleet_run.specs.Driving.{IsSpent, IsKept};
 ghost use Rattle.fleet_run.specs.Reloads.{AreInOrder};
 ghost use Rattle.accepted_run.specs.Freshly.{InUse, DrivesFreshly, EndsFreshly};
 ghost use Rattle.accepted_run.specs.Reloads.{AreJudged, ReloadsFreshly, EndsReloads};
@@ -38,6 +38,7 @@ pub fn drive(
     ensures ok { InUse accepted.now (λ config. IfOk result (DrivesFreshly config.tree (map scripted_of script.now.events.items) (transcript_of transcript.new))) }
     ensures fault { InUse accepted.now (λ config. IfErr result (EndsFreshly config.tree (map scripted_of script.now.events.items) transcript.new)) }
     ensures spent { IfErr result (λ fault. IsSpent fault fleet.new) }
+    ensures kept { IfErr result (λ fault. IsKept fault fleet.old fleet.new) }
 {
     generations_are_fresh();
     let config = accepted.config();
@@ -74,6 +75,7 @@ pub fn drive_judged(
     ensures ok { IfOk result (λ report. ReloadsFreshly first.now.tree judged.now.loadings.items reloads.now (map scripted_of script.now.events.items) (transcript_of transcript.new) marks.new.items report) }
     ensures fault { IfErr result (λ fault. EndsReloads first.now.tree judged.now.loadings.items reloads.now (map scripted_of script.now.events.items) transcript.new marks.new.items fault) }
     ensures spent { IfErr result (λ fault. IsSpent fault fleet.new) }
+    ensures kept { IfErr result (λ fault. IsKept fault fleet.old fleet.new) }
 {
     generations_are_fresh();
     let _in_use = accepted.config();

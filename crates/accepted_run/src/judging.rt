@@ -16,7 +16,7 @@ use std::alloc::{AllocError, Global};
 pub enum Loading {
     /// The gate accepted the configuration as the generation of this number.
     Loaded(u32),
-    /// It refused it, for another cause than want of memory, and the tree in use stayed.
+    /// It refused it, for another cause than running out of memory, and the tree in use stayed.
     Refused(ReloadFault),
 }
 

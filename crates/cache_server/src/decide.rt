@@ -8,7 +8,7 @@ use crate::decision::{Change, Decision, Verdict};
 use crate::expiry::expiry_after_ask;
 use crate::item::{CacheItem, Entry};
 use itoa::Buffer;
-use mc_text::arithmetic::change;
+use mc_text::arithmetic::incr_or_decr;
 use mc_types::{Ask, Body, DATA_LIMIT, Op};
 use std::alloc::{AllocError, Global};
 
@@ -76,7 +76,7 @@ fn count(alloc: Global, now: u64, ask: &Ask, entry: &Entry) -> Result<Decision, 
         return Ok(Decision::finds(Verdict::Exists));
     }
     let up = ask.op != Op::Decr;
-    let Some(number) = change(entry.item.body.as_slice(), up, ask.delta) else {
+    let Some(number) = incr_or_decr(entry.item.body.as_slice(), up, ask.delta) else {
         return Ok(Decision::finds(Verdict::NotNumeric));
     };
     let item = CacheItem {

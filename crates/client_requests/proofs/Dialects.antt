@@ -1,9 +1,5 @@
 -- What the bytes begin with among both dialects, they begin with in one of them, and the other way round.
-use Rattle.std.proofs.Common.{◌≡◌, ℕ, ◌+◌, true, false, eqb, List, [], ◌∷◌, length, Option, Some, None, Result, Err, refl, sym, ap, ◌∙◌, arith}
-use Rattle.std.specs.Str.{bytes_eq}
-use Rattle.std.specs.List.{list_all}
-use Rattle.std.proofs.lemmas.Bool.{eqb-true}
-use Rattle.std.proofs.lemmas.Slice.Eq.{bytes_eq-Decides}
+use Rattle.std.proofs.Common.{◌≡◌, ℕ, ◌+◌, List, [], ◌∷◌, length, Option, Some, None, Result, Err, refl, sym, ap, ◌∙◌}
 use Rattle.mc_text.specs.Line.{without_cr}
 use Rattle.mc_text.specs.Word.{words}
 use Rattle.request_parts.specs.declared.refusal.RefusalReason.{RefusalReason}
@@ -16,15 +12,15 @@ use Rattle.text_requests.specs.Order as texts
 use Rattle.text_requests.specs.CommandWords as text_words
 use Rattle.text_requests.specs.Grammar.{classic_grammar}
 use Rattle.text_requests.specs.Message as text_messages
-use Rattle.text_requests.proofs.WordTable as text_table
 use Rattle.meta_requests.specs.Order as metas
 use Rattle.meta_requests.specs.Grammar.{meta_grammar}
 use Rattle.meta_requests.specs.Message as meta_messages
 use Rattle.meta_requests.specs.declared.command.Verb.{Verb}
-use Rattle.meta_requests.specs.CommandWords.{found_in, meta_words, verb_of}
+use Rattle.meta_requests.specs.CommandWords.{verb_of}
 use Rattle.client_requests.specs.Both.{Order, Classic, Meta, both_grammar, order_by, order_of, skip_by, skip_of, lift_message, lift_found}
 use Rattle.client_requests.specs.Message.{Begins}
 use Rattle.client_requests.proofs.Lifting.{classic_lifted, meta_lifted}
+use Rattle.client_requests.proofs.WordLengths.{meta_length, no_classic}
 
 abbrev found_as : {A : Type 0} → parts.Message A → ℕ → Found A
 found_as message used = Some (message, used)
@@ -112,22 +108,6 @@ classic_begins bytes o block used b = record { text = b.text; rest = b.rest; lin
 pub meta_begins : (bytes : List ℕ) (o : metas.Order) (block : List ℕ) (used : ℕ) → Begins bytes (Served (Meta o) block) used → meta_messages.Begins bytes (Served o block) used
 meta_begins bytes o block used b = record { text = b.text; rest = b.rest; line = b.line; says = meta_line (words (without_cr b.text)) (length b.text + 1) b.rest o block used b.says }
 
--- a meta command has two letters
-two_letters : (entries : List (Word × Verb)) (word : Word) (v : Verb) → list_all (λ e. eqb (length e.0) 2) entries ≡ true → found_in entries word ≡ Some v → length word ≡ 2
-two_letters [] word v all e = absurd cc
-two_letters (entry ∷ entries) word v all e =
-    let parts = text_table.both (eqb (length entry.0) 2) (list_all (λ e. eqb (length e.0) 2) entries) all in
-    (elim (bytes_eq word entry.0) as (λ t. bytes_eq word entry.0 ≡ t → length word ≡ 2) [
-      | true ↦ λ t. ap length ((bytes_eq-Decides word entry.0).0 t) ∙ eqb-true (length entry.0) 2 parts.0
-      | false ↦ λ t. two_letters entries word v parts.1 (rw t at e)
-    ]) refl
-
--- so it is no classic command
-no_classic : (word : Word) (v : Verb) → verb_of word ≡ Some v → text_words.verb_of word ≡ None
-no_classic word v e =
-    let two = two_letters meta_words word v refl e in
-    sym (text_table.is_none word (record { three = λ n. omega (arith, two, n); four = λ n. omega (arith, two, n); five = λ n. omega (arith, two, n); six = λ n. omega (arith, two, n); seven = λ n. omega (arith, two, n) }))
-
 -- a line without a command word of its dialect serves nothing
 unknown : (line : List Word) (word : Word) (ws : List Word) (used : ℕ) (rest : List ℕ) (o : texts.Order) (block : List ℕ) (n : ℕ) → line ≡ word ∷ ws → text_words.verb_of word ≡ None → in_classic line used rest ≡ Some (Served o block, n) → ⊥
 unknown line word ws used rest o block n is none e =
@@ -137,7 +117,7 @@ unknown line word ws used rest o block n is none e =
 
 raised_by : (v : Option Verb) (word : Word) (ws : List Word) (used : ℕ) (rest : List ℕ) (o : texts.Order) (block : List ℕ) (n : ℕ) → verb_of word ≡ v → in_classic (word ∷ ws) used rest ≡ Some (Served o block, n) → meaning_of both_grammar (order_by v (word ∷ ws)) (skip_by v (word ∷ ws)) used rest ≡ Some (Served (Classic o) block, n)
 raised_by None word ws used rest o block n is e = classic_lifted (texts.order_of (word ∷ ws)) (texts.skip_of (word ∷ ws)) used rest ∙ ap (lift_found Classic) e
-raised_by (Some v) word ws used rest o block n is e = absurd (unknown (word ∷ ws) word ws used rest o block n refl (no_classic word v is) e)
+raised_by (Some v) word ws used rest o block n is e = absurd (unknown (word ∷ ws) word ws used rest o block n refl (no_classic word (meta_length word v is)) e)
 
 classic_among : (line : List Word) (used : ℕ) (rest : List ℕ) (o : texts.Order) (block : List ℕ) (n : ℕ) → in_classic line used rest ≡ Some (Served o block, n) → among_both line used rest ≡ Some (Served (Classic o) block, n)
 classic_among [] used rest o block n e = absurd (refused_never Unknown (texts.skip_of []) used o block n e)

@@ -1,3 +1,4 @@
+pub mod WordLengths
 pub mod Lifting
 pub mod Dialects
 pub mod RequestLaws

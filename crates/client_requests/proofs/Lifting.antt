@@ -13,6 +13,7 @@ use Rattle.request_parts.specs.Tests.{Word}
 use Rattle.request_parts.specs.Message.{Refusal, meaning, meaning_of, with_rest, with_block, end_of}
 use Rattle.request_parts.proofs.Fronts.{line_text, begins_meant, none_begins}
 use Rattle.text_requests.specs.Order as texts
+use Rattle.text_requests.specs.CommandWords as text_words
 use Rattle.text_requests.specs.Grammar.{classic_grammar}
 use Rattle.meta_requests.specs.Order as metas
 use Rattle.meta_requests.specs.Grammar.{meta_grammar}
@@ -43,18 +44,19 @@ meta_lifted (Ok o) skip used rest = rest_lifted Meta o used rest _
 classic_by : (line : List Word) (word : Word) (ws : List Word) (used : ℕ) (rest : List ℕ) → line ≡ word ∷ ws → verb_of word ≡ None → meaning_of both_grammar (both_grammar.order_of line) (both_grammar.skip_of line) used rest ≡ lift_found Classic (meaning_of classic_grammar (classic_grammar.order_of line) (classic_grammar.skip_of line) used rest)
 classic_by line word ws used rest is none = rw (is, none) (classic_lifted (texts.order_of (word ∷ ws)) (texts.skip_of (word ∷ ws)) used rest)
 
-order_meta : (o : Option Verb) (verb : Verb) (line : List Word) → o ≡ Some verb → order_by o line ≡ mapped Meta (metas.order_of line)
-order_meta None verb line e = absurd cc
-order_meta (Some v) verb line e = refl
+-- a line whose first word is no classic command means what it means in the meta dialect: a word that is no command is refused alike
+order_meta : (o : Option Verb) (word : Word) (ws : List Word) → verb_of word ≡ o → text_words.verb_of word ≡ None → order_by o (word ∷ ws) ≡ mapped Meta (metas.order_of (word ∷ ws))
+order_meta None word ws is none = rw (is, none) refl
+order_meta (Some v) word ws is none = refl
 
-skip_meta : (o : Option Verb) (verb : Verb) (line : List Word) → o ≡ Some verb → skip_by o line ≡ metas.skip_of line
-skip_meta None verb line e = absurd cc
-skip_meta (Some v) verb line e = refl
+skip_meta : (o : Option Verb) (word : Word) (ws : List Word) → verb_of word ≡ o → text_words.verb_of word ≡ None → skip_by o (word ∷ ws) ≡ metas.skip_of (word ∷ ws)
+skip_meta None word ws is none = rw (is, none) refl
+skip_meta (Some v) word ws is none = refl
 
-meta_by : (line : List Word) (word : Word) (ws : List Word) (verb : Verb) (used : ℕ) (rest : List ℕ) → line ≡ word ∷ ws → verb_of word ≡ Some verb → meaning_of both_grammar (both_grammar.order_of line) (both_grammar.skip_of line) used rest ≡ lift_found Meta (meaning_of meta_grammar (meta_grammar.order_of line) (meta_grammar.skip_of line) used rest)
-meta_by line word ws verb used rest is some =
-    let order : order_of line ≡ mapped Meta (metas.order_of line) = ap order_of is ∙ order_meta (verb_of word) verb (word ∷ ws) some ∙ ap (λ (l : List Word). mapped Meta (metas.order_of l)) (sym is) in
-    let skip : skip_of line ≡ metas.skip_of line = ap skip_of is ∙ skip_meta (verb_of word) verb (word ∷ ws) some ∙ ap (λ (l : List Word). metas.skip_of l) (sym is) in
+meta_by : (line : List Word) (word : Word) (ws : List Word) (used : ℕ) (rest : List ℕ) → line ≡ word ∷ ws → text_words.verb_of word ≡ None → meaning_of both_grammar (both_grammar.order_of line) (both_grammar.skip_of line) used rest ≡ lift_found Meta (meaning_of meta_grammar (meta_grammar.order_of line) (meta_grammar.skip_of line) used rest)
+meta_by line word ws used rest is none =
+    let order : order_of line ≡ mapped Meta (metas.order_of line) = ap order_of is ∙ order_meta (verb_of word) word ws refl none ∙ ap (λ (l : List Word). mapped Meta (metas.order_of l)) (sym is) in
+    let skip : skip_of line ≡ metas.skip_of line = ap skip_of is ∙ skip_meta (verb_of word) word ws refl none ∙ ap (λ (l : List Word). metas.skip_of l) (sym is) in
     ap (λ (r : Result Order RefusalReason). meaning_of both_grammar r (skip_of line) used rest) order ∙ ap (λ (k : Skip). meaning_of both_grammar (mapped Meta (metas.order_of line)) k used rest) skip ∙ meta_lifted (metas.order_of line) (metas.skip_of line) used rest
 
 -- the first word of a line that was taken
@@ -65,8 +67,8 @@ module _ (bytes : List ℕ) (end used : ℕ) (line : TakesLine bytes end used) w
   pub means_classic : (first : Span) → IsNextWord (take end bytes) 0 first → verb_of (text_at (take end bytes) first) ≡ None → meaning both_grammar (take (used - 1) bytes) (drop used bytes) ≡ lift_found Classic (meaning classic_grammar (take (used - 1) bytes) (drop used bytes))
   means_classic first h none = classic_by _ (text_at (take end bytes) first) (words (drop first.end (take end bytes))) (length (take (used - 1) bytes) + 1) (drop used bytes) (line_words first h) none
 
-  pub means_meta : (first : Span) (verb : Verb) → IsNextWord (take end bytes) 0 first → verb_of (text_at (take end bytes) first) ≡ Some verb → meaning both_grammar (take (used - 1) bytes) (drop used bytes) ≡ lift_found Meta (meaning meta_grammar (take (used - 1) bytes) (drop used bytes))
-  means_meta first verb h some = meta_by _ (text_at (take end bytes) first) (words (drop first.end (take end bytes))) verb (length (take (used - 1) bytes) + 1) (drop used bytes) (line_words first h) some
+  pub means_meta : (first : Span) → IsNextWord (take end bytes) 0 first → text_words.verb_of (text_at (take end bytes) first) ≡ None → meaning both_grammar (take (used - 1) bytes) (drop used bytes) ≡ lift_found Meta (meaning meta_grammar (take (used - 1) bytes) (drop used bytes))
+  means_meta first h none = meta_by _ (text_at (take end bytes) first) (words (drop first.end (take end bytes))) (length (take (used - 1) bytes) + 1) (drop used bytes) (line_words first h) none
 
   -- what is read after the first line is what the bytes begin with
   pub reads_meant : (r : Read) → IsMeant bytes r (meaning both_grammar (take (used - 1) bytes) (drop used bytes)) → Reads bytes r

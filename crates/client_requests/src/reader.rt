@@ -1,7 +1,9 @@
 //! How the message at the front of a client's bytes is read, in whichever dialect it is.
-ghost use Rattle.std.specs.Prelude.{◌≡◌, ℕ, List};
+ghost use Rattle.std.specs.Prelude.{◌≡◌, ℕ, List, None};
 ghost use Rattle.text_requests.specs.Message as texts;
+ghost use Rattle.text_requests.specs.CommandWords as text_words;
 ghost use Rattle.meta_requests.specs.Message as metas;
+ghost use Rattle.meta_requests.specs.CommandWords as meta_words;
 ghost use Rattle.client_requests.specs.Both.{Classic, Meta, lift_found};
 ghost use Rattle.client_requests.specs.Message.{IsMeant, Reads};
 
@@ -9,6 +11,7 @@ use crate::request::Request;
 use mc_text::ends::Line;
 use mc_text::reading::line;
 use mc_text::word::next_word;
+use mc_types::Dialect;
 use request_parts::{RefusalReason, Skip};
 
 /// What the bytes of a client begin with.
@@ -52,8 +55,20 @@ fn of_meta(read: meta_requests::Read) -> Read
     }
 }
 
-/// The message that the bytes begin with, in either dialect: the line is found once, and its first word decides. It takes
-/// no memory, and time linear in its line: no data are looked at.
+// The dialect that alone can have this word as a command: each meta command has two letters, and no classic one has. A word
+// that is no command is unknown in both.
+fn dialect_of(word: &[u8]) -> Dialect
+    ensures classic { result ≡ Dialect.Classic → meta_words.verb_of word.now ≡ None }
+    ensures meta { result ≡ Dialect.Meta → text_words.verb_of word.now ≡ None }
+{
+    match word.len() {
+        2 => Dialect::Meta,
+        _ => Dialect::Classic,
+    }
+}
+
+/// The message that the bytes begin with, in either dialect: the line is found once, the length of its first word tells the
+/// dialect, and the word is looked up there alone. It takes no memory, and time linear in its line: no data are looked at.
 ///
 /// Source: memcached's protocol.txt.
 pub fn read_request(bytes: &[u8]) -> Read
@@ -71,9 +86,13 @@ pub fn read_request(bytes: &[u8]) -> Read
                     skip: Skip::Nothing,
                 };
             }
-            Some(first) => match meta_requests::verbs::verb(&bytes[..end][first.start..first.end]) {
-                None => return of_classic(text_requests::read_behind(bytes, end, used, first)),
-                Some(_) => return of_meta(meta_requests::read_behind(bytes, end, used, first)),
+            Some(first) => match dialect_of(&bytes[..end][first.start..first.end]) {
+                Dialect::Classic => {
+                    return of_classic(text_requests::read_behind(bytes, end, used, first));
+                }
+                Dialect::Meta => return of_meta(meta_requests::read_behind(
+                    bytes, end, used, first,
+                )),
             },
         },
     }

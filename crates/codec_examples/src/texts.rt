@@ -1,7 +1,7 @@
 //! Tests: lines, words and numbers.
 
-use mc_text::arithmetic::change;
-use mc_text::number::{number, signed, small_number};
+use mc_text::arithmetic::incr_or_decr;
+use mc_text::number::{number, signed, u32_number};
 use mc_text::word::{Span, next_word};
 use mc_text::{Line, line};
 use std::test::Fail;
@@ -71,8 +71,8 @@ fn numbers(rt: HostRuntime) {
     for (word, want) in cases {
         assert_eq!(rt; number(word), want);
     }
-    assert_eq!(rt; small_number(b"4294967295".as_slice()), Some(4_294_967_295));
-    assert_eq!(rt; small_number(b"4294967296".as_slice()), None);
+    assert_eq!(rt; u32_number(b"4294967295".as_slice()), Some(4_294_967_295));
+    assert_eq!(rt; u32_number(b"4294967296".as_slice()), None);
 }
 
 #[test]
@@ -110,6 +110,6 @@ fn arithmetic(rt: HostRuntime) {
         (b"".as_slice(), true, 1, None),
     ];
     for (bytes, up, delta, want) in cases {
-        assert_eq!(rt; change(bytes, up, delta), want);
+        assert_eq!(rt; incr_or_decr(bytes, up, delta), want);
     }
 }

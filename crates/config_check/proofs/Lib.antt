@@ -1,3 +1,3 @@
 pub mod Statuses
-pub mod Lines
 pub mod Runs
+pub mod RunLines

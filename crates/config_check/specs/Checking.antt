@@ -1,5 +1,5 @@
--- What is printed of a configuration's text. Source: mcgate's own.
-use Rattle.std.specs.Prelude.{◌≡◌, ℕ, ◌⊎◌, List, [], ◌∷◌, ◌++◌, Option, Some, None, Ok, IsSome, map}
+-- What is printed of a configuration that is accepted or refused, and of a text that is none. Source: mcgate's own.
+use Rattle.std.specs.Prelude.{◌≡◌, ℕ, ◌⊎◌, List, [], ◌∷◌, ◌++◌, Option, Some, None, IsSome, map}
 use Rattle.std.specs.Io.KnownBytes.{Appends}
 use Rattle.serde_json.specs.Read.{read}
 use Rattle.route_tree.specs.Route.{Route}
@@ -7,8 +7,8 @@ use Rattle.route_json.specs.declared.fault.ConfigFault.{ConfigFault}
 use Rattle.route_json.specs.Fault.{Fails, fault_of}
 use Rattle.route_json.specs.Configs.{read_or}
 use Rattle.route_json.specs.Configuration.{Configuration}
-use Rattle.coverage.specs.declared.table.PlaceTable.{PlaceTable}
-use Rattle.coverage.specs.Tables.{IsTable, row_count}
+use Rattle.certificates.specs.declared.table.PlaceTable.{PlaceTable}
+use Rattle.certificates.specs.Tables.{IsTable, row_count}
 use Rattle.fresh_gate.specs.declared.gap.Gap.{Gap}
 use Rattle.fresh_gate.specs.declared.gap.Reason.{Reason}
 use Rattle.fresh_gate.specs.declared.gap.Reason.TheVariants as reasons
@@ -18,6 +18,7 @@ use Rattle.fleet_run.specs.Scripted.{Scripted, scripted_of}
 use Rattle.refusals.specs.Refusals.{IsRefusalRun, MayLack}
 use Rattle.script_text.specs.Printed.{config_fault_line}
 use Rattle.script_lines.specs.Lines.{script_lines}
+use Rattle.script_lines.specs.Laws.{AreReadBack}
 use Rattle.config_check.specs.Verdict.{accepted_line, refusal_line}
 use Rattle.config_check.specs.declared.status.RunFault.{RunFault}
 use Rattle.config_check.specs.declared.status.RunFault.TheVariants.{NoMemory, Writer}
@@ -52,10 +53,10 @@ abbrev pub run_lines : Option Script → List ℕ
 run_lines None = []
 run_lines (Some script) = script_lines (map scripted_of script.events.items)
 
--- the lines are those of a script that shows the gap, or there are none and the gap may have no such script
+-- the lines are those of a script that shows the gap, and are read back as that script; or there are none and the gap may have no such script
 abbrev pub ShowsGap : Configuration → Gap → List ℕ → Type 0
 ShowsGap config gap lines =
-    ((events : List Scripted) × IsRefusalRun config gap events × (lines ≡ script_lines events)) ⊎ (MayLack config.tree gap × (lines ≡ []))
+    ((events : List Scripted) × IsRefusalRun config gap events × AreReadBack events × (lines ≡ script_lines events)) ⊎ (MayLack config.tree gap × (lines ≡ []))
 
 -- so it is where the reason is a gap; for another there are no lines
 abbrev pub ShowsReason : Configuration → Reason → List ℕ → Type 0
@@ -63,6 +64,14 @@ ShowsReason config (reasons.Uncovered gap) lines = ShowsGap config gap lines
 ShowsReason config reasons.TooManyPlaces lines = lines ≡ []
 ShowsReason config (reasons.BadCertificate row) lines = lines ≡ []
 ShowsReason config reasons.NoMemory lines = lines ≡ []
+
+-- the script that was found for a reason, which a gap alone may have; or there is none
+abbrev pub IsFoundFor : Configuration → Reason → Option Script → Type 0
+IsFoundFor config (reasons.Uncovered gap) None = MayLack config.tree gap
+IsFoundFor config (reasons.Uncovered gap) (Some script) = IsRefusalRun config gap (map scripted_of script.events.items)
+IsFoundFor config reasons.TooManyPlaces found = found ≡ None
+IsFoundFor config (reasons.BadCertificate row) found = found ≡ None
+IsFoundFor config reasons.NoMemory found = found ≡ None
 
 -- the tree is refused for this reason, and that and then the lines of the script that shows it were written
 pub record ChecksRefused (config : Configuration) (reason : Reason) (old new : Option (List ℕ)) : Type 0 where
@@ -72,26 +81,12 @@ pub record ChecksRefused (config : Configuration) (reason : Reason) (old new : O
   pub shows : ShowsReason config reason run
   pub printed : Appends old new (refusal_line config.servers reason ++ run)
 
--- the verdict on a configuration was written; status 0: it is accepted; status 1: it is refused
-abbrev pub ChecksConfig : Configuration → Option (List ℕ) → Option (List ℕ) → ℕ → Type 0
-ChecksConfig config old new status = ((status ≡ 0) × PrintsAccepted config.tree old new) ⊎ ((status ≡ 1) × (reason : Reason) × ChecksRefused config reason old new)
-
--- the text is a configuration, and the verdict on it was written
-pub record PrintsVerdict (text : List ℕ) (old new : Option (List ℕ)) (status : ℕ) : Type 0 where
-  pub config : Configuration
-  pub said : read_or (read text) ≡ Ok (config.tree, config.servers)
-  pub checks : ChecksConfig config old new status
-
 -- the text is none: reading it fails by this fault, which isn't running out of memory, and that was written
 pub record PrintsFault (text : List ℕ) (old new : Option (List ℕ)) : Type 0 where
   pub fault : ConfigFault
   pub told : IsSome (fault_of fault)
   pub said : Fails (fault_of fault) (read_or (read text))
   pub printed : Appends old new (config_fault_line fault)
-
--- status 2: the text is no configuration
-abbrev pub Checks : List ℕ → Option (List ℕ) → Option (List ℕ) → ℕ → Type 0
-Checks text old new status = PrintsVerdict text old new status ⊎ ((status ≡ 2) × PrintsFault text old new)
 
 -- the answer where a run was broken off
 abbrev pub answer_of : RunFault → ℕ

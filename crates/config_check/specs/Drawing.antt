@@ -1,9 +1,7 @@
--- What is printed of a configuration's text where it is drawn. Source: mcgate's own.
-use Rattle.std.specs.Prelude.{◌≡◌, ℕ, ◌⊎◌, List, Option, Ok}
+-- What is printed of a configuration where it is drawn. Source: mcgate's own.
+use Rattle.std.specs.Prelude.{◌≡◌, ℕ, List, Option}
 use Rattle.std.specs.Io.KnownBytes.{Appends}
-use Rattle.serde_json.specs.Read.{read}
 use Rattle.route_tree.specs.Place.{tree_at_place}
-use Rattle.route_json.specs.Configs.{read_or}
 use Rattle.route_json.specs.Configuration.{Configuration}
 use Rattle.fresh_gate.specs.declared.gap.Reason.{Reason}
 use Rattle.fresh_gate.specs.declared.gap.Reason.TheVariants as reasons
@@ -11,7 +9,7 @@ use Rattle.fresh_gate.specs.Gate.{IsCertified, IsJudged}
 use Rattle.gate_words.specs.declared.explanation.Explanation.{Explanation}
 use Rattle.gate_words.specs.Explanations as gaps
 use Rattle.tree_picture.specs.Picture.{picture, gap_picture}
-use Rattle.config_check.specs.Checking.{IsTold, PrintsFault}
+use Rattle.config_check.specs.Checking.{IsTold}
 use Rattle.config_check.specs.Verdict.{refusal_line}
 
 -- these lines are drawn: of a gap the tree with the way of an explanation; another reason has its line
@@ -35,17 +33,3 @@ pub record DrawsRefused (config : Configuration) (reason : Reason) (old new : Op
 pub record DrawsAccepted (config : Configuration) (old new : Option (List ℕ)) : Type 0 where
   pub certified : IsCertified config.tree
   pub printed : Appends old new (picture config)
-
--- status 0: it is accepted; status 1: it is refused
-abbrev pub DrawsConfig : Configuration → Option (List ℕ) → Option (List ℕ) → ℕ → Type 0
-DrawsConfig config old new status = ((status ≡ 0) × DrawsAccepted config old new) ⊎ ((status ≡ 1) × (reason : Reason) × DrawsRefused config reason old new)
-
--- the text is a configuration, and it was drawn
-pub record DrawsVerdict (text : List ℕ) (old new : Option (List ℕ)) (status : ℕ) : Type 0 where
-  pub config : Configuration
-  pub said : read_or (read text) ≡ Ok (config.tree, config.servers)
-  pub draws : DrawsConfig config old new status
-
--- status 2: the text is no configuration
-abbrev pub Draws : List ℕ → Option (List ℕ) → Option (List ℕ) → ℕ → Type 0
-Draws text old new status = DrawsVerdict text old new status ⊎ ((status ≡ 2) × PrintsFault text old new)

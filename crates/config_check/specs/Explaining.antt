@@ -1,10 +1,8 @@
--- What is printed of a configuration's text where the verdict is explained. Source: mcgate's own.
-use Rattle.std.specs.Prelude.{◌≡◌, ℕ, ◌⊎◌, List, [], ◌++◌, codes, Option, Ok}
+-- What is printed of a configuration where the verdict is explained. Source: mcgate's own.
+use Rattle.std.specs.Prelude.{◌≡◌, ℕ, List, [], ◌++◌, codes, Option}
 use Rattle.std.specs.Io.KnownBytes.{Appends}
-use Rattle.serde_json.specs.Read.{read}
 use Rattle.route_tree.specs.Place.{tree_at_place}
 use Rattle.route_tree.specs.Route.{Route}
-use Rattle.route_json.specs.Configs.{read_or}
 use Rattle.route_json.specs.Configuration.{Configuration}
 use Rattle.route_json.specs.Servers.{Addresses}
 use Rattle.fresh_gate.specs.declared.gap.Reason.{Reason}
@@ -12,7 +10,7 @@ use Rattle.fresh_gate.specs.declared.gap.Reason.TheVariants as reasons
 use Rattle.gate_words.specs.declared.explanation.Explanation.{Explanation}
 use Rattle.gate_words.specs.Explanations as gaps
 use Rattle.gate_words.specs.Lines.{explanation_lines}
-use Rattle.config_check.specs.Checking.{PrintsAccepted, ChecksRefused, PrintsFault}
+use Rattle.config_check.specs.Checking.{PrintsAccepted, ChecksRefused}
 use Rattle.config_check.specs.declared.explaining.Words.{Words}
 use Rattle.config_check.specs.declared.explaining.Words.TheVariants as words
 
@@ -55,17 +53,3 @@ pub record ExplainsAccepted (tree : Route) (old new : Option (List ℕ)) : Type 
   pub between : Option (List ℕ)
   pub accepts : PrintsAccepted tree old between
   pub printed : Appends between new accepted_words
-
--- the verdict and the words were written; status 0: it is accepted; status 1: it is refused
-abbrev pub ExplainsConfig : Configuration → Option (List ℕ) → Option (List ℕ) → ℕ → Type 0
-ExplainsConfig config old new status = ((status ≡ 0) × ExplainsAccepted config.tree old new) ⊎ ((status ≡ 1) × (reason : Reason) × ExplainsRefused config reason old new)
-
--- the text is a configuration, and the verdict on it was explained
-pub record ExplainsVerdict (text : List ℕ) (old new : Option (List ℕ)) (status : ℕ) : Type 0 where
-  pub config : Configuration
-  pub said : read_or (read text) ≡ Ok (config.tree, config.servers)
-  pub explains : ExplainsConfig config old new status
-
--- status 2: the text is no configuration
-abbrev pub Explains : List ℕ → Option (List ℕ) → Option (List ℕ) → ℕ → Type 0
-Explains text old new status = ExplainsVerdict text old new status ⊎ ((status ≡ 2) × PrintsFault text old new)

@@ -3,3 +3,4 @@ pub mod Reloads
 pub mod Checking
 pub mod Explaining
 pub mod Drawing
+pub mod Reporting

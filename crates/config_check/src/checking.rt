@@ -1,21 +1,23 @@
-//! A configuration's text, checked.
+//! What is printed of a configuration that is accepted or refused, and of a text that is none.
 
-ghost use Rattle.std.specs.Prelude.{◌≡◌, ◌≤◌, IfOk, IfErr, OnOk};
+ghost use Rattle.std.specs.Prelude.{◌≡◌, ◌≤◌, IfOk, IfErr, IfSome, OnOk, All};
 ghost use Rattle.std.specs.Io.KnownBytes.{Appends};
 ghost use Rattle.serde_json.specs.Read.{read};
 ghost use Rattle.route_json.specs.Configs.{read_or};
 ghost use Rattle.route_json.specs.Fault.{Fails, fault_of};
 ghost use Rattle.fresh_gate.specs.Gate.{IsCertified, IsJudged};
+ghost use Rattle.fleet_run.specs.Scripted.{scripted_of};
+ghost use Rattle.script_lines.specs.Laws.{HasWidths};
 ghost use Rattle.config_check.specs.Verdict.{refusal_line};
-ghost use Rattle.config_check.specs.Checking.{Checks, ChecksConfig, ChecksRefused, IsTold, PrintsAccepted, PrintsRefused, ShowsReason, PrintsFault, StopsUnwritten, HasPlaces, run_lines};
+ghost use Rattle.config_check.specs.Checking.{ChecksRefused, IsTold, PrintsAccepted, PrintsRefused, IsFoundFor, PrintsFault, StopsUnwritten, HasPlaces, run_lines};
 
-use crate::status::{BAD_INPUT, DONE, REFUSED, RunFault, answer_of};
+use crate::status::{BAD_INPUT, DONE, REFUSED, RunFault};
 use crate::verdict::{write_accepted, write_refusal};
-use coverage::places;
+use certificates::places;
 use fleet_run::Script;
-use fresh_gate::{Reason, judge};
+use fresh_gate::Reason;
 use refusals::refusal_run;
-use route_json::{Config, ConfigFault, read_config};
+use route_json::{Config, ConfigFault};
 use route_tree::Tree;
 use script_lines::write_script;
 use script_text::printer::write_config_fault;
@@ -79,7 +81,7 @@ pub fn print_refused<W: Write>(
 // The script that shows why a configuration is refused, if that is a gap that has one.
 fn run_of(alloc: Global, config: &Config, reason: &Reason) -> Result<Option<Script>, AllocError>
     requires { IsJudged config.now.tree reason.now }
-    ensures { IfOk result (λ found. ShowsReason config.now reason.now (run_lines found)) }
+    ensures { IfOk result (IsFoundFor config.now reason.now) }
 {
     match reason {
         Reason::Uncovered(gap) => refusal_run(alloc, config, gap),
@@ -89,7 +91,8 @@ fn run_of(alloc: Global, config: &Config, reason: &Reason) -> Result<Option<Scri
 
 // Writes the lines of a script, if there is one.
 fn print_run<W: Write>(run: &Option<Script>, out: &mut W) -> io::Result<()>
-    ensures { OnOk result (Appends (W.contents out.old) (W.contents out.new) (run_lines run.now)) }
+    ensures lines { OnOk result (Appends (W.contents out.old) (W.contents out.new) (run_lines run.now)) }
+    ensures widths { OnOk result (IfSome run.now (λ script. All (λ event. HasWidths (scripted_of event)) script.events.items)) }
 {
     match run {
         Some(script) => write_script(script, out),
@@ -115,17 +118,6 @@ pub fn check_refused<W: Write>(
     Ok(status)
 }
 
-// Judges a configuration, and writes the verdict.
-fn check_config<W: Write>(alloc: Global, config: Config, out: &mut W) -> Result<u8, RunFault>
-    ensures ok { IfOk result (ChecksConfig config (W.contents out.old) (W.contents out.new)) }
-    ensures err { IfErr result (StopsUnwritten (W.contents out.old) (W.contents out.new)) }
-{
-    match judge(alloc, config) {
-        Ok(accepted) => print_accepted(alloc, accepted.config().tree(), out),
-        Err(refused) => check_refused(alloc, &refused.config, &refused.reason, out),
-    }
-}
-
 /// Writes the fault of a text that is no configuration, unless that is running out of memory.
 pub fn print_fault<W: Write>(text: &str, fault: &ConfigFault, out: &mut W) -> Result<u8, RunFault>
     requires { Fails (fault_of fault.now) (read_or (read text.now)) }
@@ -139,35 +131,5 @@ pub fn print_fault<W: Write>(text: &str, fault: &ConfigFault, out: &mut W) -> Re
             write_config_fault(told, out)?;
             Ok(BAD_INPUT)
         }
-    }
-}
-
-// Judges the configuration of a text, or writes why it is none.
-fn check_text<W: Write>(alloc: Global, text: &str, out: &mut W) -> Result<u8, RunFault>
-    ensures ok { IfOk result (Checks text.now (W.contents out.old) (W.contents out.new)) }
-    ensures err { IfErr result (StopsUnwritten (W.contents out.old) (W.contents out.new)) }
-{
-    match read_config(alloc, text) {
-        Ok(config) => check_config(alloc, config, out),
-        Err(fault) => print_fault(text, &fault, out),
-    }
-}
-
-/// Judges the configuration that a JSON text means, and prints the verdict: `accepted places=N`; or `refused: ` and why, and where
-/// that is a gap the lines of the script that shows it, if [`refusal_run`] finds one; or the first fault of a text that is no
-/// configuration.
-///
-/// The answer is the exit status of what was printed, [`DONE`], [`REFUSED`] or [`BAD_INPUT`]; or else `NO_MEMORY` where memory
-/// was refused: then nothing was printed; or `WRITER` where the output could not be written: then a part of the lines may have been.
-///
-/// Source: mcgate's own.
-pub fn run_check<W: Write>(alloc: Global, text: &str, out: &mut W) -> u8
-    ensures status { result ≤ 4 }
-    ensures wrote { result ≤ 2 → Checks text.now (W.contents out.old) (W.contents out.new) result }
-    ensures refused { result ≡ 3 → W.contents out.new ≡ W.contents out.old }
-{
-    match check_text(alloc, text, out) {
-        Ok(status) => status,
-        Err(fault) => answer_of(fault),
     }
 }

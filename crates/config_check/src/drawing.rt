@@ -1,22 +1,22 @@
-//! A configuration's text, checked, and drawn.
+//! A configuration drawn, where it is refused with its gap.
 
-ghost use Rattle.std.specs.Prelude.{◌≡◌, ◌≤◌, IfOk, IfErr};
+ghost use Rattle.std.specs.Prelude.{◌≡◌, IfOk, IfErr};
 ghost use Rattle.fresh_gate.specs.Gate.{IsCertified, IsJudged};
 ghost use Rattle.fresh_gate.specs.declared.gap.Reason.TheVariants as reasons;
 ghost use Rattle.config_check.specs.Checking.{StopsUnwritten};
-ghost use Rattle.config_check.specs.Drawing.{Draws, DrawsAccepted, DrawsConfig, DrawsRefused};
+ghost use Rattle.config_check.specs.Drawing.{DrawsAccepted, DrawsRefused};
 
-use crate::checking::{print_fault, print_reason};
+use crate::checking::print_reason;
 use crate::explaining::gap_explained;
-use crate::status::{DONE, REFUSED, RunFault, answer_of};
-use fresh_gate::{Gap, Reason, judge};
-use route_json::{Config, read_config};
+use crate::status::{DONE, REFUSED, RunFault};
+use fresh_gate::{Gap, Reason};
+use route_json::Config;
 use std::alloc::Global;
 use std::io::Write;
 use tree_picture::{write_gap_picture, write_picture};
 
-// Draws an accepted configuration.
-fn draw_accepted<W: Write>(config: &Config, out: &mut W) -> Result<u8, RunFault>
+/// Draws an accepted configuration.
+pub(crate) fn draw_accepted<W: Write>(config: &Config, out: &mut W) -> Result<u8, RunFault>
     requires { IsCertified config.now.tree }
     ensures ok { IfOk result (λ status. (status ≡ 0) × DrawsAccepted config.now (W.contents out.old) (W.contents out.new)) }
     ensures err { IfErr result (StopsUnwritten (W.contents out.old) (W.contents out.new)) }
@@ -41,8 +41,8 @@ fn draw_gap<W: Write>(
     Ok(REFUSED)
 }
 
-// Draws a configuration with its gap, or writes why else it is refused.
-fn draw_refused<W: Write>(
+/// Draws a configuration with its gap, or writes why else it is refused.
+pub(crate) fn draw_refused<W: Write>(
     alloc: Global,
     config: &Config,
     reason: &Reason,
@@ -55,45 +55,5 @@ fn draw_refused<W: Write>(
     match reason {
         Reason::Uncovered(gap) => draw_gap(alloc, config, gap, out),
         _ => print_reason(config, reason, out),
-    }
-}
-
-// Judges a configuration, and draws it.
-fn draw_config<W: Write>(alloc: Global, config: Config, out: &mut W) -> Result<u8, RunFault>
-    ensures ok { IfOk result (DrawsConfig config (W.contents out.old) (W.contents out.new)) }
-    ensures err { IfErr result (StopsUnwritten (W.contents out.old) (W.contents out.new)) }
-{
-    match judge(alloc, config) {
-        Ok(accepted) => draw_accepted(accepted.config(), out),
-        Err(refused) => draw_refused(alloc, &refused.config, &refused.reason, out),
-    }
-}
-
-// Judges and draws the configuration of a text, or writes why it is none.
-fn draw_text<W: Write>(alloc: Global, text: &str, out: &mut W) -> Result<u8, RunFault>
-    ensures ok { IfOk result (Draws text.now (W.contents out.old) (W.contents out.new)) }
-    ensures err { IfErr result (StopsUnwritten (W.contents out.old) (W.contents out.new)) }
-{
-    match read_config(alloc, text) {
-        Ok(config) => draw_config(alloc, config, out),
-        Err(fault) => print_fault(text, &fault, out),
-    }
-}
-
-/// Judges the configuration that a JSON text means, and prints it as a graph in Graphviz's language in place of the verdict; of a
-/// refused one with its first gap marked: the way by which the read reaches the server, and the server, which the delete leaves.
-/// Where there are too many places, or the text is no configuration, the line of [`crate::run_check`] is printed, and no graph.
-///
-/// The answer is as that of [`crate::run_check`].
-///
-/// Source: mcgate's own, in Graphviz's language.
-pub fn run_picture<W: Write>(alloc: Global, text: &str, out: &mut W) -> u8
-    ensures status { result ≤ 4 }
-    ensures wrote { result ≤ 2 → Draws text.now (W.contents out.old) (W.contents out.new) result }
-    ensures refused { result ≡ 3 → W.contents out.new ≡ W.contents out.old }
-{
-    match draw_text(alloc, text, out) {
-        Ok(status) => status,
-        Err(fault) => answer_of(fault),
     }
 }

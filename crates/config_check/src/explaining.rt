@@ -1,20 +1,20 @@
-//! A configuration's text, checked, and then in words why it is refused.
+//! What is printed of a configuration, and then in words why it is refused.
 
-ghost use Rattle.std.specs.Prelude.{◌≡◌, ◌≤◌, IfOk, IfErr, OnOk};
+ghost use Rattle.std.specs.Prelude.{◌≡◌, IfOk, IfErr, OnOk};
 ghost use Rattle.std.specs.Io.KnownBytes.{Appends};
 ghost use Rattle.fresh_gate.specs.Gate.{IsCertified, IsJudged};
 ghost use Rattle.fresh_gate.specs.declared.gap.Reason.TheVariants as reasons;
 ghost use Rattle.config_check.specs.Checking.{StopsUnwritten};
 ghost use Rattle.config_check.specs.Explaining as told;
-ghost use Rattle.config_check.specs.Explaining.{Explains, ExplainsAccepted, ExplainsConfig, ExplainsRefused, IsInWords, accepted_words, words_text};
+ghost use Rattle.config_check.specs.Explaining.{ExplainsAccepted, ExplainsRefused, IsInWords, accepted_words, words_text};
 ghost use Rattle.gate_words.specs.Explanations as gaps;
 ghost use Rattle.route_tree.specs.Place.{tree_at_place};
 
-use crate::checking::{check_refused, print_accepted, print_fault};
-use crate::status::{RunFault, answer_of};
-use fresh_gate::{Gap, Reason, judge};
+use crate::checking::{check_refused, print_accepted};
+use crate::status::RunFault;
+use fresh_gate::{Gap, Reason};
 use gate_words::{Explanation, explain, write_explanation};
-use route_json::{Config, Servers, read_config};
+use route_json::{Config, Servers};
 use route_tree::Tree;
 use std::alloc::{AllocError, Global};
 use std::io;
@@ -92,8 +92,8 @@ fn write_words<W: Write>(servers: &Servers, words: &Words, out: &mut W) -> io::R
     }
 }
 
-// Writes why a configuration is refused, the script that shows it, and the words.
-fn explain_refused<W: Write>(
+/// Writes why a configuration is refused, the script that shows it, and the words.
+pub(crate) fn explain_refused<W: Write>(
     alloc: Global,
     config: &Config,
     reason: &Reason,
@@ -116,8 +116,12 @@ fn write_fresh<W: Write>(out: &mut W) -> io::Result<()>
     writeln!(out, "{text}")
 }
 
-// Writes that a tree is accepted, and what that is.
-fn explain_accepted<W: Write>(alloc: Global, tree: &Tree, out: &mut W) -> Result<u8, RunFault>
+/// Writes that a tree is accepted, and what that is.
+pub(crate) fn explain_accepted<W: Write>(
+    alloc: Global,
+    tree: &Tree,
+    out: &mut W,
+) -> Result<u8, RunFault>
     requires { IsCertified tree.now }
     ensures ok { IfOk result (λ status. (status ≡ 0) × ExplainsAccepted tree.now (W.contents out.old) (W.contents out.new)) }
     ensures err { IfErr result (StopsUnwritten (W.contents out.old) (W.contents out.new)) }
@@ -125,43 +129,4 @@ fn explain_accepted<W: Write>(alloc: Global, tree: &Tree, out: &mut W) -> Result
     let status = print_accepted(alloc, tree, out)?;
     write_fresh(out)?;
     Ok(status)
-}
-
-// Judges a configuration, and writes the verdict and the words.
-fn explain_config<W: Write>(alloc: Global, config: Config, out: &mut W) -> Result<u8, RunFault>
-    ensures ok { IfOk result (ExplainsConfig config (W.contents out.old) (W.contents out.new)) }
-    ensures err { IfErr result (StopsUnwritten (W.contents out.old) (W.contents out.new)) }
-{
-    match judge(alloc, config) {
-        Ok(accepted) => explain_accepted(alloc, accepted.config().tree(), out),
-        Err(refused) => explain_refused(alloc, &refused.config, &refused.reason, out),
-    }
-}
-
-// Judges the configuration of a text, or writes why it is none.
-fn explain_text<W: Write>(alloc: Global, text: &str, out: &mut W) -> Result<u8, RunFault>
-    ensures ok { IfOk result (Explains text.now (W.contents out.old) (W.contents out.new)) }
-    ensures err { IfErr result (StopsUnwritten (W.contents out.old) (W.contents out.new)) }
-{
-    match read_config(alloc, text) {
-        Ok(config) => explain_config(alloc, config, out),
-        Err(fault) => print_fault(text, &fault, out),
-    }
-}
-
-/// Prints what [`crate::run_check`] prints, and then in words, as comments of a script: for a gap by which way a read reaches the
-/// server, which servers reads take, which of them the delete clears and which it leaves, and what to change.
-///
-/// The answer is as that of [`crate::run_check`].
-///
-/// Source: mcgate's own.
-pub fn run_explain<W: Write>(alloc: Global, text: &str, out: &mut W) -> u8
-    ensures status { result ≤ 4 }
-    ensures wrote { result ≤ 2 → Explains text.now (W.contents out.old) (W.contents out.new) result }
-    ensures refused { result ≡ 3 → W.contents out.new ≡ W.contents out.old }
-{
-    match explain_text(alloc, text, out) {
-        Ok(status) => status,
-        Err(fault) => answer_of(fault),
-    }
 }

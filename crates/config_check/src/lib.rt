@@ -5,11 +5,10 @@ pub mod checking;
 pub mod drawing;
 pub mod explaining;
 pub mod reload_lines;
+pub mod reporting;
 pub mod status;
 pub mod verdict;
 
-pub use checking::run_check;
-pub use drawing::run_picture;
-pub use explaining::run_explain;
+pub use reporting::{Form, run_check};
 pub use status::RunFault;
 pub use verdict::{write_accepted, write_refusal};

@@ -2,10 +2,11 @@
 
 ghost use Rattle.std.specs.Prelude.{◌≡◌, OnOk};
 ghost use Rattle.std.specs.Io.KnownBytes.{Appends};
-ghost use Rattle.route_tree.specs.Place.{prefix_text};
-ghost use Rattle.config_check.specs.Verdict.{accepted_line, line_front, line_back, fields_line, gap_line, refusal_line};
+ghost use Rattle.gate_words.specs.Names.{op_name, delete_name, address_of};
+ghost use Rattle.config_check.specs.Verdict.{accepted_line, ask_fields, place_fields, gap_fields, gap_line, refusal_line};
 
 use byte_escapes::Escaped;
+use coverage::prefixes::prefix_text;
 use fresh_gate::{Gap, Reason};
 use gate_words::names::{address_of, delete_name, op_name};
 use route_json::Servers;
@@ -14,16 +15,6 @@ use std::fmt::Display;
 use std::io::Write;
 use std::{fmt, io};
 
-/// The prefix of a place; no bytes where it has none.
-pub(crate) fn prefix_of(place: &Place) -> &[u8]
-    ensures { result.now ≡ prefix_text place.now.prefix }
-{
-    match &place.prefix {
-        Some(key) => key.as_bytes(),
-        None => &[],
-    }
-}
-
 /// Writes the line of an accepted configuration: `accepted places=N`, with the number of its places. The format is mcgate's own.
 pub fn write_accepted<W: Write>(places: u32, out: &mut W) -> io::Result<()>
     ensures { OnOk result (Appends (W.contents out.old) (W.contents out.new) (accepted_line places)) }
@@ -31,61 +22,42 @@ pub fn write_accepted<W: Write>(places: u32, out: &mut W) -> io::Result<()>
     writeln!(out, "accepted places={places}")
 }
 
-// Writes the front of a gap's line, the address in the escapes.
-fn write_front<W: Write>(address: &[u8], read: &str, delete: &str, out: &mut W) -> io::Result<()>
-    ensures { OnOk result (Appends (W.contents out.old) (W.contents out.new) (line_front address.now read.now delete.now)) }
+// Writes which server a gap leaves, and what is asked there, the address in the escapes.
+fn write_ask<W: Write>(servers: &Servers, gap: &Gap, out: &mut W) -> io::Result<()>
+    ensures { OnOk result (Appends (W.contents out.old) (W.contents out.new) (ask_fields (address_of servers.now gap.now.server) (op_name gap.now.op) (delete_name gap.now.deleting))) }
 {
-    let address = Escaped(address);
-    write!(out, "refused: server={address} read={read} delete={delete}")
+    let address = Escaped(address_of(servers, gap.server).as_bytes());
+    let read = op_name(gap.op);
+    let delete = delete_name(gap.deleting);
+    write!(out, " server={address} read={read} delete={delete}")
 }
 
-/// Writes the rest of it, the prefix in the escapes.
-pub(crate) fn write_back<W: Write>(
-    prefix: &[u8],
-    residue: u32,
-    modulus: u32,
-    out: &mut W,
-) -> io::Result<()>
-    ensures { OnOk result (Appends (W.contents out.old) (W.contents out.new) (line_back prefix.now residue modulus)) }
+/// Writes a place and ends the line: ` prefix=P residue=R/L`. The prefix is in the escapes, and empty where there is none. The format
+/// is mcgate's own.
+pub fn write_place<W: Write>(place: &Place, out: &mut W) -> io::Result<()>
+    ensures { OnOk result (Appends (W.contents out.old) (W.contents out.new) (place_fields place.now)) }
 {
-    let prefix = Escaped(prefix);
+    let prefix = Escaped(prefix_text(&place.prefix));
+    let residue = place.residue;
+    let modulus = place.modulus;
     writeln!(out, " prefix={prefix} residue={residue}/{modulus}")
 }
 
-// Writes the line of a gap by its fields.
-fn write_fields<W: Write>(
-    address: &[u8],
-    read: &str,
-    delete: &str,
-    prefix: &[u8],
-    residue: u32,
-    modulus: u32,
-    out: &mut W,
-) -> io::Result<()>
-    ensures { OnOk result (Appends (W.contents out.old) (W.contents out.new) (fields_line address.now read.now delete.now prefix.now residue modulus)) }
+/// Writes the fields of a gap and ends the line: ` server=A read=OP delete=D prefix=P residue=R/L`.
+pub(crate) fn write_gap<W: Write>(servers: &Servers, gap: &Gap, out: &mut W) -> io::Result<()>
+    ensures { OnOk result (Appends (W.contents out.old) (W.contents out.new) (gap_fields servers.now gap.now)) }
 {
-    write_front(address, read, delete, out)?;
-    write_back(prefix, residue, modulus, out)?;
+    write_ask(servers, gap, out)?;
+    write_place(&gap.place, out)?;
     Ok(())
 }
 
-// Writes the line of a gap. The server has its address, and the prefix is empty where the place has none.
-fn write_gap<W: Write>(servers: &Servers, gap: &Gap, out: &mut W) -> io::Result<()>
+fn write_gap_line<W: Write>(servers: &Servers, gap: &Gap, out: &mut W) -> io::Result<()>
     ensures { OnOk result (Appends (W.contents out.old) (W.contents out.new) (gap_line servers.now gap.now)) }
 {
-    let address = address_of(servers, gap.server).as_bytes();
-    let read = op_name(gap.op);
-    let delete = delete_name(gap.deleting);
-    let prefix = prefix_of(&gap.place);
-    write_fields(
-        address,
-        read,
-        delete,
-        prefix,
-        gap.place.residue,
-        gap.place.modulus,
-        out,
-    )
+    write!(out, "refused:")?;
+    write_gap(servers, gap, out)?;
+    Ok(())
 }
 
 /// Writes the line of a configuration that was refused: `refused: server=A read=OP delete=D prefix=P residue=R/L` for a gap,
@@ -96,7 +68,7 @@ pub fn write_refusal<W: Write>(servers: &Servers, reason: &Reason, out: &mut W) 
     match reason {
         Reason::TooManyPlaces => writeln!(out, "refused: too many places"),
         Reason::BadCertificate(row) => writeln!(out, "refused: bad certificate row {row}"),
-        Reason::Uncovered(gap) => write_gap(servers, gap, out),
+        Reason::Uncovered(gap) => write_gap_line(servers, gap, out),
         Reason::NoMemory => Ok(()),
     }
 }

@@ -202,6 +202,10 @@ module _ (s : ℕ) where
 abbrev pub taken : Plan → Op → ℕ → Bool
 taken plain op s = is_taking op && (shown op s plain || (is_get op && copied op s plain))
 
+-- some operation takes the server
+abbrev pub is_taken : Plan → ℕ → Bool
+is_taken plain s = taken plain Get s || taken plain Gat s || taken plain Incr s || taken plain Decr s
+
 -- no delete is acknowledged with the server not cleared, whichever of the two is asked
 abbrev pub cleared : Plan → ℕ → Bool
 cleared plain s = not (kept s plain)

@@ -1,14 +1,5 @@
 pub mod Taking
 pub mod Computed
 pub mod Exact
-pub mod Resolved
-pub mod Places
-pub mod Valid
-pub mod ValidLaws
-pub mod Texts
-pub mod Tables
-pub mod Lookup
-pub mod Rows
-pub mod Proposed
 pub mod Pools
 pub mod Doubted

@@ -6,7 +6,7 @@ ghost use Rattle.route_tree.specs.Form.{routes_of, policies_of};
 ghost use Rattle.route_tree.specs.At.{left_of, left_of_all, left_of_policies};
 ghost use Rattle.coverage.specs.Computed.{cleared, fails, kept, kept_each, kept_first, kept_head, kept_policy};
 
-use crate::collecting::longest;
+use crate::prefixes::longest;
 use crate::standing::standing;
 use crate::stores::is_op;
 use mc_types::{Op, ServerId};

@@ -6,7 +6,7 @@ ghost use Rattle.route_tree.specs.Form.{routes_of, policies_of};
 ghost use Rattle.route_tree.specs.At.{left_of, left_of_all, left_of_policies};
 ghost use Rattle.coverage.specs.Computed.{adds, adds_some, adds_first, adds_head, adds_policy, fails, fails_some, fails_each, fails_last, fails_head, fails_policy, hits, hits_each, hits_first, hits_some, hits_head, hits_policy};
 
-use crate::collecting::longest;
+use crate::prefixes::longest;
 use crate::stores::{OfAdd, is_op};
 use mc_types::Op;
 use route_tree::{Tree, TreeForm};

@@ -110,6 +110,12 @@ IsSpent (BadEvent index) fleet = Unit {0}
 IsSpent NoMemory fleet = Unit {0}
 IsSpent Spent fleet = (last_turn < turn_of fleet + 2 ^ 32) ⊎ (begun_of fleet ≡ last_turn)
 
+-- where an event can't be, the servers are as they were
+abbrev pub IsKept : DriveFault → MemoryFleet → MemoryFleet → Type 0
+IsKept (BadEvent index) old new = new ≡ old
+IsKept NoMemory old new = Unit {0}
+IsKept Spent old new = Unit {0}
+
 -- these bytes were handed out
 abbrev pub HandsOut : ℕ → List ℕ → Transcript → Transcript → Type 0
 HandsOut client bytes old new = transcript_of new ≡ transcript_of old ++ log.one_shown client bytes

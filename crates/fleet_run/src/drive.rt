@@ -7,7 +7,7 @@ ghost use Rattle.memory_fleet.specs.declared.event.FleetFault.TheVariants.{NoMem
 ghost use Rattle.fleet_run.specs.Serving.{IsServed, SpentBy, tree_of};
 ghost use Rattle.fleet_run.specs.Scripted.{Scripted, scripted_of, transcript_of};
 ghost use Rattle.fleet_run.specs.Bad.{bad_in, first_bad, Refuses};
-ghost use Rattle.fleet_run.specs.Driving.{ServesPiece, HandsOut, TakesEvent, AreNew, Drives, EndsAsFault, IsSpent, fault_of};
+ghost use Rattle.fleet_run.specs.Driving.{ServesPiece, HandsOut, TakesEvent, AreNew, Drives, EndsAsFault, IsSpent, IsKept, fault_of};
 ghost use Rattle.fleet_run.specs.Reloads.{AreInOrder, DrivesBy, DrivesPartBy, EndsBy, is_refused, one_more};
 
 use crate::bad::{CLIENTS, first_bad_event};
@@ -261,6 +261,7 @@ pub fn drive_by(
     ensures ok { IfOk result (λ report. DrivesBy config.now.tree refused.now reloads.now (map scripted_of script.now.events.items) (transcript_of transcript.new) marks.new.items report) }
     ensures fault { IfErr result (λ fault. EndsBy config.now.tree refused.now reloads.now (map scripted_of script.now.events.items) transcript.new marks.new.items fault) }
     ensures spent { IfErr result (λ fault. IsSpent fault fleet.new) }
+    ensures kept { IfErr result (λ fault. IsKept fault fleet.old fleet.new) }
 {
     if let Some(index) = first_bad_event(fleet.servers() as u32, script) {
         return Err(DriveFault::BadEvent(index));
@@ -283,7 +284,7 @@ pub fn drive_by(
 /// driven isn't driven again.
 ///
 /// The error is `BadEvent` exactly where an event can't be, with the place of the first one, and then nothing has
-/// happened. After running out of memory the transcript holds what was handed out before, and after `Spent` too, which comes only
+/// happened: the servers are as they were. After running out of memory the transcript holds what was handed out before, and after `Spent` too, which comes only
 /// where none of the next 2^32 calls could be numbered, or 2^64 - 1 commands have begun.
 ///
 /// Source: mcgate's own.
@@ -300,6 +301,7 @@ pub fn drive_any(
     ensures ok { IfOk result (λ report. Drives config.now.tree (map scripted_of script.now.events.items) (transcript_of transcript.new) report) }
     ensures fault { IfErr result (λ fault. EndsAsFault config.now.tree (map scripted_of script.now.events.items) transcript.new fault) }
     ensures spent { IfErr result (λ fault. IsSpent fault fleet.new) }
+    ensures kept { IfErr result (λ fault. IsKept fault fleet.old fleet.new) }
 {
     direct_is_one_server();
     let _servers = config.servers().len();

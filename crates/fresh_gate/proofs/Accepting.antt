@@ -4,12 +4,12 @@ use Rattle.route_tree.specs.Each.{Each}
 use Rattle.mc_runs.proofs.Fresh.{fresh}
 use Rattle.route_tree.specs.Direct.{words_of}
 use Rattle.route_tree.specs.Route.{Route, IsTree}
-use Rattle.coverage.specs.declared.table.Class.{Class}
-use Rattle.coverage.specs.declared.table.ClassRows.{ClassRows}
-use Rattle.coverage.specs.Places.{CoversAt}
-use Rattle.coverage.specs.Valid.{EachClass, IsClass, IsShaped, AreValidRows}
-use Rattle.coverage.proofs.Placing.{sound_is_covered}
-use Rattle.coverage.proofs.Validity.{looks_are_enough, valid_is_sound}
+use Rattle.certificates.specs.declared.table.Class.{Class}
+use Rattle.certificates.specs.declared.table.ClassRows.{ClassRows}
+use Rattle.certificates.specs.Places.{CoversAt}
+use Rattle.certificates.specs.Valid.{EachClass, IsClass, IsShaped, AreValidRows}
+use Rattle.certificates.proofs.Placing.{sound_is_covered}
+use Rattle.certificates.proofs.Validity.{looks_are_enough, valid_is_sound}
 use Rattle.fresh_gate.specs.Ends.{AreValidBelow, EndIsValid}
 use Rattle.fresh_gate.specs.Gate.{HasCertificate, CertifiedIsFresh}
 use Rattle.fresh_gate.specs.Sound.{AreGenerations}

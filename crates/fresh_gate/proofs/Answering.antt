@@ -6,14 +6,14 @@ use Rattle.route_tree.specs.declared.place.Place.{Place}
 use Rattle.route_tree.specs.Route.{Route}
 use Rattle.route_tree.specs.Place.{sizes, prefixes, tree_at_place}
 use Rattle.route_tree.proofs.Places.{each_append, each_left}
-use Rattle.coverage.specs.declared.table.Class.{Class}
-use Rattle.coverage.specs.declared.table.ClassRows.{ClassRows}
-use Rattle.coverage.specs.declared.table.PlaceTable.{PlaceTable}
-use Rattle.coverage.specs.declared.table.Certificate.{Certificate}
-use Rattle.coverage.specs.Places.{place_at, CoversAt, IsClassOf}
-use Rattle.coverage.specs.Tables.{IsTable}
-use Rattle.coverage.specs.Valid.{IsTableOf, IsValid}
-use Rattle.coverage.proofs.Validity.{each_in, in_either, in_front, valid_is_sound}
+use Rattle.certificates.specs.declared.table.Class.{Class}
+use Rattle.certificates.specs.declared.table.ClassRows.{ClassRows}
+use Rattle.certificates.specs.declared.table.PlaceTable.{PlaceTable}
+use Rattle.certificates.specs.declared.table.Certificate.{Certificate}
+use Rattle.certificates.specs.Places.{place_at, CoversAt, IsClassOf}
+use Rattle.certificates.specs.Tables.{IsTable}
+use Rattle.certificates.specs.Valid.{IsTableOf, IsValid}
+use Rattle.certificates.proofs.Validity.{each_in, in_either, in_front, valid_is_sound}
 use Rattle.fresh_gate.specs.declared.classes.TableEnd.{TableEnd}
 use Rattle.fresh_gate.specs.declared.gap.Gap.{Gap}
 use Rattle.fresh_gate.specs.declared.gap.Reason.{Reason}
@@ -21,8 +21,8 @@ use Rattle.fresh_gate.specs.declared.gap.Reason.TheVariants as reasons
 use Rattle.fresh_gate.specs.Ends.{IsTableEnd}
 use Rattle.fresh_gate.specs.Gate.{HasCertificate, IsCertified, IsCertifiedBy, IsTooLarge, IsReason, IsInvalid, IsGapAt, IsFirstGap, IsJudged}
 use Rattle.fresh_gate.specs.Shapes.{IsTableReason, IsLookReason, IsJudgedBy}
-use Rattle.coverage.specs.Proposed.{AreValidWhereCovered, IsProposedBy}
-use Rattle.coverage.proofs.Answering.{each_valid}
+use Rattle.certificates.specs.Proposed.{AreValidWhereCovered, IsProposedBy}
+use Rattle.certificates.proofs.Answering.{each_valid}
 use Rattle.fresh_gate.proofs.Reasons.{each_class_at}
 
 pub end_of : (tree : Route) (m : ℕ) (cs ds : List Class) (rs ss : List ClassRows) (e f : TableEnd) → cs ≡ ds → rs ≡ ss → e ≡ f → IsTableEnd tree m cs rs e → IsTableEnd tree m ds ss f

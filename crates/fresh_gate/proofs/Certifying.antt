@@ -5,18 +5,18 @@ use Rattle.route_tree.specs.Each.{Each}
 use Rattle.route_tree.specs.At.{left_of}
 use Rattle.route_tree.specs.Place.{prefix_text}
 use Rattle.route_tree.specs.Route.{Route, IsTree}
-use Rattle.coverage.specs.declared.table.Class.{Class}
-use Rattle.coverage.specs.declared.table.Run.{Run}
-use Rattle.coverage.specs.declared.table.ClassRows.{ClassRows}
-use Rattle.coverage.specs.declared.table.PlaceTable.{PlaceTable}
-use Rattle.coverage.specs.declared.table.Certificate.{Certificate}
+use Rattle.certificates.specs.declared.table.Class.{Class}
+use Rattle.certificates.specs.declared.table.Run.{Run}
+use Rattle.certificates.specs.declared.table.ClassRows.{ClassRows}
+use Rattle.certificates.specs.declared.table.PlaceTable.{PlaceTable}
+use Rattle.certificates.specs.declared.table.Certificate.{Certificate}
 use Rattle.coverage.specs.Pools.{has, servers_at, taken_pools}
-use Rattle.coverage.specs.Rows.{with_number, IsRowOf}
-use Rattle.coverage.specs.Tables.{IsTable}
-use Rattle.coverage.specs.Valid.{EachClass, IsClass, IsShaped, IsRising, IsValidRow, AreBehind, AreRuns, AreValidRows, run_at}
-use Rattle.coverage.proofs.Proposals.{by_place, stay_rising, has_with, valid_if_covered}
-use Rattle.coverage.proofs.Tabling.{table_twice}
-use Rattle.coverage.proofs.Validity.{looks_are_enough}
+use Rattle.certificates.specs.Rows.{with_number, IsRowOf}
+use Rattle.certificates.specs.Tables.{IsTable}
+use Rattle.certificates.specs.Valid.{EachClass, IsClass, IsShaped, IsRising, IsValidRow, AreBehind, AreRuns, AreValidRows, run_at}
+use Rattle.certificates.proofs.Proposals.{by_place, stay_rising, has_with, valid_if_covered}
+use Rattle.certificates.proofs.Tabling.{table_twice}
+use Rattle.certificates.proofs.Validity.{looks_are_enough}
 use Rattle.fresh_gate.specs.declared.pairs.TwoEnd.TheVariants as tables
 use Rattle.fresh_gate.specs.Gate.{IsCertifiedBy}
 use Rattle.fresh_gate.specs.Pairs.{AreCoveredBelow, IsTwoEnd}

@@ -1,8 +1,8 @@
 -- Where the looks at a class's rows ended.
 use Rattle.std.proofs.Common.{◌≡◌, ℕ, zero, suc, List, [], ◌∷◌, get_or, slice_get, Some, ◌∙◌, subst}
 use Rattle.route_tree.specs.Route.{Route}
-use Rattle.coverage.specs.declared.table.Class.{Class}
-use Rattle.coverage.specs.declared.table.ClassRows.{ClassRows}
+use Rattle.certificates.specs.declared.table.Class.{Class}
+use Rattle.certificates.specs.declared.table.ClassRows.{ClassRows}
 use Rattle.fresh_gate.specs.declared.classes.ClassEnd.{ClassEnd}
 use Rattle.fresh_gate.specs.Ends.{IsClassEnd, EndsAt}
 

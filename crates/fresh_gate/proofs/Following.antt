@@ -3,7 +3,7 @@ use Rattle.std.proofs.Common.{◌≡◌, ℕ, zero, suc, ◌+◌, ◌<◌, ◌�
 use Rattle.route_json.specs.Configuration.{Configuration}
 use Rattle.route_tree.specs.Route.{Route, IsTree}
 use Rattle.route_tree.proofs.Places.{each_append}
-use Rattle.coverage.specs.Places.{CoversAt}
+use Rattle.certificates.specs.Places.{CoversAt}
 use Rattle.fresh_gate.specs.declared.pairs.PairFault.{PairFault}
 use Rattle.fresh_gate.specs.declared.pairs.PairFault.TheVariants as pairs
 use Rattle.fresh_gate.specs.declared.reloading.ReloadFault.{ReloadFault}

@@ -6,7 +6,7 @@ use Rattle.route_tree.specs.Route.{Route, IsTree}
 use Rattle.route_tree.specs.At.{tree_at}
 use Rattle.route_tree.specs.Word.{tree_words}
 use Rattle.route_tree.proofs.Parts.{each_at}
-use Rattle.coverage.proofs.Placing.{sound_is_covered}
+use Rattle.certificates.proofs.Placing.{sound_is_covered}
 use Rattle.fresh_gate.specs.Sound.{AreGenerations, AreLoaded, GenerationsAreFresh}
 
 covered : (trees : List Route) → AreGenerations trees → (tree : ℕ → Route) → AreLoaded trees tree → IsCovered (tree_words (λ n key. tree_at (tree n) key))

@@ -6,7 +6,7 @@ use Rattle.route_tree.specs.Each.{IsIn}
 use Rattle.route_tree.specs.Plan.{Plan}
 use Rattle.route_tree.proofs.Parts.{each_weaker}
 use Rattle.route_tree.proofs.Places.{each_append}
-use Rattle.coverage.proofs.Validity.{each_in}
+use Rattle.certificates.proofs.Validity.{each_in}
 use Rattle.std.proofs.lemmas.Bool.{leb-true, cases_lt}
 use Rattle.fresh_gate.specs.declared.finding.Found.{Found}
 use Rattle.coverage.specs.declared.deleting.Deleting.{Deleting}

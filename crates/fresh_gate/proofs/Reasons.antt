@@ -8,17 +8,17 @@ use Rattle.route_tree.specs.Route.{Route}
 use Rattle.route_tree.specs.Place.{sizes, prefix_text, tree_at_place}
 use Rattle.route_tree.proofs.Parts.{each_at}
 use Rattle.route_tree.proofs.Places.{each_append, each_left}
-use Rattle.coverage.specs.declared.table.Class.{Class}
-use Rattle.coverage.specs.declared.table.ClassRows.{ClassRows}
-use Rattle.coverage.specs.declared.table.PlaceTable.{PlaceTable}
-use Rattle.coverage.specs.declared.table.Certificate.{Certificate}
+use Rattle.certificates.specs.declared.table.Class.{Class}
+use Rattle.certificates.specs.declared.table.ClassRows.{ClassRows}
+use Rattle.certificates.specs.declared.table.PlaceTable.{PlaceTable}
+use Rattle.certificates.specs.declared.table.Certificate.{Certificate}
 use Rattle.coverage.specs.Taking.{Covers}
-use Rattle.coverage.specs.Resolved.{resolved}
-use Rattle.coverage.specs.Places.{place_at}
-use Rattle.coverage.specs.Tables.{row_count}
-use Rattle.coverage.specs.Valid.{EachClass, IsClass, IsShaped, IsTableOf, IsValidRow, AreValidRows, row_at, run_at}
-use Rattle.coverage.proofs.Sizing.{sizes_left}
-use Rattle.coverage.proofs.Validity.{looks_are_enough}
+use Rattle.certificates.specs.Resolved.{resolved}
+use Rattle.certificates.specs.Places.{place_at}
+use Rattle.certificates.specs.Tables.{row_count}
+use Rattle.certificates.specs.Valid.{EachClass, IsClass, IsShaped, IsTableOf, IsValidRow, AreValidRows, row_at, run_at}
+use Rattle.certificates.proofs.Sizing.{sizes_left}
+use Rattle.certificates.proofs.Validity.{looks_are_enough}
 use Rattle.fresh_gate.specs.declared.classes.ClassEnd.TheVariants as ends
 use Rattle.fresh_gate.specs.declared.classes.TableEnd.TheVariants as tables
 use Rattle.fresh_gate.specs.declared.finding.Found.{Found}

@@ -9,16 +9,16 @@ use Rattle.route_tree.proofs.Left.{plan_left}
 use Rattle.route_tree.proofs.Parts.{each_weaker}
 use Rattle.coverage.specs.declared.deleting.Deleting.{Deleting}
 use Rattle.coverage.specs.declared.deleting.Deleting.TheVariants as kinds
-use Rattle.coverage.specs.Computed.{cleared}
+use Rattle.coverage.specs.Computed.{cleared, is_taken}
 use Rattle.coverage.specs.Pools.{has, server_at, servers_at, taken_pools}
 use Rattle.coverage.specs.Doubted.{doubts, doubted_pools}
-use Rattle.coverage.specs.Rows.{IsRowOf, is_taken}
+use Rattle.certificates.specs.Rows.{IsRowOf}
 use Rattle.coverage.specs.Taking.{Clears, Covers}
-use Rattle.coverage.specs.Valid.{IsValidRow, IsRising}
+use Rattle.certificates.specs.Valid.{IsValidRow, IsRising}
 use Rattle.coverage.proofs.Choices.{both, both_split, either_left, either_right, either_split}
 use Rattle.coverage.proofs.Keeping.{cleared_is_exact}
 use Rattle.coverage.proofs.Finding.{taken_is_exact}
-use Rattle.coverage.proofs.RowTests.{takes, taken_takes}
+use Rattle.coverage.proofs.SomeTaken.{takes, taken_takes}
 use Rattle.coverage.proofs.TakenPools.{pools_are_taken}
 use Rattle.coverage.proofs.SurePools.{sure}
 use Rattle.fresh_gate.specs.Rows.{rises_above, rises, holds_all, all_cleared, HoldsTaken, IsTakenRow}

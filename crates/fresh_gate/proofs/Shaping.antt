@@ -1,11 +1,11 @@
 -- The tests say whether a certificate has the shape of a table.
 use Rattle.std.proofs.Common.{◌≡◌, ℕ, zero, suc, ◌<◌, Bool, true, false, cond, ◌&&◌, List, [], ◌∷◌, length, slice_get, nat_eq, nat_lt, Option, Some, None, refl, subst, arith}
 use Rattle.std.proofs.lemmas.Bool.{eqb-true, eq-eqb, leb-true, le-leb}
-use Rattle.coverage.specs.declared.table.Class.{Class}
-use Rattle.coverage.specs.declared.table.Run.{Run}
-use Rattle.coverage.specs.declared.table.ClassRows.{ClassRows}
-use Rattle.coverage.specs.Texts.{one_more}
-use Rattle.coverage.specs.Valid.{AreBehind, AreRuns, IsShaped}
+use Rattle.certificates.specs.declared.table.Class.{Class}
+use Rattle.certificates.specs.declared.table.Run.{Run}
+use Rattle.certificates.specs.declared.table.ClassRows.{ClassRows}
+use Rattle.certificates.specs.Texts.{one_more}
+use Rattle.certificates.specs.Valid.{AreBehind, AreRuns, IsShaped}
 use Rattle.coverage.proofs.Choices.{both, both_split}
 use Rattle.fresh_gate.specs.Shapes.{is_rising, has_runs, is_shaped, first_misshaped, IfMisshaped}
 

@@ -8,15 +8,15 @@ use Rattle.route_tree.specs.At.{left_of}
 use Rattle.route_tree.specs.Place.{sizes, prefixes, prefix_text, IsLeastCommonMultiple}
 use Rattle.route_tree.proofs.Parts.{each_at}
 use Rattle.route_tree.proofs.Places.{each_left, each_right}
-use Rattle.coverage.specs.declared.table.Class.{Class}
-use Rattle.coverage.specs.declared.table.PlaceTable.{PlaceTable}
+use Rattle.certificates.specs.declared.table.Class.{Class}
+use Rattle.certificates.specs.declared.table.PlaceTable.{PlaceTable}
 use Rattle.coverage.specs.Taking.{Covers}
-use Rattle.coverage.specs.Resolved.{resolved}
-use Rattle.coverage.specs.Places.{IsClassOf, place_at, CoversAt}
-use Rattle.coverage.specs.Valid.{IsClass, IsTableOf}
-use Rattle.coverage.proofs.Resolving.{same_left}
-use Rattle.coverage.proofs.Sizing.{both_left}
-use Rattle.coverage.proofs.Validity.{each_in}
+use Rattle.certificates.specs.Resolved.{resolved}
+use Rattle.certificates.specs.Places.{IsClassOf, place_at, CoversAt}
+use Rattle.certificates.specs.Valid.{IsClass, IsTableOf}
+use Rattle.certificates.proofs.Resolving.{same_left}
+use Rattle.certificates.proofs.Sizing.{both_left}
+use Rattle.certificates.proofs.Validity.{each_in}
 use Rattle.fresh_gate.specs.declared.finding.Found.{Found}
 use Rattle.fresh_gate.specs.declared.gap.Gap.{Gap}
 use Rattle.fresh_gate.specs.declared.pairs.PairEnd.TheVariants as ends

@@ -3,15 +3,15 @@ use Rattle.std.specs.Prelude.{◌≡◌, ℕ, ◌<◌, List, [], ◌∷◌, Opti
 use Rattle.route_tree.specs.Plan.{Plan}
 use Rattle.route_tree.specs.Route.{Route}
 use Rattle.route_tree.specs.Place.{tree_at_place}
-use Rattle.coverage.specs.declared.table.ClassRows.{ClassRows}
-use Rattle.coverage.specs.declared.table.Class.{Class}
+use Rattle.certificates.specs.declared.table.ClassRows.{ClassRows}
+use Rattle.certificates.specs.declared.table.Class.{Class}
 use Rattle.fresh_gate.specs.declared.classes.TableEnd.{TableEnd}
 use Rattle.fresh_gate.specs.declared.classes.TableEnd.TheVariants as tables
 use Rattle.coverage.specs.Taking.{Covers}
-use Rattle.coverage.specs.Places.{place_at}
-use Rattle.coverage.specs.Valid.{IsValidRow, run_at, IsTableOf, EachClass, IsShaped, IsValid}
-use Rattle.coverage.specs.declared.table.PlaceTable.{PlaceTable}
-use Rattle.coverage.specs.declared.table.Certificate.{Certificate}
+use Rattle.certificates.specs.Places.{place_at}
+use Rattle.certificates.specs.Valid.{IsValidRow, run_at, IsTableOf, EachClass, IsShaped, IsValid}
+use Rattle.certificates.specs.declared.table.PlaceTable.{PlaceTable}
+use Rattle.certificates.specs.declared.table.Certificate.{Certificate}
 use Rattle.fresh_gate.specs.declared.classes.Look.{Look}
 use Rattle.fresh_gate.specs.declared.classes.Look.TheVariants as looks
 use Rattle.fresh_gate.specs.declared.classes.ClassEnd.{ClassEnd}

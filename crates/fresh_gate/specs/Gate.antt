@@ -7,16 +7,16 @@ use Rattle.route_tree.specs.Route.{Route, IsTree}
 use Rattle.route_tree.specs.Place.{tree_at_place}
 use Rattle.coverage.specs.declared.deleting.Deleting.{Deleting}
 use Rattle.coverage.specs.declared.deleting.Deleting.TheVariants as kinds
-use Rattle.coverage.specs.declared.table.Class.{Class}
-use Rattle.coverage.specs.declared.table.PlaceTable.{PlaceTable}
-use Rattle.coverage.specs.declared.table.Certificate.{Certificate}
+use Rattle.certificates.specs.declared.table.Class.{Class}
+use Rattle.certificates.specs.declared.table.PlaceTable.{PlaceTable}
+use Rattle.certificates.specs.declared.table.Certificate.{Certificate}
 use Rattle.coverage.specs.Taking.{IsTaking, Takes, Clears, Covers}
-use Rattle.coverage.specs.Places.{place_at, CoversAt}
-use Rattle.coverage.specs.Valid.{IsTableOf, IsValid, IsValidRow, EachClass, IsShaped, row_at}
+use Rattle.certificates.specs.Places.{place_at, CoversAt}
+use Rattle.certificates.specs.Valid.{IsTableOf, IsValid, IsValidRow, EachClass, IsShaped, row_at}
 use Rattle.mc_runs.specs.Freshness.{RunsAreFresh}
 use Rattle.route_tree.specs.Direct.{words_of}
-use Rattle.coverage.specs.declared.table.ClassRows.{ClassRows}
-use Rattle.coverage.specs.Tables.{most_rows, row_count, IsTable}
+use Rattle.certificates.specs.declared.table.ClassRows.{ClassRows}
+use Rattle.certificates.specs.Tables.{most_rows, row_count, IsTable}
 use Rattle.fresh_gate.specs.declared.gap.Reason.{Reason}
 use Rattle.fresh_gate.specs.declared.gap.Reason.TheVariants as reasons
 use Rattle.fresh_gate.specs.declared.gap.Gap.{Gap}

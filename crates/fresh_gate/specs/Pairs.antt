@@ -2,12 +2,12 @@
 use Rattle.std.specs.Prelude.{◌≡◌, ℕ, ◌<◌, List, [], ◌∷◌, Option, Some, length, slice_get}
 use Rattle.route_tree.specs.Route.{Route}
 use Rattle.route_tree.specs.Place.{tree_at_place}
-use Rattle.coverage.specs.declared.table.Class.{Class}
-use Rattle.coverage.specs.declared.table.PlaceTable.{PlaceTable}
+use Rattle.certificates.specs.declared.table.Class.{Class}
+use Rattle.certificates.specs.declared.table.PlaceTable.{PlaceTable}
 use Rattle.coverage.specs.Taking.{Covers}
-use Rattle.coverage.specs.Places.{place_at}
-use Rattle.coverage.specs.Tables.{most_rows, row_count}
-use Rattle.coverage.specs.Valid.{IsTableOf}
+use Rattle.certificates.specs.Places.{place_at}
+use Rattle.certificates.specs.Tables.{most_rows, row_count}
+use Rattle.certificates.specs.Valid.{IsTableOf}
 use Rattle.fresh_gate.specs.Gate.{IsFirstAt, IsFirstGap}
 use Rattle.fresh_gate.specs.declared.pairs.PairEnd.{PairEnd}
 use Rattle.fresh_gate.specs.declared.pairs.PairEnd.TheVariants as ends

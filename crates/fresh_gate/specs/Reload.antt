@@ -3,7 +3,7 @@ use Rattle.std.specs.Prelude.{◌≡◌, ℕ, ◌+◌, ◌<◌, ◌≤◌, List,
 use Rattle.route_json.specs.Configuration.{Configuration}
 use Rattle.route_json.specs.Servers.{Addresses}
 use Rattle.route_tree.specs.Route.{Route}
-use Rattle.coverage.specs.Places.{CoversAt}
+use Rattle.certificates.specs.Places.{CoversAt}
 use Rattle.fresh_gate.specs.Pairs.{IsPairFault}
 use Rattle.fresh_gate.specs.Sound.{IsLast}
 use Rattle.fresh_gate.specs.declared.pairs.PairFault.{PairFault}

@@ -3,11 +3,10 @@ use Rattle.std.specs.Prelude.{◌≡◌, ℕ, Bool, true, ◌&&◌, List, [], �
 use Rattle.mc_types.specs.declared.ask.Op.{Op}
 use Rattle.route_tree.specs.Each.{IsIn}
 use Rattle.route_tree.specs.Plan.{Plan}
-use Rattle.coverage.specs.Computed.{cleared}
+use Rattle.coverage.specs.Computed.{cleared, is_taken}
 use Rattle.coverage.specs.Pools.{has}
-use Rattle.coverage.specs.Rows.{is_taken}
 use Rattle.coverage.specs.Taking.{IsTaking, Takes}
-use Rattle.coverage.specs.Valid.{IsRising}
+use Rattle.certificates.specs.Valid.{IsRising}
 
 -- each is greater than the one before
 abbrev pub rises_above : ℕ → List ℕ → Bool

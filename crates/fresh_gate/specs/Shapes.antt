@@ -1,13 +1,13 @@
 -- Whether a certificate has the shape of a table, as tests.
 use Rattle.std.specs.Prelude.{◌≡◌, ℕ, ◌<◌, Bool, true, false, ◌&&◌, List, [], ◌∷◌, Option, Some, None, slice_get, nat_eq, nat_lt, if◌then◌else◌}
 use Rattle.route_tree.specs.Route.{Route}
-use Rattle.coverage.specs.declared.table.Class.{Class}
-use Rattle.coverage.specs.declared.table.Run.{Run}
-use Rattle.coverage.specs.declared.table.ClassRows.{ClassRows}
-use Rattle.coverage.specs.declared.table.PlaceTable.{PlaceTable}
-use Rattle.coverage.specs.declared.table.Certificate.{Certificate}
-use Rattle.coverage.specs.Texts.{one_more}
-use Rattle.coverage.specs.Valid.{EachClass, IsShaped}
+use Rattle.certificates.specs.declared.table.Class.{Class}
+use Rattle.certificates.specs.declared.table.Run.{Run}
+use Rattle.certificates.specs.declared.table.ClassRows.{ClassRows}
+use Rattle.certificates.specs.declared.table.PlaceTable.{PlaceTable}
+use Rattle.certificates.specs.declared.table.Certificate.{Certificate}
+use Rattle.certificates.specs.Texts.{one_more}
+use Rattle.certificates.specs.Valid.{EachClass, IsShaped}
 use Rattle.fresh_gate.specs.Gate.{IsBadRow, IsFirstGap, IsGapMet, IsInvalid}
 use Rattle.fresh_gate.specs.declared.gap.Reason.{Reason}
 use Rattle.fresh_gate.specs.declared.gap.Reason.TheVariants as reasons

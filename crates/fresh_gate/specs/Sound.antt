@@ -7,7 +7,7 @@ use Rattle.route_tree.specs.Route.{Route, IsTree}
 use Rattle.route_tree.specs.Each.{Each}
 use Rattle.route_tree.specs.At.{tree_at}
 use Rattle.route_tree.specs.Word.{tree_words}
-use Rattle.coverage.specs.Places.{CoversAt}
+use Rattle.certificates.specs.Places.{CoversAt}
 
 -- each tree covers itself and the later ones, at all places of the two together
 abbrev pub AreSound : List Route → Type 0

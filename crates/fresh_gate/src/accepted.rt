@@ -1,7 +1,7 @@
 //! Accepted configurations, one loaded after another.
 
 ghost use Rattle.std.specs.Prelude.{◌≡◌, ◌+◌, ◌++◌, [], ◌∷◌, ◌↔◌, IfErr, IfOk, IsTrue, MatchResult, OnOk, length};
-ghost use Rattle.coverage.specs.Places.{CoversAt};
+ghost use Rattle.certificates.specs.Places.{CoversAt};
 ghost use Rattle.fresh_gate.specs.Sound.{AreGenerations, EveryRunIsFresh, IsLast, trees_of};
 ghost use Rattle.fresh_gate.specs.Reload.{IsReloadFault, KeepsNumbers};
 ghost use Rattle.fresh_gate.specs.declared.gap.Reason.TheVariants as reasons;

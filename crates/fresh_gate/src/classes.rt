@@ -5,15 +5,15 @@ ghost use Rattle.route_tree.specs.At.{left_of};
 ghost use Rattle.route_tree.specs.Place.{prefix_text};
 ghost use Rattle.coverage.specs.Doubted.{doubted_pools};
 ghost use Rattle.coverage.specs.Pools.{taken_pools};
-ghost use Rattle.coverage.specs.Valid.{run_at};
+ghost use Rattle.certificates.specs.Valid.{run_at};
 ghost use Rattle.fresh_gate.specs.Rows.{IsTakenRow};
 ghost use Rattle.fresh_gate.specs.Ends.{plain_of, IsLook, IsClassEnd, IsTableEnd};
 
 use crate::finding::{Found, gap_at};
 use crate::validity::{is_valid_at, take_row};
+use certificates::{Class, ClassRows, Run};
 use coverage::doubts::doubted_pools;
 use coverage::pools::{Pool, taken_pools};
-use coverage::{Class, ClassRows, Run};
 use mc_types::ServerId;
 use route_tree::Tree;
 use std::alloc::{AllocError, Global};

@@ -3,8 +3,8 @@
 ghost use Rattle.std.specs.Prelude.{[], ◌∷◌, ◌≡◌, IfErr, IfOk, MatchResult, OnOk};
 ghost use Rattle.mc_runs.specs.Freshness.{RunsAreFresh};
 ghost use Rattle.route_tree.specs.Direct.{words_of};
-ghost use Rattle.coverage.specs.Valid.{EachClass, IsShaped, IsValid};
-ghost use Rattle.coverage.specs.Tables.{IsTable};
+ghost use Rattle.certificates.specs.Valid.{EachClass, IsShaped, IsValid};
+ghost use Rattle.certificates.specs.Tables.{IsTable};
 ghost use Rattle.fresh_gate.specs.Gate.{HasCertificate, IsReason};
 ghost use Rattle.fresh_gate.specs.Shapes.{IsTableReason, IsLookReason};
 
@@ -14,7 +14,7 @@ use crate::finding::Found;
 use crate::gap::{Gap, Reason, Refused};
 use crate::laws::{certified_is_fresh, end_is_valid};
 use crate::shapes::misshaped;
-use coverage::{Certificate, PlaceFault, PlaceTable, places};
+use certificates::{Certificate, PlaceFault, PlaceTable, places};
 use route_json::Config;
 use route_tree::{Place, Tree};
 use std::alloc::Global;

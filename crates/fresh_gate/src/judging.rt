@@ -3,7 +3,7 @@
 ghost use Rattle.std.specs.Prelude.{[], ◌∷◌, ◌≡◌, IfErr, IfOk, MatchResult, OnOk};
 ghost use Rattle.mc_runs.specs.Freshness.{RunsAreFresh};
 ghost use Rattle.route_tree.specs.Direct.{words_of};
-ghost use Rattle.coverage.specs.Tables.{IsTable};
+ghost use Rattle.certificates.specs.Tables.{IsTable};
 ghost use Rattle.fresh_gate.specs.Gate.{IsCertified, IsCertifiedBy, IsJudged};
 ghost use Rattle.fresh_gate.specs.Shapes.{IsJudgedBy};
 
@@ -12,7 +12,7 @@ use crate::gap::{Reason, Refused};
 use crate::gate::gap_of;
 use crate::laws::certified_is_fresh;
 use crate::pairs::{TwoEnd, pair_classes};
-use coverage::{PlaceFault, PlaceTable, places};
+use certificates::{PlaceFault, PlaceTable, places};
 use route_json::Config;
 use route_tree::{Place, Tree};
 use std::alloc::Global;

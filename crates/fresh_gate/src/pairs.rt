@@ -1,16 +1,16 @@
 //! Looks at the places of two trees together.
 
 ghost use Rattle.std.specs.Prelude.{◌≡◌, [], ◌∷◌, IfOk, MatchResult};
-ghost use Rattle.coverage.specs.Places.{CoversAt};
-ghost use Rattle.coverage.specs.Tables.{IsTable};
+ghost use Rattle.certificates.specs.Places.{CoversAt};
+ghost use Rattle.certificates.specs.Tables.{IsTable};
 ghost use Rattle.fresh_gate.specs.Pairs.{IsPairEnd, IsTwoEnd, IsPairFault};
 
 use crate::finding::{Found, gap_at};
 use crate::gap::Gap;
 use crate::gate::gap_of;
+use certificates::{Class, PlaceFault, PlaceTable, places_of_two};
 use coverage::doubts::doubted_pools;
 use coverage::pools::taken_pools;
-use coverage::{Class, PlaceFault, PlaceTable, places_of_two};
 use route_tree::{Place, Tree};
 use std::alloc::{AllocError, Global};
 

@@ -3,7 +3,7 @@
 ghost use Rattle.std.specs.Prelude.{◌≡◌, ◌<◌, IfSome, length};
 ghost use Rattle.fresh_gate.specs.Shapes.{is_rising, has_runs, is_shaped, first_misshaped};
 
-use coverage::{Class, ClassRows, Run};
+use certificates::{Class, ClassRows, Run};
 
 // The runs rise from above this residue, below the modulus.
 fn are_rising(last: u32, modulus: u32, runs: &[Run]) -> bool

@@ -4,12 +4,12 @@
 ghost use Rattle.std.specs.Prelude.{◌≡◌, ◌↔◌, ◌&&◌, IfOk, IsTrue, true};
 ghost use Rattle.route_tree.specs.At.{left_of};
 ghost use Rattle.coverage.specs.Pools.{has, servers_at, taken_pools};
-ghost use Rattle.coverage.specs.Valid.{IsValidRow};
+ghost use Rattle.certificates.specs.Valid.{IsValidRow};
 ghost use Rattle.fresh_gate.specs.Rows.{IsTakenRow, rises_above, rises, holds_all, all_cleared};
 
+use certificates::rows::put_row;
 use coverage::clearing_at::is_cleared_at;
 use coverage::pools::Pool;
-use coverage::rows::put_row;
 use mc_types::ServerId;
 use route_tree::Tree;
 use std::alloc::AllocError;

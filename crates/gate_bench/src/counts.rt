@@ -1,7 +1,7 @@
 //! Verdicts on small configurations, and the size of their certificates.
 
 use crate::configs::{Shape, config_of};
-use coverage::{Certificate, places, propose};
+use certificates::{Certificate, places, propose};
 use fresh_gate::{Accepted, Reason, Refused, judge};
 use std::alloc::Global;
 use std::io;

@@ -2,7 +2,7 @@
 
 use crate::configs::{Shape, config_of};
 use crate::counts::{runs_in, word_of};
-use coverage::propose;
+use certificates::propose;
 use fresh_gate::{check, judge};
 use std::io;
 use std::time::{CpuClock, Duration};

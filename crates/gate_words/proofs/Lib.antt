@@ -1,3 +1,3 @@
 mod Reaching
 mod Naming
-mod Written
+pub mod Written

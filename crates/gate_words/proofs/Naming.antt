@@ -10,8 +10,7 @@ use Rattle.mc_types.specs.declared.ask.Op.{Op}
 use Rattle.mc_types.specs.declared.ask.Op.TheVariants.{Get, Gat, Set, Add, Replace, Append, Prepend, Cas, Delete, Incr, Decr, Touch}
 use Rattle.route_tree.specs.Plan.{Plan}
 use Rattle.route_tree.specs.Servers.{servers}
-use Rattle.coverage.specs.Computed.{taken}
-use Rattle.coverage.specs.Rows.{is_taken}
+use Rattle.coverage.specs.Computed.{taken, is_taken}
 use Rattle.coverage.specs.Taking.{IsTaking, Takes}
 use Rattle.coverage.proofs.Choices.{either_left, either_right, either_split}
 use Rattle.gate_words.specs.Standings.{AreServersOf, IsRead}

@@ -7,19 +7,16 @@ use Rattle.mc_types.specs.declared.ask.Op.{Op}
 use Rattle.mc_types.specs.declared.ask.Op.TheVariants.{Get, Gat, Set, Add, Replace, Append, Prepend, Cas, Delete, Incr, Decr, Touch}
 use Rattle.route_tree.specs.declared.place.Place.{Place}
 use Rattle.route_tree.specs.At.{tree_at}
-use Rattle.route_tree.specs.Place.{IsPlaceOf, prefix_text}
+use Rattle.route_tree.specs.Place.{IsPlaceOf}
 use Rattle.route_tree.specs.Plan.{Plan}
 use Rattle.route_tree.specs.Route.{Route}
 use Rattle.gate_words.specs.Names.{op_name, address_of}
+use Rattle.config_check.specs.Verdict.{place_fields}
 use Rattle.key_places.specs.Asking.{asked}
 
 -- key=K hash_part=P hash=N
 abbrev pub key_line : List ℕ → List ℕ
 key_line key = codes "key=" ++ escaped key ++ codes " hash_part=" ++ escaped (hash_part key) ++ codes " hash=" ++ decimal (key_hash key)
-
--- and then prefix=P residue=R/L
-abbrev pub place_line : (prefix : List ℕ) (residue modulus : ℕ) → List ℕ
-place_line prefix residue modulus = codes " prefix=" ++ escaped prefix ++ codes " residue=" ++ decimal residue ++ codes "/" ++ decimal modulus ++ codes "\n"
 
 abbrev pub server_text : List (List ℕ) → ℕ → List ℕ
 server_text addresses server = codes " " ++ escaped (address_of addresses server)
@@ -43,7 +40,7 @@ op_lines addresses plain ops = flat_map (λ op. op_line addresses op (asked op p
 
 -- the block of a key whose place is this
 abbrev pub block : List (List ℕ) → Route → Place → List ℕ → List ℕ
-block addresses tree place key = key_line key ++ place_line (prefix_text place.prefix) place.residue place.modulus ++ op_lines addresses (tree_at tree key) all_ops
+block addresses tree place key = key_line key ++ place_fields place ++ op_lines addresses (tree_at tree key) all_ops
 
 -- the block of the key, with its place, was written
 abbrev pub WritesBlock : List (List ℕ) → Route → List ℕ → Option (List ℕ) → Option (List ℕ) → Type 0

@@ -4,8 +4,8 @@ use Rattle.std.specs.Io.KnownBytes.{Appends}
 use Rattle.serde_json.specs.Read.{read}
 use Rattle.route_json.specs.Configs.{read_or}
 use Rattle.route_json.specs.Configuration.{Configuration}
-use Rattle.coverage.specs.Tables.{IsPlaceFault}
-use Rattle.coverage.specs.declared.table.PlaceFault.TheVariants.{TooManyPlaces}
+use Rattle.certificates.specs.Tables.{IsPlaceFault}
+use Rattle.certificates.specs.declared.table.PlaceFault.TheVariants.{TooManyPlaces}
 use Rattle.fresh_gate.specs.declared.gap.Reason.TheVariants as reasons
 use Rattle.config_check.specs.Checking.{PrintsFault}
 use Rattle.config_check.specs.Verdict.{refusal_line}

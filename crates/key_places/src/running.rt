@@ -4,10 +4,10 @@ ghost use Rattle.std.specs.Prelude.{◌≤◌, IfOk};
 ghost use Rattle.key_places.specs.Finding.{FindsAt, FindsKeys};
 
 use crate::writing::write_keys;
+use certificates::{PlaceFault, places};
 use config_check::checking::print_fault;
 use config_check::status::{DONE, REFUSED, answer_of};
 use config_check::{RunFault, write_refusal};
-use coverage::{PlaceFault, places};
 use fresh_gate::Reason;
 use mc_types::Key;
 use route_json::{Config, read_config};

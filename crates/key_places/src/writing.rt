@@ -3,20 +3,20 @@
 ghost use Rattle.std.specs.Prelude.{◌≡◌, [], ◌∷◌, IfOk, OnOk};
 ghost use Rattle.std.specs.Io.KnownBytes.{Appends};
 ghost use Rattle.route_tree.specs.At.{tree_at};
-ghost use Rattle.route_tree.specs.Place.{prefix_text};
 ghost use Rattle.key_places.specs.Asking as spec;
-ghost use Rattle.coverage.specs.Tables.{IsTable};
-ghost use Rattle.key_places.specs.Blocks.{key_line, place_line, server_text, servers_text, op_front, op_line, op_lines, all_ops, WritesBlock, WritesBlocks};
+ghost use Rattle.certificates.specs.Tables.{IsTable};
+ghost use Rattle.key_places.specs.Blocks.{key_line, server_text, servers_text, op_front, op_line, op_lines, all_ops, WritesBlock, WritesBlocks};
 
 use crate::asking::add_asked;
 use byte_escapes::Escaped;
+use certificates::PlaceTable;
 use config_check::RunFault;
-use coverage::PlaceTable;
+use config_check::verdict::write_place;
 use gate_words::names::{address_of, op_name};
 use key_hash::{hash_part, key_hash};
 use mc_types::{Key, Op, ServerId};
 use route_json::{Config, Servers};
-use route_tree::{Place, Plain};
+use route_tree::Plain;
 use std::alloc::{AllocError, Global};
 use std::io;
 use std::io::Write;
@@ -29,23 +29,6 @@ fn write_key_line<W: Write>(key: &Key, out: &mut W) -> io::Result<()>
     let part = Escaped(hash_part(key));
     let hash = key_hash(key);
     write!(out, "key={text} hash_part={part} hash={hash}")
-}
-
-fn write_prefix<W: Write>(prefix: &[u8], residue: u32, modulus: u32, out: &mut W) -> io::Result<()>
-    ensures { OnOk result (Appends (W.contents out.old) (W.contents out.new) (place_line prefix.now residue modulus)) }
-{
-    let prefix = Escaped(prefix);
-    writeln!(out, " prefix={prefix} residue={residue}/{modulus}")
-}
-
-// The key's place.
-fn write_place<W: Write>(place: &Place, out: &mut W) -> io::Result<()>
-    ensures { OnOk result (Appends (W.contents out.old) (W.contents out.new) (place_line (prefix_text place.now.prefix) place.now.residue place.now.modulus)) }
-{
-    match &place.prefix {
-        Some(prefix) => write_prefix(prefix.as_bytes(), place.residue, place.modulus, out),
-        None => write_prefix(&[], place.residue, place.modulus, out),
-    }
 }
 
 fn write_server<W: Write>(servers: &Servers, server: ServerId, out: &mut W) -> io::Result<()>

@@ -6,7 +6,7 @@ ghost use Rattle.mc_types.specs.Agree.{Agrees, AgreesFetch, AgreesHeld, AgreesAd
 
 use crate::marks::HeldItem;
 use itoa::Buffer;
-use mc_text::arithmetic::change;
+use mc_text::arithmetic::incr_or_decr;
 use mc_types::{Answer, Ask, Body, Code, Fields, Op};
 
 fn is_data(body: &Option<Body>, bytes: &[u8]) -> bool
@@ -95,7 +95,7 @@ fn count_of(ask: &Ask, held: &Option<HeldItem>) -> Option<u64>
     ensures { result ≡ option_and_then (λ item. counted ask.now item.content) held.now }
 {
     match held {
-        Some(item) => change(item.content(), ask.op != Op::Decr, ask.delta),
+        Some(item) => incr_or_decr(item.content(), ask.op != Op::Decr, ask.delta),
         None => None,
     }
 }

@@ -7,7 +7,7 @@ ghost use Rattle.mc_runs.specs.Life.{held_in};
 ghost use Rattle.mc_runs.specs.Marks.{life_of_marks};
 
 use itoa::Buffer;
-use mc_text::arithmetic::change;
+use mc_text::arithmetic::incr_or_decr;
 use mc_types::{Answer, Ask, Body, Code, Key, Op};
 use std::alloc::{AllocError, Global};
 use std::marker::Model;
@@ -129,7 +129,7 @@ fn number_body(alloc: Global, spaces: u32, number: u64) -> Result<Body, AllocErr
 fn recounted(alloc: Global, ask: &Ask, spaces: u32, item: HeldItem) -> Result<HeldItem, AllocError>
     ensures { IfOk result (λ new. new ≡ recounted spaces item (counted ask.now item.content)) }
 {
-    match change(item.content.as_slice(), ask.op != Op::Decr, ask.delta) {
+    match incr_or_decr(item.content.as_slice(), ask.op != Op::Decr, ask.delta) {
         Some(number) => Ok(item.with_content(number_body(alloc, spaces, number)?)),
         None => Ok(item),
     }

@@ -20,7 +20,7 @@ fn trimmed(bytes: &[u8]) -> &[u8]
 ///
 /// `incr` wraps at 2^64, and `decr` stops at 0. `None` where the bytes, without the spaces after them, are not 1 to 20 digits
 /// of a number below 2^64: then the server refuses the command. (memcached's protocol.txt, "Increment/Decrement")
-pub fn change(bytes: &[u8], up: bool, delta: u64) -> Option<u64>
+pub fn incr_or_decr(bytes: &[u8], up: bool, delta: u64) -> Option<u64>
     ensures { result ≡ option_map (changed up delta) (number_held bytes.now) }
 {
     let n = number(trimmed(bytes))?;

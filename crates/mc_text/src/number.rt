@@ -36,7 +36,7 @@ pub fn number(word: &[u8]) -> Option<u64>
 }
 
 /// The same for flags: `None` also where the number is 2^32 or more.
-pub fn small_number(word: &[u8]) -> Option<u32>
+pub fn u32_number(word: &[u8]) -> Option<u32>
     ensures { result ≡ number_below (2 ^ 32) word.now }
 {
     u32::try_from(number(word)?).ok()

@@ -5,12 +5,9 @@ use Rattle.std.specs.declared.alloc.Global.{Global}
 use Rattle.serde_json.specs.Read.{read}
 use Rattle.route_json.specs.Configs.{read_or}
 use Rattle.route_json.specs.Configuration.{Configuration}
-use Rattle.config_check.specs.Checking.{Checks, PrintsFault}
-use Rattle.config_check.specs.Explaining.{Explains}
-use Rattle.config_check.specs.Drawing.{Draws}
+use Rattle.config_check.specs.Checking.{PrintsFault}
+use Rattle.config_check.specs.Reporting.{Checks}
 use Rattle.replay.specs.Replay.{Replays}
-use Rattle.mcgate.specs.declared.arguments.Form.{Form}
-use Rattle.mcgate.specs.declared.arguments.Form.TheVariants as forms
 use Rattle.mcgate.specs.declared.arguments.Task.{Task}
 use Rattle.mcgate.specs.declared.arguments.Task.TheVariants as tasks
 use Rattle.text_input.specs.declared.reading.InputFault.{InputFault}
@@ -34,15 +31,9 @@ Tells line old new (Err stop) = IsBrokenOff stop
 abbrev pub StopsBy : Stop → Option (List ℕ) → Option (List ℕ) → Result ℕ Stop → Type 0
 StopsBy stop old new ended = (ended ≡ Err stop) × (new ≡ old)
 
--- what a check in a form does with a text, and the status of that
-abbrev pub ChecksIn : Form → List ℕ → Option (List ℕ) → Option (List ℕ) → ℕ → Type 0
-ChecksIn forms.Lines text old new status = Checks text old new status
-ChecksIn forms.Explained text old new status = Explains text old new status
-ChecksIn forms.Picture text old new status = Draws text old new status
-
 -- what a task does with a text, and the status of that
 abbrev pub Does : Task → List ℕ → Option (List ℕ) → Option (List ℕ) → ℕ → Type 0
-Does (tasks.Check form) text old new status = ChecksIn form text old new status
+Does (tasks.Check form) text old new status = Checks form text old new status
 Does (tasks.Replay any) text old new status = Replays any text old new status
 
 -- what its call answers: a status, or that memory or the writer failed

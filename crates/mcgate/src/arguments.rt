@@ -9,20 +9,10 @@ use crate::loopback_words::{loopback_command, loopback_job};
 use crate::serve_words::{ServeJob, serve_command, serve_job};
 use clap::error::ErrorKind;
 use clap::{Arg, ArgAction, ArgMatches, Command, Error};
-use mc_text::number::small_number;
+use config_check::Form;
+use mc_text::number::u32_number;
 use mc_types::{Key, KeyFault};
 use std::alloc::{AllocError, Global};
-
-/// The form in which a verdict is printed.
-#[derive(Clone, Copy, PartialEq, Eq)]
-pub enum Form {
-    /// The verdict, and the script that shows a gap.
-    Lines,
-    /// The same, and then in words.
-    Explained,
-    /// The tree as a graph, a gap marked.
-    Picture,
-}
 
 /// What is done with an input.
 #[derive(Clone, Copy, PartialEq, Eq)]
@@ -180,7 +170,7 @@ pub fn option<'a>(alloc: Global, name: &'static str) -> Arg<'a> {
 pub fn count_of(given: &ArgMatches<'_>, name: &str) -> Result<Option<u32>, ArgumentsFault> {
     match given.get_str(name) {
         None => Ok(None),
-        Some(text) => match small_number(text.as_bytes()) {
+        Some(text) => match u32_number(text.as_bytes()) {
             None | Some(0) => Err(ArgumentsFault::Refused),
             Some(count) => Ok(Some(count)),
         },

@@ -2,16 +2,16 @@
 
 ghost use Rattle.std.specs.Prelude.{◌≡◌, ◌≤◌, option_map};
 ghost use Rattle.std.specs.IoError.{error_kind};
-ghost use Rattle.mcgate.specs.Program.{Answers, ChecksIn, Runs, AnswersInput, RunsBy, AnswersBy, Declines, GivesConfig, ReadsConfig};
+ghost use Rattle.mcgate.specs.Program.{Answers, Runs, AnswersInput, RunsBy, AnswersBy, Declines, GivesConfig, ReadsConfig};
 ghost use Rattle.replay.specs.Replay.{ReplaysOver};
 ghost use Rattle.key_places.specs.Finding.{FindsKeys};
 ghost use Rattle.loopback.specs.Running.{Runs as RunsOverTcp};
 ghost use Rattle.mcgate.specs.Stops.{stop_at, stop_by, stop_of, key_line, end_of};
 
-use crate::arguments::{ArgumentsFault, Form, Task};
+use crate::arguments::{ArgumentsFault, Task};
 use config_check::checking::print_fault;
 use config_check::status::{BAD_INPUT, NO_MEMORY, WRITER};
-use config_check::{RunFault, run_check, run_explain, run_picture};
+use config_check::{RunFault, run_check};
 use key_places::run_where;
 use loopback::run_loopback;
 use mc_types::{Key, KeyFault};
@@ -119,24 +119,12 @@ pub fn end_of(ended: Result<u8, Stop>) -> End
     }
 }
 
-// What a check in a form answers of a text.
-fn check_in<W: Write>(alloc: Global, form: Form, text: &str, out: &mut W) -> u8
-    ensures few { result ≤ 4 }
-    ensures does { result ≤ 2 → ChecksIn form text.now (W.contents out.old) (W.contents out.new) result }
-{
-    match form {
-        Form::Lines => run_check(alloc, text, out),
-        Form::Explained => run_explain(alloc, text, out),
-        Form::Picture => run_picture(alloc, text, out),
-    }
-}
-
 // What a task answers of a text.
 fn answer<W: Write>(alloc: Global, task: Task, text: &str, out: &mut W) -> u8
     ensures { Answers task text.now (W.contents out.old) (W.contents out.new) result }
 {
     match task {
-        Task::Check { form } => check_in(alloc, form, text, out),
+        Task::Check { form } => run_check(alloc, form, text, out),
         Task::Replay { any } => run_replay(alloc, any, text, out),
     }
 }

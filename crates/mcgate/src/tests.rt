@@ -1,9 +1,10 @@
 //! The program from its arguments to its exit status.
 
-use crate::arguments::{ArgumentsFault, Form, Job, Task, read_arguments};
+use crate::arguments::{ArgumentsFault, Job, Task, read_arguments};
 use crate::bad_lines::{bad_line_of_events, bad_line_of_task};
 use crate::program::{End, Stop, end_of, read_configuration, run_events, run_input};
 use crate::text_of;
+use config_check::Form;
 use line_faults::BadLine;
 use route_json::Config;
 use std::alloc::{AllocError, Global};

@@ -11,7 +11,7 @@ ghost use Rattle.meta_answers.specs.Told.{none_told};
 ghost use Rattle.meta_answers.specs.Tokens.{ttl_in, is_opaque, asks_opaque, with_token, with_word, with_words};
 
 use crate::told::Told;
-use mc_text::number::{number, small_number};
+use mc_text::number::{number, u32_number};
 use mc_text::word::next_word;
 use mc_types::{Ask, DATA_LIMIT, Token};
 use return_flags::Wanted;
@@ -20,7 +20,7 @@ use return_flags::Wanted;
 pub fn data_size(text: &[u8]) -> Option<u32>
     ensures { result ≡ number_below (data_limit + 1) text.now }
 {
-    match small_number(text)? {
+    match u32_number(text)? {
         size if size <= DATA_LIMIT => Some(size),
         _ => None,
     }
@@ -73,7 +73,7 @@ fn with_token(ask: &Ask, wanted: Wanted, letter: u8, text: &[u8], told: Told) ->
         if !wanted.flags || told.flags.is_some() {
             return None;
         }
-        told.flags = Some(small_number(text)?);
+        told.flags = Some(u32_number(text)?);
     } else if letter == b's' {
         if !wanted.size || told.size.is_some() {
             return None;

@@ -16,7 +16,7 @@ use Rattle.mc_types.specs.declared.ask.Op.{Op}
 use Rattle.mc_types.specs.declared.ask.Op.TheVariants as ops
 use Rattle.request_parts.specs.declared.refusal.RefusalReason.{RefusalReason}
 use Rattle.request_parts.specs.declared.refusal.RefusalReason.TheVariants.{FlagNotServed}
-use Rattle.request_parts.specs.Tests.{Word, ◌>>=◌, key_of, small_of, fitting}
+use Rattle.request_parts.specs.Tests.{Word, ◌>>=◌, key_of, u32_of, fitting}
 use Rattle.request_parts.specs.Message.{Served, Refusal}
 use Rattle.request_parts.proofs.Ranges.{passed, is_ok, a_key, below_limit, signed, fits}
 use Rattle.request_parts.proofs.Sound.{IsServed, served_sound}
@@ -78,7 +78,7 @@ by_storing [] o h = absurd cc
 by_storing (k ∷ []) o h = absurd cc
 by_storing (k ∷ n ∷ ws) o h =
     let a = passed (key_of k) _ o h in
-    let b = passed (small_of n) _ o a.2 in
+    let b = passed (u32_of n) _ o a.2 in
     let c = passed (flags_of Store [] ws) _ o b.2 in
     let d = passed (comparing c.0) _ o c.2 in
     let e = fits b.0 (Asking Store a.0 (Some b.0) d.0) o d.2 in

@@ -8,7 +8,7 @@ use Rattle.request_parts.specs.declared.skip.Skip.{Skip}
 use Rattle.request_parts.specs.declared.skip.Skip.TheVariants.{Nothing}
 use Rattle.request_parts.specs.declared.proxy_command.ProxyCommand.{ProxyCommand}
 use Rattle.request_parts.specs.declared.proxy_command.ProxyCommand.TheVariants as owns
-use Rattle.request_parts.specs.Tests.{Word, ◌>>=◌, key_of, small_of, fitting, skip_by, length_in}
+use Rattle.request_parts.specs.Tests.{Word, ◌>>=◌, key_of, u32_of, fitting, skip_by, length_in}
 use Rattle.meta_requests.specs.declared.command.Kind.{Kind}
 use Rattle.meta_requests.specs.declared.command.Kind.TheVariants.{Get, Store, Delete, Count}
 use Rattle.meta_requests.specs.declared.command.Verb.{Verb}
@@ -48,7 +48,7 @@ asking kind (key ∷ words) = do
 abbrev pub storing : List Word → Result Order RefusalReason
 storing (key ∷ length ∷ words) = do
   key ← key_of key
-  length ← small_of length
+  length ← u32_of length
   flags ← flags_of Store [] words
   flags ← comparing flags
   fitting length (Asking Store key (Some length) flags)

@@ -2,9 +2,9 @@
 #![tactic(auto)]
 
 pub mod command;
+pub mod command_line;
 pub mod flags;
 pub mod laws;
-pub mod line_words;
 pub mod reader;
 pub mod request;
 pub mod values;

@@ -7,7 +7,8 @@ ghost use Rattle.meta_requests.specs.Places.{LiesIn, order_in};
 ghost use Rattle.meta_requests.specs.Message.{Reads, IsMeant, meaning, command_block_len};
 
 use crate::command::{Command, Read, Request};
-use crate::line_words::{command, skip};
+use crate::command_line::{command, skip};
+use crate::verbs::verb;
 use mc_text::ends::Line;
 use mc_text::reading::line;
 use mc_text::word::{Span, next_word};
@@ -52,19 +53,21 @@ fn block_len(command: &Command) -> Option<usize>
 
 /// The message of the line that was found, whose first word is known, and of what follows the line. It takes no memory.
 ///
-/// A reader of several dialects finds the line and looks at its first word once, and then calls this.
+/// A reader of several dialects finds the line and its first word once, and then calls this.
 pub fn read_behind(bytes: &[u8], end: usize, used: usize, first: Span) -> Read
     requires line { TakesLine bytes.now end used }
     requires first { IsNextWord (take end bytes.now) 0 first }
     ensures { IsMeant bytes.now result (meaning (take (used - 1) bytes.now) (drop used bytes.now)) }
 {
     let text = &bytes[..end];
+    // The word is looked up once, for what the line asks and for what is passed over if it is refused.
+    let verb = verb(&text[first.start..first.end]);
     // Each arm returns by itself: the value of a match in a match is copied at each level.
-    match command(text, first) {
+    match command(text, first, verb) {
         Err(why) => return Read::Refused {
             why,
             used,
-            skip: skip(text),
+            skip: skip(text, first, verb),
         },
         Ok(command) => match block_len(&command) {
             Some(len) => return with_block(bytes, used, command, len),

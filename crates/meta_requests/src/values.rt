@@ -4,7 +4,7 @@ ghost use Rattle.std.specs.List.{list_any};
 ghost use Rattle.meta_requests.specs.Flags.{letters_of, is_served, store_mode, count_mode, mode_by, mode_of, is_opaque, has_value, values_of, value_more};
 
 use crate::command::{Kind, Values};
-use mc_text::number::{number, signed, small_number};
+use mc_text::number::{number, signed, u32_number};
 use mc_types::{Op, Opaque};
 
 fn letters(kind: Kind) -> &'static [u8]
@@ -105,7 +105,7 @@ impl Values {
         } else if letter == b'D' {
             values.delta = Some(number(text)?);
         } else if letter == b'F' {
-            values.flags = Some(small_number(text)?);
+            values.flags = Some(u32_number(text)?);
         } else if letter == b'T' {
             values.exptime = Some(signed(text)?);
         } else if letter == b'M' {

@@ -12,6 +12,8 @@ mod escaped_bytes;
 #[cfg(test)]
 mod explanations;
 #[cfg(test)]
+mod full_writer;
+#[cfg(test)]
 mod pictures;
 #[cfg(test)]
 mod places;

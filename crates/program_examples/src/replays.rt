@@ -1,11 +1,10 @@
 //! Scripts that run, that are refused, and that can't be read.
 
+use crate::full_writer::Full;
 use config_check::status::{BAD_INPUT, DONE, REFUSED, WRITER};
 use replay::{run_replay, run_replay_over};
 use route_json::{Config, read_config};
 use std::alloc::Global;
-use std::io;
-use std::io::{ErrorKind, Write};
 use std::test::Fail;
 
 #[test]
@@ -144,27 +143,6 @@ fn events_over_a_configuration(rt: HostRuntime) -> Result<(), Fail> {
         assert_eq!(rt; out.as_slice(), want.as_bytes());
     }
     Ok(())
-}
-
-// Takes so many bytes, and then fails.
-#[derive(Drop)]
-struct Full {
-    room: usize,
-}
-
-impl Write for Full {
-    fn write(&mut self, bytes: &[u8]) -> io::Result<usize> {
-        let count = bytes.len().min(self.room);
-        if count == 0 {
-            return Err(io::Error::from(ErrorKind::StorageFull));
-        }
-        self.room -= count;
-        Ok(count)
-    }
-
-    fn flush(&mut self) -> io::Result<()> {
-        Ok(())
-    }
 }
 
 #[test]

@@ -1,7 +1,7 @@
 //! Scripts with known transcripts: what clients of memcached see, and what failures, losses and time do to it.
 
-use config_check::run_check;
 use config_check::status::{BAD_INPUT, DONE};
+use config_check::{Form, run_check};
 use replay::run_replay;
 use std::alloc::{AllocError, Global};
 use std::test::Fail;
@@ -587,7 +587,7 @@ fn runs_session(
     )?;
     let verdict = format!(in alloc; "accepted places={places}\n")?;
     let mut out = Vec::new(alloc);
-    let is_accepted = run_check(alloc, config, &mut out) == DONE;
+    let is_accepted = run_check(alloc, Form::Lines, config, &mut out) == DONE;
     Ok(
         is_accepted
             && out.as_slice() == verdict.as_bytes()

@@ -1,16 +1,15 @@
 //! The printed verdicts of worked configurations.
 
+use crate::full_writer::Full;
 use config_check::status::{BAD_INPUT, DONE, REFUSED, WRITER};
-use config_check::{run_check, run_explain, run_picture};
+use config_check::{Form, run_check};
 use std::alloc::{AllocError, Global};
-use std::io;
-use std::io::{ErrorKind, Write};
 use std::test::Fail;
 
 // Whether the text has this status, and exactly this is printed of it.
 fn prints(alloc: Global, text: &str, status: u8, printed: &str) -> bool {
     let mut out = Vec::new(alloc);
-    run_check(alloc, text, &mut out) == status && out.as_slice() == printed.as_bytes()
+    run_check(alloc, Form::Lines, text, &mut out) == status && out.as_slice() == printed.as_bytes()
 }
 
 // The route over pool A of one server, 127.0.0.1:5001, and B of one, 127.0.0.1:5002.
@@ -34,7 +33,7 @@ fn is_printed(alloc: Global, route: &str, status: u8, printed: &str) -> Result<b
 fn is_explained(alloc: Global, route: &str, status: u8, words: &str) -> Result<bool, Fail> {
     let text = over_two_pools(alloc, route)?;
     let mut out = Vec::new(alloc);
-    let ended = run_explain(alloc, text.as_str(), &mut out);
+    let ended = run_check(alloc, Form::Explained, text.as_str(), &mut out);
     Ok(ended == status && out.as_slice().ends_with(words.as_bytes()))
 }
 
@@ -66,7 +65,7 @@ fn warm_up_in_words(rt: HostRuntime) -> Result<(), Fail> {
 fn is_drawn(alloc: Global, route: &str, status: u8, drawn: &str) -> Result<bool, Fail> {
     let text = over_two_pools(alloc, route)?;
     let mut out = Vec::new(alloc);
-    let ended = run_picture(alloc, text.as_str(), &mut out);
+    let ended = run_check(alloc, Form::Picture, text.as_str(), &mut out);
     Ok(ended == status && out.as_slice() == drawn.as_bytes())
 }
 
@@ -298,35 +297,17 @@ fn too_many_places(rt: HostRuntime) -> Result<(), Fail> {
     Ok(())
 }
 
-// Takes so many bytes, and then fails.
-#[derive(Drop)]
-struct Full {
-    room: usize,
-}
-
-impl Write for Full {
-    fn write(&mut self, bytes: &[u8]) -> io::Result<usize> {
-        let count = bytes.len().min(self.room);
-        if count == 0 {
-            return Err(io::Error::from(ErrorKind::StorageFull));
-        }
-        self.room -= count;
-        Ok(count)
-    }
-
-    fn flush(&mut self) -> io::Result<()> {
-        Ok(())
-    }
-}
-
 #[test]
 fn writers_that_fail(rt: HostRuntime) -> Result<(), Fail> {
     let text = over_two_pools(rt.alloc(), "\"PoolRoute|A\"")?;
     for room in 0..10 {
         let mut out = Full { room };
-        assert_eq!(rt; run_check(rt.alloc(), text.as_str(), &mut out), WRITER);
+        assert_eq!(rt;
+            run_check(rt.alloc(), Form::Lines, text.as_str(), &mut out),
+            WRITER
+        );
         let mut bad = Full { room };
-        assert_eq!(rt; run_check(rt.alloc(), "", &mut bad), WRITER);
+        assert_eq!(rt; run_check(rt.alloc(), Form::Lines, "", &mut bad), WRITER);
     }
     Ok(())
 }

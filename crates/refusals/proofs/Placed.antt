@@ -6,9 +6,9 @@ use Rattle.route_tree.specs.At.{begins}
 use Rattle.route_tree.specs.declared.place.Place.{Place}
 use Rattle.route_tree.specs.Place.{IsLongest, IsPlaceOf, sizes, prefixes}
 use Rattle.route_tree.specs.Route.{Route}
-use Rattle.coverage.proofs.Validity.{each_in}
+use Rattle.certificates.proofs.Validity.{each_in}
 use Rattle.coverage.proofs.Choices.{both_split}
-use Rattle.coverage.proofs.Tabling.{one_multiple}
+use Rattle.certificates.proofs.Tabling.{one_multiple}
 
 same_begin : (p q key : List ℕ) → begins p key ≡ true → begins q key ≡ true → length p ≡ length q → p ≡ q
 same_begin [] [] key h k e = refl

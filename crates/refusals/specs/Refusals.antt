@@ -7,10 +7,10 @@ use Rattle.route_tree.specs.At.{tree_at}
 use Rattle.route_tree.specs.Route.{Route}
 use Rattle.route_tree.specs.Direct.{words_of}
 use Rattle.route_json.specs.Configuration.{Configuration}
-use Rattle.coverage.specs.declared.table.Class.{Class}
-use Rattle.coverage.specs.declared.table.PlaceTable.{PlaceTable}
-use Rattle.coverage.specs.Places.{place_at}
-use Rattle.coverage.specs.Tables.{IsTable}
+use Rattle.certificates.specs.declared.table.Class.{Class}
+use Rattle.certificates.specs.declared.table.PlaceTable.{PlaceTable}
+use Rattle.certificates.specs.Places.{place_at}
+use Rattle.certificates.specs.Tables.{IsTable}
 use Rattle.fresh_gate.specs.declared.gap.Gap.{Gap}
 use Rattle.fresh_gate.specs.Gate.{IsGapAt}
 use Rattle.text_codec.specs.TextProtocol.{memcached_text}

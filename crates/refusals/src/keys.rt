@@ -1,10 +1,10 @@
 //! The keys that are tried for a place.
 ghost use Rattle.std.specs.Prelude.{◌≡◌, ◌↔◌, ◌++◌, [], ◌∷◌, IfOk, IsTrue};
-ghost use Rattle.route_tree.specs.Place.{prefix_text};
-ghost use Rattle.coverage.specs.Tables.{IsTable};
+ghost use Rattle.certificates.specs.Tables.{IsTable};
 ghost use Rattle.refusals.specs.Tried.{tried_text, IsTried, IsFirstTried};
 
-use coverage::PlaceTable;
+use certificates::PlaceTable;
+use coverage::prefixes::prefix_text;
 use itoa::Buffer;
 use mc_types::Key;
 use route_tree::{Place, Tree};
@@ -13,21 +13,12 @@ use std::alloc::{AllocError, Global};
 /// How many keys are tried.
 pub const TRIED: u32 = 65_536;
 
-fn prefix_bytes(prefix: &Option<Key>) -> &[u8]
-    ensures { result.now ≡ prefix_text prefix.now }
-{
-    match prefix {
-        Some(prefix) => prefix.as_bytes(),
-        None => &[],
-    }
-}
-
 // The prefix, `k`, and the number.
 fn tried_text(alloc: Global, prefix: &Option<Key>, number: u32) -> Result<Vec<u8>, AllocError>
     ensures { IfOk result (λ text. text.items ≡ tried_text prefix.now number) }
 {
     let mut buffer = Buffer::new();
-    let mut text = Vec::from_slice(alloc, prefix_bytes(prefix))?;
+    let mut text = Vec::from_slice(alloc, prefix_text(prefix))?;
     text.extend_from_slice(b"k")?;
     text.extend_from_slice(buffer.format(number).as_bytes())?;
     Ok(text)

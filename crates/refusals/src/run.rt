@@ -4,7 +4,7 @@ ghost use Rattle.mc_runs.specs.Log.{Scripted};
 ghost use Rattle.route_tree.specs.Plan.{IsGood};
 ghost use Rattle.route_tree.specs.At.{tree_at};
 ghost use Rattle.coverage.specs.Taking.{IsTaking};
-ghost use Rattle.coverage.specs.Tables.{IsTable};
+ghost use Rattle.certificates.specs.Tables.{IsTable};
 ghost use Rattle.fleet_run.specs.Scripted.{scripted_of};
 ghost use Rattle.refusals.specs.Tried.{IsFirstKey};
 ghost use Rattle.refusals.specs.Failing.{failures_of};
@@ -13,7 +13,7 @@ ghost use Rattle.refusals.specs.Refusals.{MayLack, IsShowing, IsRefusalRun, IsRe
 use crate::failures::{Failures, failures_at};
 use crate::keys::key_at;
 use crate::script::script_for;
-use coverage::{PlaceFault, PlaceTable, places};
+use certificates::{PlaceFault, PlaceTable, places};
 use fleet_run::{DriveFault, MemoryFleet, Script, Transcript, drive_any};
 use fresh_gate::Gap;
 use mc_types::{Key, Op};

@@ -10,7 +10,7 @@ use Rattle.mc_types.specs.KeyText.{IsKey}
 use Rattle.mc_types.specs.Asks.{IsExptime, data_limit}
 use Rattle.request_parts.specs.declared.refusal.RefusalReason.{RefusalReason}
 use Rattle.request_parts.specs.declared.refusal.RefusalReason.TheVariants.{BadKey, BadNumber, TooLarge}
-use Rattle.request_parts.specs.Tests.{Word, ◌>>=◌, is_key, key_of, small_of, wide_of, exptime_of, fitting}
+use Rattle.request_parts.specs.Tests.{Word, ◌>>=◌, is_key, key_of, u32_of, u64_of, exptime_of, fitting}
 use Rattle.request_parts.proofs.KeyTexts.{key_is}
 
 -- the first test was passed, and so were the others
@@ -40,10 +40,10 @@ pub from_ok_or : {A : Type 0} → (o : Option A) (x : A) → ok_or {E = RefusalR
 from_ok_or None x e = absurd cc
 from_ok_or (Some y) x e = cc
 
-pub a_small : (w : Word) (n : ℕ) → small_of w ≡ Ok n → n < 2 ^ 32
+pub a_small : (w : Word) (n : ℕ) → u32_of w ≡ Ok n → n < 2 ^ 32
 a_small w n e = below_limit (2 ^ 32) n w (from_ok_or (number_below (2 ^ 32) w) n e)
 
-pub a_wide : (w : Word) (n : ℕ) → wide_of w ≡ Ok n → n < 2 ^ 64
+pub a_wide : (w : Word) (n : ℕ) → u64_of w ≡ Ok n → n < 2 ^ 64
 a_wide w n e = below_limit (2 ^ 64) n w (from_ok_or (number_below (2 ^ 64) w) n e)
 
 down : (n : ℕ) → n < 2 ^ 63 + 1 → IsExptime (neg_ℤ (pos n))

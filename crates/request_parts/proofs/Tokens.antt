@@ -16,7 +16,7 @@ use Rattle.mc_text.proofs.ReadBack.{signed_are_read_back}
 use Rattle.mc_types.specs.KeyText.{IsKey, is_key_byte}
 use Rattle.mc_types.specs.Asks.{IsExptime}
 use Rattle.request_parts.specs.declared.refusal.RefusalReason.{RefusalReason}
-use Rattle.request_parts.specs.Tests.{Word, is_key, key_of, small_of, wide_of, exptime_of, block_text}
+use Rattle.request_parts.specs.Tests.{Word, is_key, key_of, u32_of, u64_of, exptime_of, block_text}
 use Rattle.request_parts.specs.Grammar.{Grammar}
 use Rattle.request_parts.specs.Message.{Served, Begins, meaning, meaning_of, with_rest}
 
@@ -35,10 +35,10 @@ key_passes key k = rw (le-leb 1 (length key) k.some, le-leb (length key) 250 k.s
 pub key_back : (key : Word) → IsKey key → key_of key ≡ Ok key
 key_back key k = rw (key_passes key k) refl
 
-pub small_back : (n : ℕ) → n < 2 ^ 32 → small_of (decimal n) ≡ Ok n
+pub small_back : (n : ℕ) → n < 2 ^ 32 → u32_of (decimal n) ≡ Ok n
 small_back n lt = rw (number_below-decimal (2 ^ 32) n lt (omega arith)) refl
 
-pub wide_back : (n : ℕ) → n < 2 ^ 64 → wide_of (decimal n) ≡ Ok n
+pub wide_back : (n : ℕ) → n < 2 ^ 64 → u64_of (decimal n) ≡ Ok n
 wide_back n lt = rw (number_below-decimal (2 ^ 64) n lt (omega arith)) refl
 
 pub fits : (z : ℤ) → IsExptime z → FitsSigned w64 z

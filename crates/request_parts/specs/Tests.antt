@@ -29,12 +29,12 @@ abbrev pub key_of : Word → Result Word RefusalReason
 key_of word = if is_key word then Ok word else Err BadKey
 
 -- flags or a length: a number below 2^32
-abbrev pub small_of : Word → Result ℕ RefusalReason
-small_of word = ok_or (number_below (2 ^ 32) word) BadNumber
+abbrev pub u32_of : Word → Result ℕ RefusalReason
+u32_of word = ok_or (number_below (2 ^ 32) word) BadNumber
 
 -- a cas number, or by how much is counted: a number below 2^64
-abbrev pub wide_of : Word → Result ℕ RefusalReason
-wide_of word = ok_or (number_below (2 ^ 64) word) BadNumber
+abbrev pub u64_of : Word → Result ℕ RefusalReason
+u64_of word = ok_or (number_below (2 ^ 64) word) BadNumber
 
 -- a number of 64 bits with a sign
 abbrev pub exptime_of : Word → Result ℤ RefusalReason

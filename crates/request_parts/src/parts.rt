@@ -3,12 +3,12 @@ ghost use Rattle.std.specs.Prelude.{◌≡◌, ◌≤◌, [], length, drop, IfOk
 ghost use Rattle.std.specs.Option.{option_map};
 ghost use Rattle.mc_types.specs.KeyText.{IsKey};
 ghost use Rattle.mc_text.specs.Word.{words, text_at, IsNextWord};
-ghost use Rattle.request_parts.specs.Tests.{is_key, key_of, small_of, wide_of, exptime_of, length_in};
+ghost use Rattle.request_parts.specs.Tests.{is_key, key_of, u32_of, u64_of, exptime_of, length_in};
 ghost use Rattle.request_parts.specs.Places.{Gives, IsIn};
 
 use crate::key_bytes::are_key_bytes;
 use crate::refusal::RefusalReason;
-use mc_text::number::{number, signed, small_number};
+use mc_text::number::{number, signed, u32_number};
 use mc_text::word::{Span, next_word};
 use mc_types::{KEY_LIMIT, Key};
 
@@ -46,7 +46,7 @@ pub fn length_at(line: &[u8], from: usize, place: usize) -> Option<u32>
     ensures { result ≡ length_in (slice_get (words (drop from line.now)) place) }
 {
     let word = nth_word(line, from, place)?;
-    small_number(&line[word.start..word.end])
+    u32_number(&line[word.start..word.end])
 }
 
 /// The key that a word must be.
@@ -63,17 +63,17 @@ pub fn key(line: &[u8], word: Span) -> Result<Span, RefusalReason>
 }
 
 /// The flags or the length that a word must be.
-pub fn small(line: &[u8], word: Span) -> Result<u32, RefusalReason>
+pub fn u32_of(line: &[u8], word: Span) -> Result<u32, RefusalReason>
     requires { IsIn (length line.now) word }
-    ensures { result ≡ small_of (text_at line.now word) }
+    ensures { result ≡ u32_of (text_at line.now word) }
 {
-    small_number(&line[word.start..word.end]).ok_or(RefusalReason::BadNumber)
+    u32_number(&line[word.start..word.end]).ok_or(RefusalReason::BadNumber)
 }
 
 /// The number below 2^64 that a word must be.
-pub fn wide(line: &[u8], word: Span) -> Result<u64, RefusalReason>
+pub fn u64_of(line: &[u8], word: Span) -> Result<u64, RefusalReason>
     requires { IsIn (length line.now) word }
-    ensures { result ≡ wide_of (text_at line.now word) }
+    ensures { result ≡ u64_of (text_at line.now word) }
 {
     number(&line[word.start..word.end]).ok_or(RefusalReason::BadNumber)
 }

@@ -1,6 +1,7 @@
 //! Worked verdicts.
 
-use coverage::{Certificate, ClassRows, Deleting, Run, places};
+use certificates::{Certificate, ClassRows, Run, places};
+use coverage::Deleting;
 use fresh_gate::{Accepted, Gap, Reason, Refused, ReloadFault, check, judge};
 use mc_types::{Op, ServerId};
 use route_json::{Config, read_config};

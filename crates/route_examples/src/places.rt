@@ -4,11 +4,10 @@ ghost use Rattle.std.specs.Prelude.{◌≡◌, ◌<◌, ◌≤◌, ℕ, List, []
 ghost use Rattle.mc_types.specs.KeyText.{IsKey};
 ghost use Rattle.route_tree.specs.Route as route;
 ghost use Rattle.route_tree.specs.Route.{IsGood, depth, count};
-ghost use Rattle.coverage.specs.Tables.{IsTable};
+ghost use Rattle.certificates.specs.Tables.{IsTable};
 
-use coverage::{
-    Certificate, Deleting, PlaceFault, PlaceTable, cleared, places, places_of_two, propose, taken,
-};
+use certificates::{Certificate, PlaceFault, PlaceTable, places, places_of_two, propose};
+use coverage::{Deleting, cleared, taken};
 use mc_types::{Key, Op, ServerId};
 use route_tree::{Place, Plain, Tree, TreeForm};
 use std::alloc::{AllocError, Global};

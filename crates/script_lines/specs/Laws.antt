@@ -1,5 +1,5 @@
 -- The law of scripts that were written: they are read back. Source: mcgate's own.
-use Rattle.std.specs.Prelude.{◌≡◌, ℕ, ◌<◌, ◌^◌, pos, List, [], ◌∷◌, ◌++◌, All, false, None, Ok}
+use Rattle.std.specs.Prelude.{◌≡◌, ℕ, ◌<◌, ◌<ℤ◌, ◌^◌, pos, List, [], ◌∷◌, ◌++◌, All, false, None, Ok}
 use Rattle.mc_types.specs.KeyText.{IsKey}
 use Rattle.mc_runs.specs.Log.{Scripted, Piece, Hold, Fail, At, Now, Moment, Loss, Lose, Restart}
 use Rattle.route_json.specs.Configuration.{Configuration}
@@ -35,6 +35,24 @@ HasLine (Moment moment) = (n : ℕ) × (n < 2 ^ 63) × (moment ≡ pos n)
 abbrev pub HaveLines : List Scripted → Type 0
 HaveLines [] = Unit {0}
 HaveLines (event ∷ events) = HasLine event × HaveLines events
+
+-- the numbers and bytes of an event have the widths of their types
+abbrev pub LossHasWidths : Loss → Type 0
+LossHasWidths (Lose server key) = (server < 2 ^ 32) × AreBytes key
+LossHasWidths (Restart server) = server < 2 ^ 32
+
+abbrev pub HasWidths : Scripted → Type 0
+HasWidths (Piece client bytes) = AreBytes bytes
+HasWidths (Hold server key content) = (server < 2 ^ 32) × AreBytes key × AreBytes content
+HasWidths (Fail turn manner) = turn < 2 ^ 32
+HasWidths (At turn loss) = (turn < 2 ^ 32) × LossHasWidths loss
+HasWidths (Now loss) = LossHasWidths loss
+HasWidths (Moment moment) = moment <ℤ pos (2 ^ 63)
+
+-- so it is of each of them
+abbrev pub HaveWidths : List Scripted → Type 0
+HaveWidths [] = Unit {0}
+HaveWidths (event ∷ events) = HasWidths event × HaveWidths events
 
 -- a text that was read says this configuration and these events, each of its lines can be read, and none loads anything
 pub record SaysAll (t : Told) (config : Configuration) (events : List Scripted) : Type 0 where

@@ -4,7 +4,7 @@ ghost use Rattle.std.specs.Prelude.{◌≡◌, option_map};
 ghost use Rattle.std.specs.List.{list_all};
 ghost use Rattle.server_addresses.specs.Addresses.{is_printable, around_colon, is_host_and_port, is_port, is_address};
 
-use mc_text::number::small_number;
+use mc_text::number::u32_number;
 
 /// What stands before the last colon and what stands after it, where there is a colon.
 pub(crate) fn around_colon(text: &str) -> Option<(&str, &str)>
@@ -25,7 +25,7 @@ fn is_port(digits: &[u8]) -> bool
     if digits.len() > 5 {
         return false;
     }
-    match small_number(digits) {
+    match u32_number(digits) {
         Some(number) => 0 < number && number < 65536,
         None => false,
     }

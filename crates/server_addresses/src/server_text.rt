@@ -5,7 +5,7 @@ ghost use Rattle.std.specs.List.{list_any};
 ghost use Rattle.server_addresses.specs.ServerTexts.{is_colon, is_without_colons, is_in_brackets, is_host, weighted_parts, weight_of, with_weight, server_in};
 
 use crate::address::{around_colon, is_address};
-use mc_text::number::small_number;
+use mc_text::number::u32_number;
 
 /// The greatest weight of a server.
 pub const MAX_WEIGHT: u32 = 16;
@@ -54,7 +54,7 @@ fn weight_of(digits: &[u8]) -> Option<u32>
     if digits.len() > 2 {
         return None;
     }
-    small_number(digits).filter(|weight| 0 < *weight && *weight <= MAX_WEIGHT)
+    u32_number(digits).filter(|weight| 0 < *weight && *weight <= MAX_WEIGHT)
 }
 
 fn with_weight(address: &str, weight: Option<u32>) -> Option<(&str, u32)>

@@ -17,9 +17,9 @@ use Rattle.mc_types.specs.declared.ask.Dialect.{Dialect}
 use Rattle.mc_types.specs.declared.ask.Dialect.TheVariants.{Classic}
 use Rattle.mc_types.specs.declared.answer.Answer.{Answer}
 use Rattle.mc_types.specs.declared.answer.Answer.TheVariants as answers
-use Rattle.text_answers.specs.declared.said.Said.{Said}
-use Rattle.text_answers.specs.declared.said.Said.TheVariants.{Whole, Hit, Value, Foreign}
-use Rattle.text_answers.specs.declared.said.HitLine.{HitLine}
+use Rattle.text_answers.specs.declared.line_kinds.FirstLine.{FirstLine}
+use Rattle.text_answers.specs.declared.line_kinds.FirstLine.TheVariants.{Whole, Hit, Value, Foreign}
+use Rattle.text_answers.specs.declared.line_kinds.HitLine.{HitLine}
 use Rattle.text_answers.specs.Table.{looked_up, of_store, of_cas, of_fetch, of_delete, of_touch, of_count, number_or, word_answer}
 use Rattle.text_answers.specs.FirstLine.{said, words_said, error_said, error_text, is_error_text, behind_word, cas_said, hit_said, is_fetch, hit_or_foreign, whole_or_foreign, alone, in_dialect}
 use Rattle.text_answers.specs.Reading.{Follows}
@@ -34,7 +34,7 @@ Taken op with_cas answer = IsAnswer answer × FitsClassic op with_cas answer
 abbrev pub IsHitOf : Bool → HitLine → Type 0
 IsHitOf with_cas hit = (hit.flags < 2 ^ 32) × (hit.len ≤ data_limit) × IfSome hit.cas (λ n. n < 2 ^ 64) × (is_some hit.cas ≡ with_cas)
 
-abbrev SaidFits : Op → Bool → Said → Type 0
+abbrev SaidFits : Op → Bool → FirstLine → Type 0
 SaidFits op with_cas (Whole answer) = Taken op with_cas answer
 SaidFits op with_cas (Hit hit) = IsHitOf with_cas hit × (is_fetch op ≡ true)
 SaidFits op with_cas (Value line) = ⊥
@@ -147,7 +147,7 @@ server_fits op wc None h = tt
 words_fit : (ask : Ask) → ask.dialect ≡ Classic → (text : Option (List ℕ)) (ws : List (List ℕ)) → IfSome text IsErrorText → SaidFits ask.op ask.with_cas (words_said ask text ws)
 words_fit ask classic text [] h = tt
 words_fit ask classic text (w ∷ more) h =
-    let P : Said → Type 0 = SaidFits ask.op ask.with_cas in
+    let P : FirstLine → Type 0 = SaidFits ask.op ask.with_cas in
     cond_both (bytes_eq w (codes "CLIENT_ERROR")) _ _ P (λ client. client_fits ask.op ask.with_cas text h)
     (λ no. cond_both (bytes_eq w (codes "SERVER_ERROR")) _ _ P (λ server. server_fits ask.op ask.with_cas text h)
     (λ no. subst (λ (d : Dialect). P (in_dialect d ask w more)) (sym classic)
@@ -163,7 +163,7 @@ hit_listed Get wc flags body cas e h = h
 hit_listed Gat wc flags body cas e h = h
 hit_listed _ wc flags body cas e h = absurd cc
 
-follows_fit : (op : Op) (wc : Bool) (s : Said) (rest : List ℕ) (answer : Answer) (used : ℕ) → SaidFits op wc s → Follows s rest answer used → Taken op wc answer
+follows_fit : (op : Op) (wc : Bool) (s : FirstLine) (rest : List ℕ) (answer : Answer) (used : ℕ) → SaidFits op wc s → Follows s rest answer used → Taken op wc answer
 follows_fit op wc (Whole x) rest answer used h f = subst (Taken op wc) (sym f.0) h
 follows_fit op wc (Hit hit) rest answer used h f =
     subst (Taken op wc) (sym f.3) ((h.0.0, omega (arith, f.4, h.0.1), h.0.2), hit_listed op wc hit.flags f.0 hit.cas h.1 h.0.3)

@@ -19,9 +19,9 @@ use Rattle.mc_types.specs.declared.ask.Dialect.TheVariants.{Classic}
 use Rattle.mc_types.specs.declared.ask.Op.TheVariants.{Get, Gat}
 use Rattle.mc_types.specs.declared.answer.Answer.TheVariants as answers
 use Rattle.mc_types.specs.declared.answer.Answer.TheVariants.{Stored, NotStored, Exists, NotFound, Deleted, Touched, Number, Miss, Meta, ClientError, Error, ServerError}
-use Rattle.text_answers.specs.declared.said.Said.{Said}
-use Rattle.text_answers.specs.declared.said.Said.TheVariants.{Hit}
-use Rattle.text_answers.specs.declared.said.HitLine.{HitLine}
+use Rattle.text_answers.specs.declared.line_kinds.FirstLine.{FirstLine}
+use Rattle.text_answers.specs.declared.line_kinds.FirstLine.TheVariants.{Hit}
+use Rattle.text_answers.specs.declared.line_kinds.HitLine.{HitLine}
 use Rattle.text_answers.specs.Spelling.{cas_words, end_text, spelling_of}
 use Rattle.text_answers.specs.FirstLine.{said, words_said, error_text, hit_said, is_fetch}
 use Rattle.text_answers.specs.Reading.{IsBlockEnd, Follows, Spells}
@@ -109,7 +109,7 @@ hit_back ask flags body cas more classic k ranges fits =
     let says : said ask line ≡ Hit hit = value_said ask line (ask.key ∷ decimal flags ∷ decimal n ∷ cas_words cas) hit classic are only.0 (hit_read ask.key ask.with_cas flags n cas ranges.0 ranges.1 ranges.2 only.1) in
     let rest = body ++ (codes "\r\n" ++ (end_text ++ more)) in
     let there : Follows (Hit hit) rest (answers.Hit flags body cas) (n + 7) = (body, codes "\r\n" ++ (end_text ++ more), 7, refl, refl, refl, end_read more, refl) in
-    let follows : Follows (said ask line) rest (answers.Hit flags body cas) (n + 7) = subst (λ (s : Said). Follows s rest (answers.Hit flags body cas) (n + 7)) (sym says) there in
+    let follows : Follows (said ask line) rest (answers.Hit flags body cas) (n + 7) = subst (λ (s : FirstLine). Follows s rest (answers.Hit flags body cas) (n + 7)) (sym says) there in
     let all = spelled ask line rest (answers.Hit flags body cas) (n + 7) one (hit_short ask.key flags n cas k ranges.0 ranges.1 ranges.2) follows in
     let whole : spelling_of ask (answers.Hit flags body cas) ++ more ≡ (line ++ codes "\r\n") ++ rest = regroup (line ++ codes "\r\n") body (codes "\r\n") end_text more in
     let long : length (spelling_of ask (answers.Hit flags body cas)) ≡ length line + 2 + (n + 7) =

@@ -30,8 +30,8 @@ use Rattle.meta_answers.specs.Spelling.{tokens_words, len_words, meta_words, dat
 use Rattle.meta_answers.proofs.TokensBack.{telling_all}
 use Rattle.meta_answers.proofs.LineBack.{done_back, value_back, bare_back, is_data_of, va_number, va_stands}
 use Rattle.meta_answers.proofs.Plain.{words_plain, words_short}
-use Rattle.text_answers.specs.declared.said.Said.{Said}
-use Rattle.text_answers.specs.declared.said.Said.TheVariants.{Whole, Value}
+use Rattle.text_answers.specs.declared.line_kinds.FirstLine.{FirstLine}
+use Rattle.text_answers.specs.declared.line_kinds.FirstLine.TheVariants.{Whole, Value}
 use Rattle.text_answers.specs.FirstLine.{said, words_said, error_text, is_error_word, line_said}
 use Rattle.text_answers.specs.Reading.{Follows, Spells, is_data}
 use Rattle.text_answers.proofs.WordBack.{spelled}
@@ -75,7 +75,7 @@ whole_back : (ask : Ask) (ws : List (List ℕ)) (answer : Answer) (more : List �
     → Spells ask ((line_of ws ++ []) ++ more) answer (length (line_of ws ++ []))
 whole_back ask ws answer more plain short says =
     let line = spaced ws in
-    let follows : Follows (said ask line) more answer 0 = subst (λ (s : Said). Follows s more answer 0) (sym says) (refl, refl) in
+    let follows : Follows (said ask line) more answer 0 = subst (λ (s : FirstLine). Follows s more answer 0) (sym says) (refl, refl) in
     let all = spelled ask line more answer 0 (spaced_line ws (plain_lines ws plain)) short follows in
     let same : line_of ws ++ [] ≡ line ++ codes "\r\n" = append-nil (line_of ws) in
     let long : length (line_of ws ++ []) ≡ length line + 2 + 0 = omega (arith, ap length same, length-append line (codes "\r\n")) in
@@ -93,7 +93,7 @@ data_back ask ws line body more plain short says len is =
     let answer : Answer = answers.Meta Va (fields_told line.told (Some body)) in
     let rest = body ++ (codes "\r\n" ++ more) in
     let there : Follows (Value line) rest answer (line.len + 2) = (body, codes "\r\n" ++ more, refl, len, refl, (more, refl), is, refl) in
-    let follows : Follows (said ask text) rest answer (line.len + 2) = subst (λ (s : Said). Follows s rest answer (line.len + 2)) (sym says) there in
+    let follows : Follows (said ask text) rest answer (line.len + 2) = subst (λ (s : FirstLine). Follows s rest answer (line.len + 2)) (sym says) there in
     let all = spelled ask text rest answer (line.len + 2) (spaced_line ws (plain_lines ws plain)) short follows in
     let whole : (line_of ws ++ (body ++ codes "\r\n")) ++ more ≡ (text ++ codes "\r\n") ++ rest = regroup (line_of ws) body (codes "\r\n") more in
     let long : length (line_of ws ++ (body ++ codes "\r\n")) ≡ length text + 2 + (line.len + 2) =
@@ -168,5 +168,5 @@ meta_error_back ask more is =
     let word = codes "ERROR" in
     let plain : IsPlain word = literal word refl (omega arith) in
     let says : said ask word ≡ Whole answers.Error = ap (words_said ask (error_text word)) (words-spaced (word ∷ []) (plain_words (word ∷ []) (plain, tt))) ∙ rw is refl in
-    let follows : Follows (said ask word) more answers.Error 0 = subst (λ (s : Said). Follows s more answers.Error 0) (sym says) (refl, refl) in
+    let follows : Follows (said ask word) more answers.Error 0 = subst (λ (s : FirstLine). Follows s more answers.Error 0) (sym says) (refl, refl) in
     spelled ask word more answers.Error 0 (plain_line word plain) (omega arith) follows

@@ -19,8 +19,8 @@ use Rattle.meta_answers.specs.Told.{none_told, fields_told}
 use Rattle.meta_answers.specs.Line.{is_count, meta_said}
 use Rattle.meta_answers.proofs.FitLemmas.{IsLineOf, said_is, told_stand, told_range}
 use Rattle.meta_answers.proofs.Fitting.{none_bare, none_range, hd_fits, bare_fits, va_fits}
-use Rattle.text_answers.specs.declared.said.Said.{Said}
-use Rattle.text_answers.specs.declared.said.Said.TheVariants.{Whole, Hit, Value, Foreign}
+use Rattle.text_answers.specs.declared.line_kinds.FirstLine.{FirstLine}
+use Rattle.text_answers.specs.declared.line_kinds.FirstLine.TheVariants.{Whole, Hit, Value, Foreign}
 use Rattle.text_answers.specs.FirstLine.{said, words_said, error_said, error_text, is_error_word, line_or_foreign, meta_or_error, in_dialect}
 use Rattle.text_answers.specs.Reading.{Follows, is_data}
 use Rattle.text_answers.proofs.FitLemmas.{text_is, classic_taken}
@@ -31,7 +31,7 @@ module _ (ask : Ask) (shape : HasShapeOf ask (meta_shape ask.op)) where
   abbrev pub Taken : Answer → Type 0
   Taken answer = IsAnswer answer × FitsMeta ask.op ask.tokens answer
 
-  abbrev pub SaidFits : Said → Type 0
+  abbrev pub SaidFits : FirstLine → Type 0
   SaidFits (Whole answer) = Taken answer
   SaidFits (Hit hit) = ⊥
   SaidFits (Value line) = IsLineOf ask (lines.Value line)
@@ -65,7 +65,7 @@ module _ (ask : Ask) (shape : HasShapeOf ask (meta_shape ask.op)) where
   is_number true body e at = e
   is_number false body e at = absurd cc
 
-  follows_fit : (s : Said) (rest : List ℕ) (answer : Answer) (used : ℕ) → SaidFits s → Follows s rest answer used → Taken answer
+  follows_fit : (s : FirstLine) (rest : List ℕ) (answer : Answer) (used : ℕ) → SaidFits s → Follows s rest answer used → Taken answer
   follows_fit (Whole x) rest answer used h f = subst Taken (sym f.0) h
   follows_fit (Hit hit) rest answer used h f = absurd h
   follows_fit (Value line) rest answer used h f =

@@ -23,8 +23,8 @@ use Rattle.mc_types.specs.declared.answer.Code.{Code}
 use Rattle.mc_types.specs.declared.answer.Fields.{Fields}
 use Rattle.mc_types.specs.declared.answer.Answer.TheVariants as answers
 use Rattle.mc_types.specs.declared.answer.Answer.TheVariants.{Stored, NotStored, Exists, NotFound, Deleted, Touched, Number, Miss, Meta, ClientError, Error, ServerError}
-use Rattle.text_answers.specs.declared.said.Said.{Said}
-use Rattle.text_answers.specs.declared.said.Said.TheVariants.{Whole}
+use Rattle.text_answers.specs.declared.line_kinds.FirstLine.{FirstLine}
+use Rattle.text_answers.specs.declared.line_kinds.FirstLine.TheVariants.{Whole}
 use Rattle.text_answers.specs.Spelling.{error_words, error_line, spelling_of}
 use Rattle.text_answers.specs.FirstLine.{said, is_error_text}
 use Rattle.text_answers.specs.Reading.{Follows, Spells}
@@ -51,13 +51,13 @@ text_line (b ∷ text) e = let parts = both (is_text_byte b) (list_all is_text_b
 error_back : (ask : Ask) (word text more : List ℕ) (error : List ℕ → Answer) → IsPlain word → length word ≤ 20 → IsErrorText text
     → said ask (spaced (error_words word text)) ≡ Whole (error text) → Spells ask (error_line word text ++ more) (error text) (length (error_line word text))
 error_back ask word [] more error plain len is says =
-    let all = spelled ask word more (error []) 0 (plain_line word plain) (omega arith) (subst (λ (s : Said). Follows s more (error []) 0) (sym says) (refl, refl)) in
+    let all = spelled ask word more (error []) 0 (plain_line word plain) (omega arith) (subst (λ (s : FirstLine). Follows s more (error []) 0) (sym says) (refl, refl)) in
     subst (λ (n : ℕ). Spells ask (error_line word [] ++ more) (error []) n) (omega (arith, length-append word (codes "\r\n"))) all
 error_back ask word (b ∷ text) more error plain len is says =
     let line = word ++ 32 ∷ (b ∷ text) in
     let one : IsOneLine line = All-append (λ c. c ≢ LF) word (32 ∷ (b ∷ text)) (plain_line word plain) (All-cons (λ c. c ≢ LF) 32 (b ∷ text) (λ e. cc) (text_line (b ∷ text) is.bytes)) in
     let short = is.short in
-    let all = spelled ask line more (error (b ∷ text)) 0 one (omega (arith, length-append word (32 ∷ (b ∷ text)))) (subst (λ (s : Said). Follows s more (error (b ∷ text)) 0) (sym says) (refl, refl)) in
+    let all = spelled ask line more (error (b ∷ text)) 0 one (omega (arith, length-append word (32 ∷ (b ∷ text)))) (subst (λ (s : FirstLine). Follows s more (error (b ∷ text)) 0) (sym says) (refl, refl)) in
     subst (λ (n : ℕ). Spells ask (error_line word (b ∷ text) ++ more) (error (b ∷ text)) n) (omega (arith, length-append line (codes "\r\n"))) all
 
 client_said : (ask : Ask) (text : List ℕ) → IsErrorText text → said ask (spaced (error_words (codes "CLIENT_ERROR") text)) ≡ Whole (ClientError text)

@@ -7,9 +7,9 @@ use Rattle.mc_text.proofs.WordLemmas.{rest_is}
 use Rattle.std.proofs.Math.Seq.{drop-append_seam}
 use Rattle.mc_types.specs.declared.ask.Ask.{Ask}
 use Rattle.mc_types.specs.declared.answer.Answer.{Answer}
-use Rattle.text_answers.specs.declared.said.Said.{Said}
-use Rattle.text_answers.specs.declared.said.Said.TheVariants.{Whole, Hit, Value, Foreign}
-use Rattle.text_answers.specs.declared.said.HitLine.{HitLine}
+use Rattle.text_answers.specs.declared.line_kinds.FirstLine.{FirstLine}
+use Rattle.text_answers.specs.declared.line_kinds.FirstLine.TheVariants.{Whole, Hit, Value, Foreign}
+use Rattle.text_answers.specs.declared.line_kinds.HitLine.{HitLine}
 use Rattle.mc_types.specs.declared.answer.Code.TheVariants.{Va}
 use Rattle.mc_types.specs.declared.answer.Fields.{Fields}
 use Rattle.mc_types.specs.declared.answer.Answer.TheVariants as answers
@@ -29,7 +29,7 @@ pub short_is_cut : (n : ℕ) (rest : List ℕ) → length rest < n → IsCutEnd 
 short_is_cut n rest lt = inl (drop_all n rest (omega arith))
 
 -- after the data stands what is cut
-pub cut_no_follow : (said : Said) (rest : List ℕ) → IsCutBehind said rest → (answer : Answer) (used : ℕ) → ¬ Follows said rest answer used
+pub cut_no_follow : (said : FirstLine) (rest : List ℕ) → IsCutBehind said rest → (answer : Answer) (used : ℕ) → ¬ Follows said rest answer used
 cut_no_follow (Hit hit) rest cut answer used f =
     cut_no_end (drop hit.len rest) cut f.2 (subst (λ (t : List ℕ). IsBlockEnd t f.2) (sym (behind_body hit.len rest f.0 f.1 f.4 f.5)) f.6)
 cut_no_follow (Value line) rest cut answer used f =
@@ -154,16 +154,16 @@ go ask bytes end used t (reads.Answer answer behind) h = answer_is ask bytes end
 go ask bytes end used t reads.More h = let cut = cut_is ask bytes end used t h in (cut, cut_not_spelled ask bytes cut)
 go ask bytes end used t reads.Foreign h = (not_cut_is ask bytes end used t h.0, foreign_is ask bytes end used t h.1)
 
-pub read_is : (ask : Ask) (bytes : List ℕ) (end used : ℕ) → TakesLine bytes end used → (s : Said) → s ≡ said ask (take end bytes) → (r result : AnswerRead)
+pub read_is : (ask : Ask) (bytes : List ℕ) (end used : ℕ) → TakesLine bytes end used → (s : FirstLine) → s ≡ said ask (take end bytes) → (r result : AnswerRead)
     → ReadsBehind s (take (length bytes - used) (drop used bytes)) r → result ≡ further used r → Reads ask bytes result
 read_is ask bytes end used t s s-is r result h e =
-    subst (Reads ask bytes) (sym e) (go ask bytes end used t r (subst (λ (x : Said). ReadsBehind x (take (length bytes - used) (drop used bytes)) r) s-is h))
+    subst (Reads ask bytes) (sym e) (go ask bytes end used t r (subst (λ (x : FirstLine). ReadsBehind x (take (length bytes - used) (drop used bytes)) r) s-is h))
 
 -- an answer lies within the bytes that spell it
 end_within : (bytes : List ℕ) (used : ℕ) → IsBlockEnd bytes used → used ≤ length bytes
 end_within bytes used e = omega (arith, ap length e.whole, e.used_is, e.line.used_is, line_length e.behind e.line.text e.line.rest e.line.line)
 
-follows_within : (s : Said) (rest : List ℕ) (answer : Answer) (used : ℕ) → Follows s rest answer used → used ≤ length rest
+follows_within : (s : FirstLine) (rest : List ℕ) (answer : Answer) (used : ℕ) → Follows s rest answer used → used ≤ length rest
 follows_within (Whole x) rest answer used f = omega (arith, f.1)
 follows_within (Hit hit) rest answer used f = omega (arith, f.4, f.7, ap length f.5, length-append f.0 f.1, end_within f.1 f.2 f.6)
 follows_within (Value line) rest answer used f = omega (arith, f.3, f.7, ap length f.4, length-append f.0 f.1, ap length f.5.1)

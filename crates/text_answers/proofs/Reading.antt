@@ -4,8 +4,8 @@ use Rattle.mc_text.specs.Line.{without_cr}
 use Rattle.mc_text.proofs.Stays.{lines_stay, lines_are_determined}
 use Rattle.mc_types.specs.declared.answer.Answer.{Answer}
 use Rattle.mc_types.specs.declared.answer.Answer.TheVariants as answers
-use Rattle.text_answers.specs.declared.said.Said.{Said}
-use Rattle.text_answers.specs.declared.said.Said.TheVariants.{Whole, Hit, Value, Foreign}
+use Rattle.text_answers.specs.declared.line_kinds.FirstLine.{FirstLine}
+use Rattle.text_answers.specs.declared.line_kinds.FirstLine.TheVariants.{Whole, Hit, Value, Foreign}
 use Rattle.mc_types.specs.declared.answer.Code.TheVariants.{Va}
 use Rattle.meta_answers.specs.Told.{fields_told}
 use Rattle.text_answers.specs.FirstLine.{said}
@@ -26,7 +26,7 @@ same_front (x ∷ a) (y ∷ b) c d len e =
     let rest = same_front a b c d (omega arith) tails in
     (cc, rest.1)
 
-one_follows : (s : Said) (rest : List ℕ) (a b : Answer) (m n : ℕ) → Follows s rest a m → Follows s rest b n → (a ≡ b) × (m ≡ n)
+one_follows : (s : FirstLine) (rest : List ℕ) (a b : Answer) (m n : ℕ) → Follows s rest a m → Follows s rest b n → (a ≡ b) × (m ≡ n)
 one_follows (Whole x) rest a b m n f g = (f.0 ∙ sym g.0, f.1 ∙ sym g.1)
 one_follows (Hit hit) rest a b m n f g =
     let parts = same_front f.0 g.0 f.1 g.1 (f.4 ∙ sym g.4) (sym f.5 ∙ g.5) in
@@ -62,7 +62,7 @@ end_stays bytes more used e = record {
   used_is = e.used_is;
 }
 
-follows_stay : (s : Said) (rest more : List ℕ) (answer : Answer) (used : ℕ) → Follows s rest answer used → Follows s (rest ++ more) answer used
+follows_stay : (s : FirstLine) (rest more : List ℕ) (answer : Answer) (used : ℕ) → Follows s rest answer used → Follows s (rest ++ more) answer used
 follows_stay (Whole x) rest more answer used f = f
 follows_stay (Hit hit) rest more answer used f =
     (f.0, f.1 ++ more, f.2, f.3, f.4, ap (λ (t : List ℕ). t ++ more) f.5 ∙ append_assoc f.0 f.1 more, end_stays f.1 more f.2 f.6, f.7)

@@ -19,8 +19,8 @@ use Rattle.mc_types.specs.declared.ask.Op.TheVariants.{Get, Gat, Set, Add, Repla
 use Rattle.mc_types.specs.declared.answer.Answer.{Answer}
 use Rattle.mc_types.specs.declared.answer.Answer.TheVariants as answers
 use Rattle.mc_types.specs.declared.answer.Answer.TheVariants.{Stored, NotStored, Exists, NotFound, Deleted, Touched, Number, Miss, Meta, ClientError, Error, ServerError}
-use Rattle.text_answers.specs.declared.said.Said.{Said}
-use Rattle.text_answers.specs.declared.said.Said.TheVariants.{Whole}
+use Rattle.text_answers.specs.declared.line_kinds.FirstLine.{FirstLine}
+use Rattle.text_answers.specs.declared.line_kinds.FirstLine.TheVariants.{Whole}
 use Rattle.text_answers.specs.Table.{looked_up, of_store, of_cas, of_fetch, of_delete, of_touch, of_count, number_or, word_answer}
 use Rattle.text_answers.specs.FirstLine.{said, words_said, error_text}
 use Rattle.text_answers.specs.Reading.{Follows, Spells}
@@ -178,6 +178,6 @@ alone_back ask a more classic lt f h =
     let plain = word_plain a lt h in
     let none = no_command a lt h in
     let says : said ask w ≡ Whole a = alone_said ask w a classic plain.0 none.0 none.1 none.2 (back_word ask.op ask.with_cas a lt f h) in
-    let follows : Follows (said ask w) more a 0 = subst (λ (s : Said). Follows s more a 0) (sym says) (refl, refl) in
+    let follows : Follows (said ask w) more a 0 = subst (λ (s : FirstLine). Follows s more a 0) (sym says) (refl, refl) in
     let all = spelled ask w more a 0 (plain_line w plain.0) (omega (arith, plain.1)) follows in
     subst (λ (n : ℕ). Spells ask (line_of (w ∷ []) ++ more) a n) (omega (arith, length-append w (codes "\r\n"))) all

@@ -21,9 +21,9 @@ use Rattle.meta_answers.specs.declared.line.MetaLine.{MetaLine}
 use Rattle.meta_answers.specs.declared.line.MetaLine.TheVariants as lines
 use Rattle.meta_answers.specs.Told.{none_told, fields_told}
 use Rattle.meta_answers.specs.Line.{meta_said}
-use Rattle.text_answers.specs.declared.said.Said.{Said}
-use Rattle.text_answers.specs.declared.said.Said.TheVariants.{Whole, Hit, Value, Foreign}
-use Rattle.text_answers.specs.declared.said.HitLine.{HitLine}
+use Rattle.text_answers.specs.declared.line_kinds.FirstLine.{FirstLine}
+use Rattle.text_answers.specs.declared.line_kinds.FirstLine.TheVariants.{Whole, Hit, Value, Foreign}
+use Rattle.text_answers.specs.declared.line_kinds.HitLine.{HitLine}
 use Rattle.text_answers.specs.Table.{word_answer}
 
 -- the spaces before a line's first word count for nothing
@@ -44,7 +44,7 @@ abbrev pub error_text : List ℕ → Option (List ℕ)
 error_text line = if is_error_text (behind_word line) then Some (behind_word line) else None
 
 -- an error line with this text
-abbrev pub error_said : (List ℕ → Answer) → Option (List ℕ) → Said
+abbrev pub error_said : (List ℕ → Answer) → Option (List ℕ) → FirstLine
 error_said error (Some text) = Whole (error text)
 error_said error None = Foreign
 
@@ -71,33 +71,33 @@ is_fetch Gat = true
 is_fetch _ = false
 
 -- a line that says nothing to the ask is foreign
-abbrev pub hit_or_foreign : Option HitLine → Said
+abbrev pub hit_or_foreign : Option HitLine → FirstLine
 hit_or_foreign (Some hit) = Hit hit
 hit_or_foreign None = Foreign
 
 -- the same of a line that is a whole answer
-abbrev pub whole_or_foreign : Option Answer → Said
+abbrev pub whole_or_foreign : Option Answer → FirstLine
 whole_or_foreign (Some answer) = Whole answer
 whole_or_foreign None = Foreign
 
 -- a line of one word
-abbrev pub alone : Op → List ℕ → List (List ℕ) → Said
+abbrev pub alone : Op → List ℕ → List (List ℕ) → FirstLine
 alone op word [] = whole_or_foreign (word_answer op word)
 alone op word (other ∷ more) = Foreign
 
 -- what a line of these words says to a classic ask
-abbrev pub classic_said : Ask → List ℕ → List (List ℕ) → Said
+abbrev pub classic_said : Ask → List ℕ → List (List ℕ) → FirstLine
 classic_said ask word more =
     if bytes_eq word (codes "VALUE") && is_fetch ask.op then hit_or_foreign (hit_said ask.key ask.with_cas more)
     else alone ask.op word more
 
 -- what the line of a meta answer says
-abbrev pub line_said : MetaLine → Said
+abbrev pub line_said : MetaLine → FirstLine
 line_said (lines.Done told) = Whole (Meta Hd (fields_told told None))
 line_said (lines.Value value) = Value value
 line_said (lines.Other code) = Whole (Meta code (fields_told none_told None))
 
-abbrev pub line_or_foreign : Option MetaLine → Said
+abbrev pub line_or_foreign : Option MetaLine → FirstLine
 line_or_foreign (Some line) = line_said line
 line_or_foreign None = Foreign
 
@@ -106,15 +106,15 @@ is_error_word word [] = bytes_eq word (codes "ERROR")
 is_error_word word (other ∷ more) = false
 
 -- what a line of these words says to a meta ask
-abbrev pub meta_or_error : Ask → List ℕ → List (List ℕ) → Said
+abbrev pub meta_or_error : Ask → List ℕ → List (List ℕ) → FirstLine
 meta_or_error ask word more = if is_error_word word more then Whole Error else line_or_foreign (meta_said ask word more)
 
-abbrev pub in_dialect : Dialect → Ask → List ℕ → List (List ℕ) → Said
+abbrev pub in_dialect : Dialect → Ask → List ℕ → List (List ℕ) → FirstLine
 in_dialect Classic ask word more = classic_said ask word more
 in_dialect dialects.Meta ask word more = meta_or_error ask word more
 
 -- a line of these words, with this text of an error
-abbrev pub words_said : Ask → Option (List ℕ) → List (List ℕ) → Said
+abbrev pub words_said : Ask → Option (List ℕ) → List (List ℕ) → FirstLine
 words_said ask text [] = Foreign
 words_said ask text (word ∷ more) =
     if bytes_eq word (codes "CLIENT_ERROR") then error_said ClientError text
@@ -122,5 +122,5 @@ words_said ask text (word ∷ more) =
     else in_dialect ask.dialect ask word more
 
 -- what the line says to the ask
-abbrev pub said : Ask → List ℕ → Said
+abbrev pub said : Ask → List ℕ → FirstLine
 said ask line = words_said ask (error_text line) (words line)

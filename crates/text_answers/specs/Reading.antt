@@ -8,8 +8,8 @@ use Rattle.mc_types.specs.declared.answer.Code.TheVariants.{Va}
 use Rattle.meta_answers.specs.Told.{fields_told}
 use Rattle.mc_types.specs.declared.answer.Answer.{Answer}
 use Rattle.mc_types.specs.declared.answer.Answer.TheVariants as answers
-use Rattle.text_answers.specs.declared.said.Said.{Said}
-use Rattle.text_answers.specs.declared.said.Said.TheVariants.{Whole, Hit, Value, Foreign}
+use Rattle.text_answers.specs.declared.line_kinds.FirstLine.{FirstLine}
+use Rattle.text_answers.specs.declared.line_kinds.FirstLine.TheVariants.{Whole, Hit, Value, Foreign}
 use Rattle.text_answers.specs.declared.block_end.Ends.{Ends}
 use Rattle.text_answers.specs.declared.block_end.Ends.TheVariants as ends
 use Rattle.text_answers.specs.declared.reader.AnswerRead.{AnswerRead}
@@ -42,7 +42,7 @@ is_data true body = is_some (number_below (2 ^ 64) body)
 is_data false body = true
 
 -- what follows the first line, so many bytes, where that line says this
-abbrev pub Follows : Said → List ℕ → Answer → ℕ → Type 0
+abbrev pub Follows : FirstLine → List ℕ → Answer → ℕ → Type 0
 Follows (Whole said) rest answer used = (answer ≡ said) × (used ≡ 0)
 Follows (Hit hit) rest answer used =
     (body : List ℕ) × (behind : List ℕ) × (len : ℕ) × (answer ≡ answers.Hit hit.flags body hit.cas) × (length body ≡ hit.len) × (rest ≡ body ++ behind) × IsBlockEnd behind len × (used ≡ hit.len + len)
@@ -68,7 +68,7 @@ abbrev pub IsCutDataEnd : List ℕ → Type 0
 IsCutDataEnd bytes = (bytes ≡ []) ⊎ (bytes ≡ CR ∷ [])
 
 -- the data that the line tells of, or what ends them, aren't there yet
-abbrev pub IsCutBehind : Said → List ℕ → Type 0
+abbrev pub IsCutBehind : FirstLine → List ℕ → Type 0
 IsCutBehind (Hit hit) rest = IsCutEnd (drop hit.len rest)
 IsCutBehind (Value line) rest = IsCutDataEnd (drop line.len rest)
 IsCutBehind (Whole answer) rest = ⊥
@@ -97,7 +97,7 @@ TellsEndLine bytes ends.Open = IsOpen bytes
 TellsEndLine bytes ends.Bad = (¬ IsOpen bytes) × ((more : List ℕ) (used : ℕ) → ¬ IsEndLine (bytes ++ more) used)
 
 -- the same of what follows the first line, where that line says this
-abbrev pub ReadsBehind : Said → List ℕ → AnswerRead → Type 0
+abbrev pub ReadsBehind : FirstLine → List ℕ → AnswerRead → Type 0
 ReadsBehind said rest (reads.Answer answer used) = Follows said rest answer used
 ReadsBehind said rest reads.More = IsCutBehind said rest
 ReadsBehind said rest reads.Foreign = (¬ IsCutBehind said rest) × ((more : List ℕ) (answer : Answer) (used : ℕ) → ¬ Follows said (rest ++ more) answer used)

@@ -32,8 +32,8 @@ ghost use Rattle.text_answers.specs.FirstLine.{
   said,
 };
 
-use crate::said::{HitLine, Said};
-use mc_text::number::{number, small_number};
+use crate::line_kinds::{FirstLine, HitLine};
+use mc_text::number::{number, u32_number};
 use mc_text::word::next_word;
 use mc_types::{
     Answer, Ask, Body, Code, DATA_LIMIT, Dialect, ERROR_TEXT_LIMIT, ErrorText, Fields, Op,
@@ -163,13 +163,13 @@ fn hit_line(ask: &Ask, line: &[u8], at: usize) -> Option<HitLine>
     requires { at ≤ length line.now }
     ensures { result ≡ hit_said ask.now.key ask.now.with_cas (words (drop at line.now)) }
 {
-    let name = next_word(line, at)?;
-    if &line[name.start..name.end] != ask.key.as_bytes() {
+    let key = next_word(line, at)?;
+    if &line[key.start..key.end] != ask.key.as_bytes() {
         return None;
     }
-    let flags_word = next_word(line, name.end)?;
+    let flags_word = next_word(line, key.end)?;
     let len_word = next_word(line, flags_word.end)?;
-    let flags = small_number(&line[flags_word.start..flags_word.end])?;
+    let flags = u32_number(&line[flags_word.start..flags_word.end])?;
     let len = data_len(&line[len_word.start..len_word.end])?;
     let cas = cas_behind(ask.with_cas, line, len_word.end)?;
     Some(HitLine { flags, len, cas })
@@ -237,32 +237,32 @@ fn is_fetch(op: Op) -> bool
 }
 
 // What a line with this first word, and with words from `at` on, says to a classic ask.
-fn classic_said(ask: &Ask, word: &[u8], line: &[u8], at: usize) -> Said
+fn classic_said(ask: &Ask, word: &[u8], line: &[u8], at: usize) -> FirstLine
     requires { at ≤ length line.now }
     ensures { result ≡ classic_said ask.now word.now (words (drop at line.now)) }
 {
     if word == b"VALUE".as_slice() && is_fetch(ask.op) {
         return match hit_line(ask, line, at) {
-            Some(hit) => Said::Hit(hit),
-            None => Said::Foreign,
+            Some(hit) => FirstLine::Hit(hit),
+            None => FirstLine::Foreign,
         };
     }
     if next_word(line, at).is_some() {
-        return Said::Foreign;
+        return FirstLine::Foreign;
     }
     match word_answer(ask.op, word) {
-        Some(answer) => Said::Whole(answer),
-        None => Said::Foreign,
+        Some(answer) => FirstLine::Whole(answer),
+        None => FirstLine::Foreign,
     }
 }
 
-fn line_said(line: MetaLine) -> Said
+fn line_said(line: MetaLine) -> FirstLine
     ensures { result ≡ line_said line }
 {
     match line {
-        MetaLine::Done(told) => Said::Whole(Answer::Meta(Code::Hd, told.fields(None))),
-        MetaLine::Value(value) => Said::Value(value),
-        MetaLine::Other(code) => Said::Whole(Answer::Meta(code, Fields::none())),
+        MetaLine::Done(told) => FirstLine::Whole(Answer::Meta(Code::Hd, told.fields(None))),
+        MetaLine::Value(value) => FirstLine::Value(value),
+        MetaLine::Other(code) => FirstLine::Whole(Answer::Meta(code, Fields::none())),
     }
 }
 
@@ -274,20 +274,20 @@ fn is_error_word(word: &[u8], line: &[u8], at: usize) -> bool
 }
 
 // The same to a meta ask.
-fn meta_said(ask: &Ask, word: &[u8], line: &[u8], at: usize) -> Said
+fn meta_said(ask: &Ask, word: &[u8], line: &[u8], at: usize) -> FirstLine
     requires { at ≤ length line.now }
     ensures { result ≡ meta_or_error ask.now word.now (words (drop at line.now)) }
 {
     if is_error_word(word, line, at) {
-        return Said::Whole(Answer::Error);
+        return FirstLine::Whole(Answer::Error);
     }
     match meta_line(ask, word, line, at) {
         Some(line) => line_said(line),
-        None => Said::Foreign,
+        None => FirstLine::Foreign,
     }
 }
 
-fn in_dialect(ask: &Ask, word: &[u8], line: &[u8], at: usize) -> Said
+fn in_dialect(ask: &Ask, word: &[u8], line: &[u8], at: usize) -> FirstLine
     requires { at ≤ length line.now }
     ensures { result ≡ in_dialect ask.now.dialect ask.now word.now (words (drop at line.now)) }
 {
@@ -298,23 +298,23 @@ fn in_dialect(ask: &Ask, word: &[u8], line: &[u8], at: usize) -> Said
 }
 
 /// What the first line of an answer says to an ask. The only error is running out of memory, and only an error line takes any.
-pub fn said(alloc: Global, ask: &Ask, line: &[u8]) -> Result<Said, AllocError>
+pub fn read_first_line(alloc: Global, ask: &Ask, line: &[u8]) -> Result<FirstLine, AllocError>
     ensures { IfOk result (λ s. s ≡ said ask.now line.now) }
 {
     let Some(first) = next_word(line, 0) else {
-        return Ok(Said::Foreign);
+        return Ok(FirstLine::Foreign);
     };
     let word = &line[first.start..first.end];
     if word == b"CLIENT_ERROR".as_slice() {
         return Ok(match error_text(alloc, line)? {
-            Some(text) => Said::Whole(Answer::ClientError(text)),
-            None => Said::Foreign,
+            Some(text) => FirstLine::Whole(Answer::ClientError(text)),
+            None => FirstLine::Foreign,
         });
     }
     if word == b"SERVER_ERROR".as_slice() {
         return Ok(match error_text(alloc, line)? {
-            Some(text) => Said::Whole(Answer::ServerError(text)),
-            None => Said::Foreign,
+            Some(text) => FirstLine::Whole(Answer::ServerError(text)),
+            None => FirstLine::Foreign,
         });
     }
     Ok(in_dialect(ask, word, line, first.end))

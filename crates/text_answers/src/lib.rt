@@ -4,8 +4,8 @@
 mod block_end;
 mod first_line;
 pub mod laws;
+mod line_kinds;
 pub mod reader;
-mod said;
 pub mod writer;
 
 pub use reader::{AnswerRead, read_answer};

@@ -5,8 +5,8 @@ ghost use Rattle.text_answers.specs.Reading.{Reads, ReadsBehind, LiesWithin, is_
 ghost use Rattle.text_answers.specs.FirstLine.{said};
 
 use crate::block_end::{Ends, block_end, data_end};
-use crate::first_line::said;
-use crate::said::{HitLine, Said};
+use crate::first_line::read_first_line;
+use crate::line_kinds::{FirstLine, HitLine};
 use mc_text::number::number;
 use mc_text::{Line, line};
 use mc_types::{Answer, Ask, Body, Code};
@@ -25,7 +25,7 @@ pub enum AnswerRead {
 }
 
 fn hit_behind(alloc: Global, hit: HitLine, rest: &[u8]) -> Result<AnswerRead, AllocError>
-    ensures { IfOk result (ReadsBehind (Said.Hit hit) rest.now) }
+    ensures { IfOk result (ReadsBehind (FirstLine.Hit hit) rest.now) }
 {
     if rest.len() < hit.len {
         return Ok(AnswerRead::More);
@@ -51,7 +51,7 @@ fn is_data(is_number: bool, body: &[u8]) -> bool
 }
 
 fn value_behind(alloc: Global, line: ValueLine, rest: &[u8]) -> Result<AnswerRead, AllocError>
-    ensures { IfOk result (ReadsBehind (Said.Value line) rest.now) }
+    ensures { IfOk result (ReadsBehind (FirstLine.Value line) rest.now) }
 {
     if rest.len() < line.len {
         return Ok(AnswerRead::More);
@@ -71,14 +71,14 @@ fn value_behind(alloc: Global, line: ValueLine, rest: &[u8]) -> Result<AnswerRea
     }
 }
 
-fn behind(alloc: Global, said: Said, rest: &[u8]) -> Result<AnswerRead, AllocError>
+fn behind(alloc: Global, said: FirstLine, rest: &[u8]) -> Result<AnswerRead, AllocError>
     ensures { IfOk result (ReadsBehind said rest.now) }
 {
     match said {
-        Said::Whole(answer) => Ok(AnswerRead::Answer(answer, 0)),
-        Said::Hit(hit) => hit_behind(alloc, hit, rest),
-        Said::Value(line) => value_behind(alloc, line, rest),
-        Said::Foreign => Ok(AnswerRead::Foreign),
+        FirstLine::Whole(answer) => Ok(AnswerRead::Answer(answer, 0)),
+        FirstLine::Hit(hit) => hit_behind(alloc, hit, rest),
+        FirstLine::Value(line) => value_behind(alloc, line, rest),
+        FirstLine::Foreign => Ok(AnswerRead::Foreign),
     }
 }
 
@@ -104,7 +104,7 @@ pub fn read_answer(alloc: Global, ask: &Ask, bytes: &[u8]) -> Result<AnswerRead,
         Line::More => Ok(AnswerRead::More),
         Line::TooLong => Ok(AnswerRead::Foreign),
         Line::At { end, used } => {
-            let said = said(alloc, ask, &bytes[..end])?;
+            let said = read_first_line(alloc, ask, &bytes[..end])?;
             Ok(match behind(alloc, said, &bytes[used..])? {
                 AnswerRead::Answer(answer, more) => AnswerRead::Answer(answer, used + more),
                 AnswerRead::More => AnswerRead::More,

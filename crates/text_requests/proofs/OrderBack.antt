@@ -17,7 +17,7 @@ use Rattle.text_requests.specs.declared.command.StoreKind.TheVariants as kinds
 use Rattle.request_parts.specs.Tests.{Word}
 use Rattle.text_requests.specs.CommandWords.{verb_of}
 use Rattle.text_requests.specs.Order.{Order, Storing, Retrieval, Storage, Swapping, Deletion, Touching, Counting, keys_of, storing_of, order_of, ordered_by, storage, swapping, getting, getting_and_touching, counting, touching, deletion}
-use Rattle.request_parts.specs.Tests.{◌>>=◌, wide_of, exptime_of, fitting}
+use Rattle.request_parts.specs.Tests.{◌>>=◌, u64_of, exptime_of, fitting}
 use Rattle.request_parts.proofs.Tokens.{key_passes, key_back, small_back, wide_back, exptime_back}
 use Rattle.text_requests.specs.Spelling.{command_word, words_behind, store_words, storing, order_for, exptime_in, cas_in}
 
@@ -115,7 +115,7 @@ storage_back kind ask f =
 
 swapping_back : (ask : Ask) → IsFit ask → swapping (store_words ask (decimal (cas_in ask) ∷ [])) ≡ Ok (Swapping (storing ask) (cas_in ask) false)
 swapping_back ask f =
-    ap (λ (r : Result Storing RefusalReason). r >>= (λ stored. wide_of (decimal (cas_in ask)) >>= (λ cas. fitting stored.length (Swapping stored cas false)))) (storing_back (storing ask) f.key f.flags f.exptime f.body)
+    ap (λ (r : Result Storing RefusalReason). r >>= (λ stored. u64_of (decimal (cas_in ask)) >>= (λ cas. fitting stored.length (Swapping stored cas false)))) (storing_back (storing ask) f.key f.flags f.exptime f.body)
     ∙ ap (λ (r : Result ℕ RefusalReason). r >>= (λ cas. fitting (length ask.body) (Swapping (storing ask) cas false))) (wide_back (cas_in ask) f.cas)
     ∙ fitting_back (length ask.body) (Swapping (storing ask) (cas_in ask) false) f.body
 
@@ -129,7 +129,7 @@ gat_back with_cas key z k e =
 
 counting_back : (up : Bool) (key : Word) (delta : ℕ) → IsKey key → delta < 2 ^ 64 → counting up (key ∷ decimal delta ∷ []) ≡ Ok (Counting up key delta false)
 counting_back up key delta k lt =
-    ap (λ (r : Result Word RefusalReason). r >>= (λ key. wide_of (decimal delta) >>= (λ delta. Ok (Counting up key delta false)))) (key_back key k)
+    ap (λ (r : Result Word RefusalReason). r >>= (λ key. u64_of (decimal delta) >>= (λ delta. Ok (Counting up key delta false)))) (key_back key k)
     ∙ ap (λ (r : Result ℕ RefusalReason). r >>= (λ delta. Ok (Counting up key delta false))) (wide_back delta lt)
 
 touching_back : (key : Word) (z : ℤ) → IsKey key → IsExptime z → touching (key ∷ signed_decimal z ∷ []) ≡ Ok (Touching key z false)

@@ -8,7 +8,7 @@ use Rattle.mc_types.specs.Asks.{IsExptime, data_limit}
 use Rattle.request_parts.specs.declared.refusal.RefusalReason.{RefusalReason}
 use Rattle.request_parts.specs.declared.refusal.RefusalReason.TheVariants.{BadKey}
 use Rattle.request_parts.specs.declared.proxy_command.ProxyCommand.{ProxyCommand}
-use Rattle.request_parts.specs.Tests.{Word, is_key, key_of, small_of, wide_of, exptime_of}
+use Rattle.request_parts.specs.Tests.{Word, is_key, key_of, u32_of, u64_of, exptime_of}
 use Rattle.request_parts.proofs.KeyTexts.{key_is}
 use Rattle.request_parts.proofs.Ranges.{passed, is_ok, a_key, a_small, a_wide, an_exptime, fits}
 use Rattle.text_requests.specs.declared.command.Verb.{Verb}
@@ -46,9 +46,9 @@ some_keys (w ∷ ws) ks e = elim (cases_Bool (list_all is_key (w ∷ ws))) [
 storing : (k f e n : Word) (s : Storing) → storing_of k f e n ≡ Ok s → IsSoundStoring s
 storing k f e n s h =
     let a = passed (key_of k) _ s h in
-    let b = passed (small_of f) _ s a.2 in
+    let b = passed (u32_of f) _ s a.2 in
     let c = passed (exptime_of e) _ s b.2 in
-    let d = passed (small_of n) _ s c.2 in
+    let d = passed (u32_of n) _ s c.2 in
     let r : Storing = record { key = a.0; flags = b.0; exptime = c.0; length = d.0 } in
     let same : r ≡ s = is_ok r s d.2 in
     subst IsSoundStoring same (record { key = a_key k a.0 a.1; flags = a_small f b.0 b.1; exptime = an_exptime e c.0 c.1 })
@@ -73,7 +73,7 @@ by_swapping (k ∷ f ∷ e ∷ n ∷ []) o h = absurd cc
 by_swapping (k ∷ f ∷ e ∷ n ∷ c ∷ more) o h =
     let a = passed (noreply_of more) _ o h in
     let b = passed (storing_of k f e n) _ o a.2 in
-    let w = passed (wide_of c) _ o b.2 in
+    let w = passed (u64_of c) _ o b.2 in
     let d = fits b.0.length (Swapping b.0 w.0 a.0) o w.2 in
     subst IsSound d.1 (storing k f e n b.0 b.1, d.0, a_wide c w.0 w.1)
 
@@ -99,7 +99,7 @@ by_counting up (k ∷ []) o h = absurd cc
 by_counting up (k ∷ d ∷ more) o h =
     let a = passed (noreply_of more) _ o h in
     let b = passed (key_of k) _ o a.2 in
-    let c = passed (wide_of d) _ o b.2 in
+    let c = passed (u64_of d) _ o b.2 in
     subst IsSound (is_ok (Counting up b.0 c.0 a.0) o c.2) (a_key k b.0 b.1, a_wide d c.0 c.1)
 
 by_getting : (with_cas : Bool) (ws : List Word) (o : Order) → getting with_cas ws ≡ Ok o → IsSound o

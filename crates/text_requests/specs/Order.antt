@@ -2,7 +2,7 @@
 use Rattle.std.specs.Prelude.{ℕ, ℤ, Bool, true, false, List, [], ◌∷◌, Option, Some, None, Result, Ok, Err, if◌then◌else◌, slice_get, codes}
 use Rattle.std.specs.List.{list_all}
 use Rattle.std.specs.Str.{bytes_eq}
-use Rattle.request_parts.specs.Tests.{Word, ◌>>=◌, is_key, key_of, small_of, wide_of, exptime_of, fitting, skip_by, length_in}
+use Rattle.request_parts.specs.Tests.{Word, ◌>>=◌, is_key, key_of, u32_of, u64_of, exptime_of, fitting, skip_by, length_in}
 use Rattle.text_requests.specs.CommandWords.{verb_of}
 use Rattle.text_requests.specs.declared.command.Verb.{Verb}
 use Rattle.text_requests.specs.declared.command.Verb.TheVariants as verbs
@@ -69,9 +69,9 @@ retrieval true with_cas words = getting_and_touching with_cas words
 abbrev pub storing_of : Word → Word → Word → Word → Result Storing RefusalReason
 storing_of key flags exptime length = do
   key ← key_of key
-  flags ← small_of flags
+  flags ← u32_of flags
   exptime ← exptime_of exptime
-  length ← small_of length
+  length ← u32_of length
   Ok (record { key = key; flags = flags; exptime = exptime; length = length })
 
 -- `set add replace append prepend`: key, flags, exptime, length, and `noreply` or not
@@ -87,7 +87,7 @@ abbrev pub swapping : List Word → Result Order RefusalReason
 swapping (key ∷ flags ∷ exptime ∷ length ∷ cas ∷ more) = do
   quiet ← noreply_of more
   stored ← storing_of key flags exptime length
-  cas ← wide_of cas
+  cas ← u64_of cas
   fitting stored.length (Swapping stored cas quiet)
 swapping _ = Err Unknown
 
@@ -113,7 +113,7 @@ abbrev pub counting : Bool → List Word → Result Order RefusalReason
 counting up (key ∷ delta ∷ more) = do
   quiet ← noreply_of more
   key ← key_of key
-  delta ← wide_of delta
+  delta ← u64_of delta
   Ok (Counting up key delta quiet)
 counting up _ = Err Unknown
 

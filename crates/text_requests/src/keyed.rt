@@ -8,7 +8,7 @@ ghost use Rattle.text_requests.specs.Places.{LiesIn, order_in};
 use crate::command::Command;
 use crate::parts::{delete_tail, noreply};
 use mc_text::word::next_word;
-use request_parts::parts::{exptime, key, wide, word};
+use request_parts::parts::{exptime, key, u64_of, word};
 use request_parts::{ProxyCommand, RefusalReason};
 
 /// What `delete` asks.
@@ -51,7 +51,7 @@ pub fn counting(line: &[u8], at: usize, up: bool) -> Result<Command, RefusalReas
     let second = word(line, first.end)?;
     let quiet = noreply(line, second.end)?;
     let key = key(line, first)?;
-    let delta = wide(line, second)?;
+    let delta = u64_of(line, second)?;
     Ok(Command::Counting {
         up,
         key,

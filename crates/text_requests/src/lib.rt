@@ -2,9 +2,9 @@
 #![tactic(auto)]
 
 pub mod command;
+pub mod command_line;
 pub mod keyed;
 pub mod laws;
-pub mod line_words;
 pub mod next_key;
 pub mod parts;
 pub mod reader;

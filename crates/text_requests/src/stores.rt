@@ -10,7 +10,7 @@ use crate::parts::noreply;
 use mc_text::word::Span;
 use mc_types::DATA_LIMIT;
 use request_parts::RefusalReason;
-use request_parts::parts::{exptime, key, small, wide, word};
+use request_parts::parts::{exptime, key, u32_of, u64_of, word};
 
 /// The words that each store has, in order.
 #[derive(Clone, Copy)]
@@ -43,9 +43,9 @@ fn stored_in(line: &[u8], found: StoreWords) -> Result<Stored, RefusalReason>
     ensures same { IfOk result (λ s. s.key ≡ found.key) }
 {
     let key = key(line, found.key)?;
-    let flags = small(line, found.flags)?;
+    let flags = u32_of(line, found.flags)?;
     let exptime = exptime(line, found.exptime)?;
-    let length = small(line, found.length)?;
+    let length = u32_of(line, found.length)?;
     Ok(Stored {
         key,
         flags,
@@ -83,7 +83,7 @@ pub fn swapping(line: &[u8], at: usize) -> Result<Command, RefusalReason>
     let cas = word(line, found.length.end)?;
     let quiet = noreply(line, cas.end)?;
     let stored = stored_in(line, found)?;
-    let cas = wide(line, cas)?;
+    let cas = u64_of(line, cas)?;
     if stored.length > DATA_LIMIT {
         return Err(RefusalReason::TooLarge);
     }

@@ -5,7 +5,7 @@ ghost use Rattle.text_requests.specs.CommandWords.{verb_of, found_in, of_three, 
 use crate::command::{StoreKind, Verb};
 use request_parts::ProxyCommand;
 
-fn three(word: &[u8]) -> Option<Verb>
+fn of_three_letters(word: &[u8]) -> Option<Verb>
     ensures { result ≡ found_in of_three word.now }
 {
     if word == b"get".as_slice() {
@@ -29,7 +29,7 @@ fn three(word: &[u8]) -> Option<Verb>
     }
 }
 
-fn four(word: &[u8]) -> Option<Verb>
+fn of_four_letters(word: &[u8]) -> Option<Verb>
     ensures { result ≡ found_in of_four word.now }
 {
     if word == b"gets".as_slice() {
@@ -53,7 +53,7 @@ fn four(word: &[u8]) -> Option<Verb>
     }
 }
 
-fn five(word: &[u8]) -> Option<Verb>
+fn of_five_letters(word: &[u8]) -> Option<Verb>
     ensures { result ≡ found_in of_five word.now }
 {
     if word == b"touch".as_slice() {
@@ -63,7 +63,7 @@ fn five(word: &[u8]) -> Option<Verb>
     }
 }
 
-fn six(word: &[u8]) -> Option<Verb>
+fn of_six_letters(word: &[u8]) -> Option<Verb>
     ensures { result ≡ found_in of_six word.now }
 {
     if word == b"delete".as_slice() {
@@ -75,7 +75,7 @@ fn six(word: &[u8]) -> Option<Verb>
     }
 }
 
-fn seven(word: &[u8]) -> Option<Verb>
+fn of_seven_letters(word: &[u8]) -> Option<Verb>
     ensures { result ≡ found_in of_seven word.now }
 {
     if word == b"replace".as_slice() {
@@ -96,11 +96,11 @@ pub fn verb(word: &[u8]) -> Option<Verb>
     ensures { result ≡ verb_of word.now }
 {
     match word.len() {
-        3 => three(word),
-        4 => four(word),
-        5 => five(word),
-        6 => six(word),
-        7 => seven(word),
+        3 => of_three_letters(word),
+        4 => of_four_letters(word),
+        5 => of_five_letters(word),
+        6 => of_six_letters(word),
+        7 => of_seven_letters(word),
         _ => None,
     }
 }

@@ -1,2 +1,1 @@
 mod Few
-mod Written

@@ -23,7 +23,7 @@ abbrev pub first_turn : List Step → ℕ
 first_turn [] = 0
 first_turn (step ∷ way) = turn step
 
--- the steps behind the first
+-- the steps after the first
 abbrev pub later : List Step → List Step
 later [] = []
 later (step ∷ way) = way

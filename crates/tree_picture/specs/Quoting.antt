@@ -2,8 +2,8 @@
 use Rattle.std.specs.Prelude.{ℕ, ◌==◌, ◌&&◌, List, [], ◌∷◌, nat_lt, if◌then◌else◌, flat_map}
 use Rattle.byte_escapes.specs.Escapes.{escape}
 
--- a quote behind a backslash; a backslash, which the escapes print twice, four times; a printable byte as it is; any other in the
--- escapes, whose one backslash stands behind another
+-- a quote after a backslash; a backslash, which the escapes print twice, four times; a printable byte as it is; any other in the
+-- escapes, whose one backslash stands after another
 abbrev pub quoted_byte : ℕ → List ℕ
 quoted_byte b =
     if b == 34 then 92 ∷ 34 ∷ []

@@ -32,7 +32,7 @@ fn write_new_slot<W: Write>(
     }
 }
 
-// The edges to the servers of the slots behind this one.
+// The edges to the servers of the slots after this one.
 fn write_later_slots<W: Write>(
     number: u32,
     before: ServerId,

@@ -3,17 +3,17 @@
 ghost use Rattle.std.specs.Prelude.{◌≡◌, ◌+◌, ◌<◌, ◌^◌, OnOk};
 ghost use Rattle.std.specs.Io.KnownBytes.{Appends};
 ghost use Rattle.route_tree.specs.Form.{routes_of, policies_of, prefixes_of};
-ghost use Rattle.route_tree.specs.Place.{prefix_text};
 ghost use Rattle.route_tree.specs.Route.{Route};
 ghost use Rattle.tree_picture.specs.Nodes.{nodes, nodes_of_all, nodes_of_policies, nodes_of_prefixes};
 ghost use Rattle.tree_picture.specs.Marks.{turn, first_turn, later, longest_begun, way_below, way_among, way_by, way_begun, way_lines};
 
 use crate::counting::node_count;
 use crate::statements::{write_read, write_red_node, write_step};
+use coverage::prefixes::prefix_text;
 use fresh_gate::Gap;
 use gate_words::Step;
 use mc_types::{Key, Op};
-use route_tree::{Place, Tree, TreeForm};
+use route_tree::{Tree, TreeForm};
 use std::io;
 use std::io::Write;
 
@@ -38,23 +38,13 @@ fn first_turn(way: &[Step]) -> usize
     }
 }
 
-// The steps behind the first.
+// The steps after the first.
 fn later(way: &[Step]) -> &[Step]
     ensures { result.now ≡ later way.now }
 {
     match way {
         [] => way,
         [_, rest @ ..] => rest,
-    }
-}
-
-// The prefix of a place; no bytes where it has none.
-fn prefix_of(place: &Place) -> &[u8]
-    ensures { result.now ≡ prefix_text place.now.prefix }
-{
-    match &place.prefix {
-        Some(key) => key.as_bytes(),
-        None => &[],
     }
 }
 
@@ -138,7 +128,7 @@ fn write_way_below<W: Write>(
             out,
         ),
         TreeForm::ByPrefix { policies, wildcard } => {
-            let longest = longest_begun(policies, wildcard, prefix_of(&gap.place));
+            let longest = longest_begun(policies, wildcard, prefix_text(&gap.place.prefix));
             write_way_begun(
                 gap,
                 number,
@@ -248,7 +238,7 @@ fn write_way_begun<W: Write>(
         }
         [(prefix, child), rest @ ..] => {
             let prefix = prefix.as_bytes();
-            if prefix_of(&gap.place).starts_with(prefix) && prefix.len() == longest {
+            if prefix_text(&gap.place.prefix).starts_with(prefix) && prefix.len() == longest {
                 write_step(parent, number, out)?;
                 write_way_below(gap, number, child, way, out)
             } else {

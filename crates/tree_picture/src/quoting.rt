@@ -7,7 +7,7 @@ use byte_escapes::EscapedByte;
 use std::fmt;
 use std::fmt::Display;
 
-/// A byte inside a quoted label: what mcgate prints for it, each `"` and `\` of that behind a `\`.
+/// A byte inside a quoted label: what mcgate prints for it, each `"` and `\` of that after a `\`.
 ///
 /// Source: the escapes are mcgate's own; in a quoted string of Graphviz's language `\"` is a quote, and in a label `\\` is a
 /// backslash.

@@ -1,4 +1,4 @@
-use Rattle.std.proofs.Common.{◌∙◌, sym, subst}
+use Rattle.std.proofs.Common.{refl, sym, subst}
 use Rattle.request_parts.proofs.Fronts.{nothing_begins}
 use Rattle.client_requests.specs.Both.{both_grammar}
 use Rattle.client_requests.specs.Message.{IsMeant}
@@ -8,12 +8,12 @@ use Rattle.client_requests.proofs.reader.read_request.Goals as goal
 pub returns-in-More : goal.returns-in-More
 returns-in-More c = nothing_begins both_grammar c.args.bytes.now c.in-More.ensures
 
-pub returns-in-None-verb : goal.returns-in-None-verb
-returns-in-None-verb c =
-    let means = means_classic c.args.bytes.now c.in-At.end c.in-At.used c.in-At.ensures c.in-Some.first c.in-Some.ensures (sym c.verb.ensures ∙ c.in-None-verb.is) in
+pub returns-in-Classic : goal.returns-in-Classic
+returns-in-Classic c =
+    let means = means_classic c.args.bytes.now c.in-At.end c.in-At.used c.in-At.ensures c.in-Some.first c.in-Some.ensures (c.in-Classic.ensures.classic refl) in
     reads_meant c.args.bytes.now c.in-At.end c.in-At.used c.in-At.ensures c.of_classic.result (subst (IsMeant c.args.bytes.now c.of_classic.result) (sym means) (c.of_classic.ensures c.args.bytes.now _ c.read_behind.ensures))
 
-pub returns-in-Some-verb : goal.returns-in-Some-verb
-returns-in-Some-verb c =
-    let means = means_meta c.args.bytes.now c.in-At.end c.in-At.used c.in-At.ensures c.in-Some.first c.in-Some-verb.field-0 c.in-Some.ensures (sym c.verb.ensures ∙ c.in-Some-verb.is) in
-    reads_meant c.args.bytes.now c.in-At.end c.in-At.used c.in-At.ensures c.of_meta.result (subst (IsMeant c.args.bytes.now c.of_meta.result) (sym means) (c.of_meta.ensures c.args.bytes.now _ c.read_behind-in-Some-verb.ensures))
+pub returns-in-Meta : goal.returns-in-Meta
+returns-in-Meta c =
+    let means = means_meta c.args.bytes.now c.in-At.end c.in-At.used c.in-At.ensures c.in-Some.first c.in-Some.ensures (c.in-Meta.ensures.meta refl) in
+    reads_meant c.args.bytes.now c.in-At.end c.in-At.used c.in-At.ensures c.of_meta.result (subst (IsMeant c.args.bytes.now c.of_meta.result) (sym means) (c.of_meta.ensures c.args.bytes.now _ c.read_behind-in-Meta.ensures))

@@ -2,7 +2,7 @@ use Rattle.std.specs.Prelude.{IfOk}
 use Rattle.std.proofs.Common.{subst, sym}
 use Rattle.fresh_gate.specs.declared.gap.Reason.{Reason}
 use Rattle.fresh_gate.specs.Gate.{IsJudged}
-use Rattle.config_check.specs.Checking.{ShowsReason, run_lines}
+use Rattle.config_check.specs.Checking.{IsFoundFor}
 use Rattle.config_check.proofs.Runs.{found_shows}
 use Rattle.config_check.proofs.checking.run_of.Goals as goal
 
@@ -10,5 +10,5 @@ pub returns-in-Uncovered : goal.returns-in-Uncovered
 returns-in-Uncovered c =
     let config = c.args.config.now in
     let judged = subst (IsJudged config.tree) c.in-Uncovered.is c.requires in
-    subst (λ (r : Reason). IfOk c.refusal_run.result (λ found. ShowsReason config r (run_lines found))) (sym c.in-Uncovered.is)
+    subst (λ (r : Reason). IfOk c.refusal_run.result (IsFoundFor config r)) (sym c.in-Uncovered.is)
     (found_shows config c.in-Uncovered.gap c.refusal_run.result judged c.refusal_run.ensures.some c.refusal_run.ensures.none)

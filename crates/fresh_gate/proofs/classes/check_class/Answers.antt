@@ -1,5 +1,5 @@
 use Rattle.std.proofs.Common.{◌≡◌, ◌∙◌, ℕ, List, arith, below_more, subst}
-use Rattle.coverage.specs.Valid.{IsValidRow}
+use Rattle.certificates.specs.Valid.{IsValidRow}
 use Rattle.fresh_gate.specs.declared.classes.Look.{Look}
 use Rattle.fresh_gate.specs.Ends.{IsLook, plain_of, row_of}
 use Rattle.fresh_gate.proofs.classes.check_class.Goals as goal

@@ -1,5 +1,5 @@
 use Rattle.std.proofs.Common.{◌≡◌, ◌≤◌, ℕ, []}
-use Rattle.coverage.specs.Valid.{run_at}
+use Rattle.certificates.specs.Valid.{run_at}
 use Rattle.fresh_gate.specs.Ends.{AreValidBelow}
 use Rattle.fresh_gate.proofs.classes.check_class.Given as goal
 

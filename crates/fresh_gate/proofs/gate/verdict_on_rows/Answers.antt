@@ -1,7 +1,7 @@
 use Rattle.std.proofs.Common.{◌+◌, ◌*◌, sym, ap, ◌∙◌, length, arith, refl}
-use Rattle.coverage.specs.Valid.{IsShaped}
+use Rattle.certificates.specs.Valid.{IsShaped}
 use Rattle.fresh_gate.specs.declared.classes.TableEnd.TheVariants as tables
-use Rattle.coverage.proofs.Answering.{same_lengths, at_index}
+use Rattle.certificates.proofs.Answering.{same_lengths, at_index}
 use Rattle.fresh_gate.proofs.Answering.{end_of}
 use Rattle.fresh_gate.proofs.Reasons.{gap_is_met, bad_is, bad_below}
 use Rattle.fresh_gate.proofs.gate.verdict_on_rows.Goals as goal

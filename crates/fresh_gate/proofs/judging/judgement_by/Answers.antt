@@ -1,6 +1,6 @@
 use Rattle.fresh_gate.specs.declared.pairs.TwoEnd.TheVariants as tables
-use Rattle.coverage.proofs.Answering.{at_index}
-use Rattle.coverage.proofs.Tabling.{table_twice}
+use Rattle.certificates.proofs.Answering.{at_index}
+use Rattle.certificates.proofs.Tabling.{table_twice}
 use Rattle.fresh_gate.proofs.Certifying.{certified}
 use Rattle.fresh_gate.proofs.Two.{gap_of_two, two_end_of}
 use Rattle.fresh_gate.proofs.judging.judgement_by.Goals as goal

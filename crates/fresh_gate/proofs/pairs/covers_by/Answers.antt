@@ -1,5 +1,5 @@
 use Rattle.fresh_gate.specs.declared.pairs.TwoEnd.TheVariants as tables
-use Rattle.coverage.proofs.Answering.{at_index}
+use Rattle.certificates.proofs.Answering.{at_index}
 use Rattle.fresh_gate.proofs.Two.{covers_two, gap_of_two, two_end_of}
 use Rattle.fresh_gate.proofs.pairs.covers_by.Goals as goal
 

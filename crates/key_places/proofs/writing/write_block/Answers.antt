@@ -1,4 +1,4 @@
-use Rattle.key_places.proofs.Written.{both_written}
+use Rattle.gate_words.proofs.Written.{both_written}
 use Rattle.key_places.proofs.writing.write_block.Goals as goal
 
 pub returns : goal.returns

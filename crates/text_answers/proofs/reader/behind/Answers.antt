@@ -1,11 +1,11 @@
 use Rattle.std.proofs.Common.{sym, subst}
 use Rattle.std.specs.Prelude.{IfOk}
-use Rattle.text_answers.specs.declared.said.Said.{Said}
+use Rattle.text_answers.specs.declared.line_kinds.FirstLine.{FirstLine}
 use Rattle.text_answers.specs.Reading.{ReadsBehind}
 use Rattle.text_answers.proofs.reader.behind.Goals as goal
 
 pub returns-in-Hit : goal.returns-in-Hit
-returns-in-Hit c = subst (λ (s : Said). IfOk c.hit_behind.result (ReadsBehind s c.args.rest.now)) (sym c.in-Hit.is) c.hit_behind.ensures
+returns-in-Hit c = subst (λ (s : FirstLine). IfOk c.hit_behind.result (ReadsBehind s c.args.rest.now)) (sym c.in-Hit.is) c.hit_behind.ensures
 
 pub returns-in-Value : goal.returns-in-Value
-returns-in-Value c = subst (λ (s : Said). IfOk c.value_behind.result (ReadsBehind s c.args.rest.now)) (sym c.in-Value.is) c.value_behind.ensures
+returns-in-Value c = subst (λ (s : FirstLine). IfOk c.value_behind.result (ReadsBehind s c.args.rest.now)) (sym c.in-Value.is) c.value_behind.ensures

@@ -3,7 +3,7 @@ use Rattle.std.specs.Io.KnownBytes.{Appends}
 use Rattle.tree_picture.specs.Lines.{tree_lines}
 use Rattle.tree_picture.specs.Picture.{server_lines}
 use Rattle.tree_picture.specs.Statements.{graph_line}
-use Rattle.tree_picture.proofs.Written.{both_written}
+use Rattle.gate_words.proofs.Written.{both_written}
 use Rattle.tree_picture.proofs.picture.write_config.Goals as goal
 
 pub returns : goal.returns

@@ -4,7 +4,7 @@ use Rattle.route_tree.specs.Route.{Route}
 use Rattle.gate_words.specs.Names.{address_of}
 use Rattle.tree_picture.specs.Marks.{way_lines}
 use Rattle.tree_picture.specs.Statements.{left_line}
-use Rattle.tree_picture.proofs.Written.{both_written}
+use Rattle.gate_words.proofs.Written.{both_written}
 use Rattle.tree_picture.proofs.picture.write_gap.Goals as goal
 
 pub returns : goal.returns

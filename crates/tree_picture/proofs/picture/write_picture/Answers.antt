@@ -1,4 +1,4 @@
-use Rattle.tree_picture.proofs.Written.{both_written}
+use Rattle.gate_words.proofs.Written.{both_written}
 use Rattle.tree_picture.proofs.picture.write_picture.Goals as goal
 
 pub returns : goal.returns

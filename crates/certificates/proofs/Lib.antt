@@ -1,0 +1,13 @@
+pub mod Resolving
+pub mod Placing
+pub mod Validity
+pub mod LeastMultiples
+pub mod Sizing
+pub mod OrderedTexts
+pub mod Tabling
+pub mod SizeMultiples
+pub mod Lookups
+pub mod Answering
+pub mod Proposals
+pub mod RunLists
+pub mod SortedRows

@@ -1,0 +1,37 @@
+-- What is printed of a configuration's text, in a form. Source: mcgate's own.
+use Rattle.std.specs.Prelude.{◌≡◌, ℕ, ◌⊎◌, List, Option, Ok}
+use Rattle.serde_json.specs.Read.{read}
+use Rattle.route_json.specs.Configs.{read_or}
+use Rattle.route_json.specs.Configuration.{Configuration}
+use Rattle.fresh_gate.specs.declared.gap.Reason.{Reason}
+use Rattle.config_check.specs.Checking.{PrintsAccepted, ChecksRefused, PrintsFault}
+use Rattle.config_check.specs.Explaining.{ExplainsAccepted, ExplainsRefused}
+use Rattle.config_check.specs.Drawing.{DrawsAccepted, DrawsRefused}
+use Rattle.config_check.specs.declared.reporting.Form.{Form}
+use Rattle.config_check.specs.declared.reporting.Form.TheVariants as forms
+
+-- an accepted configuration in this form
+abbrev pub AcceptedIn : Form → Configuration → Option (List ℕ) → Option (List ℕ) → Type 0
+AcceptedIn forms.Lines config = PrintsAccepted config.tree
+AcceptedIn forms.Explained config = ExplainsAccepted config.tree
+AcceptedIn forms.Picture config = DrawsAccepted config
+
+-- one that is refused for this reason
+abbrev pub RefusedIn : Form → Configuration → Reason → Option (List ℕ) → Option (List ℕ) → Type 0
+RefusedIn forms.Lines = ChecksRefused
+RefusedIn forms.Explained = ExplainsRefused
+RefusedIn forms.Picture = DrawsRefused
+
+-- the verdict on a configuration was written; status 0: it is accepted; status 1: it is refused
+abbrev pub ReportsConfig : Form → Configuration → Option (List ℕ) → Option (List ℕ) → ℕ → Type 0
+ReportsConfig form config old new status = ((status ≡ 0) × AcceptedIn form config old new) ⊎ ((status ≡ 1) × (reason : Reason) × RefusedIn form config reason old new)
+
+-- the text is a configuration, and the verdict on it was written
+pub record PrintsVerdict (form : Form) (text : List ℕ) (old new : Option (List ℕ)) (status : ℕ) : Type 0 where
+  pub config : Configuration
+  pub said : read_or (read text) ≡ Ok (config.tree, config.servers)
+  pub reports : ReportsConfig form config old new status
+
+-- status 2: the text is no configuration
+abbrev pub Checks : Form → List ℕ → Option (List ℕ) → Option (List ℕ) → ℕ → Type 0
+Checks form text old new status = PrintsVerdict form text old new status ⊎ ((status ≡ 2) × PrintsFault text old new)

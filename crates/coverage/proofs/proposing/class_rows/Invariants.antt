@@ -1,5 +1,0 @@
-use Rattle.coverage.specs.Proposed.{AreRowsBelow}
-use Rattle.coverage.proofs.proposing.class_rows.Given as goal
-
-abbrev pub invariant-loop-residue : goal.invariant-loop-residue
-invariant-loop-residue l = AreRowsBelow l.tree l.class.prefix l.modulus l.residue l.runs.items
