@@ -101,7 +101,7 @@ fn read_line(alloc: Global, known: &Servers, line: &str) -> Result<Meaning, Allo
     ensures { IfOk result (λ m. meaning_of m ≡ line_means known.now line.now) }
 {
     let bytes = line.as_bytes();
-    if bytes.is_empty() {
+    if bytes.is_empty() || bytes[0] == b'#' {
         return Ok(Meaning::Nothing);
     }
     match reload_json(line) {
