@@ -5,6 +5,7 @@ ghost use Rattle.clap.specs.Values.{kind_of};
 ghost use Rattle.mcgate.specs.Stops.{arguments_fault_at};
 
 use crate::cache_words::{CacheJob, cache_command, cache_job};
+use crate::loopback_words::{loopback_command, loopback_job};
 use crate::serve_words::{ServeJob, serve_command, serve_job};
 use clap::error::ErrorKind;
 use clap::{Arg, ArgAction, ArgMatches, Command, Error};
@@ -41,6 +42,10 @@ pub enum Job<'a> {
     Where {
         file: &'a str,
         keys: Vec<Key>,
+    },
+    /// Run a script, of a file or of standard input, over TCP.
+    Loopback {
+        file: Option<&'a str>,
     },
     /// Be a cache server.
     Cache(CacheJob<'a>),
@@ -88,6 +93,7 @@ usage: mcgate check [--explain | --dot] [FILE]
                                      serve a configuration that the gate accepts, between clients and servers
        mcgate cache --listen HOST:PORT --capacity C
                                      be a memcached server of C items
+       mcgate loopback [SCRIPT]      run a script with proxy, clients and servers as ends of TCP connections
        mcgate [WORD] --help          print this, or more of a word
        mcgate --version              print the version
 
@@ -225,6 +231,7 @@ fn command<'a>(alloc: Global) -> Result<Command<'a>, AllocError> {
         .subcommand(replay_command(alloc)?)?
         .subcommand(where_command(alloc)?)?
         .subcommand(cache_command(alloc)?)?
+        .subcommand(loopback_command(alloc)?)?
         .subcommand(serve_command(alloc)?)
 }
 
@@ -309,8 +316,8 @@ fn plain_job<'a>(given: &ArgMatches<'a>) -> Job<'a> {
 }
 
 /// What the arguments ask for, the program's name first: `check [--explain | --dot] [FILE]`, `replay [--any] [--config FILE] [SCRIPT]`,
-/// `where --config FILE KEY..`, `cache --listen HOST:PORT --capacity C [--turns N]`, `serve` with its flags, or none at all after it,
-/// which is `replay`. Also `--help`, before or after a word, and `--version`.
+/// `where --config FILE KEY..`, `cache --listen HOST:PORT --capacity C [--turns N]`, `loopback [SCRIPT]`, `serve` with its flags, or none
+/// at all after it, which is `replay`. Also `--help`, before or after a word, and `--version`.
 ///
 /// A KEY that is none is [`ArgumentsFault::Key`], and any other arguments are [`ArgumentsFault::Refused`].
 pub fn read_arguments<'a>(
@@ -325,6 +332,7 @@ pub fn read_arguments<'a>(
         Some(("check", given)) => check_job(given),
         Some(("where", given)) => where_job(alloc, given),
         Some(("cache", given)) => cache_job(given),
+        Some(("loopback", given)) => Ok(loopback_job(given)),
         Some(("serve", given)) => serve_job(given),
         Some((_, given)) => Ok(replay_job(given)),
         None => Ok(plain_job(&matches)),

@@ -5,6 +5,7 @@ mod arguments;
 mod bad_lines;
 mod cache;
 mod cache_words;
+mod loopback_words;
 mod program;
 mod serve;
 mod serve_words;
@@ -17,7 +18,9 @@ use bad_lines::{bad_line_of_events, bad_line_of_task};
 use cache::serve_cache;
 use config_check::status::{BAD_INPUT, DONE};
 use line_faults::BadLine;
-use program::{Stop, decline, end_of, read_configuration, run_events, run_input, run_keys};
+use program::{
+    Stop, decline, end_of, read_configuration, run_events, run_input, run_keys, run_over_tcp,
+};
 use route_json::Config;
 use serve::{Judged, judge_text, serve};
 use serve_words::ServeJob;
@@ -110,6 +113,23 @@ fn run_over<R: Files + Input + AllocGlobal + Eprint, W: Write>(
     }
 }
 
+/// Runs a script over TCP.
+fn run_loopback<R: Files + Input + AllocGlobal + Net + Clock + Eprint, W: Write>(
+    rt: &R,
+    file: Option<&str>,
+    out: &mut W,
+) -> Result<u8, Stop> {
+    let input = text_of(rt, file);
+    let status = run_over_tcp(rt, &input, out)?;
+    if status == BAD_INPUT {
+        tell(
+            rt,
+            bad_line_of_task(rt.alloc(), Task::Replay { any: false }, &input),
+        );
+    }
+    Ok(status)
+}
+
 /// Serves what a job names, or prints why it isn't served.
 fn run_serve<R: Files + Input + AllocGlobal + Net + Clock + Eprint, W: Write>(
     rt: &R,
@@ -136,6 +156,7 @@ fn run<R: Files + Input + AllocGlobal + Env + Net + Clock + Eprint, W: Write>(
         Job::Run { task, file } => run_task(rt, task, file, out),
         Job::RunOver { any, config, file } => run_over(rt, any, config, file, out),
         Job::Where { file, keys } => run_keys(rt.alloc(), &keys, text_of(rt, Some(file)), out),
+        Job::Loopback { file } => run_loopback(rt, file, out),
         Job::Cache(job) => serve_cache(rt, job),
         Job::Serve(job) => run_serve(rt, job, out),
         Job::Print(text) => {

@@ -5,6 +5,7 @@ ghost use Rattle.std.specs.IoError.{error_kind};
 ghost use Rattle.mcgate.specs.Program.{Answers, Runs, AnswersInput, RunsBy, AnswersBy, Declines, GivesConfig, ReadsConfig};
 ghost use Rattle.replay.specs.Replay.{ReplaysOver};
 ghost use Rattle.key_places.specs.Finding.{FindsKeys};
+ghost use Rattle.loopback.specs.Running.{Runs as RunsOverTcp};
 ghost use Rattle.mcgate.specs.Stops.{stop_at, stop_by, stop_of, key_line, end_of};
 
 use crate::arguments::{ArgumentsFault, Task};
@@ -12,12 +13,15 @@ use config_check::checking::print_fault;
 use config_check::status::{BAD_INPUT, NO_MEMORY, WRITER};
 use config_check::{RunFault, run_check};
 use key_places::run_where;
+use loopback::run_loopback;
 use mc_types::{Key, KeyFault};
 use replay::{run_replay, run_replay_over};
 use route_json::{Config, read_config};
 use std::alloc::Global;
 use std::io;
 use std::io::{ErrorKind, Write};
+use std::net::Net;
+use std::rt::Clock;
 use text_input::InputFault;
 
 /// Why the program ends with a line on standard error.
@@ -258,6 +262,35 @@ pub fn run_events<W: Write>(
 {
     match input {
         Ok(text) => replay_events(alloc, any, config, text.as_str(), out),
+        Err(fault) => decline(*fault, out),
+    }
+}
+
+fn loop_text<R: Net + Clock + AllocGlobal, W: Write>(
+    rt: &R,
+    text: &str,
+    out: &mut W,
+) -> Result<u8, Stop>
+    ensures { RunsBy RunsOverTcp text.now (W.contents out.old) (W.contents out.new) result }
+{
+    match run_loopback(rt, text, out) {
+        NO_MEMORY => Err(Stop::Memory),
+        WRITER => Err(Stop::Device),
+        status => Ok(status),
+    }
+}
+
+/// Runs the script of an input over TCP, or prints why it is no input. The answer and the faults are as those of [`run_input`]; a
+/// socket is a device.
+pub fn run_over_tcp<R: Net + Clock + AllocGlobal, W: Write>(
+    rt: &R,
+    input: &Result<String, InputFault>,
+    out: &mut W,
+) -> Result<u8, Stop>
+    ensures { AnswersBy RunsOverTcp input.now (W.contents out.old) (W.contents out.new) result }
+{
+    match input {
+        Ok(text) => loop_text(rt, text.as_str(), out),
         Err(fault) => decline(*fault, out),
     }
 }

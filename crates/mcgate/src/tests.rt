@@ -168,6 +168,23 @@ fn arguments_that_ask_for_a_cache(rt: HostRuntime) -> Result<(), Fail> {
     Ok(())
 }
 
+// Whether words ask for a script over TCP, of this file.
+fn asks_for_loopback(alloc: Global, words: &[&str], want_file: Option<&str>) -> Result<bool, Fail> {
+    let given = arguments_of(alloc, words)?;
+    match read_arguments(alloc, given.as_slice()) {
+        Ok(Job::Loopback { file }) => Ok(file == want_file),
+        _ => Ok(false),
+    }
+}
+
+#[test]
+fn arguments_that_ask_for_loopback(rt: HostRuntime) -> Result<(), Fail> {
+    let alloc = rt.alloc();
+    assert!(rt; asks_for_loopback(alloc, &["mcgate", "loopback"], None)?);
+    assert!(rt; asks_for_loopback(alloc, &["mcgate", "loopback", "f"], Some("f"))?);
+    Ok(())
+}
+
 // What words that ask to serve ask of the gate and of reading the file again.
 fn asks_to_serve(
     alloc: Global,
@@ -264,6 +281,7 @@ fn words_that_are_refused(rt: HostRuntime) -> Result<(), Fail> {
         ]
         .as_slice(),
         ["mcgate", "check", "f", "g"].as_slice(),
+        ["mcgate", "loopback", "--any"].as_slice(),
         ["mcgate", "replay", "--any", "--any"].as_slice(),
         ["mcgate", "replay", "--any=yes"].as_slice(),
         ["mcgate", "replay", "--config"].as_slice(),

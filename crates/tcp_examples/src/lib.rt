@@ -9,4 +9,6 @@ mod links;
 #[cfg(test)]
 mod proxies;
 #[cfg(test)]
+mod scripts;
+#[cfg(test)]
 mod sockets;

@@ -7,7 +7,9 @@ mod link;
 mod news;
 mod proxy;
 mod settings;
+mod tally;
 
 pub use news::{Cause, LinkNews};
 pub use proxy::ProxyEnd;
 pub use settings::Settings;
+pub use tally::Tally;

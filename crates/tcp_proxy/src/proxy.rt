@@ -5,6 +5,7 @@ use crate::clients::{Client, Clients, note, send};
 use crate::link::Link;
 use crate::news::{Cause, LinkNews};
 use crate::settings::Settings;
+use crate::tally::Tally;
 use fresh_core::FreshCore;
 use fresh_gate::{Accepted, ReloadFault};
 use link_calls::{AnyCore, LoadFault, Next, SentCall, fail_call};
@@ -58,6 +59,7 @@ pub struct ProxyEnd {
     is_freed: bool,
     // Whether there may be something to tell of a link.
     has_news: bool,
+    tally: Tally,
 }
 
 // What a client's polls ended with.
@@ -216,6 +218,7 @@ impl ProxyEnd {
             is_accepting: true,
             is_freed: false,
             has_news: false,
+            tally: Tally::new(),
         }
     }
 
@@ -252,6 +255,21 @@ impl ProxyEnd {
         }
         self.has_news = self.news_limit().is_some();
         None
+    }
+
+    /// What it has done so far.
+    pub fn tally(&self) -> Tally {
+        self.tally
+    }
+
+    /// Whether nothing is left to do until something comes: no call is out, and no client is to be served.
+    pub fn is_at_rest(&self) -> bool {
+        !self.has_work() && self.links.iter().all(|link| link.calls.is_empty())
+    }
+
+    /// The connection to a server is closed, and what came over it is never read: the calls that are out on it have failed.
+    pub fn drop_link(&mut self, server: usize) -> Result<(), AllocError> {
+        self.fail_link(server, Cause::Broken)
     }
 
     /// Where it listens.
@@ -603,7 +621,8 @@ impl ProxyEnd {
             match client.conn.read_once(CLIENT_READ)? {
                 Got::Ended => client.is_ended = true,
                 Got::Failed => client.break_off(),
-                Got::Bytes | Got::Nothing | Got::Full => {}
+                Got::Bytes => self.tally.note_read(client.conn.held.len()),
+                Got::Nothing | Got::Full => {}
             }
         }
         if !client.conn.held.is_empty() {
@@ -643,6 +662,7 @@ impl ProxyEnd {
                 }
                 Ok(Polled::Did(_note)) => {
                     self.note_went_on(id);
+                    self.tally.note_command();
                     self.is_freed = true;
                 }
                 Ok(Polled::Own) | Ok(Polled::Refused) => {}
@@ -752,6 +772,7 @@ impl ProxyEnd {
             client.break_off();
             return Ok(());
         }
+        self.tally.note_shown(bytes.len());
         Ok(self.clients.mark_output(id)?)
     }
 

@@ -1,0 +1,347 @@
+//! All ends together, which are turned by turns until what a client sent is done with.
+
+use crate::clients::ClientEnd;
+use crate::entries::Entry;
+use crate::servers::Servers;
+use fleet_run::{Event, Output, Reload, Script};
+use fresh_gate::{Accepted, ReloadFault};
+use link_calls::LoadFault;
+use route_json::Config;
+use std::alloc::{AllocError, Global};
+use std::io;
+use std::io::ErrorKind;
+use std::net::{IpAddr, Ipv4Addr, Net, SocketAddr};
+use std::rt::Clock;
+use std::time::Duration;
+use tcp_proxy::{ProxyEnd, Settings};
+
+// How many clients a script has.
+const CLIENTS: usize = 64;
+
+// How long one turn waits at most where nothing is ready, in milliseconds.
+const WAIT_MS: u64 = 1;
+
+// After so many turns in a row in which nothing moved the system is held to have failed.
+const STILL_TURNS: u32 = 10_000;
+
+/// How many commands and how many calls a run had.
+#[derive(Clone, Copy)]
+pub struct Counts {
+    pub commands: u64,
+    pub calls: u64,
+}
+
+/// The proxy's end, its clients and its servers.
+#[derive(Drop)]
+pub struct Ends {
+    alloc: Global,
+    proxy: ProxyEnd,
+    address: SocketAddr,
+    servers: Servers,
+    clients: Vec<Option<ClientEnd>>,
+    // How many bytes all clients together have sent.
+    sent: u64,
+    // How many came to them.
+    received: u64,
+}
+
+// 127.0.0.1, at a port that the system picks.
+fn any_port() -> SocketAddr {
+    SocketAddr::new(IpAddr::V4(Ipv4Addr::LOCALHOST), 0)
+}
+
+// One command at a time, and one call: so calls are made in the order in which a run of the script makes them. No call is ever late, and
+// no server is held back.
+fn settings() -> Settings {
+    Settings {
+        clients: CLIENTS,
+        client_window: 1,
+        link_window: 1,
+        call_ms: u64::MAX,
+        connect_ms: u64::MAX,
+        fail_limit: u32::MAX,
+        retry_ms: 0,
+        polls: None,
+    }
+}
+
+// No client is connected.
+fn no_clients(alloc: Global) -> Result<Vec<Option<ClientEnd>>, AllocError> {
+    let mut clients = Vec::new(alloc);
+    for _ in 0..CLIENTS {
+        clients.push(None)?;
+    }
+    Ok(clients)
+}
+
+// In how many turns in a row nothing moved, by whether it did in the last one.
+fn still_turns(before: u32, is_still: bool) -> u32 {
+    if is_still {
+        before.saturating_add(1)
+    } else {
+        0
+    }
+}
+
+fn add(count: u64, more: usize) -> u64 {
+    count.saturating_add(more as u64)
+}
+
+impl Ends {
+    /// A proxy over an accepted configuration and so many servers, which hold nothing. Each listens at a port that the system picks.
+    pub fn open<R: Net + Clock + AllocGlobal>(
+        rt: &R,
+        accepted: Accepted,
+        servers: usize,
+    ) -> io::Result<Ends> {
+        let alloc = rt.alloc();
+        let servers = Servers::listen(rt, alloc, servers, any_port())?;
+        let addresses = servers.addresses()?;
+        let proxy = ProxyEnd::new(rt, any_port(), accepted, addresses.as_slice(), settings())?;
+        Ends::of(alloc, proxy, servers)
+    }
+
+    fn of(alloc: Global, proxy: ProxyEnd, servers: Servers) -> io::Result<Ends> {
+        let address = proxy.local_addr()?;
+        let clients = no_clients(alloc)?;
+        Ok(Ends {
+            alloc,
+            proxy,
+            address,
+            servers,
+            clients,
+            sent: 0,
+            received: 0,
+        })
+    }
+
+    /// How many commands and calls there were.
+    pub fn counts(&self) -> Counts {
+        Counts {
+            commands: self.proxy.tally().commands,
+            calls: self.servers.calls(),
+        }
+    }
+
+    /// One event of a script. Of a piece the answer is what the client got by it.
+    pub fn take_up<R: Net + Clock + AllocGlobal>(
+        &mut self,
+        rt: &R,
+        event: &Event,
+    ) -> io::Result<Option<Output>> {
+        match event {
+            Event::Piece(client, bytes) => return self.serve(rt, *client, bytes.as_slice()),
+            Event::Hold(server, key, data) => self.servers.hold(*server, key, data.as_slice())?,
+            Event::Fail(turn, manner) => self.servers.fail(*turn, *manner)?,
+            Event::At(turn, loss) => self.servers.lose_at(*turn, *loss)?,
+            Event::Now(loss) => self.servers.lose(*loss),
+            Event::Moment(seconds) => self.servers.set_moment(*seconds),
+        }
+        Ok(None)
+    }
+
+    /// A configuration is to be in use. The answer is the number of its generation, or why the gate refused it.
+    pub fn load(&mut self, config: &Config) -> io::Result<Result<u32, ReloadFault>> {
+        let addresses = self.servers.addresses()?;
+        let config = config.copy(self.alloc)?;
+        match self.proxy.load(config, addresses.as_slice()) {
+            Ok(generation) => Ok(Ok(generation)),
+            Err(LoadFault::Refused(ReloadFault::NoMemory)) => Err(io::Error::from(
+                ErrorKind::OutOfMemory,
+            )),
+            Err(LoadFault::Refused(fault)) => Ok(Err(fault)),
+            // A script numbers the servers of each configuration after those before it.
+            Err(LoadFault::OtherServers) => Err(io::Error::from(ErrorKind::InvalidInput)),
+        }
+    }
+
+    // A piece comes from a client, and all that is complete is served.
+    fn serve<R: Net + Clock>(
+        &mut self,
+        rt: &R,
+        client: u8,
+        piece: &[u8],
+    ) -> io::Result<Option<Output>> {
+        let place = client as usize;
+        self.connect(rt, place)?;
+        self.feed(place, piece)?;
+        self.turn_until_served(rt, place)?;
+        let bytes = self.take_output(place)?;
+        if bytes.is_empty() {
+            return Ok(None);
+        }
+        Ok(Some(Output { client, bytes }))
+    }
+
+    // The client is connected, if it wasn't yet.
+    fn connect<N: Net>(&mut self, net: &N, place: usize) -> io::Result<()> {
+        if let Some(client) = self.clients.get_mut(place) {
+            if client.is_none() {
+                *client = Some(ClientEnd::connect(net, self.alloc, self.address)?);
+            }
+        }
+        Ok(())
+    }
+
+    fn client(&mut self, place: usize) -> Option<&mut ClientEnd> {
+        self.clients.get_mut(place)?.as_mut()
+    }
+
+    fn feed(&mut self, place: usize, piece: &[u8]) -> Result<(), AllocError> {
+        match self.client(place) {
+            Some(client) => client.feed(piece),
+            None => Ok(()),
+        }
+    }
+
+    fn take_output(&mut self, place: usize) -> Result<Vec<u8>, AllocError> {
+        let alloc = self.alloc;
+        match self.client(place) {
+            Some(client) => client.take(alloc),
+            None => Ok(Vec::new(alloc)),
+        }
+    }
+
+    // Whether all that the client sent is done with, and it has got all that there is for it.
+    fn is_served(&mut self, place: usize) -> bool {
+        let has_sent_all = match self.client(place) {
+            Some(client) if client.is_ended() => return true,
+            Some(client) => client.has_sent_all(),
+            None => true,
+        };
+        let tally = self.proxy.tally();
+        has_sent_all
+            && tally.read == self.sent
+            && tally.shown == self.received
+            && self.proxy.is_at_rest()
+    }
+
+    // How much was done so far: it grows with each step.
+    fn moved(&self) -> u64 {
+        let tally = self.proxy.tally();
+        self.sent
+            .saturating_add(self.received)
+            .saturating_add(tally.read)
+            .saturating_add(tally.shown)
+            .saturating_add(tally.commands)
+            .saturating_add(self.servers.calls())
+            .saturating_add(self.servers.moved())
+    }
+
+    // Turns until the client is served. Where nothing moves for long that is an error.
+    fn turn_until_served<R: Net + Clock>(&mut self, rt: &R, place: usize) -> io::Result<()> {
+        let mut still = 0u32;
+        for _ in 0..u64::MAX {
+            if self.is_served(place) {
+                break;
+            }
+            let before = self.moved();
+            self.turn(rt, place)?;
+            still = still_turns(still, self.moved() == before);
+            if still == STILL_TURNS {
+                return Err(io::Error::from(ErrorKind::TimedOut));
+            }
+        }
+        self.note_end(place)
+    }
+
+    // One turn of each end.
+    fn turn<R: Net + Clock>(&mut self, rt: &R, place: usize) -> io::Result<()> {
+        self.turn_client(place)?;
+        self.proxy.turn_within(rt, Duration::from_millis(WAIT_MS))?;
+        if let Some(server) = self.servers.turn()? {
+            self.proxy.drop_link(server)?;
+        }
+        Ok(())
+    }
+
+    fn turn_client(&mut self, place: usize) -> Result<(), AllocError> {
+        let Some(client) = self.client(place) else {
+            return Ok(());
+        };
+        let sent = client.send();
+        let received = client.read()?;
+        self.sent = add(self.sent, sent);
+        self.received = add(self.received, received);
+        Ok(())
+    }
+
+    // Where the connection of a client has ended the proxy reads no more of what it sent. All that there was for it has come, or the
+    // connection has failed.
+    fn note_end(&mut self, place: usize) -> io::Result<()> {
+        let is_ended = match self.client(place) {
+            Some(client) => client.is_ended(),
+            None => false,
+        };
+        if is_ended {
+            let tally = self.proxy.tally();
+            if tally.shown != self.received {
+                return Err(io::Error::from(ErrorKind::ConnectionAborted));
+            }
+            self.sent = tally.read;
+        }
+        Ok(())
+    }
+}
+
+// Takes up an event. What a client gets is shown.
+fn take_event<R: Net + Clock + AllocGlobal>(
+    rt: &R,
+    ends: &mut Ends,
+    event: &Event,
+    shown: &mut Vec<Entry>,
+) -> io::Result<()> {
+    if let Some(output) = ends.take_up(rt, event)? {
+        shown.push(Entry::Shown(output))?;
+    }
+    Ok(())
+}
+
+// Loads the configuration of a reload, of this number. What came of that is shown.
+fn take_reload(
+    ends: &mut Ends,
+    number: usize,
+    reload: &Reload,
+    shown: &mut Vec<Entry>,
+) -> io::Result<()> {
+    let entry = match ends.load(&reload.config)? {
+        Ok(generation) => Entry::Loaded(generation),
+        Err(fault) => Entry::Kept(number, fault),
+    };
+    shown.push(entry)?;
+    Ok(())
+}
+
+/// Takes up the events and the reloads of a script, each reload before the event of its place.
+pub fn drive<R: Net + Clock + AllocGlobal>(
+    rt: &R,
+    ends: &mut Ends,
+    script: &Script,
+    reloads: &[Reload],
+    shown: &mut Vec<Entry>,
+) -> io::Result<()> {
+    let mut loaded = 0;
+    for (place, event) in script.events.as_slice().iter().enumerate() {
+        loaded = load_due(ends, reloads, loaded, place, shown)?;
+        take_event(rt, ends, event, shown)?;
+    }
+    load_due(ends, reloads, loaded, usize::MAX, shown)?;
+    Ok(())
+}
+
+// Loads those reloads from this number on that come before the event of this place. The answer is the number of the first that is left.
+fn load_due(
+    ends: &mut Ends,
+    reloads: &[Reload],
+    loaded: usize,
+    place: usize,
+    shown: &mut Vec<Entry>,
+) -> io::Result<usize> {
+    for number in loaded..reloads.len() {
+        match reloads.get(number) {
+            Some(reload) if reload.at <= place => take_reload(ends, number, reload, shown)?,
+            _ => return Ok(number),
+        }
+    }
+    Ok(reloads.len())
+}

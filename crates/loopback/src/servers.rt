@@ -1,0 +1,323 @@
+//! The servers' ends: their caches, the script's clock, and what becomes of each call.
+
+use crate::calls::Calls;
+use cache_connection::Cache;
+use mc_types::{DATA_LIMIT, Key, ServerId};
+use memory_fleet::losses::lose_all;
+use memory_fleet::{Loss, Manner};
+use mio::net::{TcpListener, TcpStream};
+use std::alloc::{AllocError, Global};
+use std::io;
+use std::net::{Net, SocketAddr};
+use tcp_cache::client::Client;
+use tcp_cache::clock::Moment;
+use tcp_socket::{Conn, Got, Limits, Sent};
+
+// The most items that a server holds.
+const CAPACITY: usize = 1_024;
+
+// More than one ask, or one answer, is never held.
+const LIMITS: Limits = Limits {
+    held: 4_194_304,
+    unsent: 4_194_304,
+};
+
+// The room of one read, in bytes.
+const READ_ROOM: usize = 65_536;
+
+// So many writes are made in one turn at most.
+const WRITES: usize = 64;
+
+// One server's end: where it listens, and the proxy's connection to it, over which one ask comes after the answer to the last.
+#[derive(Drop)]
+struct ServerEnd {
+    listener: TcpListener,
+    link: Option<Client<TcpStream>>,
+    // An ask has begun to come that isn't answered.
+    is_asked: bool,
+    // How that one is to fail, if it is.
+    failing: Option<Manner>,
+    // The call has failed whose answer is to be sent: it comes late, before that to the next ask over this connection.
+    is_late: bool,
+}
+
+impl ServerEnd {
+    fn listen<N: Net>(net: &N, address: SocketAddr) -> io::Result<ServerEnd> {
+        Ok(ServerEnd {
+            listener: TcpListener::bind(net, address)?,
+            link: None,
+            is_asked: false,
+            failing: None,
+            is_late: false,
+        })
+    }
+
+    // The connection is closed.
+    fn close(&mut self) {
+        self.link = None;
+        self.is_asked = false;
+        self.failing = None;
+        self.is_late = false;
+    }
+
+    // A connection that waits is taken where there is none.
+    fn accept(&mut self, alloc: Global) {
+        if self.link.is_some() {
+            return;
+        }
+        if let Ok((stream, _)) = self.listener.accept() {
+            let _ = stream.set_nodelay(true);
+            self.link = Some(Client::new(alloc, Conn::new(alloc, stream, LIMITS)));
+        }
+    }
+
+    // One read. The answer is how many bytes came.
+    fn read(&mut self) -> Result<usize, AllocError> {
+        let Some(link) = self.link.as_mut() else {
+            return Ok(0);
+        };
+        let before = link.conn.held.len();
+        match link.conn.read_once(READ_ROOM)? {
+            Got::Bytes => Ok(link.conn.held.len().saturating_sub(before)),
+            Got::Nothing | Got::Full => Ok(0),
+            Got::Ended | Got::Failed => {
+                self.close();
+                Ok(0)
+            }
+        }
+    }
+
+    // Whether an ask begins with what came.
+    fn begins_ask(&self) -> bool {
+        match &self.link {
+            Some(link) => !self.is_asked && !link.conn.held.is_empty(),
+            None => false,
+        }
+    }
+
+    // An ask begins to come, which is to fail so.
+    fn begin_ask(&mut self, failing: Option<Manner>) {
+        self.is_asked = true;
+        self.failing = failing;
+        self.is_late = false;
+    }
+
+    // The ask that came is answered, if it is whole.
+    fn answer(&mut self, cache: &mut Cache, moment: Moment) -> Result<(), AllocError> {
+        let Some(link) = self.link.as_mut() else {
+            return Ok(());
+        };
+        link.serve(cache, moment)?;
+        if !link.conn.unsent.is_empty() {
+            self.is_asked = false;
+        }
+        Ok(())
+    }
+
+    // Sends what the connection takes now. The answer is how many bytes that were.
+    fn send(&mut self) -> usize {
+        let Some(link) = self.link.as_mut() else {
+            return 0;
+        };
+        if self.is_late {
+            return 0;
+        }
+        let before = link.conn.unsent.len();
+        link.conn.writable = true;
+        for _ in 0..WRITES {
+            match link.conn.send_once() {
+                Sent::Bytes => {}
+                Sent::Nothing | Sent::Failed => break,
+            }
+        }
+        before.saturating_sub(link.conn.unsent.len())
+    }
+
+    // Whether the call under way fails now: it isn't applied, or it was.
+    fn take_failure(&mut self) -> bool {
+        match self.failing {
+            Some(Manner::Before) => {
+                self.close();
+                true
+            }
+            Some(Manner::After) if !self.is_asked => {
+                self.failing = None;
+                self.is_late = true;
+                true
+            }
+            _ => false,
+        }
+    }
+}
+
+/// All servers' ends.
+#[derive(Drop)]
+pub struct Servers {
+    alloc: Global,
+    caches: Vec<Cache>,
+    ends: Vec<ServerEnd>,
+    calls: Calls,
+    moment: Moment,
+    // How many bytes came and were sent.
+    moved: u64,
+}
+
+// So many empty caches.
+fn empty_caches(alloc: Global, servers: usize) -> Result<Vec<Cache>, AllocError> {
+    let mut caches = Vec::new(alloc);
+    for _ in 0..servers {
+        caches.push(Cache::new(alloc, CAPACITY)?)?;
+    }
+    Ok(caches)
+}
+
+// So many ends, each of which listens at a port of its own that the system picks.
+fn listen_all<N: Net>(
+    net: &N,
+    alloc: Global,
+    servers: usize,
+    address: SocketAddr,
+) -> io::Result<Vec<ServerEnd>> {
+    let mut ends = Vec::new(alloc);
+    for _ in 0..servers {
+        ends.push(ServerEnd::listen(net, address)?)?;
+    }
+    Ok(ends)
+}
+
+// A moment of a script; one before the first is that one.
+fn moment_of(seconds: i64) -> Moment {
+    let seconds = u64::try_from(seconds).unwrap_or(0);
+    let seconds = i64::try_from(seconds).unwrap_or(i64::MAX);
+    Moment { seconds }
+}
+
+impl Servers {
+    /// So many servers, each of which holds nothing and listens at this address, at a port that the system picks.
+    pub fn listen<N: Net>(
+        net: &N,
+        alloc: Global,
+        servers: usize,
+        address: SocketAddr,
+    ) -> io::Result<Servers> {
+        Ok(Servers {
+            alloc,
+            caches: empty_caches(alloc, servers)?,
+            ends: listen_all(net, alloc, servers, address)?,
+            calls: Calls::new(alloc),
+            moment: moment_of(0),
+            moved: 0,
+        })
+    }
+
+    /// Where they listen, in their order.
+    pub fn addresses(&self) -> io::Result<Vec<Option<SocketAddr>>> {
+        let mut addresses = Vec::new(self.alloc);
+        for end in self.ends.as_slice() {
+            addresses.push(Some(end.listener.local_addr()?))?;
+        }
+        Ok(addresses)
+    }
+
+    /// How many calls were made.
+    pub fn calls(&self) -> u64 {
+        self.calls.made()
+    }
+
+    /// How many bytes came and were sent.
+    pub fn moved(&self) -> u64 {
+        self.moved
+    }
+
+    /// The server holds these data under the key.
+    pub fn hold(&mut self, server: ServerId, key: &Key, data: &[u8]) -> Result<(), AllocError> {
+        if data.len() > DATA_LIMIT as usize {
+            return Ok(());
+        }
+        match self.caches.get_mut(server.number() as usize) {
+            Some(cache) => cache.hold(key, data),
+            None => Ok(()),
+        }
+    }
+
+    /// The call of this turn from here, which is 1 for the next one, fails.
+    pub fn fail(&mut self, turn: u32, manner: Manner) -> Result<(), AllocError> {
+        self.calls.fail(turn, manner)
+    }
+
+    /// This is lost just before the call of this turn from here.
+    pub fn lose_at(&mut self, turn: u32, loss: Loss) -> Result<(), AllocError> {
+        self.calls.lose_at(turn, loss)
+    }
+
+    /// This is lost.
+    pub fn lose(&mut self, loss: Loss) {
+        lose_all(&mut self.caches, [loss].as_slice());
+    }
+
+    /// The time from now on, in seconds.
+    pub fn set_moment(&mut self, seconds: i64) {
+        self.moment = moment_of(seconds);
+    }
+
+    /// One turn: what came is answered, where that is a whole ask. Where a call fails the answer is the number of its server,
+    /// to which the proxy's connection is to be dropped.
+    pub fn turn(&mut self) -> Result<Option<usize>, AllocError> {
+        for at in 0..self.ends.len() {
+            if self.serve(at)? {
+                return Ok(Some(at));
+            }
+        }
+        Ok(None)
+    }
+
+    fn note_moved(&mut self, count: usize) {
+        self.moved = self.moved.saturating_add(count as u64);
+    }
+
+    // Whether the call that came to a server failed.
+    fn serve(&mut self, at: usize) -> Result<bool, AllocError> {
+        let read = self.read(at)?;
+        self.note_moved(read);
+        self.answer(at)?;
+        let has_failed = self.take_failure(at);
+        let sent = self.send(at);
+        self.note_moved(sent);
+        Ok(has_failed)
+    }
+
+    fn read(&mut self, at: usize) -> Result<usize, AllocError> {
+        let Some(end) = self.ends.get_mut(at) else {
+            return Ok(0);
+        };
+        end.accept(self.alloc);
+        let read = end.read()?;
+        if end.begins_ask() {
+            end.begin_ask(self.calls.begin(&mut self.caches));
+        }
+        Ok(read)
+    }
+
+    fn answer(&mut self, at: usize) -> Result<(), AllocError> {
+        match (self.ends.get_mut(at), self.caches.get_mut(at)) {
+            (Some(end), Some(cache)) if end.failing != Some(Manner::Before) => {
+                end.answer(cache, self.moment)
+            }
+            _ => Ok(()),
+        }
+    }
+
+    fn send(&mut self, at: usize) -> usize {
+        match self.ends.get_mut(at) {
+            Some(end) => end.send(),
+            None => 0,
+        }
+    }
+
+    fn take_failure(&mut self, at: usize) -> bool {
+        match self.ends.get_mut(at) {
+            Some(end) => end.take_failure(),
+            None => false,
+        }
+    }
+}
