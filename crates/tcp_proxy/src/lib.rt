@@ -10,4 +10,4 @@ mod settings;
 
 pub use news::{Cause, LinkNews};
 pub use proxy::ProxyEnd;
-pub use settings::Settings;
+pub use settings::{ServerDialect, Settings};
