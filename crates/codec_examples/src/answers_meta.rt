@@ -43,7 +43,8 @@ fn ask(alloc: Global, op: Op, letters: &[u8]) -> Result<Ask, Fail> {
     })
 }
 
-fn put_read(ask: &Ask, read: &AnswerRead, out: &mut BytesMut) -> Result<(), AllocError> {
+/// Writes what was read: an answer, or a word.
+pub fn put_read(ask: &Ask, read: &AnswerRead, out: &mut BytesMut) -> Result<(), AllocError> {
     match read {
         AnswerRead::More => out.extend_from_slice(b"more"),
         AnswerRead::Foreign => out.extend_from_slice(b"foreign"),

@@ -3,6 +3,8 @@ use Rattle.std.proofs.Common.{◌≡◌, ℕ, true, cond, List, [], ◌∷◌, O
 use Rattle.mc_types.specs.Asks.{IsAsk}
 use Rattle.mc_types.specs.Fits.{Fits}
 use Rattle.mc_types.specs.declared.ask.Ask.{Ask}
+use Rattle.mc_types.specs.declared.ask.Dialect.{Dialect}
+use Rattle.mc_types.specs.declared.ask.Dialect.TheVariants.{Classic, Meta}
 use Rattle.mc_types.specs.declared.answer.Answer.{Answer}
 use Rattle.mc_types.specs.declared.call.Outcome.{Outcome}
 use Rattle.mc_types.specs.declared.call.Outcome.TheVariants.{Answered}
@@ -10,6 +12,7 @@ use Rattle.text_answers.specs.Laws.{SpelledAnswersFit}
 use Rattle.text_answers.specs.Reading.{Reads}
 use Rattle.text_answers.specs.declared.reader.AnswerRead.{AnswerRead}
 use Rattle.text_answers.specs.declared.reader.AnswerRead.TheVariants as reads
+use Rattle.meta_asks.specs.Reading.{ReadsInMeta}
 use Rattle.route_job.specs.Rest.{ask_under}
 use Rattle.proxy_core.specs.declared.command.Command.{Command}
 use Rattle.proxy_core.specs.declared.proxy.Core.{Core}
@@ -18,12 +21,17 @@ use Rattle.proxy_core.specs.Settles.{FitsCall, asked, asked_by}
 use Rattle.link_calls.specs.declared.any_core.AnyCore.{AnyCore}
 use Rattle.link_calls.specs.Cores.{IsSettled}
 use Rattle.link_calls.specs.declared.calls.SentCall.{SentCall}
-use Rattle.link_calls.specs.Calls.{IsReadFor, IsReadNext, first_number, FitsFirst, SettlesFirst}
+use Rattle.link_calls.specs.Calls.{IsReadFor, IsReadNext, first_asked, FitsFirst, SettlesFirst}
 
-pub read_for : SpelledAnswersFit → (ask : Ask) (bytes : List ℕ) (read : AnswerRead) → IsAsk ask → Reads ask bytes read → IsReadFor ask bytes read
-read_for fit ask bytes (reads.Answer answer used) is spells = (spells, fit ask bytes answer used is spells)
-read_for fit ask bytes reads.More is more = more.0
-read_for fit ask bytes reads.Foreign is bad = tt
+pub read_classic : SpelledAnswersFit → (ask : Ask) (bytes : List ℕ) (read : AnswerRead) → IsAsk ask → Reads ask bytes read → IsReadFor Classic ask bytes read
+read_classic fit ask bytes (reads.Answer answer used) is spells = (spells, fit ask bytes answer used is spells)
+read_classic fit ask bytes reads.More is more = more.0
+read_classic fit ask bytes reads.Foreign is bad = tt
+
+pub read_meta : (ask : Ask) (bytes : List ℕ) (read : AnswerRead) → ReadsInMeta ask bytes read → IsReadFor Meta ask bytes read
+read_meta ask bytes (reads.Answer answer used) spells = spells
+read_meta ask bytes reads.More more = more.0
+read_meta ask bytes reads.Foreign bad = tt
 
 same_ask : {x y : Ask} → ◌≡◌ {A = Option Ask} (Some x) (Some y) → x ≡ y
 same_ask e = cc
@@ -35,17 +43,20 @@ fits_call : (core : Core) (number : ℕ) (ask : Ask) (answer : Answer) → asked
 fits_call core number ask answer e fits =
     λ a was out. subst (λ x. Fits x answer) (out_ask a ask (sym (ap asked_by was) ∙ e) out) fits
 
-pub read_next : (core : Core) (number : ℕ) (bytes : List ℕ) (ask : Ask) (read : AnswerRead) → asked core number ≡ Some ask → IsReadFor ask bytes read → IsReadNext core number bytes read
-read_next core number bytes ask (reads.Answer answer used) e is = (ask, e, is.0, fits_call core number ask answer e is.1)
-read_next core number bytes ask reads.More e is = (ask, e, is)
-read_next core number bytes ask reads.Foreign e is = tt
+pub read_next : (dialect : Dialect) (core : Core) (number : ℕ) (bytes : List ℕ) (ask : Ask) (read : AnswerRead) → asked core number ≡ Some ask → IsReadFor dialect ask bytes read → IsReadNext dialect core number bytes read
+read_next dialect core number bytes ask (reads.Answer answer used) e is = (ask, e, is.0, fits_call core number ask answer e is.1)
+read_next dialect core number bytes ask reads.More e is = (ask, e, is)
+read_next dialect core number bytes ask reads.Foreign e is = tt
 
-pub fits_first : (sent : List SentCall) (core : Core) (number : ℕ) (outcome : Outcome) → first_number sent ≡ Some number → FitsCall core number outcome → FitsFirst sent core outcome
-fits_first [] core number outcome e fits = tt
-fits_first (call ∷ sent) core number outcome e fits = subst (λ n. FitsCall core n outcome) (same_number (sym e)) fits
+pub fits_first : (sent : List SentCall) (core : Core) (number : ℕ) (dialect : Dialect) (outcome : Outcome) → first_asked sent ≡ Some (number, dialect) → FitsCall core number outcome → FitsFirst sent core outcome
+fits_first [] core number dialect outcome e fits = tt
+fits_first (call ∷ sent) core number dialect outcome e fits = subst (λ n. FitsCall core n outcome) (same_number (sym e)) fits
   where
-    same_number : {m n : ℕ} → ◌≡◌ {A = Option ℕ} (Some m) (Some n) → m ≡ n
-    same_number e = cc
+    same_number : {m n : ℕ} {a b : Dialect} → ◌≡◌ {A = Option (ℕ × Dialect)} (Some (m, a)) (Some (n, b)) → m ≡ n
+    same_number e = ap (λ (p : ℕ × Dialect). p.0) (same_pair e)
+      where
+        same_pair : {p q : ℕ × Dialect} → ◌≡◌ {A = Option (ℕ × Dialect)} (Some p) (Some q) → p ≡ q
+        same_pair e = cc
 
 pub popped : (old new : List SentCall) (call : SentCall) (core core' : AnyCore) (outcome : Outcome) → old ≡ call ∷ new → IsSettled core call.ticket.number outcome core' → SettlesFirst old core outcome (Some call.client) new core'
 popped old new call core core' outcome e settled = subst (λ xs. SettlesFirst xs core outcome (Some call.client) new core') (sym e) (refl, refl, settled)

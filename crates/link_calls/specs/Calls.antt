@@ -2,36 +2,37 @@
 use Rattle.std.specs.Prelude.{◌≡◌, ℕ, List, [], ◌∷◌, Option, Some, None}
 use Rattle.mc_types.specs.Fits.{Fits}
 use Rattle.mc_types.specs.declared.ask.Ask.{Ask}
+use Rattle.mc_types.specs.declared.ask.Dialect.{Dialect}
 use Rattle.mc_types.specs.declared.answer.Answer.{Answer}
 use Rattle.mc_types.specs.declared.call.Outcome.{Outcome}
 use Rattle.mc_types.specs.declared.call.Outcome.TheVariants.{Answered}
-use Rattle.text_answers.specs.Reading.{Spells, IsCut}
 use Rattle.text_answers.specs.declared.reader.AnswerRead.{AnswerRead}
 use Rattle.text_answers.specs.declared.reader.AnswerRead.TheVariants as reads
 use Rattle.proxy_core.specs.declared.proxy.Core.{Core}
 use Rattle.proxy_core.specs.Settles.{FitsCall, asked}
 use Rattle.link_calls.specs.declared.any_core.AnyCore.{AnyCore}
 use Rattle.link_calls.specs.Cores.{core_of, IsSettled}
+use Rattle.link_calls.specs.Dialects.{SpellsIn, IsCutIn}
 use Rattle.link_calls.specs.declared.calls.SentCall.{SentCall}
 use Rattle.link_calls.specs.declared.calls.Next.{Next}
 use Rattle.link_calls.specs.declared.calls.Next.TheVariants as nexts
 
--- what was read is the answer to the ask, or the bytes are cut before its end
-abbrev pub IsReadFor : Ask → List ℕ → AnswerRead → Type 0
-IsReadFor ask bytes (reads.Answer answer used) = Spells ask bytes answer used × Fits ask answer
-IsReadFor ask bytes reads.More = IsCut ask bytes
-IsReadFor ask bytes reads.Foreign = Unit {0}
+-- what was read is the answer to the ask, as it was asked in this dialect, or the bytes are cut before its end
+abbrev pub IsReadFor : Dialect → Ask → List ℕ → AnswerRead → Type 0
+IsReadFor dialect ask bytes (reads.Answer answer used) = SpellsIn dialect ask bytes answer used × Fits ask answer
+IsReadFor dialect ask bytes reads.More = IsCutIn dialect ask bytes
+IsReadFor dialect ask bytes reads.Foreign = Unit {0}
 
 -- the same of what the core's call of this number asks
-abbrev pub IsReadNext : Core → ℕ → List ℕ → AnswerRead → Type 0
-IsReadNext core number bytes (reads.Answer answer used) = (ask : Ask) × (asked core number ≡ Some ask) × Spells ask bytes answer used × FitsCall core number (Answered answer)
-IsReadNext core number bytes reads.More = (ask : Ask) × (asked core number ≡ Some ask) × IsCut ask bytes
-IsReadNext core number bytes reads.Foreign = Unit {0}
+abbrev pub IsReadNext : Dialect → Core → ℕ → List ℕ → AnswerRead → Type 0
+IsReadNext dialect core number bytes (reads.Answer answer used) = (ask : Ask) × (asked core number ≡ Some ask) × SpellsIn dialect ask bytes answer used × FitsCall core number (Answered answer)
+IsReadNext dialect core number bytes reads.More = (ask : Ask) × (asked core number ≡ Some ask) × IsCutIn dialect ask bytes
+IsReadNext dialect core number bytes reads.Foreign = Unit {0}
 
--- the number of the call that went out first
-abbrev pub first_number : List SentCall → Option ℕ
-first_number [] = None
-first_number (call ∷ sent) = Some call.ticket.number
+-- the number of the call that went out first, and the dialect in which it was asked
+abbrev pub first_asked : List SentCall → Option (ℕ × Dialect)
+first_asked [] = None
+first_asked (call ∷ sent) = Some (call.ticket.number, call.dialect)
 
 -- the outcome fits what the first call asks
 abbrev pub FitsFirst : List SentCall → Core → Outcome → Type 0
@@ -46,18 +47,20 @@ SettlesFirst (call ∷ rest) core outcome client sent core' = (client ≡ Some c
 -- the bytes begin with this answer to the first call
 pub record AnswersFirst (sent : List SentCall) (bytes : List ℕ) (core : Core) (answer : Answer) (used : ℕ) : Type 0 where
   pub number : ℕ
-  pub is_first : first_number sent ≡ Some number
+  pub dialect : Dialect
+  pub is_first : first_asked sent ≡ Some (number, dialect)
   pub ask : Ask
   pub asks : asked core number ≡ Some ask
-  pub spells : Spells ask bytes answer used
+  pub spells : SpellsIn dialect ask bytes answer used
 
 -- the bytes are cut before the end of the first call's answer
 pub record AwaitsFirst (sent : List SentCall) (bytes : List ℕ) (core : Core) : Type 0 where
   pub number : ℕ
-  pub is_first : first_number sent ≡ Some number
+  pub dialect : Dialect
+  pub is_first : first_asked sent ≡ Some (number, dialect)
   pub ask : Ask
   pub asks : asked core number ≡ Some ask
-  pub cut : IsCut ask bytes
+  pub cut : IsCutIn dialect ask bytes
 
 -- the first call is settled by its answer, which the bytes begin with, or nothing is done
 abbrev pub SettlesNext : List SentCall → List ℕ → AnyCore → Next → List SentCall → AnyCore → Type 0

@@ -1,3 +1,4 @@
 pub mod Asks
 pub mod Cores
+pub mod Dialects
 pub mod Calls

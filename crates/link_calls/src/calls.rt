@@ -1,18 +1,20 @@
 //! The calls of one server that are out, the one that went out first in front.
 
-ghost use Rattle.std.specs.Prelude.{◌≡◌, [], ◌∷◌, ◌++◌, OnOk, IfErr, length, option_map};
+ghost use Rattle.std.specs.Prelude.{◌≡◌, [], ◌∷◌, ◌++◌, OnOk, OnErr, IfOk, IfErr, length, option_map};
 ghost use Rattle.mc_types.specs.Asks.{IsAsk};
 ghost use Rattle.client_requests.specs.Spelling.{spelling_of};
+ghost use Rattle.link_calls.specs.Dialects.{asked_in};
 ghost use Rattle.link_calls.specs.Cores.{core_of, IsSettled};
-ghost use Rattle.link_calls.specs.Calls.{IsReadFor, IsReadNext, first_number, FitsFirst, SettlesFirst, SettlesNext};
+ghost use Rattle.link_calls.specs.Calls.{IsReadFor, IsReadNext, first_asked, FitsFirst, SettlesFirst, SettlesNext};
 ghost use Rattle.mc_types.specs.declared.call.Outcome.TheVariants.{Failed};
 
 use crate::any_core::AnyCore;
 use crate::asks::is_ask;
 use bytes::BytesMut;
-use mc_types::{Ask, Outcome};
+use mc_types::{Ask, Dialect, Outcome};
+use meta_asks::{read_in_meta, write_in_meta};
 use proxy_core::Ticket;
-use std::alloc::{AllocFailed, Global};
+use std::alloc::{AllocError, AllocFailed, Global};
 use std::collections::VecDeque;
 use text_answers::laws::spelled_answers_fit;
 use text_codec::{AnswerRead, read_answer, write_ask};
@@ -25,6 +27,8 @@ pub struct SentCall {
     pub client: usize,
     /// When it began, in milliseconds.
     pub since: u64,
+    /// In which dialect its server is asked for a classic get; all else is asked as it is.
+    pub dialect: Dialect,
 }
 
 /// What was done with a server's bytes.
@@ -52,16 +56,48 @@ pub fn fail_call(core: &mut AnyCore, ticket: Ticket)
     core.settle(ticket, Outcome::Failed);
 }
 
-// What the bytes say to the ask.
-#[tactic(auto, using(crate::proofs::CallOrder::read_for))]
-fn read_for(alloc: Global, ask: &Ask, bytes: &[u8]) -> AnswerRead
-    ensures { IsReadFor ask.now bytes.now result }
+// Writes what a server is asked in this dialect.
+fn write_in(
+    dialect: Dialect,
+    alloc: Global,
+    ask: &Ask,
+    out: &mut BytesMut,
+) -> Result<(), AllocError>
+    requires { IsAsk ask.now }
+    ensures ok { OnOk result (out.new.items ≡ out.old.items ++ spelling_of (asked_in dialect ask.now)) }
+    ensures err { OnErr result (out.new.items ≡ out.old.items) }
+{
+    match dialect {
+        Dialect::Classic => write_ask(ask, out),
+        Dialect::Meta => write_in_meta(alloc, ask, out),
+    }
+}
+
+// What the bytes say to the ask, as it was asked in this dialect.
+#[tactic(auto, using(crate::proofs::CallOrder::read_classic, crate::proofs::CallOrder::read_meta))]
+fn read_in(
+    dialect: Dialect,
+    alloc: Global,
+    ask: &Ask,
+    bytes: &[u8],
+) -> Result<AnswerRead, AllocError>
+    requires { IsAsk ask.now }
+    ensures { IfOk result (IsReadFor dialect ask.now bytes.now) }
 {
     spelled_answers_fit();
+    match dialect {
+        Dialect::Classic => read_answer(alloc, ask, bytes),
+        Dialect::Meta => read_in_meta(alloc, ask, bytes),
+    }
+}
+
+fn read_for(dialect: Dialect, alloc: Global, ask: &Ask, bytes: &[u8]) -> AnswerRead
+    ensures { IsReadFor dialect ask.now bytes.now result }
+{
     if !is_ask(ask) {
         return AnswerRead::Foreign;
     }
-    match read_answer(alloc, ask, bytes) {
+    match read_in(dialect, alloc, ask, bytes) {
         Ok(read) => read,
         Err(_) => AnswerRead::Foreign,
     }
@@ -69,12 +105,18 @@ fn read_for(alloc: Global, ask: &Ask, bytes: &[u8]) -> AnswerRead
 
 // What they say to the core's call of this number.
 #[tactic(auto, using(crate::proofs::CallOrder::read_next))]
-fn read_next(alloc: Global, core: &AnyCore, number: u64, bytes: &[u8]) -> AnswerRead
-    ensures { IsReadNext (core_of core.now) number bytes.now result }
+fn read_next(
+    dialect: Dialect,
+    alloc: Global,
+    core: &AnyCore,
+    number: u64,
+    bytes: &[u8],
+) -> AnswerRead
+    ensures { IsReadNext dialect (core_of core.now) number bytes.now result }
 {
     match core.asked(number) {
         None => AnswerRead::Foreign,
-        Some(ask) => read_for(alloc, ask, bytes),
+        Some(ask) => read_for(dialect, alloc, ask, bytes),
     }
 }
 
@@ -105,27 +147,30 @@ impl LinkCalls {
         }
     }
 
-    // The number of the call that went out first.
-    fn first_number(&self) -> Option<u64>
-        ensures { result ≡ first_number self.now.sent.items }
+    // The number of the call that went out first, and the dialect in which it was asked.
+    fn first_asked(&self) -> Option<(u64, Dialect)>
+        ensures { result ≡ first_asked self.now.sent.items }
     {
         match self.sent.front() {
             None => None,
-            Some(call) => Some(call.ticket.number),
+            Some(call) => Some((call.ticket.number, call.dialect)),
         }
     }
 
-    /// The call's ask is written behind what is to be sent, and the call is behind those that are out.
+    /// The call's ask is written in its dialect behind what is to be sent, and the call is behind those that are out.
     ///
     /// Where memory was refused the call is given back, and nothing has changed.
     ///
     /// Source: mcgate's own.
     pub fn begin(&mut self, call: SentCall, out: &mut BytesMut) -> Result<(), SentCall>
-        ensures ok { OnOk result ((self.new.sent.items ≡ self.old.sent.items ++ call ∷ []) × (out.new.items ≡ out.old.items ++ spelling_of call.ticket.ask)) }
+        ensures ok { OnOk result ((self.new.sent.items ≡ self.old.sent.items ++ call ∷ []) × (out.new.items ≡ out.old.items ++ spelling_of (asked_in call.dialect call.ticket.ask))) }
         ensures err { IfErr result (λ given. (given ≡ call) × (self.new.sent.items ≡ self.old.sent.items) × (out.new.items ≡ out.old.items)) }
     {
         let len = out.len();
-        if !is_ask(call.ticket.ask.get()) || write_ask(call.ticket.ask.get(), out).is_err() {
+        let dialect = call.dialect;
+        if !is_ask(call.ticket.ask.get())
+            || write_in(dialect, self.alloc, call.ticket.ask.get(), out).is_err()
+        {
             return Err(call);
         }
         match self.sent.push_back(call) {
@@ -153,18 +198,17 @@ impl LinkCalls {
         }
     }
 
-    /// The first of the calls that are out is settled by its answer, where the bytes begin with one: nothing else is, and the core
-    /// goes on by that alone. Without one nothing has changed.
+    /// The first of the calls that are out is settled by its answer, where the bytes begin with one, in the dialect in which it was
+    /// asked: nothing else is, and the core goes on by that alone. Without one nothing has changed.
     ///
     /// Source: mcgate's own.
-    #[tactic(auto, using(crate::proofs::CallOrder::fits_first))]
     pub fn settle_next(&mut self, core: &mut AnyCore, bytes: &[u8]) -> Next
         ensures { SettlesNext self.old.sent.items bytes.now core.old result self.new.sent.items core.new }
     {
-        let Some(number) = self.first_number() else {
+        let Some((number, dialect)) = self.first_asked() else {
             return Next::Foreign;
         };
-        match read_next(self.alloc, core, number, bytes) {
+        match read_next(dialect, self.alloc, core, number, bytes) {
             AnswerRead::More => Next::More,
             AnswerRead::Foreign => Next::Foreign,
             AnswerRead::Answer(answer, used) => {

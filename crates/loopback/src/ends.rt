@@ -13,7 +13,7 @@ use std::io::ErrorKind;
 use std::net::{IpAddr, Ipv4Addr, Net, SocketAddr};
 use std::rt::Clock;
 use std::time::Duration;
-use tcp_proxy::{ProxyEnd, Settings};
+use tcp_proxy::{ProxyEnd, ServerDialect, Settings};
 
 // How many clients a script has.
 const CLIENTS: usize = 64;
@@ -50,7 +50,7 @@ fn any_port() -> SocketAddr {
     SocketAddr::new(IpAddr::V4(Ipv4Addr::LOCALHOST), 0)
 }
 
-// One command at a time, and one call: so calls are made in the order in which a run of the script makes them. No call is ever late, and
+// One command at a time, and one call: so calls are made in the order in which a run of the script makes them, each as the client wrote it. No call is ever late, and
 // no server is held back.
 fn settings() -> Settings {
     Settings {
@@ -62,6 +62,7 @@ fn settings() -> Settings {
         fail_limit: u32::MAX,
         retry_ms: 0,
         polls: None,
+        server_dialect: ServerDialect::Classic,
     }
 }
 

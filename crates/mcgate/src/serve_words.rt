@@ -3,7 +3,7 @@
 use crate::arguments::{ArgumentsFault, Job, any_flag, count_of, help_flag, option};
 use clap::{ArgMatches, Command};
 use std::alloc::{AllocError, Global};
-use tcp_proxy::Settings;
+use tcp_proxy::{ServerDialect, Settings};
 
 /// What `mcgate serve` is to do.
 #[derive(Clone, Copy)]
@@ -37,6 +37,7 @@ opens, fails or comes back.
   --fail-limit N         the calls of a server that failed so many times in a row fail at once, 3
   --retry-ms N           for so long, and then one call tries, 1000
   --polls N              after so many reads of a server in a row without a whole answer its calls have failed; without it, any number
+  --server-dialect WORD  how servers are asked for classic gets: classic, meta, or auto, by what each answers to an mn; auto
   --reload-ms N          FILE is read again each N milliseconds; without it and the next one, it isn't
   --reload-every N       FILE is read again each N turns
   --turns N              ends after so many turns; without it, it doesn't end
@@ -64,6 +65,7 @@ pub fn serve_command<'a>(alloc: Global) -> Result<Command<'a>, AllocError> {
         .arg(option(alloc, "fail-limit"))?
         .arg(option(alloc, "retry-ms"))?
         .arg(option(alloc, "polls"))?
+        .arg(option(alloc, "server-dialect"))?
         .arg(option(alloc, "reload-every"))?
         .arg(option(alloc, "reload-ms"))?
         .arg(option(alloc, "turns"))?
@@ -80,6 +82,22 @@ fn millis_of(given: &ArgMatches<'_>, name: &str, usual: u64) -> Result<u64, Argu
     Ok(count_of(given, name)?.map_or(usual, u64::from))
 }
 
+// The dialect after its flag, or the usual one.
+fn dialect_of(
+    given: &ArgMatches<'_>,
+    usual: ServerDialect,
+) -> Result<ServerDialect, ArgumentsFault> {
+    let Some(word) = given.get_str("server-dialect") else {
+        return Ok(usual);
+    };
+    match word {
+        "auto" => Ok(ServerDialect::Auto),
+        "classic" => Ok(ServerDialect::Classic),
+        "meta" => Ok(ServerDialect::Meta),
+        _ => Err(ArgumentsFault::Refused),
+    }
+}
+
 fn settings_of(given: &ArgMatches<'_>) -> Result<Settings, ArgumentsFault> {
     let usual = Settings::usual();
     Ok(Settings {
@@ -91,6 +109,7 @@ fn settings_of(given: &ArgMatches<'_>) -> Result<Settings, ArgumentsFault> {
         fail_limit: count_of(given, "fail-limit")?.unwrap_or(usual.fail_limit),
         retry_ms: millis_of(given, "retry-ms", usual.retry_ms)?,
         polls: count_of(given, "polls")?,
+        server_dialect: dialect_of(given, usual.server_dialect)?,
     })
 }
 

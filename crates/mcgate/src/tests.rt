@@ -11,6 +11,7 @@ use std::alloc::{AllocError, Global};
 use std::io;
 use std::io::ErrorKind;
 use std::test::Fail;
+use tcp_proxy::ServerDialect;
 use text_input::{INPUT_LIMIT, InputFault, read_input};
 
 fn arguments_of(alloc: Global, words: &[&str]) -> Result<Vec<String>, AllocError> {
@@ -223,6 +224,35 @@ fn arguments_that_ask_to_serve(rt: HostRuntime) -> Result<(), Fail> {
         "6",
     ];
     assert!(rt; asks_to_serve(alloc, more.as_slice())? == Some((true, Some(4), Some(5), 6)));
+    Ok(())
+}
+
+// In which dialect words ask that servers be asked.
+fn dialect_asked(alloc: Global, word: &str) -> Result<Option<ServerDialect>, Fail> {
+    let words = [
+        "mcgate",
+        "serve",
+        "--listen",
+        "a:1",
+        "--config",
+        "c",
+        "--server-dialect",
+        word,
+    ];
+    let given = arguments_of(alloc, words.as_slice())?;
+    match read_arguments(alloc, given.as_slice()) {
+        Ok(Job::Serve(job)) => Ok(Some(job.settings.server_dialect)),
+        _ => Ok(None),
+    }
+}
+
+#[test]
+fn dialects_of_servers(rt: HostRuntime) -> Result<(), Fail> {
+    let alloc = rt.alloc();
+    assert!(rt; dialect_asked(alloc, "auto")? == Some(ServerDialect::Auto));
+    assert!(rt; dialect_asked(alloc, "classic")? == Some(ServerDialect::Classic));
+    assert!(rt; dialect_asked(alloc, "meta")? == Some(ServerDialect::Meta));
+    assert!(rt; dialect_asked(alloc, "old")?.is_none());
     Ok(())
 }
 

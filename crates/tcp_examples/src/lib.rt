@@ -5,6 +5,8 @@
 #[cfg(test)]
 mod caches;
 #[cfg(test)]
+mod dialects;
+#[cfg(test)]
 mod links;
 #[cfg(test)]
 mod proxies;

@@ -4,6 +4,7 @@ use bytes::BytesMut;
 use fresh_core::FreshCore;
 use fresh_gate::judge;
 use link_calls::{AnyCore, LinkCalls, Next, SentCall};
+use mc_types::Dialect;
 use proxy_core::{Limits, Poll, Ticket};
 use route_json::read_config;
 use std::alloc::Global;
@@ -28,27 +29,34 @@ fn core(alloc: Global) -> Result<AnyCore, Fail> {
 }
 
 // The client's next call goes out.
-fn sends(core: &mut AnyCore, calls: &mut LinkCalls, out: &mut BytesMut) -> bool {
+fn sends(core: &mut AnyCore, dialect: Dialect, calls: &mut LinkCalls, out: &mut BytesMut) -> bool {
     match core.poll(0) {
-        Ok(Poll::Call(ticket)) => is_sent(ticket, calls, out),
+        Ok(Poll::Call(ticket)) => is_sent(ticket, dialect, calls, out),
         _ => false,
     }
 }
 
-fn is_sent(ticket: Ticket, calls: &mut LinkCalls, out: &mut BytesMut) -> bool {
+fn is_sent(ticket: Ticket, dialect: Dialect, calls: &mut LinkCalls, out: &mut BytesMut) -> bool {
     let call = SentCall {
         ticket,
         client: 0,
         since: 7,
+        dialect,
     };
     calls.begin(call, out).is_ok()
 }
 
-fn two_gets(core: &mut AnyCore, calls: &mut LinkCalls, out: &mut BytesMut) -> bool {
+// The second one in this dialect.
+fn two_gets(
+    core: &mut AnyCore,
+    dialect: Dialect,
+    calls: &mut LinkCalls,
+    out: &mut BytesMut,
+) -> bool {
     core.open_client().is_ok()
         && core.feed(0, b"get a\r\nget b\r\n".as_slice()).is_ok()
-        && sends(core, calls, out)
-        && sends(core, calls, out)
+        && sends(core, Dialect::Classic, calls, out)
+        && sends(core, dialect, calls, out)
 }
 
 fn ends(core: &mut AnyCore) -> bool {
@@ -71,7 +79,7 @@ fn an_answer_and_a_foreign_one(rt: HostRuntime) -> Result<(), Fail> {
     let mut core = core(rt.alloc())?;
     let mut calls = LinkCalls::new(rt.alloc());
     let mut out = BytesMut::new(rt.alloc());
-    assert!(rt; two_gets(&mut core, &mut calls, &mut out));
+    assert!(rt; two_gets(&mut core, Dialect::Classic, &mut calls, &mut out));
     assert_eq!(rt; out.as_slice(), b"get a\r\nget b\r\n".as_slice());
     assert!(rt; calls.oldest() == Some(7));
     assert!(rt; matches!(calls.settle_next(&mut core, b"EN".as_slice()), Next::More));
@@ -92,5 +100,35 @@ fn an_answer_and_a_foreign_one(rt: HostRuntime) -> Result<(), Fail> {
     );
     assert!(rt; ends(&mut core) && ends(&mut core));
     assert!(rt; shows(&mut core, b"END\r\nSERVER_ERROR call failed\r\n".as_slice()));
+    Ok(())
+}
+
+// A server that told its dialects between two calls: each answer is read as its call was asked.
+#[test]
+fn a_get_in_each_dialect(rt: HostRuntime) -> Result<(), Fail> {
+    let mut core = core(rt.alloc())?;
+    let mut calls = LinkCalls::new(rt.alloc());
+    let mut out = BytesMut::new(rt.alloc());
+    assert!(rt; two_gets(&mut core, Dialect::Meta, &mut calls, &mut out));
+    assert_eq!(rt; out.as_slice(), b"get a\r\nmg b k f v\r\n".as_slice());
+    assert!(rt; settles_five(calls.settle_next(&mut core, b"END\r\nVA 1 kb f5\r\n".as_slice())));
+    assert!(rt;
+        matches!(
+            calls.settle_next(&mut core, b"VA 1 kb f5\r\n".as_slice()),
+            Next::More
+        )
+    );
+    let answer = b"VA 1 kb f5\r\nx\r\n".as_slice();
+    assert!(rt;
+        matches!(
+            calls.settle_next(&mut core, answer),
+            Next::Settled {
+                client: 0,
+                used: 15
+            }
+        )
+    );
+    assert!(rt; ends(&mut core) && ends(&mut core));
+    assert!(rt; shows(&mut core, b"END\r\nVALUE b 5 1\r\nx\r\nEND\r\n".as_slice()));
     Ok(())
 }

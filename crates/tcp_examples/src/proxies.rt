@@ -34,8 +34,12 @@ fn config(alloc: Global, text: &str) -> Result<Config, Fail> {
     }
 }
 
-// A proxy over as many of these servers as the configuration has, on its tree.
-fn proxy(rt: &HostRuntime, text: &str, servers: &[Option<SocketAddr>]) -> Result<ProxyEnd, Fail> {
+/// A proxy over as many of these servers as the configuration has, on its tree.
+pub fn proxy(
+    rt: &HostRuntime,
+    text: &str,
+    servers: &[Option<SocketAddr>],
+) -> Result<ProxyEnd, Fail> {
     let config = config(rt.alloc(), text)?;
     let servers = servers.get(..config.servers().len()).unwrap_or(servers);
     let Ok(accepted) = judge(rt.alloc(), config) else {
@@ -69,8 +73,8 @@ fn turn(rt: &HostRuntime, ends: &mut Ends) -> io::Result<()> {
     turn_cache(rt, &mut ends.second)
 }
 
-// One read. The answer is whether there is more to come.
-fn read_some(client: &mut TcpStream, given: &mut Vec<u8>) -> io::Result<bool> {
+/// One read. The answer is whether there is more to come.
+pub fn read_some(client: &mut TcpStream, given: &mut Vec<u8>) -> io::Result<bool> {
     let mut part = [0; 65_536];
     match client.read(&mut part) {
         Ok(count) => {

@@ -11,5 +11,5 @@ mod tally;
 
 pub use news::{Cause, LinkNews};
 pub use proxy::ProxyEnd;
-pub use settings::Settings;
+pub use settings::{ServerDialect, Settings};
 pub use tally::Tally;

@@ -1,10 +1,12 @@
 //! One server's link: its connection, if it has one, and the calls that are out.
 
 use crate::news::{Cause, LinkNews};
-use crate::settings::Settings;
+use crate::settings::{ServerDialect, Settings};
 use link_calls::LinkCalls;
+use mc_types::Dialect;
+use meta_asks::{DialectRead, read_dialect, write_noop};
 use mio::net::TcpStream;
-use std::alloc::Global;
+use std::alloc::{AllocError, Global};
 use std::net::SocketAddr;
 use tcp_socket::{Conn, Limits};
 
@@ -25,6 +27,14 @@ fn unconnected(cause: Cause) -> Cause {
     }
 }
 
+// In which dialect the first calls go out.
+fn first_dialect(dialect: ServerDialect) -> Dialect {
+    match dialect {
+        ServerDialect::Auto | ServerDialect::Classic => Dialect::Classic,
+        ServerDialect::Meta => Dialect::Meta,
+    }
+}
+
 /// One server's link.
 #[derive(Drop)]
 pub struct Link {
@@ -32,6 +42,10 @@ pub struct Link {
     pub address: Option<SocketAddr>,
     pub conn: Option<Conn<TcpStream>>,
     pub calls: LinkCalls,
+    /// In which dialect calls go out from now on.
+    pub dialect: Dialect,
+    /// Whether the answer to `mn` is still to come, before those to all calls.
+    pub awaits_dialect: bool,
     /// When the connection was begun, in milliseconds.
     pub opened: u64,
     /// Whether it has stood since.
@@ -59,6 +73,8 @@ impl Link {
             address,
             conn: None,
             calls: LinkCalls::new(alloc),
+            dialect: Dialect::Classic,
+            awaits_dialect: false,
             opened: 0,
             is_connected: false,
             failures: 0,
@@ -121,15 +137,44 @@ impl Link {
         }
     }
 
-    /// A connection was begun.
-    pub fn open(&mut self, alloc: Global, stream: TcpStream, now: u64) {
+    /// A connection was begun. Where its server is to tell its dialects, calls go out in the classic one until it has.
+    pub fn open(
+        &mut self,
+        alloc: Global,
+        stream: TcpStream,
+        now: u64,
+        dialect: ServerDialect,
+    ) -> Result<(), AllocError> {
         let mut conn = Conn::new(alloc, stream, LIMITS);
         conn.readable = false;
         conn.writable = false;
+        self.awaits_dialect = dialect == ServerDialect::Auto;
+        self.dialect = first_dialect(dialect);
+        if self.awaits_dialect {
+            write_noop(&mut conn.unsent)?;
+        }
         self.conn = Some(conn);
         self.opened = now;
         self.vain_reads = 0;
         self.is_connected = false;
+        Ok(())
+    }
+
+    /// What its server tells of its dialects is taken from its bytes, where that is still to come and whole. Whether it can be that.
+    pub fn learn(&mut self) -> bool {
+        let Some(conn) = self.conn.as_mut() else {
+            return true;
+        };
+        match read_dialect(conn.held.as_slice()) {
+            DialectRead::More => true,
+            DialectRead::Foreign => false,
+            DialectRead::Told(dialect, used) => {
+                conn.held.advance(used.min(conn.held.len()));
+                self.dialect = dialect;
+                self.awaits_dialect = false;
+                true
+            }
+        }
     }
 
     /// Its connection stands. Whether that is news.

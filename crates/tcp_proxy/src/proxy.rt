@@ -9,6 +9,7 @@ use crate::tally::Tally;
 use fresh_core::FreshCore;
 use fresh_gate::{Accepted, ReloadFault};
 use link_calls::{AnyCore, LoadFault, Next, SentCall, fail_call};
+use mc_types::Dialect;
 use mio::net::{TcpListener, TcpStream};
 use mio::{Events, Poll, Token};
 use proxy_core::{Core, CoreFault, Limits, Poll as Polled, Ticket};
@@ -504,13 +505,30 @@ impl ProxyEnd {
                 if link.stand() {
                     self.has_news = true;
                 }
-                self.settle_all(at)
+                self.learn_and_settle(at)
             }
         }
     }
 
-    // All whole answers are settled. Why the link fails by that, if it does.
-    fn settle_all(&mut self, at: usize) -> io::Result<Option<Cause>> {
+    // What the server tells of its dialects comes before all answers to calls. Why the link fails by that, if it does.
+    fn learn_and_settle(&mut self, at: usize) -> io::Result<Option<Cause>> {
+        let Some(link) = self.links.get_mut(at) else {
+            return Ok(None);
+        };
+        if !link.awaits_dialect {
+            return self.settle_all(at, false);
+        }
+        if !link.learn() {
+            return Ok(Some(Cause::Foreign));
+        }
+        if link.awaits_dialect {
+            return Ok(vain(link.has_read(false, self.settings.polls)));
+        }
+        self.settle_all(at, true)
+    }
+
+    // All whole answers are settled, behind another whole answer or not. Why the link fails by that, if it does.
+    fn settle_all(&mut self, at: usize, has_answered: bool) -> io::Result<Option<Cause>> {
         let Some(link) = self.links.get_mut(at) else {
             return Ok(None);
         };
@@ -538,7 +556,7 @@ impl ProxyEnd {
             }
         }
         conn.held.advance(used.min(conn.held.len()));
-        let has_failed = link.has_read(used > 0, self.settings.polls);
+        let has_failed = link.has_read(has_answered || used > 0, self.settings.polls);
         if !is_kept {
             return Ok(Some(Cause::Foreign));
         }
@@ -704,14 +722,22 @@ impl ProxyEnd {
         };
         match connect(net, &self.poll, address, LINKS.saturating_add(at)) {
             Ok(stream) => {
-                link.open(self.alloc, stream, self.now);
-                true
+                let dialect = self.settings.server_dialect;
+                link.open(self.alloc, stream, self.now, dialect).is_ok()
             }
             Err(_) => {
                 link.close(Cause::Unreachable, self.now, &self.settings);
                 self.has_news = true;
                 false
             }
+        }
+    }
+
+    // In which dialect its server is asked from now on.
+    fn dialect_of(&self, at: usize) -> Dialect {
+        match self.links.get(at) {
+            Some(link) => link.dialect,
+            None => Dialect::Classic,
         }
     }
 
@@ -725,6 +751,7 @@ impl ProxyEnd {
             ticket,
             client: id,
             since: self.now,
+            dialect: self.dialect_of(at),
         };
         match self.write_call(at, call) {
             None => Ok(self.mark_link_output(at)?),

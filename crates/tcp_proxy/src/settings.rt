@@ -1,6 +1,16 @@
 //! How many and how long.
 
-/// How many clients there may be, how many calls may be out, and how long is waited.
+/// In which dialect a server is asked for classic gets. All else is asked as the client wrote it.
+#[derive(Clone, Copy, PartialEq, Eq)]
+pub enum ServerDialect {
+    /// Each connection begins with an `mn`, whose answer tells.
+    Auto,
+    Classic,
+    /// As meta gets, whose answers memcached sends together.
+    Meta,
+}
+
+/// How many clients there may be, how many calls may be out, how long is waited, and how servers are asked.
 #[derive(Clone, Copy)]
 pub struct Settings {
     /// How many clients may be connected.
@@ -19,10 +29,12 @@ pub struct Settings {
     pub retry_ms: u64,
     /// After so many reads of a server in a row that brought no whole answer its calls have failed; without a number they may be any.
     pub polls: Option<u32>,
+    pub server_dialect: ServerDialect,
 }
 
 impl Settings {
-    /// 1,024 clients, 32 commands of each, 256 calls at each server, one second each time, three failures, and any number of reads.
+    /// 1,024 clients, 32 commands of each, 256 calls at each server, one second each time, three failures, any number of reads, and dialects
+    /// as servers tell.
     pub fn usual() -> Settings {
         Settings {
             clients: 1_024,
@@ -33,6 +45,7 @@ impl Settings {
             fail_limit: 3,
             retry_ms: 1_000,
             polls: None,
+            server_dialect: ServerDialect::Auto,
         }
     }
 }

@@ -1,0 +1,81 @@
+//! The meta form of an ask.
+
+ghost use Rattle.std.specs.Prelude.{◌≡◌, ◌++◌, IfOk, OnOk, OnErr};
+ghost use Rattle.mc_types.specs.Asks.{IsAsk};
+ghost use Rattle.client_requests.specs.Spelling.{spelling_of};
+ghost use Rattle.meta_asks.specs.Form.{is_retrieval, wanted, meta_form, in_meta};
+
+use bytes::BytesMut;
+use mc_types::{Ask, Body, Dialect, Op, Token, Tokens};
+use std::alloc::{AllocError, Global};
+use text_codec::write_ask;
+
+/// Whether it is a classic get: `get`, `gets`, `gat` or `gats` of one key.
+pub fn is_retrieval(ask: &Ask) -> bool
+    ensures { result ≡ is_retrieval ask.now }
+{
+    match (ask.dialect, ask.op) {
+        (Dialect::Classic, Op::Get) | (Dialect::Classic, Op::Gat) => true,
+        _ => false,
+    }
+}
+
+fn wanted(alloc: Global, with_cas: bool) -> Result<Tokens, AllocError>
+    ensures { IfOk result (λ tokens. tokens ≡ wanted with_cas) }
+{
+    let mut tokens = Tokens::new(alloc);
+    tokens.push(Token::Key)?;
+    tokens.push(Token::Flags)?;
+    tokens.push(Token::Value)?;
+    if with_cas {
+        tokens.push(Token::Cas)?;
+    }
+    Ok(tokens)
+}
+
+/// The meta form of a classic get. The only error is running out of memory.
+pub fn meta_form(alloc: Global, ask: &Ask) -> Result<Ask, AllocError>
+    ensures { IfOk result (λ form. form ≡ meta_form ask.now) }
+{
+    let tokens = wanted(alloc, ask.with_cas)?;
+    Ok(Ask {
+        key: ask.key,
+        op: ask.op,
+        dialect: Dialect::Meta,
+        with_cas: false,
+        flags: 0,
+        exptime: ask.exptime,
+        body: Body::empty(),
+        cas: None,
+        delta: 0,
+        tokens,
+    })
+}
+
+// The form is written and dropped.
+fn write_form(form: Ask, out: &mut BytesMut) -> Result<(), AllocError>
+    requires { IsAsk form }
+    ensures ok { OnOk result (out.new.items ≡ out.old.items ++ spelling_of form) }
+    ensures err { OnErr result (out.new.items ≡ out.old.items) }
+{
+    write_ask(&form, out)
+}
+
+/// Appends what a server is asked that speaks the meta dialect: for a classic get its meta form, `mg K k f v`, with `c` for `gets`
+/// and `T` for `gat`, and for any other ask what [`write_ask`] does.
+///
+/// The only error is running out of memory, which leaves the buffer as it was.
+///
+/// Source: memcached's protocol.txt, "Meta Get"; the order of the flags is mcgate's own.
+#[tactic(auto, using(crate::proofs::Forms::form_is_ask))]
+pub fn write_in_meta(alloc: Global, ask: &Ask, out: &mut BytesMut) -> Result<(), AllocError>
+    requires { IsAsk ask.now }
+    ensures ok { OnOk result (out.new.items ≡ out.old.items ++ spelling_of (in_meta ask.now)) }
+    ensures err { OnErr result (out.new.items ≡ out.old.items) }
+{
+    if !is_retrieval(ask) {
+        return write_ask(ask, out);
+    }
+    let form = meta_form(alloc, ask)?;
+    write_form(form, out)
+}

@@ -1,0 +1,15 @@
+//! Classic gets, asked of a server in the meta dialect.
+//!
+//! memcached sends the answers to pipelined meta gets together, and each answer to a classic one by itself. So a server that speaks
+//! both is asked `mg` for `get`, and its answer is read as the classic one that says the same ([`write_in_meta`], [`read_in_meta`]).
+//! Whether it does is learnt by an `mn` ([`write_noop`], [`read_dialect`]).
+#![tactic(auto)]
+
+pub mod dialect;
+pub mod form;
+pub mod laws;
+pub mod reader;
+
+pub use dialect::{DialectRead, read_dialect, write_noop};
+pub use form::write_in_meta;
+pub use reader::read_in_meta;
