@@ -4,8 +4,8 @@ ghost use Rattle.std.specs.Prelude.{◌≡◌, IfOk};
 ghost use Rattle.route_tree.specs.Form.{routes_of, policies_of};
 ghost use Rattle.coverage.specs.Doubted.{doubts, doubts_each, doubts_first, doubts_head, doubts_policy, with_doubted, doubted_pools};
 
-use crate::prefixes::longest;
 use crate::pools::Pool;
+use crate::prefixes::longest;
 use crate::standing::standing;
 use crate::stores::is_op;
 use mc_types::Op;
