@@ -5,8 +5,6 @@
 #[cfg(test)]
 mod caches;
 #[cfg(test)]
-mod dialects;
-#[cfg(test)]
 mod links;
 #[cfg(test)]
 mod proxies;

@@ -1,4 +1,4 @@
-//! A proxy over two cache servers: what a client is answered, also where a server is gone.
+//! A proxy over two cache servers: what a client is answered.
 
 use fresh_gate::judge;
 use route_json::{Config, read_config};
@@ -127,10 +127,6 @@ fn pool() -> &'static str {
     r#"{"pools":{"A":{"servers":["a:1","b:1"]}},"route":"PoolRoute|A"}"#
 }
 
-fn failover() -> &'static str {
-    r#"{"pools":{"A":{"servers":["a:1"]},"B":{"servers":["b:1"]}},"route":{"type":"OperationSelectorRoute","default_policy":{"type":"FailoverRoute","children":["PoolRoute|A","PoolRoute|B"]},"operation_policies":{"delete":{"type":"AllSyncRoute","children":["PoolRoute|A","PoolRoute|B"]}}}}"#
-}
-
 #[test]
 fn first_path(rt: HostRuntime) -> Result<(), Fail> {
     let mut ends = make_ends(&rt, pool())?;
@@ -148,27 +144,6 @@ fn first_path(rt: HostRuntime) -> Result<(), Fail> {
             "{piece}"
         );
     }
-    Ok(())
-}
-
-// A delete that must reach both servers isn't acknowledged while one is gone, and a get is answered by the other.
-#[test]
-fn all_sync_delete_over_failover(rt: HostRuntime) -> Result<(), Fail> {
-    let mut ends = make_ends(&rt, failover())?;
-    let mut client = connect(&rt, &ends)?;
-    assert!(rt;
-        answers(
-            &rt,
-            &mut ends,
-            &mut client,
-            "set a 0 0 1\r\n7\r\n",
-            "STORED\r\n"
-        )?
-    );
-    ends.second = None;
-    let failed = "SERVER_ERROR call failed\r\n";
-    assert!(rt; answers(&rt, &mut ends, &mut client, "delete a\r\n", failed)?);
-    assert!(rt; answers(&rt, &mut ends, &mut client, "get a\r\n", "END\r\n")?);
     Ok(())
 }
 
