@@ -9,6 +9,7 @@ use Rattle.route_tree.specs.Route.{Route}
 use Rattle.route_tree.specs.Direct.{words_of}
 use Rattle.route_json.specs.Configuration.{Configuration}
 use Rattle.fresh_gate.specs.Sound.{AreGenerations, GenerationsAreFresh, IsLast, trees_of}
+use Rattle.memory_fleet.specs.declared.fleet.MemoryFleet.{MemoryFleet}
 use Rattle.fleet_run.specs.declared.script.Transcript.{Transcript}
 use Rattle.fleet_run.specs.declared.script.Report.{Report}
 use Rattle.fleet_run.specs.declared.script.DriveFault.{DriveFault}
@@ -41,12 +42,12 @@ drives_freshly tree events given report law d =
     let is_fresh : IsFresh (opening_of events) (run_of d.log) = law (opening_of events) (run_of d.log) d.run in
     record { drives = d; fresh = is_fresh; none_stale = d.stale ∙ fresh_has_none (words_of tree) (opening_of events) (run_of d.log) d.run is_fresh }
 
-part_freshly : (tree : Route) (events : List Scripted) (given : List Shown) → RunsAreFresh (words_of tree) → DrivesPart tree events given → DrivesPartFreshly tree events given
-part_freshly tree events given law p =
+part_freshly : (tree : Route) (events : List Scripted) (given : List Shown) (fleet : MemoryFleet) → RunsAreFresh (words_of tree) → DrivesPart tree events given fleet → DrivesPartFreshly tree events given fleet
+part_freshly tree events given fleet law p =
     let opening = opening_of (take p.count events) in
     record { part = p; fresh = law opening (run_of p.log) (runs _ (words_of tree) opening p.log p.follows) }
 
-pub ends_freshly : (tree : Route) (events : List Scripted) (transcript : Transcript) (fault : DriveFault) → RunsAreFresh (words_of tree) → EndsAsFault tree events transcript fault → EndsFreshly tree events transcript fault
-ends_freshly tree events transcript (BadEvent index) law e = e
-ends_freshly tree events transcript NoMemory law e = part_freshly tree events (transcript_of transcript) law e
-ends_freshly tree events transcript Spent law e = part_freshly tree events (transcript_of transcript) law e
+pub ends_freshly : (tree : Route) (events : List Scripted) (transcript : Transcript) (fleet : MemoryFleet) (fault : DriveFault) → RunsAreFresh (words_of tree) → EndsAsFault tree events transcript fleet fault → EndsFreshly tree events transcript fleet fault
+ends_freshly tree events transcript fleet (BadEvent index) law e = e
+ends_freshly tree events transcript fleet NoMemory law e = part_freshly tree events (transcript_of transcript) fleet law e
+ends_freshly tree events transcript fleet Spent law e = part_freshly tree events (transcript_of transcript) fleet law e

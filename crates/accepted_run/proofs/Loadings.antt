@@ -17,6 +17,7 @@ use Rattle.fresh_gate.specs.Reload.{AreKept, KeepsNumbers, IsReloadFault}
 use Rattle.fresh_gate.specs.declared.reloading.ReloadFault.{ReloadFault}
 use Rattle.fresh_gate.specs.declared.reloading.ReloadFault.TheVariants as faults
 use Rattle.fresh_gate.specs.Sound.{AreGenerations, GenerationsAreFresh, IsLast, trees_of}
+use Rattle.memory_fleet.specs.declared.fleet.MemoryFleet.{MemoryFleet}
 use Rattle.fleet_run.specs.declared.script.Reload.{Reload}
 use Rattle.fleet_run.specs.declared.script.Report.{Report}
 use Rattle.fleet_run.specs.declared.script.Transcript.{Transcript}
@@ -201,12 +202,12 @@ module _ (law : GenerationsAreFresh) (configs configs' : List Configuration) (rs
       let is_fresh : IsFresh (opening_of events) (run_of d.log) = reloads_fresh law configs configs' rs ls c d.begun judged are some last (opening_of events) (run_of d.log) d.run in
       record { drives = d; fresh = is_fresh; none_stale = d.stale ∙ fresh_has_none (words_by (tree_of_each c.tree (map is_refused ls) rs d.begun)) (opening_of events) (run_of d.log) d.run is_fresh }
 
-  part_freshly : (given : List Shown) (marks : List ℕ) → DrivesPartBy c.tree (map is_refused ls) rs events given marks → ReloadsPartFreshly c.tree ls rs events given marks
-  part_freshly given marks p =
+  part_freshly : (given : List Shown) (marks : List ℕ) (fleet : MemoryFleet) → DrivesPartBy c.tree (map is_refused ls) rs events given marks fleet → ReloadsPartFreshly c.tree ls rs events given marks fleet
+  part_freshly given marks fleet p =
       let opening = opening_of (take p.count events) in
       record { part = p; fresh = reloads_fresh law configs configs' rs ls c p.begun judged are some last opening (run_of p.log) (runs _ (words_by (tree_of_each c.tree (map is_refused ls) rs p.begun)) opening p.log p.follows) }
 
-  pub ends_reloads : (t : Transcript) (marks : List ℕ) (fault : DriveFault) → EndsBy c.tree (map is_refused ls) rs events t marks fault → EndsReloads c.tree ls rs events t marks fault
-  ends_reloads t marks (BadEvent index) e = e
-  ends_reloads t marks NoMemory e = part_freshly (transcript_of t) marks e
-  ends_reloads t marks Spent e = part_freshly (transcript_of t) marks e
+  pub ends_reloads : (t : Transcript) (marks : List ℕ) (fleet : MemoryFleet) (fault : DriveFault) → EndsBy c.tree (map is_refused ls) rs events t marks fleet fault → EndsReloads c.tree ls rs events t marks fleet fault
+  ends_reloads t marks fleet (BadEvent index) e = e
+  ends_reloads t marks fleet NoMemory e = part_freshly (transcript_of t) marks fleet e
+  ends_reloads t marks fleet Spent e = part_freshly (transcript_of t) marks fleet e

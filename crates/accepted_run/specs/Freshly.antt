@@ -5,6 +5,7 @@ use Rattle.mc_runs.specs.Log.{Shown, run_of}
 use Rattle.route_tree.specs.Route.{Route}
 use Rattle.route_json.specs.Configuration.{Configuration}
 use Rattle.fresh_gate.specs.Sound.{IsLast}
+use Rattle.memory_fleet.specs.declared.fleet.MemoryFleet.{MemoryFleet}
 use Rattle.fleet_run.specs.declared.script.Transcript.{Transcript}
 use Rattle.fleet_run.specs.declared.script.Report.{Report}
 use Rattle.fleet_run.specs.declared.script.DriveFault.{DriveFault}
@@ -23,13 +24,13 @@ pub record DrivesFreshly (tree : Route) (events : List Scripted) (given : List S
   pub fresh : IsFresh (opening_of events) (run_of drives.log)
   pub none_stale : report.stale ≡ 0
 
--- a part of it ran, and that part's run is fresh
-pub record DrivesPartFreshly (tree : Route) (events : List Scripted) (given : List Shown) : Type 0 where
-  pub part : DrivesPart tree events given
+-- a part of it ran, and the run of all that was done is fresh
+pub record DrivesPartFreshly (tree : Route) (events : List Scripted) (given : List Shown) (fleet : MemoryFleet) : Type 0 where
+  pub part : DrivesPart tree events given fleet
   pub fresh : IsFresh (opening_of (take part.count events)) (run_of part.log)
 
 -- what a fault leaves
-abbrev pub EndsFreshly : Route → List Scripted → Transcript → DriveFault → Type 0
-EndsFreshly tree events transcript (BadEvent index) = EndsAsFault tree events transcript (BadEvent index)
-EndsFreshly tree events transcript NoMemory = DrivesPartFreshly tree events (transcript_of transcript)
-EndsFreshly tree events transcript Spent = DrivesPartFreshly tree events (transcript_of transcript)
+abbrev pub EndsFreshly : Route → List Scripted → Transcript → MemoryFleet → DriveFault → Type 0
+EndsFreshly tree events transcript fleet (BadEvent index) = EndsAsFault tree events transcript fleet (BadEvent index)
+EndsFreshly tree events transcript fleet NoMemory = DrivesPartFreshly tree events (transcript_of transcript) fleet
+EndsFreshly tree events transcript fleet Spent = DrivesPartFreshly tree events (transcript_of transcript) fleet

@@ -9,6 +9,7 @@ use Rattle.fresh_gate.specs.Sound.{IsLast, trees_of}
 use Rattle.fresh_gate.specs.Reload.{AreKept, IsReloadFault}
 use Rattle.fresh_gate.specs.declared.reloading.ReloadFault.{ReloadFault}
 use Rattle.fresh_gate.specs.declared.reloading.ReloadFault.TheVariants as faults
+use Rattle.memory_fleet.specs.declared.fleet.MemoryFleet.{MemoryFleet}
 use Rattle.fleet_run.specs.declared.script.Reload.{Reload}
 use Rattle.fleet_run.specs.declared.script.Transcript.{Transcript}
 use Rattle.fleet_run.specs.declared.script.Report.{Report}
@@ -68,13 +69,13 @@ pub record ReloadsFreshly (first : Route) (loadings : List Loading) (reloads : L
   pub fresh : IsFresh (opening_of events) (run_of drives.log)
   pub none_stale : report.stale ≡ 0
 
--- a part of it ran so, and that part's run is fresh
-pub record ReloadsPartFreshly (first : Route) (loadings : List Loading) (reloads : List Reload) (events : List Scripted) (given : List Shown) (marks : List ℕ) : Type 0 where
-  pub part : DrivesPartBy first (map is_refused loadings) reloads events given marks
+-- a part of it ran so, and the run of all that was done is fresh
+pub record ReloadsPartFreshly (first : Route) (loadings : List Loading) (reloads : List Reload) (events : List Scripted) (given : List Shown) (marks : List ℕ) (fleet : MemoryFleet) : Type 0 where
+  pub part : DrivesPartBy first (map is_refused loadings) reloads events given marks fleet
   pub fresh : IsFresh (opening_of (take part.count events)) (run_of part.log)
 
 -- what a fault leaves
-abbrev pub EndsReloads : Route → List Loading → List Reload → List Scripted → Transcript → List ℕ → DriveFault → Type 0
-EndsReloads first loadings reloads events transcript marks (BadEvent index) = EndsBy first (map is_refused loadings) reloads events transcript marks (BadEvent index)
-EndsReloads first loadings reloads events transcript marks NoMemory = ReloadsPartFreshly first loadings reloads events (transcript_of transcript) marks
-EndsReloads first loadings reloads events transcript marks Spent = ReloadsPartFreshly first loadings reloads events (transcript_of transcript) marks
+abbrev pub EndsReloads : Route → List Loading → List Reload → List Scripted → Transcript → List ℕ → MemoryFleet → DriveFault → Type 0
+EndsReloads first loadings reloads events transcript marks fleet (BadEvent index) = EndsBy first (map is_refused loadings) reloads events transcript marks fleet (BadEvent index)
+EndsReloads first loadings reloads events transcript marks fleet NoMemory = ReloadsPartFreshly first loadings reloads events (transcript_of transcript) marks fleet
+EndsReloads first loadings reloads events transcript marks fleet Spent = ReloadsPartFreshly first loadings reloads events (transcript_of transcript) marks fleet

@@ -36,7 +36,7 @@ pub fn drive(
     requires transcript { transcript.old.shown.items ≡ [] }
     ensures refuses { InUse accepted.now (λ config. MatchResult result (λ _. first_bad (length config.servers) (map scripted_of script.now.events.items) ≡ None) (Refuses (length config.servers) script.now)) }
     ensures ok { InUse accepted.now (λ config. IfOk result (DrivesFreshly config.tree (map scripted_of script.now.events.items) (transcript_of transcript.new))) }
-    ensures fault { InUse accepted.now (λ config. IfErr result (EndsFreshly config.tree (map scripted_of script.now.events.items) transcript.new)) }
+    ensures fault { InUse accepted.now (λ config. IfErr result (EndsFreshly config.tree (map scripted_of script.now.events.items) transcript.new fleet.new)) }
     ensures spent { IfErr result (λ fault. IsSpent fault fleet.new) }
     ensures kept { IfErr result (λ fault. IsKept fault fleet.old fleet.new) }
 {
@@ -73,7 +73,7 @@ pub fn drive_judged(
     requires marks { marks.old.items ≡ [] }
     ensures refuses { MatchResult result (λ _. first_bad (count_of fleet.old) (map scripted_of script.now.events.items) ≡ None) (Refuses (count_of fleet.old) script.now) }
     ensures ok { IfOk result (λ report. ReloadsFreshly first.now.tree judged.now.loadings.items reloads.now (map scripted_of script.now.events.items) (transcript_of transcript.new) marks.new.items report) }
-    ensures fault { IfErr result (λ fault. EndsReloads first.now.tree judged.now.loadings.items reloads.now (map scripted_of script.now.events.items) transcript.new marks.new.items fault) }
+    ensures fault { IfErr result (λ fault. EndsReloads first.now.tree judged.now.loadings.items reloads.now (map scripted_of script.now.events.items) transcript.new marks.new.items fleet.new fault) }
     ensures spent { IfErr result (λ fault. IsSpent fault fleet.new) }
     ensures kept { IfErr result (λ fault. IsKept fault fleet.old fleet.new) }
 {

@@ -62,8 +62,8 @@ fn done(
     }
 }
 
-/// The answer to a meta ask with these return flags, by what the call finds and changes. The only error is want of
-/// memory.
+/// The answer to a meta ask with these return flags, by what the call finds and changes. The only error is running out
+/// of memory.
 ///
 /// `held` is what is held of the key before the call, and `counter` the last cas number. What is shown is the entry that
 /// the call leaves, so the seconds left are those after a new expiry was set.

@@ -5,7 +5,7 @@ use Rattle.std.specs.Int.{◌∣◌}
 use Rattle.route_tree.specs.Each.{Each}
 use Rattle.route_tree.specs.Plan.{Plan}
 use Rattle.route_tree.specs.Route.{Route}
-use Rattle.route_tree.specs.At.{left_of}
+use Rattle.route_tree.specs.At.{plain_for}
 use Rattle.route_tree.specs.Place.{sizes, prefix_text}
 use Rattle.route_tree.proofs.Places.{each_left}
 use Rattle.certificates.specs.declared.table.Class.{Class}
@@ -44,9 +44,9 @@ valid_where_covered tree m class rows is p residue lt covers =
     let below : residue % k < k = omega (arith, some) in
     let text = prefix_text class.prefix in
     let common : Each (λ n. n ∣ k) (sizes (resolved text tree)) = each_left (λ n. n ∣ k) (sizes (resolved text tree)) [] is.common in
-    let plain : left_of residue text tree ≡ left_of (residue % k) text tree = same_left text tree k residue common in
+    let plain : plain_for residue text tree ≡ plain_for (residue % k) text tree = same_left text tree k residue common in
     let row : row_at rows residue ≡ run_at [] rows.runs.items (residue % k) = ap (λ (n : ℕ). run_at [] rows.runs.items (residue % n)) p.0.0 in
-    subst (λ (x : Plan). IsValidRow x (row_at rows residue)) (sym plain) (subst (λ (x : List ℕ). IsValidRow (left_of (residue % k) text tree) x) (sym row) (p.1 (residue % k) below (subst (λ (x : Plan). Covers x x) plain covers)))
+    subst (λ (x : Plan). IsValidRow x (row_at rows residue)) (sym plain) (subst (λ (x : List ℕ). IsValidRow (plain_for (residue % k) text tree) x) (sym row) (p.1 (residue % k) below (subst (λ (x : Plan). Covers x x) plain covers)))
 
 pub each_valid : (tree : Route) (m : ℕ) (cs : List Class) (rs : List ClassRows) → Each (IsClass (tree ∷ [])) cs → EachClass (AreProposed tree m) cs rs → EachClass (AreValidWhereCovered tree m) cs rs
 each_valid tree m [] [] are h = tt

@@ -16,7 +16,7 @@ use Rattle.certificates.specs.Proposed.{IsValidIfCovered}
 use Rattle.coverage.proofs.SomeTaken.{takes, taken_takes}
 use Rattle.coverage.proofs.TakenPools.{pools_are_taken}
 use Rattle.route_tree.specs.Route.{Route}
-use Rattle.route_tree.specs.At.{left_of}
+use Rattle.route_tree.specs.At.{plain_for}
 
 put_behind : (x : ℕ) (xs : List ℕ) (s : ℕ) (o : Option ℕ) → put_number (x ∷ xs) s (one_more o) ≡ x ∷ put_number xs s o
 put_behind x xs s None = refl
@@ -101,9 +101,9 @@ has_with (x ∷ xs) s t =
 
 -- ---- what is proposed
 
-pub valid_if_covered : (text : List ℕ) (tree : Route) (residue : ℕ) (row : List ℕ) → IsGood (left_of residue text tree) → IsRowOf residue (taken_pools text tree) row → IsValidIfCovered (left_of residue text tree) row
+pub valid_if_covered : (text : List ℕ) (tree : Route) (residue : ℕ) (row : List ℕ) → IsGood (plain_for residue text tree) → IsRowOf residue (taken_pools text tree) row → IsValidIfCovered (plain_for residue text tree) row
 valid_if_covered text tree residue row good h covers =
-    let plain = left_of residue text tree in
+    let plain = plain_for residue text tree in
     let those : (s : ℕ) → has row s ≡ is_taken plain s = λ s. h.holds s ∙ pools_are_taken text residue s tree in
     record {
       rising = h.rising;

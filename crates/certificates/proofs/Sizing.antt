@@ -50,25 +50,25 @@ module _ (P : ℕ → Type 0) (text : List ℕ) where
     sizes_left (Server s) h = tt
     sizes_left Null h = tt
     sizes_left Failing h = tt
-    sizes_left (AllSync rs) h = left_of_all rs h
-    sizes_left (Failover rs) h = left_of_all rs h
-    sizes_left (MissFailover rs) h = left_of_all rs h
+    sizes_left (AllSync rs) h = plain_for_all rs h
+    sizes_left (Failover rs) h = plain_for_all rs h
+    sizes_left (MissFailover rs) h = plain_for_all rs h
     sizes_left (WarmUp c w e) h = each_append P (sizes (resolved text c)) (sizes (resolved text w)) (sizes_left c (each_left P (sizes c) (sizes w) h)) (sizes_left w (each_right P (sizes c) (sizes w) h))
-    sizes_left (ByOperation ps) h = left_of_policies ps h
-    sizes_left (ByPrefix ps) h = left_of_prefixes ps None tt h
+    sizes_left (ByOperation ps) h = plain_for_policies ps h
+    sizes_left (ByPrefix ps) h = plain_for_prefixes ps None tt h
 
-    left_of_all : (rs : Routes) → Each P (sizes_of_all rs) → Each P (sizes_of_all (resolved_all text rs))
-    left_of_all End h = tt
-    left_of_all (More r rs) h = each_append P (sizes (resolved text r)) (sizes_of_all (resolved_all text rs)) (sizes_left r (each_left P (sizes r) (sizes_of_all rs) h)) (left_of_all rs (each_right P (sizes r) (sizes_of_all rs) h))
+    plain_for_all : (rs : Routes) → Each P (sizes_of_all rs) → Each P (sizes_of_all (resolved_all text rs))
+    plain_for_all End h = tt
+    plain_for_all (More r rs) h = each_append P (sizes (resolved text r)) (sizes_of_all (resolved_all text rs)) (sizes_left r (each_left P (sizes r) (sizes_of_all rs) h)) (plain_for_all rs (each_right P (sizes r) (sizes_of_all rs) h))
 
-    left_of_policies : (ps : Policies) → Each P (sizes_of_policies ps) → Each P (sizes_of_policies (resolved_policies text ps))
-    left_of_policies (Otherwise r) h = sizes_left r h
-    left_of_policies (Policy op r ps) h = each_append P (sizes (resolved text r)) (sizes_of_policies (resolved_policies text ps)) (sizes_left r (each_left P (sizes r) (sizes_of_policies ps) h)) (left_of_policies ps (each_right P (sizes r) (sizes_of_policies ps) h))
+    plain_for_policies : (ps : Policies) → Each P (sizes_of_policies ps) → Each P (sizes_of_policies (resolved_policies text ps))
+    plain_for_policies (Otherwise r) h = sizes_left r h
+    plain_for_policies (Policy op r ps) h = each_append P (sizes (resolved text r)) (sizes_of_policies (resolved_policies text ps)) (sizes_left r (each_left P (sizes r) (sizes_of_policies ps) h)) (plain_for_policies ps (each_right P (sizes r) (sizes_of_policies ps) h))
 
-    left_of_prefixes : (ps : Prefixes) (best : Option (List ℕ × Route)) → BestHas best → Each P (sizes_of_prefixes ps) → Each P (sizes (resolved_prefixes text ps best))
-    left_of_prefixes (Wildcard r) None k h = sizes_left r h
-    left_of_prefixes (Wildcard r) (Some best) k h = k
-    left_of_prefixes (Prefix p r ps) best k h = left_of_prefixes ps _ (best_has (begins p text && is_longer p best) p (resolved text r) best (sizes_left r (each_left P (sizes r) (sizes_of_prefixes ps) h)) k) (each_right P (sizes r) (sizes_of_prefixes ps) h)
+    plain_for_prefixes : (ps : Prefixes) (best : Option (List ℕ × Route)) → BestHas best → Each P (sizes_of_prefixes ps) → Each P (sizes (resolved_prefixes text ps best))
+    plain_for_prefixes (Wildcard r) None k h = sizes_left r h
+    plain_for_prefixes (Wildcard r) (Some best) k h = k
+    plain_for_prefixes (Prefix p r ps) best k h = plain_for_prefixes ps _ (best_has (begins p text && is_longer p best) p (resolved text r) best (sizes_left r (each_left P (sizes r) (sizes_of_prefixes ps) h)) k) (each_right P (sizes r) (sizes_of_prefixes ps) h)
 
 abbrev IsSize : ℕ → Type 0
 IsSize n = (0 < n) × (n ≤ 2048)

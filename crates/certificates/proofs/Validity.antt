@@ -3,7 +3,7 @@ use Rattle.std.proofs.Common.{◌≡◌, ℕ, ◌%◌, ◌<◌, List, [], ◌∷
 use Rattle.std.specs.Int.{◌∣◌}
 use Rattle.route_tree.specs.Each.{Each, IsIn}
 use Rattle.route_tree.specs.Route.{Route}
-use Rattle.route_tree.specs.At.{left_of}
+use Rattle.route_tree.specs.At.{plain_for}
 use Rattle.route_tree.specs.Place.{sizes, prefixes, prefix_text, IsLeastCommonMultiple, tree_at_place}
 use Rattle.route_tree.proofs.Places.{each_append, each_left}
 use Rattle.certificates.specs.declared.table.Class.{Class}
@@ -74,6 +74,6 @@ looks_are_enough tree modulus class rows is shaped looks residue lt =
     let below : residue % m < m = omega arith in
     let text = prefix_text class.prefix in
     let common : Each (λ n. n ∣ m) (sizes (resolved text tree)) = each_left (λ n. n ∣ m) (sizes (resolved text tree)) [] is.common in
-    let plain : left_of residue text tree ≡ left_of (residue % m) text tree = same_left text tree m residue common in
+    let plain : plain_for residue text tree ≡ plain_for (residue % m) text tree = same_left text tree m residue common in
     let row : row_at rows residue ≡ run_at [] rows.runs.items (residue % m) = ap (λ n. run_at [] rows.runs.items (residue % n)) shaped.0 in
-    subst (λ p. IsValidRow p (row_at rows residue)) (sym plain) (subst (IsValidRow (left_of (residue % m) text tree)) (sym row) (looks (residue % m) below))
+    subst (λ p. IsValidRow p (row_at rows residue)) (sym plain) (subst (IsValidRow (plain_for (residue % m) text tree)) (sym row) (looks (residue % m) below))

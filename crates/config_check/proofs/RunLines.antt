@@ -15,7 +15,7 @@ line_both : (xs ys : List Scripted) → HaveLines xs → HaveLines ys → HaveLi
 line_both [] ys h k = k
 line_both (x ∷ xs) ys h k = (h.0, line_both xs ys h.1 k)
 
--- events, and one more behind them
+-- events, and one more after them
 one_more : (xs : List Scripted) (x : Scripted) → (HaveWidths xs → HaveLines xs) → (HasWidths x → HasLine x) → HaveWidths (xs ++ x ∷ []) → HaveLines (xs ++ x ∷ [])
 one_more xs x front last h = let parts = wide_both xs (x ∷ []) h in line_both xs (x ∷ []) (front parts.0) (last parts.1.0, tt)
 

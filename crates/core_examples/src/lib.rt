@@ -10,3 +10,5 @@ mod fresh_cores;
 mod polls;
 #[cfg(test)]
 mod results;
+#[cfg(test)]
+mod stage;

@@ -5,9 +5,9 @@ use Rattle.mc_types.specs.declared.ask.Op.TheVariants.{Add}
 use Rattle.route_tree.specs.Operation.{same_op}
 use Rattle.route_tree.specs.Plan.{Plan, Plans, PlanPolicies}
 use Rattle.route_tree.specs.Route.{Route, Routes, Policies, Prefixes, Pool, Server, Null, Failing, AllSync, Failover, MissFailover, WarmUp, ByOperation, ByPrefix, End, More, Otherwise, Policy, Wildcard, Prefix}
-use Rattle.route_tree.specs.At.{begins, is_longer, left_of, left_of_all, left_of_policies}
+use Rattle.route_tree.specs.At.{begins, is_longer, plain_for, plain_for_all, plain_for_policies}
 use Rattle.route_tree.specs.Chosen.{chosen}
-use Rattle.route_tree.proofs.Left.{left_of_chosen}
+use Rattle.route_tree.proofs.PlainTrees.{plain_for_chosen}
 use Rattle.coverage.specs.Computed.{is_get, fails, fails_some, fails_each, fails_last, fails_head, fails_policy, hits, hits_each, hits_first, hits_some, hits_head, hits_policy, adds, adds_some, adds_first, adds_head, adds_policy}
 
 pub record Same (p q : Plan) : Type 0 where
@@ -42,9 +42,9 @@ either e f = ap₂ (λ x y. x || y) e f
 module _ (one other : ℕ) (text : List ℕ) where
   abbrev AtBest : Option (List ℕ × Route) → Type 0
   AtBest None = Unit {0}
-  AtBest (Some best) = Same (left_of one text best.1) (left_of other text best.1)
+  AtBest (Some best) = Same (plain_for one text best.1) (plain_for other text best.1)
 
-  at_best : (b : Bool) (p : List ℕ) (r : Route) (best : Option (List ℕ × Route)) → Same (left_of one text r) (left_of other text r) → AtBest best → AtBest (cond b (Some (p, r)) best)
+  at_best : (b : Bool) (p : List ℕ) (r : Route) (best : Option (List ℕ × Route)) → Same (plain_for one text r) (plain_for other text r) → AtBest best → AtBest (cond b (Some (p, r)) best)
   at_best true p r best h k = h
   at_best false p r best h k = k
 
@@ -52,7 +52,7 @@ module _ (one other : ℕ) (text : List ℕ) where
   plain_same p = record { fails_same = λ op. refl; hits_same = λ op. refl; adds_same = refl }
 
   mutual
-    pub same : (r : Route) → Same (left_of one text r) (left_of other text r)
+    pub same : (r : Route) → Same (plain_for one text r) (plain_for other text r)
     same (Pool servers) = record { fails_same = λ op. refl; hits_same = λ op. refl; adds_same = refl }
     same (Server s) = plain_same _
     same Null = plain_same _
@@ -72,10 +72,10 @@ module _ (one other : ℕ) (text : List ℕ) where
         record { fails_same = c.fails_same; hits_same = λ op. ap₂ (λ x y. x || (is_get op && y)) (c.hits_same op) (w.hits_same op); adds_same = c.adds_same }
     same (ByOperation ps) = let h = policies_same ps in record { fails_same = h.fails_policy_same; hits_same = h.hits_policy_same; adds_same = h.adds_policy_same }
     same (ByPrefix ps) =
-        subst (λ p. Same p (left_of other text (ByPrefix ps))) (sym (left_of_chosen one text ps))
-        (subst (λ q. Same (left_of one text (chosen text ps None)) q) (sym (left_of_chosen other text ps)) (chosen_same ps None tt))
+        subst (λ p. Same p (plain_for other text (ByPrefix ps))) (sym (plain_for_chosen one text ps))
+        (subst (λ q. Same (plain_for one text (chosen text ps None)) q) (sym (plain_for_chosen other text ps)) (chosen_same ps None tt))
 
-    pub all_same : (rs : Routes) → AllSame (left_of_all one text rs) (left_of_all other text rs)
+    pub all_same : (rs : Routes) → AllSame (plain_for_all one text rs) (plain_for_all other text rs)
     all_same End = record {
       fails_some_same = λ op. refl;
       fails_each_same = λ op. refl;
@@ -106,11 +106,11 @@ module _ (one other : ℕ) (text : List ℕ) where
           adds_head_same = a.adds_same;
         }
       where
-        last_same : (op : Op) (r : Route) (rs : Routes) → fails op (left_of one text r) ≡ fails op (left_of other text r) → fails_last op (left_of_all one text rs) ≡ fails_last op (left_of_all other text rs) → fails_last op (left_of_all one text (More r rs)) ≡ fails_last op (left_of_all other text (More r rs))
+        last_same : (op : Op) (r : Route) (rs : Routes) → fails op (plain_for one text r) ≡ fails op (plain_for other text r) → fails_last op (plain_for_all one text rs) ≡ fails_last op (plain_for_all other text rs) → fails_last op (plain_for_all one text (More r rs)) ≡ fails_last op (plain_for_all other text (More r rs))
         last_same op r End a h = a
         last_same op r (More q qs) a h = h
 
-    policies_same : (ps : Policies) → PoliciesSame (left_of_policies one text ps) (left_of_policies other text ps)
+    policies_same : (ps : Policies) → PoliciesSame (plain_for_policies one text ps) (plain_for_policies other text ps)
     policies_same (Otherwise r) = let a = same r in record { fails_policy_same = a.fails_same; hits_policy_same = a.hits_same; adds_policy_same = a.adds_same }
     policies_same (Policy o r ps) =
         let a = same r in
@@ -121,7 +121,7 @@ module _ (one other : ℕ) (text : List ℕ) where
           adds_policy_same = ap₂ (λ x y. cond (same_op o Add) x y) a.adds_same h.adds_policy_same;
         }
 
-    chosen_same : (ps : Prefixes) (best : Option (List ℕ × Route)) → AtBest best → Same (left_of one text (chosen text ps best)) (left_of other text (chosen text ps best))
+    chosen_same : (ps : Prefixes) (best : Option (List ℕ × Route)) → AtBest best → Same (plain_for one text (chosen text ps best)) (plain_for other text (chosen text ps best))
     chosen_same (Wildcard r) None h = same r
     chosen_same (Wildcard r) (Some best) h = h
     chosen_same (Prefix p r ps) best h = chosen_same ps (cond (begins p text && is_longer p best) (Some (p, r)) best) (at_best (begins p text && is_longer p best) p r best (same r) h)

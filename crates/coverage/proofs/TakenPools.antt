@@ -7,9 +7,9 @@ use Rattle.mc_types.specs.declared.ask.Op.{Op}
 use Rattle.mc_types.specs.declared.ask.Op.TheVariants.{Get, Gat, Incr, Decr}
 use Rattle.route_tree.specs.Operation.{same_op}
 use Rattle.route_tree.specs.Route.{Route, Routes, Policies, Prefixes, Pool, Server, Null, Failing, AllSync, Failover, MissFailover, WarmUp, ByOperation, ByPrefix, End, More, Otherwise, Policy, Wildcard, Prefix}
-use Rattle.route_tree.specs.At.{begins, is_longer, left_of, left_of_all, left_of_policies}
+use Rattle.route_tree.specs.At.{begins, is_longer, plain_for, plain_for_all, plain_for_policies}
 use Rattle.route_tree.specs.Chosen.{chosen}
-use Rattle.route_tree.proofs.Left.{left_of_chosen}
+use Rattle.route_tree.proofs.PlainTrees.{plain_for_chosen}
 use Rattle.coverage.specs.Computed.{is_get, taken, fails, hits_each, adds, shown, shown_each, shown_first, shown_some, shown_head, shown_policy, copied, copied_some, copied_first, copied_head, copied_policy, is_taken}
 use Rattle.coverage.specs.Pools.{has, server_at, servers_at, pools_of, pools_of_each, pools_of_some, pools_of_first, pools_of_head, pools_of_policy, pools_of_prefixes, has_pool, with_pool, distinct_after, sought_pools, taken_pools}
 use Rattle.coverage.proofs.SameStanding.{same, all_same}
@@ -151,7 +151,7 @@ module _ (text : List ℕ) (op : Op) where
     alone x = rw (mod_one hash) refl
 
     abbrev IsThere : Route → Type 0
-    IsThere r = (sh co : Bool) → there (pools_of text op sh co r) ≡ part sh co (shown op s (left_of hash text r)) (copied op s (left_of hash text r))
+    IsThere r = (sh co : Bool) → there (pools_of text op sh co r) ≡ part sh co (shown op s (plain_for hash text r)) (copied op s (plain_for hash text r))
 
     abbrev BestThere : Option (List ℕ × Route) → Type 0
     BestThere None = Unit {0}
@@ -162,53 +162,53 @@ module _ (text : List ℕ) (op : Op) where
     best_there false p r best h k = k
 
     mutual
-      pub all_there : (r : Route) (sh co : Bool) → there (pools_of text op sh co r) ≡ part sh co (shown op s (left_of hash text r)) (copied op s (left_of hash text r))
+      pub all_there : (r : Route) (sh co : Bool) → there (pools_of text op sh co r) ≡ part sh co (shown op s (plain_for hash text r)) (copied op s (plain_for hash text r))
       all_there (Pool servers) sh co = one_pool sh co servers
       all_there (Server x) sh co = one_pool sh co (x ∷ []) ∙ ap (λ n. part sh co (nat_eq n s) false) (alone x)
       all_there Null sh co = none sh co
       all_there Failing sh co = none sh co
       all_there (AllSync rs) sh co = each_there rs sh co
       all_there (Failover rs) sh co = first_there rs sh co
-      all_there (MissFailover rs) sh co = either_one (is_get op) sh co (pools_of_some text op sh co rs) (pools_of_head text op sh co rs) (shown_some op s (left_of_all hash text rs)) (copied_some op s (left_of_all hash text rs)) (shown_head op s (left_of_all hash text rs)) (copied_head op s (left_of_all hash text rs)) (some_there rs sh co) (head_there rs sh co)
+      all_there (MissFailover rs) sh co = either_one (is_get op) sh co (pools_of_some text op sh co rs) (pools_of_head text op sh co rs) (shown_some op s (plain_for_all hash text rs)) (copied_some op s (plain_for_all hash text rs)) (shown_head op s (plain_for_all hash text rs)) (copied_head op s (plain_for_all hash text rs)) (some_there rs sh co) (head_there rs sh co)
       all_there (WarmUp cold warm e) sh co =
-          there_append (pools_of text op sh co cold) (cond (is_get op) (pools_of text op (sh || (co && adds (left_of 0 text cold))) co warm) [])
-          ∙ ap₂ (λ x y. x || y) (all_there cold sh co) (there_if (is_get op) (pools_of text op (sh || (co && adds (left_of 0 text cold))) co warm) ∙ ap (λ b. cond (is_get op) b false) (all_there warm (sh || (co && adds (left_of 0 text cold))) co))
-          ∙ ap (λ a. part sh co (shown op s (left_of hash text cold)) (copied op s (left_of hash text cold)) || cond (is_get op) (part (sh || (co && a)) co (shown op s (left_of hash text warm)) (copied op s (left_of hash text warm))) false) (same 0 hash text cold).adds_same
-          ∙ warm_parts (is_get op) sh co (shown op s (left_of hash text cold)) (copied op s (left_of hash text cold)) (adds (left_of hash text cold)) (shown op s (left_of hash text warm)) (copied op s (left_of hash text warm))
+          there_append (pools_of text op sh co cold) (cond (is_get op) (pools_of text op (sh || (co && adds (plain_for 0 text cold))) co warm) [])
+          ∙ ap₂ (λ x y. x || y) (all_there cold sh co) (there_if (is_get op) (pools_of text op (sh || (co && adds (plain_for 0 text cold))) co warm) ∙ ap (λ b. cond (is_get op) b false) (all_there warm (sh || (co && adds (plain_for 0 text cold))) co))
+          ∙ ap (λ a. part sh co (shown op s (plain_for hash text cold)) (copied op s (plain_for hash text cold)) || cond (is_get op) (part (sh || (co && a)) co (shown op s (plain_for hash text warm)) (copied op s (plain_for hash text warm))) false) (same 0 hash text cold).adds_same
+          ∙ warm_parts (is_get op) sh co (shown op s (plain_for hash text cold)) (copied op s (plain_for hash text cold)) (adds (plain_for hash text cold)) (shown op s (plain_for hash text warm)) (copied op s (plain_for hash text warm))
       all_there (ByOperation ps) sh co = policy_there ps sh co
       all_there (ByPrefix ps) sh co =
           ap there (pools_of_chosen sh co ps) ∙ chosen_there ps None tt sh co
-          ∙ ap (λ p. part sh co (shown op s p) (copied op s p)) (sym (left_of_chosen hash text ps))
+          ∙ ap (λ p. part sh co (shown op s p) (copied op s p)) (sym (plain_for_chosen hash text ps))
 
-      each_there : (rs : Routes) (sh co : Bool) → there (pools_of_each text op sh co rs) ≡ part sh co (shown_each op s (left_of_all hash text rs)) (copied_some op s (left_of_all hash text rs))
+      each_there : (rs : Routes) (sh co : Bool) → there (pools_of_each text op sh co rs) ≡ part sh co (shown_each op s (plain_for_all hash text rs)) (copied_some op s (plain_for_all hash text rs))
       each_there End sh co = none sh co
       each_there (More r rs) sh co =
-          there_append (pools_of text op (sh && hits_each op (left_of_all 0 text rs)) co r) (pools_of_some text op false co rs)
-          ∙ ap₂ (λ x y. x || y) (all_there r (sh && hits_each op (left_of_all 0 text rs)) co) (some_there rs false co)
-          ∙ ap (λ h. part (sh && h) co (shown op s (left_of hash text r)) (copied op s (left_of hash text r)) || part false co (shown_some op s (left_of_all hash text rs)) (copied_some op s (left_of_all hash text rs))) ((all_same 0 hash text rs).hits_each_same op)
-          ∙ each_parts sh co (hits_each op (left_of_all hash text rs)) (shown op s (left_of hash text r)) (copied op s (left_of hash text r)) (shown_some op s (left_of_all hash text rs)) (copied_some op s (left_of_all hash text rs))
+          there_append (pools_of text op (sh && hits_each op (plain_for_all 0 text rs)) co r) (pools_of_some text op false co rs)
+          ∙ ap₂ (λ x y. x || y) (all_there r (sh && hits_each op (plain_for_all 0 text rs)) co) (some_there rs false co)
+          ∙ ap (λ h. part (sh && h) co (shown op s (plain_for hash text r)) (copied op s (plain_for hash text r)) || part false co (shown_some op s (plain_for_all hash text rs)) (copied_some op s (plain_for_all hash text rs))) ((all_same 0 hash text rs).hits_each_same op)
+          ∙ each_parts sh co (hits_each op (plain_for_all hash text rs)) (shown op s (plain_for hash text r)) (copied op s (plain_for hash text r)) (shown_some op s (plain_for_all hash text rs)) (copied_some op s (plain_for_all hash text rs))
 
-      some_there : (rs : Routes) (sh co : Bool) → there (pools_of_some text op sh co rs) ≡ part sh co (shown_some op s (left_of_all hash text rs)) (copied_some op s (left_of_all hash text rs))
+      some_there : (rs : Routes) (sh co : Bool) → there (pools_of_some text op sh co rs) ≡ part sh co (shown_some op s (plain_for_all hash text rs)) (copied_some op s (plain_for_all hash text rs))
       some_there End sh co = none sh co
       some_there (More r rs) sh co =
           there_append (pools_of text op sh co r) (pools_of_some text op sh co rs)
           ∙ ap₂ (λ x y. x || y) (all_there r sh co) (some_there rs sh co)
-          ∙ some_parts sh co (shown op s (left_of hash text r)) (copied op s (left_of hash text r)) (shown_some op s (left_of_all hash text rs)) (copied_some op s (left_of_all hash text rs))
+          ∙ some_parts sh co (shown op s (plain_for hash text r)) (copied op s (plain_for hash text r)) (shown_some op s (plain_for_all hash text rs)) (copied_some op s (plain_for_all hash text rs))
 
-      first_there : (rs : Routes) (sh co : Bool) → there (pools_of_first text op sh co rs) ≡ part sh co (shown_first op s (left_of_all hash text rs)) (copied_first op s (left_of_all hash text rs))
+      first_there : (rs : Routes) (sh co : Bool) → there (pools_of_first text op sh co rs) ≡ part sh co (shown_first op s (plain_for_all hash text rs)) (copied_first op s (plain_for_all hash text rs))
       first_there End sh co = none sh co
       first_there (More r rs) sh co =
-          there_append (pools_of text op sh co r) (cond (fails op (left_of 0 text r)) (pools_of_first text op sh co rs) [])
-          ∙ ap₂ (λ x y. x || y) (all_there r sh co) (there_if (fails op (left_of 0 text r)) (pools_of_first text op sh co rs) ∙ ap₂ (λ f b. cond f b false) ((same 0 hash text r).fails_same op) (first_there rs sh co))
-          ∙ first_parts (fails op (left_of hash text r)) sh co (shown op s (left_of hash text r)) (copied op s (left_of hash text r)) (shown_first op s (left_of_all hash text rs)) (copied_first op s (left_of_all hash text rs))
+          there_append (pools_of text op sh co r) (cond (fails op (plain_for 0 text r)) (pools_of_first text op sh co rs) [])
+          ∙ ap₂ (λ x y. x || y) (all_there r sh co) (there_if (fails op (plain_for 0 text r)) (pools_of_first text op sh co rs) ∙ ap₂ (λ f b. cond f b false) ((same 0 hash text r).fails_same op) (first_there rs sh co))
+          ∙ first_parts (fails op (plain_for hash text r)) sh co (shown op s (plain_for hash text r)) (copied op s (plain_for hash text r)) (shown_first op s (plain_for_all hash text rs)) (copied_first op s (plain_for_all hash text rs))
 
-      head_there : (rs : Routes) (sh co : Bool) → there (pools_of_head text op sh co rs) ≡ part sh co (shown_head op s (left_of_all hash text rs)) (copied_head op s (left_of_all hash text rs))
+      head_there : (rs : Routes) (sh co : Bool) → there (pools_of_head text op sh co rs) ≡ part sh co (shown_head op s (plain_for_all hash text rs)) (copied_head op s (plain_for_all hash text rs))
       head_there End sh co = none sh co
       head_there (More r rs) sh co = all_there r sh co
 
-      policy_there : (ps : Policies) (sh co : Bool) → there (pools_of_policy text op sh co ps) ≡ part sh co (shown_policy op s (left_of_policies hash text ps)) (copied_policy op s (left_of_policies hash text ps))
+      policy_there : (ps : Policies) (sh co : Bool) → there (pools_of_policy text op sh co ps) ≡ part sh co (shown_policy op s (plain_for_policies hash text ps)) (copied_policy op s (plain_for_policies hash text ps))
       policy_there (Otherwise r) sh co = all_there r sh co
-      policy_there (Policy o r ps) sh co = either_one (same_op o op) sh co (pools_of text op sh co r) (pools_of_policy text op sh co ps) (shown op s (left_of hash text r)) (copied op s (left_of hash text r)) (shown_policy op s (left_of_policies hash text ps)) (copied_policy op s (left_of_policies hash text ps)) (all_there r sh co) (policy_there ps sh co)
+      policy_there (Policy o r ps) sh co = either_one (same_op o op) sh co (pools_of text op sh co r) (pools_of_policy text op sh co ps) (shown op s (plain_for hash text r)) (copied op s (plain_for hash text r)) (shown_policy op s (plain_for_policies hash text ps)) (copied_policy op s (plain_for_policies hash text ps)) (all_there r sh co) (policy_there ps sh co)
 
       chosen_there : (ps : Prefixes) (best : Option (List ℕ × Route)) → BestThere best → IsThere (chosen text ps best)
       chosen_there (Wildcard r) None h = all_there r
@@ -218,19 +218,19 @@ module _ (text : List ℕ) (op : Op) where
 -- ---- the four operations
 
 module _ (text : List ℕ) (hash s : ℕ) where
-  at_get : (r : Route) → has (servers_at hash (pools_of text Get true true r)) s ≡ taken (left_of hash text r) Get s
+  at_get : (r : Route) → has (servers_at hash (pools_of text Get true true r)) s ≡ taken (plain_for hash text r) Get s
   at_get r = all_there text Get hash s r true true
 
-  at_gat : (r : Route) → has (servers_at hash (pools_of text Gat true false r)) s ≡ taken (left_of hash text r) Gat s
+  at_gat : (r : Route) → has (servers_at hash (pools_of text Gat true false r)) s ≡ taken (plain_for hash text r) Gat s
   at_gat r = all_there text Gat hash s r true false
 
-  at_incr : (r : Route) → has (servers_at hash (pools_of text Incr true false r)) s ≡ taken (left_of hash text r) Incr s
+  at_incr : (r : Route) → has (servers_at hash (pools_of text Incr true false r)) s ≡ taken (plain_for hash text r) Incr s
   at_incr r = all_there text Incr hash s r true false
 
-  at_decr : (r : Route) → has (servers_at hash (pools_of text Decr true false r)) s ≡ taken (left_of hash text r) Decr s
+  at_decr : (r : Route) → has (servers_at hash (pools_of text Decr true false r)) s ≡ taken (plain_for hash text r) Decr s
   at_decr r = all_there text Decr hash s r true false
 
-  sought_are_taken : (r : Route) → has (servers_at hash (sought_pools text r)) s ≡ is_taken (left_of hash text r) s
+  sought_are_taken : (r : Route) → has (servers_at hash (sought_pools text r)) s ≡ is_taken (plain_for hash text r) s
   sought_are_taken r =
       let a = pools_of text Get true true r in
       let b = pools_of text Gat true false r in
@@ -289,7 +289,7 @@ module _ (hash s : ℕ) where
       ∙ regroup (has (servers_at hash pools) s) (nat_eq (server_at hash p) s) (has (servers_at hash ps) s)
 
 -- the servers of the pools at a hash are those that the plain tree of the hash takes
-pub pools_are_taken : (text : List ℕ) (hash s : ℕ) (r : Route) → has (servers_at hash (taken_pools text r)) s ≡ is_taken (left_of hash text r) s
+pub pools_are_taken : (text : List ℕ) (hash s : ℕ) (r : Route) → has (servers_at hash (taken_pools text r)) s ≡ is_taken (plain_for hash text r) s
 pools_are_taken text hash s r = distinct_has hash s [] (sought_pools text r) ∙ sought_are_taken text hash s r
 
 -- ---- one after another

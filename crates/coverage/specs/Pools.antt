@@ -5,7 +5,7 @@ use Rattle.mc_types.specs.declared.ask.Op.{Op}
 use Rattle.mc_types.specs.declared.ask.Op.TheVariants.{Get, Gat, Incr, Decr}
 use Rattle.route_tree.specs.Operation.{same_op}
 use Rattle.route_tree.specs.Route.{Route, Routes, Policies, Prefixes, Pool, Server, Null, Failing, AllSync, Failover, MissFailover, WarmUp, ByOperation, ByPrefix, End, More, Otherwise, Policy, Wildcard, Prefix}
-use Rattle.route_tree.specs.At.{begins, is_longer, best_or, left_of, left_of_all}
+use Rattle.route_tree.specs.At.{begins, is_longer, best_or, plain_for, plain_for_all}
 use Rattle.coverage.specs.Computed.{is_get, fails, hits_each, adds}
 
 abbrev pub has : List ℕ → ℕ → Bool
@@ -33,14 +33,14 @@ module _ (text : List ℕ) (op : Op) where
     pools_of shows copies (Failover rs) = pools_of_first shows copies rs
     pools_of shows copies (MissFailover rs) = if is_get op then pools_of_some shows copies rs else pools_of_head shows copies rs
     pools_of shows copies (WarmUp cold warm e) =
-        pools_of shows copies cold ++ (if is_get op then pools_of (shows || (copies && adds (left_of 0 text cold))) copies warm else [])
+        pools_of shows copies cold ++ (if is_get op then pools_of (shows || (copies && adds (plain_for 0 text cold))) copies warm else [])
     pools_of shows copies (ByOperation ps) = pools_of_policy shows copies ps
     pools_of shows copies (ByPrefix ps) = pools_of_prefixes shows copies ps None
 
     -- of equal ranks the first is the reply
     pub pools_of_each : (shows copies : Bool) → Routes → List (List ℕ)
     pools_of_each shows copies End = []
-    pools_of_each shows copies (More r rs) = pools_of (shows && hits_each op (left_of_all 0 text rs)) copies r ++ pools_of_some false copies rs
+    pools_of_each shows copies (More r rs) = pools_of (shows && hits_each op (plain_for_all 0 text rs)) copies r ++ pools_of_some false copies rs
 
     pub pools_of_some : (shows copies : Bool) → Routes → List (List ℕ)
     pools_of_some shows copies End = []
@@ -48,7 +48,7 @@ module _ (text : List ℕ) (op : Op) where
 
     pub pools_of_first : (shows copies : Bool) → Routes → List (List ℕ)
     pools_of_first shows copies End = []
-    pools_of_first shows copies (More r rs) = pools_of shows copies r ++ (if fails op (left_of 0 text r) then pools_of_first shows copies rs else [])
+    pools_of_first shows copies (More r rs) = pools_of shows copies r ++ (if fails op (plain_for 0 text r) then pools_of_first shows copies rs else [])
 
     pub pools_of_head : (shows copies : Bool) → Routes → List (List ℕ)
     pools_of_head shows copies End = []

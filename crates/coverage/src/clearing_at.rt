@@ -3,7 +3,7 @@
 ghost use Rattle.std.specs.Prelude.{◌≡◌, ℕ};
 ghost use Rattle.mc_types.specs.declared.ask.Op.TheVariants.{Delete};
 ghost use Rattle.route_tree.specs.Form.{routes_of, policies_of};
-ghost use Rattle.route_tree.specs.At.{left_of, left_of_all, left_of_policies};
+ghost use Rattle.route_tree.specs.At.{plain_for, plain_for_all, plain_for_policies};
 ghost use Rattle.coverage.specs.Computed.{cleared, fails, kept, kept_each, kept_first, kept_head, kept_policy};
 
 use crate::prefixes::longest;
@@ -15,7 +15,7 @@ use route_tree::{Tree, TreeForm};
 /// Whether each acknowledged delete, of either kind, has cleared the server at the plain tree of this hash and text. It
 /// takes no memory.
 pub fn is_cleared_at(tree: &Tree, text: &[u8], hash: u32, server: ServerId) -> bool
-    ensures { result ≡ cleared (left_of hash text.now tree.now) server }
+    ensures { result ≡ cleared (plain_for hash text.now tree.now) server }
 {
     !keeps_at(tree, text, hash, server)
 }
@@ -23,7 +23,7 @@ pub fn is_cleared_at(tree: &Tree, text: &[u8], hash: u32, server: ServerId) -> b
 // Whether a delete can be acknowledged with the server not cleared.
 #[cycle(keeps)]
 fn keeps_at(tree: &Tree, text: &[u8], hash: u32, server: ServerId) -> bool
-    ensures { result ≡ kept server (left_of hash text.now tree.now) }
+    ensures { result ≡ kept server (plain_for hash text.now tree.now) }
 {
     match tree.form() {
         TreeForm::Pool(servers) => {
@@ -49,7 +49,7 @@ fn keeps_at(tree: &Tree, text: &[u8], hash: u32, server: ServerId) -> bool
 // All children.
 #[cycle(keeps)]
 fn each_keeps_at(children: &[Tree], text: &[u8], hash: u32, server: ServerId) -> bool
-    ensures { result ≡ kept_each server (left_of_all hash text.now (routes_of children.now)) }
+    ensures { result ≡ kept_each server (plain_for_all hash text.now (routes_of children.now)) }
 {
     match children {
         [] => true,
@@ -62,7 +62,7 @@ fn each_keeps_at(children: &[Tree], text: &[u8], hash: u32, server: ServerId) ->
 // Children up to one that doesn't fail.
 #[cycle(keeps)]
 fn first_keeps_at(children: &[Tree], text: &[u8], hash: u32, server: ServerId) -> bool
-    ensures { result ≡ kept_first server (left_of_all hash text.now (routes_of children.now)) }
+    ensures { result ≡ kept_first server (plain_for_all hash text.now (routes_of children.now)) }
 {
     match children {
         [] => false,
@@ -75,7 +75,7 @@ fn first_keeps_at(children: &[Tree], text: &[u8], hash: u32, server: ServerId) -
 
 // Whether a delete fails, at each hash.
 fn fails_at(tree: &Tree, text: &[u8]) -> bool
-    ensures { (hash : ℕ) → result ≡ fails Delete (left_of hash text.now tree.now) }
+    ensures { (hash : ℕ) → result ≡ fails Delete (plain_for hash text.now tree.now) }
 {
     standing(tree, text, Op::Delete).fails
 }
@@ -83,7 +83,7 @@ fn fails_at(tree: &Tree, text: &[u8]) -> bool
 // The first child alone.
 #[cycle(keeps)]
 fn head_keeps_at(children: &[Tree], text: &[u8], hash: u32, server: ServerId) -> bool
-    ensures { result ≡ kept_head server (left_of_all hash text.now (routes_of children.now)) }
+    ensures { result ≡ kept_head server (plain_for_all hash text.now (routes_of children.now)) }
 {
     match children {
         [] => false,
@@ -100,7 +100,7 @@ fn policy_keeps_at(
     hash: u32,
     server: ServerId,
 ) -> bool
-    ensures { result ≡ kept_policy server (left_of_policies hash text.now (policies_of policies.now default.now)) }
+    ensures { result ≡ kept_policy server (plain_for_policies hash text.now (policies_of policies.now default.now)) }
 {
     match policies {
         [] => keeps_at(default, text, hash, server),

@@ -3,7 +3,7 @@
 ghost use Rattle.std.specs.Prelude.{◌≡◌};
 ghost use Rattle.mc_types.specs.declared.ask.Op.TheVariants.{Add};
 ghost use Rattle.route_tree.specs.Form.{routes_of, policies_of};
-ghost use Rattle.route_tree.specs.At.{left_of, left_of_all, left_of_policies};
+ghost use Rattle.route_tree.specs.At.{plain_for, plain_for_all, plain_for_policies};
 ghost use Rattle.coverage.specs.Computed.{adds, adds_some, adds_first, adds_head, adds_policy, fails, fails_some, fails_each, fails_last, fails_head, fails_policy, hits, hits_each, hits_first, hits_some, hits_head, hits_policy};
 
 use crate::prefixes::longest;
@@ -21,8 +21,8 @@ pub struct Stands {
 /// What can come of the operation for the keys that the text begins. It takes no memory.
 #[cycle(standing)]
 pub fn standing(tree: &Tree, text: &[u8], op: Op) -> Stands
-    ensures fails { result.fails ≡ fails op (left_of 0 text.now tree.now) }
-    ensures hits { result.hits ≡ hits op (left_of 0 text.now tree.now) }
+    ensures fails { result.fails ≡ fails op (plain_for 0 text.now tree.now) }
+    ensures hits { result.hits ≡ hits op (plain_for 0 text.now tree.now) }
 {
     match tree.form() {
         TreeForm::Pool(_) | TreeForm::Server(_) => Stands {
@@ -65,8 +65,8 @@ pub fn standing(tree: &Tree, text: &[u8], op: Op) -> Stands
 // All children.
 #[cycle(standing)]
 pub fn standing_each(children: &[Tree], text: &[u8], op: Op) -> Stands
-    ensures fails { result.fails ≡ fails_some op (left_of_all 0 text.now (routes_of children.now)) }
-    ensures hits { result.hits ≡ hits_each op (left_of_all 0 text.now (routes_of children.now)) }
+    ensures fails { result.fails ≡ fails_some op (plain_for_all 0 text.now (routes_of children.now)) }
+    ensures hits { result.hits ≡ hits_each op (plain_for_all 0 text.now (routes_of children.now)) }
 {
     match children {
         [] => Stands {
@@ -87,8 +87,8 @@ pub fn standing_each(children: &[Tree], text: &[u8], op: Op) -> Stands
 // Children up to one that doesn't fail.
 #[cycle(standing)]
 fn standing_first(children: &[Tree], text: &[u8], op: Op) -> Stands
-    ensures fails { result.fails ≡ fails_each op (left_of_all 0 text.now (routes_of children.now)) }
-    ensures hits { result.hits ≡ hits_first op (left_of_all 0 text.now (routes_of children.now)) }
+    ensures fails { result.fails ≡ fails_each op (plain_for_all 0 text.now (routes_of children.now)) }
+    ensures hits { result.hits ≡ hits_first op (plain_for_all 0 text.now (routes_of children.now)) }
 {
     match children {
         [] => Stands {
@@ -109,8 +109,8 @@ fn standing_first(children: &[Tree], text: &[u8], op: Op) -> Stands
 // Children up to a hit.
 #[cycle(standing)]
 fn standing_some(children: &[Tree], text: &[u8], op: Op) -> Stands
-    ensures fails { result.fails ≡ fails_last op (left_of_all 0 text.now (routes_of children.now)) }
-    ensures hits { result.hits ≡ hits_some op (left_of_all 0 text.now (routes_of children.now)) }
+    ensures fails { result.fails ≡ fails_last op (plain_for_all 0 text.now (routes_of children.now)) }
+    ensures hits { result.hits ≡ hits_some op (plain_for_all 0 text.now (routes_of children.now)) }
 {
     match children {
         [] => Stands {
@@ -132,8 +132,8 @@ fn standing_some(children: &[Tree], text: &[u8], op: Op) -> Stands
 // The first child alone.
 #[cycle(standing)]
 fn standing_head(children: &[Tree], text: &[u8], op: Op) -> Stands
-    ensures fails { result.fails ≡ fails_head op (left_of_all 0 text.now (routes_of children.now)) }
-    ensures hits { result.hits ≡ hits_head op (left_of_all 0 text.now (routes_of children.now)) }
+    ensures fails { result.fails ≡ fails_head op (plain_for_all 0 text.now (routes_of children.now)) }
+    ensures hits { result.hits ≡ hits_head op (plain_for_all 0 text.now (routes_of children.now)) }
 {
     match children {
         [] => Stands {
@@ -147,8 +147,8 @@ fn standing_head(children: &[Tree], text: &[u8], op: Op) -> Stands
 // The child of the operation, else the default.
 #[cycle(standing)]
 fn standing_policy(policies: &[(Op, Tree)], default: &Tree, text: &[u8], op: Op) -> Stands
-    ensures fails { result.fails ≡ fails_policy op (left_of_policies 0 text.now (policies_of policies.now default.now)) }
-    ensures hits { result.hits ≡ hits_policy op (left_of_policies 0 text.now (policies_of policies.now default.now)) }
+    ensures fails { result.fails ≡ fails_policy op (plain_for_policies 0 text.now (policies_of policies.now default.now)) }
+    ensures hits { result.hits ≡ hits_policy op (plain_for_policies 0 text.now (policies_of policies.now default.now)) }
 {
     match policies {
         [] => standing(default, text, op),
@@ -165,8 +165,8 @@ fn standing_policy(policies: &[(Op, Tree)], default: &Tree, text: &[u8], op: Op)
 /// What can come of an add for the keys that the text begins. It takes no memory.
 #[cycle(adding_at)]
 pub fn adding_at(tree: &Tree, text: &[u8]) -> OfAdd
-    ensures adds { result.adds ≡ adds (left_of 0 text.now tree.now) }
-    ensures fails { result.fails ≡ fails Add (left_of 0 text.now tree.now) }
+    ensures adds { result.adds ≡ adds (plain_for 0 text.now tree.now) }
+    ensures fails { result.fails ≡ fails Add (plain_for 0 text.now tree.now) }
 {
     match tree.form() {
         TreeForm::Pool(_) | TreeForm::Server(_) => OfAdd {
@@ -195,8 +195,8 @@ pub fn adding_at(tree: &Tree, text: &[u8]) -> OfAdd
 // All children.
 #[cycle(adding_at)]
 fn adding_at_some(children: &[Tree], text: &[u8]) -> OfAdd
-    ensures adds { result.adds ≡ adds_some (left_of_all 0 text.now (routes_of children.now)) }
-    ensures fails { result.fails ≡ fails_some Add (left_of_all 0 text.now (routes_of children.now)) }
+    ensures adds { result.adds ≡ adds_some (plain_for_all 0 text.now (routes_of children.now)) }
+    ensures fails { result.fails ≡ fails_some Add (plain_for_all 0 text.now (routes_of children.now)) }
 {
     match children {
         [] => OfAdd {
@@ -217,8 +217,8 @@ fn adding_at_some(children: &[Tree], text: &[u8]) -> OfAdd
 // Children up to one that doesn't fail.
 #[cycle(adding_at)]
 fn adding_at_first(children: &[Tree], text: &[u8]) -> OfAdd
-    ensures adds { result.adds ≡ adds_first (left_of_all 0 text.now (routes_of children.now)) }
-    ensures fails { result.fails ≡ fails_each Add (left_of_all 0 text.now (routes_of children.now)) }
+    ensures adds { result.adds ≡ adds_first (plain_for_all 0 text.now (routes_of children.now)) }
+    ensures fails { result.fails ≡ fails_each Add (plain_for_all 0 text.now (routes_of children.now)) }
 {
     match children {
         [] => OfAdd {
@@ -239,8 +239,8 @@ fn adding_at_first(children: &[Tree], text: &[u8]) -> OfAdd
 // The first child alone.
 #[cycle(adding_at)]
 fn adding_at_head(children: &[Tree], text: &[u8]) -> OfAdd
-    ensures adds { result.adds ≡ adds_head (left_of_all 0 text.now (routes_of children.now)) }
-    ensures fails { result.fails ≡ fails_head Add (left_of_all 0 text.now (routes_of children.now)) }
+    ensures adds { result.adds ≡ adds_head (plain_for_all 0 text.now (routes_of children.now)) }
+    ensures fails { result.fails ≡ fails_head Add (plain_for_all 0 text.now (routes_of children.now)) }
 {
     match children {
         [] => OfAdd {
@@ -254,8 +254,8 @@ fn adding_at_head(children: &[Tree], text: &[u8]) -> OfAdd
 // The child of the operation, else the default.
 #[cycle(adding_at)]
 fn adding_at_policy(policies: &[(Op, Tree)], default: &Tree, text: &[u8]) -> OfAdd
-    ensures adds { result.adds ≡ adds_policy (left_of_policies 0 text.now (policies_of policies.now default.now)) }
-    ensures fails { result.fails ≡ fails_policy Add (left_of_policies 0 text.now (policies_of policies.now default.now)) }
+    ensures adds { result.adds ≡ adds_policy (plain_for_policies 0 text.now (policies_of policies.now default.now)) }
+    ensures fails { result.fails ≡ fails_policy Add (plain_for_policies 0 text.now (policies_of policies.now default.now)) }
 {
     match policies {
         [] => adding_at(default, text),

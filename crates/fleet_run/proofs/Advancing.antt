@@ -9,8 +9,8 @@ use Rattle.mc_types.specs.Items.{Item}
 use Rattle.mc_runs.specs.Fleet.{AreOn}
 use Rattle.mc_runs.specs.Stale.{stale_since}
 use Rattle.mc_runs.specs.Log.{Part, Point, after_reply}
-use Rattle.mc_runs.specs.Standing.{Standing, Moves}
-use Rattle.mc_runs.proofs.LogWorks.{works_nothing, works_on, works_passed, works_each}
+use Rattle.mc_runs.specs.LogState.{LogState, Moves}
+use Rattle.mc_runs.proofs.LogServing.{works_nothing, works_on, works_passed, works_each}
 use Rattle.request_parts.specs.declared.skip.Skip.TheVariants.{Nothing}
 use Rattle.client_requests.specs.declared.request.Request.{Request}
 use Rattle.client_requests.specs.Message.{Message, IsReadFrom, message_in, used_of}
@@ -45,7 +45,7 @@ twice true x y z = refl
 twice false x y z = refl
 
 -- the client's part of what is moved
-pub placed_moves : (base : Standing memcached_text) (c i j : ℕ) (old new : Connection) (router router' : Router) (fleet fleet' : MemoryFleet) (place : Place) (more : List ℕ) → GoesTo old place more new → Moves (placed base c old i router fleet) c (record { place = place; index = j }) more (placed base c new j router' fleet')
+pub placed_moves : (base : LogState memcached_text) (c i j : ℕ) (old new : Connection) (router router' : Router) (fleet fleet' : MemoryFleet) (place : Place) (more : List ℕ) → GoesTo old place more new → Moves (placed base c old i router fleet) c (record { place = place; index = j }) more (placed base c new j router' fleet')
 placed_moves base c i j old new router router' fleet fleet' place more g =
     let there : point_at new j ≡ record { place = place; index = j } = ap (λ (p : Place). let q : Point memcached_text = record { place = p; index = j } in q) g.place_is in
     record {
@@ -120,8 +120,8 @@ replied law old new router router' fleet fleet' held request i ask reply ended p
     let on_key : AreOn ask.key asked.calls = (law (tree_at (tree_of router) ask.key) ask Client 0 asked.calls (record { reply = reply; from = asked.from }) asked.word).0 in
     record {
       works = λ at_number loaded base c.
-          let before : Standing memcached_text = placed base c old i router fleet in
-          let after : Standing memcached_text = placed base c new (next_index ended i) router' fleet' in
+          let before : LogState memcached_text = placed base c old i router fleet in
+          let after : LogState memcached_text = placed base c new (next_index ended i) router' fleet' in
           let at_front : before.point c ≡ point_at old i = same c (point_at old i) (base.point c) in
           let reads : ReadsNext old.stream (Whole m) next = subst (λ (p : Place). ReadsNext p (Whole m) next) (sym place) (used_of request, read.begins, refl) in
           let shown : shown_text (quiet_of m) (is_last (asks_of m) i) ask reply ≡ memcached_text.shown (Whole m) i reply = ap (λ (o : Option Ask). shown_by (quiet_of m) (asks_of m) i o reply) (sym at) in

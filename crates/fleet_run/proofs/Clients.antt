@@ -5,20 +5,20 @@ use Rattle.std.proofs.Math.ListN.{set}
 use Rattle.std.proofs.lemmas.Bool.{eqb-true, eq-eqb}
 use Rattle.mc_runs.specs.Protocol.{IsStuck}
 use Rattle.mc_runs.specs.Log.{Point, Shown, Piece, one_shown, fed_point}
-use Rattle.mc_runs.specs.Standing.{Standing, IsFed, IsGiven}
-use Rattle.mc_runs.specs.Taking.{TakesUp}
-use Rattle.mc_runs.proofs.LogTaking.{piece_up}
+use Rattle.mc_runs.specs.LogState.{LogState, IsFed, IsGiven}
+use Rattle.mc_runs.specs.ScriptEvents.{GoesOnWith}
+use Rattle.mc_runs.proofs.LogEvents.{piece_up}
 use Rattle.request_parts.specs.declared.skip.Skip.TheVariants.{Nothing}
-use Rattle.request_parts.specs.Stream.{Place, Stands}
+use Rattle.request_parts.specs.Stream.{Place, Stands, extended}
 use Rattle.text_codec.specs.TextProtocol.{memcached_text}
 use Rattle.connections.specs.declared.connection.Connection.{Connection}
-use Rattle.connections.specs.Steps.{output_of}
+use Rattle.connections.specs.Steps.{output_of, GoesTo}
 use Rattle.memory_fleet.specs.declared.fleet.MemoryFleet.{MemoryFleet}
 use Rattle.memory_fleet.specs.Fleets.{begun_of}
 use Rattle.route_tree.specs.Route.{Route}
 use Rattle.fleet_run.specs.declared.router.Router.{Router}
 use Rattle.fleet_run.specs.Serving.{tree_of, words_by, IsFrom, point_at, placed}
-use Rattle.fleet_run.specs.Driving.{point_in, output_in, standing_of, ServesPiece}
+use Rattle.fleet_run.specs.Driving.{point_in, output_in, state_of, ServesPiece}
 
 at_point : (xs : List Connection) (c : ℕ) (x : Connection) → c < length xs → x ≡ get_or xs c x → point_in xs c ≡ point_at x 0
 at_point [] c x lt is = absurd (omega arith)
@@ -72,22 +72,27 @@ over : {A : Type 0} (b : Bool) (x y z w : A) → x ≡ w → cond b x z ≡ cond
 over true x y z w e = e
 over false x y z w e = refl
 
--- a piece of one of the clients
-pub piece_taken : (clients : List Connection) (c : ℕ) (x y : Connection) (bytes out : List ℕ) (router router' : Router) (fleet fleet' : MemoryFleet) (given given' : List Shown) → c < length clients → x ≡ get_or clients c x → ServesPiece x router fleet bytes out y router' fleet' → given' ≡ given ++ one_shown c out → (trees : ℕ → Route) → IsFrom (begun_of fleet) (tree_of router) trees
-    → TakesUp (words_by trees) (standing_of clients router fleet) given (Piece c bytes) (standing_of (set clients c y) router' fleet') given'
-piece_taken clients c x y bytes out router router' fleet fleet' given given' lt is s handed trees loaded =
-    let old : Standing memcached_text = standing_of clients router fleet in
-    let mid : Standing memcached_text = placed old c s.fed 0 router fleet in
-    let served : Standing memcached_text = placed old c s.served 0 router' fleet' in
-    let taken : Standing memcached_text = standing_of (set clients c y) router' fleet' in
-    let fed_is : point_at s.fed 0 ≡ fed_point (point_at x 0) bytes = ap (λ (p : Place). let q : Point memcached_text = record { place = p; index = 0 } in q) s.feeds.place_is in
-    let fed : IsFed old c bytes mid = record {
-      point = λ d. where_same (nat_eq c d) (point_at s.fed 0) (fed_point (point_in clients d) bytes) (point_in clients d) (λ e.
+-- a piece came from one of the clients
+pub is_fed : (clients : List Connection) (c : ℕ) (x fed : Connection) (bytes : List ℕ) (router : Router) (fleet : MemoryFleet) → c < length clients → x ≡ get_or clients c x → GoesTo x (extended x.stream bytes) [] fed → IsFed (state_of clients router fleet) c bytes (placed (state_of clients router fleet) c fed 0 router fleet)
+is_fed clients c x fed bytes router fleet lt is feeds =
+    let fed_is : point_at fed 0 ≡ fed_point (point_at x 0) bytes = ap (λ (p : Place). let q : Point memcached_text = record { place = p; index = 0 } in q) feeds.place_is in
+    record {
+      point = λ d. where_same (nat_eq c d) (point_at fed 0) (fed_point (point_in clients d) bytes) (point_in clients d) (λ e.
           fed_is ∙ ap (λ (p : Point memcached_text). fed_point p bytes) (sym (at_point clients c x lt is) ∙ ap (point_in clients) (eqb-true c d e)));
-      output = λ d. where_other (nat_eq c d) (output_of s.fed) (output_in clients d) (λ e.
-          s.feeds.output_is ∙ append-nil (output_of x) ∙ sym (at_output clients c x lt is) ∙ ap (output_in clients) (eqb-true c d e));
+      output = λ d. where_other (nat_eq c d) (output_of fed) (output_in clients d) (λ e.
+          feeds.output_is ∙ append-nil (output_of x) ∙ sym (at_output clients c x lt is) ∙ ap (output_in clients) (eqb-true c d e));
       rests = record { number = refl; holds = λ a k. refl; turn = refl; named = λ t. refl; stale = refl; gone = λ k. refl };
-    } in
+    }
+
+-- what was done of a piece of one of the clients
+pub piece_taken : (clients : List Connection) (c : ℕ) (x y : Connection) (bytes out : List ℕ) (router router' : Router) (fleet fleet' : MemoryFleet) (given given' : List Shown) → c < length clients → x ≡ get_or clients c x → ServesPiece x router fleet bytes out y router' fleet' → given' ≡ given ++ one_shown c out → (trees : ℕ → Route) → IsFrom (begun_of fleet) (tree_of router) trees
+    → GoesOnWith (words_by trees) (state_of clients router fleet) given (Piece c bytes) (state_of (set clients c y) router' fleet') given'
+piece_taken clients c x y bytes out router router' fleet fleet' given given' lt is s handed trees loaded =
+    let old : LogState memcached_text = state_of clients router fleet in
+    let mid : LogState memcached_text = placed old c s.fed 0 router fleet in
+    let served : LogState memcached_text = placed old c s.served 0 router' fleet' in
+    let taken : LogState memcached_text = state_of (set clients c y) router' fleet' in
+    let fed : IsFed old c bytes mid = is_fed clients c x s.fed bytes router fleet lt is s.feeds in
     let took : IsGiven served c out taken = record {
       bytes_are = s.out_is ∙ sym (same c (output_of s.served) (output_in clients c));
       stuck = subst (λ (p : Point memcached_text). IsStuck memcached_text p.place) (sym (same c (point_at s.served 0) (point_in clients c))) s.serves.stuck;

@@ -11,7 +11,7 @@ use Rattle.mc_types.specs.Acknowledged.{says_gone}
 use Rattle.mc_runs.specs.Run.{Call}
 use Rattle.mc_runs.specs.Cover.{IsAnswerOf}
 use Rattle.mc_runs.specs.Stale.{is_delete_op, stale_since}
-use Rattle.mc_runs.specs.Standing.{MakesNamed, ShownIn}
+use Rattle.mc_runs.specs.LogState.{MakesNamed, ShownIn}
 use Rattle.memory_fleet.specs.declared.fleet.MemoryFleet.{MemoryFleet}
 use Rattle.memory_fleet.specs.Fleets.{holds_of, turn_of, named_of, count_of, begun_of}
 use Rattle.memory_fleet.specs.Law.{AreFound, AreNamed, CallsAreNamed}

@@ -7,13 +7,13 @@ use Rattle.mc_runs.specs.Run.{Event as Happened}
 use Rattle.mc_runs.specs.Protocol.{IsStuck}
 use Rattle.mc_runs.specs.Log as log
 use Rattle.mc_runs.specs.Log.{Entry, Takes, Point, run_of, script_of, Scripted, Shown, Follows}
-use Rattle.mc_runs.specs.Standing.{Standing}
-use Rattle.mc_runs.specs.Taking.{Stands, TakesUp}
+use Rattle.mc_runs.specs.LogState.{LogState}
+use Rattle.mc_runs.specs.ScriptEvents.{HasSettled, GoesOnWith}
 use Rattle.mc_runs.proofs.LogRuns.{runs}
 use Rattle.mc_runs.specs.Stale.{stale_in, tally_of}
 use Rattle.mc_runs.proofs.LogStale.{last_counts}
 use Rattle.mc_runs.proofs.LogSteps.{nothing_yet}
-use Rattle.mc_runs.proofs.LogTaking.{settled}
+use Rattle.mc_runs.proofs.LogEvents.{settled}
 use Rattle.mc_runs.proofs.LogReload.{stands_kept}
 use Rattle.mc_runs.specs.OverlapLaws.{AreKept}
 use Rattle.request_parts.specs.declared.skip.Skip.TheVariants.{Nothing}
@@ -37,7 +37,7 @@ use Rattle.fleet_run.specs.Bad.{begins_run, has_begun, bad_in}
 use Rattle.fleet_run.specs.Opening.{put_by, opening_of, IsOpened}
 use Rattle.fleet_run.specs.Scripted as scripted
 use Rattle.fleet_run.specs.Scripted.{scripted_of, shown_by, transcript_of}
-use Rattle.fleet_run.specs.Driving.{standing_of, ServesPiece, HandsOut, TakesAlone, IsPut, TakesBy, TakesEvent, AreNew}
+use Rattle.fleet_run.specs.Driving.{state_of, ServesPiece, HandsOut, TakesAlone, IsPut, TakesBy, TakesEvent, AreNew}
 use Rattle.connections.proofs.Shorter.{takes_some}
 use Rattle.fleet_run.proofs.Clients.{piece_taken}
 use Rattle.fleet_run.proofs.EventSteps.{event_of, moment_alone, at_alone, fail_alone, lost_up}
@@ -49,20 +49,20 @@ quiet_start (Whole message) next r = let some = takes_some [] message r.0 r.1 in
 quiet_start LongLine next r = absurd (omega (arith, r.0.long))
 
 -- how far a script has come: a log of the events so far leads to where clients and servers stand, over what those events put on the servers
-pub record Comes (words : Words) (before : List Scripted) (now : Standing memcached_text) (given : List Shown) (fleet : MemoryFleet) : Type 0 where
+pub record Comes (words : Words) (before : List Scripted) (now : LogState memcached_text) (given : List Shown) (fleet : MemoryFleet) : Type 0 where
   pub log : List (Entry memcached_text)
-  pub stands : Stands words (opening_of before) log now given
+  pub stands : HasSettled words (opening_of before) log now given
   pub script : script_of log ≡ before
   -- before the run nothing but the script's events is in the log
   pub quiet : has_begun before ≡ false → AreTaken log × IsOpened before fleet
 
 -- before the first event
-pub starts : (words : Words) (clients : List Connection) (router : Router) (fleet : MemoryFleet) (t : Transcript) (servers : ℕ) → AreNew clients → router.stale ≡ 0 → ((key : List ℕ) → number_in router.gone key ≡ None) → IsNewFleet servers fleet → t.shown.items ≡ [] → Comes words [] (standing_of clients router fleet) (transcript_of t) fleet
+pub starts : (words : Words) (clients : List Connection) (router : Router) (fleet : MemoryFleet) (t : Transcript) (servers : ℕ) → AreNew clients → router.stale ≡ 0 → ((key : List ℕ) → number_in router.gone key ≡ None) → IsNewFleet servers fleet → t.shown.items ≡ [] → Comes words [] (state_of clients router fleet) (transcript_of t) fleet
 starts words clients router fleet t servers new stale gone none empty =
     record {
       log = [];
       stands = record {
-        leads = nothing_yet memcached_text words (opening_of []) (standing_of clients router fleet) new.point new.output none.begun (λ s k. none.holds s k) none.turn none.named stale gone;
+        leads = nothing_yet memcached_text words (opening_of []) (state_of clients router fleet) new.point new.output none.begun (λ s k. none.holds s k) none.turn none.named stale gone;
         given_is = ap (map shown_by) empty;
         stuck = λ c. subst (λ (p : Point memcached_text). IsStuck memcached_text p.place) (sym (new.point c)) quiet_start;
         taken = new.output;
@@ -79,7 +79,7 @@ pub piece_event : (clients : List Connection) (c : ℕ) (x y : Connection) (byte
     → TakesEvent clients router fleet t event (set clients c y) router' fleet' t'
 piece_event clients c x y bytes out router router' fleet fleet' t t' event is lt at s handed =
     record {
-      takes = λ trees loaded. subst (TakesBy (words_by trees) (standing_of clients router fleet) (transcript_of t) fleet (standing_of (set clients c y) router' fleet') (transcript_of t') fleet') (sym is) (piece_taken clients c x y bytes out router router' fleet fleet' (transcript_of t) (transcript_of t') lt at s handed trees loaded);
+      takes = λ trees loaded. subst (TakesBy (words_by trees) (state_of clients router fleet) (transcript_of t) fleet (state_of (set clients c y) router' fleet') (transcript_of t') fleet') (sym is) (piece_taken clients c x y bytes out router router' fleet fleet' (transcript_of t) (transcript_of t') lt at s handed trees loaded);
       tree = s.serves.advances.tree;
       count = s.serves.advances.count;
       later = s.serves.advances.later;
@@ -90,7 +90,7 @@ piece_event clients c x y bytes out router router' fleet fleet' t t' event is lt
 pub hold_event : (clients : List Connection) (router : Router) (fleet fleet' : MemoryFleet) (t : Transcript) (event : Event) (server : ℕ) (key content : List ℕ) → scripted_of event ≡ log.Hold server key content → HoldsFrom fleet server key content fleet' → TakesEvent clients router fleet t event clients router fleet' t
 hold_event clients router fleet fleet' t event server key content is f =
     record {
-      takes = λ trees loaded. subst (TakesBy (words_by trees) (standing_of clients router fleet) (transcript_of t) fleet (standing_of clients router fleet') (transcript_of t) fleet') (sym is)
+      takes = λ trees loaded. subst (TakesBy (words_by trees) (state_of clients router fleet) (transcript_of t) fleet (state_of clients router fleet') (transcript_of t) fleet') (sym is)
           (record { caches = f.cache_is; holds = λ s k. refl; point = λ c. refl; output = λ c. refl; number = f.begun_is; turn = f.turn_is; named = f.named_is; stale = refl; gone = λ k. refl; given_is = refl });
       tree = refl;
       count = f.count_is;
@@ -102,9 +102,9 @@ hold_event clients router fleet fleet' t event server key content is f =
 pub fail_event : (clients : List Connection) (router : Router) (fleet fleet' : MemoryFleet) (t : Transcript) (event : Event) (turn : ℕ) (manner : log.Manner) → scripted_of event ≡ log.Fail turn manner → FailsFrom fleet turn manner fleet' → TakesEvent clients router fleet t event clients router fleet' t
 fail_event clients router fleet fleet' t event turn manner is f =
     record {
-      takes = λ trees loaded. subst (TakesBy (words_by trees) (standing_of clients router fleet) (transcript_of t) fleet (standing_of clients router fleet') (transcript_of t) fleet') (sym is)
+      takes = λ trees loaded. subst (TakesBy (words_by trees) (state_of clients router fleet) (transcript_of t) fleet (state_of clients router fleet') (transcript_of t) fleet') (sym is)
           (record {
-            goes = fail_alone memcached_text (words_by trees) (standing_of clients router fleet) (standing_of clients router fleet') (transcript_of t) turn manner (record { named = f.named; point = λ c. refl; output = λ c. refl; number = f.begun_is; holds = f.holds; turn_is = f.turn_is; stale = refl; gone = λ k. refl });
+            goes = fail_alone memcached_text (words_by trees) (state_of clients router fleet) (state_of clients router fleet') (transcript_of t) turn manner (record { named = f.named; point = λ c. refl; output = λ c. refl; number = f.begun_is; holds = f.holds; turn_is = f.turn_is; stale = refl; gone = λ k. refl });
             caches = f.caches_are;
           });
       tree = refl;
@@ -121,8 +121,8 @@ loss_event (losses.Restart server) = refl
 pub lost_event : (clients : List Connection) (router : Router) (fleet fleet' : MemoryFleet) (t : Transcript) (event : Event) (loss : Loss) → scripted_of event ≡ log.Now (scripted.loss_of loss) → IsLost fleet (loss_of loss) fleet' → TakesEvent clients router fleet t event clients router fleet' t
 lost_event clients router fleet fleet' t event loss is f =
     record {
-      takes = λ trees loaded. subst (TakesBy (words_by trees) (standing_of clients router fleet) (transcript_of t) fleet (standing_of clients router fleet') (transcript_of t) fleet') (sym is)
-          (lost_up memcached_text (words_by trees) (standing_of clients router fleet) (standing_of clients router fleet') (transcript_of t) (scripted.loss_of loss) (record { point = λ c. refl; output = λ c. refl; number = f.begun_is; turn = f.turn_is; named = f.named_is; stale = refl; gone = λ k. refl }) (rw (loss_event loss) f.holds));
+      takes = λ trees loaded. subst (TakesBy (words_by trees) (state_of clients router fleet) (transcript_of t) fleet (state_of clients router fleet') (transcript_of t) fleet') (sym is)
+          (lost_up memcached_text (words_by trees) (state_of clients router fleet) (state_of clients router fleet') (transcript_of t) (scripted.loss_of loss) (record { point = λ c. refl; output = λ c. refl; number = f.begun_is; turn = f.turn_is; named = f.named_is; stale = refl; gone = λ k. refl }) (rw (loss_event loss) f.holds));
       tree = refl;
       count = f.count_is;
       later = omega (arith, f.begun_is);
@@ -133,9 +133,9 @@ lost_event clients router fleet fleet' t event loss is f =
 pub at_event : (clients : List Connection) (router : Router) (fleet fleet' : MemoryFleet) (t : Transcript) (event : Event) (turn : ℕ) (loss : Loss) → scripted_of event ≡ log.At turn (scripted.loss_of loss) → LosesFrom fleet turn (loss_of loss) fleet' → TakesEvent clients router fleet t event clients router fleet' t
 at_event clients router fleet fleet' t event turn loss is f =
     record {
-      takes = λ trees loaded. subst (TakesBy (words_by trees) (standing_of clients router fleet) (transcript_of t) fleet (standing_of clients router fleet') (transcript_of t) fleet') (sym is)
+      takes = λ trees loaded. subst (TakesBy (words_by trees) (state_of clients router fleet) (transcript_of t) fleet (state_of clients router fleet') (transcript_of t) fleet') (sym is)
           (record {
-            goes = at_alone memcached_text (words_by trees) (standing_of clients router fleet) (standing_of clients router fleet') (transcript_of t) turn (scripted.loss_of loss) (record { point = λ c. refl; output = λ c. refl; number = f.begun_is; turn = f.turn_is; named = f.named_is; stale = refl; gone = λ k. refl }) f.holds;
+            goes = at_alone memcached_text (words_by trees) (state_of clients router fleet) (state_of clients router fleet') (transcript_of t) turn (scripted.loss_of loss) (record { point = λ c. refl; output = λ c. refl; number = f.begun_is; turn = f.turn_is; named = f.named_is; stale = refl; gone = λ k. refl }) f.holds;
             caches = f.caches_are;
           });
       tree = refl;
@@ -148,9 +148,9 @@ at_event clients router fleet fleet' t event turn loss is f =
 pub moment_event : (clients : List Connection) (router : Router) (fleet fleet' : MemoryFleet) (t : Transcript) (event : Event) (moment : ℤ) → scripted_of event ≡ log.Moment moment → IsMoment fleet moment fleet' → TakesEvent clients router fleet t event clients router fleet' t
 moment_event clients router fleet fleet' t event moment is f =
     record {
-      takes = λ trees loaded. subst (TakesBy (words_by trees) (standing_of clients router fleet) (transcript_of t) fleet (standing_of clients router fleet') (transcript_of t) fleet') (sym is)
+      takes = λ trees loaded. subst (TakesBy (words_by trees) (state_of clients router fleet) (transcript_of t) fleet (state_of clients router fleet') (transcript_of t) fleet') (sym is)
           (record {
-            goes = moment_alone memcached_text (words_by trees) (standing_of clients router fleet) (standing_of clients router fleet') (transcript_of t) moment (record { point = λ c. refl; output = λ c. refl; number = f.begun_is; turn = f.turn_is; named = f.named_is; stale = refl; gone = λ k. refl }) f.holds;
+            goes = moment_alone memcached_text (words_by trees) (state_of clients router fleet) (state_of clients router fleet') (transcript_of t) moment (record { point = λ c. refl; output = λ c. refl; number = f.begun_is; turn = f.turn_is; named = f.named_is; stale = refl; gone = λ k. refl }) f.holds;
             caches = f.caches_are;
           });
       tree = refl;
@@ -174,16 +174,16 @@ begun_before : (before : List Scripted) (event : Scripted) → has_begun (before
 begun_before before event none = left_false (has_begun before) (begins_run event) (sym (one_begun before event) ∙ none)
 
 -- nothing is changed that was before
-abbrev pub Grown : {ws xs : Words} {before after : List Scripted} {x y : Standing memcached_text} {g h : List Shown} {f k : MemoryFleet} → Comes ws before x g f → Comes xs after y h k → Type 0
+abbrev pub Grown : {ws xs : Words} {before after : List Scripted} {x y : LogState memcached_text} {g h : List Shown} {f k : MemoryFleet} → Comes ws before x g f → Comes xs after y h k → Type 0
 Grown c d = (more : List (Entry memcached_text)) × (d.log ≡ more ++ c.log)
 
 -- a log that goes on by an event with which the run goes on
-comes_up : (words : Words) (before : List Scripted) (event : Scripted) (old new : Standing memcached_text) (given given' : List Shown) (fleet fleet' : MemoryFleet) → begins_run event ≡ true → ((s : ℕ) (c : Contents) → put_by s c event ≡ c) → TakesUp words old given event new given' → (c : Comes words before old given fleet) → (d : Comes words (before ++ event ∷ []) new given' fleet') × Grown c d
+comes_up : (words : Words) (before : List Scripted) (event : Scripted) (old new : LogState memcached_text) (given given' : List Shown) (fleet fleet' : MemoryFleet) → begins_run event ≡ true → ((s : ℕ) (c : Contents) → put_by s c event ≡ c) → GoesOnWith words old given event new given' → (c : Comes words before old given fleet) → (d : Comes words (before ++ event ∷ []) new given' fleet') × Grown c d
 comes_up words before event old new given given' fleet fleet' begins nothing up c =
     let more = up (opening_of before) c.log c.stands in (
       record {
         log = more.0;
-        stands = subst (λ (o : ℕ → List ℕ → Option Item). Stands words o more.0 new given') (sym (same_opening before event nothing)) more.1;
+        stands = subst (λ (o : ℕ → List ℕ → Option Item). HasSettled words o more.0 new given') (sym (same_opening before event nothing)) more.1;
         script = more.2 ∙ ap (λ l. l ++ event ∷ []) c.script;
         quiet = λ none. absurd (begun_at before event begins none);
       },
@@ -191,11 +191,11 @@ comes_up words before event old new given given' fleet fleet' begins nothing up 
     )
 
 -- by one with which nothing happens
-comes_alone : (words : Words) (before : List Scripted) (event : Scripted) (old new : Standing memcached_text) (given given' : List Shown) (fleet fleet' : MemoryFleet) → ((s : ℕ) (c : Contents) → put_by s c event ≡ c) → TakesAlone words old given fleet new given' fleet' event → (c : Comes words before old given fleet) → (d : Comes words (before ++ event ∷ []) new given' fleet') × Grown c d
+comes_alone : (words : Words) (before : List Scripted) (event : Scripted) (old new : LogState memcached_text) (given given' : List Shown) (fleet fleet' : MemoryFleet) → ((s : ℕ) (c : Contents) → put_by s c event ≡ c) → TakesAlone words old given fleet new given' fleet' event → (c : Comes words before old given fleet) → (d : Comes words (before ++ event ∷ []) new given' fleet') × Grown c d
 comes_alone words before event old new given given' fleet fleet' nothing alone c = (
   record {
     log = Takes event ∷ c.log;
-    stands = subst (λ (o : ℕ → List ℕ → Option Item). Stands words o (Takes event ∷ c.log) new given') (sym (same_opening before event nothing)) (alone.goes (opening_of before) c.log c.stands);
+    stands = subst (λ (o : ℕ → List ℕ → Option Item). HasSettled words o (Takes event ∷ c.log) new given') (sym (same_opening before event nothing)) (alone.goes (opening_of before) c.log c.stands);
     script = ap (λ l. l ++ event ∷ []) c.script;
     quiet = λ none. let q = c.quiet (begun_before before event none) in (q.0, opened_same before event fleet fleet' nothing alone.caches q.1);
   },
@@ -203,7 +203,7 @@ comes_alone words before event old new given given' fleet fleet' nothing alone c
 )
 
 -- by one that puts an item on a server before the run
-comes_put : (words : Words) (before : List Scripted) (server : ℕ) (key content : List ℕ) (old new : Standing memcached_text) (given given' : List Shown) (fleet fleet' : MemoryFleet) → bad_in (count_of fleet) before (log.Hold server key content) ≡ false → IsPut words old given fleet new given' fleet' server key content → (c : Comes words before old given fleet) → (d : Comes words (before ++ log.Hold server key content ∷ []) new given' fleet') × Grown c d
+comes_put : (words : Words) (before : List Scripted) (server : ℕ) (key content : List ℕ) (old new : LogState memcached_text) (given given' : List Shown) (fleet fleet' : MemoryFleet) → bad_in (count_of fleet) before (log.Hold server key content) ≡ false → IsPut words old given fleet new given' fleet' server key content → (c : Comes words before old given fleet) → (d : Comes words (before ++ log.Hold server key content ∷ []) new given' fleet') × Grown c d
 comes_put words before server key content old new given given' fleet fleet' good put c =
     let event : Scripted = log.Hold server key content in
     let after : List Scripted = before ++ event ∷ [] in
@@ -237,7 +237,7 @@ comes_put words before server key content old new given given' fleet fleet' good
       (Takes event ∷ [], refl),
     )
 
-comes_by : (words : Words) (before : List Scripted) (event : Scripted) (old new : Standing memcached_text) (given given' : List Shown) (fleet fleet' : MemoryFleet) → bad_in (count_of fleet) before event ≡ false → TakesBy words old given fleet new given' fleet' event → (c : Comes words before old given fleet) → (d : Comes words (before ++ event ∷ []) new given' fleet') × Grown c d
+comes_by : (words : Words) (before : List Scripted) (event : Scripted) (old new : LogState memcached_text) (given given' : List Shown) (fleet fleet' : MemoryFleet) → bad_in (count_of fleet) before event ≡ false → TakesBy words old given fleet new given' fleet' event → (c : Comes words before old given fleet) → (d : Comes words (before ++ event ∷ []) new given' fleet') × Grown c d
 comes_by words before (log.Piece client bytes) old new given given' fleet fleet' good takes c = comes_up words before (log.Piece client bytes) old new given given' fleet fleet' refl (λ s c. refl) takes c
 comes_by words before (log.Now loss) old new given given' fleet fleet' good takes c = comes_up words before (log.Now loss) old new given given' fleet fleet' refl (λ s c. refl) takes c
 comes_by words before (log.At turn loss) old new given given' fleet fleet' good takes c = comes_alone words before (log.At turn loss) old new given given' fleet fleet' (λ s c. refl) takes c
@@ -247,14 +247,14 @@ comes_by words before (log.Hold server key content) old new given given' fleet f
 
 -- the log goes on by one event
 pub event_on : (trees : ℕ → Route) (clients clients' : List Connection) (router router' : Router) (fleet fleet' : MemoryFleet) (t t' : Transcript) (xs : List Event) (i : ℕ) (x : Event)
-    → IsFrom (begun_of fleet) (tree_of router) trees → i < length xs → x ≡ get_or xs i x → bad_in (count_of fleet) (map scripted_of (take i xs)) (scripted_of x) ≡ false → (c : Comes (words_by trees) (map scripted_of (take i xs)) (standing_of clients router fleet) (transcript_of t) fleet) → TakesEvent clients router fleet t x clients' router' fleet' t'
-    → (d : Comes (words_by trees) (map scripted_of (take (i + 1) xs)) (standing_of clients' router' fleet') (transcript_of t') fleet') × Grown c d
+    → IsFrom (begun_of fleet) (tree_of router) trees → i < length xs → x ≡ get_or xs i x → bad_in (count_of fleet) (map scripted_of (take i xs)) (scripted_of x) ≡ false → (c : Comes (words_by trees) (map scripted_of (take i xs)) (state_of clients router fleet) (transcript_of t) fleet) → TakesEvent clients router fleet t x clients' router' fleet' t'
+    → (d : Comes (words_by trees) (map scripted_of (take (i + 1) xs)) (state_of clients' router' fleet') (transcript_of t') fleet') × Grown c d
 event_on trees clients clients' router router' fleet fleet' t t' xs i x loaded lt is good c takes =
-    subst (λ (l : List Scripted). (d : Comes (words_by trees) l (standing_of clients' router' fleet') (transcript_of t') fleet') × Grown c d) (sym (map_more xs i x lt is))
-    (comes_by (words_by trees) (map scripted_of (take i xs)) (scripted_of x) (standing_of clients router fleet) (standing_of clients' router' fleet') (transcript_of t) (transcript_of t') fleet fleet' good (takes.takes trees loaded) c)
+    subst (λ (l : List Scripted). (d : Comes (words_by trees) l (state_of clients' router' fleet') (transcript_of t') fleet') × Grown c d) (sym (map_more xs i x lt is))
+    (comes_by (words_by trees) (map scripted_of (take i xs)) (scripted_of x) (state_of clients router fleet) (state_of clients' router' fleet') (transcript_of t) (transcript_of t') fleet fleet' good (takes.takes trees loaded) c)
 
 -- the same log under other words from the next number on
-pub comes_kept : (words new : Words) (before : List Scripted) (now : Standing memcached_text) (given : List Shown) (fleet : MemoryFleet) → AreKept (now.number + 1) words new → (c : Comes words before now given fleet) → (d : Comes new before now given fleet) × (d.log ≡ c.log)
+pub comes_kept : (words new : Words) (before : List Scripted) (now : LogState memcached_text) (given : List Shown) (fleet : MemoryFleet) → AreKept (now.number + 1) words new → (c : Comes words before now given fleet) → (d : Comes new before now given fleet) × (d.log ≡ c.log)
 comes_kept words new before now given fleet kept c = (
   record { log = c.log; stands = stands_kept words new (opening_of before) c.log now given kept c.stands; script = c.script; quiet = c.quiet },
   refl,

@@ -6,11 +6,11 @@ use Rattle.mc_runs.specs.Fleet.{after_event}
 use Rattle.mc_runs.specs.Protocol.{Protocol, IsStuck}
 use Rattle.mc_runs.specs.Log as log
 use Rattle.mc_runs.specs.Log.{Manner, Point, Entry, Takes, Happens, Fail, At, Now, Moment, Lose, Restart, run_of, given_of, Shown, IsSettled}
-use Rattle.mc_runs.specs.Standing.{Standing, IsNamed}
-use Rattle.mc_runs.specs.Taking.{Stands, TakesUp}
+use Rattle.mc_runs.specs.LogState.{LogState, IsNamed}
+use Rattle.mc_runs.specs.ScriptEvents.{HasSettled, GoesOnWith}
 use Rattle.mc_runs.proofs.Bridge.{held_after, event_same}
 use Rattle.mc_runs.proofs.LogSteps.{named_more}
-use Rattle.mc_runs.proofs.LogTaking.{settled}
+use Rattle.mc_runs.proofs.LogEvents.{settled}
 
 -- the event of a loss
 abbrev pub event_of : log.Loss → Event
@@ -19,7 +19,7 @@ event_of (Restart server) = Restarts server
 
 module _ (P : Protocol) (words : Words) where
   -- clients stand as they stood, and no command began
-  pub record IsQuiet (old new : Standing P) : Type 0 where
+  pub record IsQuiet (old new : LogState P) : Type 0 where
     pub point : (c : ℕ) → new.point c ≡ old.point c
     pub output : (c : ℕ) → new.output c ≡ old.output c
     pub number : new.number ≡ old.number
@@ -28,11 +28,11 @@ module _ (P : Protocol) (words : Words) where
     pub stale : new.stale ≡ old.stale
     pub gone : (key : List ℕ) → new.gone key ≡ old.gone key
 
-  stuck_still : (old new : Standing P) → IsQuiet old new → ((c : ℕ) → IsStuck P (old.point c).place) → (c : ℕ) → IsStuck P (new.point c).place
+  stuck_still : (old new : LogState P) → IsQuiet old new → ((c : ℕ) → IsStuck P (old.point c).place) → (c : ℕ) → IsStuck P (new.point c).place
   stuck_still old new q h c = subst (λ (p : Point P). IsStuck P p.place) (sym (q.point c)) (h c)
 
   -- the time is another
-  pub moment_alone : (old new : Standing P) (given : List Shown) (m : ℤ) → IsQuiet old new → ((s : ℕ) (k : List ℕ) → new.holds s k ≡ old.holds s k) → (opening : ℕ → List ℕ → Option Item) (log : List (Entry P)) → Stands words opening log old given → Stands words opening (Takes (Moment m) ∷ log) new given
+  pub moment_alone : (old new : LogState P) (given : List Shown) (m : ℤ) → IsQuiet old new → ((s : ℕ) (k : List ℕ) → new.holds s k ≡ old.holds s k) → (opening : ℕ → List ℕ → Option Item) (log : List (Entry P)) → HasSettled words opening log old given → HasSettled words opening (Takes (Moment m) ∷ log) new given
   moment_alone old new given m q holds opening log s =
       record {
         leads = record {
@@ -54,7 +54,7 @@ module _ (P : Protocol) (words : Words) where
       }
 
   -- something is named to be lost just before a call
-  pub at_alone : (old new : Standing P) (given : List Shown) (turn : ℕ) (loss : log.Loss) → IsQuiet old new → ((s : ℕ) (k : List ℕ) → new.holds s k ≡ old.holds s k) → (opening : ℕ → List ℕ → Option Item) (log : List (Entry P)) → Stands words opening log old given → Stands words opening (Takes (At turn loss) ∷ log) new given
+  pub at_alone : (old new : LogState P) (given : List Shown) (turn : ℕ) (loss : log.Loss) → IsQuiet old new → ((s : ℕ) (k : List ℕ) → new.holds s k ≡ old.holds s k) → (opening : ℕ → List ℕ → Option Item) (log : List (Entry P)) → HasSettled words opening log old given → HasSettled words opening (Takes (At turn loss) ∷ log) new given
   at_alone old new given turn loss q holds opening log s =
       record {
         leads = record {
@@ -76,7 +76,7 @@ module _ (P : Protocol) (words : Words) where
       }
 
   -- a call is named that is to fail
-  pub fail_alone : (old new : Standing P) (given : List Shown) (turn : ℕ) (manner : Manner) → IsNamed old turn manner new → (opening : ℕ → List ℕ → Option Item) (log : List (Entry P)) → Stands words opening log old given → Stands words opening (Takes (Fail turn manner) ∷ log) new given
+  pub fail_alone : (old new : LogState P) (given : List Shown) (turn : ℕ) (manner : Manner) → IsNamed old turn manner new → (opening : ℕ → List ℕ → Option Item) (log : List (Entry P)) → HasSettled words opening log old given → HasSettled words opening (Takes (Fail turn manner) ∷ log) new given
   fail_alone old new given turn manner named opening log s =
       record {
         leads = named_more P words opening log old new turn manner s.leads (settled P words opening log old given s) named;
@@ -86,7 +86,7 @@ module _ (P : Protocol) (words : Words) where
       }
 
   -- something is lost
-  pub lost_up : (old new : Standing P) (given : List Shown) (loss : log.Loss) → IsQuiet old new → ((s : ℕ) (k : List ℕ) → new.holds s k ≡ after_event (event_of loss) old.holds s k) → TakesUp words old given (Now loss) new given
+  pub lost_up : (old new : LogState P) (given : List Shown) (loss : log.Loss) → IsQuiet old new → ((s : ℕ) (k : List ℕ) → new.holds s k ≡ after_event (event_of loss) old.holds s k) → GoesOnWith words old given (Now loss) new given
   lost_up old new given (Lose server key) q holds = λ opening log s. (
     Happens (Loses server key) ∷ (Takes (Now (Lose server key)) ∷ log),
     record {

@@ -2,6 +2,7 @@ pub mod Wording
 pub mod Advancing
 pub mod Messages
 pub mod Clients
+pub mod Breaking
 pub mod BadEvents
 pub mod Openings
 pub mod EventSteps

@@ -1,27 +1,24 @@
 -- A script whose commands may have other trees later, from its first event to the last.
-use Rattle.std.proofs.Common.{Result, Ok, Err, ◌≡◌, ℕ, zero, suc, ◌+◌, ◌<◌, ◌≤◌, Bool, true, false, cond, List, [], ◌∷◌, ◌++◌, length, map, take, drop, get_or, Option, Some, None, nat_lt, slice_get, refl, sym, ap, ◌∙◌, subst, arith, append_assoc}
-use Rattle.std.proofs.Math.Seq.{take-length, drop-cons}
+use Rattle.std.proofs.Common.{◌≡◌, ℕ, zero, suc, ◌+◌, ◌<◌, ◌≤◌, Bool, true, false, cond, List, [], ◌∷◌, ◌++◌, length, map, take, get_or, Option, Some, nat_lt, slice_get, refl, sym, ap, ◌∙◌, subst, arith, append_assoc, inl, inr}
+use Rattle.std.proofs.Math.Seq.{take-length}
 use Rattle.std.proofs.lemmas.Bool.{ltb-true, lt-ltb}
 use Rattle.std.proofs.lemmas.List.{length-map, take_more}
 use Rattle.std.proofs.lemmas.Option.{slice_get-get_or}
-use Rattle.mc_types.specs.declared.ask.Ask.{Ask}
-use Rattle.mc_types.specs.declared.answer.Answer.{Answer}
 use Rattle.mc_types.specs.declared.call.Origin.TheVariants.{Client}
 use Rattle.mc_types.specs.Items.{Item}
-use Rattle.mc_runs.specs.Run.{Words, Call, Run, IsFresh}
-use Rattle.mc_runs.specs.Log.{Entry, run_of, script_of, shown_of, Follows, IsSettled, Scripted, Shown}
+use Rattle.mc_runs.specs.Run.{Words, IsFresh}
+use Rattle.mc_runs.specs.Log.{Entry, run_of, Follows, Scripted, Shown}
 use Rattle.mc_runs.specs.OverlapLaws.{AreKept}
-use Rattle.mc_runs.specs.Stale.{stale_in}
-use Rattle.mc_runs.specs.Standing.{Standing}
+use Rattle.mc_runs.specs.LogState.{LogState}
 use Rattle.mc_runs.proofs.LogRuns.{runs, splits}
 use Rattle.mc_runs.proofs.LogStale.{fresh_has_none}
-use Rattle.mc_runs.proofs.LogTaking.{settled}
+use Rattle.mc_runs.proofs.LogEvents.{settled}
 use Rattle.mc_runs.proofs.Fresh.{fresh}
 use Rattle.text_codec.specs.TextProtocol.{memcached_text}
 use Rattle.text_codec.proofs.ReaderLaws.{reader_is}
 use Rattle.connections.specs.declared.connection.Connection.{Connection}
 use Rattle.memory_fleet.specs.declared.fleet.MemoryFleet.{MemoryFleet}
-use Rattle.memory_fleet.specs.Fleets.{count_of, begun_of}
+use Rattle.memory_fleet.specs.Fleets.{IsNewFleet, count_of, begun_of}
 use Rattle.route_tree.specs.Route.{Route}
 use Rattle.route_tree.specs.At.{tree_at}
 use Rattle.route_tree.specs.Word.{Word}
@@ -37,9 +34,10 @@ use Rattle.fleet_run.specs.Serving.{tree_of, words_by, IsFrom}
 use Rattle.fleet_run.specs.Bad.{bad_in}
 use Rattle.fleet_run.specs.Opening.{opening_of}
 use Rattle.fleet_run.specs.Scripted.{scripted_of, shown_by, transcript_of}
-use Rattle.fleet_run.specs.Driving.{standing_of, TakesEvent, Drives, DrivesPart, EndsAsFault}
-use Rattle.fleet_run.specs.Reloads.{AreInOrder, is_refused, one_more, tree_after, loads_before, tree_of_each, IsReached, AreReached, DrivesBy, DrivesPartBy, EndsBy}
-use Rattle.fleet_run.proofs.Driven.{Comes, Grown, event_on, comes_kept, counts_stale, map_take, quiet_start}
+use Rattle.fleet_run.specs.Driving.{state_of, TakesEvent, BreaksEvent, Drives, DrivesPart, EndsAsFault}
+use Rattle.fleet_run.specs.Reloads.{is_refused, one_more, tree_after, loads_before, tree_of_each, IsReached, AreReached, DrivesBy, DrivesPartBy, EndsBy}
+use Rattle.fleet_run.proofs.Driven.{Comes, event_on, comes_kept, counts_stale, map_take, quiet_start}
+use Rattle.fleet_run.proofs.BadEvents.{map_more}
 use Rattle.fleet_run.proofs.Wording.{direct_covered}
 
 -- ---- how many reloads come before a command
@@ -101,10 +99,10 @@ pub record Going (first : Route) (refused : List Bool) (reloads : List Reload) (
   pub count : length begun ≡ loaded
   pub passed : (n : ℕ) → begun_of fleet < n → loads_before begun n ≡ loaded
   pub tree : tree_of router ≡ tree_after first refused reloads loaded
-  pub comes : Comes (words_by (tree_of_each first refused reloads begun)) (map scripted_of (take next xs)) (standing_of clients router fleet) (transcript_of t) fleet
+  pub comes : Comes (words_by (tree_of_each first refused reloads begun)) (map scripted_of (take next xs)) (state_of clients router fleet) (transcript_of t) fleet
   pub reached : AreReached comes.log (map scripted_of xs) (take loaded reloads) begun marks
 
-pub begins : (first : Route) (refused : List Bool) (reloads : List Reload) (xs : List Event) (clients : List Connection) (router : Router) (fleet : MemoryFleet) (t : Transcript) (marks : List ℕ) → tree_of router ≡ first → marks ≡ [] → Comes (words_by (λ n. first)) [] (standing_of clients router fleet) (transcript_of t) fleet → Going first refused reloads xs 0 0 clients router fleet t marks
+pub begins : (first : Route) (refused : List Bool) (reloads : List Reload) (xs : List Event) (clients : List Connection) (router : Router) (fleet : MemoryFleet) (t : Transcript) (marks : List ℕ) → tree_of router ≡ first → marks ≡ [] → Comes (words_by (λ n. first)) [] (state_of clients router fleet) (transcript_of t) fleet → Going first refused reloads xs 0 0 clients router fleet t marks
 begins first refused reloads xs clients router fleet t marks tree none c = record { begun = []; count = refl; passed = λ n lt. refl; tree = tree; comes = c; reached = (refl, none) }
 
 module _ (first : Route) (refused : List Bool) (reloads : List Reload) (xs : List Event) where
@@ -140,16 +138,16 @@ module _ (first : Route) (refused : List Bool) (reloads : List Reload) (xs : Lis
       let number = begun_of fleet in
       let one : loaded + 1 ≡ suc loaded = omega arith in
       let words : Words = words_by (tree_of_each first refused reloads (g.begun ++ number ∷ [])) in
-      let kept = comes_kept (words_by (tree_of_each first refused reloads g.begun)) words (map scripted_of (take next xs)) (standing_of clients router fleet) (transcript_of t) fleet (kept_words g.begun number) g.comes in
-      let there : (d : Comes words (map scripted_of (take next xs)) (standing_of clients router' fleet) (transcript_of t) fleet) × (d.log ≡ g.comes.log) =
-      subst (λ (now : Standing memcached_text). (d : Comes words (map scripted_of (take next xs)) now (transcript_of t) fleet) × (d.log ≡ g.comes.log)) (sym (ap (λ (x : Router). standing_of clients x fleet) same)) kept in
+      let kept = comes_kept (words_by (tree_of_each first refused reloads g.begun)) words (map scripted_of (take next xs)) (state_of clients router fleet) (transcript_of t) fleet (kept_words g.begun number) g.comes in
+      let there : (d : Comes words (map scripted_of (take next xs)) (state_of clients router' fleet) (transcript_of t) fleet) × (d.log ≡ g.comes.log) =
+      subst (λ (now : LogState memcached_text). (d : Comes words (map scripted_of (take next xs)) now (transcript_of t) fleet) × (d.log ≡ g.comes.log)) (sym (ap (λ (x : Router). state_of clients x fleet) same)) kept in
       let s = g.comes.stands in
       let now : IsReached g.comes.log (map scripted_of xs) r.at number (length t.shown.items) = record {
         newer = [];
         older = g.comes.log;
         log_is = refl;
         script_is = g.comes.script ∙ map_take xs next ∙ ap (λ n. take n (map scripted_of xs)) (sym at);
-        settled = settled memcached_text (words_by (tree_of_each first refused reloads g.begun)) (opening_of (map scripted_of (take next xs))) g.comes.log (standing_of clients router fleet) (transcript_of t) s;
+        settled = settled memcached_text (words_by (tree_of_each first refused reloads g.begun)) (opening_of (map scripted_of (take next xs))) g.comes.log (state_of clients router fleet) (transcript_of t) s;
         begun_is = s.leads.count;
         shown_is = sym (length-map t.shown.items shown_by) ∙ ap length s.given_is;
       } in
@@ -180,10 +178,10 @@ drives_by first refused reloads xs next loaded clients router fleet t marks repo
     let words : Words = words_by (tree_of_each first refused reloads g.begun) in
     let whole : take next xs ≡ xs = ap (λ n. take n xs) end ∙ take-length xs in
     let every : take loaded reloads ≡ reloads = ap (λ n. take n reloads) all ∙ take-length reloads in
-    let came = subst (λ (l : List Event). (c : Comes words (map scripted_of l) (standing_of clients router fleet) (transcript_of t) fleet) × (c.log ≡ g.comes.log)) whole (g.comes, refl) in
+    let came = subst (λ (l : List Event). (c : Comes words (map scripted_of l) (state_of clients router fleet) (transcript_of t) fleet) × (c.log ≡ g.comes.log)) whole (g.comes, refl) in
     let c = came.0 in
     let s = c.stands in
-    let done = settled memcached_text words (opening_of events) c.log (standing_of clients router fleet) (transcript_of t) s in
+    let done = settled memcached_text words (opening_of events) c.log (state_of clients router fleet) (transcript_of t) s in
     record {
       log = c.log;
       begun = g.begun;
@@ -199,39 +197,81 @@ drives_by first refused reloads xs next loaded clients router fleet t marks repo
       stale = stale ∙ s.leads.stale ∙ sym (counts_stale words (opening_of events) c.log s.leads.follows);
     }
 
--- where an event is broken off, or a reload
-pub drives_part_by : (first : Route) (refused : List Bool) (reloads : List Reload) (xs : List Event) (next loaded : ℕ) (clients : List Connection) (router : Router) (fleet : MemoryFleet) (t t' : Transcript) (marks marks' : List ℕ)
-    → Going first refused reloads xs next loaded clients router fleet t marks → t'.shown.items ≡ t.shown.items → marks' ≡ marks → DrivesPartBy first refused reloads (map scripted_of xs) (transcript_of t') marks'
-drives_part_by first refused reloads xs next loaded clients router fleet t t' marks marks' g same marked =
+-- where a fault comes between two events
+pub cut_between : (first : Route) (refused : List Bool) (reloads : List Reload) (xs : List Event) (next loaded : ℕ) (clients : List Connection) (router : Router) (fleet : MemoryFleet) (t t' : Transcript) (marks marks' : List ℕ)
+    → Going first refused reloads xs next loaded clients router fleet t marks → t'.shown.items ≡ t.shown.items → marks' ≡ marks → DrivesPartBy first refused reloads (map scripted_of xs) (transcript_of t') marks' fleet
+cut_between first refused reloads xs next loaded clients router fleet t t' marks marks' g same marked =
     let words : Words = words_by (tree_of_each first refused reloads g.begun) in
-    let came = subst (λ (l : List Scripted). (c : Comes words l (standing_of clients router fleet) (transcript_of t) fleet) × (c.log ≡ g.comes.log)) (map_take xs next) (g.comes, refl) in
-    let c = came.0 in
-    let s = c.stands in
+    let c = g.comes in
     record {
       log = c.log;
       count = next;
       loaded = loaded;
       begun = g.begun;
-      follows = s.leads.follows;
-      reached = rw (came.1, marked) g.reached;
-      script_is = c.script;
-      settled = settled memcached_text words (opening_of (take next (map scripted_of xs))) c.log (standing_of clients router fleet) (transcript_of t) s;
-      shown = ap (map shown_by) same ∙ s.given_is;
+      follows = subst (λ (l : List Scripted). Follows words (opening_of l) c.log) (map_take xs next) c.stands.leads.follows;
+      broken = record {
+        whole = c.log;
+        more = [];
+        log_is = refl;
+        script_is = c.script ∙ map_take xs next;
+        settled = settled memcached_text words (opening_of (map scripted_of (take next xs))) c.log (state_of clients router fleet) (transcript_of t) c.stands;
+        shown = ap (map shown_by) same ∙ c.stands.given_is;
+        next = inl refl;
+        kept_back = refl;
+        counts = inl (c.stands.leads.count, c.stands.leads.turn);
+      };
+      reached = rw marked g.reached;
+    }
+
+-- where it comes within one
+pub cut_within : (first : Route) (refused : List Bool) (reloads : List Reload) (xs : List Event) (next loaded : ℕ) (clients : List Connection) (router : Router) (fleet fleet' : MemoryFleet) (t t' : Transcript) (marks : List ℕ) (x : Event)
+    → Going first refused reloads xs next loaded clients router fleet t marks → next < length xs → x ≡ get_or xs next x → BreaksEvent clients router fleet t x fleet' → t'.shown.items ≡ t.shown.items → DrivesPartBy first refused reloads (map scripted_of xs) (transcript_of t') marks fleet'
+cut_within first refused reloads xs next loaded clients router fleet fleet' t t' marks x g lt is breaks same =
+    let words : Words = words_by (tree_of_each first refused reloads g.begun) in
+    let c = g.comes in
+    let from : IsFrom (begun_of fleet) (tree_of router) (tree_of_each first refused reloads g.begun) = λ n above. ap (tree_after first refused reloads) (g.passed n above) ∙ sym g.tree in
+    let part = breaks (tree_of_each first refused reloads g.begun) from (opening_of (map scripted_of (take next xs))) c.log c.stands in
+    record {
+      log = part.all;
+      count = next;
+      loaded = loaded;
+      begun = g.begun;
+      follows = subst (λ (l : List Scripted). Follows words (opening_of l) part.all) (map_take xs next) part.follows;
+      broken = record {
+        whole = c.log;
+        more = part.more;
+        log_is = part.all_is;
+        script_is = c.script ∙ map_take xs next;
+        settled = settled memcached_text words (opening_of (map scripted_of (take next xs))) c.log (state_of clients router fleet) (transcript_of t) c.stands;
+        shown = ap (map shown_by) same ∙ c.stands.given_is;
+        next = inr (part.script_is ∙ ap (λ (l : List Scripted). l ++ scripted_of x ∷ []) c.script ∙ sym (map_more xs next x lt is) ∙ map_take xs (next + 1));
+        kept_back = part.shown_is;
+        counts = part.counts;
+      };
+      reached = g.reached;
     }
 
 -- where nothing was taken up
-pub nothing_driven : (first : Route) (refused : List Bool) (reloads : List Reload) (events : List Scripted) (t : Transcript) (marks : List ℕ) → t.shown.items ≡ [] → marks ≡ [] → DrivesPartBy first refused reloads events (transcript_of t) marks
-nothing_driven first refused reloads events t marks empty none =
+pub nothing_driven : (first : Route) (refused : List Bool) (reloads : List Reload) (events : List Scripted) (t : Transcript) (marks : List ℕ) (servers : ℕ) (fleet : MemoryFleet) → t.shown.items ≡ [] → marks ≡ [] → IsNewFleet servers fleet → DrivesPartBy first refused reloads events (transcript_of t) marks fleet
+nothing_driven first refused reloads events t marks servers fleet empty none new =
     record {
       log = [];
       count = 0;
       loaded = 0;
       begun = [];
       follows = tt;
+      broken = record {
+        whole = [];
+        more = [];
+        log_is = refl;
+        script_is = refl;
+        settled = record { stuck = λ c. quiet_start; given = λ c. refl; idle = λ key. refl };
+        shown = ap (map shown_by) empty;
+        next = inl refl;
+        kept_back = refl;
+        counts = inl (new.begun, new.turn);
+      };
       reached = (refl, none);
-      script_is = refl;
-      settled = record { stuck = λ c. quiet_start; given = λ c. refl; idle = λ key. refl };
-      shown = ap (map shown_by) empty;
     }
 
 -- ---- where nothing is reloaded
@@ -260,18 +300,18 @@ module _ (law : DirectIsOneServer) (tree : Route) (refused : List Bool) (events 
         fresh = λ direct. let is_fresh = fresh_run d.log opening follows direct in (is_fresh, d.stale ∙ fresh_has_none (words_of tree) opening (run_of d.log) run is_fresh);
       }
 
-  drives_part : (given : List Shown) (marks : List ℕ) → DrivesPartBy tree refused [] events given marks → DrivesPart tree events given
-  drives_part given marks d =
+  drives_part : (given : List Shown) (marks : List ℕ) (fleet : MemoryFleet) → DrivesPartBy tree refused [] events given marks fleet → DrivesPart tree events given fleet
+  drives_part given marks fleet d =
       let opening = opening_of (take d.count events) in
-      let none = (none_of d.loaded d.log d.begun marks d.reached).0 in
+      let none = (none_of d.loaded d.broken.whole d.begun marks d.reached).0 in
       let follows : Follows (words_of tree) opening d.log = subst (λ (b : List ℕ). Follows (words_by (tree_of_each tree refused [] b)) opening d.log) none d.follows in
-      record { log = d.log; count = d.count; follows = follows; script_is = d.script_is; settled = d.settled; shown = d.shown; fresh = λ direct. fresh_run d.log opening follows direct }
+      record { log = d.log; count = d.count; follows = follows; broken = d.broken; fresh = λ direct. fresh_run d.log opening follows direct }
     where
       none_of : (n : ℕ) (l : List (Entry memcached_text)) (begun marks : List ℕ) → AreReached l events (take n []) begun marks → (begun ≡ []) × (marks ≡ [])
       none_of zero l begun marks h = h
       none_of (suc n) l begun marks h = h
 
-  pub ends_as : (t : Transcript) (marks : List ℕ) (fault : DriveFault) → EndsBy tree refused [] events t marks fault → EndsAsFault tree events t fault
-  ends_as t marks (BadEvent index) e = e.0
-  ends_as t marks NoMemory e = drives_part (transcript_of t) marks e
-  ends_as t marks Spent e = drives_part (transcript_of t) marks e
+  pub ends_as : (t : Transcript) (marks : List ℕ) (fleet : MemoryFleet) (fault : DriveFault) → EndsBy tree refused [] events t marks fleet fault → EndsAsFault tree events t fleet fault
+  ends_as t marks fleet (BadEvent index) e = e.0
+  ends_as t marks fleet NoMemory e = drives_part (transcript_of t) marks fleet e
+  ends_as t marks fleet Spent e = drives_part (transcript_of t) marks fleet e

@@ -7,9 +7,9 @@ use Rattle.mc_runs.specs.Log as log
 use Rattle.mc_runs.specs.Log.{Entry, Takes, Shown, Point, point_of, run_of, script_of, shown_of, Follows, IsSettled, calls_in, commands_in}
 use Rattle.mc_runs.specs.Stream.{stream_of, messages_of}
 use Rattle.mc_runs.specs.Stale.{stale_in}
-use Rattle.mc_runs.specs.Standing.{Standing}
-use Rattle.mc_runs.specs.Taking as Follow
-use Rattle.mc_runs.specs.Taking.{TakesUp}
+use Rattle.mc_runs.specs.LogState.{LogState}
+use Rattle.mc_runs.specs.ScriptEvents as Follow
+use Rattle.mc_runs.specs.ScriptEvents.{GoesOnWith}
 use Rattle.request_parts.specs.declared.skip.Skip.TheVariants.{Nothing}
 use Rattle.request_parts.specs.Stream.{Stands, extended}
 use Rattle.text_codec.specs.TextProtocol.{memcached_text}
@@ -29,7 +29,7 @@ use Rattle.fleet_run.specs.declared.script.DriveFault.{DriveFault}
 use Rattle.fleet_run.specs.declared.script.DriveFault.TheVariants.{BadEvent, NoMemory, Spent}
 use Rattle.route_tree.specs.Route.{Route}
 use Rattle.route_tree.specs.Direct.{is_direct, words_of}
-use Rattle.fleet_run.specs.Serving.{tree_of, words_by, IsFrom, point_at, ServesAll}
+use Rattle.fleet_run.specs.Serving.{tree_of, words_by, IsFrom, point_at, ServesAll, IsWithinOne, BreaksServing}
 use Rattle.fleet_run.specs.Scripted.{Scripted, Piece, Fail, Hold, At, Now, Moment, scripted_of, transcript_of}
 use Rattle.fleet_run.specs.Opening.{opening_of}
 
@@ -46,8 +46,8 @@ output_in (x ∷ xs) zero = output_of x
 output_in (x ∷ xs) (suc c) = output_in xs c
 
 -- clients, the last number and servers at one moment
-abbrev pub standing_of : List Connection → Router → MemoryFleet → Standing memcached_text
-standing_of clients router fleet =
+abbrev pub state_of : List Connection → Router → MemoryFleet → LogState memcached_text
+state_of clients router fleet =
     record {
       point = point_in clients;
       output = output_in clients;
@@ -69,6 +69,10 @@ pub record ServesPiece (old : Connection) (router : Router) (fleet : MemoryFleet
   pub stream : new.stream ≡ served.stream
   pub output : output_of new ≡ []
 
+-- a fault came before the piece was read, or while what was complete was served
+abbrev pub BreaksPiece : Connection → Router → MemoryFleet → List ℕ → MemoryFleet → Type 0
+BreaksPiece old router fleet bytes fleet' = (fleet' ≡ fleet) ⊎ ((fed : Connection) × GoesTo old (extended old.stream bytes) [] fed × BreaksServing fed router fleet fleet')
+
 -- there is one log of the script, with a run of the tree from what the script put on the servers, one command at a time, whose outputs are those given out, and the count of its stale replies
 pub record Drives (tree : Route) (events : List Scripted) (given : List Shown) (report : Report) : Type 0 where
   pub log : List (Entry memcached_text)
@@ -84,21 +88,32 @@ pub record Drives (tree : Route) (events : List Scripted) (given : List Shown) (
   -- where each key has one server, the run is fresh
   pub fresh : is_direct tree ≡ true → IsFresh (opening_of events) (run_of log) × (report.stale ≡ 0)
 
--- after running out of memory: the same of the first events, up to the one that was broken off
-pub record DrivesPart (tree : Route) (events : List Scripted) (given : List Shown) : Type 0 where
+-- the log is of so many whole events, whose outputs are those given out, and of what was done of the next, of which nothing was given out; and the servers were left with the commands and calls of the log, or one command further
+pub record IsCutShort (log : List (Entry memcached_text)) (events : List Scripted) (count : ℕ) (given : List Shown) (fleet : MemoryFleet) : Type 0 where
+  pub whole : List (Entry memcached_text)
+  pub more : List (Entry memcached_text)
+  pub log_is : log ≡ more ++ whole
+  pub script_is : script_of whole ≡ take count events
+  pub settled : IsSettled whole
+  pub shown : given ≡ shown_of whole
+  -- nothing more was taken up, or the next event
+  pub next : (more ≡ []) ⊎ (script_of log ≡ take (count + 1) events)
+  pub kept_back : shown_of log ≡ shown_of whole
+  pub counts : IsWithinOne (commands_in (run_of log)) (calls_in (run_of log)) fleet
+
+-- after running out of memory: the same of what was done until then
+pub record DrivesPart (tree : Route) (events : List Scripted) (given : List Shown) (fleet : MemoryFleet) : Type 0 where
   pub log : List (Entry memcached_text)
   pub count : ℕ
   pub follows : Follows (words_of tree) (opening_of (take count events)) log
-  pub script_is : script_of log ≡ take count events
-  pub settled : IsSettled log
-  pub shown : given ≡ shown_of log
+  pub broken : IsCutShort log events count given fleet
   pub fresh : is_direct tree ≡ true → IsFresh (opening_of (take count events)) (run_of log)
 
 -- what a fault leaves: nothing was handed out where an event can't be
-abbrev pub EndsAsFault : Route → List Scripted → Transcript → DriveFault → Type 0
-EndsAsFault tree events transcript (BadEvent index) = transcript.shown.items ≡ []
-EndsAsFault tree events transcript NoMemory = DrivesPart tree events (transcript_of transcript)
-EndsAsFault tree events transcript Spent = DrivesPart tree events (transcript_of transcript)
+abbrev pub EndsAsFault : Route → List Scripted → Transcript → MemoryFleet → DriveFault → Type 0
+EndsAsFault tree events transcript fleet (BadEvent index) = transcript.shown.items ≡ []
+EndsAsFault tree events transcript fleet NoMemory = DrivesPart tree events (transcript_of transcript) fleet
+EndsAsFault tree events transcript fleet Spent = DrivesPart tree events (transcript_of transcript) fleet
 
 abbrev pub fault_of : FleetFault → DriveFault
 fault_of fleet_faults.NoMemory = NoMemory
@@ -120,10 +135,10 @@ IsKept Spent old new = Unit {0}
 abbrev pub HandsOut : ℕ → List ℕ → Transcript → Transcript → Type 0
 HandsOut client bytes old new = transcript_of new ≡ transcript_of old ++ log.one_shown client bytes
 
-module _ (words : Words) (old : Standing memcached_text) (given : List Shown) (fleet : MemoryFleet) (new : Standing memcached_text) (given' : List Shown) (fleet' : MemoryFleet) where
+module _ (words : Words) (old : LogState memcached_text) (given : List Shown) (fleet : MemoryFleet) (new : LogState memcached_text) (given' : List Shown) (fleet' : MemoryFleet) where
   -- each log that led there goes on by the event alone, and the servers stay as they are
   pub record TakesAlone (event : Scripted) : Type 0 where
-    pub goes : (opening : ℕ → List ℕ → Option Item) (log : List (Entry memcached_text)) → Follow.Stands words opening log old given → Follow.Stands words opening (Takes event ∷ log) new given'
+    pub goes : (opening : ℕ → List ℕ → Option Item) (log : List (Entry memcached_text)) → Follow.HasSettled words opening log old given → Follow.HasSettled words opening (Takes event ∷ log) new given'
     pub caches : fleet'.caches.items ≡ fleet.caches.items
 
   -- a server holds more before the run, and nothing else changes
@@ -141,8 +156,8 @@ module _ (words : Words) (old : Standing memcached_text) (given : List Shown) (f
 
   -- what an event changes: with a piece and with a loss the run goes on
   abbrev pub TakesBy : Scripted → Type 0
-  TakesBy (Piece client bytes) = TakesUp words old given (Piece client bytes) new given'
-  TakesBy (Now loss) = TakesUp words old given (Now loss) new given'
+  TakesBy (Piece client bytes) = GoesOnWith words old given (Piece client bytes) new given'
+  TakesBy (Now loss) = GoesOnWith words old given (Now loss) new given'
   TakesBy (At turn loss) = TakesAlone (At turn loss)
   TakesBy (Fail turn manner) = TakesAlone (Fail turn manner)
   TakesBy (Moment moment) = TakesAlone (Moment moment)
@@ -150,12 +165,30 @@ module _ (words : Words) (old : Standing memcached_text) (given : List Shown) (f
 
 -- the event was taken up
 pub record TakesEvent (clients : List Connection) (router : Router) (fleet : MemoryFleet) (transcript : Transcript) (event : Event) (clients' : List Connection) (router' : Router) (fleet' : MemoryFleet) (transcript' : Transcript) : Type 0 where
-  pub takes : (at : ℕ → Route) → IsFrom (begun_of fleet) (tree_of router) at → TakesBy (words_by at) (standing_of clients router fleet) (transcript_of transcript) fleet (standing_of clients' router' fleet') (transcript_of transcript') fleet' (scripted_of event)
+  pub takes : (at : ℕ → Route) → IsFrom (begun_of fleet) (tree_of router) at → TakesBy (words_by at) (state_of clients router fleet) (transcript_of transcript) fleet (state_of clients' router' fleet') (transcript_of transcript') fleet' (scripted_of event)
   pub tree : tree_of router' ≡ tree_of router
   pub count : count_of fleet' ≡ count_of fleet
   pub later : begun_of fleet ≤ begun_of fleet'
   pub few : router.stale ≤ begun_of fleet → router'.stale ≤ begun_of fleet'
   pub clients_are : length clients' ≡ length clients
+
+-- the log goes on by the event and by what was done of it, of which nothing was given out; the servers are as far, or one command further
+pub record GoesOnInPart (words : Words) (opening : ℕ → List ℕ → Option Item) (log : List (Entry memcached_text)) (event : Scripted) (fleet : MemoryFleet) : Type 0 where
+  pub all : List (Entry memcached_text)
+  pub more : List (Entry memcached_text)
+  pub all_is : all ≡ more ++ log
+  pub follows : Follows words opening all
+  pub script_is : script_of all ≡ script_of log ++ event ∷ []
+  pub shown_is : shown_of all ≡ shown_of log
+  pub counts : IsWithinOne (commands_in (run_of all)) (calls_in (run_of all)) fleet
+
+-- each log that led there goes on so
+abbrev pub TakesInPart : Words → LogState memcached_text → List Shown → Scripted → MemoryFleet → Type 0
+TakesInPart words old given event fleet = (opening : ℕ → List ℕ → Option Item) (log : List (Entry memcached_text)) → Follow.HasSettled words opening log old given → GoesOnInPart words opening log event fleet
+
+-- the event was broken off
+abbrev pub BreaksEvent : List Connection → Router → MemoryFleet → Transcript → Event → MemoryFleet → Type 0
+BreaksEvent clients router fleet transcript event fleet' = (at : ℕ → Route) → IsFrom (begun_of fleet) (tree_of router) at → TakesInPart (words_by at) (state_of clients router fleet) (transcript_of transcript) (scripted_of event) fleet'
 
 -- 64 clients that said nothing
 pub record AreNew (clients : List Connection) : Type 0 where

@@ -1,5 +1,5 @@
 -- What a script does whose commands may have other trees later. Source: mcgate's own.
-use Rattle.std.specs.Prelude.{◌≡◌, ℕ, zero, suc, ◌<◌, ◌≤◌, Bool, true, false, List, [], ◌∷◌, ◌++◌, length, take, Option, Some, None, nat_lt, slice_get, if◌then◌else◌}
+use Rattle.std.specs.Prelude.{◌≡◌, ℕ, zero, suc, ◌≤◌, Bool, true, false, List, [], ◌∷◌, ◌++◌, length, take, Option, Some, None, nat_lt, slice_get, if◌then◌else◌}
 use Rattle.mc_runs.specs.Run.{Run}
 use Rattle.mc_runs.specs.Protocol.{Splits}
 use Rattle.mc_runs.specs.Log.{Entry, Shown, point_of, run_of, script_of, shown_of, Follows, IsSettled, calls_in, commands_in}
@@ -14,6 +14,8 @@ use Rattle.fleet_run.specs.declared.script.DriveFault.{DriveFault}
 use Rattle.fleet_run.specs.declared.script.DriveFault.TheVariants.{BadEvent, NoMemory, Spent}
 use Rattle.fleet_run.specs.Scripted.{Scripted, transcript_of}
 use Rattle.fleet_run.specs.Opening.{opening_of}
+use Rattle.fleet_run.specs.Driving.{IsCutShort}
+use Rattle.memory_fleet.specs.declared.fleet.MemoryFleet.{MemoryFleet}
 use Rattle.fleet_run.specs.Serving.{words_by}
 
 -- after the place each comes not before the one before it, none behind the script's end, and each of its servers is there
@@ -78,20 +80,18 @@ pub record DrivesBy (first : Route) (refused : List Bool) (reloads : List Reload
   pub run : Run (words_by (tree_of_each first refused reloads begun)) (opening_of events) (run_of log)
   pub stale : report.stale ≡ stale_in (opening_of events) (run_of log)
 
--- the same of the first events and the first reloads, up to what was broken off
-pub record DrivesPartBy (first : Route) (refused : List Bool) (reloads : List Reload) (events : List Scripted) (given : List Shown) (marks : List ℕ) : Type 0 where
+-- the same of what was done until a fault, where the first reloads came before the last whole event or just after it
+pub record DrivesPartBy (first : Route) (refused : List Bool) (reloads : List Reload) (events : List Scripted) (given : List Shown) (marks : List ℕ) (fleet : MemoryFleet) : Type 0 where
   pub log : List (Entry memcached_text)
   pub count : ℕ
   pub loaded : ℕ
   pub begun : List ℕ
   pub follows : Follows (words_by (tree_of_each first refused reloads begun)) (opening_of (take count events)) log
-  pub reached : AreReached log events (take loaded reloads) begun marks
-  pub script_is : script_of log ≡ take count events
-  pub settled : IsSettled log
-  pub shown : given ≡ shown_of log
+  pub broken : IsCutShort log events count given fleet
+  pub reached : AreReached broken.whole events (take loaded reloads) begun marks
 
 -- what a fault leaves: nothing was handed out where an event can't be
-abbrev pub EndsBy : Route → List Bool → List Reload → List Scripted → Transcript → List ℕ → DriveFault → Type 0
-EndsBy first refused reloads events transcript marks (BadEvent index) = (transcript.shown.items ≡ []) × (marks ≡ [])
-EndsBy first refused reloads events transcript marks NoMemory = DrivesPartBy first refused reloads events (transcript_of transcript) marks
-EndsBy first refused reloads events transcript marks Spent = DrivesPartBy first refused reloads events (transcript_of transcript) marks
+abbrev pub EndsBy : Route → List Bool → List Reload → List Scripted → Transcript → List ℕ → MemoryFleet → DriveFault → Type 0
+EndsBy first refused reloads events transcript marks fleet (BadEvent index) = (transcript.shown.items ≡ []) × (marks ≡ [])
+EndsBy first refused reloads events transcript marks fleet NoMemory = DrivesPartBy first refused reloads events (transcript_of transcript) marks fleet
+EndsBy first refused reloads events transcript marks fleet Spent = DrivesPartBy first refused reloads events (transcript_of transcript) marks fleet

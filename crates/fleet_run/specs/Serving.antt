@@ -9,7 +9,7 @@ use Rattle.mc_runs.specs.Run.{Call, Words}
 use Rattle.mc_runs.specs.Stale.{is_delete_op, stale_since}
 use Rattle.mc_runs.specs.Protocol.{IsStuck}
 use Rattle.mc_runs.specs.Log.{Point}
-use Rattle.mc_runs.specs.Standing.{Standing, Works, MakesNamed, ShownIn}
+use Rattle.mc_runs.specs.LogState.{LogState, ServesClient, MakesNamed, ShownIn}
 use Rattle.request_parts.specs.declared.skip.Skip.TheVariants.{Nothing}
 use Rattle.client_requests.specs.declared.request.Request.{Request}
 use Rattle.client_requests.specs.declared.request.Asks.{Asks}
@@ -53,7 +53,7 @@ abbrev pub point_at : Connection → ℕ → Point memcached_text
 point_at x i = record { place = x.stream; index = i }
 
 -- clients and servers, where this client is at its place among others
-abbrev pub placed : Standing memcached_text → ℕ → Connection → ℕ → Router → MemoryFleet → Standing memcached_text
+abbrev pub placed : LogState memcached_text → ℕ → Connection → ℕ → Router → MemoryFleet → LogState memcached_text
 placed base c x i router fleet =
     record {
       point = λ d. if nat_eq c d then point_at x i else base.point d;
@@ -68,12 +68,16 @@ placed base c x i router fleet =
 
 -- what was done for the client is more of every log, whoever the others are, and whichever trees earlier commands had
 pub record Advances (old : Connection) (i : ℕ) (router : Router) (fleet : MemoryFleet) (new : Connection) (j : ℕ) (router' : Router) (fleet' : MemoryFleet) : Type 0 where
-  pub works : (at : ℕ → Route) → IsFrom (begun_of fleet) (tree_of router) at → (base : Standing memcached_text) (c : ℕ) → Works (words_by at) (placed base c old i router fleet) c (placed base c new j router' fleet')
+  pub works : (at : ℕ → Route) → IsFrom (begun_of fleet) (tree_of router) at → (base : LogState memcached_text) (c : ℕ) → ServesClient (words_by at) (placed base c old i router fleet) c (placed base c new j router' fleet')
   pub tree : tree_of router' ≡ tree_of router
   pub count : count_of fleet' ≡ count_of fleet
   pub later : begun_of fleet ≤ begun_of fleet'
   -- each command is stale once at most
   pub few : router.stale ≤ begun_of fleet → router'.stale ≤ begun_of fleet'
+
+-- so many commands began, with so many calls; or after them one more, which was broken off, with calls of its own
+abbrev pub IsWithinOne : ℕ → ℕ → MemoryFleet → Type 0
+IsWithinOne commands calls fleet = ((begun_of fleet ≡ commands) × (turn_of fleet ≡ calls)) ⊎ ((begun_of fleet ≡ commands + 1) × (calls ≤ turn_of fleet))
 
 -- where numbers are spent, none of the next 2^32 calls can be numbered, or the last command has its number
 abbrev pub SpentBy : FleetFault → MemoryFleet → Type 0
@@ -169,3 +173,12 @@ pub record ServesRequest (old : Connection) (router : Router) (fleet : MemoryFle
 pub record ServesAll (old : Connection) (router : Router) (fleet : MemoryFleet) (new : Connection) (router' : Router) (fleet' : MemoryFleet) : Type 0 where
   pub advances : Advances old 0 router fleet new 0 router' fleet'
   pub stuck : IsStuck memcached_text new.stream
+
+-- some of what was complete was done, and of the next message some keys; at most the next command had begun when a fault came
+pub record BreaksServing (old : Connection) (router : Router) (fleet fleet' : MemoryFleet) : Type 0 where
+  pub served : Connection
+  pub index : ℕ
+  pub counted : Router
+  pub mid : MemoryFleet
+  pub advances : Advances old 0 router fleet served index counted mid
+  pub counts : IsWithinOne (begun_of mid) (turn_of mid) fleet'

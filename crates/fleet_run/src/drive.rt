@@ -7,7 +7,7 @@ ghost use Rattle.memory_fleet.specs.declared.event.FleetFault.TheVariants.{NoMem
 ghost use Rattle.fleet_run.specs.Serving.{IsServed, SpentBy, tree_of};
 ghost use Rattle.fleet_run.specs.Scripted.{Scripted, scripted_of, transcript_of};
 ghost use Rattle.fleet_run.specs.Bad.{bad_in, first_bad, Refuses};
-ghost use Rattle.fleet_run.specs.Driving.{ServesPiece, HandsOut, TakesEvent, AreNew, Drives, EndsAsFault, IsSpent, IsKept, fault_of};
+ghost use Rattle.fleet_run.specs.Driving.{ServesPiece, BreaksPiece, HandsOut, TakesEvent, BreaksEvent, AreNew, Drives, EndsAsFault, IsSpent, IsKept, fault_of};
 ghost use Rattle.fleet_run.specs.Reloads.{AreInOrder, DrivesBy, DrivesPartBy, EndsBy, is_refused, one_more};
 
 use crate::bad::{CLIENTS, first_bad_event};
@@ -32,6 +32,7 @@ fn serve_piece(
     requires served { IsServed (tree_of router.old) (count_of fleet.old) }
     requires few { router.old.stale ≤ begun_of fleet.old }
     ensures spent { IfErr result (λ fault. SpentBy fault fleet.new) }
+    ensures broken { OnErr result (BreaksPiece connection.old router.old fleet.old bytes.now fleet.new) }
     ensures ok { IfOk result (λ out. ServesPiece connection.old router.old fleet.old bytes.now out.items connection.new router.new fleet.new) }
 {
     connection.feed(bytes)?;
@@ -76,6 +77,7 @@ fn take_up(
     requires good { (before : List Scripted) × (bad_in (count_of fleet.old) before (scripted_of event.now) ≡ false) }
     ensures ok { OnOk result (TakesEvent clients.old.items router.old fleet.old transcript.old event.now clients.new.items router.new fleet.new transcript.new) }
     ensures err { OnErr result (transcript.new.shown.items ≡ transcript.old.shown.items) }
+    ensures broken { OnErr result (BreaksEvent clients.old.items router.old fleet.old transcript.old event.now fleet.new) }
     ensures spent { IfErr result (λ fault. SpentBy fault fleet.new) }
 {
     match event {
@@ -179,7 +181,7 @@ fn drive_events(
     requires marks { marks.old.items ≡ [] }
     requires good { first_bad (count_of fleet.old) (map scripted_of script.now.events.items) ≡ None }
     ensures ok { IfOk result (λ report. DrivesBy tree.now refused.now reloads.now (map scripted_of script.now.events.items) (transcript_of transcript.new) marks.new.items report) }
-    ensures err { OnErr result (DrivesPartBy tree.now refused.now reloads.now (map scripted_of script.now.events.items) (transcript_of transcript.new) marks.new.items) }
+    ensures err { OnErr result (DrivesPartBy tree.now refused.now reloads.now (map scripted_of script.now.events.items) (transcript_of transcript.new) marks.new.items fleet.new) }
     ensures spent { IfErr result (λ fault. SpentBy fault fleet.new) }
 {
     let mut clients = new_clients(alloc)?;
@@ -259,7 +261,7 @@ pub fn drive_by(
     requires marks { marks.old.items ≡ [] }
     ensures refuses { MatchResult result (λ _. first_bad (count_of fleet.old) (map scripted_of script.now.events.items) ≡ None) (Refuses (count_of fleet.old) script.now) }
     ensures ok { IfOk result (λ report. DrivesBy config.now.tree refused.now reloads.now (map scripted_of script.now.events.items) (transcript_of transcript.new) marks.new.items report) }
-    ensures fault { IfErr result (λ fault. EndsBy config.now.tree refused.now reloads.now (map scripted_of script.now.events.items) transcript.new marks.new.items fault) }
+    ensures fault { IfErr result (λ fault. EndsBy config.now.tree refused.now reloads.now (map scripted_of script.now.events.items) transcript.new marks.new.items fleet.new fault) }
     ensures spent { IfErr result (λ fault. IsSpent fault fleet.new) }
     ensures kept { IfErr result (λ fault. IsKept fault fleet.old fleet.new) }
 {
@@ -299,7 +301,7 @@ pub fn drive_any(
     requires transcript { transcript.old.shown.items ≡ [] }
     ensures refuses { MatchResult result (λ _. first_bad (length config.now.servers) (map scripted_of script.now.events.items) ≡ None) (Refuses (length config.now.servers) script.now) }
     ensures ok { IfOk result (λ report. Drives config.now.tree (map scripted_of script.now.events.items) (transcript_of transcript.new) report) }
-    ensures fault { IfErr result (λ fault. EndsAsFault config.now.tree (map scripted_of script.now.events.items) transcript.new fault) }
+    ensures fault { IfErr result (λ fault. EndsAsFault config.now.tree (map scripted_of script.now.events.items) transcript.new fleet.new fault) }
     ensures spent { IfErr result (λ fault. IsSpent fault fleet.new) }
     ensures kept { IfErr result (λ fault. IsKept fault fleet.old fleet.new) }
 {

@@ -1,9 +1,9 @@
 //! What one client sent is served, message by message and key by key.
 
-ghost use Rattle.std.specs.Prelude.{◌≡◌, ◌≤◌, IfOk, IfErr, OnOk};
+ghost use Rattle.std.specs.Prelude.{◌≡◌, ◌≤◌, IfOk, IfErr, OnOk, OnErr};
 ghost use Rattle.mc_types.specs.Asks.{IsAsk};
-ghost use Rattle.memory_fleet.specs.Fleets.{count_of, begun_of};
-ghost use Rattle.fleet_run.specs.Serving.{IsServed, SpentBy, CanBeAsked, RunsBy, stamp_shown, tree_of, IsFront, IsOnWay, IsAskAt, Asked, ServesAsk, ServesKey, ServesRequest, ServesAll};
+ghost use Rattle.memory_fleet.specs.Fleets.{count_of, begun_of, turn_of};
+ghost use Rattle.fleet_run.specs.Serving.{IsServed, SpentBy, IsWithinOne, CanBeAsked, RunsBy, stamp_shown, tree_of, IsFront, IsOnWay, IsAskAt, Asked, ServesAsk, ServesKey, ServesRequest, ServesAll, BreaksServing};
 
 use crate::router::Router;
 use connections::Connection;
@@ -36,7 +36,8 @@ fn run(
     fleet: &mut MemoryFleet,
 ) -> Result<Done, AllocError>
     requires { CanBeAsked tree.now ask.now fleet.old }
-    ensures { IfOk result (λ done. RunsBy number tree.now ask.now fleet.old done fleet.new) }
+    ensures ok { IfOk result (λ done. RunsBy number tree.now ask.now fleet.old done fleet.new) }
+    ensures err { OnErr result ((begun_of fleet.new ≡ begun_of fleet.old) × (turn_of fleet.old ≤ turn_of fleet.new)) }
 {
     match execute(alloc, tree, number, ask.copy()?, fleet) {
         Ok(done) => Ok(done),
@@ -66,6 +67,7 @@ fn command(
     requires ask { IsAsk ask.now }
     ensures ok { IfOk result (λ reply. Asked router.old fleet.old ask.now reply router.new fleet.new) }
     ensures spent { IfErr result (λ fault. SpentBy fault fleet.new) }
+    ensures broken { OnErr result (IsWithinOne (begun_of fleet.old) (turn_of fleet.old) fleet.new) }
 {
     if fleet.calls() > u64::MAX - MOST_CALLS {
         return Err(FleetFault::Spent);
@@ -104,6 +106,7 @@ fn serve_ask(
     requires ask { IsAsk ask.now }
     ensures ok { IfOk result (λ ended. ServesAsk connection.old request.now index router.old fleet.old ended connection.new router.new fleet.new) }
     ensures spent { IfErr result (λ fault. SpentBy fault fleet.new) }
+    ensures broken { OnErr result (IsWithinOne (begun_of fleet.old) (turn_of fleet.old) fleet.new) }
 {
     calls_stay();
     let count = request.asks();
@@ -132,6 +135,7 @@ fn serve_key(
     requires way { IsOnWay connection.old request.now asks.old index }
     ensures ok { IfOk result (λ ended. ServesKey connection.old request.now index router.old fleet.old ended connection.new asks.new router.new fleet.new) }
     ensures spent { IfErr result (λ fault. SpentBy fault fleet.new) }
+    ensures broken { OnErr result (IsWithinOne (begun_of fleet.old) (turn_of fleet.old) fleet.new) }
 {
     let Some(ask) = asks.next(alloc, connection.stream.held())? else {
         unreachable!();
@@ -154,6 +158,7 @@ fn serve_request(
     requires front { IsFront connection.old request.now }
     ensures ok { OnOk result (ServesRequest connection.old router.old fleet.old connection.new router.new fleet.new) }
     ensures spent { IfErr result (λ fault. SpentBy fault fleet.new) }
+    ensures broken { OnErr result (BreaksServing connection.old router.old fleet.old fleet.new) }
 {
     let count = request.asks();
     if count == 0 {
@@ -179,6 +184,7 @@ pub fn serve(
     requires few { router.old.stale ≤ begun_of fleet.old }
     ensures ok { OnOk result (ServesAll connection.old router.old fleet.old connection.new router.new fleet.new) }
     ensures spent { IfErr result (λ fault. SpentBy fault fleet.new) }
+    ensures broken { OnErr result (BreaksServing connection.old router.old fleet.old fleet.new) }
 {
     loop {
         match connection.stream.read() {

@@ -1,27 +1,33 @@
 -- What the core's steps are for a core on accepted trees.
-use Rattle.std.proofs.Common.{◌≡◌, ℕ, zero, suc, ◌-◌, Bool, true, false, List, [], ◌∷◌, ◌++◌, length, slice_get, Some, Result, Ok, Err, refl, sym, ◌∙◌, subst, arith}
+use Rattle.std.proofs.Common.{◌≡◌, ℕ, zero, suc, ◌-◌, Bool, true, false, List, [], ◌∷◌, ◌++◌, length, slice_get, Option, Some, Result, Ok, Err, refl, sym, ap, ◌∙◌, subst, arith}
 use Rattle.std.specs.Prelude.{IfOk, IfErr}
 use Rattle.mc_runs.specs.Overlap as log
 use Rattle.mc_runs.specs.Overlap.{Entry}
-use Rattle.mc_runs.specs.OverlapStanding.{LeadsTo}
+use Rattle.mc_runs.specs.OverlapState.{LeadsTo}
 use Rattle.mc_runs.specs.Cover.{IsCovered}
-use Rattle.mc_runs.specs.Run.{Words}
-use Rattle.mc_runs.specs.Sharing.{AreAlone, CopiesBar}
+use Rattle.mc_types.specs.Items.{Item}
+use Rattle.mc_runs.specs.Overlap.{run_of}
+use Rattle.mc_runs.specs.OverlapState.{OverlapState}
+use Rattle.mc_runs.specs.Sharing.{AreAlone, CopiesBar, IsFreshByNumber}
 use Rattle.mc_runs.proofs.OverlapRuns.{runs}
 use Rattle.mc_runs.proofs.SharingFresh as sharing
 use Rattle.mc_runs.proofs.SharingStale.{counts_stale}
 use Rattle.route_tree.specs.At.{tree_at}
 use Rattle.route_tree.specs.Plan.{Plan}
 use Rattle.route_tree.specs.Word.{tree_words}
+use Rattle.route_tree.proofs.Copies.{trees_bar}
 use Rattle.route_json.specs.Configuration.{Configuration}
 use Rattle.fresh_gate.specs.Sound.{AreGenerations, AreLoaded, GenerationsAreFresh, IsLast, trees_of}
 use Rattle.proxy_core.specs.declared.limits.Limits.{Limits}
 use Rattle.proxy_core.specs.declared.proxy.Core.{Core}
 use Rattle.proxy_core.specs.declared.fault.CoreFault.{CoreFault}
 use Rattle.proxy_core.specs.declared.fault.CoreFault.TheVariants as faults
+use Rattle.proxy_core.specs.declared.limits.Sharing.{Sharing}
+use Rattle.proxy_core.specs.declared.limits.Sharing.TheVariants as sharings
+use Rattle.proxy_core.specs.Claims.{is_delete, clears_by, copies_by, bars_by}
 use Rattle.proxy_core.specs.Faults.{CanOpen, OpenFault}
-use Rattle.proxy_core.specs.Standing as standing
-use Rattle.proxy_core.specs.Standing.{dialect, Alone, nothing_beside, standing_of, FeedsOpen, GoesBy}
+use Rattle.proxy_core.specs.CoreState as core_state
+use Rattle.proxy_core.specs.CoreState.{dialect, bars_of, nothing_beside, state_of, FeedsOpen, GoesBy}
 use Rattle.fresh_core.specs.declared.fresh.FreshCore.{FreshCore}
 use Rattle.fresh_core.specs.Freshly.{GoesFreshly, IsNew, fed, EveryLogIsFresh}
 
@@ -37,12 +43,20 @@ tree_at_number (x ∷ xs) (suc i) c e = tree_at_number xs i c e
 all_by_last : (xs : List Configuration) (c : Configuration) → IsLast xs c → AreLoaded (trees_of xs) (λ _. c.tree)
 all_by_last xs c at = record { generation = λ _. length xs - 1; loaded = λ n. tree_at_number xs (length xs - 1) c at; rising = λ n m lt. omega arith }
 
+-- a log leads by the bars of each core of the same limits
+pub led_there :
+    (old x : Core) (opening : ℕ → List ℕ → Option Item) (at plans : ℕ → List ℕ → Plan) (log : List (Entry dialect)) (now : OverlapState dialect) → plans ≡ at → x.limits ≡ old.limits
+    → LeadsTo (tree_words at) (bars_by old.limits.sharing at) opening log now → LeadsTo (tree_words plans) (bars_by x.limits.sharing plans) opening log now
+led_there old x opening at plans log now same limits leads =
+    subst (λ (l : Limits). LeadsTo (tree_words plans) (bars_by l.sharing plans) opening log now) (sym limits)
+    (subst (λ (p : ℕ → List ℕ → Plan). LeadsTo (tree_words p) (bars_by old.limits.sharing p) opening log now) (sym same) leads)
+
 -- the empty log led to a new core
-pub new_is_led : (xs : List Configuration) (c : Configuration) (limits : Limits) (x : Core) → IsLast xs c → standing.IsFresh c.tree limits x → IsNew xs limits (record { core = x; accepted = xs })
+pub new_is_led : (xs : List Configuration) (c : Configuration) (limits : Limits) (x : Core) → IsLast xs c → core_state.IsFresh c.tree limits x → IsNew xs limits (record { core = x; accepted = xs })
 new_is_led xs c limits x at new =
     record {
       accepted_is = refl;
-      core_is = λ d other. subst (λ (k : Configuration). standing.IsFresh k.tree limits x) (same_config xs c d at other) new;
+      core_is = λ d other. subst (λ (k : Configuration). core_state.IsFresh k.tree limits x) (same_config xs c d at other) new;
       led = λ opening.
           let plans : ℕ → List ℕ → Plan = λ n key. tree_at c.tree key in
           record {
@@ -51,7 +65,7 @@ new_is_led xs c limits x at new =
             beside = nothing_beside plans opening;
             plain = refl;
             fits = new.fits plans opening (λ n key lt. refl);
-            leads = new.leads plans opening;
+            leads = subst (λ (l : Limits). LeadsTo (tree_words plans) (bars_by l.sharing plans) opening [] (state_of x (nothing_beside plans opening))) (sym new.limits_are) (new.leads plans opening);
           };
     }
 
@@ -68,7 +82,7 @@ goes old x IsKind step opening past led =
         beside = s.0;
         plain = at ∙ led.plain;
         fits = s.2;
-        leads = subst (λ (plans : ℕ → List ℕ → Plan). LeadsTo (tree_words plans) Alone opening (s.1 ++ past) (standing_of x s.0)) (sym at) (s.5 opening past led.leads);
+        leads = led_there old.core x opening led.beside.at s.0.at (s.1 ++ past) (state_of x s.0) at s.6 (s.5 opening past led.leads);
       },
       s.3,
     )
@@ -82,24 +96,29 @@ pub feeds : (b : Bool) (old : FreshCore) (x : Core) (client : ℕ) (bytes : List
 feeds true old x client bytes same = subst (λ (y : Core). GoesFreshly old (λ entries. entries ≡ []) (record old { core = y })) (sym same) (stays old)
 feeds false old x client bytes step = goes old x (λ entries. entries ≡ log.Feeds client bytes ∷ []) step
 
--- each command has its key alone, so what copies bars deletes of its key
-alone : AreAlone Alone
-alone number other ask client same = same
+-- what copies bars deletes of its key, by either rule
+copies : (sharing : Sharing) (at : ℕ → List ℕ → Plan) → CopiesBar (tree_words at) (bars_by sharing at)
+copies sharings.Alone at number ask calls reply from word j call i made copied n delete is same = (refl, refl)
+copies sharings.Shared at number ask calls reply from word j call i made copied n delete is same =
+    let bars = trees_bar at number ask calls reply from word j call i made copied n delete is same in (bars.0, ap is_delete bars.1)
 
-copies : (words : Words) → CopiesBar words Alone
-copies words number ask calls reply from word j call i made copied n delete is same = same
+-- by the first rule each command has its key alone
+alone : (sharing : Sharing) (at : ℕ → List ℕ → Plan) → sharing ≡ sharings.Alone → AreAlone (bars_by sharing at)
+alone sharing at e number other ask client same = (ap (λ s. copies_by s ask.op (at number ask.key)) e, ap (λ s. clears_by s client.op) e)
 
 -- each log is fresh
 pub logs_are_fresh : GenerationsAreFresh → (fresh : FreshCore) → AreGenerations (trees_of fresh.accepted) → EveryLogIsFresh fresh
 logs_are_fresh law fresh are opening past led =
     let words = tree_words led.beside.at in
     let covered : IsCovered words = subst (λ (plans : ℕ → List ℕ → Plan). IsCovered (tree_words plans)) (sym led.plain) ((law (trees_of fresh.accepted) are).1 led.tree led.loaded) in
-    let run = runs dialect words Alone opening past led.leads.follows in
-    let by = sharing.fresh_by_number words Alone covered alone opening _ run in
+    let rule = fresh.core.limits.sharing in
+    let Bars = bars_of fresh.core led.beside in
+    let run = runs dialect words Bars opening past led.leads.follows in
+    let by : rule ≡ sharings.Alone → IsFreshByNumber opening (run_of past) = λ e. sharing.fresh_by_number words Bars covered (alone rule led.beside.at e) opening _ run in
     record {
-      fresh = sharing.fresh words Alone covered (copies words) opening _ run;
+      fresh = sharing.fresh words Bars covered (copies rule led.beside.at) opening _ run;
       by_number = by;
-      none_stale = (counts_stale words Alone opening alone).none _ run by;
+      none_stale = λ e. (counts_stale words Bars opening (alone rule led.beside.at e)).none _ run (by e);
     }
 
 -- room for more clients
@@ -113,7 +132,7 @@ grown old n opening past led =
         loaded = led.loaded;
         beside = led.beside;
         plain = led.plain;
-        fits = record { queues = f.queues; held = f.held; numbered = f.numbered; left = f.left; tickets = f.tickets; single = f.single; numbers = f.numbers; unseen = f.unseen; trees = f.trees };
+        fits = record { queues = f.queues; held = f.held; numbered = f.numbered; to_come = f.to_come; tickets = f.tickets; single = f.single; numbers = f.numbers; unseen = f.unseen; trees = f.trees };
         leads = led.leads;
       },
       record { at = refl; holds = refl; found = refl; turn = refl },
@@ -121,7 +140,7 @@ grown old n opening past led =
 
 -- a client came, or none
 pub opens :
-    (old : FreshCore) (x : Core) (result : Result ℕ CoreFault) → IfOk result (λ client. CanOpen old.core × standing.Opens old.core client x) → IfErr result (λ fault. OpenFault old.core fault x)
+    (old : FreshCore) (x : Core) (result : Result ℕ CoreFault) → IfOk result (λ client. CanOpen old.core × core_state.Opens old.core client x) → IfErr result (λ fault. OpenFault old.core fault x)
     → GoesFreshly old (λ entries. entries ≡ []) (record old { core = x })
 opens old x (Ok client) opened failed = goes old x (λ entries. entries ≡ []) opened.1.goes
 opens old x (Err faults.TooManyClients) opened failed = subst (λ (y : Core). GoesFreshly old (λ entries. entries ≡ []) (record old { core = y })) (sym failed.1) (stays old)

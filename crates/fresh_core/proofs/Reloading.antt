@@ -11,8 +11,8 @@ use Rattle.route_json.specs.Configuration.{Configuration}
 use Rattle.fresh_gate.specs.Sound.{AreLoaded, trees_of}
 use Rattle.fresh_gate.proofs.Following.{trees_more}
 use Rattle.proxy_core.specs.declared.proxy.Core.{Core}
-use Rattle.proxy_core.specs.Standing as standing
-use Rattle.proxy_core.specs.Standing.{dialect, IsTakenOver}
+use Rattle.proxy_core.specs.CoreState as core_state
+use Rattle.proxy_core.specs.CoreState.{dialect, IsTakenOver}
 use Rattle.fresh_core.specs.declared.fresh.FreshCore.{FreshCore}
 use Rattle.fresh_core.specs.Freshly.{MayHaveLed}
 use Rattle.fresh_core.specs.Reloading.{TakesOver, LoadsFreshly}
@@ -61,7 +61,7 @@ loaded_more trees tree number new h =
 
 -- the core took the tree of one more configuration
 pub loads :
-    (old : FreshCore) (x : Core) (configs : List Configuration) (config : Configuration) (number : ℕ) → configs ≡ old.accepted ++ config ∷ [] → number ≡ length configs → standing.Reloads old.core config.tree x
+    (old : FreshCore) (x : Core) (configs : List Configuration) (config : Configuration) (number : ℕ) → configs ≡ old.accepted ++ config ∷ [] → number ≡ length configs → core_state.Reloads old.core config.tree x
     → LoadsFreshly old config number (record { core = x; accepted = configs })
 loads old x configs config number is count step = record { accepted = is; number_is = count; reloads = step; goes = over }
   where

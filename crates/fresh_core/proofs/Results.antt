@@ -1,22 +1,19 @@
 -- Polls and results of a core on accepted trees.
-use Rattle.std.proofs.Common.{◌≡◌, ℕ, List, [], ◌∷◌, ◌++◌, sym, ap, ◌∙◌, subst}
+use Rattle.std.proofs.Common.{◌≡◌, ℕ, List, [], ◌∷◌, ◌++◌, ap, ◌∙◌}
 use Rattle.mc_types.specs.declared.call.Outcome.{Outcome}
 use Rattle.mc_runs.specs.Overlap as log
 use Rattle.mc_runs.specs.Overlap.{Entry, Happens}
-use Rattle.mc_runs.specs.OverlapStanding.{LeadsTo}
-use Rattle.route_tree.specs.Plan.{Plan}
-use Rattle.route_tree.specs.Word.{tree_words}
 use Rattle.proxy_core.specs.declared.command.Command.{Command}
 use Rattle.proxy_core.specs.declared.fault.CoreFault.{CoreFault}
 use Rattle.proxy_core.specs.declared.fault.CoreFault.TheVariants as faults
 use Rattle.proxy_core.specs.declared.proxy.Core.{Core}
-use Rattle.proxy_core.specs.Standing.{dialect, Alone, standing_of}
+use Rattle.proxy_core.specs.CoreState.{dialect, state_of}
 use Rattle.proxy_core.specs.Steps.{event_of}
 use Rattle.proxy_core.specs.Settles.{SettlesBy, Settles, SettleFault, freed}
 use Rattle.proxy_core.specs.Polls.{PollFault, SoFar, Then}
 use Rattle.fresh_core.specs.declared.fresh.FreshCore.{FreshCore}
 use Rattle.fresh_core.specs.Results.{PollStops, SettlesOn, SettlesFreshly, SettleStops}
-use Rattle.fresh_core.proofs.Keeping.{goes}
+use Rattle.fresh_core.proofs.Keeping.{goes, led_there}
 
 -- the core is as it was
 pub same : (old : FreshCore) (x : Core) → x ≡ old.core → record old { core = x } ≡ old
@@ -45,7 +42,7 @@ settles_on old x number a outcome IsMore by opening past led end is ends =
         beside = s.0;
         plain = at ∙ led.plain;
         fits = s.2;
-        leads = subst (λ (plans : ℕ → List ℕ → Plan). LeadsTo (tree_words plans) Alone opening ((s.1 ++ Happens (event_of number a end) ∷ []) ++ past) (standing_of x s.0)) (sym at) (s.5 opening past led.leads);
+        leads = led_there old.core x opening led.beside.at s.0.at ((s.1 ++ Happens (event_of number a end) ∷ []) ++ past) (state_of x s.0) at s.6 (s.5 opening past led.leads);
       },
       s.3,
     )

@@ -3,7 +3,7 @@ use Rattle.std.specs.Prelude.{◌≡◌, ℕ, List, ◌∷◌, Option}
 use Rattle.mc_types.specs.Items.{Item}
 use Rattle.mc_runs.specs.Sharing.{Event, Begins, Calls, Replies, Breaks, Loses, Restarts, after_event}
 use Rattle.mc_runs.specs.Overlap.{Entry, Happens}
-use Rattle.proxy_core.specs.Standing.{dialect}
+use Rattle.proxy_core.specs.CoreState.{dialect}
 use Rattle.fresh_core.specs.declared.fresh.FreshCore.{FreshCore}
 use Rattle.fresh_core.specs.Freshly.{MayHaveLed}
 

@@ -8,8 +8,8 @@ use Rattle.fresh_gate.specs.Sound.{trees_of}
 use Rattle.fresh_gate.specs.Reload.{IsReloadFault}
 use Rattle.fresh_gate.specs.declared.reloading.ReloadFault.{ReloadFault}
 use Rattle.fresh_gate.specs.declared.reloading.ReloadFault.TheVariants.{TooManyGenerations}
-use Rattle.proxy_core.specs.Standing as standing
-use Rattle.proxy_core.specs.Standing.{dialect}
+use Rattle.proxy_core.specs.CoreState as core_state
+use Rattle.proxy_core.specs.CoreState.{dialect}
 use Rattle.fresh_core.specs.declared.fresh.FreshCore.{FreshCore}
 use Rattle.fresh_core.specs.Freshly.{MayHaveLed}
 
@@ -24,7 +24,7 @@ pub record TakesOver (opening : ℕ → List ℕ → Option Item) (past : List (
 pub record LoadsFreshly (old : FreshCore) (config : Configuration) (number : ℕ) (new : FreshCore) : Type 0 where
   pub accepted : new.accepted ≡ old.accepted ++ config ∷ []
   pub number_is : number ≡ length new.accepted
-  pub reloads : standing.Reloads old.core config.tree new.core
+  pub reloads : core_state.Reloads old.core config.tree new.core
   pub goes : (opening : ℕ → List ℕ → Option Item) (past : List (Entry dialect)) (led : MayHaveLed opening past old) → TakesOver opening past config.tree old new led
 
 -- the gate's fault, or the core has no number for one more tree

@@ -12,7 +12,7 @@ use Rattle.route_job.specs.Jobs.{server_in}
 use Rattle.proxy_core.specs.declared.command.Command.{Command}
 use Rattle.proxy_core.specs.declared.fault.CoreFault.{CoreFault}
 use Rattle.proxy_core.specs.declared.fault.CoreFault.TheVariants as faults
-use Rattle.proxy_core.specs.Standing.{dialect, client_at, dropped_by, IsBeside}
+use Rattle.proxy_core.specs.CoreState.{dialect, client_at, dropped_by, IsBeside}
 use Rattle.proxy_core.specs.Steps.{event_of, settled}
 use Rattle.proxy_core.specs.Settles.{Settles, Breaks, freed}
 use Rattle.proxy_core.specs.Polls.{StopsAt, SoFar, Then}

@@ -1,17 +1,18 @@
 //! The core with the configurations by which its commands run.
 
-ghost use Rattle.std.specs.Prelude.{◌≡◌, ◌<◌, [], ◌∷◌, ◌↔◌, IsTrue, IfOk, IfErr, OnOk, option_map};
+ghost use Rattle.std.specs.Prelude.{◌≡◌, ◌<◌, [], ◌∷◌, ◌++◌, ◌↔◌, IsTrue, IfOk, IfErr, OnOk, OnErr, option_map};
 ghost use Rattle.mc_runs.specs.Overlap as log;
 ghost use Rattle.proxy_core.specs.Faults.{IsClosed, CanOpen, CanFeed, CanClose, OpenFault, FeedFault, OutputFault, CloseFault};
 ghost use Rattle.fresh_gate.specs.Reload.{KeepsNumbers};
 ghost use Rattle.fresh_gate.specs.Sound.{IsLast};
-ghost use Rattle.proxy_core.specs.Standing.{IsOut, Opens, Feeds, Gives, Closes, Reloads, client_at, dropped_by};
+ghost use Rattle.proxy_core.specs.CoreState.{IsOut, Opens, Feeds, Gives, Closes, Reloads, client_at, dropped_by, output_by};
 ghost use Rattle.proxy_core.specs.Polls.{Polls, PollFault, Then, Perhaps, BeginsOne, IsPolled};
 ghost use Rattle.proxy_core.specs.Settles.{FitsCall, asked, SettleFault};
 ghost use Rattle.fresh_core.specs.Freshly.{IsNew, GoesFreshly, fed};
 ghost use Rattle.fresh_core.specs.Reloading.{LoadsFreshly, IsRefused};
 ghost use Rattle.fresh_core.specs.Results.{PollStops, SettlesFreshly, SettleStops};
 
+use bytes::BytesMut;
 use fresh_gate::{Accepted, ReloadFault};
 use mc_types::{Ask, Outcome};
 use proxy_core::{Core, CoreFault, Limits, Poll, Ticket};
@@ -59,6 +60,18 @@ impl FreshCore {
         ensures fresh { OnOk result (GoesFreshly self.old (λ entries. entries ≡ fed (dropped_by (client_at self.old.core client)) client piece.now) self.new) }
     {
         self.core.feed(client, piece)
+    }
+
+    /// As `Core::move_output`.
+    pub fn move_output(&mut self, client: usize, out: &mut BytesMut) -> Result<(), CoreFault>
+        ensures bytes { OnOk result (out.new.items ≡ out.old.items ++ output_by (client_at self.old.core client)) }
+        ensures ok { OnOk result (Gives self.old.core client (output_by (client_at self.old.core client)) self.new.core) }
+        ensures err { IfErr result (λ fault. OutputFault self.old.core client fault × (self.new ≡ self.old)) }
+        ensures out { OnErr result (out.new.items ≡ out.old.items) }
+        ensures accepted { self.new.accepted ≡ self.old.accepted }
+        ensures fresh { OnOk result (GoesFreshly self.old (λ entries. entries ≡ log.Gives client (output_by (client_at self.old.core client)) ∷ []) self.new) }
+    {
+        self.core.move_output(client, out)
     }
 
     /// As `Core::take_output`.

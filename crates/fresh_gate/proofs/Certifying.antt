@@ -2,7 +2,7 @@
 use Rattle.std.proofs.Common.{◌≡◌, ℕ, zero, suc, ◌+◌, ◌*◌, ◌^◌, ◌<◌, ◌≤◌, Bool, true, false, cond, ◌||◌, List, [], ◌∷◌, length, nat_eq, nat_le, slice_get, Option, Some, refl, sym, ap, ◌∙◌, subst, arith}
 use Rattle.std.proofs.lemmas.Bool.{leb-true, le-leb}
 use Rattle.route_tree.specs.Each.{Each}
-use Rattle.route_tree.specs.At.{left_of}
+use Rattle.route_tree.specs.At.{plain_for}
 use Rattle.route_tree.specs.Place.{prefix_text}
 use Rattle.route_tree.specs.Route.{Route, IsTree}
 use Rattle.certificates.specs.declared.table.Class.{Class}
@@ -21,7 +21,7 @@ use Rattle.fresh_gate.specs.declared.pairs.TwoEnd.TheVariants as tables
 use Rattle.fresh_gate.specs.Gate.{IsCertifiedBy}
 use Rattle.fresh_gate.specs.Pairs.{AreCoveredBelow, IsTwoEnd}
 use Rattle.fresh_gate.proofs.PoolCounts.{few_pools}
-use Rattle.fresh_gate.proofs.RowTests.{good_left}
+use Rattle.fresh_gate.proofs.RowTests.{good_plain}
 use Rattle.fresh_gate.proofs.Two.{class_within}
 
 -- ---- a row
@@ -125,17 +125,17 @@ module _ (tree : Route) (is : IsTree tree) (table : PlaceTable) where
   -- ---- a class
 
   module _ (m : ℕ) where
-    good_row : (prefix : Option (List ℕ)) (k r : ℕ) → r < k → AreCoveredBelow tree tree m prefix k → IsValidRow (left_of r (prefix_text prefix) tree) (row (prefix_text prefix) r)
+    good_row : (prefix : Option (List ℕ)) (k r : ℕ) → r < k → AreCoveredBelow tree tree m prefix k → IsValidRow (plain_for r (prefix_text prefix) tree) (row (prefix_text prefix) r)
     good_row prefix k r lt covers =
         let text = prefix_text prefix in
         let those : IsRowOf r (taken_pools text tree) (row text r) = record { rising = all_rise (servers_at r (taken_pools text tree)); holds = all_held (servers_at r (taken_pools text tree)) } in
-        valid_if_covered text tree r (row text r) (good_left tree text r is) those (covers r lt)
+        valid_if_covered text tree r (row text r) (good_plain tree text r is) those (covers r lt)
 
     good_class : (c : Class) (small : c.modulus ≤ 262144) → IsClass (tree ∷ []) c → AreCoveredBelow tree tree m c.prefix c.modulus → IsShaped c (rows c small) × AreValidRows tree m c (rows c small)
     good_class c small known covers =
         let text = prefix_text c.prefix in
         let shaped : IsShaped c (rows c small) = (refl, are_runs text c.modulus known.some) in
-        (shaped, looks_are_enough tree m c (rows c small) known shaped (λ r lt. subst (IsValidRow (left_of r text tree)) (sym (own_first text c.modulus r lt)) (good_row c.prefix c.modulus r lt covers)))
+        (shaped, looks_are_enough tree m c (rows c small) known shaped (λ r lt. subst (IsValidRow (plain_for r text tree)) (sym (own_first text c.modulus r lt)) (good_row c.prefix c.modulus r lt covers)))
 
     -- ---- all classes
 

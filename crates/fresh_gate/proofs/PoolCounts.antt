@@ -4,7 +4,7 @@ use Rattle.mc_types.specs.declared.ask.Op.{Op}
 use Rattle.mc_types.specs.declared.ask.Op.TheVariants.{Get, Gat, Incr, Decr}
 use Rattle.route_tree.specs.Operation.{same_op}
 use Rattle.route_tree.specs.Route.{Route, Routes, Policies, Prefixes, Pool, Server, Null, Failing, AllSync, Failover, MissFailover, WarmUp, ByOperation, ByPrefix, End, More, Otherwise, Policy, Wildcard, Prefix, count, count_of_all, count_of_policies, count_of_prefixes}
-use Rattle.route_tree.specs.At.{begins, is_longer, left_of, left_of_all}
+use Rattle.route_tree.specs.At.{begins, is_longer, plain_for, plain_for_all}
 use Rattle.route_tree.specs.Chosen.{chosen}
 use Rattle.coverage.specs.Computed.{is_get, fails, hits_each, adds}
 use Rattle.coverage.specs.Pools.{pools_of, pools_of_each, pools_of_some, pools_of_first, pools_of_head, pools_of_policy, has_pool, with_pool, distinct_after, sought_pools, taken_pools}
@@ -46,7 +46,7 @@ module _ (text : List ℕ) (op : Op) where
         let h = either_len (is_get op) (pools_of_some text op sh co rs) (pools_of_head text op sh co rs) (count_of_all rs) (some_len rs sh co) (head_len rs sh co) in
         omega (arith, h)
     pools_len (WarmUp cold warm e) sh co =
-        let sh2 = sh || (co && adds (left_of 0 text cold)) in
+        let sh2 = sh || (co && adds (plain_for 0 text cold)) in
         let w = either_len (is_get op) (pools_of text op sh2 co warm) [] (count warm) (pools_len warm sh2 co) (none_len (count warm)) in
         let h = both_len (pools_of text op sh co cold) (cond (is_get op) (pools_of text op sh2 co warm) []) (count cold) (count warm) (pools_len cold sh co) w in
         omega (arith, h)
@@ -59,7 +59,7 @@ module _ (text : List ℕ) (op : Op) where
     each_len : (rs : Routes) (sh co : Bool) → length (pools_of_each text op sh co rs) ≤ count_of_all rs
     each_len End sh co = omega arith
     each_len (More r rs) sh co =
-        let sh2 = sh && hits_each op (left_of_all 0 text rs) in
+        let sh2 = sh && hits_each op (plain_for_all 0 text rs) in
         both_len (pools_of text op sh2 co r) (pools_of_some text op false co rs) (count r) (count_of_all rs) (pools_len r sh2 co) (some_len rs false co)
 
     some_len : (rs : Routes) (sh co : Bool) → length (pools_of_some text op sh co rs) ≤ count_of_all rs
@@ -69,8 +69,8 @@ module _ (text : List ℕ) (op : Op) where
     first_len : (rs : Routes) (sh co : Bool) → length (pools_of_first text op sh co rs) ≤ count_of_all rs
     first_len End sh co = omega arith
     first_len (More r rs) sh co =
-        both_len (pools_of text op sh co r) (cond (fails op (left_of 0 text r)) (pools_of_first text op sh co rs) []) (count r) (count_of_all rs) (pools_len r sh co)
-        (either_len (fails op (left_of 0 text r)) (pools_of_first text op sh co rs) [] (count_of_all rs) (first_len rs sh co) (none_len (count_of_all rs)))
+        both_len (pools_of text op sh co r) (cond (fails op (plain_for 0 text r)) (pools_of_first text op sh co rs) []) (count r) (count_of_all rs) (pools_len r sh co)
+        (either_len (fails op (plain_for 0 text r)) (pools_of_first text op sh co rs) [] (count_of_all rs) (first_len rs sh co) (none_len (count_of_all rs)))
 
     head_len : (rs : Routes) (sh co : Bool) → length (pools_of_head text op sh co rs) ≤ count_of_all rs
     head_len End sh co = omega arith

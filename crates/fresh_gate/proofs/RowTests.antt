@@ -1,11 +1,11 @@
 -- Rows of servers that are taken, and the tests of a row.
 use Rattle.std.proofs.Common.{◌≡◌, ◌↔◌, IsTrue, ℕ, ◌<◌, Bool, true, false, cond, not, ap, ◌&&◌, List, [], ◌∷◌, inl, inr, ⊎_elim, refl, sym, ◌∙◌, subst, arith, nat_eq, nat_lt, Result, Ok, Err, IfOk}
 use Rattle.std.proofs.lemmas.Bool.{eqb-true, eq-eqb, leb-true, le-leb}
-use Rattle.route_tree.specs.At.{left_of}
+use Rattle.route_tree.specs.At.{plain_for}
 use Rattle.route_tree.specs.Each.{Each, IsIn}
 use Rattle.route_tree.specs.Plan.{Plan, IsGood}
 use Rattle.route_tree.specs.Route.{Route, IsTree}
-use Rattle.route_tree.proofs.Left.{plan_left}
+use Rattle.route_tree.proofs.PlainTrees.{plan_plain}
 use Rattle.route_tree.proofs.Parts.{each_weaker}
 use Rattle.coverage.specs.declared.deleting.Deleting.{Deleting}
 use Rattle.coverage.specs.declared.deleting.Deleting.TheVariants as kinds
@@ -66,10 +66,10 @@ holding row (x ∷ xs) f = both (has row x) _ (in_has row x (f x (inl refl))) (h
 
 -- ---- the row of what is taken
 
-pub good_left : (tree : Route) (text : List ℕ) (residue : ℕ) → IsTree tree → IsGood (left_of residue text tree)
-good_left tree text residue is = (plan_left residue text tree is).good
+pub good_plain : (tree : Route) (text : List ℕ) (residue : ℕ) → IsTree tree → IsGood (plain_for residue text tree)
+good_plain tree text residue is = (plan_plain residue text tree is).good
 
-pub taken_row : (text : List ℕ) (tree : Route) (residue : ℕ) (row : List ℕ) → IsRowOf residue (taken_pools text tree) row → IsTakenRow (left_of residue text tree) row
+pub taken_row : (text : List ℕ) (tree : Route) (residue : ℕ) (row : List ℕ) → IsRowOf residue (taken_pools text tree) row → IsTakenRow (plain_for residue text tree) row
 taken_row text tree residue row h = record {
   rising = h.rising;
   holds = λ s. h.holds s ∙ pools_are_taken text residue s tree;
@@ -93,23 +93,23 @@ module _ (plain : Plan) (good : IsGood plain) where
   of_clear (x ∷ xs) f = both (cleared plain x) _ ((cleared_is_exact plain kinds.Delete x good).1 (f x (inl refl) kinds.Delete)) (of_clear xs (λ s i kind. f s (inr i) kind))
 
 -- pools that aren't doubted are cleared
-sure_more : (text : List ℕ) (tree : Route) (hash : ℕ) (p : List ℕ) (ps : List (List ℕ)) (b : Bool) → doubts text p tree ≡ b → (all_cleared (left_of hash text tree) (servers_at hash (doubted_pools text tree ps)) ≡ true → all_cleared (left_of hash text tree) (servers_at hash ps) ≡ true) → all_cleared (left_of hash text tree) (servers_at hash (cond b (p ∷ doubted_pools text tree ps) (doubted_pools text tree ps))) ≡ true → all_cleared (left_of hash text tree) (servers_at hash (p ∷ ps)) ≡ true
+sure_more : (text : List ℕ) (tree : Route) (hash : ℕ) (p : List ℕ) (ps : List (List ℕ)) (b : Bool) → doubts text p tree ≡ b → (all_cleared (plain_for hash text tree) (servers_at hash (doubted_pools text tree ps)) ≡ true → all_cleared (plain_for hash text tree) (servers_at hash ps) ≡ true) → all_cleared (plain_for hash text tree) (servers_at hash (cond b (p ∷ doubted_pools text tree ps) (doubted_pools text tree ps))) ≡ true → all_cleared (plain_for hash text tree) (servers_at hash (p ∷ ps)) ≡ true
 sure_more text tree hash p ps true e rest k =
-    let plain = left_of hash text tree in
+    let plain = plain_for hash text tree in
     let two = both_split (cleared plain (server_at hash p)) (all_cleared plain (servers_at hash (doubted_pools text tree ps))) k in
     both (cleared plain (server_at hash p)) _ two.0 (rest two.1)
-sure_more text tree hash p ps false e rest k = both (cleared (left_of hash text tree) (server_at hash p)) _ (ap not (sure text p hash tree e)) (rest k)
+sure_more text tree hash p ps false e rest k = both (cleared (plain_for hash text tree) (server_at hash p)) _ (ap not (sure text p hash tree e)) (rest k)
 
-all_sure : (text : List ℕ) (tree : Route) (hash : ℕ) (pools : List (List ℕ)) → all_cleared (left_of hash text tree) (servers_at hash (doubted_pools text tree pools)) ≡ true → all_cleared (left_of hash text tree) (servers_at hash pools) ≡ true
+all_sure : (text : List ℕ) (tree : Route) (hash : ℕ) (pools : List (List ℕ)) → all_cleared (plain_for hash text tree) (servers_at hash (doubted_pools text tree pools)) ≡ true → all_cleared (plain_for hash text tree) (servers_at hash pools) ≡ true
 all_sure text tree hash [] h = refl
 all_sure text tree hash (p ∷ ps) h = sure_more text tree hash p ps (doubts text p tree) refl (all_sure text tree hash ps) h
 
 -- where the doubted pools of what is taken are cleared, there is no gap
-pub cleared_covers : (text : List ℕ) (residue : ℕ) (earlier later : Route) → IsTree earlier → IsTree later → all_cleared (left_of residue text earlier) (servers_at residue (doubted_pools text earlier (taken_pools text later))) ≡ true → Covers (left_of residue text earlier) (left_of residue text later)
+pub cleared_covers : (text : List ℕ) (residue : ℕ) (earlier later : Route) → IsTree earlier → IsTree later → all_cleared (plain_for residue text earlier) (servers_at residue (doubted_pools text earlier (taken_pools text later))) ≡ true → Covers (plain_for residue text earlier) (plain_for residue text later)
 cleared_covers text residue earlier later is was h op taking s takes_it kind =
     let row = servers_at residue (taken_pools text later) in
-    clear_of (left_of residue text earlier) (good_left earlier text residue is) row (all_sure text earlier residue (taken_pools text later) h) s
-    (holds_those (left_of residue text later) (good_left later text residue was) row (λ t. pools_are_taken text residue t later) op taking s takes_it) kind
+    clear_of (plain_for residue text earlier) (good_plain earlier text residue is) row (all_sure text earlier residue (taken_pools text later) h) s
+    (holds_those (plain_for residue text later) (good_plain later text residue was) row (λ t. pools_are_taken text residue t later) op taking s takes_it) kind
 
 -- where there is no gap, all that is taken is cleared
 
@@ -146,6 +146,6 @@ module _ (plain : Plan) (good : IsGood plain) (taken : List ℕ) (t : IsTakenRow
     cleared = λ s i kind. clear_of plain good taken h s i kind;
   })
 
-pub taken_row_if : {A B : Type 0} (text : List ℕ) (tree : Route) (pools : List (List ℕ)) (residue : ℕ) (row : List ℕ) (x : Result A B) → pools ≡ taken_pools text tree → IfOk x (λ _. IsRowOf residue pools row) → IfOk x (λ _. IsTakenRow (left_of residue text tree) row)
+pub taken_row_if : {A B : Type 0} (text : List ℕ) (tree : Route) (pools : List (List ℕ)) (residue : ℕ) (row : List ℕ) (x : Result A B) → pools ≡ taken_pools text tree → IfOk x (λ _. IsRowOf residue pools row) → IfOk x (λ _. IsTakenRow (plain_for residue text tree) row)
 taken_row_if text tree pools residue row (Ok a) e h = taken_row text tree residue row (subst (λ (l : List (List ℕ)). IsRowOf residue l row) e h)
 taken_row_if text tree pools residue row (Err b) e h = tt

@@ -4,7 +4,7 @@ use Rattle.std.specs.Int.{◌∣◌}
 use Rattle.route_tree.specs.Each.{Each, IsIn}
 use Rattle.route_tree.specs.Plan.{Plan}
 use Rattle.route_tree.specs.Route.{Route}
-use Rattle.route_tree.specs.At.{left_of}
+use Rattle.route_tree.specs.At.{plain_for}
 use Rattle.route_tree.specs.Place.{sizes, prefixes, prefix_text, IsLeastCommonMultiple}
 use Rattle.route_tree.proofs.Parts.{each_at}
 use Rattle.route_tree.proofs.Places.{each_left, each_right}
@@ -70,9 +70,9 @@ module _ (earlier later : Route) (table : PlaceTable) (t : IsTableOf (earlier �
       let S = sizes (resolved text earlier) in
       let T = sizes (resolved text later) in
       let common : Each (λ n. n ∣ k) (S ++ T) = subst (Each (λ n. n ∣ k)) (two S T) is.common in
-      let one : left_of q text earlier ≡ left_of (q % k) text earlier = same_left text earlier k q (each_left (λ n. n ∣ k) S T common) in
-      let other : left_of q text later ≡ left_of (q % k) text later = same_left text later k q (each_right (λ n. n ∣ k) S T common) in
-      subst (λ (x : Plan). Covers x (left_of q text later)) (sym one) (subst (λ (x : Plan). Covers (left_of (q % k) text earlier) x) (sym other) (looks (q % k) below))
+      let one : plain_for q text earlier ≡ plain_for (q % k) text earlier = same_left text earlier k q (each_left (λ n. n ∣ k) S T common) in
+      let other : plain_for q text later ≡ plain_for (q % k) text later = same_left text later k q (each_right (λ n. n ∣ k) S T common) in
+      subst (λ (x : Plan). Covers x (plain_for q text later)) (sym one) (subst (λ (x : Plan). Covers (plain_for (q % k) text earlier) x) (sym other) (looks (q % k) below))
 
   covered_at : (i : ℕ) (c : Class) → slice_get table.classes.items i ≡ Some c → PairEndsAt earlier later table.modulus table.classes.items i ends.Covered → (q : ℕ) → IsCoveredAt earlier later table.modulus c.prefix q
   covered_at i c e end q = all_covered c (each_at (IsClass (earlier ∷ later ∷ [])) table.classes.items i c t.moduli e) (end c e) q

@@ -1,7 +1,7 @@
 //! Looks at the rows of a certificate, one for each residue of each class's own modulus.
 
 ghost use Rattle.std.specs.Prelude.{◌≡◌, ◌≤◌, ℕ, IfOk, length};
-ghost use Rattle.route_tree.specs.At.{left_of};
+ghost use Rattle.route_tree.specs.At.{plain_for};
 ghost use Rattle.route_tree.specs.Place.{prefix_text};
 ghost use Rattle.coverage.specs.Doubted.{doubted_pools};
 ghost use Rattle.coverage.specs.Pools.{taken_pools};
@@ -72,7 +72,7 @@ fn look_at(
     row: &[ServerId],
 ) -> Result<Look, AllocError>
     requires doubted { doubted.now ≡ doubted_pools (prefix_text class.now.prefix) tree.now (taken_pools (prefix_text class.now.prefix) tree.now) }
-    requires taken { IsTakenRow (left_of residue (prefix_text class.now.prefix) tree.now) taken.now }
+    requires taken { IsTakenRow (plain_for residue (prefix_text class.now.prefix) tree.now) taken.now }
     ensures { IfOk result (λ seen. IsLook (plain_of tree.now class.now.prefix modulus residue) row.now seen) }
 {
     let _form = tree.form();

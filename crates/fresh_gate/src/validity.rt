@@ -2,7 +2,7 @@
 //! once a class, and deletes are looked at on the tree itself, for pools that they aren't known to clear.
 
 ghost use Rattle.std.specs.Prelude.{◌≡◌, ◌↔◌, ◌&&◌, IfOk, IsTrue, true};
-ghost use Rattle.route_tree.specs.At.{left_of};
+ghost use Rattle.route_tree.specs.At.{plain_for};
 ghost use Rattle.coverage.specs.Pools.{has, servers_at, taken_pools};
 ghost use Rattle.certificates.specs.Valid.{IsValidRow};
 ghost use Rattle.fresh_gate.specs.Rows.{IsTakenRow, rises_above, rises, holds_all, all_cleared};
@@ -24,7 +24,7 @@ pub fn take_row(
     row: &mut Vec<ServerId>,
 ) -> Result<(), AllocError>
     requires { pools.now ≡ taken_pools text.now tree.now }
-    ensures { IfOk result (λ _. IsTakenRow (left_of residue text.now tree.now) row.new.items) }
+    ensures { IfOk result (λ _. IsTakenRow (plain_for residue text.now tree.now) row.new.items) }
 {
     let _tree = tree;
     let _text = text;
@@ -40,9 +40,9 @@ pub fn is_valid_at(
     taken: &[ServerId],
     row: &[ServerId],
 ) -> bool
-    requires taken { IsTakenRow (left_of hash text.now tree.now) taken.now }
-    requires cleared { all_cleared (left_of hash text.now tree.now) taken.now ≡ true }
-    ensures { IsTrue result ↔ IsValidRow (left_of hash text.now tree.now) row.now }
+    requires taken { IsTakenRow (plain_for hash text.now tree.now) taken.now }
+    requires cleared { all_cleared (plain_for hash text.now tree.now) taken.now ≡ true }
+    ensures { IsTrue result ↔ IsValidRow (plain_for hash text.now tree.now) row.now }
 {
     let _form = tree.form();
     if row == taken {
@@ -53,14 +53,14 @@ pub fn is_valid_at(
 
 // The three tests of a row.
 fn passes(tree: &Tree, text: &[u8], hash: u32, taken: &[ServerId], row: &[ServerId]) -> bool
-    ensures { result ≡ (rises row.now && holds_all row.now taken.now && all_cleared (left_of hash text.now tree.now) row.now) }
+    ensures { result ≡ (rises row.now && holds_all row.now taken.now && all_cleared (plain_for hash text.now tree.now) row.now) }
 {
     rises(row) && holds_all(row, taken) && are_cleared_at(tree, text, hash, row)
 }
 
 // Whether each server of the row is cleared for this hash and text.
 fn are_cleared_at(tree: &Tree, text: &[u8], hash: u32, row: &[ServerId]) -> bool
-    ensures { result ≡ all_cleared (left_of hash text.now tree.now) row.now }
+    ensures { result ≡ all_cleared (plain_for hash text.now tree.now) row.now }
 {
     for server in row {
         if !is_cleared_at(tree, text, hash, *server) {
@@ -72,7 +72,7 @@ fn are_cleared_at(tree: &Tree, text: &[u8], hash: u32, row: &[ServerId]) -> bool
 
 /// Whether each of the pools' servers is cleared for this hash and text. It takes no memory.
 pub fn are_pools_cleared(tree: &Tree, text: &[u8], hash: u32, pools: &[Pool]) -> bool
-    ensures { result ≡ all_cleared (left_of hash text.now tree.now) (servers_at hash pools.now) }
+    ensures { result ≡ all_cleared (plain_for hash text.now tree.now) (servers_at hash pools.now) }
 {
     for pool in pools {
         if !is_cleared_at(tree, text, hash, pool.at(hash)) {

@@ -71,7 +71,7 @@ fn bad_number(servers: u32, reading: Reading) -> Option<usize>
     }
 }
 
-// The first bad line over a configuration, behind so many other lines, and what is wrong with it.
+// The first bad line over a configuration, after so many other lines, and what is wrong with it.
 fn bad_line_behind<'a>(
     alloc: Global,
     config: Config,

@@ -6,7 +6,7 @@ ghost use Rattle.line_faults.specs.Lines.{line_numbered};
 
 use script_text::front::front_of;
 
-/// The line of this number among lines behind so many others; an empty one where there is none.
+/// The line of this number among lines after so many others; an empty one where there is none.
 pub fn line_numbered(above: usize, further: Option<&str>, number: usize) -> &str
     requires { above + length (lines_behind further) < 2 ^ 64 }
     ensures { result.now ≡ line_numbered (above + 1) (lines_behind further.entry) number }

@@ -16,7 +16,7 @@ use Rattle.meta_asks.specs.Reading.{ReadsInMeta}
 use Rattle.route_job.specs.Rest.{ask_under}
 use Rattle.proxy_core.specs.declared.command.Command.{Command}
 use Rattle.proxy_core.specs.declared.proxy.Core.{Core}
-use Rattle.proxy_core.specs.Standing.{has_call_out}
+use Rattle.proxy_core.specs.CoreState.{has_call_out}
 use Rattle.proxy_core.specs.Settles.{FitsCall, asked, asked_by}
 use Rattle.link_calls.specs.declared.any_core.AnyCore.{AnyCore}
 use Rattle.link_calls.specs.Cores.{IsSettled}

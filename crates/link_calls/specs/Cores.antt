@@ -4,7 +4,7 @@ use Rattle.mc_types.specs.declared.call.Outcome.{Outcome}
 use Rattle.proxy_core.specs.declared.fault.CoreFault.{CoreFault}
 use Rattle.proxy_core.specs.declared.proxy.Core.{Core}
 use Rattle.proxy_core.specs.Settles.{Settles, SettleFault}
-use Rattle.proxy_core.specs.Standing.{Reloads}
+use Rattle.proxy_core.specs.CoreState.{Reloads}
 use Rattle.route_json.specs.Configuration.{Configuration}
 use Rattle.fresh_core.specs.declared.fresh.FreshCore.{FreshCore}
 use Rattle.fresh_core.specs.Results.{SettlesFreshly, SettleStops}

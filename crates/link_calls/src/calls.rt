@@ -157,7 +157,7 @@ impl LinkCalls {
         }
     }
 
-    /// The call's ask is written in its dialect behind what is to be sent, and the call is behind those that are out.
+    /// The call's ask is written in its dialect after what is to be sent, and the call is after those that are out.
     ///
     /// Where memory was refused the call is given back, and nothing has changed.
     ///

@@ -1,4 +1,4 @@
-//! The calls of one server that are out: written one behind the other, and settled in that order by what the server answers; and the
+//! The calls of one server that are out: written one after the other, and settled in that order by what the server answers; and the
 //! core that they belong to. No socket is known here; the bytes are values.
 #![tactic(auto)]
 

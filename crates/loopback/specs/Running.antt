@@ -1,5 +1,5 @@
 -- What is printed of a script that is run over TCP, by how that ends. No clause says what sockets carry: of a run it is said that the gate accepted its tree, and that
--- lines of what clients got and of what became of reloads were written, with the last one behind them. Source: mcgate's own.
+-- lines of what clients got and of what became of reloads were written, with the last one after them. Source: mcgate's own.
 use Rattle.std.specs.Prelude.{◌≡◌, ℕ, ◌++◌, ◌⊎◌, List, length, map, Option, Some, None, Result, Ok}
 use Rattle.std.specs.Io.KnownBytes.{Appends}
 use Rattle.route_json.specs.Configuration.{Configuration}

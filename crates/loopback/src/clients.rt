@@ -63,7 +63,7 @@ impl ClientEnd {
                 Sent::Bytes => {}
                 Sent::Nothing => break,
                 Sent::Failed => {
-                    // What came before may still be read; the end is told behind it.
+                    // What came before may still be read; the end is told after it.
                     break;
                 }
             }

@@ -6,6 +6,7 @@ use crate::servers::Servers;
 use fleet_run::{Event, Output, Reload, Script};
 use fresh_gate::{Accepted, ReloadFault};
 use link_calls::LoadFault;
+use proxy_core::Sharing;
 use route_json::Config;
 use std::alloc::{AllocError, Global};
 use std::io;
@@ -50,13 +51,14 @@ fn any_port() -> SocketAddr {
     SocketAddr::new(IpAddr::V4(Ipv4Addr::LOCALHOST), 0)
 }
 
-// One command at a time, and one call: so calls are made in the order in which a run of the script makes them, each as the client wrote it. No call is ever late, and
+// One command of a client at a time, each key for one command alone, and one call: so calls are made in the order in which a run of the script makes them, each as the client wrote it. No call is ever late, and
 // no server is held back.
 fn settings() -> Settings {
     Settings {
         clients: CLIENTS,
         client_window: 1,
         link_window: 1,
+        sharing: Sharing::Alone,
         call_ms: u64::MAX,
         connect_ms: u64::MAX,
         fail_limit: u32::MAX,

@@ -13,7 +13,7 @@ use Rattle.mc_runs.specs.Run.{Words, Call, End, Read, Unread, Never, outcome_of,
 use Rattle.mc_runs.specs.Fleet.{after_losses, AreLosses, State, StampIn, EndsIn, MakesCall, AreOn}
 use Rattle.mc_runs.specs.Protocol.{Protocol}
 use Rattle.mc_runs.specs.Log.{Manner, Part, Entry, Starts, Happens, Ends, run_of, calls_in, EndsAs}
-use Rattle.mc_runs.specs.Standing.{Standing, AreItsCalls, MakesNamed, LeadsTo, IsReplied, ShownIn, CallsAll, CallsEach}
+use Rattle.mc_runs.specs.LogState.{LogState, AreItsCalls, MakesNamed, LeadsTo, IsReplied, ShownIn, CallsAll, CallsEach}
 use Rattle.mc_runs.specs.Stale.{shown_item}
 use Rattle.mc_runs.proofs.Lists.{bool_is, get_last}
 use Rattle.mc_runs.proofs.Bridge.{held_after, event_same, IsIn}
@@ -170,7 +170,7 @@ module _ (words : Words) (opening : ℕ → List ℕ → Option Item) where
 
 module _ (P : Protocol) (words : Words) (opening : ℕ → List ℕ → Option Item) where
   -- the calls are events, with losses between them
-  pub calls_each : (log : List (Entry P)) (old new : Standing P) (number : ℕ) (ask : Ask) (calls : List Call) (reply : Answer) (from : Option ℕ) → LeadsTo words opening log old → number ≡ old.number + 1 → CallsEach words old number ask calls reply from new → (events : List Event) × CallsAll words opening (run_of log) old number ask events reply from new
+  pub calls_each : (log : List (Entry P)) (old new : LogState P) (number : ℕ) (ask : Ask) (calls : List Call) (reply : Answer) (from : Option ℕ) → LeadsTo words opening log old → number ≡ old.number + 1 → CallsEach words old number ask calls reply from new → (events : List Event) × CallsAll words opening (run_of log) old number ask events reply from new
   calls_each log old new number ask calls reply from h next c =
       let run = run_of log in
       let begun = Begins number ask ∷ run in
@@ -196,7 +196,7 @@ module _ (P : Protocol) (words : Words) (opening : ℕ → List ℕ → Option I
       )
 
   -- a command of these calls has its reply
-  pub replied_each : (log : List (Entry P)) (old new : Standing P) (client number : ℕ) (part : Part P) (calls : List Call) (reply : Answer) (from : Option ℕ) → LeadsTo words opening log old → IsReplied old client number part reply new → CallsEach words old number part.ask calls reply from new → (events : List Event) × LeadsTo words opening (Ends client number part reply from ∷ (map Happens events ++ (Starts client number part.ask ∷ log))) new
+  pub replied_each : (log : List (Entry P)) (old new : LogState P) (client number : ℕ) (part : Part P) (calls : List Call) (reply : Answer) (from : Option ℕ) → LeadsTo words opening log old → IsReplied old client number part reply new → CallsEach words old number part.ask calls reply from new → (events : List Event) × LeadsTo words opening (Ends client number part reply from ∷ (map Happens events ++ (Starts client number part.ask ∷ log))) new
   replied_each log old new client number part calls reply from h r c =
       let e = calls_each log old new number part.ask calls reply from h r.number_is c in
       (e.0, replied_more P words opening log old new client number part e.0 reply from h r e.1)

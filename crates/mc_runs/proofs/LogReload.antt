@@ -5,8 +5,8 @@ use Rattle.mc_types.specs.Items.{Item}
 use Rattle.mc_runs.specs.Run.{Words, Call, Begins, Calls, Replies, Loses, Restarts, IsNewNumber, IsFront}
 use Rattle.mc_runs.specs.Protocol.{Protocol}
 use Rattle.mc_runs.specs.Log.{Entry, Takes, Starts, Happens, Ends, Passes, Gives, Shown, run_of, Follows}
-use Rattle.mc_runs.specs.Standing.{Standing, LeadsTo}
-use Rattle.mc_runs.specs.Taking.{Stands}
+use Rattle.mc_runs.specs.LogState.{LogState, LeadsTo}
+use Rattle.mc_runs.specs.ScriptEvents.{HasSettled}
 use Rattle.mc_runs.specs.OverlapLaws.{AreKept}
 
 module _ (words new : Words) (below : ℕ) (kept : AreKept below words new) where
@@ -29,7 +29,7 @@ module _ (words new : Words) (below : ℕ) (kept : AreKept below words new) wher
 
 module _ {P : Protocol} (words new : Words) (opening : ℕ → List ℕ → Option Item) where
   -- a reload
-  pub stands_kept : (log : List (Entry P)) (now : Standing P) (given : List Shown) → AreKept (now.number + 1) words new → Stands words opening log now given → Stands new opening log now given
+  pub stands_kept : (log : List (Entry P)) (now : LogState P) (given : List Shown) → AreKept (now.number + 1) words new → HasSettled words opening log now given → HasSettled new opening log now given
   stands_kept log now given kept s =
       let h = s.leads in
       record {

@@ -9,7 +9,7 @@ use Rattle.mc_types.specs.Items.{Item}
 use Rattle.mc_runs.specs.Run.{Words, Call, End, Read, Unread, Never, outcome_of, Event, Begins, Calls, Replies, Loses, Restarts, Command, under_way, calls_so_far, held, EndsWell, IsNewNumber, IsFront, MayCome, Run}
 use Rattle.mc_runs.specs.Protocol.{Protocol, IsStuck}
 use Rattle.mc_runs.specs.Log.{Manner, Piece, Fail, Part, Point, Entry, Takes, Starts, Happens, Ends, Passes, Gives, after_reply, fed_point, run_of, point_of, output_of, given_of, shown_of, script_of, calls_in, commands_in, named_in, starter_of, EndsAs, IsSettled, IsNext, MayFollow, Follows}
-use Rattle.mc_runs.specs.Standing.{Standing, AreItsCalls, LeadsTo, Moves, IsFed, IsNamed, IsGiven, IsPassed, IsReplied, CallsAll}
+use Rattle.mc_runs.specs.LogState.{LogState, AreItsCalls, LeadsTo, Moves, IsFed, IsNamed, IsGiven, IsPassed, IsReplied, CallsAll}
 use Rattle.mc_runs.specs.Stale.{is_delete_op, last_gone, stale_since, tally_of}
 use Rattle.mc_runs.proofs.Bridge.{held_after, event_same}
 use Rattle.mc_runs.proofs.LogRuns.{runs}
@@ -95,7 +95,7 @@ module _ {P : Protocol} where
   next_at p q part e n = subst (λ x. IsNext x part) e n
 
 module _ (P : Protocol) (words : Words) (opening : ℕ → List ℕ → Option Item) where
-  moved_output : (log : List (Entry P)) (old new : Standing P) (client : ℕ) (point : Point P) (more : List ℕ) → LeadsTo words opening log old → Moves old client point more new → (c : ℕ) → given_of log c ++ new.output c ≡ cond (nat_eq client c) (output_of log c ++ more) (output_of log c)
+  moved_output : (log : List (Entry P)) (old new : LogState P) (client : ℕ) (point : Point P) (more : List ℕ) → LeadsTo words opening log old → Moves old client point more new → (c : ℕ) → given_of log c ++ new.output c ≡ cond (nat_eq client c) (output_of log c ++ more) (output_of log c)
   moved_output log old new client point more h m c =
       ap (λ l. given_of log c ++ l) (m.output_is c)
       ∙ (elim (nat_eq client c) as (λ b. given_of log c ++ cond b (old.output c ++ more) (old.output c) ≡ cond b (output_of log c ++ more) (output_of log c)) [
@@ -104,7 +104,7 @@ module _ (P : Protocol) (words : Words) (opening : ℕ → List ℕ → Option I
       ])
 
   -- a piece came
-  pub fed_more : (log : List (Entry P)) (old new : Standing P) (client : ℕ) (bytes : List ℕ) → LeadsTo words opening log old → IsSettled log → IsFed old client bytes new → LeadsTo words opening (Takes (Piece client bytes) ∷ log) new
+  pub fed_more : (log : List (Entry P)) (old new : LogState P) (client : ℕ) (bytes : List ℕ) → LeadsTo words opening log old → IsSettled log → IsFed old client bytes new → LeadsTo words opening (Takes (Piece client bytes) ∷ log) new
   fed_more log old new client bytes h settled f =
       record {
         follows = (settled, h.follows);
@@ -121,7 +121,7 @@ module _ (P : Protocol) (words : Words) (opening : ℕ → List ℕ → Option I
       }
 
   -- a call was named
-  pub named_more : (log : List (Entry P)) (old new : Standing P) (turn : ℕ) (manner : Manner) → LeadsTo words opening log old → IsSettled log → IsNamed old turn manner new → LeadsTo words opening (Takes (Fail turn manner) ∷ log) new
+  pub named_more : (log : List (Entry P)) (old new : LogState P) (turn : ℕ) (manner : Manner) → LeadsTo words opening log old → IsSettled log → IsNamed old turn manner new → LeadsTo words opening (Takes (Fail turn manner) ∷ log) new
   named_more log old new turn manner h settled f =
       record {
         follows = (settled, h.follows);
@@ -138,7 +138,7 @@ module _ (P : Protocol) (words : Words) (opening : ℕ → List ℕ → Option I
       }
 
   -- output was given
-  pub given_more : (log : List (Entry P)) (old new : Standing P) (client : ℕ) (bytes : List ℕ) → LeadsTo words opening log old → IsGiven old client bytes new → LeadsTo words opening (Gives client bytes ∷ log) new
+  pub given_more : (log : List (Entry P)) (old new : LogState P) (client : ℕ) (bytes : List ℕ) → LeadsTo words opening log old → IsGiven old client bytes new → LeadsTo words opening (Gives client bytes ∷ log) new
   given_more log old new client bytes h g =
       let all : given_of log client ++ bytes ≡ output_of log client = ap (λ l. given_of log client ++ l) g.bytes_are ∙ h.output client in
       record {
@@ -160,7 +160,7 @@ module _ (P : Protocol) (words : Words) (opening : ℕ → List ℕ → Option I
       }
 
   -- a message that asks no server was passed
-  pub passed_more : (log : List (Entry P)) (old new : Standing P) (client : ℕ) (message : P.Message) (next : P.Place) → LeadsTo words opening log old → IsPassed old client message next new → LeadsTo words opening (Passes client message next ∷ log) new
+  pub passed_more : (log : List (Entry P)) (old new : LogState P) (client : ℕ) (message : P.Message) (next : P.Place) → LeadsTo words opening log old → IsPassed old client message next new → LeadsTo words opening (Passes client message next ∷ log) new
   passed_more log old new client message next h p =
       let point : Point P = record { place = next; index = 0 } in
       record {
@@ -178,7 +178,7 @@ module _ (P : Protocol) (words : Words) (opening : ℕ → List ℕ → Option I
       }
 
   -- where each client's stream is done and its output taken, the log is settled
-  pub settles : (log : List (Entry P)) (now : Standing P) → LeadsTo words opening log now → ((c : ℕ) → IsStuck P (now.point c).place) → ((c : ℕ) → now.output c ≡ []) → IsSettled log
+  pub settles : (log : List (Entry P)) (now : LogState P) → LeadsTo words opening log now → ((c : ℕ) → IsStuck P (now.point c).place) → ((c : ℕ) → now.output c ≡ []) → IsSettled log
   settles log now h stuck output =
       record {
         stuck = λ c. subst (λ (p : Point P). IsStuck P p.place) (h.point c) (stuck c);
@@ -203,7 +203,7 @@ module _ (P : Protocol) (words : Words) (opening : ℕ → List ℕ → Option I
       )
 
   -- a command of these calls has its reply
-  pub replied_more : (log : List (Entry P)) (old new : Standing P) (client number : ℕ) (part : Part P) (events : List Event) (reply : Answer) (from : Option ℕ) → LeadsTo words opening log old → IsReplied old client number part reply new → CallsAll words opening (run_of log) old number part.ask events reply from new → LeadsTo words opening (Ends client number part reply from ∷ (map Happens events ++ (Starts client number part.ask ∷ log))) new
+  pub replied_more : (log : List (Entry P)) (old new : LogState P) (client number : ℕ) (part : Part P) (events : List Event) (reply : Answer) (from : Option ℕ) → LeadsTo words opening log old → IsReplied old client number part reply new → CallsAll words opening (run_of log) old number part.ask events reply from new → LeadsTo words opening (Ends client number part reply from ∷ (map Happens events ++ (Starts client number part.ask ∷ log))) new
   replied_more log old new client number part events reply from h r c =
       let ask = part.ask in
       let run = run_of log in
@@ -257,7 +257,7 @@ module _ (P : Protocol) (words : Words) (opening : ℕ → List ℕ → Option I
       }
 
 -- before the first event
-pub nothing_yet : (P : Protocol) (words : Words) (opening : ℕ → List ℕ → Option Item) (now : Standing P) → ((c : ℕ) → now.point c ≡ record { place = P.start; index = 0 }) → ((c : ℕ) → now.output c ≡ []) → now.number ≡ 0 → ((s : ℕ) (k : List ℕ) → now.holds s k ≡ opening s k) → now.turn ≡ 0 → ((t : ℕ) → now.named t ≡ None) → now.stale ≡ 0 → ((key : List ℕ) → now.gone key ≡ None) → LeadsTo words opening [] now
+pub nothing_yet : (P : Protocol) (words : Words) (opening : ℕ → List ℕ → Option Item) (now : LogState P) → ((c : ℕ) → now.point c ≡ record { place = P.start; index = 0 }) → ((c : ℕ) → now.output c ≡ []) → now.number ≡ 0 → ((s : ℕ) (k : List ℕ) → now.holds s k ≡ opening s k) → now.turn ≡ 0 → ((t : ℕ) → now.named t ≡ None) → now.stale ≡ 0 → ((key : List ℕ) → now.gone key ≡ None) → LeadsTo words opening [] now
 nothing_yet P words opening now point output number holds turn named stale gone =
     record {
       follows = tt;

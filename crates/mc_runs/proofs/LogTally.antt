@@ -7,7 +7,7 @@ use Rattle.mc_types.specs.Acknowledged.{says_gone}
 use Rattle.mc_types.specs.Items.{Item}
 use Rattle.mc_runs.specs.Run.{Event, Begins, Calls, Replies, Loses, Restarts, Command, under_way}
 use Rattle.mc_runs.specs.Log.{Manner}
-use Rattle.mc_runs.specs.Standing.{AreItsCalls}
+use Rattle.mc_runs.specs.LogState.{AreItsCalls}
 use Rattle.mc_runs.specs.Stale.{is_delete_op, is_acknowledged, last_gone, stale_since, shown_item, tally_of}
 
 -- what the calls of one command leave as it was

@@ -1,8 +1,8 @@
 //! `mcgate cache`: one cache server over TCP.
 
-use crate::cache_words::CacheJob;
-use crate::program::Stop;
 use config_check::status::DONE;
+use program::cache_words::CacheJob;
+use program::ends::Stop;
 use std::io;
 use std::net::Net;
 use std::rt::Clock;

@@ -1,51 +1,29 @@
 //! The program: reads its arguments and its input, runs, and ends with an exit status.
 #![tactic(auto)]
 
-mod arguments;
-mod bad_lines;
 mod cache;
-mod cache_words;
-mod loopback_words;
-mod program;
 mod serve;
-mod serve_words;
 mod serving;
-#[cfg(test)]
-mod tests;
+mod sharing;
 
-use arguments::{Job, Task, read_arguments};
-use bad_lines::{bad_line_of_events, bad_line_of_task};
 use cache::serve_cache;
 use config_check::status::{BAD_INPUT, DONE};
 use line_faults::BadLine;
-use program::{
+use program::arguments::{Job, Task, read_arguments};
+use program::bad_lines::{bad_line_of_events, bad_line_of_task};
+use program::ends::{
     Stop, decline, end_of, read_configuration, run_events, run_input, run_keys, run_over_tcp,
 };
+use program::input::text_of;
+use program::serve_words::ServeJob;
 use route_json::Config;
 use serve::{Judged, judge_text, serve};
-use serve_words::ServeJob;
 use std::alloc::AllocError;
-use std::fs::File;
 use std::io;
 use std::io::{BufWriter, ErrorKind, Write};
 use std::net::Net;
 use std::process::ExitCode;
 use std::rt::{Clock, Env, Files};
-use text_input::{InputFault, fault_of, read_input};
-
-/// The text of a file, or of standard input where none is named.
-pub(crate) fn text_of<R: Files + Input + AllocGlobal>(
-    rt: &R,
-    file: Option<&str>,
-) -> Result<String, InputFault> {
-    match file {
-        None => read_input(rt.alloc(), rt.reader()),
-        Some(path) => match File::open(rt, path) {
-            Ok(opened) => read_input(rt.alloc(), opened),
-            Err(error) => Err(fault_of(&error)),
-        },
-    }
-}
 
 /// The arguments, the program's name first. One that isn't UTF-8 is refused as the program has none such.
 fn arguments_of<R: AllocGlobal + Env>(rt: &R) -> Result<Vec<String>, Stop> {

@@ -1,10 +1,11 @@
 //! `mcgate serve`: the configuration is read and judged, and then served.
 
-use crate::program::Stop;
-use crate::serve_words::ServeJob;
 use crate::serving::{Serving, addresses_of, resolve};
+use crate::sharing::sharing_for;
 use config_check::checking::{print_fault, print_refused};
 use fresh_gate::{Accepted, judge};
+use program::ends::Stop;
+use program::serve_words::ServeJob;
 use route_json::{Config, read_config};
 use server_addresses::Servers;
 use std::alloc::{AllocError, Global};
@@ -82,10 +83,15 @@ fn end_over<R: Net + Clock + AllocGlobal>(
     addresses: &[Option<SocketAddr>],
     settings: Settings,
 ) -> io::Result<ProxyEnd> {
+    let mut settings = settings;
     match servable {
-        Servable::Accepted(accepted) => ProxyEnd::new(rt, listen, accepted, addresses, settings),
+        Servable::Accepted(accepted) => {
+            settings.sharing = sharing_for(accepted.config().tree());
+            ProxyEnd::new(rt, listen, accepted, addresses, settings)
+        }
         Servable::Unchecked(config) => {
             let tree = config.tree().copy()?;
+            settings.sharing = sharing_for(&tree);
             ProxyEnd::unchecked(rt, listen, tree, addresses, settings)
         }
     }

@@ -1,13 +1,13 @@
 //! A proxy that runs: its turns, what is told of its servers, and the configurations that are loaded meanwhile.
 
-use crate::program::Stop;
-use crate::serve_words::ServeJob;
-use crate::text_of;
 use config_check::reload_lines::{write_kept, write_loaded, write_unchecked};
 use config_check::status::DONE;
 use fresh_gate::ReloadFault;
 use link_calls::LoadFault;
 use mc_types::ServerId;
+use program::ends::Stop;
+use program::input::text_of;
+use program::serve_words::ServeJob;
 use route_json::{Config, ConfigFault, read_config_after};
 use server_addresses::Servers;
 use std::alloc::{AllocError, Global};

@@ -50,7 +50,7 @@ pub enum Answer {
 #[derive(Drop)]
 pub struct Wire {
     size: usize,
-    // What stands in a value behind its number.
+    // What stands in a value after its number.
     filling: Vec<u8>,
     // The line before the value that is looked for.
     head: BytesMut,
@@ -100,7 +100,7 @@ impl Wire {
         out.extend_from_slice(b"\r\n")
     }
 
-    // What stands in a set behind its key.
+    // What stands in a set after its key.
     fn write_value(&self, out: &mut BytesMut, value: u64) -> Result<(), AllocError> {
         out.extend_from_slice(b" 0 0 ")?;
         put_number(out, self.size as u64)?;

@@ -1,4 +1,4 @@
-//! The words of the command line.
+//! The arguments of the command line.
 
 pub const USAGE: &str = "usage: mcload fill|load|freshness HOST:PORT [FLAG N ..]
   fill       sets each key once
@@ -24,7 +24,7 @@ pub enum Job {
     Freshness,
 }
 
-/// What the words ask for.
+/// What the arguments ask for.
 #[derive(Clone, Copy)]
 pub struct Settings<'a> {
     pub job: Job,
@@ -98,7 +98,7 @@ impl<'a> Settings<'a> {
     }
 }
 
-/// What these words ask for, the program's name first. `None` where the program has no such words.
+/// What these arguments ask for, the program's name first. `None` where the program has no such arguments.
 pub fn settings_of(words: &[String]) -> Option<Settings<'_>> {
     let [_, job, address, flags @ ..] = words else {
         return None;

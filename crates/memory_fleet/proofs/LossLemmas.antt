@@ -8,7 +8,7 @@ use Rattle.mc_runs.specs.Fleet.{after_event, after_losses, AreLosses}
 use Rattle.mc_runs.proofs.Bridge.{event_same}
 use Rattle.cache_server.specs.Contents.{Contents, losing, restarted}
 use Rattle.cache_server.specs.Held.{holds, IsLoss}
-use Rattle.memory_fleet.specs.Losing.{loss_of, held_at, left_of, place_of, changed_at, after_loss, lost_in, AreLost}
+use Rattle.memory_fleet.specs.Losing.{loss_of, held_at, plain_for, place_of, changed_at, after_loss, lost_in, AreLost}
 use Rattle.memory_fleet.specs.declared.event.Loss.{Loss}
 use Rattle.memory_fleet.specs.declared.event.Loss.TheVariants.{Item as LostItem, Restart}
 use Rattle.memory_fleet.proofs.Places.{held_here, held_else, by_server, loses_at, same}
@@ -91,7 +91,7 @@ all_held caches server place loss y is at lt none s k =
     all_lost caches place y lt none s k ∙ ap (λ p. after_event (Restarts p) (held_at caches) s k) at ∙ ap (λ l. after_event (loss_of l) (held_at caches) s k) (sym is)
 
 place_beyond : (caches : List Contents) (loss : Loss) → length caches ≤ place_of (loss_of loss) → caches ≡ after_loss (loss_of loss) caches
-place_beyond caches loss le = changed_beyond (left_of (loss_of loss)) caches (place_of (loss_of loss)) le
+place_beyond caches loss le = changed_beyond (plain_for (loss_of loss)) caches (place_of (loss_of loss)) le
 
 pub beyond_contents : (caches : List Contents) (place : ℕ) (loss l : Loss) → loss ≡ l → place ≡ place_of (loss_of l) → length caches ≤ place → caches ≡ after_loss (loss_of loss) caches
 beyond_contents caches place loss l is at le = place_beyond caches l (subst (λ p. length caches ≤ p) at le) ∙ ap (λ m. after_loss (loss_of m) caches) (sym is)
@@ -114,4 +114,4 @@ changed_len (suc s) f (c ∷ caches) = ap suc (changed_len s f caches)
 
 pub lost_len : (losses : List Event) (caches : List Contents) → length (lost_in losses caches) ≡ length caches
 lost_len [] caches = refl
-lost_len (loss ∷ losses) caches = lost_len losses (after_loss loss caches) ∙ changed_len (place_of loss) (left_of loss) caches
+lost_len (loss ∷ losses) caches = lost_len losses (after_loss loss caches) ∙ changed_len (place_of loss) (plain_for loss) caches

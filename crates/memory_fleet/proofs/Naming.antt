@@ -16,7 +16,7 @@ use Rattle.mc_runs.specs.Run as Happened
 use Rattle.mc_runs.specs.Run.{Call, End, Read, Unread, Never, outcome_of}
 use Rattle.mc_runs.specs.Log.{Manner, EndsAs}
 use Rattle.mc_runs.specs.Fleet.{State, MakesCall, EndsIn, StampIn, after_event, after_losses}
-use Rattle.mc_runs.specs.Standing.{MakesNamed}
+use Rattle.mc_runs.specs.LogState.{MakesNamed}
 use Rattle.mc_runs.specs.Cover.{IsAnswerOf}
 use Rattle.mc_runs.proofs.Finding.{shown_needs_item}
 use Rattle.route_tree.specs.Sources.{IsSourced, AreAsked}

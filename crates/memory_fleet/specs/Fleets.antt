@@ -14,7 +14,7 @@ use Rattle.mc_runs.specs.Log.{EndsAs}
 use Rattle.mc_runs.specs.Single.{FitsOutcome}
 use Rattle.cache_server.specs.Contents.{Contents, empty, at_moment, losing, storing, opening, restarted}
 use Rattle.cache_server.specs.Held as cache
-pub use Rattle.memory_fleet.specs.Losing.{loss_of, held_at, left_of, place_of}
+pub use Rattle.memory_fleet.specs.Losing.{loss_of, held_at, plain_for, place_of}
 use Rattle.memory_fleet.specs.Losing.{after_loss, lost_in, listed, AreLost}
 use Rattle.memory_fleet.specs.declared.event.FleetFault.{FleetFault}
 use Rattle.memory_fleet.specs.declared.event.FleetFault.TheVariants.{NoMemory, Spent}
@@ -191,7 +191,7 @@ pub record HoldsFrom (old : MemoryFleet) (server : ℕ) (key body : List ℕ) (n
 -- this is lost, and nothing else changes
 pub record IsLost (old : MemoryFleet) (loss : Event) (new : MemoryFleet) : Type 0 where
   pub holds : (s : ℕ) (k : List ℕ) → holds_of new s k ≡ after_event loss (holds_of old) s k
-  pub cache_is : IsChanged old (place_of loss) (left_of loss) new
+  pub cache_is : IsChanged old (place_of loss) (plain_for loss) new
   pub turn_is : turn_of new ≡ turn_of old
   pub named_is : (t : ℕ) → named_of new t ≡ named_of old t
   pub count_is : count_of new ≡ count_of old

@@ -10,7 +10,7 @@ use Rattle.mc_types.specs.Items.{Item}
 use Rattle.mc_types.specs.Agree.{Agrees}
 use Rattle.mc_runs.specs.Run.{Call}
 use Rattle.mc_runs.specs.Log.{Manner}
-use Rattle.mc_runs.specs.Standing.{MakesNamed}
+use Rattle.mc_runs.specs.LogState.{MakesNamed}
 use Rattle.route_job.specs.Executing.{MakesAll}
 use Rattle.route_tree.specs.Sources.{AreAsked}
 use Rattle.memory_fleet.specs.Fleets.{holds_of, turn_of, named_of, count_of, begun_of, FleetCalls, LosesAtMost, IsStamp}

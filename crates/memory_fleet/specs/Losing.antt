@@ -23,10 +23,10 @@ held_at (c ∷ caches) zero k = cache.holds c k
 held_at (c ∷ caches) (suc s) k = held_at caches s k
 
 -- what a loss leaves of the cache of its server
-abbrev pub left_of : Event → Contents → Contents
-left_of (Loses server key) c = losing c key
-left_of (Restarts server) c = restarted c
-left_of _ c = c
+abbrev pub plain_for : Event → Contents → Contents
+plain_for (Loses server key) c = losing c key
+plain_for (Restarts server) c = restarted c
+plain_for _ c = c
 
 -- the server of a loss
 abbrev pub place_of : Event → ℕ
@@ -42,7 +42,7 @@ changed_at (suc s) change (c ∷ caches) = c ∷ changed_at s change caches
 
 -- what a loss leaves of the caches
 abbrev pub after_loss : Event → List Contents → List Contents
-after_loss loss caches = changed_at (place_of loss) (left_of loss) caches
+after_loss loss caches = changed_at (place_of loss) (plain_for loss) caches
 
 -- what losses leave of them, the first one first
 abbrev pub lost_in : List Event → List Contents → List Contents

@@ -1,10 +1,55 @@
-//! Bad lines and their words.
+//! Bad lines and their words. In examples `⏎` is a line end.
 
+use crate::tables::{same, sides, unfolded};
 use line_faults::laws::each_line_is_either;
 use line_faults::{BadLine, bad_line_in_events, bad_line_in_script};
 use route_json::Config;
 use std::alloc::Global;
+use std::process::Abort;
 use std::test::Fail;
+
+fn unreadable() -> &'static str {
+    r"pool 0 => line 1: wanted: pool N, 1 to 1024
+pool 1⏎los 0 a => line 2: no event has this word: los
+pool 1⏎⏎lose 0 => line 3: wanted: lose S KEY
+pool 1⏎restart => line 2: wanted: restart S
+pool 1⏎at 1 restart => line 2: wanted: at K lose S KEY, or at K restart S
+pool 1⏎> 64 x => line 2: no client, 0 to 63: 64
+pool 1⏎hold a a x => line 2: no number of a server: a
+pool 1⏎fail 0 before => line 2: no number of a call, 1 to 4294967295: 0
+pool 1⏎moment -1 => line 2: no time, 0 to 9223372036854775807: -1
+pool 1⏎> 0 \q => line 2: a backslash that begins none of \r, \n, \\ and \xHH
+pool 1⏎hold 0  x => line 2: a key is empty
+pool 1⏎lose 0 a b => line 2: a key has a space or a control character
+pool 1⏎fail 1 befor => line 2: neither before nor after: befor
+pool 1⏎at 1 hold 0 => line 2: neither lose nor restart: hold
+pool 1⏎reload => line 2: wanted: reload JSON
+pool 1⏎reload {} => line 2: reload wants a configuration: mcgate check says what is wrong with it"
+}
+
+// Events that can't be; nothing is said of a script without one, and of none.
+fn misfits() -> &'static str {
+    r"pool 1⏎> 0 ⏎ => 
+{}⏎x => 
+pool 1⏎restart 1⏎x => line 2: no such server: 1
+pool 2⏎#⏎at 1 lose 2 a => line 3: no such server: 2
+pool 1⏎restart 0⏎hold 0 a 1 => line 3: hold after a piece, a lose or a restart"
+}
+
+// The reload lines load a pool of the server s0:1 and another one. In the last example that is too late.
+fn loaded() -> &'static str {
+    r#"pool 1⏎restart 1⏎reload {"pools":{"A":{"servers":["s0:1","h:1"]}},"route":"PoolRoute|A"}⏎ => 
+pool 1⏎restart 1⏎reload {"pools":{"A":{"servers":["s0:1","h:1"]}},"route":"PoolRoute|A"}⏎restart 2⏎ => line 4: no such server: 2
+pool 1⏎restart 1⏎reload {"pools":{"A":{"servers":["s0:1","h:1"]}},"route":"PoolRoute|A"}⏎reload {}⏎ => line 4: reload wants a configuration: mcgate check says what is wrong with it
+pool 1⏎restart 1⏎reload {}⏎reload {"pools":{"A":{"servers":["s0:1","h:1"]}},"route":"PoolRoute|A"}⏎ => line 2: no such server: 1"#
+}
+
+// Scripts of events alone over two servers.
+fn events() -> &'static str {
+    r"restart 1 => 
+restart 2 => line 1: no such server: 2
+⏎pool 1 => line 2: no event has this word: pool"
+}
 
 // The words of a bad line; none where no line is bad.
 fn words_of(alloc: Global, found: Option<BadLine>) -> Result<String, Fail> {
@@ -18,125 +63,51 @@ fn words_in_script(alloc: Global, text: &str) -> Result<String, Fail> {
     words_of(alloc, bad_line_in_script(alloc, text)?)
 }
 
+fn words_in_folded(alloc: Global, text: &str) -> Result<String, Fail> {
+    let text = unfolded(alloc, text)?;
+    words_in_script(alloc, text.as_str())
+}
+
+fn words_in_events(alloc: Global, text: &str) -> Result<String, Fail> {
+    let text = unfolded(alloc, text)?;
+    let config = Config::of_pool(alloc, 2)?;
+    words_of(alloc, bad_line_in_events(alloc, config, text.as_str())?)
+}
+
+fn all_hold<R: Abort + AllocGlobal>(rt: &R, examples: &str) -> Result<(), Fail> {
+    for example in examples.lines() {
+        let (text, want) = sides(example);
+        let words = words_in_folded(rt.alloc(), text)?;
+        same(rt, text, words.as_str(), want);
+    }
+    Ok(())
+}
+
 #[test]
 fn lines_that_cannot_be_read(rt: HostRuntime) -> Result<(), Fail> {
     each_line_is_either();
-    let cases = [
-        ("pool 0", "line 1: wanted: pool N, 1 to 1024"),
-        ("pool 1\nlos 0 a", "line 2: no event has this word: los"),
-        ("pool 1\n\\\t ", "line 2: no event has this word: \\\\\\x09"),
-        ("pool 1\n\nlose 0", "line 3: wanted: lose S KEY"),
-        ("pool 1\nrestart", "line 2: wanted: restart S"),
-        (
-            "pool 1\nat 1 restart",
-            "line 2: wanted: at K lose S KEY, or at K restart S",
-        ),
-        ("pool 1\n> 64 x", "line 2: no client, 0 to 63: 64"),
-        ("pool 1\nhold a a x", "line 2: no number of a server: a"),
-        (
-            "pool 1\nfail 0 before",
-            "line 2: no number of a call, 1 to 4294967295: 0",
-        ),
-        (
-            "pool 1\nmoment -1",
-            "line 2: no time, 0 to 9223372036854775807: -1",
-        ),
-        (
-            r#"pool 1
-> 0 \q"#,
-            "line 2: a backslash that begins none of \\r, \\n, \\\\ and \\xHH",
-        ),
-        ("pool 1\nhold 0  x", "line 2: a key is empty"),
-        (
-            "pool 1\nlose 0 a b",
-            "line 2: a key has a space or a control character",
-        ),
-        (
-            "pool 1\nfail 1 befor",
-            "line 2: neither before nor after: befor",
-        ),
-        (
-            "pool 1\nat 1 hold 0",
-            "line 2: neither lose nor restart: hold",
-        ),
-        ("pool 1\nreload", "line 2: wanted: reload JSON"),
-        (
-            "pool 1\nreload {}",
-            "line 2: reload wants a configuration: mcgate check says what is wrong with it",
-        ),
-    ];
-    for (text, want) in cases {
-        let words = words_in_script(rt.alloc(), text)?;
-        assert_eq!(rt; words.as_str(), want);
-    }
+    all_hold(&rt, unreadable())?;
+    let words = words_in_script(rt.alloc(), "pool 1\n\\\t ")?;
+    assert_eq!(rt; words.as_str(), "line 2: no event has this word: \\\\\\x09");
     Ok(())
 }
 
 #[test]
 fn lines_of_events_that_cannot_be(rt: HostRuntime) -> Result<(), Fail> {
-    let cases = [
-        ("pool 1\n> 0 \n", ""),
-        ("{}\nx", ""),
-        ("pool 1\nrestart 1\nx", "line 2: no such server: 1"),
-        ("pool 2\n#\nat 1 lose 2 a", "line 3: no such server: 2"),
-        (
-            "pool 1\nrestart 0\nhold 0 a 1",
-            "line 3: hold after a piece, a lose or a restart",
-        ),
-    ];
-    for (text, want) in cases {
-        let words = words_in_script(rt.alloc(), text)?;
-        assert_eq!(rt; words.as_str(), want);
-    }
-    Ok(())
-}
-
-// a line that loads a pool of the server s0:1 and another one
-fn pool_of_two() -> &'static str {
-    r#"reload {"pools":{"A":{"servers":["s0:1","h:1"]}},"route":"PoolRoute|A"}
-"#
+    all_hold(&rt, misfits())
 }
 
 #[test]
 fn servers_that_are_loaded(rt: HostRuntime) -> Result<(), Fail> {
-    let cases = [
-        ("", ""),
-        ("restart 2\n", "line 4: no such server: 2"),
-        (
-            "reload {}\n",
-            "line 4: reload wants a configuration: mcgate check says what is wrong with it",
-        ),
-    ];
-    for (end, want) in cases {
-        let alloc = rt.alloc();
-        let text = format!(in alloc; "pool 1\nrestart 1\n{}{}", pool_of_two(), end)?;
-        let words = words_in_script(alloc, text.as_str())?;
-        assert_eq!(rt; words.as_str(), want);
-    }
-    Ok(())
-}
-
-#[test]
-fn servers_that_are_loaded_too_late(rt: HostRuntime) -> Result<(), Fail> {
-    let alloc = rt.alloc();
-    let text = format!(in alloc; "pool 1\nrestart 1\nreload {{}}\n{}", pool_of_two())?;
-    let words = words_in_script(alloc, text.as_str())?;
-    assert_eq!(rt; words.as_str(), "line 2: no such server: 1");
-    Ok(())
+    all_hold(&rt, loaded())
 }
 
 #[test]
 fn lines_of_events_alone(rt: HostRuntime) -> Result<(), Fail> {
-    let alloc = rt.alloc();
-    let cases = [
-        ("restart 1", ""),
-        ("restart 2", "line 1: no such server: 2"),
-        ("\npool 1", "line 2: no event has this word: pool"),
-    ];
-    for (text, want) in cases {
-        let config = Config::of_pool(alloc, 2)?;
-        let words = words_of(alloc, bad_line_in_events(alloc, config, text)?)?;
-        assert_eq!(rt; words.as_str(), want);
+    for example in events().lines() {
+        let (text, want) = sides(example);
+        let words = words_in_events(rt.alloc(), text)?;
+        same(&rt, text, words.as_str(), want);
     }
     Ok(())
 }

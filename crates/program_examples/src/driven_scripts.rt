@@ -1,10 +1,12 @@
 //! Scripts as events: which can't be, and what the others hand out.
 
-use fleet_run::{DriveFault, Event, Script, Transcript, drive_any, first_bad_event};
+use fleet_run::{DriveFault, Event, Report, Script, Transcript, drive_any, first_bad_event};
 use mc_types::{Key, ServerId};
 use memory_fleet::{Loss, Manner, MemoryFleet};
 use route_json::Config;
+use script_text::printer::{write_outputs, write_report};
 use std::alloc::{AllocError, Global};
+use std::io::Write;
 use std::test::Fail;
 
 fn key() -> Result<Key, Fail> {
@@ -14,126 +16,161 @@ fn key() -> Result<Key, Fail> {
     }
 }
 
-fn piece(alloc: Global, client: u8, bytes: &[u8]) -> Result<Event, AllocError> {
-    Ok(Event::Piece(client, Vec::from_slice(alloc, bytes)?))
+// An event with so many bytes, or under the key `a`.
+#[derive(Clone, Copy)]
+enum Happening {
+    Piece(u8, usize),
+    Hold(u32, usize),
+    Fail(u32, Manner),
+    Moment(i64),
+    Lose(u32),
+    Restart(u32),
 }
 
-fn hold(alloc: Global, server: u32, key: Key, bytes: &[u8]) -> Result<Event, AllocError> {
-    Ok(Event::Hold(ServerId::new(server), key, Vec::from_slice(alloc, bytes)?))
+// What happens over two servers, after what, and whether that can be.
+fn happenings() -> [(&'static str, Happening, Happening, bool); 16] {
+    let first = Happening::Moment(0);
+    let fail = Happening::Fail(1, Manner::After);
+    let hold = Happening::Hold(1, 1);
+    let most = Happening::Piece(0, 16_777_215);
+    [
+        ("client 64", first, Happening::Piece(64, 0), false),
+        ("client 63", first, Happening::Piece(63, 0), true),
+        ("call 0", first, Happening::Fail(0, Manner::Before), false),
+        ("call 1", first, fail, true),
+        ("moment -1", first, Happening::Moment(-1), false),
+        ("restart of server 2", first, Happening::Restart(2), false),
+        ("item of server 2", first, Happening::Lose(2), false),
+        ("item of server 1", first, Happening::Lose(1), true),
+        ("hold at server 2", first, Happening::Hold(2, 1), false),
+        ("hold after a fail", fail, hold, true),
+        ("hold after a piece", Happening::Piece(0, 0), hold, false),
+        ("hold after a restart", Happening::Restart(1), hold, false),
+        // What all pieces may have together.
+        ("16 MiB", most, Happening::Piece(1, 1), true),
+        ("a byte more", most, Happening::Piece(1, 2), false),
+        // The data that a server may hold.
+        ("1 MiB", first, Happening::Hold(0, 1_048_576), true),
+        ("more", first, Happening::Hold(0, 1_048_577), false),
+    ]
 }
 
-/// A script of an event that can be, and then of this one.
-fn script_of(alloc: Global, first: Event, event: Event) -> Result<Script, AllocError> {
+fn made(alloc: Global, happening: Happening) -> Result<Event, Fail> {
+    match happening {
+        Happening::Piece(client, length) => {
+            Ok(Event::Piece(client, vec![in alloc; b'a'; length]?))
+        }
+        Happening::Hold(server, length) => {
+            let data = vec![in alloc; b'1'; length]?;
+            Ok(Event::Hold(ServerId::new(server), key()?, data))
+        }
+        Happening::Fail(turn, manner) => Ok(Event::Fail(turn, manner)),
+        Happening::Moment(moment) => Ok(Event::Moment(moment)),
+        Happening::Lose(server) => Ok(Event::Now(Loss::Item(ServerId::new(server), key()?))),
+        Happening::Restart(server) => Ok(Event::Now(Loss::Restart(ServerId::new(server)))),
+    }
+}
+
+fn script_of(alloc: Global, first: Happening, second: Happening) -> Result<Script, Fail> {
     let mut events = Vec::new(alloc);
-    events.push(first)?;
-    events.push(event)?;
+    events.push(made(alloc, first)?)?;
+    events.push(made(alloc, second)?)?;
     Ok(Script { events })
 }
 
-fn second_is_bad(alloc: Global, first: Event, event: Event) -> Result<bool, AllocError> {
-    let script = script_of(alloc, first, event)?;
-    Ok(first_bad_event(2, &script) == Some(1))
+fn bad_event(alloc: Global, first: Happening, second: Happening) -> Result<Option<usize>, Fail> {
+    let script = script_of(alloc, first, second)?;
+    Ok(first_bad_event(2, &script))
 }
 
 #[test]
 fn events_that_cannot_be(rt: HostRuntime) -> Result<(), Fail> {
-    let alloc = rt.alloc();
-    let a = key()?;
-    let there = ServerId::new(1);
-    let beyond = ServerId::new(2);
-    assert!(rt; second_is_bad(alloc, Event::Moment(0), piece(alloc, 64, b"")?)?);
-    assert!(rt; !second_is_bad(alloc, Event::Moment(0), piece(alloc, 63, b"")?)?);
-    assert!(rt; second_is_bad(alloc, Event::Moment(0), Event::Fail(0, Manner::Before))?);
-    assert!(rt; !second_is_bad(alloc, Event::Moment(0), Event::Fail(1, Manner::After))?);
-    assert!(rt; second_is_bad(alloc, Event::Moment(0), Event::Moment(-1))?);
-    assert!(rt; second_is_bad(alloc, Event::Moment(0), Event::Now(Loss::Restart(beyond)))?);
-    assert!(rt; second_is_bad(alloc, Event::Moment(0), Event::Now(Loss::Item(beyond, a)))?);
-    assert!(rt; !second_is_bad(alloc, Event::Moment(0), Event::Now(Loss::Item(there, a)))?);
-    assert!(rt; second_is_bad(alloc, Event::Moment(0), hold(alloc, 2, a, b"1")?)?);
-    assert!(rt;
-        !second_is_bad(
-            alloc,
-            Event::Fail(1, Manner::After),
-            hold(alloc, 1, a, b"1")?
-        )?
-    );
-    assert!(rt; second_is_bad(alloc, piece(alloc, 0, b"")?, hold(alloc, 1, a, b"1")?)?);
-    assert!(rt;
-        second_is_bad(
-            alloc,
-            Event::Now(Loss::Restart(there)),
-            hold(alloc, 1, a, b"1")?
-        )?
-    );
+    for (name, first, second, may_be) in happenings() {
+        let bad = bad_event(rt.alloc(), first, second)?;
+        assert!(rt; (bad != Some(1)) == may_be, "at {name}");
+    }
     Ok(())
 }
 
-#[test]
-fn what_all_pieces_may_have_together(rt: HostRuntime) -> Result<(), Fail> {
-    let alloc = rt.alloc();
-    let most = vec![in alloc; b'a'; 16_777_215]?;
-    let first = Event::Piece(0, most);
-    assert!(rt; !second_is_bad(alloc, first, piece(alloc, 1, b"a")?)?);
-    let most = vec![in alloc; b'a'; 16_777_215]?;
-    let first = Event::Piece(0, most);
-    assert!(rt; second_is_bad(alloc, first, piece(alloc, 1, b"aa")?)?);
-    Ok(())
+fn piece(alloc: Global, client: u8, bytes: &[u8]) -> Result<Event, AllocError> {
+    Ok(Event::Piece(client, Vec::from_slice(alloc, bytes)?))
 }
 
-#[test]
-fn data_that_a_server_may_hold(rt: HostRuntime) -> Result<(), Fail> {
-    let alloc = rt.alloc();
-    let a = key()?;
-    let most = vec![in alloc; b'a'; 1_048_576]?;
-    let event = Event::Hold(ServerId::new(0), a, most);
-    assert!(rt; !second_is_bad(alloc, Event::Moment(0), event)?);
-    let more = vec![in alloc; b'a'; 1_048_577]?;
-    let event = Event::Hold(ServerId::new(0), a, more);
-    assert!(rt; second_is_bad(alloc, Event::Moment(0), event)?);
-    Ok(())
+// The data `7` are held under `a`, which client 5 gets, deletes and gets.
+fn held_and_deleted(alloc: Global) -> Result<Script, Fail> {
+    let data = Vec::from_slice(alloc, b"7".as_slice())?;
+    let mut events = Vec::new(alloc);
+    events.push(Event::Hold(ServerId::new(0), key()?, data))?;
+    events.push(piece(alloc, 5, b"get a\r\ndelete a\r\nget a\r\n".as_slice())?)?;
+    Ok(Script { events })
 }
 
-#[test]
-fn held_and_deleted(rt: HostRuntime) -> Result<(), Fail> {
-    let alloc = rt.alloc();
+// After a get comes a moment that can't be.
+fn asked_and_bad(alloc: Global) -> Result<Script, Fail> {
+    let mut events = Vec::new(alloc);
+    events.push(piece(alloc, 0, b"get a\r\n".as_slice())?)?;
+    events.push(Event::Moment(-1))?;
+    Ok(Script { events })
+}
+
+// What a script handed out, how it ended, and after how many calls.
+#[derive(Drop)]
+struct Outcome {
+    transcript: Transcript,
+    ended: Result<Report, DriveFault>,
+    calls: u64,
+}
+
+// A script is driven over one server.
+fn driven(alloc: Global, script: &Script) -> Result<Outcome, Fail> {
     let config = Config::of_pool(alloc, 1)?;
     let mut fleet = MemoryFleet::new(alloc, 1)?;
-    let script = script_of(
-        alloc,
-        hold(alloc, 0, key()?, b"7")?,
-        piece(alloc, 5, b"get a\r\ndelete a\r\nget a\r\n")?,
-    )?;
     let mut transcript = Transcript {
         shown: Vec::new(alloc),
     };
-    let Ok(report) = drive_any(alloc, &config, &mut fleet, &script, &mut transcript) else {
-        return Err(Fail::from("it runs"));
-    };
-    assert_eq!(rt; report.commands, 3);
-    assert_eq!(rt; report.calls, 3);
-    assert_eq!(rt; report.stale, 0);
-    assert_eq!(rt; transcript.shown.len(), 1);
-    let output = transcript.shown.get(0).ok_or("an output")?;
-    assert_eq!(rt; output.client, 5);
+    let ended = drive_any(alloc, &config, &mut fleet, script, &mut transcript);
+    Ok(Outcome {
+        transcript,
+        ended,
+        calls: fleet.calls(),
+    })
+}
+
+fn push_end(out: &mut Vec<u8>, driven: &Outcome) -> Result<(), Fail> {
+    match &driven.ended {
+        Ok(report) => write_report(report, out)?,
+        Err(DriveFault::BadEvent(at)) => {
+            writeln!(out, "bad event {at} after {} calls", driven.calls)?;
+        }
+        Err(_) => return Err(Fail::from("another fault")),
+    }
+    Ok(())
+}
+
+// What came of a script over one server.
+fn told_of(alloc: Global, script: &Script) -> Result<Vec<u8>, Fail> {
+    let driven = driven(alloc, script)?;
+    let mut out = Vec::new(alloc);
+    write_outputs(driven.transcript.shown.as_slice(), &mut out)?;
+    push_end(&mut out, &driven)?;
+    Ok(out)
+}
+
+#[test]
+fn what_was_held_is_shown_and_deleted(rt: HostRuntime) -> Result<(), Fail> {
+    let script = held_and_deleted(rt.alloc())?;
+    let out = told_of(rt.alloc(), &script)?;
     assert_eq!(rt;
-        output.bytes.as_slice(),
-        b"VALUE a 0 1\r\n7\r\nEND\r\nDELETED\r\nEND\r\n".as_slice()
+        out.as_slice(),
+        b"< 5 VALUE a 0 1\\r\\n7\\r\\nEND\\r\\nDELETED\\r\\nEND\\r\\n\ndone 3 commands 3 calls 0 stale\n".as_slice()
     );
     Ok(())
 }
 
 #[test]
 fn nothing_happens_where_an_event_cannot_be(rt: HostRuntime) -> Result<(), Fail> {
-    let alloc = rt.alloc();
-    let config = Config::of_pool(alloc, 1)?;
-    let mut fleet = MemoryFleet::new(alloc, 1)?;
-    let script = script_of(alloc, piece(alloc, 0, b"get a\r\n")?, Event::Moment(-1))?;
-    let mut transcript = Transcript {
-        shown: Vec::new(alloc),
-    };
-    let run = drive_any(alloc, &config, &mut fleet, &script, &mut transcript);
-    assert!(rt; matches!(run, Err(DriveFault::BadEvent(1))));
-    assert!(rt; transcript.shown.is_empty());
-    assert_eq!(rt; fleet.calls(), 0);
+    let script = asked_and_bad(rt.alloc())?;
+    let out = told_of(rt.alloc(), &script)?;
+    assert_eq!(rt; out.as_slice(), b"bad event 1 after 0 calls\n".as_slice());
     Ok(())
 }

@@ -1,109 +1,110 @@
-//! Scripts that run, that are refused, and that can't be read.
+//! Scripts that run, that are refused, and that can't be read. In examples of one line `⏎` is a line end.
 
 use crate::full_writer::Full;
-use config_check::status::{BAD_INPUT, DONE, REFUSED, WRITER};
+use crate::tables::{expanded, same, sides, told, unfolded};
+use config_check::status::WRITER;
 use replay::{run_replay, run_replay_over};
 use route_json::{Config, read_config};
 use std::alloc::Global;
+use std::process::Abort;
 use std::test::Fail;
 
-#[test]
-fn scripts_that_are_run(rt: HostRuntime) {
-    let cases = [
-        ("pool 1", DONE, "done 0 commands 0 calls 0 stale\n"),
-        (
-            "pool 1024\n\n# none\n",
-            DONE,
-            "done 0 commands 0 calls 0 stale\n",
-        ),
-        ("", BAD_INPUT, "config: not JSON\n"),
-        ("# pool 1\npool 1", BAD_INPUT, "config: not JSON\n"),
-        ("pool 0", BAD_INPUT, "script: bad line 1\n"),
-        ("pools", BAD_INPUT, "script: bad line 1\n"),
-        (
-            "{\"pools\":{}}\n> 64 \n",
-            BAD_INPUT,
-            "config: bad field route\n",
-        ),
-        (
-            r#"{"pools":{},"route":"NullRoute"}
-"#,
-            DONE,
-            "done 0 commands 0 calls 0 stale\n",
-        ),
-        (
-            "pool 1\nhold 0 a 1\nhold 1 a 1\n",
-            BAD_INPUT,
-            "script: bad line 3\n",
-        ),
-        (
-            r#"pool 1
-> 0 get a\r\n
-hold 0 a 1
-"#,
-            BAD_INPUT,
-            "script: bad line 3\n",
-        ),
-        (
-            "pool 1\nlose 0 a\n\nhold 0 a 1\nx\n",
-            BAD_INPUT,
-            "script: bad line 4\n",
-        ),
-        (
-            "pool 1\n\nat 0 restart 0\n",
-            BAD_INPUT,
-            "script: bad line 3\n",
-        ),
-        ("pool 1\nreload {}", BAD_INPUT, "script: bad line 2\n"),
-    ];
-    for (text, want_status, want) in cases {
-        for any in [false, true] {
-            let mut out = Vec::new(rt.alloc());
-            assert_eq!(rt; run_replay(rt.alloc(), any, text, &mut out), want_status);
-            assert_eq!(rt; out.as_slice(), want.as_bytes());
-        }
-    }
+// Whatever is asked of the gate.
+fn scripts() -> &'static str {
+    r#"pool 1 => 0⏎done 0 commands 0 calls 0 stale⏎
+pool 1024⏎⏎# none⏎ => 0⏎done 0 commands 0 calls 0 stale⏎
+ => 2⏎config: not JSON⏎
+# pool 1⏎pool 1 => 2⏎config: not JSON⏎
+pool 0 => 2⏎script: bad line 1⏎
+pools => 2⏎script: bad line 1⏎
+{"pools":{}}⏎> 64 ⏎ => 2⏎config: bad field route⏎
+{"pools":{},"route":"NullRoute"}⏎ => 0⏎done 0 commands 0 calls 0 stale⏎
+pool 1⏎hold 0 a 1⏎hold 1 a 1⏎ => 2⏎script: bad line 3⏎
+pool 1⏎> 0 get a\r\n⏎hold 0 a 1⏎ => 2⏎script: bad line 3⏎
+pool 1⏎lose 0 a⏎⏎hold 0 a 1⏎x⏎ => 2⏎script: bad line 4⏎
+pool 1⏎⏎at 0 restart 0⏎ => 2⏎script: bad line 3⏎
+pool 1⏎reload {} => 2⏎script: bad line 2⏎"#
 }
 
-const LEAKING: &str =
-    r#"{"pools":{"A":{"servers":["127.0.0.1:5001"]},"B":{"servers":["127.0.0.1:5002"]}},"route":{"type":"FailoverRoute","children":["PoolRoute|A","PoolRoute|B"]}}
-"#;
+// Events over a tree that the gate refuses: a bad line comes first.
+fn refused() -> &'static str {
+    r#" => 1⏎refused: server=127.0.0.1:5001 read=get delete=delete prefix= residue=0/1⏎
+> 0 get a\r\n⏎ => 1⏎refused: server=127.0.0.1:5001 read=get delete=delete prefix= residue=0/1⏎
+fail 0 before => 2⏎script: bad line 2⏎
+x => 2⏎script: bad line 2⏎"#
+}
 
-// The gate refuses the tree, unless it isn't asked; a bad line comes first.
+// The same where the gate isn't asked.
+fn unasked() -> &'static str {
+    " => 0⏎done 0 commands 0 calls 0 stale⏎"
+}
+
+// What is printed of a script, with the status; with `any` whatever the gate says of its trees.
+fn printed(alloc: Global, any: bool, script: &str) -> Result<String, Fail> {
+    let mut out = Vec::new(alloc);
+    let status = run_replay(alloc, any, script, &mut out);
+    told(alloc, status, out.as_slice())
+}
+
+// The same of a folded script and what stands before it.
+fn printed_of(alloc: Global, any: bool, front: &str, script: &str) -> Result<String, Fail> {
+    let script = format!(in alloc; "{front}{script}")?;
+    let script = unfolded(alloc, script.as_str())?;
+    let script = expanded(alloc, script.as_str())?;
+    printed(alloc, any, script.as_str())
+}
+
+// An example holds, with what stands before its script.
+fn holds<R: Abort + AllocGlobal>(rt: &R, any: bool, front: &str, line: &str) -> Result<(), Fail> {
+    let (script, want) = sides(line);
+    let got = printed_of(rt.alloc(), any, front, script)?;
+    let want = unfolded(rt.alloc(), want)?;
+    same(rt, line, got.as_str(), want.as_str());
+    Ok(())
+}
+
 #[test]
-fn trees_that_are_refused(rt: HostRuntime) -> Result<(), Fail> {
-    let refusal = "refused: server=127.0.0.1:5001 read=get delete=delete prefix= residue=0/1\n";
-    let cases = [
-        ("", false, REFUSED, refusal),
-        (
-            r#"> 0 get a\r\n
-"#,
-            false,
-            REFUSED,
-            refusal,
-        ),
-        ("", true, DONE, "done 0 commands 0 calls 0 stale\n"),
-        ("fail 0 before", false, BAD_INPUT, "script: bad line 2\n"),
-        ("x", false, BAD_INPUT, "script: bad line 2\n"),
-    ];
-    for (events, any, want_status, want) in cases {
-        let mut text = String::from_str(rt.alloc(), LEAKING)?;
-        text.push_str(events)?;
-        let mut out = Vec::new(rt.alloc());
-        assert_eq!(rt;
-            run_replay(rt.alloc(), any, text.as_str(), &mut out),
-            want_status
-        );
-        assert_eq!(rt; out.as_slice(), want.as_bytes());
+fn scripts_that_are_run(rt: HostRuntime) -> Result<(), Fail> {
+    for line in scripts().lines() {
+        holds(&rt, false, "", line)?;
+        holds(&rt, true, "", line)?;
     }
     Ok(())
 }
 
+const LEAKING: &str =
+    r#"over A and B {"type":"FailoverRoute","children":["PoolRoute|A","PoolRoute|B"]}⏎"#;
+
+#[test]
+fn trees_that_are_refused(rt: HostRuntime) -> Result<(), Fail> {
+    for line in refused().lines() {
+        holds(&rt, false, LEAKING, line)?;
+    }
+    for line in unasked().lines() {
+        holds(&rt, true, LEAKING, line)?;
+    }
+    Ok(())
+}
+
+// A configuration of several lines.
 const OVER_LINES: &str = r#"{
   "pools": { "A": { "servers": ["127.0.0.1:5001"] } },
   "route": "PoolRoute|A"
 }
 "#;
+
+// Events over it: each line is an event, and the first is line 1.
+fn events() -> &'static str {
+    r#" => 0⏎done 0 commands 0 calls 0 stale⏎
+> 0 get a\r\n => 0⏎< 0 END\r\n⏎done 1 commands 1 calls 0 stale⏎
+pool 1⏎ => 2⏎script: bad line 1⏎"#
+}
+
+// Events over the tree that the gate refuses.
+fn refused_events() -> &'static str {
+    r#"restart 1⏎ => 1⏎refused: server=127.0.0.1:5001 read=get delete=delete prefix= residue=0/1⏎
+restart 2⏎ => 2⏎script: bad line 1⏎"#
+}
 
 fn config_of(alloc: Global, text: &str) -> Result<Config, Fail> {
     match read_config(alloc, text) {
@@ -112,57 +113,72 @@ fn config_of(alloc: Global, text: &str) -> Result<Config, Fail> {
     }
 }
 
-// Each line of the script is an event, and the first is line 1.
+// What is printed of events over a configuration, with the status.
+fn printed_over(alloc: Global, any: bool, config: &str, events: &str) -> Result<String, Fail> {
+    let config = config_of(alloc, config)?;
+    let mut out = Vec::new(alloc);
+    let status = run_replay_over(alloc, any, config, events, &mut out);
+    told(alloc, status, out.as_slice())
+}
+
+// The same of folded events.
+fn printed_of_folded(alloc: Global, any: bool, config: &str, events: &str) -> Result<String, Fail> {
+    let events = unfolded(alloc, events)?;
+    printed_over(alloc, any, config, events.as_str())
+}
+
+// An example holds over a configuration.
+fn holds_over<R: Abort + AllocGlobal>(
+    rt: &R,
+    any: bool,
+    config: &str,
+    line: &str,
+) -> Result<(), Fail> {
+    let (events, want) = sides(line);
+    let got = printed_of_folded(rt.alloc(), any, config, events)?;
+    let want = unfolded(rt.alloc(), want)?;
+    same(rt, line, got.as_str(), want.as_str());
+    Ok(())
+}
+
 #[test]
 fn events_over_a_configuration(rt: HostRuntime) -> Result<(), Fail> {
-    let refusal = "refused: server=127.0.0.1:5001 read=get delete=delete prefix= residue=0/1\n";
-    let none = "done 0 commands 0 calls 0 stale\n";
-    let miss = r#"< 0 END\r\n
-done 1 commands 1 calls 0 stale
-"#;
-    let cases = [
-        (OVER_LINES, "", false, DONE, none),
-        (OVER_LINES, "> 0 get a\\r\\n", false, DONE, miss),
-        (
-            OVER_LINES,
-            "pool 1\n",
-            false,
-            BAD_INPUT,
-            "script: bad line 1\n",
-        ),
-        (
-            OVER_LINES,
-            "#\nrestart 1\n",
-            true,
-            BAD_INPUT,
-            "script: bad line 2\n",
-        ),
-        (LEAKING, "restart 1\n", false, REFUSED, refusal),
-        (LEAKING, "restart 1\n", true, DONE, none),
-        (
-            LEAKING,
-            "restart 2\n",
-            false,
-            BAD_INPUT,
-            "script: bad line 1\n",
-        ),
-    ];
-    for (config, events, any, want_status, want) in cases {
-        let config = config_of(rt.alloc(), config)?;
-        let mut out = Vec::new(rt.alloc());
-        let status = run_replay_over(rt.alloc(), any, config, events, &mut out);
-        assert_eq!(rt; status, want_status);
-        assert_eq!(rt; out.as_slice(), want.as_bytes());
+    for line in events().lines() {
+        holds_over(&rt, false, OVER_LINES, line)?;
     }
-    Ok(())
+    holds_over(
+        &rt,
+        true,
+        OVER_LINES,
+        "#⏎restart 1⏎ => 2⏎script: bad line 2⏎",
+    )
+}
+
+#[test]
+fn events_over_a_refused_tree(rt: HostRuntime) -> Result<(), Fail> {
+    let leaking = unfolded(rt.alloc(), LEAKING)?;
+    let leaking = expanded(rt.alloc(), leaking.as_str())?;
+    for line in refused_events().lines() {
+        holds_over(&rt, false, leaking.as_str(), line)?;
+    }
+    holds_over(
+        &rt,
+        true,
+        leaking.as_str(),
+        "restart 1⏎ => 0⏎done 0 commands 0 calls 0 stale⏎",
+    )
+}
+
+// The status of a script whose output is written where there is so much room.
+fn status_in(alloc: Global, script: &str, room: usize) -> u8 {
+    let mut out = Full { room };
+    run_replay(alloc, false, script, &mut out)
 }
 
 #[test]
 fn writers_that_fail(rt: HostRuntime) {
     for room in 0..10 {
-        let mut out = Full { room };
-        assert_eq!(rt; run_replay(rt.alloc(), false, "pool 1", &mut out), WRITER);
-        let mut bad = Full { room };
-        assert_eq!(rt; run_replay(rt.alloc(), false, "", &mut bad), WRITER);
+        assert_eq!(rt; status_in(rt.alloc(), "pool 1", room), WRITER);
+        assert_eq!(rt; status_in(rt.alloc(), "", room), WRITER);
     }
 }

@@ -1,9 +1,11 @@
-//! Tests: the lines of scripts.
+//! Tests: the lines of scripts. In examples of one line `⏎` is a line end.
 
-use fleet_run::{Event, Loss, Manner, Output, Report};
-use mc_types::ServerId;
+use crate::tables::{expanded, same, sides, unfolded};
+use byte_escapes::Escaped;
+use fleet_run::{Event, Loss, Manner, Output, Reload, Report};
+use mc_types::{Key, ServerId};
 use route_json::{Config, ConfigFault};
-use script_text::configured::ScriptFault;
+use script_text::configured::{ConfiguredScript, ScriptFault};
 use script_text::escapes::unescape;
 use script_text::event::read_event;
 use script_text::fault::LineFault;
@@ -13,10 +15,26 @@ use script_text::printer::{write_bad_line, write_config_fault, write_outputs, wr
 use script_text::reader::{read_events, read_script};
 use script_text::words::{cut, number_under};
 use std::alloc::{AllocError, Global};
+use std::process::Abort;
 use std::test::Fail;
 
+// The bytes that escapes mean; none where they are unreadable.
+fn unescaped(alloc: Global, text: &[u8]) -> Option<Vec<u8>> {
+    match unescape(alloc, text) {
+        Ok(bytes) => Some(bytes),
+        Err(_) => None,
+    }
+}
+
+fn means(alloc: Global, text: &[u8], want: &[u8]) -> bool {
+    match unescaped(alloc, text) {
+        Some(bytes) => bytes.as_slice() == want,
+        None => false,
+    }
+}
+
 #[test]
-fn escapes_that_are_read(rt: HostRuntime) -> Result<(), Fail> {
+fn escapes_that_are_read(rt: HostRuntime) {
     escapes_are_read_back();
     let cases = [
         (b"".as_slice(), b"".as_slice()),
@@ -30,41 +48,47 @@ fn escapes_that_are_read(rt: HostRuntime) -> Result<(), Fail> {
         (b"\\\\x41".as_slice(), b"\\x41".as_slice()),
     ];
     for (text, want) in cases {
-        let Ok(bytes) = unescape(rt.alloc(), text) else {
-            return Err(Fail::from("unreadable"));
-        };
-        assert_eq!(rt; bytes.as_slice(), want);
+        assert!(rt; means(rt.alloc(), text, want), "at {}", Escaped(text));
     }
-    Ok(())
+}
+
+fn bad_escapes() -> &'static str {
+    r"\
+a\
+\a
+\R
+\X41
+\x
+\x4
+\x4g
+\xg4"
 }
 
 #[test]
 fn escapes_that_are_none(rt: HostRuntime) {
-    let cases = [
-        b"\\".as_slice(),
-        b"a\\".as_slice(),
-        b"\\a".as_slice(),
-        b"\\R".as_slice(),
-        b"\\X41".as_slice(),
-        b"\\x".as_slice(),
-        b"\\x4".as_slice(),
-        b"\\x4g".as_slice(),
-        b"\\xg4".as_slice(),
-    ];
-    for text in cases {
-        let read = unescape(rt.alloc(), text);
-        assert!(rt; matches!(read, Err(LineFault::Unreadable)));
+    for text in bad_escapes().lines() {
+        let read = unescape(rt.alloc(), text.as_bytes());
+        assert!(rt; matches!(read, Err(LineFault::Unreadable)), "at {text}");
     }
 }
 
 #[test]
-fn parts_of_a_line(rt: HostRuntime) -> Result<(), Fail> {
+fn words_of_a_line(rt: HostRuntime) -> Result<(), Fail> {
     let parts = cut(b">  a b".as_slice()).ok_or("no space")?;
     assert_eq!(rt; parts.word, b">".as_slice());
     assert_eq!(rt; parts.rest, b" a b".as_slice());
     assert!(rt; cut(b"pool".as_slice()).is_none());
+    Ok(())
+}
+
+#[test]
+fn numbers_of_a_line(rt: HostRuntime) {
     assert_eq!(rt; number_under(64, b"0063".as_slice()), Some(63));
     assert_eq!(rt; number_under(64, b"64".as_slice()), None);
+}
+
+#[test]
+fn first_line_of_a_text(rt: HostRuntime) -> Result<(), Fail> {
     let front = front_of("a\r\n\nb");
     assert_eq!(rt; front.line, "a\r");
     let rest = front.rest.ok_or("no line end")?;
@@ -74,340 +98,334 @@ fn parts_of_a_line(rt: HostRuntime) -> Result<(), Fail> {
     Ok(())
 }
 
-// whether the line is read as an event that passes the test
-fn says<F: Fn(&Event) -> bool>(alloc: Global, line: &[u8], test: F) -> bool
-    requires { F.IsAlwaysCallable test }
-{
+// Lines, and the event that each means.
+fn events() -> &'static str {
+    r"> 63 get a\r\n => client 63 sends get a\r\n
+hold 1 \x61  => server 1 holds a: 
+fail 4294967295 after => call 4294967295 fails after
+lose 0 a => now: server 0 loses a
+restart 2 => now: server 2 restarts
+at 4294967295 lose 0 a => at call 4294967295: server 0 loses a
+at 1 restart 2 => at call 1: server 2 restarts
+moment 9223372036854775807 => moment 9223372036854775807"
+}
+
+fn loss_words(alloc: Global, loss: &Loss) -> Result<String, Fail> {
+    match loss {
+        Loss::Item(server, key) => {
+            let key = Escaped(key.as_bytes());
+            Ok(format!(in alloc; "server {} loses {key}", server.number())?)
+        }
+        Loss::Restart(server) => Ok(format!(in alloc; "server {} restarts", server.number())?),
+    }
+}
+
+fn manner_word(manner: Manner) -> &'static str {
+    match manner {
+        Manner::Before => "before",
+        Manner::After => "after",
+    }
+}
+
+fn hold_words(alloc: Global, server: ServerId, key: &Key, content: &[u8]) -> Result<String, Fail> {
+    let mut words = format!(in alloc; "server {} holds ", server.number())?;
+    write!(&mut words, "{}: ", Escaped(key.as_bytes()))?;
+    write!(&mut words, "{}", Escaped(content))?;
+    Ok(words)
+}
+
+fn event_words(alloc: Global, event: &Event) -> Result<String, Fail> {
+    match event {
+        Event::Piece(client, bytes) => {
+            let bytes = Escaped(bytes.as_slice());
+            Ok(format!(in alloc; "client {client} sends {bytes}")?)
+        }
+        Event::Hold(server, key, content) => hold_words(alloc, *server, key, content.as_slice()),
+        Event::Fail(turn, manner) => {
+            let manner = manner_word(*manner);
+            Ok(format!(in alloc; "call {turn} fails {manner}")?)
+        }
+        Event::At(turn, loss) => {
+            let loss = loss_words(alloc, loss)?;
+            Ok(format!(in alloc; "at call {turn}: {loss}")?)
+        }
+        Event::Now(loss) => {
+            let loss = loss_words(alloc, loss)?;
+            Ok(format!(in alloc; "now: {loss}")?)
+        }
+        Event::Moment(moment) => Ok(format!(in alloc; "moment {moment}")?),
+    }
+}
+
+// The words of the event that a line means.
+fn words_of_line(alloc: Global, line: &[u8]) -> Result<String, Fail> {
     match read_event(alloc, line) {
-        Ok(event) => test(&event),
-        Err(_) => false,
+        Ok(event) => event_words(alloc, &event),
+        Err(_) => Err(Fail::from("no event")),
     }
 }
 
 #[test]
-fn events_that_are_read(rt: HostRuntime) {
-    let alloc = rt.alloc();
-    assert!(rt;
-        says(alloc, b"> 63 get a\\r\\n".as_slice(), |event| match event {
-            Event::Piece(client, bytes) => *client == 63
-                && bytes.as_slice() == b"get a\r\n".as_slice(),
-            _ => false,
-        })
-    );
-    assert!(rt;
-        says(alloc, b"hold 1 \\x61 ".as_slice(), |event| match event {
-            Event::Hold(server, key, content) => {
-                server.number() == 1 && key.as_bytes() == b"a".as_slice() && content.is_empty()
-            }
-            _ => false,
-        })
-    );
-    assert!(rt;
-        says(
-            alloc,
-            b"fail 4294967295 after".as_slice(),
-            |event| match event {
-                Event::Fail(turn, manner) => *turn == 4_294_967_295 && *manner == Manner::After,
-                _ => false,
-            }
-        )
-    );
-    assert!(rt;
-        says(alloc, b"lose 0 a".as_slice(), |event| match event {
-            Event::Now(Loss::Item(server, key)) => {
-                server.number() == 0 && key.as_bytes() == b"a".as_slice()
-            }
-            _ => false,
-        })
-    );
-    assert!(rt;
-        says(alloc, b"restart 2".as_slice(), |event| match event {
-            Event::Now(Loss::Restart(server)) => server.number() == 2,
-            _ => false,
-        })
-    );
-    assert!(rt;
-        says(
-            alloc,
-            b"at 4294967295 lose 0 a".as_slice(),
-            |event| match event {
-                Event::At(turn, Loss::Item(server, key)) => {
-                    *turn == 4_294_967_295
-                        && server.number() == 0
-                        && key.as_bytes() == b"a".as_slice()
-                }
-                _ => false,
-            }
-        )
-    );
-    assert!(rt;
-        says(alloc, b"at 1 restart 2".as_slice(), |event| match event {
-            Event::At(turn, Loss::Restart(server)) => *turn == 1 && server.number() == 2,
-            _ => false,
-        })
-    );
-    assert!(rt;
-        says(
-            alloc,
-            b"moment 9223372036854775807".as_slice(),
-            |event| match event {
-                Event::Moment(moment) => *moment == 9_223_372_036_854_775_807,
-                _ => false,
-            }
-        )
-    );
+fn events_that_are_read(rt: HostRuntime) -> Result<(), Fail> {
+    for example in events().lines() {
+        let (line, want) = sides(example);
+        let words = words_of_line(rt.alloc(), line.as_bytes())?;
+        same(&rt, line, words.as_str(), want);
+    }
+    Ok(())
+}
+
+fn no_events() -> &'static str {
+    r"> 0
+> 64 a
+>0 a
+>  0 a
+> 0 \q
+hold 0 a
+hold 0  x
+hold 4294967296 a x
+fail 0 before
+fail 4294967296 before
+fail 1
+fail 1 after 
+lose 0
+lose 0 a b
+restart
+restart 0 
+moment 9223372036854775808
+moment -1
+at 0 restart 0
+at 1 moment 5
+at 1 restart
+reload {}
+ restart 0
+Restart 0"
+}
+
+fn is_no_event(alloc: Global, line: &[u8]) -> bool {
+    matches!(read_event(alloc, line), Err(LineFault::Unreadable))
 }
 
 #[test]
 fn lines_that_are_no_event(rt: HostRuntime) {
-    let cases = [
-        b"> 0".as_slice(),
-        b"> 64 a".as_slice(),
-        b">0 a".as_slice(),
-        b">  0 a".as_slice(),
-        b"> 0 \\q".as_slice(),
-        b"hold 0 a".as_slice(),
-        b"hold 0  x".as_slice(),
-        b"hold 4294967296 a x".as_slice(),
-        b"fail 0 before".as_slice(),
-        b"fail 4294967296 before".as_slice(),
-        b"fail 1".as_slice(),
-        b"fail 1 after ".as_slice(),
-        b"lose 0".as_slice(),
-        b"lose 0 a b".as_slice(),
-        b"restart".as_slice(),
-        b"restart 0 ".as_slice(),
-        b"restart 0\r".as_slice(),
-        b"moment 9223372036854775808".as_slice(),
-        b"moment -1".as_slice(),
-        b"at 0 restart 0".as_slice(),
-        b"at 1 moment 5".as_slice(),
-        b"at 1 restart".as_slice(),
-        b"reload {}".as_slice(),
-        b" restart 0".as_slice(),
-        b"Restart 0".as_slice(),
-    ];
-    for line in cases {
-        let read = read_event(rt.alloc(), line);
-        assert!(rt; matches!(read, Err(LineFault::Unreadable)));
+    for line in no_events().lines() {
+        assert!(rt; is_no_event(rt.alloc(), line.as_bytes()), "at {line}");
+    }
+    assert!(rt; is_no_event(rt.alloc(), b"restart 0\r".as_slice()));
+}
+
+// Scripts, and how many servers each has and its configuration alone, the line of each event, and what is loaded where. The last ones
+// have an x for a bad line.
+fn scripts() -> &'static str {
+    r#"pool 1024⏎⏎# a comment⏎restart 1023⏎⏎moment 5 => 1024 servers, 1024 first; 2 events: 4 6
+pool 1 => 1 servers, 1 first; 0 events:
+pool 1⏎moment 5⏎reload {"pools":{"A":{"servers":["h:1","s0:1"]}},"route":"PoolRoute|A"}⏎restart 1 => 2 servers, 1 first; 2 events: 2 4; before event 1: s0:1 h:1
+over A and B "NullRoute"⏎x => bad line 2
+over A and B "ErrorRoute"⏎x => bad line 2
+over A and B "AllSyncRoute|Pool|A"⏎x => bad line 2
+over A and B {"type":"PrefixSelectorRoute","policies":{"a":"PoolRoute|A","ab":"PoolRoute|B"}}⏎x => bad line 2
+over A and B {"type":"PrefixSelectorRoute","policies":{"a":"PoolRoute|A","ab":"PoolRoute|B"},"wildcard":"PoolRoute|A"}⏎restart 1⏎x => bad line 3
+over A and B {"type":"PrefixSelectorRoute","policies":{"a":"PoolRoute|A","ab":"PoolRoute|B"},"wildcard":"PoolRoute|A"}⏎restart 2⏎x => bad line 2"#
+}
+
+fn bad_scripts() -> &'static str {
+    r#"[] => not JSON
+[]⏎x => not JSON
+ => not JSON
+⏎pool 1 => not JSON
+# a comment⏎pool 1 => not JSON
+ pool 1 => not JSON
+Pool 1 => not JSON
+{"pools":{}} => bad field route
+{"pools":{},⏎"route":"NullRoute"} => not JSON
+pool => bad line 1
+pool 0 => bad line 1
+pool 1025 => bad line 1
+pool  1 => bad line 1
+pool 1  => bad line 1
+pools 3 => bad line 1
+pool{}⏎x => bad line 1
+pool 1⏎x⏎y => bad line 2
+pool 1⏎⏎#⏎> 0 a⏎> 0 => bad line 5
+pool 1⏎restart 0⏎moment x⏎ => bad line 3
+pool 1⏎restart 1⏎moment x⏎ => bad line 2"#
+}
+
+fn push_reload(out: &mut String, reload: &Reload) -> Result<(), Fail> {
+    write!(out, "; before event {}:", reload.at)?;
+    for number in 0..2 {
+        let address = reload.config.servers().get(ServerId::new(number));
+        write!(out, " {}", address.unwrap_or("none"))?;
+    }
+    Ok(())
+}
+
+fn push_lines(out: &mut String, read: &ConfiguredScript) -> Result<(), Fail> {
+    for event in 0..read.lines.len() {
+        write!(out, " {}", read.line_of(event).unwrap_or(0))?;
+    }
+    Ok(())
+}
+
+fn push_script(out: &mut String, read: &ConfiguredScript) -> Result<(), Fail> {
+    write!(out, "{} servers, ", read.server_count())?;
+    write!(out, "{} first; ", read.config.servers().len())?;
+    write!(out, "{} events:", read.script.events.len())?;
+    push_lines(out, read)?;
+    for reload in read.reloads.as_slice() {
+        push_reload(out, reload)?;
+    }
+    Ok(())
+}
+
+fn fault_words(alloc: Global, fault: &ScriptFault) -> Result<String, Fail> {
+    match fault {
+        ScriptFault::Config(fault) => Ok(format!(in alloc; "{fault}")?),
+        ScriptFault::BadLine(line) => Ok(format!(in alloc; "bad line {line}")?),
+        ScriptFault::NoMemory => Err(Fail::from("no memory")),
     }
 }
 
-#[test]
-fn scripts_of_a_pool(rt: HostRuntime) -> Result<(), Fail> {
-    let text = "pool 1024\n\n# a comment\nrestart 1023\n\nmoment 5";
-    let Ok(read) = read_script(rt.alloc(), text) else {
-        return Err(Fail::from("a bad line"));
-    };
-    assert_eq!(rt; read.server_count(), 1024);
-    assert_eq!(rt; read.config.servers().get(ServerId::new(9)), Some("s9:1"));
-    assert_eq!(rt; read.script.events.len(), 2);
-    assert_eq!(rt; read.lines.as_slice(), [4, 6].as_slice());
-    assert_eq!(rt; read.line_of(1), Some(6));
-    assert_eq!(rt; read.line_of(2), None);
-    Ok(())
+fn script_words(alloc: Global, read: &ConfiguredScript) -> Result<String, Fail> {
+    let mut words = String::new(alloc);
+    push_script(&mut words, read)?;
+    Ok(words)
 }
 
-#[test]
-fn pool_line_alone(rt: HostRuntime) -> Result<(), Fail> {
-    let Ok(read) = read_script(rt.alloc(), "pool 1") else {
-        return Err(Fail::from("a bad line"));
-    };
-    assert_eq!(rt; read.server_count(), 1);
-    assert!(rt; read.script.events.is_empty());
-    Ok(())
-}
-
-// a configuration of the pools A and B of one server each, and this route
-fn configuration(alloc: Global, route: &str, further: &str) -> Result<String, AllocError> {
-    let mut text = String::from_str(
-        alloc,
-        r#"{"pools":{"A":{"servers":["127.0.0.1:5001"]},"B":{"servers":["127.0.0.1:5002"]}},"route":"#,
-    )?;
-    text.push_str(route)?;
-    text.push('}')?;
-    text.push_str(further)?;
-    Ok(text)
-}
-
-const BY_PREFIX: &str =
-    r#"{"type":"PrefixSelectorRoute","policies":{"a":"PoolRoute|A","ab":"PoolRoute|B"},"wildcard":"PoolRoute|A"}"#;
-
-const WITHOUT_WILDCARD: &str =
-    r#"{"type":"PrefixSelectorRoute","policies":{"a":"PoolRoute|A","ab":"PoolRoute|B"}}"#;
-
-#[test]
-fn scripts_of_a_configuration(rt: HostRuntime) -> Result<(), Fail> {
-    let text = configuration(rt.alloc(), BY_PREFIX, " \r\nrestart 1\n")?;
-    let Ok(read) = read_script(rt.alloc(), text.as_str()) else {
-        return Err(Fail::from("a bad line"));
-    };
-    assert_eq!(rt; read.server_count(), 2);
-    assert_eq!(rt; read.config.servers().len(), 2);
-    assert_eq!(rt;
-        read.config.servers().get(ServerId::new(1)),
-        Some("127.0.0.1:5002")
-    );
-    assert_eq!(rt; read.script.events.len(), 1);
-    assert_eq!(rt; read.line_of(0), Some(2));
-    Ok(())
-}
-
-#[test]
-fn scripts_that_load_others(rt: HostRuntime) -> Result<(), Fail> {
-    let text = r#"pool 1
-moment 5
-reload {"pools":{"A":{"servers":["h:1","s0:1"]}},"route":"PoolRoute|A"}
-restart 1"#;
-    let Ok(read) = read_script(rt.alloc(), text) else {
-        return Err(Fail::from("a bad line"));
-    };
-    assert_eq!(rt; read.config.servers().len(), 1);
-    assert_eq!(rt; read.script.events.len(), 2);
-    assert_eq!(rt; read.line_of(1), Some(4));
-    assert_eq!(rt; read.server_count(), 2);
-    assert_eq!(rt; read.reloads.len(), 1);
-    assert_eq!(rt; read.reloads[0].at, 1);
-    let servers = read.reloads[0].config.servers();
-    assert_eq!(rt; servers.get(ServerId::new(0)), Some("s0:1"));
-    assert_eq!(rt; servers.get(ServerId::new(1)), Some("h:1"));
-    Ok(())
-}
-
-// the number of the script's bad line, where that is its fault
-fn bad_line(alloc: Global, text: &str) -> Option<usize> {
+fn words_of_script(alloc: Global, text: &str) -> Result<String, Fail> {
     match read_script(alloc, text) {
-        Err(ScriptFault::BadLine(line)) => Some(line),
-        _ => None,
+        Ok(read) => script_words(alloc, &read),
+        Err(fault) => fault_words(alloc, &fault),
     }
 }
 
-#[test]
-fn configurations_of_every_kind_of_route(rt: HostRuntime) -> Result<(), Fail> {
-    let cases = [
-        "\"NullRoute\"",
-        "\"ErrorRoute\"",
-        "\"AllSyncRoute|Pool|A\"",
-        WITHOUT_WILDCARD,
-    ];
-    for route in cases {
-        let text = configuration(rt.alloc(), route, "\nx")?;
-        assert_eq!(rt; bad_line(rt.alloc(), text.as_str()), Some(2));
+fn words_of_folded(alloc: Global, text: &str) -> Result<String, Fail> {
+    let text = unfolded(alloc, text)?;
+    let text = expanded(alloc, text.as_str())?;
+    words_of_script(alloc, text.as_str())
+}
+
+fn all_are_read<R: Abort + AllocGlobal>(rt: &R, examples: &str) -> Result<(), Fail> {
+    for example in examples.lines() {
+        let (text, want) = sides(example);
+        let words = words_of_folded(rt.alloc(), text)?;
+        same(rt, text, words.as_str(), want);
     }
     Ok(())
 }
 
 #[test]
-fn events_by_the_servers_of_a_configuration(rt: HostRuntime) -> Result<(), Fail> {
-    let there = configuration(rt.alloc(), BY_PREFIX, "\nrestart 1\nx")?;
-    assert_eq!(rt; bad_line(rt.alloc(), there.as_str()), Some(3));
-    let not_there = configuration(rt.alloc(), BY_PREFIX, "\nrestart 2\nx")?;
-    assert_eq!(rt; bad_line(rt.alloc(), not_there.as_str()), Some(2));
+fn scripts_that_are_read(rt: HostRuntime) -> Result<(), Fail> {
+    all_are_read(&rt, scripts())
+}
+
+#[test]
+fn scripts_with_a_bad_line(rt: HostRuntime) -> Result<(), Fail> {
+    all_are_read(&rt, bad_scripts())?;
+    let words = words_of_script(rt.alloc(), "pool 1\r\n")?;
+    assert_eq!(rt; words.as_str(), "bad line 1");
     Ok(())
 }
 
-// the line of the configuration's fault, where that is the script's
-fn config_fault(alloc: Global, text: &str) -> Result<String, Fail> {
+// Whether this server of the script has this address, and no line is that of event 2.
+fn has_server(alloc: Global, text: &str, number: u32, address: &str) -> bool {
     match read_script(alloc, text) {
-        Err(ScriptFault::Config(fault)) => Ok(format!(in alloc; "{fault}")?),
-        _ => Err(Fail::from("no fault of a configuration")),
+        Ok(read) => {
+            read.config.servers().get(ServerId::new(number)) == Some(address)
+                && read.line_of(2).is_none()
+        }
+        Err(_) => false,
     }
 }
 
+// A configuration of two servers.
+fn configuration(alloc: Global) -> Result<String, AllocError> {
+    let line =
+        r#"over A and B {"type":"PrefixSelectorRoute","policies":{"a":"PoolRoute|A","ab":"PoolRoute|B"},"wildcard":"PoolRoute|A"}"#;
+    expanded(alloc, line)
+}
+
 #[test]
-fn configurations_with_a_fault(rt: HostRuntime) -> Result<(), Fail> {
-    let cases = [
-        ("[]", "not JSON"),
-        ("[]\nx", "not JSON"),
-        ("", "not JSON"),
-        ("\npool 1", "not JSON"),
-        ("# a comment\npool 1", "not JSON"),
-        (" pool 1", "not JSON"),
-        ("Pool 1", "not JSON"),
-        ("{\"pools\":{}}", "bad field route"),
-        (
-            r#"{"pools":{},
-"route":"NullRoute"}"#,
-            "not JSON",
-        ),
-    ];
-    for (text, want) in cases {
-        let line = config_fault(rt.alloc(), text)?;
-        assert_eq!(rt; line.as_str(), want);
-    }
+fn servers_of_scripts(rt: HostRuntime) -> Result<(), Fail> {
+    let pool = "pool 1024\n\n# a comment\nrestart 1023\n\nmoment 5";
+    assert!(rt; has_server(rt.alloc(), pool, 9, "s9:1"));
+    let text = configuration(rt.alloc())?;
+    assert!(rt; has_server(rt.alloc(), text.as_str(), 1, "127.0.0.1:5002"));
     Ok(())
 }
 
 #[test]
-fn scripts_with_a_bad_line(rt: HostRuntime) {
-    let cases = [
-        ("pool", 1),
-        ("pool 0", 1),
-        ("pool 1025", 1),
-        ("pool  1", 1),
-        ("pool 1 ", 1),
-        ("pool 1\r\n", 1),
-        ("pools 3", 1),
-        ("pool{}\nx", 1),
-        ("pool 1\nx\ny", 2),
-        ("pool 1\n\n#\n> 0 a\n> 0", 5),
-        ("pool 1\nrestart 0\nmoment x\n", 3),
-        ("pool 1\nrestart 1\nmoment x\n", 2),
-    ];
-    for (text, want) in cases {
-        assert_eq!(rt; bad_line(rt.alloc(), text), Some(want));
-    }
+fn a_configuration_before_a_space(rt: HostRuntime) -> Result<(), Fail> {
+    let mut text = configuration(rt.alloc())?;
+    text.push_str(" \r\nrestart 1\n")?;
+    let words = words_of_script(rt.alloc(), text.as_str())?;
+    assert_eq!(rt; words.as_str(), "2 servers, 2 first; 1 events: 2");
+    Ok(())
 }
 
-// Over two servers: the number of each event's line, or of the bad line.
-fn lines_over_two(alloc: Global, text: &str) -> Result<Result<Vec<usize>, usize>, Fail> {
+// Events over two servers, and their lines or the bad one.
+fn scripts_of_events() -> &'static str {
+    r" => lines
+restart 1 => lines 1
+# two⏎⏎restart 1⏎> 0 ⏎ => lines 3 4
+restart 2 => lines 1
+pool 2 => bad line 1
+{} => bad line 1
+⏎x => bad line 2
+restart 1⏎restart 2⏎x => bad line 2"
+}
+
+fn line_words(alloc: Global, read: &ConfiguredScript) -> Result<String, Fail> {
+    let mut words = String::from_str(alloc, "lines")?;
+    push_lines(&mut words, read)?;
+    Ok(words)
+}
+
+fn words_over_two(alloc: Global, text: &str) -> Result<String, Fail> {
+    let text = unfolded(alloc, text)?;
     let config = Config::of_pool(alloc, 2)?;
-    match read_events(alloc, config, text) {
-        Ok(read) => Ok(Ok(read.lines)),
-        Err(ScriptFault::BadLine(line)) => Ok(Err(line)),
-        Err(_) => Err(Fail::from("another fault")),
+    match read_events(alloc, config, text.as_str()) {
+        Ok(read) => line_words(alloc, &read),
+        Err(fault) => fault_words(alloc, &fault),
     }
 }
 
 #[test]
 fn scripts_of_events_alone(rt: HostRuntime) -> Result<(), Fail> {
-    let cases = [
-        ("", [].as_slice()),
-        ("restart 1", [1].as_slice()),
-        ("# two\n\nrestart 1\n> 0 \n", [3, 4].as_slice()),
-        ("restart 2", [1].as_slice()),
-    ];
-    for (text, want) in cases {
-        let Ok(lines) = lines_over_two(rt.alloc(), text)? else {
-            return Err(Fail::from("a bad line"));
-        };
-        assert_eq!(rt; lines.as_slice(), want);
-    }
-    let bad = [
-        ("pool 2", 1),
-        ("{}", 1),
-        ("\nx", 2),
-        ("restart 1\nrestart 2\nx", 2),
-    ];
-    for (text, want) in bad {
-        assert!(rt; matches!(lines_over_two(rt.alloc(), text)?, Err(line) if line == want));
+    for example in scripts_of_events().lines() {
+        let (text, want) = sides(example);
+        let words = words_over_two(rt.alloc(), text)?;
+        same(&rt, text, words.as_str(), want);
     }
     Ok(())
 }
 
+fn output(alloc: Global, client: u8, bytes: &[u8]) -> Result<Output, AllocError> {
+    Ok(Output {
+        client,
+        bytes: Vec::from_slice(alloc, bytes)?,
+    })
+}
+
+fn two_outputs(alloc: Global) -> Result<Vec<Output>, AllocError> {
+    let mut shown = Vec::new(alloc);
+    shown.push(output(alloc, 0, b"END\r\n".as_slice())?)?;
+    shown.push(output(alloc, 63, b"\xff".as_slice())?)?;
+    Ok(shown)
+}
+
 #[test]
-fn lines_that_are_printed(rt: HostRuntime) -> Result<(), Fail> {
+fn outputs_that_are_printed(rt: HostRuntime) -> Result<(), Fail> {
     let mut out = Vec::new(rt.alloc());
-    let mut shown = Vec::new(rt.alloc());
-    shown.push(Output {
-        client: 0,
-        bytes: Vec::from_slice(rt.alloc(), b"END\r\n".as_slice())?,
-    })?;
-    shown.push(Output {
-        client: 63,
-        bytes: Vec::from_slice(rt.alloc(), b"\xff".as_slice())?,
-    })?;
+    let shown = two_outputs(rt.alloc())?;
     write_outputs(shown.as_slice(), &mut out)?;
+    assert_eq!(rt; out.as_slice(), b"< 0 END\\r\\n\n< 63 \\xff\n".as_slice());
+    Ok(())
+}
+
+#[test]
+fn last_lines_that_are_printed(rt: HostRuntime) -> Result<(), Fail> {
+    let mut out = Vec::new(rt.alloc());
     let report = Report {
         commands: 2,
         calls: 3,
@@ -416,8 +434,7 @@ fn lines_that_are_printed(rt: HostRuntime) -> Result<(), Fail> {
     write_report(&report, &mut out)?;
     write_bad_line(7, &mut out)?;
     write_config_fault(&ConfigFault::TooDeep, &mut out)?;
-    let want =
-        b"< 0 END\\r\\n\n< 63 \\xff\ndone 2 commands 3 calls 1 stale\nscript: bad line 7\nconfig: too deep\n";
+    let want = b"done 2 commands 3 calls 1 stale\nscript: bad line 7\nconfig: too deep\n";
     assert_eq!(rt; out.as_slice(), want.as_slice());
     Ok(())
 }

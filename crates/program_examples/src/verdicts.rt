@@ -1,76 +1,82 @@
 //! The printed verdicts of worked configurations.
+//!
+//! Of most examples the route alone is given: it stands over pool A of one server, 127.0.0.1:5001, and B of one, 127.0.0.1:5002.
 
+use crate::faults::faults;
 use crate::full_writer::Full;
-use config_check::status::{BAD_INPUT, DONE, REFUSED, WRITER};
+use crate::tables::{Example, example_of, expanded, same, sides, told};
+use config_check::status::WRITER;
 use config_check::{Form, run_check};
 use std::alloc::{AllocError, Global};
+use std::process::Abort;
 use std::test::Fail;
 
-// Whether the text has this status, and exactly this is printed of it.
-fn prints(alloc: Global, text: &str, status: u8, printed: &str) -> bool {
-    let mut out = Vec::new(alloc);
-    run_check(alloc, Form::Lines, text, &mut out) == status && out.as_slice() == printed.as_bytes()
+fn routes() -> &'static str {
+    r#"== key_lengths_and_longest_prefix
+{"type":"PrefixSelectorRoute","policies":{"a":"PoolRoute|A","ab":"PoolRoute|B"},"wildcard":"PoolRoute|A"}
+-- 0
+accepted places=3
+== failover_leak
+{"type":"FailoverRoute","children":["PoolRoute|A","PoolRoute|B"]}
+-- 1
+refused: server=127.0.0.1:5001 read=get delete=delete prefix= residue=0/1
+hold 0 k0 1
+fail 1 before
+> 0 delete k0\r\n
+> 0 get k0\r\n
+== all_sync_delete_over_failover
+{"type":"OperationSelectorRoute","default_policy":{"type":"FailoverRoute","children":["PoolRoute|A","PoolRoute|B"]},"operation_policies":{"delete":{"type":"AllSyncRoute","children":["PoolRoute|A","PoolRoute|B"]}}}
+-- 0
+accepted places=1
+== warm_up_leak
+{"type":"WarmUpRoute","cold":"PoolRoute|A","warm":"PoolRoute|B","exptime":0}
+-- 1
+refused: server=127.0.0.1:5002 read=get delete=delete prefix= residue=0/1
+hold 1 k0 1
+> 0 delete k0\r\n
+> 0 get k0\r\n
+== warm_up_accepted
+{"type":"OperationSelectorRoute","default_policy":{"type":"WarmUpRoute","cold":"PoolRoute|A","warm":"PoolRoute|B","exptime":0},"operation_policies":{"delete":{"type":"AllSyncRoute","children":["PoolRoute|A","PoolRoute|B"]}}}
+-- 0
+accepted places=1
+== null_delete
+{"type":"OperationSelectorRoute","default_policy":"PoolRoute|A","operation_policies":{"delete":"NullRoute"}}
+-- 1
+refused: server=127.0.0.1:5001 read=get delete=delete prefix= residue=0/1
+hold 0 k0 1
+> 0 delete k0\r\n
+> 0 get k0\r\n
+== first_of_worst
+{"type":"OperationSelectorRoute","default_policy":{"type":"AllSyncRoute","children":["PoolRoute|A","PoolRoute|B"]},"operation_policies":{"delete":"PoolRoute|A"}}
+-- 0
+accepted places=1
+"#
 }
 
-// The route over pool A of one server, 127.0.0.1:5001, and B of one, 127.0.0.1:5002.
-fn over_two_pools(alloc: Global, route: &str) -> Result<String, AllocError> {
-    let mut text = String::from_str(
-        alloc,
-        r#"{"pools":{"A":{"servers":["127.0.0.1:5001"]},"B":{"servers":["127.0.0.1:5002"]}},"route":"#,
-    )?;
-    text.push_str(route)?;
-    text.push('}')?;
-    Ok(text)
-}
-
-// Whether this is printed of the route over those pools.
-fn is_printed(alloc: Global, route: &str, status: u8, printed: &str) -> Result<bool, Fail> {
-    let text = over_two_pools(alloc, route)?;
-    Ok(prints(alloc, text.as_str(), status, printed))
-}
-
-// Whether this is what the words say of the route over those pools, whatever stands before them.
-fn is_explained(alloc: Global, route: &str, status: u8, words: &str) -> Result<bool, Fail> {
-    let text = over_two_pools(alloc, route)?;
-    let mut out = Vec::new(alloc);
-    let ended = run_check(alloc, Form::Explained, text.as_str(), &mut out);
-    Ok(ended == status && out.as_slice().ends_with(words.as_bytes()))
-}
-
-fn warm_up_words() -> &'static str {
-    "> 0 get k0\\r\\n
+// What the words end with, after the lines of the verdict.
+fn words() -> &'static str {
+    r#"== warm_up
+{"type":"WarmUpRoute","cold":"PoolRoute|A","warm":"PoolRoute|B","exptime":0}
+-- 1
+> 0 get k0\r\n
 # a get of these keys can show or copy what 127.0.0.1:5002 holds: WarmUpRoute warm > 127.0.0.1:5002
 # reads of them can show or copy what these hold: 127.0.0.1:5001 127.0.0.1:5002
 # a delete that is acknowledged has cleared: 127.0.0.1:5001
 # and can have left as they were: 127.0.0.1:5002
 # to change: send each delete to both, by an AllSyncRoute
-"
-}
-
-fn accepted_words() -> &'static str {
-    "accepted places=1
+== pool
+"PoolRoute|A"
+-- 0
+accepted places=1
 # no reply shows what was stored before an acknowledged delete of its key, whatever fails
-"
+"#
 }
 
-#[test]
-fn warm_up_in_words(rt: HostRuntime) -> Result<(), Fail> {
-    let leaks = r#"{"type":"WarmUpRoute","cold":"PoolRoute|A","warm":"PoolRoute|B","exptime":0}"#;
-    assert!(rt; is_explained(rt.alloc(), leaks, REFUSED, warm_up_words())?);
-    assert!(rt; is_explained(rt.alloc(), "\"PoolRoute|A\"", DONE, accepted_words())?);
-    Ok(())
-}
-
-// Whether this is what is drawn of the route over those pools.
-fn is_drawn(alloc: Global, route: &str, status: u8, drawn: &str) -> Result<bool, Fail> {
-    let text = over_two_pools(alloc, route)?;
-    let mut out = Vec::new(alloc);
-    let ended = run_check(alloc, Form::Picture, text.as_str(), &mut out);
-    Ok(ended == status && out.as_slice() == drawn.as_bytes())
-}
-
-fn warm_up_picture() -> &'static str {
-    r#"strict digraph mcgate {
+fn drawings() -> &'static str {
+    r#"== warm_up
+{"type":"WarmUpRoute","cold":"PoolRoute|A","warm":"PoolRoute|B","exptime":0}
+-- 1
+strict digraph mcgate {
   r0 [label="WarmUpRoute"];
   r0 -> r1 [label="cold"];
   r1 [label="PoolRoute"];
@@ -86,124 +92,113 @@ fn warm_up_picture() -> &'static str {
   r2 -> s1 [label="get", color=red];
   s1 [label="127.0.0.1:5002\nnot cleared by delete", color=red, penwidth=2];
 }
-"#
-}
-
-fn pool_picture() -> &'static str {
-    r#"strict digraph mcgate {
+== pool
+"PoolRoute|A"
+-- 0
+strict digraph mcgate {
   r0 [label="PoolRoute"];
   r0 -> s0;
   s0 [label="127.0.0.1:5001", shape=box];
   s1 [label="127.0.0.1:5002", shape=box];
 }
+== no_pool
+"PoolRoute|Z"
+-- 2
+config: no pool Z
 "#
+}
+
+// Whole configurations.
+fn pools() -> &'static str {
+    r#"== pools_of_two_and_three
+{"pools":{"D":{"servers":["h:1","h:2","h:3"]},"R":{"servers":["h:1","h:2"]}},"route":{"type":"OperationSelectorRoute","default_policy":"PoolRoute|R","operation_policies":{"delete":"PoolRoute|D"}}}
+-- 1
+refused: server=h:1 read=get delete=delete prefix= residue=2/6
+hold 0 k6 1
+> 0 delete k6\r\n
+> 0 get k6\r\n
+"#
+}
+
+// What is printed of a configuration, with the status.
+fn verdict(alloc: Global, form: Form, text: &str) -> Result<String, Fail> {
+    let mut out = Vec::new(alloc);
+    let status = run_check(alloc, form, text, &mut out);
+    told(alloc, status, out.as_slice())
+}
+
+fn over_two_pools(alloc: Global, route: &str) -> Result<String, Fail> {
+    let line = format!(in alloc; "over A and B {route}")?;
+    Ok(expanded(alloc, line.as_str())?)
+}
+
+fn verdict_on_route(alloc: Global, form: Form, route: &str) -> Result<String, Fail> {
+    let text = over_two_pools(alloc, route)?;
+    verdict(alloc, form, text.as_str())
+}
+
+fn all_hold<R: Abort + AllocGlobal>(rt: &R, form: Form, examples: &str) -> Result<(), Fail> {
+    for part in examples.split("== ").skip(1) {
+        let Example {
+            name,
+            given,
+            wanted,
+        } = example_of(part);
+        let got = verdict_on_route(rt.alloc(), form, given)?;
+        same(rt, name, got.as_str(), wanted);
+    }
+    Ok(())
+}
+
+#[test]
+fn verdicts_on_routes(rt: HostRuntime) -> Result<(), Fail> {
+    all_hold(&rt, Form::Lines, routes())
 }
 
 #[test]
 fn pictures(rt: HostRuntime) -> Result<(), Fail> {
-    let leaks = r#"{"type":"WarmUpRoute","cold":"PoolRoute|A","warm":"PoolRoute|B","exptime":0}"#;
-    assert!(rt; is_drawn(rt.alloc(), leaks, REFUSED, warm_up_picture())?);
-    assert!(rt; is_drawn(rt.alloc(), "\"PoolRoute|A\"", DONE, pool_picture())?);
-    assert!(rt;
-        is_drawn(
-            rt.alloc(),
-            "\"PoolRoute|Z\"",
-            BAD_INPUT,
-            "config: no pool Z\n"
-        )?
-    );
+    all_hold(&rt, Form::Picture, drawings())
+}
+
+#[test]
+fn verdicts_in_words(rt: HostRuntime) -> Result<(), Fail> {
+    for part in words().split("== ").skip(1) {
+        let Example {
+            name,
+            given,
+            wanted,
+        } = example_of(part);
+        let got = verdict_on_route(rt.alloc(), Form::Explained, given)?;
+        let (status, words) = wanted.split_once('\n').unwrap_or((wanted, ""));
+        assert!(rt; got.as_str().starts_with(status), "at {name}: {got}");
+        assert!(rt; got.as_str().ends_with(words), "at {name}: {got}");
+    }
     Ok(())
 }
 
 #[test]
-fn key_lengths_and_longest_prefix(rt: HostRuntime) -> Result<(), Fail> {
-    let route =
-        r#"{"type":"PrefixSelectorRoute","policies":{"a":"PoolRoute|A","ab":"PoolRoute|B"},"wildcard":"PoolRoute|A"}"#;
-    assert!(rt; is_printed(rt.alloc(), route, DONE, "accepted places=3\n")?);
+fn verdicts_on_pools(rt: HostRuntime) -> Result<(), Fail> {
+    for part in pools().split("== ").skip(1) {
+        let Example {
+            name,
+            given,
+            wanted,
+        } = example_of(part);
+        let got = verdict(rt.alloc(), Form::Lines, given)?;
+        same(&rt, name, got.as_str(), wanted);
+    }
     Ok(())
 }
 
 #[test]
-fn failover_leak(rt: HostRuntime) -> Result<(), Fail> {
-    let route = r#"{"type":"FailoverRoute","children":["PoolRoute|A","PoolRoute|B"]}"#;
-    let printed = r#"refused: server=127.0.0.1:5001 read=get delete=delete prefix= residue=0/1
-hold 0 k0 1
-fail 1 before
-> 0 delete k0\r\n
-> 0 get k0\r\n
-"#;
-    assert!(rt; is_printed(rt.alloc(), route, REFUSED, printed)?);
+fn configuration_faults(rt: HostRuntime) -> Result<(), Fail> {
+    for line in faults().lines() {
+        let (text, want) = sides(line);
+        let got = verdict(rt.alloc(), Form::Lines, text)?;
+        let want = format!(in rt.alloc(); "2\n{want}\n")?;
+        same(&rt, text, got.as_str(), want.as_str());
+    }
     Ok(())
-}
-
-#[test]
-fn all_sync_delete_over_failover(rt: HostRuntime) -> Result<(), Fail> {
-    let route =
-        r#"{"type":"OperationSelectorRoute","default_policy":{"type":"FailoverRoute","children":["PoolRoute|A","PoolRoute|B"]},"operation_policies":{"delete":{"type":"AllSyncRoute","children":["PoolRoute|A","PoolRoute|B"]}}}"#;
-    assert!(rt; is_printed(rt.alloc(), route, DONE, "accepted places=1\n")?);
-    Ok(())
-}
-
-#[test]
-fn warm_up_leak(rt: HostRuntime) -> Result<(), Fail> {
-    let route = r#"{"type":"WarmUpRoute","cold":"PoolRoute|A","warm":"PoolRoute|B","exptime":0}"#;
-    let printed = r#"refused: server=127.0.0.1:5002 read=get delete=delete prefix= residue=0/1
-hold 1 k0 1
-> 0 delete k0\r\n
-> 0 get k0\r\n
-"#;
-    assert!(rt; is_printed(rt.alloc(), route, REFUSED, printed)?);
-    Ok(())
-}
-
-#[test]
-fn warm_up_accepted(rt: HostRuntime) -> Result<(), Fail> {
-    let route =
-        r#"{"type":"OperationSelectorRoute","default_policy":{"type":"WarmUpRoute","cold":"PoolRoute|A","warm":"PoolRoute|B","exptime":0},"operation_policies":{"delete":{"type":"AllSyncRoute","children":["PoolRoute|A","PoolRoute|B"]}}}"#;
-    assert!(rt; is_printed(rt.alloc(), route, DONE, "accepted places=1\n")?);
-    Ok(())
-}
-
-#[test]
-fn pools_of_two_and_three(rt: HostRuntime) {
-    let text =
-        r#"{"pools":{"D":{"servers":["h:1","h:2","h:3"]},"R":{"servers":["h:1","h:2"]}},"route":{"type":"OperationSelectorRoute","default_policy":"PoolRoute|R","operation_policies":{"delete":"PoolRoute|D"}}}"#;
-    let printed = r#"refused: server=h:1 read=get delete=delete prefix= residue=2/6
-hold 0 k6 1
-> 0 delete k6\r\n
-> 0 get k6\r\n
-"#;
-    assert!(rt; prints(rt.alloc(), text, REFUSED, printed));
-}
-
-#[test]
-fn null_delete_and_first_of_worst(rt: HostRuntime) -> Result<(), Fail> {
-    let route =
-        r#"{"type":"OperationSelectorRoute","default_policy":"PoolRoute|A","operation_policies":{"delete":"NullRoute"}}"#;
-    let printed = r#"refused: server=127.0.0.1:5001 read=get delete=delete prefix= residue=0/1
-hold 0 k0 1
-> 0 delete k0\r\n
-> 0 get k0\r\n
-"#;
-    assert!(rt; is_printed(rt.alloc(), route, REFUSED, printed)?);
-    let route =
-        r#"{"type":"OperationSelectorRoute","default_policy":{"type":"AllSyncRoute","children":["PoolRoute|A","PoolRoute|B"]},"operation_policies":{"delete":"PoolRoute|A"}}"#;
-    assert!(rt; is_printed(rt.alloc(), route, DONE, "accepted places=1\n")?);
-    Ok(())
-}
-
-// Whether this fault is printed of pool A with this list of servers.
-fn is_fault_of_servers(alloc: Global, servers: &str, printed: &str) -> Result<bool, Fail> {
-    let text = format!(in alloc;
-        r#"{{"pools":{{"A":{{"servers":{servers}}}}},"route":"NullRoute"}}"#
-    )?;
-    Ok(prints(alloc, text.as_str(), BAD_INPUT, printed))
-}
-
-// Whether this fault is printed of a route over no pools.
-fn is_fault_of_route(alloc: Global, route: &str, printed: &str) -> Result<bool, Fail> {
-    let text = format!(in alloc; r#"{{"pools":{{}},"route":{route}}}"#)?;
-    Ok(prints(alloc, text.as_str(), BAD_INPUT, printed))
 }
 
 // The route, nested so often in what stands before and after it.
@@ -225,43 +220,26 @@ fn nested(
     Ok(text)
 }
 
-#[test]
-fn configuration_faults(rt: HostRuntime) -> Result<(), Fail> {
-    let alloc = rt.alloc();
-    assert!(rt; prints(alloc, "[]", BAD_INPUT, "config: not JSON\n"));
-    assert!(rt; prints(alloc, "{}", BAD_INPUT, "config: bad field pools\n"));
-    assert!(rt; is_fault_of_servers(alloc, "[]", "config: empty pool A\n")?);
-    assert!(rt; is_fault_of_servers(alloc, "[\"h:0\"]", "config: bad address h:0\n")?);
-    Ok(())
+// What is printed of a route over no pools: null, so often in what stands before and after it.
+fn verdict_on_nested(alloc: Global, times: usize, front: &str, back: &str) -> Result<String, Fail> {
+    let route = nested(alloc, times, front, "\"NullRoute\"", back)?;
+    let text = format!(in alloc; r#"{{"pools":{{}},"route":{route}}}"#)?;
+    verdict(alloc, Form::Lines, text.as_str())
 }
 
 #[test]
-fn faults_of_routes(rt: HostRuntime) -> Result<(), Fail> {
-    let alloc = rt.alloc();
-    assert!(rt; is_fault_of_route(alloc, "\"PoolRoute|Z\"", "config: no pool Z\n")?);
-    assert!(rt;
-        is_fault_of_route(
-            alloc,
-            "\"RandomRoute\"",
-            "config: unknown route RandomRoute\n"
-        )?
-    );
-    let empty = r#"{"type":"AllSyncRoute","children":[]}"#;
-    assert!(rt; is_fault_of_route(alloc, empty, "config: no children\n")?);
-    let prefix = r#"{"type":"PrefixSelectorRoute","policies":{"":"NullRoute"}}"#;
-    assert!(rt; is_fault_of_route(alloc, prefix, "config: bad prefix \n")?);
-    Ok(())
-}
-
-#[test]
-fn routes_too_deep_and_too_many(rt: HostRuntime) -> Result<(), Fail> {
-    let alloc = rt.alloc();
+fn routes_too_deep(rt: HostRuntime) -> Result<(), Fail> {
     let front = r#"{"type":"AllSyncRoute","children":["#;
-    let deep = nested(alloc, 33, front, "\"NullRoute\"", "]}")?;
-    assert!(rt; is_fault_of_route(alloc, deep.as_str(), "config: too deep\n")?);
+    let got = verdict_on_nested(rt.alloc(), 33, front, "]}")?;
+    assert_eq!(rt; got.as_str(), "2\nconfig: too deep\n");
+    Ok(())
+}
+
+#[test]
+fn routes_too_many(rt: HostRuntime) -> Result<(), Fail> {
     let front = r#"{"type":"WarmUpRoute","warm":"NullRoute","cold":"#;
-    let many = nested(alloc, 8, front, "\"NullRoute\"", "}")?;
-    assert!(rt; is_fault_of_route(alloc, many.as_str(), "config: too many routes\n")?);
+    let got = verdict_on_nested(rt.alloc(), 8, front, "}")?;
+    assert_eq!(rt; got.as_str(), "2\nconfig: too many routes\n");
     Ok(())
 }
 
@@ -269,11 +247,9 @@ fn routes_too_deep_and_too_many(rt: HostRuntime) -> Result<(), Fail> {
 fn servers_of(alloc: Global, host: &str, count: u32) -> Result<String, Fail> {
     let mut text = String::from_str(alloc, "[")?;
     for port in 1..count {
-        let server = format!(in alloc; "\"{host}:{port}\",")?;
-        text.push_str(server.as_str())?;
+        write!(&mut text, "\"{host}:{port}\",")?;
     }
-    let last = format!(in alloc; "\"{host}:{count}\"]")?;
-    text.push_str(last.as_str())?;
+    write!(&mut text, "\"{host}:{count}\"]")?;
     Ok(text)
 }
 
@@ -287,27 +263,32 @@ fn both_pools(alloc: Global, a: u32, b: u32) -> Result<String, Fail> {
     Ok(text)
 }
 
+fn verdict_on_both(alloc: Global, a: u32, b: u32) -> Result<String, Fail> {
+    let text = both_pools(alloc, a, b)?;
+    verdict(alloc, Form::Lines, text.as_str())
+}
+
 #[test]
 fn too_many_places(rt: HostRuntime) -> Result<(), Fail> {
-    let alloc = rt.alloc();
-    let many = both_pools(alloc, 1_023, 1_024)?;
-    assert!(rt; prints(alloc, many.as_str(), REFUSED, "refused: too many places\n"));
-    let fewer = both_pools(alloc, 512, 512)?;
-    assert!(rt; prints(alloc, fewer.as_str(), DONE, "accepted places=512\n"));
+    let many = verdict_on_both(rt.alloc(), 1_023, 1_024)?;
+    assert_eq!(rt; many.as_str(), "1\nrefused: too many places\n");
+    let fewer = verdict_on_both(rt.alloc(), 512, 512)?;
+    assert_eq!(rt; fewer.as_str(), "0\naccepted places=512\n");
     Ok(())
+}
+
+// The status of a text whose verdict is written where there is so much room.
+fn status_in(alloc: Global, text: &str, room: usize) -> u8 {
+    let mut out = Full { room };
+    run_check(alloc, Form::Lines, text, &mut out)
 }
 
 #[test]
 fn writers_that_fail(rt: HostRuntime) -> Result<(), Fail> {
     let text = over_two_pools(rt.alloc(), "\"PoolRoute|A\"")?;
     for room in 0..10 {
-        let mut out = Full { room };
-        assert_eq!(rt;
-            run_check(rt.alloc(), Form::Lines, text.as_str(), &mut out),
-            WRITER
-        );
-        let mut bad = Full { room };
-        assert_eq!(rt; run_check(rt.alloc(), Form::Lines, "", &mut bad), WRITER);
+        assert_eq!(rt; status_in(rt.alloc(), text.as_str(), room), WRITER);
+        assert_eq!(rt; status_in(rt.alloc(), "", room), WRITER);
     }
     Ok(())
 }

@@ -1,13 +1,16 @@
 -- A command that the core began is one that begins.
-use Rattle.std.proofs.Common.{◌≡◌, ◌↔◌, ℕ, ◌+◌, ◌<◌, Bool, true, false, cond, List, [], ◌∷◌, ◌++◌, Option, Some, None, option_map, refl, sym, ap, ◌∙◌, subst, arith, nat_eq}
+use Rattle.std.proofs.Common.{◌≡◌, ◌↔◌, ℕ, ◌+◌, ◌<◌, Bool, true, false, cond, ◌||◌, List, [], ◌∷◌, ◌++◌, Option, Some, None, option_map, refl, sym, ap, ◌∙◌, subst, arith, nat_eq}
 use Rattle.std.proofs.lemmas.Bool.{eqb-true, eq-eqb}
+use Rattle.std.specs.Cmp.Lexicographic.{pointwise, nat_list_eq_equiv}
+use Rattle.std.specs.List.{list_any}
+use Rattle.indexmap.specs.IndexMap as map
 use Rattle.mc_types.specs.declared.answer.Answer.{Answer}
 use Rattle.mc_types.specs.declared.call.Origin.TheVariants.{Client as OfClient}
 use Rattle.mc_runs.specs.Run.{Call}
 use Rattle.mc_runs.specs.Log.{Part}
 use Rattle.request_parts.specs.Stream.{Place}
 use Rattle.mc_runs.specs.Overlap.{Front, Slot, Owner, Starts, is_last, is_last_slot, after_start, slot_of, slot_in, IsNext, ticket_in}
-use Rattle.mc_runs.specs.OverlapStanding.{Either}
+use Rattle.mc_runs.specs.OverlapState.{Either, IsApartNow}
 use Rattle.mc_runs.proofs.OverlapSteps.{walks_lead}
 use Rattle.route_tree.specs.At.{tree_at}
 use Rattle.route_tree.specs.Word.{Given, Word, tree_words}
@@ -20,8 +23,12 @@ use Rattle.proxy_core.specs.declared.client.Client.{Client}
 use Rattle.proxy_core.specs.declared.command.Command.{Command}
 use Rattle.proxy_core.specs.declared.proxy.Core.{Core}
 use Rattle.proxy_core.specs.Steps.{Begins}
-use Rattle.proxy_core.specs.Standing.{dialect, Alone, client_at, command_at, Beside, front_by, output_by, dropped_by, owner_by, LeftBy, standing_of, is_call, IsSlot, AreSlots, IsAtFront, IsWaitedFor, IsQueue, IsHeld, IsLeftOf, ticket_by, Fits, GoesByOne}
+use Rattle.proxy_core.specs.declared.claim.Claim.{Claim}
+use Rattle.proxy_core.specs.Claims.{claim_by, clears_key, copies_key, has_own}
+use Rattle.proxy_core.specs.CoreState.{dialect, bars_of, client_at, command_at, Beside, front_by, output_by, dropped_by, owner_by, MayComeOf, state_of, is_call, IsSlot, AreSlots, IsAtFront, IsWaitedFor, IsQueue, IsHeld, IsOnItsWay, ticket_by, Fits, GoesByOne}
 use Rattle.proxy_core.proofs.Commands.{some_command, by_number}
+use Rattle.proxy_core.proofs.Claims.{own_there, none_of}
+use Rattle.proxy_core.proofs.Clients.{on_its_way_kept}
 use Rattle.proxy_core.proofs.Slots.{in_front, at_end, none_more, waited_more, held_then}
 use Rattle.proxy_core.proofs.Tickets.{contrary}
 
@@ -98,27 +105,71 @@ module _ (old new : Core) (client : ℕ) (x y : Client) (part : Part dialect) (p
     | false ↦ refl
   ])
 
-  left_like : (beside : Beside) → Fits old beside → (n : ℕ) (calls : List Call) (reply : Answer) (from : Option ℕ) → LeftBy (command_at new n) calls reply from
-      → Either (nat_eq (old.number + 1) n) (tree_words beside.at (old.number + 1) part.ask calls reply from) (LeftBy (command_at old n) calls reply from)
-  left_like beside fits n calls reply from l =
-      (elim (nat_eq (old.number + 1) n) as (λ b. LeftBy (cond b (Some command) (command_at old n)) calls reply from → Either b (tree_words beside.at (old.number + 1) part.ask calls reply from) (LeftBy (command_at old n) calls reply from)) [
+  to_come_like : (beside : Beside) → Fits old beside → (n : ℕ) (calls : List Call) (reply : Answer) (from : Option ℕ) → MayComeOf (command_at new n) calls reply from
+      → Either (nat_eq (old.number + 1) n) (tree_words beside.at (old.number + 1) part.ask calls reply from) (MayComeOf (command_at old n) calls reply from)
+  to_come_like beside fits n calls reply from l =
+      (elim (nat_eq (old.number + 1) n) as (λ b. MayComeOf (cond b (Some command) (command_at old n)) calls reply from → Either b (tree_words beside.at (old.number + 1) part.ask calls reply from) (MayComeOf (command_at old n) calls reply from)) [
         | true ↦ λ l.
             let w = (r.job calls (record { reply = reply; from = from })).0 l in
             (r.asks, subst (λ plan. Word plan part.ask OfClient 0 calls (record { reply = reply; from = from })) (sym (fits.trees (old.number + 1) part.ask.key just_above)) w)
         | false ↦ λ l. l
-      ]) (subst (λ o. LeftBy o calls reply from) (r.commands n) l)
+      ]) (subst (λ o. MayComeOf o calls reply from) (r.commands n) l)
 
-  -- nobody else is under way on its key
-  none_on : (n : ℕ) (o : Owner) → option_map owner_by (command_at old n) ≡ Some o → o.ask.key ≡ part.ask.key → ⊥
-  none_on n o e key = by (command_at old n) refl e
+  -- the command that an owner stands for
+  owned : (n : ℕ) (o : Owner) → option_map owner_by (command_at old n) ≡ Some o → (c : Command) × (command_at old n ≡ Some c) × (owner_by c ≡ o)
+  owned n o e = by (command_at old n) refl e
     where
-      key_of : Option Owner → List ℕ
-      key_of None = []
-      key_of (Some o) = o.ask.key
-
-      by : (c : Option Command) → command_at old n ≡ c → option_map owner_by c ≡ Some o → ⊥
+      by : (m : Option Command) → command_at old n ≡ m → option_map owner_by m ≡ Some o → (c : Command) × (command_at old n ≡ Some c) × (owner_by c ≡ o)
       by None is e = absurd cc
-      by (Some c) is e = r.alone n c is (ap key_of e ∙ key)
+      by (Some c) is e = (c, is, cc)
+
+  -- none of the client's own is under way on its key
+  first_is : (beside : Beside) → Fits old beside → (n : ℕ) (o : Owner) → option_map owner_by (command_at old n) ≡ Some o → o.client ≡ client → o.ask.key ≡ part.ask.key → ⊥
+  first_is beside fits n o e own key =
+      let c = owned n o e in
+      let at : c.0.client ≡ client = ap (λ (p : Owner). p.client) c.2 ∙ own in
+      let held : IsHeld n c.0 (Some x) (beside.queue client) = subst (λ q. IsHeld n c.0 q (beside.queue client)) r.was (subst (λ d. IsHeld n c.0 (client_at old d) (beside.queue d)) at (fits.held n c.0 c.1)) in
+      let s = held r.served in
+      let slots = subst (λ q. IsQueue q (beside.queue client)) r.was (fits.queues client) in
+      let there = own_there part.ask.key x.queue.items (beside.queue client) n s.0 slots.0 s.1 s.3 (ap (λ (k : Ask). k.key) (s.2 ∙ ap (λ (p : Owner). p.ask) c.2) ∙ key) in
+      contrary (has_own part.ask.key x.queue.items) there r.first
+
+  -- what it claims, by the plain tree that it runs by
+  claim_then : (beside : Beside) → Fits old beside → command.claim ≡ claim_by old.limits.sharing part.ask.op (beside.at (old.number + 1) part.ask.key)
+  claim_then beside fits = r.claim ∙ ap (claim_by old.limits.sharing part.ask.op) (sym (fits.trees (old.number + 1) part.ask.key just_above))
+
+  or_left : (a b : Bool) → (a || b) ≡ false → a ≡ false
+  or_left true b e = absurd cc
+  or_left false b e = refl
+
+  or_right : (a b : Bool) → (a || b) ≡ false → b ≡ false
+  or_right true b e = absurd cc
+  or_right false b e = e
+
+  when_true : (a b : Bool) → a ≡ true → cond a b false ≡ false → b ≡ false
+  when_true true b is e = e
+  when_true false b is e = absurd cc
+
+  -- and none under way may not stand beside it
+  apart_is : (beside : Beside) → Fits old beside → IsApartNow (bars_of old beside) (state_of old beside) (old.number + 1) part.ask
+  apart_is beside fits n o e key =
+      let c = owned n o e in
+      let claim = claim_then beside fits in
+      let its : c.0.claim ≡ claim_by old.limits.sharing o.ask.op (beside.at n o.ask.key) = (fits.to_come n c.0 c.1).claim ∙ ap (λ (p : Owner). claim_by old.limits.sharing p.ask.op (beside.at n p.ask.key)) c.2 in
+      let on : pointwise nat_eq c.0.ask.key part.ask.key ≡ true = ap (λ k. pointwise nat_eq k part.ask.key) (ap (λ (p : Owner). p.ask.key) c.2 ∙ key) ∙ nat_list_eq_equiv.refl part.ask.key in
+      let any_copies = list_any (copies_key part.ask.key) (map.values old.commands) in
+      let any_clears = list_any (clears_key part.ask.key) (map.values old.commands) in (
+        (λ bars.
+            let copies : command.claim.copies ≡ true = ap (λ (k : Claim). k.copies) claim ∙ bars.0 in
+            let clears : c.0.claim.clears ≡ true = ap (λ (k : Claim). k.clears) its ∙ bars.1 in
+            contrary (clears_key part.ask.key c.0) ((λ i. cond (clears i) (on i) false))
+            (none_of (clears_key part.ask.key) old.commands.entries n c.0 (when_true command.claim.copies any_clears copies (or_right (cond command.claim.clears any_copies false) _ r.apart)) c.1)),
+        (λ bars.
+            let clears : command.claim.clears ≡ true = ap (λ (k : Claim). k.clears) claim ∙ bars.1 in
+            let copies : c.0.claim.copies ≡ true = ap (λ (k : Claim). k.copies) its ∙ bars.0 in
+            contrary (copies_key part.ask.key c.0) ((λ i. cond (copies i) (on i) false))
+            (none_of (copies_key part.ask.key) old.commands.entries n c.0 (when_true command.claim.clears any_copies clears (or_left (cond command.claim.clears any_copies false) _ r.apart)) c.1)),
+      )
 
   found_like : (beside : Beside) → Fits old beside → (n : ℕ) → beside.found n ≡ cond (nat_eq (old.number + 1) n) [] (beside.found n)
   found_like beside fits n =
@@ -160,14 +211,17 @@ module _ (old new : Core) (client : ℕ) (x y : Client) (part : Part dialect) (p
         refl,
       )))
 
-  left_then : (beside : Beside) → Fits old beside → (n : ℕ) (c : Command) → command_at new n ≡ Some c → IsLeftOf (beside.at n c.ask.key) c
-  left_then beside fits =
-      by_number old new (old.number + 1) (Some command) r.commands (λ n c. IsLeftOf (beside.at n c.ask.key) c)
-      (λ c e. subst (λ (c : Command). IsLeftOf (beside.at (old.number + 1) c.ask.key) c) (some_command e) mine)
-      (λ n c _ e. fits.left n c e)
+  on_its_way_then : (beside : Beside) → Fits old beside → (n : ℕ) (c : Command) → command_at new n ≡ Some c → IsOnItsWay old.limits.sharing (beside.at n c.ask.key) c
+  on_its_way_then beside fits =
+      by_number old new (old.number + 1) (Some command) r.commands (λ n c. IsOnItsWay old.limits.sharing (beside.at n c.ask.key) c)
+      (λ c e. subst (λ (c : Command). IsOnItsWay old.limits.sharing (beside.at (old.number + 1) c.ask.key) c) (some_command e) mine)
+      (λ n c _ e. fits.to_come n c e)
     where
       same : command.ask ≡ part.ask
       same = ap (λ (o : Owner). o.ask) r.owner
+
+      claim_is : command.claim ≡ claim_by old.limits.sharing command.ask.op (tree_at old.tree command.ask.key)
+      claim_is = r.claim ∙ ap (λ (k : Ask). claim_by old.limits.sharing k.op (tree_at old.tree k.key)) (sym same)
 
       plan : tree_at old.tree command.ask.key ≡ beside.at (old.number + 1) command.ask.key
       plan = sym (fits.trees (old.number + 1) command.ask.key just_above)
@@ -175,11 +229,11 @@ module _ (old new : Core) (client : ℕ) (x y : Client) (part : Part dialect) (p
       comes : (calls : List Call) (given : Given) → Comes command.job calls given ↔ Word (tree_at old.tree command.ask.key) command.ask OfClient 0 calls given
       comes = subst (λ (k : Ask). (calls : List Call) (given : Given) → Comes command.job calls given ↔ Word (tree_at old.tree k.key) k OfClient 0 calls given) (sym same) r.job
 
-      mine : IsLeftOf (beside.at (old.number + 1) command.ask.key) command
+      mine : IsOnItsWay old.limits.sharing (beside.at (old.number + 1) command.ask.key) command
       mine =
           let good = (good_at old.tree command.ask.key r.tree_is).good in
           let w = each_ask_has_a_word (tree_at old.tree command.ask.key) command.ask OfClient 0 good in
-          subst (λ p. IsLeftOf p command) plan (record { good = good; before = []; rest = comes; some = (w.0, w.1, (comes w.0 w.1).1 w.2) })
+          subst (λ p. IsOnItsWay old.limits.sharing p command) plan (record { claim = claim_is; good = good; before = []; rest = comes; some = (w.0, w.1, (comes w.0 w.1).1 w.2) })
 
   same_of : {A : Type 0} (f : Option Client → A) → f (Some y) ≡ f (Some x) → (c : ℕ) → f (client_at new c) ≡ f (client_at old c)
   same_of f e c =
@@ -198,7 +252,7 @@ module _ (old new : Core) (client : ℕ) (x y : Client) (part : Part dialect) (p
           queues = queues_then beside fits;
           held = held_then_too beside fits;
           numbered = numbered_then beside fits;
-          left = left_then beside fits;
+          to_come = λ n c e. on_its_way_kept old new (beside.at n c.ask.key) c r.limits (on_its_way_then beside fits n c e);
           tickets = tickets_then beside fits;
           single = fits.single;
           numbers = numbers_then beside fits;
@@ -207,12 +261,12 @@ module _ (old new : Core) (client : ℕ) (x y : Client) (part : Part dialect) (p
         },
         record { at = refl; holds = refl; found = refl; turn = refl },
         refl,
-        walks_lead (tree_words beside.at) Alone (standing_of old beside) (standing_of new beside') (Starts client (old.number + 1) part ∷ []) (record {
+        walks_lead (tree_words beside.at) (bars_of old beside) (state_of old beside) (state_of new beside') (Starts client (old.number + 1) part ∷ []) (record {
           may = (
             (
               subst (λ o. IsNext (front_by o) part) (sym r.was) r.next,
-              λ n o e same key. none_on n o e key,
-              λ n o e key. ((λ bars. none_on n o e key), (λ bars. none_on n o e key)),
+              first_is beside fits,
+              apart_is beside fits,
               refl,
               ap dropped_by r.was ∙ r.served,
             ),
@@ -228,11 +282,12 @@ module _ (old new : Core) (client : ℕ) (x y : Client) (part : Part dialect) (p
             dropped = same_of dropped_by r.dropped;
             number = r.number;
             owner = owner_like;
-            left = λ n o e calls reply from l. left_like beside fits n calls reply from l;
+            to_come = λ n o e calls reply from l. to_come_like beside fits n calls reply from l;
             out = λ s. refl;
             holds = λ s k. refl;
             found = λ n o e. found_like beside fits n;
             turn = refl;
           };
         }),
+        r.limits,
       )

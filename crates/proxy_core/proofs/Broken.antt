@@ -6,20 +6,20 @@ use Rattle.mc_types.specs.declared.call.Outcome.{Outcome}
 use Rattle.mc_runs.specs.Run.{Call, End}
 use Rattle.mc_runs.specs.Overlap as log
 use Rattle.mc_runs.specs.Overlap.{Front, Entry, Slot, Happens, ticket_in, out_after}
-use Rattle.mc_runs.specs.OverlapStanding.{Leads, Either}
+use Rattle.mc_runs.specs.OverlapState.{Leads, Either}
 use Rattle.mc_runs.proofs.OverlapSteps.{walks_lead, leads_on}
 use Rattle.route_tree.specs.At.{tree_at}
 use Rattle.route_tree.specs.Word.{tree_words}
 use Rattle.proxy_core.specs.declared.client.Client.{Client}
 use Rattle.proxy_core.specs.declared.command.Command.{Command}
 use Rattle.proxy_core.specs.declared.proxy.Core.{Core}
-use Rattle.proxy_core.specs.Standing.{dialect, Alone, client_at, command_at, Beside, front_by, output_by, dropped_by, owner_by, LeftBy, standing_of, AreSlots, IsWaitedFor, IsQueue, IsHeld, IsLeftOf, ticket_by, Fits, GoesBy}
+use Rattle.proxy_core.specs.CoreState.{dialect, bars_of, client_at, command_at, Beside, front_by, output_by, dropped_by, owner_by, MayComeOf, state_of, AreSlots, IsWaitedFor, IsQueue, IsHeld, IsOnItsWay, ticket_by, Fits, GoesBy}
 use Rattle.proxy_core.specs.Steps.{event_of, settled, Resolves}
 use Rattle.proxy_core.specs.Ending.{Drops}
 use Rattle.proxy_core.specs.Settles.{SettlesBy, DropsBy, TakesOut}
 use Rattle.proxy_core.proofs.Came.{Came, none_then, other_then, single_then, below, unseen_then, has_result}
-use Rattle.proxy_core.proofs.Chains.{Then, beside_on}
-use Rattle.proxy_core.proofs.Clients.{by_client}
+use Rattle.proxy_core.proofs.Chains.{Then, beside_on, leads_there}
+use Rattle.proxy_core.proofs.Clients.{on_its_way_kept, by_client}
 use Rattle.proxy_core.proofs.Commands.{no_command, by_number}
 use Rattle.proxy_core.proofs.Ending.{front_same, none_owned}
 use Rattle.proxy_core.proofs.Settling.{settles}
@@ -30,7 +30,7 @@ use Rattle.proxy_core.proofs.Tickets.{contrary}
 pub settles_alone : (old new : Core) (number : ℕ) (a b : Command) (outcome : Outcome) → Resolves old new number a b outcome → SettlesBy old number a outcome (λ more. more ≡ []) new
 settles_alone old new number a b outcome r = λ beside end fits is ends.
     let s = settles old new number a b outcome r beside end fits is ends in
-    (settled (event_of number a end) beside, [], s.0, record { at = refl; holds = refl; found = refl; turn = refl }, refl, s.1)
+    (settled (event_of number a end) beside, [], s.0, record { at = refl; holds = refl; found = refl; turn = refl }, refl, s.1, r.limits)
 
 -- and then more
 pub settles_then : (old mid new : Core) (number : ℕ) (a : Command) (outcome : Outcome) (IsFirst IsSecond : List (Entry dialect) → Type 0) → SettlesBy old number a outcome IsFirst mid → GoesBy mid IsSecond new → SettlesBy old number a outcome (Then IsFirst IsSecond) new
@@ -39,14 +39,14 @@ settles_then old mid new number a outcome IsFirst IsSecond s g = λ beside end f
     let y = g x.0 x.2 in
     let words = tree_words beside.at in
     let happens : List (Entry dialect) = Happens (event_of number a end) ∷ [] in
-    let second : Leads words Alone (standing_of mid x.0) y.1 (standing_of new y.0) = subst (λ at. Leads (tree_words at) Alone (standing_of mid x.0) y.1 (standing_of new y.0)) x.3.at y.5 in
-    let both : Leads words Alone (standing_of old beside) (y.1 ++ (x.1 ++ happens)) (standing_of new y.0) = leads_on words Alone (standing_of old beside) (standing_of mid x.0) (standing_of new y.0) (x.1 ++ happens) y.1 x.5 second in
-    (y.0, y.1 ++ x.1, y.2, beside_on (settled (event_of number a end) beside) x.0 y.0 x.3 y.3, (x.1, y.1, x.4, y.4, refl), subst (λ l. Leads words Alone (standing_of old beside) l (standing_of new y.0)) (sym (append_assoc y.1 x.1 happens)) both)
+    let second = leads_there mid old new beside x.0 y.1 y.0 x.3.at x.6 y.5 in
+    let both : Leads words (bars_of old beside) (state_of old beside) (y.1 ++ (x.1 ++ happens)) (state_of new y.0) = leads_on words (bars_of old beside) (state_of old beside) (state_of mid x.0) (state_of new y.0) (x.1 ++ happens) y.1 x.5 second in
+    (y.0, y.1 ++ x.1, y.2, beside_on (settled (event_of number a end) beside) x.0 y.0 x.3 y.3, (x.1, y.1, x.4, y.4, refl), subst (λ l. Leads words (bars_of old beside) (state_of old beside) l (state_of new y.0)) (sym (append_assoc y.1 x.1 happens)) both, y.6 ∙ x.6)
 
 pub settles_as : (old new : Core) (number : ℕ) (a : Command) (outcome : Outcome) (IsOne IsOther : List (Entry dialect) → Type 0) → ((entries : List (Entry dialect)) → IsOne entries → IsOther entries) → SettlesBy old number a outcome IsOne new → SettlesBy old number a outcome IsOther new
 settles_as old new number a outcome IsOne IsOther f s = λ beside end fits is ends.
     let x = s beside end fits is ends in
-    (x.0, x.1, x.2, x.3, f x.1 x.4, x.5)
+    (x.0, x.1, x.2, x.3, f x.1 x.4, x.5, x.6)
 
 module _ (old new : Core) (number : ℕ) (a : Command) (outcome : Outcome) (came : Came old number a outcome) (r : TakesOut old number a.client new) where
   module _ (x y : Client) (was : client_at old a.client ≡ Some x) (now : client_at new a.client ≡ Some y) (d : Drops x y) where
@@ -76,12 +76,12 @@ module _ (old new : Core) (number : ℕ) (a : Command) (outcome : Outcome) (came
           | false ↦ λ differs. other_then old number a outcome came beside end s n differs ∙ fits.tickets s n
         ]) refl ∙ ap (λ o. ticket_by o n s) (sym (r.commands n))
 
-    left_like : (A : Type 0) (n : ℕ) (calls : List Call) (reply : Answer) (from : Option ℕ) → LeftBy (command_at new n) calls reply from → Either (nat_eq number n) A (LeftBy (command_at old n) calls reply from)
-    left_like A n calls reply from l =
-        (elim (nat_eq number n) as (λ z. LeftBy (cond z None (command_at old n)) calls reply from → Either z A (LeftBy (command_at old n) calls reply from)) [
+    to_come_like : (A : Type 0) (n : ℕ) (calls : List Call) (reply : Answer) (from : Option ℕ) → MayComeOf (command_at new n) calls reply from → Either (nat_eq number n) A (MayComeOf (command_at old n) calls reply from)
+    to_come_like A n calls reply from l =
+        (elim (nat_eq number n) as (λ z. MayComeOf (cond z None (command_at old n)) calls reply from → Either z A (MayComeOf (command_at old n) calls reply from)) [
           | true ↦ λ l. absurd l
           | false ↦ λ l. l
-        ]) (subst (λ o. LeftBy o calls reply from) (r.commands n) l)
+        ]) (subst (λ o. MayComeOf o calls reply from) (r.commands n) l)
 
     breaks_there : SettlesBy old number a outcome (λ more. more ≡ log.Frees number ∷ log.Drops a.client ∷ []) new
     breaks_there = λ beside end fits is ends.
@@ -92,7 +92,7 @@ module _ (old new : Core) (number : ℕ) (a : Command) (outcome : Outcome) (came
             queues = queues_then beside fits;
             held = held_still beside fits;
             numbered = λ c n lt. fits.numbered c n (subst (λ m. m < n) r.number_is lt);
-            left = by_number old new number None r.commands (λ n command. IsLeftOf (beside.at n command.ask.key) command) (λ command e. no_command e) (λ n command _ e. fits.left n command e);
+            to_come = by_number old new number None r.commands (λ n command. IsOnItsWay new.limits.sharing (beside.at n command.ask.key) command) (λ command e. no_command e) (λ n command _ e. on_its_way_kept old new (beside.at n command.ask.key) command r.limits (fits.to_come n command e));
             tickets = tickets_then beside fits end;
             single = single_then old number a outcome came beside fits end;
             numbers = λ n lt.
@@ -103,7 +103,7 @@ module _ (old new : Core) (number : ℕ) (a : Command) (outcome : Outcome) (came
           },
           record { at = refl; holds = refl; found = refl; turn = refl },
           refl,
-          walks_lead (tree_words beside.at) Alone (standing_of old beside) (standing_of new beside') (log.Frees number ∷ log.Drops a.client ∷ Happens (event_of number a end) ∷ []) (record {
+          walks_lead (tree_words beside.at) (bars_of old beside) (state_of old beside) (state_of new beside') (log.Frees number ∷ log.Drops a.client ∷ Happens (event_of number a end) ∷ []) (record {
             may = (
               (
                 (owner_by a, ap (option_map owner_by) came.was, dropped_now (dropped_by (client_at old a.client))),
@@ -121,13 +121,14 @@ module _ (old new : Core) (number : ℕ) (a : Command) (outcome : Outcome) (came
               ]) refl;
               number = r.number_is;
               owner = λ n. ap (option_map owner_by) (r.commands n) ∙ none_owned (nat_eq number n) (command_at old n);
-              left = λ n o e calls reply from l. left_like _ n calls reply from l;
+              to_come = λ n o e calls reply from l. to_come_like _ n calls reply from l;
               out = λ s. refl;
               holds = λ s k. refl;
               found = λ n o e. refl;
               turn = refl;
             };
           }),
+          r.limits,
         )
       where
         dropped_now : (b : Bool) → cond (nat_eq a.client a.client) true b ≡ true

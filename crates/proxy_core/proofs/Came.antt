@@ -10,12 +10,12 @@ use Rattle.mc_runs.specs.Fleet.{EndsIn}
 use Rattle.mc_runs.specs.Single.{FitsOutcome}
 use Rattle.mc_runs.specs.Sharing.{Event, Calls, after_event}
 use Rattle.mc_runs.specs.Overlap.{ticket_in, without, out_after}
-use Rattle.mc_runs.specs.OverlapStanding.{HasResult, found_after}
+use Rattle.mc_runs.specs.OverlapState.{HasResult, found_after}
 use Rattle.route_job.specs.Rest.{ask_under, origin_under}
 use Rattle.route_job.specs.Jobs.{server_in, call_of, IsCalling}
 use Rattle.proxy_core.specs.declared.command.Command.{Command}
 use Rattle.proxy_core.specs.declared.proxy.Core.{Core}
-use Rattle.proxy_core.specs.Standing.{command_at, Beside, owner_by, LeftBy, standing_of, is_call, ticket_by, Fits}
+use Rattle.proxy_core.specs.CoreState.{command_at, Beside, owner_by, MayComeOf, state_of, is_call, ticket_by, Fits}
 use Rattle.proxy_core.proofs.Commands.{is_call_true, call_key, goes_on}
 use Rattle.proxy_core.proofs.Tickets.{some_none, less_other, less_single, none_without}
 
@@ -91,17 +91,17 @@ module _ (old : Core) (number : ℕ) (a : Command) (outcome : Outcome) (r : Came
   unseen_then beside fits end n lt = ap (λ z. cond z (beside.found n ++ beside.holds server ask.key ∷ []) (beside.found n)) (below beside fits n lt) ∙ fits.unseen n lt
 
   -- so it has its result
-  pub has_result : (beside : Beside) (end : End) → Fits old beside → outcome ≡ outcome_of end → EndsIn (beside.holds server ask.key) (beside.found number) number ask origin end → HasResult (standing_of old beside) number server ask origin end
+  pub has_result : (beside : Beside) (end : End) → Fits old beside → outcome ≡ outcome_of end → EndsIn (beside.holds server ask.key) (beside.found number) number ask origin end → HasResult (state_of old beside) number server ask origin end
   has_result beside end fits is ends =
-      let more = goes_on (beside.at number a.ask.key) a (fits.left number a r.was) r.calling outcome r.fits in
+      let more = goes_on old.limits.sharing (beside.at number a.ask.key) a (fits.to_come number a r.was) r.calling outcome r.fits in
       record {
         owner = owner_by a;
         held = ap (option_map owner_by) r.was;
-        key = call_key (beside.at number a.ask.key) a (fits.left number a r.was) r.calling;
+        key = call_key old.limits.sharing (beside.at number a.ask.key) a (fits.to_come number a r.was) r.calling;
         out = ticket_was beside fits server ∙ ap (λ z. cond z (Some (record { number = number; ask = ask; origin = origin })) None) (eq-eqb server server refl);
         more = more.0;
         reply = more.1.reply;
         from = more.1.from;
-        left = subst (λ o. LeftBy (command_at old number) (record { server = server; ask = ask; origin = origin; outcome = o } ∷ more.0) more.1.reply more.1.from) is (subst (λ o. LeftBy o (call_of a.job outcome ∷ more.0) more.1.reply more.1.from) (sym r.was) more.2);
+        to_come = subst (λ o. MayComeOf (command_at old number) (record { server = server; ask = ask; origin = origin; outcome = o } ∷ more.0) more.1.reply more.1.from) is (subst (λ o. MayComeOf o (call_of a.job outcome ∷ more.0) more.1.reply more.1.from) (sym r.was) more.2);
         ends = ends;
       }

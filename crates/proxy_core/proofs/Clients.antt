@@ -17,11 +17,17 @@ use Rattle.proxy_core.specs.declared.client.Client.{Client}
 use Rattle.proxy_core.specs.declared.command.Command.{Command}
 use Rattle.proxy_core.specs.declared.proxy.Core.{Core}
 use Rattle.proxy_core.specs.Clients.{IsNew, Takes, TakesPiece, LosesOutput}
+use Rattle.route_tree.specs.Plan.{Plan}
+use Rattle.proxy_core.specs.declared.limits.Limits.{Limits}
 use Rattle.proxy_core.specs.Faults.{has_commands}
 use Rattle.proxy_core.specs.Steps.{Turns}
 use Rattle.proxy_core.proofs.Slots.{held_then, same_held}
 use Rattle.proxy_core.proofs.Tickets.{contrary}
-use Rattle.proxy_core.specs.Standing.{dialect, Alone, client_at, command_at, Beside, front_by, output_by, dropped_by, owner_by, LeftBy, standing_of, AreSlots, IsAtFront, IsWaitedFor, IsQueue, IsHeld, ticket_by, Fits, GoesByOne, Opens, Feeds, FeedsOpen, Gives, Closes}
+use Rattle.proxy_core.specs.CoreState.{dialect, bars_of, client_at, command_at, Beside, front_by, output_by, dropped_by, owner_by, MayComeOf, state_of, AreSlots, IsAtFront, IsWaitedFor, IsQueue, IsHeld, IsOnItsWay, ticket_by, Fits, GoesByOne, Opens, Feeds, FeedsOpen, Gives, Closes}
+
+-- what is left of a command stays so where the limits stay
+pub on_its_way_kept : (old new : Core) (plan : Plan) (command : Command) → new.limits ≡ old.limits → IsOnItsWay old.limits.sharing plan command → IsOnItsWay new.limits.sharing plan command
+on_its_way_kept old new plan command limits l = subst (λ (k : Limits). IsOnItsWay k.sharing plan command) (sym limits) l
 
 -- a fact of each client, by whether it is the one
 pub by_client : (client c : ℕ) (A : ℕ → Type 0) → A client → (nat_eq client c ≡ false → A c) → A c
@@ -57,7 +63,7 @@ module _ (old new : Core) (client : ℕ) (a b : Option Client) (t : Turns old ne
         held = λ n command e.
             held_then (client_at old) (client_at new) client a b t.was t.is t.others beside.queue beside.queue n command (λ _ h. held n command (beside.queue command.client) h) (λ _. refl) (fits.held n command (sym (command_stays n) ∙ e));
         numbered = λ c n lt. fits.numbered c n (subst (λ m. m < n) t.number lt);
-        left = λ n command e. fits.left n command (sym (command_stays n) ∙ e);
+        to_come = λ n command e. on_its_way_kept old new (beside.at n command.ask.key) command t.limits (fits.to_come n command (sym (command_stays n) ∙ e));
         tickets = λ s n. fits.tickets s n ∙ ap (λ o. ticket_by o n s) (sym (command_stays n));
         single = fits.single;
         numbers = λ n lt. command_stays n ∙ fits.numbers n (subst (λ m. m < n) t.number lt);
@@ -86,7 +92,7 @@ feeds old new client x y bytes t served p = λ beside fits. (
   still_fits old new client (Some x) (Some y) t beside fits (λ slots q. (same_slots x y slots p.queue q.0, fed_at_front x y bytes slots p q.1, subst (λ w. IsWaitedFor w slots) (sym p.waits) q.2)) (λ n command slots h. same_held x y n command slots p.dropped h),
   record { at = refl; holds = refl; found = refl; turn = refl },
   refl,
-  walks_lead (tree_words beside.at) Alone (standing_of old beside) (standing_of new beside) (log.Feeds client bytes ∷ []) (record {
+  walks_lead (tree_words beside.at) (bars_of old beside) (state_of old beside) (state_of new beside) (log.Feeds client bytes ∷ []) (record {
     may = (ap dropped_by t.was ∙ served, tt);
     like = record {
       front = changed old new client (Some x) (Some y) t front_by (λ f. fed_front f bytes) (λ i. record { place = p.stream i; index = p.index i; waits = p.waits i });
@@ -95,13 +101,14 @@ feeds old new client x y bytes t served p = λ beside fits. (
       dropped = stays old new client (Some x) (Some y) t dropped_by p.dropped;
       number = t.number;
       owner = owners old new client (Some x) (Some y) t;
-      left = λ n o e calls reply from l. subst (λ m. LeftBy m calls reply from) (command_stays old new client (Some x) (Some y) t n) l;
+      to_come = λ n o e calls reply from l. subst (λ m. MayComeOf m calls reply from) (command_stays old new client (Some x) (Some y) t n) l;
       out = λ s. refl;
       holds = λ s k. refl;
       found = λ n o e. refl;
       turn = refl;
     };
   }),
+  t.limits,
 )
 
 same_at_front : (x y : Client) (slots : List (Slot dialect)) → LosesOutput x y → IsAtFront x slots → IsAtFront y slots
@@ -119,7 +126,7 @@ gives old new client x y bytes t taken p = (
     still_fits old new client (Some x) (Some y) t beside fits (λ slots q. (same_slots x y slots p.queue q.0, same_at_front x y slots p q.1, subst (λ w. IsWaitedFor w slots) (sym p.waits) q.2)) (λ n command slots h. same_held x y n command slots p.dropped h),
     record { at = refl; holds = refl; found = refl; turn = refl },
     refl,
-    walks_lead (tree_words beside.at) Alone (standing_of old beside) (standing_of new beside) (log.Gives client bytes ∷ []) (record {
+    walks_lead (tree_words beside.at) (bars_of old beside) (state_of old beside) (state_of new beside) (log.Gives client bytes ∷ []) (record {
       may = (taken ∙ ap output_by (sym t.was), tt);
       like = record {
         front = stays old new client (Some x) (Some y) t front_by (λ i. record { place = p.stream i; index = p.index i; waits = p.waits i });
@@ -128,13 +135,14 @@ gives old new client x y bytes t taken p = (
         dropped = stays old new client (Some x) (Some y) t dropped_by p.dropped;
         number = t.number;
         owner = owners old new client (Some x) (Some y) t;
-        left = λ n o e calls reply from l. subst (λ m. LeftBy m calls reply from) (command_stays old new client (Some x) (Some y) t n) l;
+        to_come = λ n o e calls reply from l. subst (λ m. MayComeOf m calls reply from) (command_stays old new client (Some x) (Some y) t n) l;
         out = λ s. refl;
         holds = λ s k. refl;
         found = λ n o e. refl;
         turn = refl;
       };
     }),
+    t.limits,
   ),
 )
 
@@ -158,7 +166,7 @@ opens old new client x t n =
         still_fits old new client None (Some x) t beside fits (new_queue x n) (λ n command slots h. absurd h),
         record { at = refl; holds = refl; found = refl; turn = refl },
         refl,
-        walks_lead (tree_words beside.at) Alone (standing_of old beside) (standing_of new beside) [] (record {
+        walks_lead (tree_words beside.at) (bars_of old beside) (state_of old beside) (state_of new beside) [] (record {
           may = tt;
           like = record {
             front = stays old new client None (Some x) t front_by (new_front x n);
@@ -167,13 +175,14 @@ opens old new client x t n =
             dropped = stays old new client None (Some x) t dropped_by n.dropped;
             number = t.number;
             owner = owners old new client None (Some x) t;
-            left = λ n o e calls reply from l. subst (λ m. LeftBy m calls reply from) (command_stays old new client None (Some x) t n) l;
+            to_come = λ n o e calls reply from l. subst (λ m. MayComeOf m calls reply from) (command_stays old new client None (Some x) t n) l;
             out = λ s. refl;
             holds = λ s k. refl;
             found = λ n o e. refl;
             turn = refl;
           };
         }),
+        t.limits,
       );
     }
 
@@ -230,7 +239,7 @@ closes old new client x t none = (
             | true ↦ refl
             | false ↦ fits.numbered c n (subst (λ m. m < n) t.number lt)
           ]);
-          left = λ n command e. fits.left n command (sym (command_stays old new client (Some x) None t n) ∙ e);
+          to_come = λ n command e. on_its_way_kept old new (beside.at n command.ask.key) command t.limits (fits.to_come n command (sym (command_stays old new client (Some x) None t n) ∙ e));
           tickets = λ s n. fits.tickets s n ∙ ap (λ o. ticket_by o n s) (sym (command_stays old new client (Some x) None t n));
           single = fits.single;
           numbers = λ n lt. command_stays old new client (Some x) None t n ∙ fits.numbers n (subst (λ m. m < n) t.number lt);
@@ -239,7 +248,7 @@ closes old new client x t none = (
         },
         record { at = refl; holds = refl; found = refl; turn = refl },
         refl,
-        walks_lead (tree_words beside.at) Alone (standing_of old beside) (standing_of new beside') (Resets client ∷ []) (record {
+        walks_lead (tree_words beside.at) (bars_of old beside) (state_of old beside) (state_of new beside') (Resets client ∷ []) (record {
           may = (λ n o e. none_is client old.commands.entries n o none e, tt);
           like = record {
             front = changed old new client (Some x) None t front_by (λ f. start_front) refl;
@@ -248,13 +257,14 @@ closes old new client x t none = (
             dropped = changed old new client (Some x) None t dropped_by (λ b. false) refl;
             number = t.number;
             owner = owners old new client (Some x) None t;
-            left = λ n o e calls reply from l. subst (λ m. LeftBy m calls reply from) (command_stays old new client (Some x) None t n) l;
+            to_come = λ n o e calls reply from l. subst (λ m. MayComeOf m calls reply from) (command_stays old new client (Some x) None t n) l;
             out = λ s. refl;
             holds = λ s k. refl;
             found = λ n o e. refl;
             turn = refl;
           };
         }),
+        t.limits,
       ),
 )
 
@@ -276,6 +286,7 @@ written core client x y was =
       others = others_by client core.clients (slab.with_value core.clients client y) u.others;
       commands = λ n. refl;
       tree = refl;
+      limits = refl;
       number = refl;
     }
 

@@ -1,5 +1,5 @@
 -- Commands by number, and what may still come of them.
-use Rattle.std.proofs.Common.{◌≡◌, ◌↔◌, ℕ, true, false, cond, List, [], ◌∷◌, ◌++◌, Option, Some, None, refl, sym, ◌∙◌, subst, append_assoc, nat_eq}
+use Rattle.std.proofs.Common.{◌≡◌, ◌↔◌, ℕ, true, false, cond, List, [], ◌∷◌, ◌++◌, Option, Some, None, refl, sym, ap, ◌∙◌, subst, append_assoc, nat_eq}
 use Rattle.std.proofs.lemmas.Bool.{eqb-true}
 use Rattle.mc_types.specs.declared.call.Origin.TheVariants.{Client as OfClient}
 use Rattle.mc_types.specs.declared.call.Outcome.{Outcome}
@@ -18,7 +18,10 @@ use Rattle.route_job.specs.declared.job.Job.{Job}
 use Rattle.route_job.proofs.Jobs.{next_call}
 use Rattle.proxy_core.specs.declared.command.Command.{Command}
 use Rattle.proxy_core.specs.declared.proxy.Core.{Core}
-use Rattle.proxy_core.specs.Standing.{command_at, is_call, IsLeftOf}
+use Rattle.mc_types.specs.declared.ask.Ask.{Ask}
+use Rattle.proxy_core.specs.declared.limits.Sharing.{Sharing}
+use Rattle.proxy_core.specs.Claims.{claim_by}
+use Rattle.proxy_core.specs.CoreState.{command_at, is_call, IsOnItsWay}
 
 pub some_command : {x y : Command} → ◌≡◌ {A = Option Command} (Some x) (Some y) → x ≡ y
 some_command e = cc
@@ -61,37 +64,38 @@ on_after : (key : List ℕ) (before : List Call) (call : Call) (rest : List Call
 on_after key [] call rest h = h.0
 on_after key (c ∷ before) call rest h = on_after key before call rest h.1
 
-module _ (plan : Plan) (a : Command) (left : IsLeftOf plan a) (calling : IsCalling a.job) where
+module _ (sharing : Sharing) (plan : Plan) (a : Command) (to_come : IsOnItsWay sharing plan a) (calling : IsCalling a.job) where
   -- a word with the next call
-  in_word : (outcome : Outcome) × (rest : List Call) × (given : Given) × Word plan a.ask OfClient 0 (left.before ++ call_of a.job outcome ∷ rest) given
+  in_word : (outcome : Outcome) × (rest : List Call) × (given : Given) × Word plan a.ask OfClient 0 (to_come.before ++ call_of a.job outcome ∷ rest) given
   in_word =
-      let s = left.some in
+      let s = to_come.some in
       let k = begins a.job calling s.0 s.1 s.2 in
-      (k.0, k.1, s.1, subst (λ l. Word plan a.ask OfClient 0 (left.before ++ l) s.1) k.2 ((left.rest s.0 s.1).0 s.2))
+      (k.0, k.1, s.1, subst (λ l. Word plan a.ask OfClient 0 (to_come.before ++ l) s.1) k.2 ((to_come.rest s.0 s.1).0 s.2))
 
   -- the next call is on the command's key
   pub call_key : (ask_under a.job.frames.items a.job.ask).key ≡ a.ask.key
-  call_key = let w = in_word in on_after a.ask.key left.before (call_of a.job w.0) w.1 (calls_stay plan a.ask OfClient 0 (left.before ++ call_of a.job w.0 ∷ w.1) w.2 w.3).0
+  call_key = let w = in_word in on_after a.ask.key to_come.before (call_of a.job w.0) w.1 (calls_stay plan a.ask OfClient 0 (to_come.before ++ call_of a.job w.0 ∷ w.1) w.2 w.3).0
 
   -- with each outcome of it something may come
   pub goes_on : (outcome : Outcome) → FitsOutcome (ask_under a.job.frames.items a.job.ask) outcome → (rest : List Call) × (given : Given) × Comes a.job (call_of a.job outcome ∷ rest) given
   goes_on outcome fits =
       let w = in_word in
-      let r = each_outcome_goes_on plan a.ask OfClient 0 left.before (call_of a.job w.0) w.1 w.2 outcome left.good w.3 fits in
-      (r.0, r.1, (left.rest (call_of a.job outcome ∷ r.0) r.1).1 r.2)
+      let r = each_outcome_goes_on plan a.ask OfClient 0 to_come.before (call_of a.job w.0) w.1 w.2 outcome to_come.good w.3 fits in
+      (r.0, r.1, (to_come.rest (call_of a.job outcome ∷ r.0) r.1).1 r.2)
 
   -- what is left then
-  pub left_after : (b : Command) (outcome : Outcome) → FitsOutcome (ask_under a.job.frames.items a.job.ask) outcome → b.ask ≡ a.ask
-      → ((calls : List Call) (given : Given) → Comes b.job calls given ↔ Comes a.job (call_of a.job outcome ∷ calls) given) → IsLeftOf plan b
-  left_after b outcome fits same rest =
+  pub to_come_after : (b : Command) (outcome : Outcome) → FitsOutcome (ask_under a.job.frames.items a.job.ask) outcome → b.ask ≡ a.ask → b.claim ≡ a.claim
+      → ((calls : List Call) (given : Given) → Comes b.job calls given ↔ Comes a.job (call_of a.job outcome ∷ calls) given) → IsOnItsWay sharing plan b
+  to_come_after b outcome fits same claim rest =
       let call = call_of a.job outcome in
       let r = goes_on outcome fits in
       record {
-        good = left.good;
-        before = left.before ++ call ∷ [];
+        claim = claim ∙ to_come.claim ∙ ap (λ (k : Ask). claim_by sharing k.op plan) (sym same);
+        good = to_come.good;
+        before = to_come.before ++ call ∷ [];
         rest = λ calls given. (
-          (λ c. subst (λ x. Word plan x OfClient 0 ((left.before ++ call ∷ []) ++ calls) given) (sym same) (subst (λ l. Word plan a.ask OfClient 0 l given) (sym (append_assoc left.before (call ∷ []) calls)) ((left.rest (call ∷ calls) given).0 ((rest calls given).0 c)))),
-          (λ w. (rest calls given).1 ((left.rest (call ∷ calls) given).1 (subst (λ l. Word plan a.ask OfClient 0 l given) (append_assoc left.before (call ∷ []) calls) (subst (λ x. Word plan x OfClient 0 ((left.before ++ call ∷ []) ++ calls) given) same w)))),
+          (λ c. subst (λ x. Word plan x OfClient 0 ((to_come.before ++ call ∷ []) ++ calls) given) (sym same) (subst (λ l. Word plan a.ask OfClient 0 l given) (sym (append_assoc to_come.before (call ∷ []) calls)) ((to_come.rest (call ∷ calls) given).0 ((rest calls given).0 c)))),
+          (λ w. (rest calls given).1 ((to_come.rest (call ∷ calls) given).1 (subst (λ l. Word plan a.ask OfClient 0 l given) (append_assoc to_come.before (call ∷ []) calls) (subst (λ x. Word plan x OfClient 0 ((to_come.before ++ call ∷ []) ++ calls) given) same w)))),
         );
         some = (r.0, r.1, (rest r.0 r.1).1 r.2);
       }

@@ -1,5 +1,5 @@
 -- How counts of commands change where one comes, goes or is another.
-use Rattle.std.proofs.Common.{◌≡◌, ℕ, ◌+◌, ◌-◌, Bool, true, false, cond, ◌||◌, nat_lt, nat_eq, List, [], ◌∷◌, ◌++◌, Option, Some, None, position, refl, sym, ap, ◌∙◌, subst, arith}
+use Rattle.std.proofs.Common.{◌≡◌, ℕ, ◌+◌, ◌-◌, Bool, true, false, cond, if◌then◌else◌, ◌||◌, nat_lt, nat_eq, List, [], ◌∷◌, ◌++◌, Option, Some, None, position, refl, sym, ap, ◌∙◌, subst, arith}
 use Rattle.std.specs.Prelude.{slice_index_or, IsSome}
 use Rattle.std.specs.HashMap.{HashMap, get_by, WritesThrough}
 use Rattle.std.proofs.lemmas.Map.Steps.{set_value_same}
@@ -17,10 +17,10 @@ use Rattle.indexmap.specs.IndexMap as indexmap
 use Rattle.indexmap.specs.IndexMap.{swap_remove_entry}
 use Rattle.indexmap.proofs.MapLemmas.{Found-position, Missing-position, swap_remove_entry-found}
 use Rattle.route_job.specs.Jobs.{server_in, IsCalling}
-use Rattle.mc_types.specs.declared.ask.Ask.{Ask}
 use Rattle.proxy_core.specs.declared.command.Command.{Command}
 use Rattle.proxy_core.specs.Out.{is_call, has_call_out}
-use Rattle.proxy_core.specs.Counts.{SetsCount, is_on, is_called, AreCounted}
+use Rattle.proxy_core.specs.Claims.{clears_key, copies_key}
+use Rattle.proxy_core.specs.Counts.{SetsCount, SetsCountWhere, is_called, AreCounted}
 use Rattle.proxy_core.proofs.Commands.{is_call_true}
 
 abbrev weight : Bool → ℕ
@@ -102,10 +102,14 @@ module _ {K X : Type 0} (eq : K → K → Bool) (p : K → X → Bool) (same : (
       by true e less = let a = was k in let s = same k q e xs in omega (arith, a, s, less)
       by false e less = let a = was q in omega (arith, a, less)
 
-same_on : (k q : List ℕ) → pointwise nat_eq k q ≡ true → (xs : List Command) → count_by (is_on k) xs ≡ count_by (is_on q) xs
-same_on k q e xs =
+-- commands with this claim of the key
+abbrev claiming : (Command → Bool) → List ℕ → Command → Bool
+claiming claims key command = if claims command then pointwise nat_eq command.ask.key key else false
+
+same_on : (claims : Command → Bool) (k q : List ℕ) → pointwise nat_eq k q ≡ true → (xs : List Command) → count_by (claiming claims k) xs ≡ count_by (claiming claims q) xs
+same_on claims k q e xs =
     let laws : IsEquivalence (pointwise nat_eq) = nat_list_eq_equiv in
-    λ i. count_by (λ (x : Command). (laws.symm x.ask.key k ∙ laws.congr k q x.ask.key e ∙ laws.symm q x.ask.key) i) xs
+    λ i. count_by (λ (x : Command). if claims x then (laws.symm x.ask.key k ∙ laws.congr k q x.ask.key e ∙ laws.symm q x.ask.key) i else false) xs
 
 same_at : (s q : ℕ) → nat_eq s q ≡ true → (xs : List Command) → count_by (is_called s) xs ≡ count_by (is_called q) xs
 same_at s q e xs = ap (λ n. count_by (is_called n) xs) (eqb-true s q e)
@@ -123,24 +127,59 @@ none_more a b n x e h was = let w : weight x ≡ 0 = ap weight e in omega (arith
 none_less : (a b n : ℕ) (x : Bool) → x ≡ false → a + weight x ≡ b → n ≡ b → n ≡ a
 none_less a b n x e h was = let w : weight x ≡ 0 = ap weight e in omega (arith, w, h, was)
 
-module _ {S T U : Type 0} (old new : indexmap.IndexMap ℕ Command S) (keys : indexmap.IndexMap (List ℕ) ℕ T) (calls : indexmap.IndexMap ℕ ℕ U) (number : ℕ) (a : Command) (counted : AreCounted old keys calls) where
+-- the counts of a claim, where a command more or less is counted
+module _ {T : Type 0} (claims : Command → Bool) (keys keys' : indexmap.IndexMap (List ℕ) ℕ T) (a : Command) (xs ys : List Command) (was : (q : List ℕ) → count_at (indexmap.get (pointwise nat_eq) keys) q ≡ count_by (claiming claims q) xs) where
+  abbrev counts : indexmap.IndexMap (List ℕ) ℕ T → List ℕ → ℕ
+  counts m q = count_at (indexmap.get (pointwise nat_eq) m) q
+
+  claimed_more :
+      SetsCountWhere (claims a) (pointwise nat_eq) a.ask.key (counts keys a.ask.key + 1) keys keys' → ((q : List ℕ) → count_by (claiming claims q) ys ≡ count_by (claiming claims q) xs + weight (claiming claims q a))
+      → (q : List ℕ) → counts keys' q ≡ count_by (claiming claims q) ys
+  claimed_more = by (claims a)
+    where
+      by : (b : Bool) → SetsCountWhere b (pointwise nat_eq) a.ask.key (counts keys a.ask.key + 1) keys keys' → ((q : List ℕ) → count_by (claiming claims q) ys ≡ count_by (claiming claims q) xs + weight (if b then pointwise nat_eq a.ask.key q else false)) → (q : List ℕ) → counts keys' q ≡ count_by (claiming claims q) ys
+      by true sets grows q = one_more (pointwise nat_eq) (claiming claims) (same_on claims) (counts keys) (counts keys') a.ask.key xs ys was sets grows q
+      by false same grows q = ap (λ m. counts m q) same ∙ none_more (count_by (claiming claims q) ys) (count_by (claiming claims q) xs) (counts keys q) false refl (grows q) (was q)
+
+  claimed_less :
+      SetsCountWhere (claims a) (pointwise nat_eq) a.ask.key (counts keys a.ask.key - 1) keys keys' → ((q : List ℕ) → count_by (claiming claims q) ys + weight (claiming claims q a) ≡ count_by (claiming claims q) xs)
+      → (q : List ℕ) → counts keys' q ≡ count_by (claiming claims q) ys
+  claimed_less = by (claims a)
+    where
+      by : (b : Bool) → SetsCountWhere b (pointwise nat_eq) a.ask.key (counts keys a.ask.key - 1) keys keys' → ((q : List ℕ) → count_by (claiming claims q) ys + weight (if b then pointwise nat_eq a.ask.key q else false) ≡ count_by (claiming claims q) xs) → (q : List ℕ) → counts keys' q ≡ count_by (claiming claims q) ys
+      by true sets falls q = one_less (pointwise nat_eq) (claiming claims) (same_on claims) (counts keys) (counts keys') a.ask.key xs ys was sets falls q
+      by false same falls q = ap (λ m. counts m q) same ∙ none_less (count_by (claiming claims q) ys) (count_by (claiming claims q) xs) (counts keys q) false refl (falls q) (was q)
+
+abbrev clears : Command → Bool
+clears command = command.claim.clears
+
+abbrev copies : Command → Bool
+copies command = command.claim.copies
+
+module _ {S T U : Type 0} (old new : indexmap.IndexMap ℕ Command S) (clearing copying : indexmap.IndexMap (List ℕ) ℕ T) (calls : indexmap.IndexMap ℕ ℕ U) (number : ℕ) (a : Command) (counted : AreCounted old clearing copying calls) where
   -- a command more, of which no call is out
   pub counted_put :
-      (keys' : indexmap.IndexMap (List ℕ) ℕ T) → a.is_out ≡ false → new.entries ≡ old.entries ++ (number, a) ∷ [] → SetsCount (pointwise nat_eq) a.ask.key (count_at (indexmap.get (pointwise nat_eq) keys) a.ask.key + 1) keys keys' → AreCounted new keys' calls
-  counted_put keys' idle entries sets =
+      (clearing' copying' : indexmap.IndexMap (List ℕ) ℕ T) → a.is_out ≡ false → new.entries ≡ old.entries ++ (number, a) ∷ []
+      → SetsCountWhere a.claim.clears (pointwise nat_eq) a.ask.key (count_at (indexmap.get (pointwise nat_eq) clearing) a.ask.key + 1) clearing clearing'
+      → SetsCountWhere a.claim.copies (pointwise nat_eq) a.ask.key (count_at (indexmap.get (pointwise nat_eq) copying) a.ask.key + 1) copying copying' → AreCounted new clearing' copying' calls
+  counted_put clearing' copying' idle entries clears_one copies_one =
       let grows : (p : Command → Bool) → count_by p (indexmap.values new) ≡ count_by p (indexmap.values old) + weight (p a) = λ p. ap (λ es. count_by p (values_of es)) entries ∙ count_last p old.entries number a in
       record {
-        on = one_more (pointwise nat_eq) is_on same_on (count_at (indexmap.get (pointwise nat_eq) keys)) (count_at (indexmap.get (pointwise nat_eq) keys')) a.ask.key (indexmap.values old) (indexmap.values new) counted.on sets (λ q. grows (is_on q));
+        clears = claimed_more clears clearing clearing' a (indexmap.values old) (indexmap.values new) counted.clears clears_one (λ q. grows (clears_key q));
+        copies = claimed_more copies copying copying' a (indexmap.values old) (indexmap.values new) counted.copies copies_one (λ q. grows (copies_key q));
         at = λ s. none_more (count_by (is_called s) (indexmap.values new)) (count_by (is_called s) (indexmap.values old)) (count_at (indexmap.get nat_eq calls) s) (is_called s a) (idle_called a idle s) (grows (is_called s)) (counted.at s);
       }
 
   -- a command less, of which no call is out
   pub counted_gone :
-      (keys' : indexmap.IndexMap (List ℕ) ℕ T) → lookup (nat_eq number) old.entries ≡ Some a → a.is_out ≡ false → new.entries ≡ swap_remove_entry (nat_eq number) old.entries → SetsCount (pointwise nat_eq) a.ask.key (count_at (indexmap.get (pointwise nat_eq) keys) a.ask.key - 1) keys keys' → AreCounted new keys' calls
-  counted_gone keys' was idle entries sets =
+      (clearing' copying' : indexmap.IndexMap (List ℕ) ℕ T) → lookup (nat_eq number) old.entries ≡ Some a → a.is_out ≡ false → new.entries ≡ swap_remove_entry (nat_eq number) old.entries
+      → SetsCountWhere a.claim.clears (pointwise nat_eq) a.ask.key (count_at (indexmap.get (pointwise nat_eq) clearing) a.ask.key - 1) clearing clearing'
+      → SetsCountWhere a.claim.copies (pointwise nat_eq) a.ask.key (count_at (indexmap.get (pointwise nat_eq) copying) a.ask.key - 1) copying copying' → AreCounted new clearing' copying' calls
+  counted_gone clearing' copying' was idle entries clears_one copies_one =
       let falls : (p : Command → Bool) → count_by p (indexmap.values new) + weight (p a) ≡ count_by p (indexmap.values old) = λ p. ap (λ es. count_by p (values_of es) + weight (p a)) entries ∙ count_gone p (nat_eq number) old.entries a was in
       record {
-        on = one_less (pointwise nat_eq) is_on same_on (count_at (indexmap.get (pointwise nat_eq) keys)) (count_at (indexmap.get (pointwise nat_eq) keys')) a.ask.key (indexmap.values old) (indexmap.values new) counted.on sets (λ q. falls (is_on q));
+        clears = claimed_less clears clearing clearing' a (indexmap.values old) (indexmap.values new) counted.clears clears_one (λ q. falls (clears_key q));
+        copies = claimed_less copies copying copying' a (indexmap.values old) (indexmap.values new) counted.copies copies_one (λ q. falls (copies_key q));
         at = λ s. none_less (count_by (is_called s) (indexmap.values new)) (count_by (is_called s) (indexmap.values old)) (count_at (indexmap.get nat_eq calls) s) (is_called s a) (idle_called a idle s) (falls (is_called s)) (counted.at s);
       }
 
@@ -148,18 +187,23 @@ module _ {S T U : Type 0} (old new : indexmap.IndexMap ℕ Command S) (keys : in
     changes : (p : Command → Bool) → count_by p (indexmap.values new) + weight (p a) ≡ count_by p (indexmap.values old) + weight (p b)
     changes p = ap (λ es. count_by p (values_of es) + weight (p a)) entries ∙ sum_by-set_value (λ y. weight (p y)) (nat_eq number) old.entries a b was
 
-    -- where it asks what it asked, the counts of keys stay
-    on_stays : b.ask ≡ a.ask → (key : List ℕ) → count_at (indexmap.get (pointwise nat_eq) keys) key ≡ count_by (is_on key) (indexmap.values new)
-    on_stays ask key =
-        let weighs : weight (is_on key b) ≡ weight (is_on key a) = ap (λ (x : Ask). weight (pointwise nat_eq x.key key)) ask in
-        let before = counted.on key in
-        let step = changes (is_on key) in
+    -- where it asks and claims what it did, the counts of keys stay
+    stays : (p : Command → Bool) → p b ≡ p a → (n : ℕ) → n ≡ count_by p (indexmap.values old) → n ≡ count_by p (indexmap.values new)
+    stays p same n before =
+        let weighs : weight (p b) ≡ weight (p a) = ap weight same in
+        let step = changes p in
         omega (arith, weighs, before, step)
+
+    clears_stays : b.ask ≡ a.ask → b.claim ≡ a.claim → (key : List ℕ) → count_at (indexmap.get (pointwise nat_eq) clearing) key ≡ count_by (clears_key key) (indexmap.values new)
+    clears_stays ask claim key = stays (clears_key key) (λ i. if (claim i).clears then pointwise nat_eq (ask i).key key else false) (count_at (indexmap.get (pointwise nat_eq) clearing) key) (counted.clears key)
+
+    copies_stays : b.ask ≡ a.ask → b.claim ≡ a.claim → (key : List ℕ) → count_at (indexmap.get (pointwise nat_eq) copying) key ≡ count_by (copies_key key) (indexmap.values new)
+    copies_stays ask claim key = stays (copies_key key) (λ i. if (claim i).copies then pointwise nat_eq (ask i).key key else false) (count_at (indexmap.get (pointwise nat_eq) copying) key) (counted.copies key)
 
     -- its call goes out
     pub counted_sent :
-        (calls' : indexmap.IndexMap ℕ ℕ U) → b.ask ≡ a.ask → a.is_out ≡ false → b.is_out ≡ true → b.job ≡ a.job → IsCalling a.job → SetsCount nat_eq (server_in a.job.pending) (count_at (indexmap.get nat_eq calls) (server_in a.job.pending) + 1) calls calls' → AreCounted new keys calls'
-    counted_sent calls' ask idle out job calling sets =
+        (calls' : indexmap.IndexMap ℕ ℕ U) → b.ask ≡ a.ask → b.claim ≡ a.claim → a.is_out ≡ false → b.is_out ≡ true → b.job ≡ a.job → IsCalling a.job → SetsCount nat_eq (server_in a.job.pending) (count_at (indexmap.get nat_eq calls) (server_in a.job.pending) + 1) calls calls' → AreCounted new clearing copying calls'
+    counted_sent calls' ask claim idle out job calling sets =
         let s = server_in a.job.pending in
         let b_out : has_call_out b ≡ true = (λ i. cond (out i) (is_call (job i).pending) false) ∙ is_call_true a.job.pending calling in
         let grows : (q : ℕ) → count_by (is_called q) (indexmap.values new) ≡ count_by (is_called q) (indexmap.values old) + weight (nat_eq s q) = λ q.
@@ -168,14 +212,15 @@ module _ {S T U : Type 0} (old new : indexmap.IndexMap ℕ Command S) (keys : in
         let one : weight (is_called q b) ≡ weight (nat_eq s q) = ap (λ x. weight x) (out_called b b_out q) ∙ (λ i. cond (nat_eq (server_in (job i).pending) q) 1 0) in
         omega (arith, step, none, one) in
         record {
-          on = on_stays ask;
+          clears = clears_stays ask claim;
+          copies = copies_stays ask claim;
           at = one_more nat_eq is_called same_at (count_at (indexmap.get nat_eq calls)) (count_at (indexmap.get nat_eq calls')) s (indexmap.values old) (indexmap.values new) counted.at sets grows;
         }
 
     -- its call has its outcome
     pub counted_taken :
-        (calls' : indexmap.IndexMap ℕ ℕ U) → b.ask ≡ a.ask → has_call_out a ≡ true → b.is_out ≡ false → SetsCount nat_eq (server_in a.job.pending) (count_at (indexmap.get nat_eq calls) (server_in a.job.pending) - 1) calls calls' → AreCounted new keys calls'
-    counted_taken calls' ask out idle sets =
+        (calls' : indexmap.IndexMap ℕ ℕ U) → b.ask ≡ a.ask → b.claim ≡ a.claim → has_call_out a ≡ true → b.is_out ≡ false → SetsCount nat_eq (server_in a.job.pending) (count_at (indexmap.get nat_eq calls) (server_in a.job.pending) - 1) calls calls' → AreCounted new clearing copying calls'
+    counted_taken calls' ask claim out idle sets =
         let s = server_in a.job.pending in
         let falls : (q : ℕ) → count_by (is_called q) (indexmap.values new) + weight (nat_eq s q) ≡ count_by (is_called q) (indexmap.values old) = λ q.
         let step = changes (is_called q) in
@@ -183,6 +228,7 @@ module _ {S T U : Type 0} (old new : indexmap.IndexMap ℕ Command S) (keys : in
         let one : weight (is_called q a) ≡ weight (nat_eq s q) = ap (λ x. weight x) (out_called a out q) in
         omega (arith, step, none, one) in
         record {
-          on = on_stays ask;
+          clears = clears_stays ask claim;
+          copies = copies_stays ask claim;
           at = one_less nat_eq is_called same_at (count_at (indexmap.get nat_eq calls)) (count_at (indexmap.get nat_eq calls')) s (indexmap.values old) (indexmap.values new) counted.at sets falls;
         }

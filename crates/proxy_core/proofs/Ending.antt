@@ -15,10 +15,10 @@ use Rattle.proxy_core.specs.declared.client.Pending.{Pending}
 use Rattle.proxy_core.specs.declared.client.Client.{Client}
 use Rattle.proxy_core.specs.declared.command.Command.{Command}
 use Rattle.proxy_core.specs.declared.proxy.Core.{Core}
-use Rattle.proxy_core.specs.Standing.{dialect, Alone, client_at, command_at, Beside, front_by, output_by, dropped_by, owner_by, LeftBy, standing_of, is_call, AreSlots, IsAtFront, IsWaitedFor, IsQueue, IsHeld, IsLeftOf, ticket_by, Fits, GoesBy, GoesByOne}
+use Rattle.proxy_core.specs.CoreState.{dialect, bars_of, client_at, command_at, Beside, front_by, output_by, dropped_by, owner_by, MayComeOf, state_of, is_call, has_call_out, AreSlots, IsAtFront, IsWaitedFor, IsQueue, IsHeld, IsOnItsWay, ticket_by, Fits, GoesBy, GoesByOne}
 use Rattle.proxy_core.specs.Steps.{Turns}
 use Rattle.proxy_core.specs.Ending.{pending_in, replied_in, GoesOn, Ends, Drops, Frees}
-use Rattle.proxy_core.proofs.Clients.{changed, stays, command_stays, still_fits, owners, by_client}
+use Rattle.proxy_core.proofs.Clients.{on_its_way_kept, changed, stays, command_stays, still_fits, owners, by_client}
 use Rattle.proxy_core.proofs.Commands.{no_command, by_number}
 use Rattle.proxy_core.proofs.Slots.{some_slot, no_slot, no_reply, answered_other, held_then}
 use Rattle.proxy_core.proofs.Tickets.{contrary}
@@ -57,7 +57,7 @@ no_more : {A : Type 0} (x : Slot dialect) (l : List (Slot dialect)) → ◌≡�
 no_more x l e = absurd cc
 
 -- a key that isn't the last of its message is waited for, and its message is at the front
-waited_for : (x : Client) (slots : List (Slot dialect)) (n : ℕ) (slot : Slot dialect) → slot_in slots n ≡ Some slot → slot.reply ≡ None → is_last_slot slot ≡ false → IsWaitedFor x.waits slots → IsAtFront x slots
+pub waited_for : (x : Client) (slots : List (Slot dialect)) (n : ℕ) (slot : Slot dialect) → slot_in slots n ≡ Some slot → slot.reply ≡ None → is_last_slot slot ≡ false → IsWaitedFor x.waits slots → IsAtFront x slots
     → (slot.index ≡ x.index) × ((next : Place) × dialect.Reads x.stream slot.message next)
 waited_for x [] n slot is none more w h = no_slot is
 waited_for x (s ∷ []) n slot is none more w h =
@@ -172,14 +172,22 @@ idle_ticket n a s idle = by a.is_out (is_call a.job.pending) _ idle
     by true c o e = contrary true refl e
     by false c o e = refl
 
+-- nor of one that has none out
+pub none_ticket : (n : ℕ) (a : Command) (s : ℕ) → has_call_out a ≡ false → ticket_by (Some a) n s ≡ None
+none_ticket n a s none = by (has_call_out a) _ none
+  where
+    by : (b : Bool) {A : Type 0} (o : Option A) → b ≡ false → cond b o None ≡ None
+    by true o e = contrary true refl e
+    by false o e = refl
+
 -- of the others the same is kept
 pub none_owned : (b : Bool) (c : Option Command) → option_map owner_by (cond b None c) ≡ cond b None (option_map owner_by c)
 none_owned true c = refl
 none_owned false c = refl
 
-pub still_left : (b : Bool) (c : Option Command) (calls : List Call) (reply : Answer) (from : Option ℕ) → LeftBy (cond b None c) calls reply from → LeftBy c calls reply from
-still_left true c calls reply from l = absurd l
-still_left false c calls reply from l = l
+pub still_to_come : (b : Bool) (c : Option Command) (calls : List Call) (reply : Answer) (from : Option ℕ) → MayComeOf (cond b None c) calls reply from → MayComeOf c calls reply from
+still_to_come true c calls reply from l = absurd l
+still_to_come false c calls reply from l = l
 
 module _ (old new : Core) (number : ℕ) (a : Command) (x y : Client) (pending : Pending) (reply : Answer) (from : Option ℕ) (r : Ends old new number a x y pending reply from) where
   abbrev mine : Beside → List (Slot dialect)
@@ -277,7 +285,7 @@ module _ (old new : Core) (number : ℕ) (a : Command) (x y : Client) (pending :
         (fits.held n command e))
 
     none_out : (s : ℕ) → ticket_in (beside.out s) number ≡ None
-    none_out s = fits.tickets s number ∙ ap (λ o. ticket_by o number s) r.was ∙ idle_ticket number a s r.idle
+    none_out s = fits.tickets s number ∙ ap (λ o. ticket_by o number s) r.was ∙ none_ticket number a s r.idle
 
     tickets_then : (s n : ℕ) → ticket_in (beside.out s) n ≡ ticket_by (command_at new n) n s
     tickets_then s n =
@@ -298,7 +306,7 @@ module _ (old new : Core) (number : ℕ) (a : Command) (x y : Client) (pending :
           queues = queues_then beside fits;
           held = held_still beside fits;
           numbered = numbered_then beside fits;
-          left = by_number old new number None r.commands (λ n command. IsLeftOf (beside.at n command.ask.key) command) (λ command e. no_command e) (λ n command _ e. fits.left n command e);
+          to_come = by_number old new number None r.commands (λ n command. IsOnItsWay new.limits.sharing (beside.at n command.ask.key) command) (λ command e. no_command e) (λ n command _ e. on_its_way_kept old new (beside.at n command.ask.key) command r.limits (fits.to_come n command e));
           tickets = tickets_then beside fits;
           single = fits.single;
           numbers = λ n lt. let l = subst (λ m. m < n) r.number_is lt in r.commands n ∙ ap (λ z. cond z None (command_at old n)) (below beside fits n l) ∙ fits.numbers n l;
@@ -307,11 +315,11 @@ module _ (old new : Core) (number : ℕ) (a : Command) (x y : Client) (pending :
         },
         record { at = refl; holds = refl; found = refl; turn = refl },
         (part, p.ask, refl),
-        walks_lead (tree_words beside.at) Alone (standing_of old beside) (standing_of new beside') (log.Ends a.client number part reply from ∷ []) (record {
+        walks_lead (tree_words beside.at) (bars_of old beside) (state_of old beside) (state_of new beside') (log.Ends a.client number part reply from ∷ []) (record {
           may = (
             (
               ap (option_map owner_by) r.was ∙ (λ i. Some (record { client = a.client; ask = sym p.ask i })),
-              subst (λ o. LeftBy o [] reply from) (sym r.was) r.done,
+              subst (λ o. MayComeOf o [] reply from) (sym r.was) r.done,
               p.slot,
               (λ middle. subst (λ o. dialect.Reads (front_by o).place part.message part.next) (sym r.client_was) (p.reads middle)),
               none_out beside fits,
@@ -329,13 +337,14 @@ module _ (old new : Core) (number : ℕ) (a : Command) (x y : Client) (pending :
             dropped = same_of dropped_by r.dropped;
             number = r.number_is;
             owner = λ n. ap (option_map owner_by) (r.commands n) ∙ none_owned (nat_eq number n) (command_at old n);
-            left = λ n o e calls reply from l. still_left (nat_eq number n) (command_at old n) calls reply from (subst (λ m. LeftBy m calls reply from) (r.commands n) l);
+            to_come = λ n o e calls reply from l. still_to_come (nat_eq number n) (command_at old n) calls reply from (subst (λ m. MayComeOf m calls reply from) (r.commands n) l);
             out = λ s. refl;
             holds = λ s k. refl;
             found = λ n o e. refl;
             turn = refl;
           };
         }),
+        r.limits,
       )
     where
       same_of : {A : Type 0} (f : Option Client → A) → f (Some y) ≡ f (Some x) → (c : ℕ) → f (client_at new c) ≡ f (client_at old c)
@@ -357,7 +366,7 @@ module _ (old new : Core) (client : ℕ) (x y : Client) (t : Turns old new clien
         (λ n command slots h served. contrary y.dropped d.dropped served),
     record { at = refl; holds = refl; found = refl; turn = refl },
     refl,
-    walks_lead (tree_words beside.at) Alone (standing_of old beside) (standing_of new beside) (log.Drops client ∷ []) (record {
+    walks_lead (tree_words beside.at) (bars_of old beside) (state_of old beside) (state_of new beside) (log.Drops client ∷ []) (record {
       may = (tt, tt);
       like = record {
         front = stays old new client (Some x) (Some y) t front_by front_is;
@@ -366,13 +375,14 @@ module _ (old new : Core) (client : ℕ) (x y : Client) (t : Turns old new clien
         dropped = changed old new client (Some x) (Some y) t dropped_by (λ b. true) d.dropped;
         number = t.number;
         owner = owners old new client (Some x) (Some y) t;
-        left = λ n o e calls reply from l. subst (λ m. LeftBy m calls reply from) (command_stays old new client (Some x) (Some y) t n) l;
+        to_come = λ n o e calls reply from l. subst (λ m. MayComeOf m calls reply from) (command_stays old new client (Some x) (Some y) t n) l;
         out = λ s. refl;
         holds = λ s k. refl;
         found = λ n o e. refl;
         turn = refl;
       };
     }),
+    t.limits,
   )
 
 -- ---- a command of a dropped client is freed
@@ -388,7 +398,7 @@ module _ (old new : Core) (number : ℕ) (a : Command) (x : Client) (r : Frees o
       held = by_number old new number None r.commands (λ n command. IsHeld n command (client_at new command.client) (beside.queue command.client)) (λ command e. no_command e)
           (λ n command _ e. subst (λ o. IsHeld n command o (beside.queue command.client)) (sym (r.clients command.client)) (fits.held n command e));
       numbered = λ c n lt. fits.numbered c n (subst (λ m. m < n) r.number_is lt);
-      left = by_number old new number None r.commands (λ n command. IsLeftOf (beside.at n command.ask.key) command) (λ command e. no_command e) (λ n command _ e. fits.left n command e);
+      to_come = by_number old new number None r.commands (λ n command. IsOnItsWay new.limits.sharing (beside.at n command.ask.key) command) (λ command e. no_command e) (λ n command _ e. on_its_way_kept old new (beside.at n command.ask.key) command r.limits (fits.to_come n command e));
       tickets = λ s n. (elim (nat_eq number n) as (λ z. nat_eq number n ≡ z → ticket_in (beside.out s) n ≡ ticket_by (cond z None (command_at old n)) n s) [
         | true ↦ λ same. subst (λ m. ticket_in (beside.out s) m ≡ None) (eqb-true number n same) (none_out beside fits s)
         | false ↦ λ _. fits.tickets s n
@@ -400,7 +410,7 @@ module _ (old new : Core) (number : ℕ) (a : Command) (x : Client) (r : Frees o
     },
     record { at = refl; holds = refl; found = refl; turn = refl },
     refl,
-    walks_lead (tree_words beside.at) Alone (standing_of old beside) (standing_of new beside) (log.Frees number ∷ []) (record {
+    walks_lead (tree_words beside.at) (bars_of old beside) (state_of old beside) (state_of new beside) (log.Frees number ∷ []) (record {
       may = (((owner_by a, ap (option_map owner_by) r.was, ap dropped_by r.client_was ∙ r.dropped), none_out beside fits), tt);
       like = record {
         front = λ c. ap front_by (r.clients c);
@@ -409,13 +419,14 @@ module _ (old new : Core) (number : ℕ) (a : Command) (x : Client) (r : Frees o
         dropped = λ c. ap dropped_by (r.clients c);
         number = r.number_is;
         owner = λ n. ap (option_map owner_by) (r.commands n) ∙ none_owned (nat_eq number n) (command_at old n);
-        left = λ n o e calls reply from l. still_left (nat_eq number n) (command_at old n) calls reply from (subst (λ m. LeftBy m calls reply from) (r.commands n) l);
+        to_come = λ n o e calls reply from l. still_to_come (nat_eq number n) (command_at old n) calls reply from (subst (λ m. MayComeOf m calls reply from) (r.commands n) l);
         out = λ s. refl;
         holds = λ s k. refl;
         found = λ n o e. refl;
         turn = refl;
       };
     }),
+    r.limits,
   )
     where
       none_out : (beside : Beside) → Fits old beside → (s : ℕ) → ticket_in (beside.out s) number ≡ None

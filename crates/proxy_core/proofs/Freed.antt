@@ -10,7 +10,7 @@ use Rattle.mc_runs.specs.Overlap.{Entry}
 use Rattle.proxy_core.specs.declared.client.Client.{Client}
 use Rattle.proxy_core.specs.declared.command.Command.{Command}
 use Rattle.proxy_core.specs.declared.proxy.Core.{Core}
-use Rattle.proxy_core.specs.Standing.{client_at, command_at, dropped_by}
+use Rattle.proxy_core.specs.CoreState.{client_at, command_at, dropped_by}
 use Rattle.proxy_core.specs.Settles.{is_idle, HasIdle, freed, FreesSome, DropsBy, TakesOut}
 use Rattle.proxy_core.specs.Ending.{Drops}
 use Rattle.proxy_core.proofs.Chains.{Then, goes_then, goes_as, goes_nowhere}
@@ -36,11 +36,11 @@ dropped_is None e = absurd cc
 dropped_is (Some x) e = (x, refl, e)
 
 pub none_yet : (core : Core) (client : ℕ) → FreesSome core client core
-none_yet core client = record { numbers = []; idle = tt; goes = λ _. goes_nowhere core; kept = λ n command e. e; clients = λ c. refl; tree = refl; number = refl }
+none_yet core client = record { numbers = []; idle = tt; goes = λ _. goes_nowhere core; kept = λ n command e. e; clients = λ c. refl; tree = refl; limits = refl; number = refl }
 
 -- one more
-pub one_more : (old now new : Core) (client n : ℕ) → FreesSome old client now → HasIdle client now.commands n → ((m : ℕ) → command_at new m ≡ cond (nat_eq n m) None (command_at now m)) → ((c : ℕ) → client_at new c ≡ client_at now c) → new.tree ≡ now.tree → new.number ≡ now.number → FreesSome old client new
-one_more old now new client n some idle commands clients tree number =
+pub one_more : (old now new : Core) (client n : ℕ) → FreesSome old client now → HasIdle client now.commands n → ((m : ℕ) → command_at new m ≡ cond (nat_eq n m) None (command_at now m)) → ((c : ℕ) → client_at new c ≡ client_at now c) → new.tree ≡ now.tree → new.limits ≡ now.limits → new.number ≡ now.number → FreesSome old client new
+one_more old now new client n some idle commands clients tree limits number =
     let a = idle.0 in
     let parts = idle_parts client a idle.2 in
     record {
@@ -58,6 +58,7 @@ one_more old now new client n some idle commands clients tree number =
             clients = clients;
             commands = commands;
             tree = tree;
+            limits = limits;
             number_is = number;
           })));
       kept = λ m command e.
@@ -67,6 +68,7 @@ one_more old now new client n some idle commands clients tree number =
           ]) (sym (commands m) ∙ e));
       clients = λ c. clients c ∙ some.clients c;
       tree = tree ∙ some.tree;
+      limits = limits ∙ some.limits;
       number = number ∙ some.number;
     }
 
@@ -82,5 +84,6 @@ taken_out old commands number client x y was drops gone =
       client_is = subst (λ o. DropsBy o (slab.get (slab.with_value old.clients client y) client)) (sym was) (y, u.changed, drops);
       others = others_by client old.clients (slab.with_value old.clients client y) u.others;
       tree = refl;
+      limits = refl;
       number_is = refl;
     }

@@ -24,7 +24,7 @@ use Rattle.connections.proofs.Fronts.{read_front, request_is_some, refused_is_so
 use Rattle.connections.proofs.Requests.{own_next, own_text, request_behind}
 use Rattle.proxy_core.specs.declared.client.Client.{Client}
 use Rattle.proxy_core.specs.declared.answering.Passed.TheVariants.{Own as AsOwn, Refused}
-use Rattle.proxy_core.specs.Standing.{dialect}
+use Rattle.proxy_core.specs.CoreState.{dialect}
 use Rattle.proxy_core.specs.Fronts.{GoesTo, PassesFront, told_of, IsAskAt, MovesOn, BeginsKey}
 
 -- the request that was read stands at the front

@@ -1,5 +1,6 @@
 pub mod Tickets
 pub mod Slots
+pub mod Claims
 pub mod Idle
 pub mod Commands
 pub mod Counting
@@ -19,3 +20,4 @@ pub mod Beginning
 pub mod Freed
 pub mod Broken
 pub mod Outcomes
+pub mod Resting

@@ -7,7 +7,7 @@ use Rattle.mc_runs.specs.Overlap.{Entry, Slot, Owner}
 use Rattle.proxy_core.specs.declared.client.Client.{Client}
 use Rattle.proxy_core.specs.declared.command.Command.{Command}
 use Rattle.proxy_core.specs.declared.proxy.Core.{Core}
-use Rattle.proxy_core.specs.Standing.{dialect, client_at, command_at, output_by, dropped_by, is_call, has_call_out, IsHeld}
+use Rattle.proxy_core.specs.CoreState.{dialect, client_at, command_at, output_by, dropped_by, is_call, has_call_out, IsHeld}
 use Rattle.proxy_core.specs.Steps.{Resolves}
 use Rattle.proxy_core.specs.Settles.{TakesOutcome, FitsCall, SettlesBy, Settles, AreIdle, freed, FreesSome, FreesIdle, DropsBy, TakesOut, Breaks}
 use Rattle.proxy_core.proofs.Broken.{settles_alone, settles_then, settles_as, breaks}
@@ -28,11 +28,11 @@ out_parts a e = by a.is_out (is_call a.job.pending) e
 pub came_of : (old : Core) (number : ℕ) (a : Command) (outcome : Outcome) → command_at old number ≡ Some a → has_call_out a ≡ true → FitsCall old number outcome → Came old number a outcome
 came_of old number a outcome was out fits = let p = out_parts a out in record { was = was; waiting = p.0; calling = call_is_true a.job.pending p.1; fits = fits a was out }
 
-module _ (old mid : Core) (number : ℕ) (a b : Command) (outcome : Outcome) (was : command_at old number ≡ Some a) (out : has_call_out a ≡ true) (fits : FitsCall old number outcome) (took : TakesOutcome a outcome b) (commands : (n : ℕ) → command_at mid n ≡ cond (nat_eq number n) (Some b) (command_at old n)) (clients : (c : ℕ) → client_at mid c ≡ client_at old c) (tree : mid.tree ≡ old.tree) (number_is : mid.number ≡ old.number) where
+module _ (old mid : Core) (number : ℕ) (a b : Command) (outcome : Outcome) (was : command_at old number ≡ Some a) (out : has_call_out a ≡ true) (fits : FitsCall old number outcome) (took : TakesOutcome a outcome b) (commands : (n : ℕ) → command_at mid n ≡ cond (nat_eq number n) (Some b) (command_at old n)) (clients : (c : ℕ) → client_at mid c ≡ client_at old c) (tree : mid.tree ≡ old.tree) (limits : mid.limits ≡ old.limits) (number_is : mid.number ≡ old.number) where
   resolves : Resolves old mid number a b outcome
   resolves =
       let c = came_of old number a outcome was out fits in
-      record { was = was; waiting = c.waiting; calling = c.calling; fits = c.fits; commands = commands; idle = took.idle; owner = took.owner; rest = took.rest; clients = clients; tree = tree; number_is = number_is }
+      record { was = was; waiting = c.waiting; calling = c.calling; fits = c.fits; commands = commands; idle = took.idle; owner = took.owner; claim = took.claim; rest = took.rest; clients = clients; tree = tree; limits = limits; number_is = number_is }
 
   own : command_at mid number ≡ Some b
   own = commands number ∙ ap (λ z. cond z (Some b) (command_at old number)) (eq-eqb number number refl)
@@ -54,8 +54,8 @@ module _ (old mid : Core) (number : ℕ) (a b : Command) (outcome : Outcome) (wa
       }
 
   -- nothing is done for its client any more
-  pub is_freed : dropped_by (client_at old a.client) ≡ true → (new : Core) → ((n : ℕ) → command_at new n ≡ cond (nat_eq number n) None (command_at mid n)) → ((c : ℕ) → client_at new c ≡ client_at mid c) → new.tree ≡ mid.tree → new.number ≡ mid.number → Settles old number outcome new
-  is_freed dropped new gone stay same last =
+  pub is_freed : dropped_by (client_at old a.client) ≡ true → (new : Core) → ((n : ℕ) → command_at new n ≡ cond (nat_eq number n) None (command_at mid n)) → ((c : ℕ) → client_at new c ≡ client_at mid c) → new.tree ≡ mid.tree → new.limits ≡ mid.limits → new.number ≡ mid.number → Settles old number outcome new
+  is_freed dropped new gone stay same limited last =
       let x = dropped_is (client_at old a.client) dropped in
       let owner : b.client ≡ a.client = ap (λ (o : Owner). o.client) took.owner in
       record {
@@ -72,6 +72,7 @@ module _ (old mid : Core) (number : ℕ) (a b : Command) (outcome : Outcome) (wa
               clients = stay;
               commands = gone;
               tree = same;
+              limits = limited;
               number_is = last;
             })));
         idle = λ c e. no_command (sym (gone number ∙ ap (λ z. cond z None (command_at mid number)) (eq-eqb number number refl)) ∙ e);
@@ -80,7 +81,7 @@ module _ (old mid : Core) (number : ℕ) (a b : Command) (outcome : Outcome) (wa
       }
 
 -- memory was refused
-module _ (old mid out new : Core) (number : ℕ) (a : Command) (outcome : Outcome) (was : command_at old number ≡ Some a) (is_out : has_call_out a ≡ true) (fits : FitsCall old number outcome) (others : (n : ℕ) → nat_eq number n ≡ false → command_at mid n ≡ command_at old n) (clients : (c : ℕ) → client_at mid c ≡ client_at old c) (tree : mid.tree ≡ old.tree) (number_is : mid.number ≡ old.number) (takes : TakesOut mid number a.client out) (frees_idle : FreesIdle out a.client new) where
+module _ (old mid out new : Core) (number : ℕ) (a : Command) (outcome : Outcome) (was : command_at old number ≡ Some a) (is_out : has_call_out a ≡ true) (fits : FitsCall old number outcome) (others : (n : ℕ) → nat_eq number n ≡ false → command_at mid n ≡ command_at old n) (clients : (c : ℕ) → client_at mid c ≡ client_at old c) (tree : mid.tree ≡ old.tree) (limits : mid.limits ≡ old.limits) (number_is : mid.number ≡ old.number) (takes : TakesOut mid number a.client out) (frees_idle : FreesIdle out a.client new) where
   taken : TakesOut old number a.client out
   taken =
       record {
@@ -91,6 +92,7 @@ module _ (old mid out new : Core) (number : ℕ) (a : Command) (outcome : Outcom
         client_is = subst (λ o. DropsBy o (client_at out a.client)) (clients a.client) takes.client_is;
         others = λ c differs. takes.others c differs ∙ clients c;
         tree = takes.tree ∙ tree;
+        limits = takes.limits ∙ limits;
         number_is = takes.number_is ∙ number_is;
       }
 

@@ -8,7 +8,7 @@ use Rattle.proxy_core.specs.declared.client.Pending.{Pending}
 use Rattle.proxy_core.specs.declared.client.Client.{Client}
 use Rattle.proxy_core.specs.declared.proxy.Core.{Core}
 use Rattle.proxy_core.specs.Steps.{Turns, PassesOne}
-use Rattle.proxy_core.specs.Standing.{dialect, Message, Alone, front_by, output_by, dropped_by, LeftBy, standing_of, AreSlots, IsAtFront, IsWaitedFor, IsQueue, GoesByOne}
+use Rattle.proxy_core.specs.CoreState.{dialect, Message, bars_of, front_by, output_by, dropped_by, MayComeOf, state_of, AreSlots, IsAtFront, IsWaitedFor, IsQueue, GoesByOne}
 use Rattle.proxy_core.proofs.Slots.{same_held}
 use Rattle.proxy_core.proofs.Clients.{changed, stays, command_stays, still_fits, owners}
 
@@ -32,7 +32,7 @@ passes old new client x y message next t p = λ beside fits. (
   still_fits old new client (Some x) (Some y) t beside fits (empty_queue x y message next p) (λ n command slots h. same_held x y n command slots p.dropped h),
   record { at = refl; holds = refl; found = refl; turn = refl },
   refl,
-  walks_lead (tree_words beside.at) Alone (standing_of old beside) (standing_of new beside) (Passes client message next ∷ []) (record {
+  walks_lead (tree_words beside.at) (bars_of old beside) (state_of old beside) (state_of new beside) (Passes client message next ∷ []) (record {
     may = (
       (
         subst (λ o. dialect.Reads (front_by o).place message next) (sym t.was) p.reads,
@@ -49,11 +49,12 @@ passes old new client x y message next t p = λ beside fits. (
       dropped = stays old new client (Some x) (Some y) t dropped_by p.dropped;
       number = t.number;
       owner = owners old new client (Some x) (Some y) t;
-      left = λ n o e calls reply from l. subst (λ m. LeftBy m calls reply from) (command_stays old new client (Some x) (Some y) t n) l;
+      to_come = λ n o e calls reply from l. subst (λ m. MayComeOf m calls reply from) (command_stays old new client (Some x) (Some y) t n) l;
       out = λ s. refl;
       holds = λ s k. refl;
       found = λ n o e. refl;
       turn = refl;
     };
   }),
+  t.limits,
 )

@@ -1,7 +1,8 @@
 -- Where the reply of a command goes, and where the starting stands after it.
 use Rattle.std.proofs.Common.{◌≡◌, ℕ, suc, ◌+◌, ◌<◌, nat_lt, Bool, true, false, not, cond, if◌then◌else◌, ◌||◌, List, [], ◌∷◌, length, position, slice_set, drop, Option, Some, None, refl, sym, ap, ◌∙◌, nat_eq, ◌≤◌, slice_get, get_or, inl, inr, arith}
 use Rattle.std.proofs.lemmas.List.Folds.{find_at}
-use Rattle.std.proofs.lemmas.Option.{slice_get_cases}
+use Rattle.std.proofs.lemmas.Bool.{lt-ltb}
+use Rattle.std.proofs.lemmas.Option.{slice_get_cases, slice_get_within}
 use Rattle.std.specs.List.{find, position_or_len}
 use Rattle.std.specs.Prelude.{◌⊎◌}
 use Rattle.mc_types.specs.declared.answer.Answer.{Answer}
@@ -18,7 +19,7 @@ use Rattle.text_codec.specs.Replies.{is_failure}
 use Rattle.text_codec.specs.TextProtocol.{Whole}
 use Rattle.connections.proofs.Requests.{request_behind}
 use Rattle.proxy_core.specs.declared.client.Client.{Client}
-use Rattle.proxy_core.specs.Standing.{dialect, front_by}
+use Rattle.proxy_core.specs.CoreState.{dialect, front_by}
 use Rattle.proxy_core.specs.declared.client.Pending.{Pending}
 use Rattle.proxy_core.specs.Ending.{GoesOn, pending_in, replied_in}
 use Rattle.proxy_core.specs.Replying.{IsAnswered, is_numbered, replied}
@@ -61,8 +62,19 @@ found_is n (x ∷ xs) = ap (λ o. cond (nat_eq x.number n) (Some x) o) (found_is
 pub there_at : (n : ℕ) (xs : List Pending) (i : ℕ) (q : Pending) → position (is_numbered n) xs ≡ Some i → slice_get xs i ≡ Some q → pending_in n xs ≡ Some q
 there_at n xs i q e is = found_is n xs ∙ find_at (is_numbered n) xs ∙ ap (slice_get xs) (at_place n xs i e) ∙ is
 
-some_pending : {x y : Pending} → ◌≡◌ {A = Option Pending} (Some x) (Some y) → x ≡ y
+pub some_pending : {x y : Pending} → ◌≡◌ {A = Option Pending} (Some x) (Some y) → x ≡ y
 some_pending e = cc
+
+-- where none of a number has a place, none is there
+pub none_there : (n : ℕ) (xs : List Pending) (q : Pending) → ◌≡◌ {A = Option ℕ} None (position (is_numbered n) xs) → pending_in n xs ≡ Some q → ⊥
+none_there n xs q none there =
+    let at = position_or_len (is_numbered n) xs in
+    let lt : at < length xs = slice_get_within xs at q (sym (found_is n xs ∙ find_at (is_numbered n) xs) ∙ there) in
+    by at (nat_lt at (length xs)) (lt-ltb at (length xs) lt) none
+  where
+    by : (i : ℕ) (b : Bool) → b ≡ true → ◌≡◌ {A = Option ℕ} None (cond b (Some i) None) → ⊥
+    by i true t e = absurd cc
+    by i false t e = absurd cc
 
 replied_is : (n : ℕ) (reply : Answer) (xs : List Pending) (q : Pending) → slice_get xs (position_or_len (is_numbered n) xs) ≡ Some q → slice_set xs (position_or_len (is_numbered n) xs) (replied reply q) ≡ replied_in n reply xs
 replied_is n reply [] q is = absurd cc

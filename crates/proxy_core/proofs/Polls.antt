@@ -1,11 +1,8 @@
 -- What is done for a client is a step of the core.
-use Rattle.std.proofs.Common.{◌≡◌, ◌↔◌, ℕ, ◌+◌, ◌<◌, Bool, true, false, cond, if◌then◌else◌, ◌||◌, List, [], ◌∷◌, ◌++◌, length, map, arith, inl, inr, Option, Some, None, option_map, MatchOption, refl, sym, ap, ◌∙◌, subst, nat_eq}
+use Rattle.std.proofs.Common.{◌≡◌, ◌↔◌, ℕ, ◌+◌, ◌<◌, Bool, true, false, cond, if◌then◌else◌, List, [], ◌∷◌, ◌++◌, length, length-append, arith, inl, inr, Option, Some, None, option_map, MatchOption, refl, sym, ap, ◌∙◌, subst, nat_eq}
 use Rattle.std.proofs.lemmas.Bool.{eqb-true, eq-eqb}
 use Rattle.std.proofs.lemmas.List.{map-append}
-use Rattle.std.specs.Cmp.Lexicographic.{pointwise, nat_list_eq_equiv}
-use Rattle.std.specs.List.{list_any}
 use Rattle.std.specs.Prelude.{IsTrue, Result, Ok, Err, OnOk, OnErr, IfOk, IfErr, is_err}
-use Rattle.std.specs.Map.{lookup}
 use Rattle.mc_types.specs.Asks.{IsAsk}
 use Rattle.mc_types.specs.Acknowledged.{Acknowledges}
 use Rattle.mc_types.specs.declared.answer.Answer.{Answer}
@@ -33,15 +30,17 @@ use Rattle.proxy_core.specs.declared.replying.Place.{Place}
 use Rattle.proxy_core.specs.declared.ticket.Ticket.{Ticket}
 use Rattle.proxy_core.specs.Steps.{Turns}
 use Rattle.proxy_core.specs.Fronts.{Stays, PassesFront, BeginsKey}
-use Rattle.proxy_core.specs.Ready.{has_key, IsIdle}
+use Rattle.proxy_core.specs.Ready.{IsIdle}
 use Rattle.proxy_core.specs.Begun.{IsBegun, ticket_of}
-use Rattle.proxy_core.specs.Polls.{ForClient, IsPassed, IsNothing, HasBegun, BeginsAt, CanSend, IsSent, IsEnded, IsServed, AreShown, queue_len, ShowsNext, StopsFirst, StopsAfter, IsBelowDepth, BeginsBelow, Acts, Polls, IsPolled, IsHeldUp, IsWhy, SoEnded, SoFar, ReadFault, Perhaps, BeginsOne, DropsAll, StopsAt}
+use Rattle.proxy_core.specs.Polls.{ForClient, IsPassed, IsNothing, HasBegun, BeginsAt, CanSend, IsSent, IsEnded, IsServed, AreShown, IsShown, queue_len, ShowsNext, StopsFirst, StopsAfter, IsBelowDepth, BeginsBelow, Acts, Polls, IsPolled, IsActed, IsWhy, SoEnded, SoFar, ReadFault, Perhaps, BeginsOne, DropsAll, StopsAt}
 use Rattle.proxy_core.specs.Settles.{freed}
-use Rattle.proxy_core.specs.Heads.{ShowsOne}
+use Rattle.proxy_core.specs.Heads.{HasNoReply, ShowsOne}
+use Rattle.proxy_core.specs.Resting.{HasCommand}
 use Rattle.proxy_core.specs.Replying.{IsPlace, Answers}
 use Rattle.proxy_core.specs.Finishing.{CanEnd, IsNote}
-use Rattle.proxy_core.specs.Standing.{dialect, Alone, client_at, command_at, front_by, output_by, dropped_by, owner_by, LeftBy, standing_of, AreSlots, IsAtFront, IsQueue, IsHeld, IsWaitedFor, ticket_by, GoesBy}
-use Rattle.proxy_core.proofs.Clients.{stays, command_stays, still_fits, owners}
+use Rattle.proxy_core.specs.CoreState.{dialect, bars_of, client_at, command_at, front_by, output_by, dropped_by, owner_by, MayComeOf, state_of, is_call, AreSlots, IsAtFront, IsQueue, IsHeld, IsWaitedFor, ticket_by, GoesBy}
+use Rattle.proxy_core.specs.Claims.{claim_by, is_barred, has_own}
+use Rattle.proxy_core.proofs.Clients.{on_its_way_kept, stays, command_stays, still_fits, owners}
 use Rattle.proxy_core.proofs.Slots.{same_held}
 use Rattle.proxy_core.proofs.Commands.{some_command}
 use Rattle.proxy_core.proofs.Passing.{passes}
@@ -68,7 +67,7 @@ still_goes old new client x y t p = λ beside fits. (
   still_fits old new client (Some x) (Some y) t beside fits (λ slots q. stays_queue x y slots p q) (λ n command slots h. same_held x y n command slots p.dropped h),
   record { at = refl; holds = refl; found = refl; turn = refl },
   refl,
-  walks_lead (tree_words beside.at) Alone (standing_of old beside) (standing_of new beside) [] (record {
+  walks_lead (tree_words beside.at) (bars_of old beside) (state_of old beside) (state_of new beside) [] (record {
     may = tt;
     like = record {
       front = stays old new client (Some x) (Some y) t front_by (λ i. record { place = p.stream i; index = p.index i; waits = p.waits i });
@@ -77,13 +76,14 @@ still_goes old new client x y t p = λ beside fits. (
       dropped = stays old new client (Some x) (Some y) t dropped_by p.dropped;
       number = t.number;
       owner = owners old new client (Some x) (Some y) t;
-      left = λ n o e calls reply from l. subst (λ m. LeftBy m calls reply from) (command_stays old new client (Some x) (Some y) t n) l;
+      to_come = λ n o e calls reply from l. subst (λ m. MayComeOf m calls reply from) (command_stays old new client (Some x) (Some y) t n) l;
       out = λ s. refl;
       holds = λ s k. refl;
       found = λ n o e. refl;
       turn = refl;
     };
   }),
+  t.limits,
 )
 
 -- what holds of a client that is there
@@ -96,15 +96,15 @@ passed_goes old new client x y passed t p =
     goes_as old new (λ entries. entries ≡ Passes client p.message p.next ∷ []) (IsPassed client passed) (λ entries is. (p.message, p.next, p.told, is)) (passes old new client x y p.message p.next t p.passes)
 
 -- nothing changed that the log knows
-pub same_goes : (old new : Core) → ((c : ℕ) → client_at new c ≡ client_at old c) → ((n : ℕ) → command_at new n ≡ command_at old n) → new.tree ≡ old.tree → new.number ≡ old.number → GoesBy old IsNothing new
-same_goes old new clients commands tree number = λ beside fits. (
+pub same_goes : (old new : Core) → ((c : ℕ) → client_at new c ≡ client_at old c) → ((n : ℕ) → command_at new n ≡ command_at old n) → new.tree ≡ old.tree → new.limits ≡ old.limits → new.number ≡ old.number → GoesBy old IsNothing new
+same_goes old new clients commands tree limits number = λ beside fits. (
   beside,
   [],
   record {
     queues = λ c. subst (λ o. IsQueue o (beside.queue c)) (sym (clients c)) (fits.queues c);
     held = λ n command e. subst (λ o. IsHeld n command o (beside.queue command.client)) (sym (clients command.client)) (fits.held n command (sym (commands n) ∙ e));
     numbered = λ c n lt. fits.numbered c n (subst (λ m. m < n) number lt);
-    left = λ n command e. fits.left n command (sym (commands n) ∙ e);
+    to_come = λ n command e. on_its_way_kept old new (beside.at n command.ask.key) command limits (fits.to_come n command (sym (commands n) ∙ e));
     tickets = λ s n. fits.tickets s n ∙ ap (λ o. ticket_by o n s) (sym (commands n));
     single = fits.single;
     numbers = λ n lt. commands n ∙ fits.numbers n (subst (λ m. m < n) number lt);
@@ -113,7 +113,7 @@ same_goes old new clients commands tree number = λ beside fits. (
   },
   record { at = refl; holds = refl; found = refl; turn = refl },
   refl,
-  walks_lead (tree_words beside.at) Alone (standing_of old beside) (standing_of new beside) [] (record {
+  walks_lead (tree_words beside.at) (bars_of old beside) (state_of old beside) (state_of new beside) [] (record {
     may = tt;
     like = record {
       front = λ c. ap front_by (clients c);
@@ -122,57 +122,39 @@ same_goes old new clients commands tree number = λ beside fits. (
       dropped = λ c. ap dropped_by (clients c);
       number = number;
       owner = λ n. ap (option_map owner_by) (commands n);
-      left = λ n o e calls reply from l. subst (λ m. LeftBy m calls reply from) (commands n) l;
+      to_come = λ n o e calls reply from l. subst (λ m. MayComeOf m calls reply from) (commands n) l;
       out = λ s. refl;
       holds = λ s k. refl;
       found = λ n o e. refl;
       turn = refl;
     };
   }),
+  limits,
 )
 
--- no command that is found is on a key that none is on
-none_on : (key : List ℕ) (entries : List (ℕ × Command)) (n : ℕ) (a : Command) → list_any (λ (x : Command). pointwise nat_eq x.ask.key key) (map (λ e. e.1) entries) ≡ false → lookup (nat_eq n) entries ≡ Some a → pointwise nat_eq a.ask.key key ≡ false
-none_on key [] n a e f = absurd cc
-none_on key (x ∷ rest) n a e f =
-    (elim (nat_eq n x.0) as (λ b. cond b (Some x.1) (lookup (nat_eq n) rest) ≡ Some a → pointwise nat_eq a.ask.key key ≡ false) [
-      | true ↦ λ f. subst (λ (c : Command). pointwise nat_eq c.ask.key key ≡ false) (some_command f) (first (pointwise nat_eq x.1.ask.key key) _ e)
-      | false ↦ λ f. none_on key rest n a (later (pointwise nat_eq x.1.ask.key key) _ e) f
-    ]) f
-  where
-    first : (b r : Bool) → (b || r) ≡ false → b ≡ false
-    first true r e = absurd cc
-    first false r e = refl
-
-    later : (b r : Bool) → (b || r) ≡ false → r ≡ false
-    later true r e = absurd cc
-    later false r e = e
-
--- so a command that begins has its key alone
-pub alone_is : (core : Core) (key : List ℕ) → has_key key core.commands ≡ false → (n : ℕ) (a : Command) → command_at core n ≡ Some a → a.ask.key ≡ key → ⊥
-alone_is core key none n a e same = differ _ (ap (λ k. pointwise nat_eq k key) same ∙ nat_list_eq_equiv.refl key) (none_on key core.commands.entries n a none e)
-  where
-    differ : (b : Bool) → b ≡ true → b ≡ false → ⊥
-    differ true e f = absurd cc
-    differ false e f = absurd cc
+some_more : (before : List Pending) (pending : Pending) (now : List Pending) → now ≡ before ++ pending ∷ [] → 0 < length now
+some_more before pending now e = let l = ap length e ∙ length-append before (pending ∷ []) in omega (arith, l)
 
 -- a command began
 pub begun_goes :
     (old new : Core) (client : ℕ) (x y : Client) (ask : Ask) (command : Command) → client_at old client ≡ Some x → client_at new client ≡ Some y → ((c : ℕ) → nat_eq client c ≡ false → client_at new c ≡ client_at old c)
-    → x.dropped ≡ false → has_key ask.key old.commands ≡ false → IsAsk ask → IsTree old.tree → IsBegun old.tree client ask command → BeginsKey x ask (old.number + 1) y
-    → ((n : ℕ) → command_at new n ≡ (if nat_eq (old.number + 1) n then Some command else command_at old n)) → new.tree ≡ old.tree → new.number ≡ old.number + 1 → BeginsAt old client ask new
-begun_goes old new client x y ask command was is others served none asks tree_is begun k commands tree number =
+    → x.dropped ≡ false → has_own ask.key x.queue.items ≡ false → is_barred ask.key command.claim old.commands ≡ false → command.claim ≡ claim_by old.limits.sharing ask.op (tree_at old.tree ask.key) → IsAsk ask → IsTree old.tree → IsBegun old.tree client ask command.claim command → BeginsKey x ask (old.number + 1) y
+    → ((n : ℕ) → command_at new n ≡ (if nat_eq (old.number + 1) n then Some command else command_at old n)) → new.tree ≡ old.tree → new.limits ≡ old.limits → new.number ≡ old.number + 1 → BeginsAt old client ask new
+begun_goes old new client x y ask command was is others served first apart claim asks tree_is begun k commands tree limits number =
     let part = k.part in
     let back : ask ≡ part.ask = sym k.ask_is in
     record {
       number = number;
-      command = command;
-      idle = record {
-        was = commands new.number ∙ ap (λ b. if b then Some command else command_at old new.number) (eq-eqb (old.number + 1) new.number (sym number));
-        own = ap (λ (o : Owner). o.client) begun.owner;
-        idle = begun.idle;
+      last = record {
+        command = command;
+        idle = record {
+          was = commands new.number ∙ ap (λ b. if b then Some command else command_at old new.number) (eq-eqb (old.number + 1) new.number (sym number));
+          own = ap (λ (o : Owner). o.client) begun.owner;
+          idle = ap (λ b. if b then is_call command.job.pending else false) begun.idle;
+        };
+        served = subst (λ o. MatchOption o ⊥ IsServed) (sym is) (k.dropped ∙ served);
+        some = subst (λ o. MatchOption o ⊥ HasCommand) (sym is) (some_more x.queue.items k.pending y.queue.items k.queue);
       };
-      served = subst (λ o. MatchOption o ⊥ IsServed) (sym is) (k.dropped ∙ served);
       goes = goes_as old new (λ entries. entries ≡ Starts client (old.number + 1) part ∷ []) (HasBegun client new.number ask) (λ entries e. (part, k.ask_is, e ∙ ap (λ n. Starts client n part ∷ []) (sym number)))
           (begins old new client x y part k.pending command (record {
             was = was;
@@ -180,7 +162,9 @@ begun_goes old new client x y ask command was is others served none asks tree_is
             others = others;
             next = k.next;
             served = served;
-            alone = λ n c e same. alone_is old ask.key none n c e (same ∙ ap (λ (a : Ask). a.key) k.ask_is);
+            first = subst (λ (a : Ask). has_own a.key x.queue.items ≡ false) back first;
+            apart = subst (λ (a : Ask). is_barred a.key command.claim old.commands ≡ false) back apart;
+            claim = claim ∙ ap (λ (a : Ask). claim_by old.limits.sharing a.op (tree_at old.tree a.key)) back;
             front = k.front;
             queue = k.queue;
             output = k.output;
@@ -193,16 +177,17 @@ begun_goes old new client x y ask command was is others served none asks tree_is
             idle = begun.idle;
             commands = commands;
             tree = tree;
+            limits = limits;
             number = number;
           }));
     }
 
 -- a call went out
 pub sent_goes : (old new : Core) (number : ℕ) (can : CanSend old number) (ticket : Ticket) → ticket ≡ ticket_of number can.command.job → ((n : ℕ) → command_at new n ≡ (if nat_eq number n then Some (record can.command { is_out = true }) else command_at old n))
-    → ((c : ℕ) → client_at new c ≡ client_at old c) → new.tree ≡ old.tree → new.number ≡ old.number → GoesBy old (IsSent ticket) new
-sent_goes old new number can ticket is commands clients tree number_is =
+    → ((c : ℕ) → client_at new c ≡ client_at old c) → new.tree ≡ old.tree → new.limits ≡ old.limits → new.number ≡ old.number → GoesBy old (IsSent ticket) new
+sent_goes old new number can ticket is commands clients tree limits number_is =
     goes_as old new (λ entries. entries ≡ (let t = ticket_of number can.command.job in Sends t.number t.server t.ask t.origin ∷ [])) (IsSent ticket) (λ entries e. e ∙ ap (λ (t : Ticket). Sends t.number t.server t.ask t.origin ∷ []) (sym is))
-    (sends old new number can.command (record { was = can.was; idle = can.idle; calling = can.calling; commands = commands; clients = clients; tree = tree; number_is = number_is }))
+    (sends old new number can.command (record { was = can.was; idle = can.idle; calling = can.calling; commands = commands; clients = clients; tree = tree; limits = limits; number_is = number_is }))
 
 -- what holds after an error, and after none
 pub when_err : {A E : Type 0} (r : Result A E) (P : Type 0) → is_err r ≡ true → OnErr r P → P
@@ -214,20 +199,20 @@ when_ok (Ok a) P e h = h
 when_ok (Err x) P e h = absurd cc
 
 -- a command that was written back as it was
-pub written_back : (old new : Core) (number : ℕ) (a : Command) → command_at old number ≡ Some a → ((n : ℕ) → command_at new n ≡ cond (nat_eq number n) (Some a) (command_at old n)) → ((c : ℕ) → client_at new c ≡ client_at old c) → new.tree ≡ old.tree → new.number ≡ old.number → GoesBy old IsNothing new
-written_back old new number a was commands clients tree number_is =
+pub written_back : (old new : Core) (number : ℕ) (a : Command) → command_at old number ≡ Some a → ((n : ℕ) → command_at new n ≡ cond (nat_eq number n) (Some a) (command_at old n)) → ((c : ℕ) → client_at new c ≡ client_at old c) → new.tree ≡ old.tree → new.limits ≡ old.limits → new.number ≡ old.number → GoesBy old IsNothing new
+written_back old new number a was commands clients tree limits number_is =
     same_goes old new clients (λ n. commands n ∙ (elim (nat_eq number n) as (λ b. nat_eq number n ≡ b → cond b (Some a) (command_at old n) ≡ command_at old n) [
       | true ↦ λ same. sym was ∙ ap (command_at old) (eqb-true number n same)
       | false ↦ λ differs. refl
-    ]) refl) tree number_is
+    ]) refl) tree limits number_is
 
 -- a command ended
 pub ended_goes :
     (old new : Core) (client number : ℕ) (x y : Client) (can : CanEnd old client number) (place : Place) (is : IsPlace x number place) (given : Given) (ask : Ask) (note : Note) (reply : Answer)
     → client_at old client ≡ Some x → client_at new client ≡ Some y → ((c : ℕ) → nat_eq client c ≡ false → client_at new c ≡ client_at old c) → x.dropped ≡ false
     → Comes can.command.job [] given → ask ≡ can.command.ask → IsNote number ask given note reply → Answers x place.at is.pending.last reply y
-    → ((n : ℕ) → command_at new n ≡ cond (nat_eq number n) None (command_at old n)) → new.tree ≡ old.tree → new.number ≡ old.number → GoesBy old (IsEnded client note) new
-ended_goes old new client number x y can place is given ask note reply was here others served comes ask_is told replies commands tree number_is =
+    → ((n : ℕ) → command_at new n ≡ cond (nat_eq number n) None (command_at old n)) → new.tree ≡ old.tree → new.limits ≡ old.limits → new.number ≡ old.number → GoesBy old (IsEnded client note) new
+ended_goes old new client number x y can place is given ask note reply was here others served comes ask_is told replies commands tree limits number_is =
     let a = can.command in
     let own : a.client ≡ client = can.idle.own in
     let r : Answers x place.at is.pending.last given.reply y = subst (λ (z : Answer). Answers x place.at is.pending.last z y) told.reply_is replies in
@@ -255,6 +240,7 @@ ended_goes old new client number x y can place is given ask note reply was here 
       dropped = r.dropped;
       commands = commands;
       tree = tree;
+      limits = limits;
       number_is = number_is;
     }))
 
@@ -284,6 +270,7 @@ shown_goes old new client x y true t served p = (
 shown_goes old new client x y false t served p = (
   still_goes old new client x y t (record { stream = ap (λ (z : Client). z.stream) p.1; index = ap (λ (z : Client). z.index) p.1; waits = ap (λ (z : Client). z.waits) p.1; queue = ap (λ (z : Client). z.queue.items) p.1; output = ap (λ (z : Client). z.output.items) p.1; dropped = ap (λ (z : Client). z.dropped) p.1 }),
   subst (λ o. MatchOption o ⊥ IsServed) (sym t.is) (ap (λ (z : Client). z.dropped) p.1 ∙ served),
+  subst (λ o. MatchOption o ⊥ (λ z. HasNoReply z.queue.items)) (sym t.is) (subst (λ (z : Client). HasNoReply z.queue.items) (sym p.1) p.0),
 )
 
 -- replies that were shown, and after them some more
@@ -315,8 +302,8 @@ show_stops old mid new client faults.NoTicket a b = absurd b
 show_stops old mid new client faults.Spent a b = absurd b
 
 -- a command ended, and replies were shown
-pub finish_goes : (old mid new : Core) (client : ℕ) (note : Note) → GoesBy old (IsEnded client note) mid → GoesBy mid (AreShown client) new → Acts old client (polls.Did note) new
-finish_goes old mid new client note a b = record { goes = goes_then old mid new (IsEnded client note) (AreShown client) a b; why = tt }
+pub finish_goes : (old mid new : Core) (client : ℕ) (note : Note) → GoesBy old (IsEnded client note) mid → GoesBy mid (AreShown client) new → IsShown new client → Acts old client (polls.Did note) new
+finish_goes old mid new client note a b shown = record { goes = goes_then old mid new (IsEnded client note) (AreShown client) a b; why = shown }
 
 pub finish_stops : (old mid new : Core) (client : ℕ) (note : Note) (fault : CoreFault) → GoesBy old (IsEnded client note) mid → StopsAfter client (AreShown client) mid fault new → StopsAfter client (SoEnded client) old fault new
 finish_stops old mid new client note faults.NoMemory a b =
@@ -371,15 +358,15 @@ begun_stops old mid new client ask faults.UnderWay a b = absurd b
 begun_stops old mid new client ask faults.NoTicket a b = absurd b
 begun_stops old mid new client ask faults.Spent a b = absurd b
 
--- why a command is held up is why nothing was done
-pub why_of : (old new : Core) (client : ℕ) (poll : Poll) → IsHeldUp client poll new → IsWhy old client poll new
+-- what holds after a command went on holds after the answer
+pub why_of : (old new : Core) (client : ℕ) (poll : Poll) → IsActed client poll new → IsWhy old client poll new
 why_of old new client polls.Idle h = absurd h
-why_of old new client polls.Own h = tt
-why_of old new client polls.Refused h = tt
+why_of old new client polls.Own h = absurd h
+why_of old new client polls.Refused h = absurd h
 why_of old new client (polls.Call ticket) h = tt
-why_of old new client polls.Waiting h = tt
-why_of old new client polls.Busy h = inl h
-why_of old new client (polls.Did note) h = tt
+why_of old new client polls.Waiting h = absurd h
+why_of old new client polls.Busy h = (h.0, inl (h.1, inl h.2))
+why_of old new client (polls.Did note) h = h
 
 -- the same answer, where nothing began before it
 pub acts_polls : (old new : Core) (client : ℕ) (poll : Poll) → Acts old client poll new → Polls old client poll new
@@ -419,6 +406,13 @@ for_map core client P Q f h = by (client_at core client) h
     by : (o : Option Client) → MatchOption o ⊥ P → MatchOption o ⊥ Q
     by None h = h
     by (Some x) h = f x h
+
+pub for_both : (core : Core) (client : ℕ) (P Q R : Client → Type 0) → ((x : Client) → P x → Q x → R x) → ForClient core client P → ForClient core client Q → ForClient core client R
+for_both core client P Q R f h k = by (client_at core client) h k
+  where
+    by : (o : Option Client) → MatchOption o ⊥ P → MatchOption o ⊥ Q → MatchOption o ⊥ R
+    by None h k = h
+    by (Some x) h k = f x h k
 
 pub if_err : {A E : Type 0} (r : Result A E) (P Q : E → Type 0) → ((e : E) → P e → Q e) → IfErr r P → IfErr r Q
 if_err (Ok a) P Q f h = tt

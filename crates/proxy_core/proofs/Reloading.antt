@@ -1,21 +1,26 @@
 -- A core that takes another tree.
-use Rattle.std.proofs.Common.{◌≡◌, ℕ, ◌+◌, ◌≤◌, List, Some, ⊎_elim, refl, sym, ◌∙◌, subst, arith}
+use Rattle.std.proofs.Common.{◌≡◌, ℕ, ◌+◌, ◌≤◌, List, Some, ⊎_elim, refl, sym, ap, ◌∙◌, subst, arith}
 use Rattle.std.proofs.lemmas.Bool.{cases_lt}
 use Rattle.mc_types.specs.declared.call.Origin.TheVariants.{Client as OfClient}
-use Rattle.mc_runs.specs.OverlapLaws.{AreKept}
+use Rattle.mc_runs.specs.OverlapLaws.{AreKept, AreKeptBars}
 use Rattle.mc_runs.proofs.OverlapReload.{reloads}
 use Rattle.route_tree.specs.Route.{Route}
 use Rattle.route_tree.specs.Plan.{Plan}
 use Rattle.route_tree.specs.Word.{Word, tree_words}
 use Rattle.proxy_core.specs.declared.command.Command.{Command}
 use Rattle.proxy_core.specs.declared.proxy.Core.{Core}
-use Rattle.proxy_core.specs.Standing.{Alone, command_at, Beside, standing_of, IsLeftOf, Fits, IsTakenOver, Reloads}
+use Rattle.proxy_core.specs.Claims.{copies_by, bars_by}
+use Rattle.proxy_core.specs.CoreState.{bars_of, command_at, Beside, state_of, IsOnItsWay, Fits, IsTakenOver, Reloads}
 use Rattle.proxy_core.proofs.Commands.{no_command}
 
 -- the words of commands that have begun stay
 words_stay : (old : Core) (tree : Route) (beside : Beside) (at : ℕ → List ℕ → Plan) → IsTakenOver old tree beside at → AreKept (old.number + 1) (tree_words beside.at) (tree_words at)
 words_stay old tree beside at taken n ask calls reply from lt word =
     (word.0, subst (λ plan. Word plan ask OfClient 0 calls (record { reply = reply; from = from })) (sym (taken.begun n ask.key (let l = lt in omega (arith, l)))) word.1)
+
+-- so do the bars between them
+bars_stay : (old : Core) (tree : Route) (beside : Beside) (at : ℕ → List ℕ → Plan) → IsTakenOver old tree beside at → AreKeptBars (old.number + 1) (bars_of old beside) (bars_by old.limits.sharing at)
+bars_stay old tree beside at taken n other ask client lt lt' bars = (sym (ap (copies_by old.limits.sharing ask.op) (taken.begun n ask.key (let l = lt in omega (arith, l)))) ∙ bars.0, bars.1)
 
 -- a command that is under way has begun
 begun : (old : Core) (beside : Beside) → Fits old beside → (n : ℕ) (command : Command) → command_at old n ≡ Some command → n ≤ old.number
@@ -25,7 +30,7 @@ pub reloaded : (old : Core) (tree : Route) → Reloads old tree (record old { tr
 reloaded old tree =
     record {
       core_is = refl;
-      fits = λ beside at fits taken. record { queues = fits.queues; held = fits.held; numbered = fits.numbered; left = λ n command e. subst (λ plan. IsLeftOf plan command) (sym (taken.begun n command.ask.key (begun old beside fits n command e))) (fits.left n command e); tickets = fits.tickets; single = fits.single; numbers = fits.numbers; unseen = fits.unseen; trees = taken.coming };
+      fits = λ beside at fits taken. record { queues = fits.queues; held = fits.held; numbered = fits.numbered; to_come = λ n command e. subst (λ plan. IsOnItsWay old.limits.sharing plan command) (sym (taken.begun n command.ask.key (begun old beside fits n command e))) (fits.to_come n command e); tickets = fits.tickets; single = fits.single; numbers = fits.numbers; unseen = fits.unseen; trees = taken.coming };
       leads = λ beside at taken opening log h.
-          reloads (tree_words beside.at) Alone opening (tree_words at) Alone log (standing_of old beside) h (words_stay old tree beside at taken) (λ n other ask client lt lt' bars. bars);
+          reloads (tree_words beside.at) (bars_of old beside) opening (tree_words at) (bars_by old.limits.sharing at) log (state_of old beside) h (words_stay old tree beside at taken) (bars_stay old tree beside at taken);
     }

@@ -15,8 +15,9 @@ use Rattle.route_job.specs.Jobs.{server_in}
 use Rattle.proxy_core.specs.declared.command.Command.{Command}
 use Rattle.proxy_core.specs.declared.proxy.Core.{Core}
 use Rattle.proxy_core.specs.Steps.{SendsOut}
-use Rattle.proxy_core.specs.Standing.{Alone, client_at, command_at, Beside, front_by, output_by, dropped_by, owner_by, LeftBy, standing_of, is_call, IsQueue, IsHeld, IsLeftOf, ticket_by, Fits, GoesByOne}
+use Rattle.proxy_core.specs.CoreState.{bars_of, client_at, command_at, Beside, front_by, output_by, dropped_by, owner_by, MayComeOf, state_of, is_call, IsQueue, IsHeld, IsOnItsWay, ticket_by, Fits, GoesByOne}
 use Rattle.proxy_core.proofs.Commands.{some_command, by_number, is_call_true, call_key}
+use Rattle.proxy_core.proofs.Clients.{on_its_way_kept}
 use Rattle.proxy_core.proofs.Slots.{held_alike}
 use Rattle.proxy_core.proofs.Tickets.{some_none, more_other, more_own, more_single}
 
@@ -75,11 +76,11 @@ module _ (old new : Core) (number : ℕ) (a : Command) (r : SendsOut old new num
       (λ command e. subst (λ (c : Command). IsHeld number c (client_at old c.client) (beside.queue c.client)) (some_command e) (held_alike number a (record a { is_out = true }) (client_at old a.client) (beside.queue a.client) refl (fits.held number a r.was)))
       (λ n command _ e. fits.held n command e)
 
-  left_still : (beside : Beside) → Fits old beside → (n : ℕ) (command : Command) → command_at new n ≡ Some command → IsLeftOf (beside.at n command.ask.key) command
-  left_still beside fits =
-      by_number old new number (Some (record a { is_out = true })) r.commands (λ n command. IsLeftOf (beside.at n command.ask.key) command)
-      (λ command e. subst (λ (c : Command). IsLeftOf (beside.at number c.ask.key) c) (some_command e) (let l = fits.left number a r.was in record { good = l.good; before = l.before; rest = l.rest; some = l.some }))
-      (λ n command _ e. fits.left n command e)
+  on_its_way_still : (beside : Beside) → Fits old beside → (n : ℕ) (command : Command) → command_at new n ≡ Some command → IsOnItsWay old.limits.sharing (beside.at n command.ask.key) command
+  on_its_way_still beside fits =
+      by_number old new number (Some (record a { is_out = true })) r.commands (λ n command. IsOnItsWay old.limits.sharing (beside.at n command.ask.key) command)
+      (λ command e. subst (λ (c : Command). IsOnItsWay old.limits.sharing (beside.at number c.ask.key) c) (some_command e) (let l = fits.to_come number a r.was in record { claim = l.claim; good = l.good; before = l.before; rest = l.rest; some = l.some }))
+      (λ n command _ e. fits.to_come n command e)
 
   -- so it is out
   pub sends : GoesByOne old (Sends number server ask origin) new
@@ -91,7 +92,7 @@ module _ (old new : Core) (number : ℕ) (a : Command) (r : SendsOut old new num
           queues = λ c. subst (λ o. IsQueue o (beside.queue c)) (sym (r.clients c)) (fits.queues c);
           held = λ n command e. subst (λ o. IsHeld n command o (beside.queue command.client)) (sym (r.clients command.client)) (held_still beside fits n command e);
           numbered = λ c n lt. fits.numbered c n (subst (λ m. m < n) r.number_is lt);
-          left = left_still beside fits;
+          to_come = λ n command e. on_its_way_kept old new (beside.at n command.ask.key) command r.limits (on_its_way_still beside fits n command e);
           tickets = tickets_then beside fits;
           single = single_then beside fits;
           numbers = numbers_then beside fits;
@@ -100,8 +101,8 @@ module _ (old new : Core) (number : ℕ) (a : Command) (r : SendsOut old new num
         },
         record { at = refl; holds = refl; found = refl; turn = refl },
         refl,
-        walks_lead (tree_words beside.at) Alone (standing_of old beside) (standing_of new beside') (Sends number server ask origin ∷ []) (record {
-          may = (((owner_by a, ap (option_map owner_by) r.was, call_key (beside.at number a.ask.key) a (fits.left number a r.was) r.calling), none_out beside fits), tt);
+        walks_lead (tree_words beside.at) (bars_of old beside) (state_of old beside) (state_of new beside') (Sends number server ask origin ∷ []) (record {
+          may = (((owner_by a, ap (option_map owner_by) r.was, call_key old.limits.sharing (beside.at number a.ask.key) a (fits.to_come number a r.was) r.calling), none_out beside fits), tt);
           like = record {
             front = λ c. ap front_by (r.clients c);
             queue = λ c. refl;
@@ -109,13 +110,14 @@ module _ (old new : Core) (number : ℕ) (a : Command) (r : SendsOut old new num
             dropped = λ c. ap dropped_by (r.clients c);
             number = r.number_is;
             owner = λ n. owner_like n;
-            left = λ n o e calls reply from l. left_like n calls reply from l;
+            to_come = λ n o e calls reply from l. to_come_like n calls reply from l;
             out = λ s. refl;
             holds = λ s k. refl;
             found = λ n o e. refl;
             turn = refl;
           };
         }),
+        r.limits,
       )
     where
       owner_like : (n : ℕ) → option_map owner_by (command_at new n) ≡ option_map owner_by (command_at old n)
@@ -124,9 +126,9 @@ module _ (old new : Core) (number : ℕ) (a : Command) (r : SendsOut old new num
         | false ↦ λ differs. refl
       ]) refl
 
-      left_like : (n : ℕ) (calls : List Call) (reply : Answer) (from : Option ℕ) → LeftBy (command_at new n) calls reply from → LeftBy (command_at old n) calls reply from
-      left_like n calls reply from l =
-          (elim (nat_eq number n) as (λ b. nat_eq number n ≡ b → LeftBy (cond b (Some (record a { is_out = true })) (command_at old n)) calls reply from → LeftBy (command_at old n) calls reply from) [
-            | true ↦ λ same l. subst (λ o. LeftBy o calls reply from) (sym r.was ∙ ap (command_at old) (eqb-true number n same)) l
+      to_come_like : (n : ℕ) (calls : List Call) (reply : Answer) (from : Option ℕ) → MayComeOf (command_at new n) calls reply from → MayComeOf (command_at old n) calls reply from
+      to_come_like n calls reply from l =
+          (elim (nat_eq number n) as (λ b. nat_eq number n ≡ b → MayComeOf (cond b (Some (record a { is_out = true })) (command_at old n)) calls reply from → MayComeOf (command_at old n) calls reply from) [
+            | true ↦ λ same l. subst (λ o. MayComeOf o calls reply from) (sym r.was ∙ ap (command_at old) (eqb-true number n same)) l
             | false ↦ λ differs l. l
-          ]) refl (subst (λ o. LeftBy o calls reply from) (r.commands n) l)
+          ]) refl (subst (λ o. MayComeOf o calls reply from) (r.commands n) l)

@@ -10,7 +10,7 @@ use Rattle.mc_runs.specs.Run.{Call, End, outcome_of}
 use Rattle.mc_runs.specs.Fleet.{EndsIn}
 use Rattle.mc_runs.specs.Sharing.{Event, Calls, after_event}
 use Rattle.mc_runs.specs.Overlap.{Owner, Happens, ticket_in, out_after}
-use Rattle.mc_runs.specs.OverlapStanding.{Leads, Either, found_after}
+use Rattle.mc_runs.specs.OverlapState.{Leads, Either, found_after}
 use Rattle.mc_runs.proofs.OverlapSteps.{walks_lead}
 use Rattle.route_tree.specs.At.{tree_at}
 use Rattle.route_tree.specs.Word.{tree_words}
@@ -19,8 +19,9 @@ use Rattle.route_job.specs.Jobs.{server_in, call_of}
 use Rattle.proxy_core.specs.declared.command.Command.{Command}
 use Rattle.proxy_core.specs.declared.proxy.Core.{Core}
 use Rattle.proxy_core.specs.Steps.{Resolves}
-use Rattle.proxy_core.specs.Standing.{Alone, client_at, command_at, Beside, front_by, output_by, dropped_by, owner_by, LeftBy, standing_of, IsQueue, IsHeld, IsLeftOf, ticket_by, Fits}
-use Rattle.proxy_core.proofs.Commands.{some_command, by_number, left_after}
+use Rattle.proxy_core.specs.CoreState.{bars_of, client_at, command_at, Beside, front_by, output_by, dropped_by, owner_by, MayComeOf, state_of, IsQueue, IsHeld, IsOnItsWay, ticket_by, Fits}
+use Rattle.proxy_core.proofs.Commands.{some_command, by_number, to_come_after}
+use Rattle.proxy_core.proofs.Clients.{on_its_way_kept}
 use Rattle.proxy_core.proofs.Slots.{held_alike}
 use Rattle.proxy_core.proofs.Came.{Came, none_then, other_then, single_then, below, unseen_then, has_result}
 use Rattle.proxy_core.proofs.Ending.{idle_ticket}
@@ -69,18 +70,18 @@ module _ (old new : Core) (number : ℕ) (a b : Command) (outcome : Outcome) (r 
     | false ↦ λ differs. refl
   ]) refl
 
-  came : (end : End) → outcome ≡ outcome_of end → (calls : List Call) (reply : Answer) (from : Option ℕ) → LeftBy (Some b) calls reply from → LeftBy (command_at old number) (record { server = server; ask = ask; origin = origin; outcome = outcome_of end } ∷ calls) reply from
+  came : (end : End) → outcome ≡ outcome_of end → (calls : List Call) (reply : Answer) (from : Option ℕ) → MayComeOf (Some b) calls reply from → MayComeOf (command_at old number) (record { server = server; ask = ask; origin = origin; outcome = outcome_of end } ∷ calls) reply from
   came end is calls reply from l =
-      subst (λ o. LeftBy (command_at old number) (record { server = server; ask = ask; origin = origin; outcome = o } ∷ calls) reply from) is
-      (subst (λ o. LeftBy o (call_of a.job outcome ∷ calls) reply from) (sym r.was) ((r.rest calls (record { reply = reply; from = from })).0 l))
+      subst (λ o. MayComeOf (command_at old number) (record { server = server; ask = ask; origin = origin; outcome = o } ∷ calls) reply from) is
+      (subst (λ o. MayComeOf o (call_of a.job outcome ∷ calls) reply from) (sym r.was) ((r.rest calls (record { reply = reply; from = from })).0 l))
 
-  left_like : (end : End) → outcome ≡ outcome_of end → (n : ℕ) (calls : List Call) (reply : Answer) (from : Option ℕ) → LeftBy (command_at new n) calls reply from
-      → Either (nat_eq number n) (LeftBy (command_at old n) (record { server = server; ask = ask; origin = origin; outcome = outcome_of end } ∷ calls) reply from) (LeftBy (command_at old n) calls reply from)
-  left_like end is n calls reply from l =
-      (elim (nat_eq number n) as (λ z. nat_eq number n ≡ z → LeftBy (cond z (Some b) (command_at old n)) calls reply from → Either z (LeftBy (command_at old n) (record { server = server; ask = ask; origin = origin; outcome = outcome_of end } ∷ calls) reply from) (LeftBy (command_at old n) calls reply from)) [
-        | true ↦ λ same l. subst (λ m. LeftBy (command_at old m) (record { server = server; ask = ask; origin = origin; outcome = outcome_of end } ∷ calls) reply from) (eqb-true number n same) (came end is calls reply from l)
+  to_come_like : (end : End) → outcome ≡ outcome_of end → (n : ℕ) (calls : List Call) (reply : Answer) (from : Option ℕ) → MayComeOf (command_at new n) calls reply from
+      → Either (nat_eq number n) (MayComeOf (command_at old n) (record { server = server; ask = ask; origin = origin; outcome = outcome_of end } ∷ calls) reply from) (MayComeOf (command_at old n) calls reply from)
+  to_come_like end is n calls reply from l =
+      (elim (nat_eq number n) as (λ z. nat_eq number n ≡ z → MayComeOf (cond z (Some b) (command_at old n)) calls reply from → Either z (MayComeOf (command_at old n) (record { server = server; ask = ask; origin = origin; outcome = outcome_of end } ∷ calls) reply from) (MayComeOf (command_at old n) calls reply from)) [
+        | true ↦ λ same l. subst (λ m. MayComeOf (command_at old m) (record { server = server; ask = ask; origin = origin; outcome = outcome_of end } ∷ calls) reply from) (eqb-true number n same) (came end is calls reply from l)
         | false ↦ λ differs l. l
-      ]) refl (subst (λ o. LeftBy o calls reply from) (r.commands n) l)
+      ]) refl (subst (λ o. MayComeOf o calls reply from) (r.commands n) l)
 
   held_still : (beside : Beside) → Fits old beside → (n : ℕ) (command : Command) → command_at new n ≡ Some command → IsHeld n command (client_at old command.client) (beside.queue command.client)
   held_still beside fits =
@@ -88,30 +89,30 @@ module _ (old new : Core) (number : ℕ) (a b : Command) (outcome : Outcome) (r 
       (λ command e. subst (λ (c : Command). IsHeld number c (client_at old c.client) (beside.queue c.client)) (some_command e) (subst (λ c. IsHeld number b (client_at old c) (beside.queue c)) (sym (ap (λ (o : Owner). o.client) r.owner)) (held_alike number a b (client_at old a.client) (beside.queue a.client) (ap (λ (o : Owner). o.ask) r.owner) (fits.held number a r.was))))
       (λ n command _ e. fits.held n command e)
 
-  left_still : (beside : Beside) → Fits old beside → (n : ℕ) (command : Command) → command_at new n ≡ Some command → IsLeftOf (beside.at n command.ask.key) command
-  left_still beside fits =
+  on_its_way_still : (beside : Beside) → Fits old beside → (n : ℕ) (command : Command) → command_at new n ≡ Some command → IsOnItsWay old.limits.sharing (beside.at n command.ask.key) command
+  on_its_way_still beside fits =
       let same : b.ask ≡ a.ask = ap (λ (o : Owner). o.ask) r.owner in
-      by_number old new number (Some b) r.commands (λ n command. IsLeftOf (beside.at n command.ask.key) command)
-      (λ command e. subst (λ (c : Command). IsLeftOf (beside.at number c.ask.key) c) (some_command e) (subst (λ (k : Ask). IsLeftOf (beside.at number k.key) b) (sym same) (left_after (beside.at number a.ask.key) a (fits.left number a r.was) r.calling b outcome r.fits same r.rest)))
-      (λ n command _ e. fits.left n command e)
+      by_number old new number (Some b) r.commands (λ n command. IsOnItsWay old.limits.sharing (beside.at n command.ask.key) command)
+      (λ command e. subst (λ (c : Command). IsOnItsWay old.limits.sharing (beside.at number c.ask.key) c) (some_command e) (subst (λ (k : Ask). IsOnItsWay old.limits.sharing (beside.at number k.key) b) (sym same) (to_come_after old.limits.sharing (beside.at number a.ask.key) a (fits.to_come number a r.was) r.calling b outcome r.fits same r.claim r.rest)))
+      (λ n command _ e. fits.to_come n command e)
 
   -- so it has its result, where what the server held agrees with that
   pub settles :
       (beside : Beside) (end : End) → Fits old beside → outcome ≡ outcome_of end → EndsIn (beside.holds server ask.key) (beside.found number) number ask origin end
-      → Fits new (settled end beside) × Leads (tree_words beside.at) Alone (standing_of old beside) (Happens (event end) ∷ []) (standing_of new (settled end beside))
+      → Fits new (settled end beside) × Leads (tree_words beside.at) (bars_of old beside) (state_of old beside) (Happens (event end) ∷ []) (state_of new (settled end beside))
   settles beside end fits is ends = (
     record {
       queues = λ c. subst (λ o. IsQueue o (beside.queue c)) (sym (r.clients c)) (fits.queues c);
       held = λ n command e. subst (λ o. IsHeld n command o (beside.queue command.client)) (sym (r.clients command.client)) (held_still beside fits n command e);
       numbered = λ c n lt. fits.numbered c n (subst (λ m. m < n) r.number_is lt);
-      left = left_still beside fits;
+      to_come = λ n command e. on_its_way_kept old new (beside.at n command.ask.key) command r.limits (on_its_way_still beside fits n command e);
       tickets = tickets_then beside fits end;
       single = single_then old number a outcome out_came beside fits end;
       numbers = numbers_then beside fits;
       unseen = λ n lt. unseen_then old number a outcome out_came beside fits end n (subst (λ m. m < n) r.number_is lt);
       trees = λ n key lt. fits.trees n key (subst (λ m. m < n) r.number_is lt) ∙ ap (λ t. tree_at t key) (sym r.tree);
     },
-    walks_lead (tree_words beside.at) Alone (standing_of old beside) (standing_of new (settled end beside)) (Happens (event end) ∷ []) (record {
+    walks_lead (tree_words beside.at) (bars_of old beside) (state_of old beside) (state_of new (settled end beside)) (Happens (event end) ∷ []) (record {
       may = (
         has_result old number a outcome out_came beside end fits is ends,
         tt,
@@ -123,7 +124,7 @@ module _ (old new : Core) (number : ℕ) (a b : Command) (outcome : Outcome) (r 
         dropped = λ c. ap dropped_by (r.clients c);
         number = r.number_is;
         owner = owner_like;
-        left = λ n o e calls reply from l. left_like end is n calls reply from l;
+        to_come = λ n o e calls reply from l. to_come_like end is n calls reply from l;
         out = λ s. refl;
         holds = λ s k. refl;
         found = λ n o e. refl;

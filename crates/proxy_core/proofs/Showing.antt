@@ -14,9 +14,9 @@ use Rattle.proxy_core.specs.declared.client.Pending.{Pending}
 use Rattle.proxy_core.specs.declared.client.Client.{Client}
 use Rattle.proxy_core.specs.declared.proxy.Core.{Core}
 use Rattle.proxy_core.specs.Steps.{Turns, ShowsHead}
-use Rattle.proxy_core.specs.Standing.{dialect, Message, Alone, Beside, client_at, quiet_in, front_by, output_by, dropped_by, LeftBy, standing_of, IsSlot, AreSlots, IsAtFront, IsWaitedFor, IsQueue, ticket_by, GoesBy}
+use Rattle.proxy_core.specs.CoreState.{dialect, Message, bars_of, Beside, client_at, quiet_in, front_by, output_by, dropped_by, MayComeOf, state_of, IsSlot, AreSlots, IsAtFront, IsWaitedFor, IsQueue, ticket_by, GoesBy}
 use Rattle.proxy_core.proofs.Slots.{no_reply, behind, none_behind, held_then}
-use Rattle.proxy_core.proofs.Clients.{changed, stays, command_stays, owners}
+use Rattle.proxy_core.proofs.Clients.{on_its_way_kept, changed, stays, command_stays, owners}
 
 -- the text that the core writes is that of the message
 shown_is : (message : Message) (index : ℕ) (ask : Ask) (reply : Answer) → slice_get (asks_in message) index ≡ Some ask → shown_of message index reply ≡ shown_text (quiet_in message) (is_last (asks_in message) index) ask reply
@@ -89,7 +89,7 @@ module _ (old new : Core) (client : ℕ) (x y : Client) (pending : Pending) (rep
             | true ↦ less_none (queue c) n (fits.numbered c n (subst (λ m. m < n) t.number lt))
             | false ↦ fits.numbered c n (subst (λ m. m < n) t.number lt)
           ]);
-          left = λ n command e. fits.left n command (sym (command_stays old new client (Some x) (Some y) t n) ∙ e);
+          to_come = λ n command e. on_its_way_kept old new (beside.at n command.ask.key) command t.limits (fits.to_come n command (sym (command_stays old new client (Some x) (Some y) t n) ∙ e));
           tickets = λ s n. fits.tickets s n ∙ ap (λ o. ticket_by o n s) (sym (command_stays old new client (Some x) (Some y) t n));
           single = fits.single;
           numbers = λ n lt. command_stays old new client (Some x) (Some y) t n ∙ fits.numbers n (subst (λ m. m < n) t.number lt);
@@ -98,7 +98,7 @@ module _ (old new : Core) (client : ℕ) (x y : Client) (pending : Pending) (rep
         },
         record { at = refl; holds = refl; found = refl; turn = refl },
         (slot, cut.3.number, refl),
-        walks_lead (tree_words beside.at) Alone (standing_of old beside) (standing_of new beside') (Shows client slot reply ∷ []) (record {
+        walks_lead (tree_words beside.at) (bars_of old beside) (state_of old beside) (state_of new beside') (Shows client slot reply ∷ []) (record {
           may = (((cut.1, is), has, ap dropped_by t.was ∙ p.served), tt);
           like = record {
             front = stays old new client (Some x) (Some y) t front_by (λ i. record { place = p.stream i; index = p.index i; waits = p.waits i });
@@ -107,11 +107,12 @@ module _ (old new : Core) (client : ℕ) (x y : Client) (pending : Pending) (rep
             dropped = stays old new client (Some x) (Some y) t dropped_by p.dropped;
             number = t.number;
             owner = owners old new client (Some x) (Some y) t;
-            left = λ n o e calls reply from l. subst (λ m. LeftBy m calls reply from) (command_stays old new client (Some x) (Some y) t n) l;
+            to_come = λ n o e calls reply from l. subst (λ m. MayComeOf m calls reply from) (command_stays old new client (Some x) (Some y) t n) l;
             out = λ s. refl;
             holds = λ s k. refl;
             found = λ n o e. refl;
             turn = refl;
           };
         }),
+        t.limits,
       )

@@ -5,7 +5,7 @@ use Rattle.mc_types.specs.declared.answer.Answer.{Answer}
 use Rattle.mc_runs.specs.Overlap.{Slot, slot_in, answered_in, is_last_slot}
 use Rattle.proxy_core.specs.declared.client.Client.{Client}
 use Rattle.proxy_core.specs.declared.command.Command.{Command}
-use Rattle.proxy_core.specs.Standing.{dialect, IsWaitedFor, IsHeld}
+use Rattle.proxy_core.specs.CoreState.{dialect, IsWaitedFor, IsHeld}
 use Rattle.proxy_core.proofs.Tickets.{contrary}
 
 pub some_slot : {x y : Slot dialect} → ◌≡◌ {A = Option (Slot dialect)} (Some x) (Some y) → x ≡ y

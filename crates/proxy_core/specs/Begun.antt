@@ -10,13 +10,15 @@ use Rattle.route_tree.specs.Word.{Given, Word}
 use Rattle.route_job.specs.Rest.{ask_under, origin_under}
 use Rattle.route_job.specs.Jobs.{server_in, Comes}
 use Rattle.route_job.specs.declared.job.Job.{Job}
+use Rattle.proxy_core.specs.declared.claim.Claim.{Claim}
 use Rattle.proxy_core.specs.declared.command.Command.{Command}
 use Rattle.proxy_core.specs.declared.ticket.Ticket.{Ticket}
-use Rattle.proxy_core.specs.Standing.{owner_by}
+use Rattle.proxy_core.specs.CoreState.{owner_by}
 
--- a command of the client for this ask, of which no call was made
-pub record IsBegun (tree : Route) (client : ℕ) (ask : Ask) (command : Command) : Type 0 where
+-- a command of the client for this ask with this claim of its key, of which no call was made
+pub record IsBegun (tree : Route) (client : ℕ) (ask : Ask) (claim : Claim) (command : Command) : Type 0 where
   pub owner : owner_by command ≡ record { client = client; ask = ask }
+  pub claim_is : command.claim ≡ claim
   pub job : (calls : List Call) (given : Given) → Comes command.job calls given ↔ Word (tree_at tree ask.key) ask OfClient 0 calls given
   pub idle : command.is_out ≡ false
 

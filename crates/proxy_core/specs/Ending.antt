@@ -10,7 +10,7 @@ use Rattle.proxy_core.specs.declared.client.Pending.{Pending}
 use Rattle.proxy_core.specs.declared.client.Client.{Client}
 use Rattle.proxy_core.specs.declared.command.Command.{Command}
 use Rattle.proxy_core.specs.declared.proxy.Core.{Core}
-use Rattle.proxy_core.specs.Standing.{dialect, Message, client_at, command_at, front_by, GoesBy, GoesByOne}
+use Rattle.proxy_core.specs.CoreState.{dialect, Message, client_at, command_at, front_by, has_call_out, GoesBy, GoesByOne}
 use Rattle.proxy_core.specs.Steps.{Turns}
 
 -- the first command of this number in a client's queue
@@ -33,7 +33,7 @@ GoesOn false x reply y =
 -- the command of this number, whose job is done, is over, and its client's queue has its reply
 pub record Ends (old new : Core) (number : ℕ) (a : Command) (x y : Client) (pending : Pending) (reply : Answer) (from : Option ℕ) : Type 0 where
   pub was : command_at old number ≡ Some a
-  pub idle : a.is_out ≡ false
+  pub idle : has_call_out a ≡ false
   pub done : Comes a.job [] (record { reply = reply; from = from })
   pub client_was : client_at old a.client ≡ Some x
   pub client_is : client_at new a.client ≡ Some y
@@ -46,6 +46,7 @@ pub record Ends (old new : Core) (number : ℕ) (a : Command) (x y : Client) (pe
   pub dropped : y.dropped ≡ x.dropped
   pub commands : (n : ℕ) → command_at new n ≡ (if nat_eq number n then None else command_at old n)
   pub tree : new.tree ≡ old.tree
+  pub limits : new.limits ≡ old.limits
   pub number_is : new.number ≡ old.number
 
 -- nothing is done for the client any more, and nothing else of it changes
@@ -66,6 +67,7 @@ pub record Frees (old new : Core) (number : ℕ) (a : Command) (x : Client) : Ty
   pub clients : (c : ℕ) → client_at new c ≡ client_at old c
   pub commands : (n : ℕ) → command_at new n ≡ (if nat_eq number n then None else command_at old n)
   pub tree : new.tree ≡ old.tree
+  pub limits : new.limits ≡ old.limits
   pub number_is : new.number ≡ old.number
 
 -- a command has its reply

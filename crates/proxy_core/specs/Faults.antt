@@ -6,13 +6,14 @@ use Rattle.slab.specs.Slab.{slab_len}
 use Rattle.proxy_core.specs.declared.fault.CoreFault.{CoreFault}
 use Rattle.proxy_core.specs.declared.fault.CoreFault.TheVariants as faults
 use Rattle.proxy_core.specs.declared.limits.Limits.{Limits}
+use Rattle.proxy_core.specs.declared.limits.Sharing.TheVariants.{Alone}
 use Rattle.proxy_core.specs.declared.command.Command.{Command}
 use Rattle.proxy_core.specs.declared.proxy.Core.{Core}
 use Rattle.proxy_core.specs.Clients.{IsEnded, HasRoom, RoomFault}
-use Rattle.proxy_core.specs.Standing.{client_at}
+use Rattle.proxy_core.specs.CoreState.{client_at}
 
 abbrev pub script_limits : Limits
-script_limits = record { clients = 64; held = 2097152; depth = 1; window = 1 }
+script_limits = record { clients = 64; held = 2097152; depth = 1; window = 1; sharing = Alone }
 
 -- one of the commands is this client's
 abbrev pub has_commands : ℕ → {S : Type 0} → map.IndexMap ℕ Command S → Bool

@@ -17,7 +17,7 @@ use Rattle.proxy_core.specs.declared.client.Client.{Client}
 use Rattle.proxy_core.specs.declared.client.Pending.{Pending}
 use Rattle.proxy_core.specs.declared.answering.Passed.{Passed}
 use Rattle.proxy_core.specs.declared.answering.Passed.TheVariants.{Own, Refused}
-use Rattle.proxy_core.specs.Standing.{dialect, Message, front_by, IsSlot}
+use Rattle.proxy_core.specs.CoreState.{dialect, Message, front_by, IsSlot}
 use Rattle.proxy_core.specs.Steps.{PassesOne}
 
 -- nothing of it changes

@@ -1,7 +1,8 @@
 pub mod Out
+pub mod Claims
 pub mod Counts
 pub mod Clients
-pub mod Standing
+pub mod CoreState
 pub mod Faults
 pub mod Steps
 pub mod Fronts
@@ -15,3 +16,4 @@ pub mod Finishing
 pub mod Settles
 pub mod Tables
 pub mod Nexts
+pub mod Resting

@@ -27,9 +27,13 @@ use Rattle.proxy_core.specs.declared.note.Poll.{Poll}
 use Rattle.proxy_core.specs.declared.note.Poll.TheVariants as polls
 use Rattle.proxy_core.specs.Settles.{freed, HasNoIdle}
 use Rattle.proxy_core.specs.declared.ticket.Ticket.{Ticket}
-use Rattle.proxy_core.specs.Standing.{dialect, Message, client_at, command_at, output_by, dropped_by, GoesBy}
+use Rattle.proxy_core.specs.CoreState.{dialect, Message, client_at, command_at, output_by, dropped_by, GoesBy}
 use Rattle.proxy_core.specs.Fronts.{AsksNone, told_of, IsAskAt}
-use Rattle.proxy_core.specs.Ready.{IsIdle, IsTurn, has_key}
+use Rattle.route_tree.specs.At.{tree_at}
+use Rattle.proxy_core.specs.Claims.{claim_by, is_barred, has_own}
+use Rattle.proxy_core.specs.Heads.{HasNoReply}
+use Rattle.proxy_core.specs.Ready.{IsIdle, IsTurn}
+use Rattle.proxy_core.specs.Resting.{AreHeldUp, HasCommand, IsLater}
 
 -- this holds of the client, which is there
 abbrev pub ForClient : Core → ℕ → (Client → Type 0) → Type 0
@@ -89,12 +93,17 @@ CanAskBelow depth request x = CanAsk request x × (length x.queue.items < depth)
 abbrev pub HasBegun : ℕ → ℕ → Ask → List (Entry dialect) → Type 0
 HasBegun client number ask entries = (part : Part dialect) × (part.ask ≡ ask) × (entries ≡ Starts client number part ∷ [])
 
--- it has the next number, and no call of it is out
+-- the command that began last is the client's, which is served, and no call of it is out
+pub record IsAtLast (core : Core) (client : ℕ) : Type 0 where
+  pub command : Command
+  pub idle : IsIdle client core.commands core.number command
+  pub served : ForClient core client IsServed
+  pub some : ForClient core client HasCommand
+
+-- it has the next number
 pub record BeginsAt (old : Core) (client : ℕ) (ask : Ask) (new : Core) : Type 0 where
   pub number : new.number ≡ old.number + 1
-  pub command : Command
-  pub idle : IsIdle client new.commands new.number command
-  pub served : ForClient new client (λ x. x.dropped ≡ false)
+  pub last : IsAtLast new client
   pub goes : GoesBy old (HasBegun client new.number ask) new
 
 -- the call of this command can go out
@@ -121,10 +130,14 @@ abbrev pub queue_len : Option Client → ℕ
 queue_len None = 0
 queue_len (Some x) = length x.queue.items
 
+-- each reply of the client's that could be shown was
+abbrev pub IsShown : Core → ℕ → Type 0
+IsShown core client = ForClient core client (λ x. HasNoReply x.queue.items)
+
 -- whether the head of the client's commands had a reply, which was shown then
 abbrev pub ShowsNext : Core → ℕ → Bool → Core → Type 0
 ShowsNext old client true new = GoesBy old (AreShown client) new × ForClient new client IsServed × (queue_len (client_at new client) < queue_len (client_at old client))
-ShowsNext old client false new = GoesBy old IsNothing new × ForClient new client IsServed
+ShowsNext old client false new = GoesBy old IsNothing new × ForClient new client IsServed × IsShown new client
 
 -- entries of the one kind, and after them some of the other
 abbrev pub Then : (List (Entry dialect) → Type 0) → (List (Entry dialect) → Type 0) → List (Entry dialect) → Type 0
@@ -161,38 +174,56 @@ IsPolled client (polls.Did note) = Then (IsEnded client note) (AreShown client)
 abbrev pub IsDone : Client → Type 0
 IsDone x = (x.dropped ≡ true) ⊎ ((x.queue.items ≡ []) × IsStuck dialect x.stream)
 
--- another command has the key that the client asks next
+-- the client's next command waits for its key: one of the client's own there has no reply, or one under way stands in its way
 abbrev pub HasNoKey : Core → ℕ → Type 0
-HasNoKey core client = (request : Request) × (ask : Ask) × ForClient core client (λ x. IsAskAt x request ask) × (has_key ask.key core.commands ≡ true)
+HasNoKey core client =
+    (request : Request) × (ask : Ask)
+    × ForClient core client (λ x. IsAskAt x request ask × ((has_own ask.key x.queue.items ≡ true) ⊎ (is_barred ask.key (claim_by core.limits.sharing ask.op (tree_at core.tree ask.key)) core.commands ≡ true)))
 
 -- a command of the client waits for its server, which has as many calls out as it may have
 abbrev pub HasNoRoom : Core → ℕ → Type 0
 HasNoRoom core client = (number : ℕ) × IsTurn client core.limits.window core.commands number Full
 
--- when nothing was done
+-- the client is served, and none of its commands whose reply hasn't come can go on
+abbrev pub NoneGoesOn : Core → ℕ → Type 0
+NoneGoesOn core client = ForClient core client IsServed × ForClient core client (λ x. AreHeldUp client core.limits.window core.commands x.queue.items)
+
+-- nothing at its front can be done
+abbrev pub NothingBegins : Core → ℕ → Type 0
+NothingBegins core client = ForClient core client (IsLater core.limits.depth)
+
+-- a key is next at its front, and it may have one more command
+abbrev pub MayAsk : Core → ℕ → Type 0
+MayAsk core client = (request : Request) × ForClient core client (CanAskBelow core.limits.depth request)
+
+-- a command of the client waits for its server: it began just now, or nothing at the front can be done. Or its next command waits for its key
+abbrev pub IsBusy : Core → ℕ → Core → Type 0
+IsBusy old client new = (HasNoRoom new client × (ForClient new client HasCommand ⊎ ((new ≡ old) × NothingBegins old client))) ⊎ ((new ≡ old) × HasNoKey old client × MayAsk old client)
+
+-- what holds after an answer: why nothing can be done, or that no reply is left to be shown
 abbrev pub IsWhy : Core → ℕ → Poll → Core → Type 0
 IsWhy old client polls.Idle new = (new ≡ old) × ForClient old client IsDone
 IsWhy old client polls.Own new = Unit {0}
 IsWhy old client polls.Refused new = Unit {0}
 IsWhy old client (polls.Call ticket) new = Unit {0}
-IsWhy old client polls.Waiting new = Unit {0}
-IsWhy old client polls.Busy new = HasNoRoom new client ⊎ ((new ≡ old) × HasNoKey old client)
-IsWhy old client (polls.Did note) new = Unit {0}
+IsWhy old client polls.Waiting new = (new ≡ old) × NoneGoesOn old client × NothingBegins old client
+IsWhy old client polls.Busy new = NoneGoesOn new client × IsBusy old client new
+IsWhy old client (polls.Did note) new = IsShown new client
 
--- when a command can't go on
-abbrev pub IsHeldUp : ℕ → Poll → Core → Type 0
-IsHeldUp client polls.Idle new = ⊥
-IsHeldUp client polls.Own new = Unit {0}
-IsHeldUp client polls.Refused new = Unit {0}
-IsHeldUp client (polls.Call ticket) new = Unit {0}
-IsHeldUp client polls.Waiting new = Unit {0}
-IsHeldUp client polls.Busy new = HasNoRoom new client
-IsHeldUp client (polls.Did note) new = Unit {0}
+-- the same after a command went on as it could
+abbrev pub IsActed : ℕ → Poll → Core → Type 0
+IsActed client polls.Idle new = ⊥
+IsActed client polls.Own new = ⊥
+IsActed client polls.Refused new = ⊥
+IsActed client (polls.Call ticket) new = Unit {0}
+IsActed client polls.Waiting new = ⊥
+IsActed client polls.Busy new = NoneGoesOn new client × HasNoRoom new client × ForClient new client HasCommand
+IsActed client (polls.Did note) new = IsShown new client
 
 -- what was done for a command that can go on
 pub record Acts (old : Core) (client : ℕ) (poll : Poll) (new : Core) : Type 0 where
   pub goes : GoesBy old (IsPolled client poll) new
-  pub why : IsHeldUp client poll new
+  pub why : IsActed client poll new
 
 pub record Polls (old : Core) (client : ℕ) (poll : Poll) (new : Core) : Type 0 where
   pub goes : GoesBy old (Then (Perhaps (BeginsBelow old client)) (IsPolled client poll)) new

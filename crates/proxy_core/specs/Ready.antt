@@ -1,17 +1,12 @@
--- What of the commands under way stands in the way of another, and which can go on. Source: mcgate's own.
-use Rattle.std.specs.Prelude.{◌≡◌, ℕ, ◌<◌, ◌≤◌, Bool, true, false, List, Some, nat_eq, count_by}
-use Rattle.std.specs.List.{list_any}
+-- Which of the commands under way can go on. Source: mcgate's own.
+use Rattle.std.specs.Prelude.{◌≡◌, ℕ, ◌<◌, ◌≤◌, true, false, Some, nat_eq, count_by}
 use Rattle.indexmap.specs.IndexMap as map
 use Rattle.route_job.specs.Jobs.{server_in, IsCalling, IsDone}
 use Rattle.proxy_core.specs.declared.command.Command.{Command}
 use Rattle.proxy_core.specs.declared.looking.Turn.{Turn}
 use Rattle.proxy_core.specs.declared.looking.Turn.TheVariants as turns
 pub use Rattle.proxy_core.specs.Counts.{is_called}
-use Rattle.proxy_core.specs.Counts.{is_on}
-
--- a command on this key is under way
-abbrev pub has_key : List ℕ → {S : Type 0} → map.IndexMap ℕ Command S → Bool
-has_key key commands = list_any (is_on key) (map.values commands)
+use Rattle.proxy_core.specs.Out.{has_call_out}
 
 -- how many calls are out at a server
 abbrev pub calls_at : ℕ → {S : Type 0} → map.IndexMap ℕ Command S → ℕ
@@ -21,11 +16,11 @@ calls_at server commands = count_by (is_called server) (map.values commands)
 pub record IsIdle {S : Type 0} (client : ℕ) (commands : map.IndexMap ℕ Command S) (number : ℕ) (a : Command) : Type 0 where
   pub was : map.get nat_eq commands number ≡ Some a
   pub own : a.client ≡ client
-  pub idle : a.is_out ≡ false
+  pub idle : has_call_out a ≡ false
 
--- what a command of the client can do: its next call goes out, it ends, or it waits for its server. Of any other nothing is said
+-- what a command of the client can do: its next call goes out, it ends, or that call waits for its server, which has as many out as it may have; or its call is out. Of any other nothing is said
 abbrev pub IsTurn : ℕ → ℕ → {S : Type 0} → map.IndexMap ℕ Command S → ℕ → Turn → Type 0
 IsTurn client window commands number turns.Sends = (a : Command) × IsIdle client commands number a × IsCalling a.job × (calls_at (server_in a.job.pending) commands < window)
 IsTurn client window commands number turns.Full = (a : Command) × IsIdle client commands number a × IsCalling a.job × (window ≤ calls_at (server_in a.job.pending) commands)
 IsTurn client window commands number turns.Ends = (a : Command) × IsIdle client commands number a × IsDone a.job
-IsTurn client window commands number turns.Rests = (a : Command) → map.get nat_eq commands number ≡ Some a → a.client ≡ client → a.is_out ≡ true
+IsTurn client window commands number turns.Rests = (a : Command) → map.get nat_eq commands number ≡ Some a → a.client ≡ client → has_call_out a ≡ true

@@ -1,8 +1,9 @@
 -- The reply of one of a client's commands comes. Source: mcgate's own.
 use Rattle.std.specs.Prelude.{◌≡◌, ℕ, ◌<◌, Bool, true, false, Option, Some, None, length, nat_eq, position, slice_get, slice_set}
 use Rattle.mc_types.specs.declared.answer.Answer.{Answer}
+use Rattle.mc_types.specs.declared.ask.Ask.{Ask}
 use Rattle.request_parts.specs.declared.skip.Skip.TheVariants.{Nothing}
-use Rattle.request_parts.specs.Stream.{Stands}
+use Rattle.request_parts.specs.Stream.{Place as ReaderPlace, Stands}
 use Rattle.client_requests.specs.declared.request.Request.{Request}
 use Rattle.client_requests.specs.Message.{IsReadFrom, message_in}
 use Rattle.client_requests.specs.Asks.{asks_of}
@@ -10,7 +11,8 @@ use Rattle.text_codec.specs.Held.{held_at}
 use Rattle.proxy_core.specs.declared.client.Client.{Client}
 use Rattle.proxy_core.specs.declared.client.Pending.{Pending}
 use Rattle.proxy_core.specs.declared.replying.Place.{Place}
-use Rattle.proxy_core.specs.Ending.{GoesOn}
+use Rattle.proxy_core.specs.Ending.{GoesOn, pending_in}
+use Rattle.proxy_core.specs.CoreState.{dialect, Message}
 
 abbrev pub is_numbered : ℕ → Pending → Bool
 is_numbered number pending = nat_eq pending.number number
@@ -48,6 +50,19 @@ pub record IsPlace (x : Client) (number : ℕ) (place : Place) : Type 0 where
   pub first : position (is_numbered number) x.queue.items ≡ Some place.at
   pub is : slice_get x.queue.items place.at ≡ Some pending
   pub onward : IsOnward x pending.last place.onward
+
+-- the message at the front has a key at the client's index
+abbrev pub HasKeyAtFront : Client → Type 0
+HasKeyAtFront x = (message : Message) × (next : ReaderPlace) × (ask : Ask) × dialect.Reads x.stream message next × (slice_get (dialect.asks_of message) x.index ≡ Some ask)
+
+-- the reply of this command can come: where its key isn't the last of its message, that stands at the front
+pub record HasPlace (x : Client) (number : ℕ) (pending : Pending) : Type 0 where
+  pub there : pending_in number x.queue.items ≡ Some pending
+  pub front : pending.last ≡ false → HasKeyAtFront x
+
+-- no reply of this number can come
+abbrev pub HasNoPlace : Client → ℕ → Type 0
+HasNoPlace x number = (pending : Pending) → HasPlace x number pending → ⊥
 
 -- the reply came there
 pub record Answers (x : Client) (at : ℕ) (last : Bool) (reply : Answer) (y : Client) : Type 0 where

@@ -9,7 +9,7 @@ use Rattle.mc_runs.specs.Fleet.{EndsIn}
 use Rattle.mc_runs.specs.Single.{FitsOutcome}
 use Rattle.mc_runs.specs.Overlap as log
 use Rattle.mc_runs.specs.Overlap.{Entry, Happens}
-use Rattle.mc_runs.specs.OverlapStanding.{Leads}
+use Rattle.mc_runs.specs.OverlapState.{Leads}
 use Rattle.route_tree.specs.Word.{Given, tree_words}
 use Rattle.route_job.specs.Rest.{ask_under, origin_under}
 use Rattle.route_job.specs.Jobs.{server_in, call_of, Comes}
@@ -18,13 +18,14 @@ use Rattle.proxy_core.specs.declared.command.Command.{Command}
 use Rattle.proxy_core.specs.declared.fault.CoreFault.{CoreFault}
 use Rattle.proxy_core.specs.declared.fault.CoreFault.TheVariants as faults
 use Rattle.proxy_core.specs.declared.proxy.Core.{Core}
-use Rattle.proxy_core.specs.Standing.{dialect, Alone, client_at, command_at, Beside, output_by, dropped_by, owner_by, standing_of, has_call_out, Fits, IsBeside, GoesBy}
+use Rattle.proxy_core.specs.CoreState.{dialect, bars_of, client_at, command_at, Beside, output_by, dropped_by, owner_by, state_of, has_call_out, Fits, IsBeside, GoesBy}
 use Rattle.proxy_core.specs.Steps.{event_of, settled}
 use Rattle.proxy_core.specs.Ending.{Drops}
 
 -- a command took the outcome of its call, which is out no more
 pub record TakesOutcome (a : Command) (outcome : Outcome) (b : Command) : Type 0 where
   pub owner : owner_by b ≡ owner_by a
+  pub claim : b.claim ≡ a.claim
   pub idle : b.is_out ≡ false
   pub rest : (calls : List Call) (given : Given) → Comes b.job calls given ↔ Comes a.job (call_of a.job outcome ∷ calls) given
 
@@ -51,7 +52,7 @@ SettlesBy old number a outcome IsMore new =
     (beside : Beside) (end : End) → Fits old beside → outcome ≡ outcome_of end
     → EndsIn (beside.holds (server_in a.job.pending) (ask_under a.job.frames.items a.job.ask).key) (beside.found number) number (ask_under a.job.frames.items a.job.ask) (origin_under a.job.frames.items OfClient) end
     → (beside' : Beside) × (more : List (Entry dialect)) × Fits new beside' × IsBeside (settled (event_of number a end) beside) beside' × IsMore more
-    × Leads (tree_words beside.at) Alone (standing_of old beside) (more ++ Happens (event_of number a end) ∷ []) (standing_of new beside')
+    × Leads (tree_words beside.at) (bars_of old beside) (state_of old beside) (more ++ Happens (event_of number a end) ∷ []) (state_of new beside') × (new.limits ≡ old.limits)
 
 -- the command of this number has the result of its call; where nothing is done for its client any more, it is broken off
 pub record Settles (old : Core) (number : ℕ) (outcome : Outcome) (new : Core) : Type 0 where
@@ -95,6 +96,7 @@ pub record FreesSome (old : Core) (client : ℕ) (new : Core) : Type 0 where
   pub kept : (n : ℕ) (command : Command) → command_at new n ≡ Some command → command_at old n ≡ Some command
   pub clients : (c : ℕ) → client_at new c ≡ client_at old c
   pub tree : new.tree ≡ old.tree
+  pub limits : new.limits ≡ old.limits
   pub number : new.number ≡ old.number
 
 -- all of them
@@ -112,6 +114,7 @@ pub record TakesOut (old : Core) (number client : ℕ) (new : Core) : Type 0 whe
   pub client_is : DropsBy (client_at old client) (client_at new client)
   pub others : (c : ℕ) → nat_eq client c ≡ false → client_at new c ≡ client_at old c
   pub tree : new.tree ≡ old.tree
+  pub limits : new.limits ≡ old.limits
   pub number_is : new.number ≡ old.number
 
 -- memory was refused: the command of this number has the result of its call all the same, nothing is done for its client any more, which keeps its output, and its commands of which no call is out are broken off

@@ -10,7 +10,7 @@ use Rattle.mc_runs.specs.Single.{FitsOutcome}
 use Rattle.mc_runs.specs.Log.{Part}
 use Rattle.mc_runs.specs.Sharing.{Event, Calls, after_event}
 use Rattle.mc_runs.specs.Overlap.{Slot, Starts, Sends, Happens, Shows, Passes, after_start, slot_of, IsNext, out_after}
-use Rattle.mc_runs.specs.OverlapStanding.{Leads, found_after}
+use Rattle.mc_runs.specs.OverlapState.{Leads, found_after}
 use Rattle.request_parts.specs.Stream.{Place}
 use Rattle.text_codec.specs.Replies.{shown_text}
 use Rattle.route_tree.specs.At.{tree_at}
@@ -22,7 +22,8 @@ use Rattle.proxy_core.specs.declared.client.Pending.{Pending}
 use Rattle.proxy_core.specs.declared.client.Client.{Client}
 use Rattle.proxy_core.specs.declared.command.Command.{Command}
 use Rattle.proxy_core.specs.declared.proxy.Core.{Core}
-use Rattle.proxy_core.specs.Standing.{dialect, Message, Alone, client_at, command_at, Beside, front_by, owner_by, standing_of, IsSlot, Fits, GoesBy, GoesByOne}
+use Rattle.proxy_core.specs.Claims.{claim_by, is_barred, has_own}
+use Rattle.proxy_core.specs.CoreState.{dialect, Message, bars_of, client_at, command_at, Beside, front_by, owner_by, state_of, IsSlot, Fits, GoesBy, GoesByOne}
 
 -- one client's place changed, and nothing else of the core but the room for clients
 pub record Turns (old new : Core) (client : ℕ) (a b : Option Client) : Type 0 where
@@ -31,6 +32,7 @@ pub record Turns (old new : Core) (client : ℕ) (a b : Option Client) : Type 0 
   pub others : (c : ℕ) → nat_eq client c ≡ false → client_at new c ≡ client_at old c
   pub commands : (n : ℕ) → command_at new n ≡ command_at old n
   pub tree : new.tree ≡ old.tree
+  pub limits : new.limits ≡ old.limits
   pub number : new.number ≡ old.number
 
 -- a client without commands under way passed a message that asks no server
@@ -53,7 +55,9 @@ pub record Begins (old new : Core) (client : ℕ) (x y : Client) (part : Part di
   pub others : (c : ℕ) → nat_eq client c ≡ false → client_at new c ≡ client_at old c
   pub next : IsNext (front_by (Some x)) part
   pub served : x.dropped ≡ false
-  pub alone : (n : ℕ) (c : Command) → command_at old n ≡ Some c → c.ask.key ≡ part.ask.key → ⊥
+  -- no command of the client on its key is without a reply, and none under way stands in the way of what it claims
+  pub first : has_own part.ask.key x.queue.items ≡ false
+  pub apart : is_barred part.ask.key command.claim old.commands ≡ false
   -- the client goes on, with one command more
   pub front : front_by (Some y) ≡ after_start (front_by (Some x)) part
   pub queue : y.queue.items ≡ x.queue.items ++ pending ∷ []
@@ -62,12 +66,14 @@ pub record Begins (old new : Core) (client : ℕ) (x y : Client) (part : Part di
   pub slot : IsSlot pending (slot_of (old.number + 1) part)
   -- the command is under way, and no call of it is out
   pub owner : owner_by command ≡ record { client = client; ask = part.ask }
+  pub claim : command.claim ≡ claim_by old.limits.sharing part.ask.op (tree_at old.tree part.ask.key)
   pub asks : IsAsk part.ask
   pub tree_is : IsTree old.tree
   pub job : (calls : List Call) (given : Given) → Comes command.job calls given ↔ Word (tree_at old.tree part.ask.key) part.ask OfClient 0 calls given
   pub idle : command.is_out ≡ false
   pub commands : (n : ℕ) → command_at new n ≡ (if nat_eq (old.number + 1) n then Some command else command_at old n)
   pub tree : new.tree ≡ old.tree
+  pub limits : new.limits ≡ old.limits
   pub number : new.number ≡ old.number + 1
 
 -- a command's next call goes out
@@ -78,6 +84,7 @@ pub record SendsOut (old new : Core) (number : ℕ) (a : Command) : Type 0 where
   pub commands : (n : ℕ) → command_at new n ≡ (if nat_eq number n then Some (record a { is_out = true }) else command_at old n)
   pub clients : (c : ℕ) → client_at new c ≡ client_at old c
   pub tree : new.tree ≡ old.tree
+  pub limits : new.limits ≡ old.limits
   pub number_is : new.number ≡ old.number
 
 -- the command of this number took the outcome of its call, which is out no more
@@ -89,9 +96,11 @@ pub record Resolves (old new : Core) (number : ℕ) (a b : Command) (outcome : O
   pub commands : (n : ℕ) → command_at new n ≡ (if nat_eq number n then Some b else command_at old n)
   pub idle : b.is_out ≡ false
   pub owner : owner_by b ≡ owner_by a
+  pub claim : b.claim ≡ a.claim
   pub rest : (calls : List Call) (given : Given) → Comes b.job calls given ↔ Comes a.job (call_of a.job outcome ∷ calls) given
   pub clients : (c : ℕ) → client_at new c ≡ client_at old c
   pub tree : new.tree ≡ old.tree
+  pub limits : new.limits ≡ old.limits
   pub number_is : new.number ≡ old.number
 
 -- the head of its commands was shown
@@ -144,7 +153,7 @@ SettlingIsAStep =
     → (beside : Beside) (end : End) → Fits old beside → outcome ≡ outcome_of end
     → EndsIn (beside.holds (server_in a.job.pending) (ask_under a.job.frames.items a.job.ask).key) (beside.found number) number (ask_under a.job.frames.items a.job.ask) (origin_under a.job.frames.items OfClient) end
     → Fits new (settled (event_of number a end) beside)
-    × Leads (tree_words beside.at) Alone (standing_of old beside) (Happens (event_of number a end) ∷ []) (standing_of new (settled (event_of number a end) beside))
+    × Leads (tree_words beside.at) (bars_of old beside) (state_of old beside) (Happens (event_of number a end) ∷ []) (state_of new (settled (event_of number a end) beside))
 
 -- the reply at the head of a client's commands is shown
 abbrev pub ShowingIsAStep : Type 0

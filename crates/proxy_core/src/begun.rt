@@ -9,6 +9,7 @@ ghost use Rattle.route_tree.specs.Word.{Given, Word};
 ghost use Rattle.route_job.specs.Jobs.{Comes, IsCalling};
 ghost use Rattle.proxy_core.specs.Begun.{IsBegun, ticket_of};
 
+use crate::claim::Claim;
 use crate::command::Command;
 use crate::held_job::HeldJob;
 use crate::shared::SharedAsk;
@@ -33,14 +34,15 @@ fn job_of(alloc: Global, tree: &Tree, ask: &Ask) -> Result<HeldJob, AllocError>
     HeldJob::new(alloc, job)
 }
 
-/// A command of a client for this ask, as it begins on this tree. The only error is running out of memory.
+/// A command of a client for this ask with this claim, as it begins on this tree. The only error is running out of memory.
 pub fn command_of(
     alloc: Global,
     tree: &Tree,
     client: usize,
     ask: &SharedAsk,
+    claim: Claim,
 ) -> Result<Command, AllocError>
-    ensures begun { IfOk result (λ command. IsBegun tree.now client ask.now command) }
+    ensures begun { IfOk result (λ command. IsBegun tree.now client ask.now claim command) }
     ensures tree { IsTree tree.now }
 {
     let _form = tree.form();
@@ -50,6 +52,7 @@ pub fn command_of(
             job,
             ask: kept,
             client,
+            claim,
             is_out: false,
         }),
         Err(error) => {

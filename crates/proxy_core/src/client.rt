@@ -1,14 +1,16 @@
 //! One client of the core, and its commands whose replies were not shown yet.
 
-ghost use Rattle.std.specs.Prelude.{◌≡◌, false, ◌↔◌, IsTrue, OnOk, OnErr, IfOk, IfErr};
+ghost use Rattle.std.specs.Prelude.{◌≡◌, ◌++◌, false, ◌↔◌, IsTrue, OnOk, OnErr, IfOk, IfErr};
+ghost use Rattle.proxy_core.specs.Claims.{has_own};
 ghost use Rattle.proxy_core.specs.Clients.{IsNew, IsEnded, TakesPiece, Takes, HasRoom, RoomFault, LosesOutput};
 
 use crate::fault::CoreFault;
 use crate::shared::SharedAsk;
 use bytes::BytesMut;
-use mc_types::Answer;
+use mc_types::{Answer, Key};
 use std::alloc::{AllocError, Global};
 use std::collections::VecDeque;
+use std::mem;
 use text_codec::TextStream;
 
 /// A command of a client whose reply was not shown yet.
@@ -44,6 +46,13 @@ fn copied(alloc: Global, bytes: &[u8]) -> Result<Vec<u8>, AllocError>
     bytes.to_vec(alloc)
 }
 
+// Whether one of these without a reply is on the key.
+fn waits_on(key: &Key, queue: &VecDeque<Pending>) -> bool
+    ensures { result ≡ has_own key.now queue.now.items }
+{
+    queue.iter().any(|pending| pending.reply.is_none() && *pending.ask.key() == *key)
+}
+
 impl Client {
     /// A client that said nothing yet. It takes no memory.
     pub fn new(alloc: Global) -> Client
@@ -57,6 +66,13 @@ impl Client {
             waits: false,
             dropped: false,
         }
+    }
+
+    /// Whether a command of it on this key has no reply yet. It takes no memory.
+    pub fn has_own(&self, key: &Key) -> bool
+        ensures { result ≡ has_own key.now self.now.queue.items }
+    {
+        waits_on(key, &self.queue)
     }
 
     /// Whether nothing is read of it any more. It takes no memory.
@@ -94,6 +110,22 @@ impl Client {
             Ok(()) => Ok(()),
             Err(_) => Err(CoreFault::NoMemory),
         }
+    }
+
+    /// The output so far goes behind `out`, and is then empty. Where nothing stands in `out` they are exchanged, so that no byte is copied.
+    /// The only error is running out of memory, which leaves both as they were.
+    pub fn move_output(&mut self, out: &mut BytesMut) -> Result<(), AllocError>
+        ensures bytes { OnOk result (out.new.items ≡ out.old.items ++ self.old.output.items) }
+        ensures ok { OnOk result (LosesOutput self.old self.new) }
+        ensures err { OnErr result ((self.new ≡ self.old) × (out.new.items ≡ out.old.items)) }
+    {
+        if out.is_empty() {
+            mem::swap(&mut self.output, out);
+            return Ok(());
+        }
+        out.extend_from_slice(self.output.as_slice())?;
+        self.output.clear();
+        Ok(())
     }
 
     /// The output so far, a copy, which is then empty. The only error is running out of memory, which leaves the client as it was.

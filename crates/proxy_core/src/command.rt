@@ -8,6 +8,7 @@ ghost use Rattle.proxy_core.specs.Out.{has_call_out};
 ghost use Rattle.proxy_core.specs.Counts.{is_called};
 ghost use Rattle.proxy_core.specs.Settles.{TakesOutcome, asked_by};
 
+use crate::claim::Claim;
 use crate::held_job::HeldJob;
 use crate::shared::SharedAsk;
 use mc_types::{Ask, Key, Outcome, ServerId};
@@ -21,6 +22,7 @@ pub struct Command {
     pub ask: SharedAsk,
     /// Whose it is.
     pub client: usize,
+    pub claim: Claim,
     /// Whether its next call is out.
     pub is_out: bool,
 }
@@ -85,6 +87,7 @@ impl Command {
         requires fits { FitsOutcome (ask_under self.old.job.frames.items self.old.job.ask) outcome }
         ensures idle { self.new.is_out ≡ false }
         ensures ask { self.new.ask ≡ self.old.ask }
+        ensures claim { self.new.claim ≡ self.old.claim }
         ensures ok { OnOk result (TakesOutcome self.old outcome self.new) }
     {
         self.is_out = false;

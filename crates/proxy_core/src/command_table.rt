@@ -1,17 +1,20 @@
 //! The commands that have begun and have not ended.
 
 ghost use Rattle.std.specs.Prelude.{◌≡◌, ◌+◌, ◌++◌, ◌∷◌, [], ℕ, true, false, Some, None, if◌then◌else◌, nat_eq, IfOk, OnOk, OnErr, IsSome, option_copied};
-ghost use Rattle.indexmap.specs.IndexMap.{get, index_map_len, IsEmpty};
+ghost use Rattle.std.specs.List.{list_any};
+ghost use Rattle.indexmap.specs.IndexMap.{get, values, index_map_len, IsEmpty};
 ghost use Rattle.mc_runs.specs.Single.{FitsOutcome};
 ghost use Rattle.route_job.specs.Rest.{ask_under};
 ghost use Rattle.proxy_core.specs.Begun.{HasRoom, Puts};
-ghost use Rattle.proxy_core.specs.Ready.{has_key, calls_at};
-ghost use Rattle.proxy_core.specs.Standing.{has_call_out};
+ghost use Rattle.proxy_core.specs.Claims.{clears_key, copies_key, is_barred};
+ghost use Rattle.proxy_core.specs.Ready.{calls_at};
+ghost use Rattle.proxy_core.specs.CoreState.{has_call_out};
 ghost use Rattle.proxy_core.specs.Tables.{IsAtCall, CallsOut, IsCallerOf, TakesAt};
 
 use crate::begun::drop_command;
+use crate::claim::Claim;
 use crate::command::Command;
-use crate::counts::{count_of, count_one, uncount_one};
+use crate::counts::{count_of, count_one, count_where, uncount_one, uncount_where};
 use crate::ticket::Ticket;
 use indexmap::IndexMap;
 use mc_types::{Key, Outcome, ServerId};
@@ -20,12 +23,13 @@ use std::marker::Model;
 
 /// The commands that have begun and have not ended, by number.
 ///
-/// How many there are on each key, and how many calls of them are out at each server, is counted beside them, so that neither
-/// is asked of all of them. Where memory was refused for a count, it is, from then on.
+/// How many of them clear each key, how many copy to it, and how many calls of them are out at each server, is counted beside
+/// them, so that none of it is asked of all of them. Where memory was refused for a count, it is, from then on.
 #[derive(Drop)]
 pub struct CommandTable {
     by_number: IndexMap<u64, Command>,
-    on_key: IndexMap<Key, usize>,
+    clearing: IndexMap<Key, usize>,
+    copying: IndexMap<Key, usize>,
     at_server: IndexMap<u32, usize>,
     is_counted: bool,
 }
@@ -44,7 +48,7 @@ impl Model for CommandTable {
 
     ghost view = { λ t. t.by_number };
 
-    ghost invariant = { λ t. t.is_counted ≡ true → AreCounted t.by_number t.on_key t.at_server };
+    ghost invariant = { λ t. t.is_counted ≡ true → AreCounted t.by_number t.clearing t.copying t.at_server };
 }
 
 // Whether no command had the number. One that had is let go.
@@ -79,11 +83,18 @@ fn both(a: bool, b: bool) -> bool
     a && b
 }
 
-// Whether one of the commands is on the key, by looking at each.
-fn any_on(key: &Key, commands: &IndexMap<u64, Command>) -> bool
-    ensures { result ≡ has_key key.now commands.now }
+// Whether one of the commands clears the key, by looking at each.
+fn any_clears(key: &Key, commands: &IndexMap<u64, Command>) -> bool
+    ensures { result ≡ list_any (clears_key key.now) (values commands.now) }
 {
-    commands.values().any(|command| *command.ask.key() == *key)
+    commands.values().any(|command| command.claim.clears && *command.ask.key() == *key)
+}
+
+// Whether one of the commands copies to the key, by looking at each.
+fn any_copies(key: &Key, commands: &IndexMap<u64, Command>) -> bool
+    ensures { result ≡ list_any (copies_key key.now) (values commands.now) }
+{
+    commands.values().any(|command| command.claim.copies && *command.ask.key() == *key)
 }
 
 // How many calls are out at the server, by looking at each command.
@@ -103,7 +114,8 @@ impl CommandTable {
     {
         CommandTable {
             by_number: IndexMap::new(alloc),
-            on_key: IndexMap::new(alloc),
+            clearing: IndexMap::new(alloc),
+            copying: IndexMap::new(alloc),
             at_server: IndexMap::new(alloc),
             is_counted: true,
         }
@@ -144,10 +156,11 @@ impl CommandTable {
         requires idle { command.is_out ≡ false }
         ensures { (n : ℕ) → Puts self.old number command self.new n }
     {
-        let key = command.key();
-        let is_counted = count_one(key, &mut self.on_key);
+        let claim = command.claim;
+        let clears = count_where(claim.clears, command.ask.key(), &mut self.clearing);
+        let copies = count_where(claim.copies, command.ask.key(), &mut self.copying);
         let is_new = put_new(number, command, &mut self.by_number);
-        self.is_counted = both(self.is_counted, both(is_counted, is_new));
+        self.is_counted = both(both(self.is_counted, is_new), both(clears, copies));
     }
 
     /// Takes the command of this number out. It takes no memory.
@@ -157,10 +170,11 @@ impl CommandTable {
         ensures less { IsSome (get nat_eq self.old number) → index_map_len self.new + 1 ≡ index_map_len self.old }
     {
         let command = self.by_number.swap_remove(&number)?;
-        let key = command.key();
+        let claim = command.claim;
         let is_idle = !command.is_out;
-        let is_counted = uncount_one(key, &mut self.on_key);
-        self.is_counted = both(self.is_counted, both(is_counted, is_idle));
+        let clears = uncount_where(claim.clears, command.ask.key(), &mut self.clearing);
+        let copies = uncount_where(claim.copies, command.ask.key(), &mut self.copying);
+        self.is_counted = both(both(self.is_counted, is_idle), both(clears, copies));
         Some(command)
     }
 
@@ -208,15 +222,34 @@ impl CommandTable {
         taken
     }
 
-    /// Whether a command on this key is under way. It takes no memory.
-    pub fn has_key(&self, key: &Key) -> bool
-        ensures { result ≡ has_key key.now self.now }
+    // Whether a command under way clears this key.
+    fn is_cleared(&self, key: &Key) -> bool
+        ensures { result ≡ list_any (clears_key key.now) (values self.now) }
     {
         if self.is_counted {
-            0 < count_of(key, &self.on_key)
+            0 < count_of(key, &self.clearing)
         } else {
-            any_on(key, &self.by_number)
+            any_clears(key, &self.by_number)
         }
+    }
+
+    // Whether a command under way copies to this key.
+    fn is_copied(&self, key: &Key) -> bool
+        ensures { result ≡ list_any (copies_key key.now) (values self.now) }
+    {
+        if self.is_counted {
+            0 < count_of(key, &self.copying)
+        } else {
+            any_copies(key, &self.by_number)
+        }
+    }
+
+    /// Whether a command under way stands in the way of this claim on the key. It takes no memory, and looks nothing up for a
+    /// command that claims nothing.
+    pub fn is_barred(&self, key: &Key, claim: Claim) -> bool
+        ensures { result ≡ is_barred key.now claim self.now }
+    {
+        (claim.clears && self.is_copied(key)) || (claim.copies && self.is_cleared(key))
     }
 
     /// How many calls are out at a server. It takes no memory.

@@ -1,9 +1,9 @@
-//! How many there are of each kind: commands on each key, calls out at each server.
+//! How many there are of each kind: commands that clear each key or copy to it, calls out at each server.
 
 ghost use Rattle.std.specs.Prelude.{◌≡◌, ◌+◌, ◌-◌, true};
 ghost use Rattle.std.specs.Map.{count_at};
 ghost use Rattle.indexmap.specs.IndexMap.{get};
-ghost use Rattle.proxy_core.specs.Counts.{SetsCount};
+ghost use Rattle.proxy_core.specs.Counts.{SetsCount, SetsCountWhere};
 
 use indexmap::IndexMap;
 use std::hash::Hash;
@@ -40,6 +40,36 @@ pub fn count_one<K: Eq + Hash + Copy + Drop>(key: K, counts: &mut IndexMap<K, us
     match count_of(&key, counts).checked_add(1) {
         None => false,
         Some(more) => set_count(key, more, counts),
+    }
+}
+
+/// Where it counts, there is one more of it. Whether that is counted.
+pub fn count_where<K: Eq + Hash + Copy + Drop>(
+    it_counts: bool,
+    key: &K,
+    counts: &mut IndexMap<K, usize>,
+) -> bool
+    ensures { result ≡ true → SetsCountWhere it_counts K.eq key.now (count_at (get K.eq counts.old) key.now + 1) counts.old counts.new }
+{
+    if it_counts {
+        count_one(*key, counts)
+    } else {
+        true
+    }
+}
+
+/// Where it counts, there is one less of it. Whether that is counted.
+pub fn uncount_where<K: Eq + Hash + Copy + Drop>(
+    it_counts: bool,
+    key: &K,
+    counts: &mut IndexMap<K, usize>,
+) -> bool
+    ensures { result ≡ true → SetsCountWhere it_counts K.eq key.now (count_at (get K.eq counts.old) key.now - 1) counts.old counts.new }
+{
+    if it_counts {
+        uncount_one(*key, counts)
+    } else {
+        true
     }
 }
 

@@ -1,10 +1,10 @@
 //! A command ends, and replies are shown.
 
-ghost use Rattle.std.specs.Prelude.{◌≡◌, ◌↔◌, [], IsTrue, None, false, OnOk, IfOk, IfErr, MatchBool, MatchOption};
+ghost use Rattle.std.specs.Prelude.{◌≡◌, ◌↔◌, [], IsTrue, None, false, OnOk, IfOk, IfErr, MatchBool};
 ghost use Rattle.route_job.specs.Given.{given_of};
 ghost use Rattle.route_job.specs.Jobs.{Comes, IsDone};
-ghost use Rattle.proxy_core.specs.Standing.{GoesBy};
-ghost use Rattle.proxy_core.specs.Polls.{ForClient, IsServed, IsEnded, AreShown, ShowsNext, StopsFirst, StopsAfter};
+ghost use Rattle.proxy_core.specs.CoreState.{GoesBy};
+ghost use Rattle.proxy_core.specs.Polls.{ForClient, IsServed, IsEnded, AreShown, IsShown, ShowsNext, StopsFirst, StopsAfter};
 ghost use Rattle.proxy_core.specs.Finishing.{CanEnd, IsNote};
 
 use crate::command::Command;
@@ -25,6 +25,7 @@ fn done_of(command: Command) -> (SharedAsk, Done)
         job,
         ask,
         client: _client,
+        claim: _claim,
         is_out: _is_out,
     } = command;
     let done = job.into_done();
@@ -47,20 +48,13 @@ fn note_of(number: u64, ask: SharedAsk, done: Done) -> (Note, Answer)
 }
 
 impl Core {
-    // A command of the client whose job is done has its reply, where the client has a place for it.
-    pub(crate) fn end(&mut self, client: usize, number: u64) -> Option<Note>
+    // A command of the client whose job is done has its reply.
+    pub(crate) fn end(&mut self, client: usize, number: u64) -> Note
         requires served { ForClient self.old client IsServed }
         requires done { CanEnd self.old client number }
-        ensures ended { MatchOption result (self.new ≡ self.old) (λ note. GoesBy self.old (IsEnded client note) self.new) }
+        ensures ended { GoesBy self.old (IsEnded client result) self.new }
         ensures served { ForClient self.new client IsServed }
     {
-        let place = match self.clients.get(client) {
-            None => unreachable!(),
-            Some(x) => x.place_of(number),
-        };
-        let Some(place) = place else {
-            return None;
-        };
         let Some(command) = self.commands.remove(number) else {
             unreachable!();
         };
@@ -68,9 +62,9 @@ impl Core {
         let (note, reply) = note_of(number, ask, done);
         match self.clients.get_mut(client) {
             None => unreachable!(),
-            Some(x) => x.answer(place, reply),
+            Some(x) => x.take_reply(number, reply),
         }
-        Some(note)
+        note
     }
 
     // The reply at the head of the client's commands is shown, if there is one: whether there was.
@@ -92,6 +86,7 @@ impl Core {
     pub(crate) fn show_all(&mut self, client: usize) -> Result<(), CoreFault>
         requires { ForClient self.old client IsServed }
         ensures ok { OnOk result (GoesBy self.old (AreShown client) self.new) }
+        ensures shown { OnOk result (IsShown self.new client) }
         ensures err { IfErr result (λ fault. StopsAfter client (AreShown client) self.old fault self.new) }
     {
         while self.show_next(client)? {}

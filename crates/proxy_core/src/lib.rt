@@ -3,6 +3,7 @@
 
 pub mod answering;
 pub mod begun;
+pub mod claim;
 pub mod client;
 pub mod command;
 pub mod command_table;
@@ -26,10 +27,11 @@ pub mod starting;
 pub mod ticket;
 
 pub use answering::Passed;
+pub use claim::Claim;
 pub use client::Client;
 pub use command::Command;
 pub use fault::{CoreFault, ReloadFault};
-pub use limits::Limits;
+pub use limits::{Limits, Sharing};
 pub use note::{Note, Poll};
 pub use proxy::Core;
 pub use shared::SharedAsk;

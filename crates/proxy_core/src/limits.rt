@@ -3,7 +3,17 @@
 ghost use Rattle.std.specs.Prelude.{◌≡◌};
 ghost use Rattle.proxy_core.specs.Faults.{script_limits};
 
-/// How much a core takes at once.
+/// Which commands of different clients may be under way together on one key. A client's own commands on one key come one after
+/// another by either rule.
+#[derive(Clone, Copy)]
+pub enum Sharing {
+    /// None: each command has its key alone.
+    Alone,
+    /// All but a delete and a command that may copy an item from one server to another.
+    Shared,
+}
+
+/// How much a core takes at once, and what may be under way together.
 #[derive(Clone, Copy)]
 pub struct Limits {
     /// How many clients may be open.
@@ -14,10 +24,13 @@ pub struct Limits {
     pub depth: usize,
     /// How many calls may be out at a server.
     pub window: usize,
+    /// Which commands may be under way together on one key.
+    pub sharing: Sharing,
 }
 
 impl Limits {
-    /// Those of scripts: 64 clients, 2,097,152 bytes held of each and one command, and one call at each server.
+    /// Those of scripts: 64 clients, 2,097,152 bytes held of each and one command, one call at each server, and each key for one
+    /// command alone.
     pub fn of_scripts() -> Limits
         ensures { result ≡ script_limits }
     {
@@ -26,6 +39,7 @@ impl Limits {
             held: 2_097_152,
             depth: 1,
             window: 1,
+            sharing: Sharing::Alone,
         }
     }
 }

@@ -1,8 +1,10 @@
 //! What commands that are under way can do next.
 
-ghost use Rattle.std.specs.Prelude.{◌≡◌, IfSome};
+ghost use Rattle.std.specs.Prelude.{◌≡◌, None, IfSome, IfNone};
 ghost use Rattle.proxy_core.specs.Faults.{has_commands};
 ghost use Rattle.proxy_core.specs.Ready.{IsTurn};
+ghost use Rattle.proxy_core.specs.Resting.{goes_on, IsReady, IsHeldUp, AreHeldUp};
+ghost use Rattle.proxy_core.specs.declared.looking.Turn.TheVariants.{Full};
 
 use crate::client::Pending;
 use crate::command::Command;
@@ -22,6 +24,18 @@ pub enum Turn {
     Ends,
     /// Its call is out, or it isn't there.
     Rests,
+}
+
+impl Turn {
+    /// Whether it can go on.
+    pub fn goes_on(self) -> bool
+        ensures { result ≡ goes_on self }
+    {
+        match self {
+            Turn::Sends | Turn::Ends => true,
+            Turn::Full | Turn::Rests => false,
+        }
+    }
 }
 
 // Whether one of the commands is this client's.
@@ -45,13 +59,15 @@ pub fn turn_of(client: usize, window: usize, number: u64, commands: &CommandTabl
     let Some(command) = commands.get(number) else {
         return Turn::Rests;
     };
-    if command.client != client || command.is_out {
+    if command.client != client {
         return Turn::Rests;
     }
     match command.job.next() {
         Step::Done(_) => Turn::Ends,
         Step::Call { server, .. } => {
-            if commands.calls_at(server) < window {
+            if command.is_out {
+                Turn::Rests
+            } else if commands.calls_at(server) < window {
                 Turn::Sends
             } else {
                 Turn::Full
@@ -67,31 +83,60 @@ pub struct Ready {
     pub turn: Turn,
 }
 
-// Whether it can go on, or else waits for its server.
-fn is_wanted(full: bool, turn: Turn) -> bool {
-    match turn {
-        Turn::Sends | Turn::Ends => !full,
-        Turn::Full => full,
-        Turn::Rests => false,
+// What a command can do whose reply hasn't come, if it can go on.
+fn ready_of(
+    client: usize,
+    window: usize,
+    pending: &Pending,
+    commands: &CommandTable,
+) -> Option<Ready>
+    ensures some { IfSome result (λ ready. IsReady client window commands.now ready) }
+    ensures none { IfNone result (pending.now.reply ≡ None → IsHeldUp client window commands.now pending.now.number) }
+{
+    if pending.reply.is_some() {
+        return None;
+    }
+    let number = pending.number;
+    let turn = turn_of(client, window, number, commands);
+    if turn.goes_on() {
+        Some(Ready { number, turn })
+    } else {
+        None
     }
 }
 
-/// The first of a client's commands that can go on, or else the first that waits for its server.
+/// The first of a client's commands that can go on.
 pub fn first_ready(
-    full: bool,
     client: usize,
     window: usize,
     queue: &VecDeque<Pending>,
     commands: &CommandTable,
 ) -> Option<Ready>
-    ensures { IfSome result (λ ready. IsTurn client window commands.now ready.number ready.turn) }
+    ensures some { IfSome result (λ ready. IsReady client window commands.now ready) }
+    ensures none { IfNone result (AreHeldUp client window commands.now queue.now.items) }
+{
+    for pending in queue.iter() {
+        if let Some(ready) = ready_of(client, window, pending, commands) {
+            return Some(ready);
+        }
+    }
+    None
+}
+
+/// The first of a client's commands that waits for its server.
+pub fn first_full(
+    client: usize,
+    window: usize,
+    queue: &VecDeque<Pending>,
+    commands: &CommandTable,
+) -> Option<u64>
+    ensures { IfSome result (λ number. IsTurn client window commands.now number Full) }
 {
     for pending in queue.iter() {
         if pending.reply.is_none() {
             let number = pending.number;
-            let turn = turn_of(client, window, number, commands);
-            if is_wanted(full, turn) {
-                return Some(Ready { number, turn });
+            if let Turn::Full = turn_of(client, window, number, commands) {
+                return Some(number);
             }
         }
     }

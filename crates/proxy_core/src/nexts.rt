@@ -2,7 +2,9 @@
 
 ghost use Rattle.std.specs.Prelude.{◌≡◌, ◌↔◌, ℕ, [], false, IsTrue, IfOk};
 ghost use Rattle.mc_types.specs.Asks.{IsAsk};
-ghost use Rattle.text_codec.specs.Held.{IsReadAt};
+ghost use Rattle.text_codec.specs.Held.{IsReadAt, held_at};
+ghost use Rattle.client_requests.specs.Message.{message_in};
+ghost use Rattle.client_requests.specs.Asks.{asks_of};
 ghost use Rattle.client_requests.specs.declared.reader.Read.TheVariants.{More, Request as Requests};
 ghost use Rattle.proxy_core.specs.Polls.{CanAsk, CanBegin};
 ghost use Rattle.proxy_core.specs.Fronts.{AsksNone};
@@ -37,6 +39,7 @@ impl Client {
     // A request with keys stands at the front.
     fn key_of(&self, depth: usize, request: Request) -> Next
         requires at { IsReadAt self.now.stream (Requests request) }
+        requires some { asks_of (message_in (held_at self.now.stream) request) ≡ [] → ⊥ }
         requires served { self.now.dropped ≡ false }
         ensures { IsNextOf depth self.now result }
     {

@@ -24,9 +24,9 @@ pub enum Poll {
     Refused,
     /// This call is to be made.
     Call(Ticket),
-    /// Nothing: a reply is waited for.
+    /// Nothing: each of its commands waits for an answer.
     Waiting,
-    /// The next command waits for its key or for a server.
+    /// A command of it waits for its server, or the next for its key.
     Busy,
     /// A command ended.
     Did(Note),

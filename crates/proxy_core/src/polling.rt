@@ -1,27 +1,32 @@
 //! What can be done next for a client.
 
-ghost use Rattle.std.specs.Prelude.{◌≡◌, ◌<◌, false, OnOk, IfOk, IfErr, IfSome};
+ghost use Rattle.std.specs.Prelude.{◌≡◌, ◌<◌, true, false, OnOk, IfOk, IfErr, IfSome, IfNone};
 ghost use Rattle.mc_types.specs.Asks.{IsAsk};
 ghost use Rattle.route_tree.specs.Route.{IsTree};
-ghost use Rattle.proxy_core.specs.Standing.{GoesBy};
-ghost use Rattle.proxy_core.specs.Ready.{has_key};
+ghost use Rattle.proxy_core.specs.CoreState.{GoesBy};
+ghost use Rattle.route_tree.specs.At.{tree_at};
+ghost use Rattle.proxy_core.specs.Claims.{claim_by, is_barred, has_own};
 ghost use Rattle.proxy_core.specs.Begun.{IsBegun};
 ghost use Rattle.proxy_core.specs.Ready.{IsTurn};
 ghost use Rattle.proxy_core.specs.Finishing.{CanEnd};
-ghost use Rattle.proxy_core.specs.Polls.{ForClient, IsPassing, IsPassed, StopsFirst, CanBegin, BeginsAt, CanSend, IsSent, IsServed, CanAskBelow, DropsOne, DropsAll, Acts, SoEnded, StopsAfter, CanAsk, Polls, ReadFault, PollFault};
+ghost use Rattle.proxy_core.specs.Polls.{ForClient, IsPassing, IsPassed, StopsFirst, CanBegin, BeginsAt, CanSend, IsSent, IsServed, CanAskBelow, DropsOne, DropsAll, Acts, SoEnded, StopsAfter, CanAsk, IsAtLast, NoneGoesOn, NothingBegins, Polls, ReadFault, PollFault};
 ghost use Rattle.proxy_core.specs.declared.fault.CoreFault.TheVariants.{NoMemory};
 ghost use Rattle.proxy_core.specs.Nexts.{IsNextOf};
+ghost use Rattle.proxy_core.specs.Resting.{goes_on, IsReady};
+ghost use Rattle.proxy_core.specs.declared.looking.Turn.TheVariants.{Full};
 
 use crate::answering::Passed;
 use crate::begun::{command_of, drop_ask, drop_command};
+use crate::claim::Claim;
 use crate::command::Command;
 use crate::fault::CoreFault;
-use crate::looking::{Ready, Turn, first_ready, turn_of};
+use crate::looking::{Ready, Turn, first_full, first_ready, turn_of};
 use crate::nexts::Next;
 use crate::note::Poll;
 use crate::proxy::Core;
 use crate::shared::SharedAsk;
 use crate::ticket::Ticket;
+use mc_types::Key;
 use text_codec::{Read, Request};
 
 impl Core {
@@ -49,10 +54,12 @@ impl Core {
         command: Command,
     ) -> Result<(), CoreFault>
         requires key { ForClient self.old client (CanBegin request.now ask) }
-        requires alone { has_key ask.key self.old.commands ≡ false }
+        requires first { ForClient self.old client (λ x. has_own ask.key x.queue.items ≡ false) }
+        requires apart { is_barred ask.key command.claim self.old.commands ≡ false }
+        requires claim { command.claim ≡ claim_by self.old.limits.sharing ask.op (tree_at self.old.tree ask.key) }
         requires well_formed { IsAsk ask }
         requires number { self.old.number < 18446744073709551615 }
-        requires begun { IsBegun self.old.tree client ask command }
+        requires begun { IsBegun self.old.tree client ask command.claim command }
         requires tree { IsTree self.old.tree }
         ensures ok { OnOk result (BeginsAt self.old client ask self.new) }
         ensures err { IfErr result (λ fault. StopsFirst client self.old fault self.new) }
@@ -82,15 +89,18 @@ impl Core {
         client: usize,
         request: &Request,
         ask: SharedAsk,
+        claim: Claim,
     ) -> Result<(), CoreFault>
         requires key { ForClient self.old client (CanBegin request.now ask) }
-        requires alone { has_key ask.key self.old.commands ≡ false }
+        requires first { ForClient self.old client (λ x. has_own ask.key x.queue.items ≡ false) }
+        requires apart { is_barred ask.key claim self.old.commands ≡ false }
+        requires claim_is { claim ≡ claim_by self.old.limits.sharing ask.op (tree_at self.old.tree ask.key) }
         requires well_formed { IsAsk ask }
         requires number { self.old.number < 18446744073709551615 }
         ensures ok { OnOk result (BeginsAt self.old client ask self.new) }
         ensures err { IfErr result (λ fault. StopsFirst client self.old fault self.new) }
     {
-        match command_of(self.alloc, &self.tree, client, &ask) {
+        match command_of(self.alloc, &self.tree, client, &ask, claim) {
             Ok(command) => self.begin_command(client, request, ask, command),
             Err(_) => {
                 drop_ask(ask);
@@ -140,19 +150,18 @@ impl Core {
         ensures ok { IfOk result (λ poll. Acts self.old client poll self.new) }
         ensures err { IfErr result (λ fault. StopsAfter client (SoEnded client) self.old fault self.new) }
     {
-        let Some(note) = self.end(client, number) else {
-            return Ok(Poll::Waiting);
-        };
+        let note = self.end(client, number);
         match self.show_all(client) {
             Ok(()) => Ok(Poll::Did(note)),
             Err(fault) => Err(fault),
         }
     }
 
-    // A command of the client goes on as it can.
+    // A command of the client goes on.
     fn act(&mut self, client: usize, number: u64, turn: Turn) -> Result<Poll, CoreFault>
         requires served { ForClient self.old client IsServed }
         requires turn { IsTurn client self.old.limits.window self.old.commands number turn }
+        requires goes_on { goes_on turn ≡ true }
         ensures ok { IfOk result (λ poll. Acts self.old client poll self.new) }
         ensures err { IfErr result (λ fault. StopsAfter client (SoEnded client) self.old fault self.new) }
     {
@@ -162,19 +171,26 @@ impl Core {
                 Err(fault) => Err(fault),
             },
             Turn::Ends => self.finish(client, number),
-            Turn::Full => Ok(Poll::Busy),
-            Turn::Rests => Ok(Poll::Waiting),
+            Turn::Full => unreachable!(),
+            Turn::Rests => unreachable!(),
         }
     }
 
     // The command that began last goes on as it can.
     fn act_last(&mut self, client: usize) -> Result<Poll, CoreFault>
-        requires { ForClient self.old client IsServed }
+        requires { IsAtLast self.old client }
         ensures ok { IfOk result (λ poll. Acts self.old client poll self.new) }
         ensures err { IfErr result (λ fault. StopsAfter client (SoEnded client) self.old fault self.new) }
     {
         let turn = turn_of(client, self.limits.window, self.number, &self.commands);
-        self.act(client, self.number, turn)
+        if turn.goes_on() {
+            return self.act(client, self.number, turn);
+        }
+        // It waits for its server, and the others can go on no more than before it.
+        match self.ready(client) {
+            Some(ready) => self.act(client, ready.number, ready.turn),
+            None => Ok(Poll::Busy),
+        }
     }
 
     fn next_ask(&self, client: usize, request: &Request) -> Result<SharedAsk, CoreFault>
@@ -192,9 +208,21 @@ impl Core {
         }
     }
 
+    // Whether a command of the client on this key has no reply yet.
+    fn has_own(&self, client: usize, key: &Key) -> bool
+        requires { ForClient self.now client IsServed }
+        ensures { ForClient self.now client (λ x. result ≡ has_own key.now x.queue.items) }
+    {
+        match self.clients.get(client) {
+            None => unreachable!(),
+            Some(x) => x.has_own(key),
+        }
+    }
+
     // The next key of the request at the client's front begins, and goes on as it can.
     fn begin_next(&mut self, client: usize, request: &Request) -> Result<Poll, CoreFault>
-        requires { ForClient self.old client (CanAskBelow self.old.limits.depth request.now) }
+        requires asks { ForClient self.old client (CanAskBelow self.old.limits.depth request.now) }
+        requires held { NoneGoesOn self.old client }
         ensures ok { IfOk result (λ poll. Polls self.old client poll self.new) }
         ensures err { IfErr result (λ fault. ReadFault self.old client fault self.new) }
     {
@@ -202,7 +230,12 @@ impl Core {
             Ok(ask) => ask,
             Err(fault) => return Err(fault),
         };
-        if self.commands.has_key(ask.key()) {
+        if self.has_own(client, ask.key()) {
+            drop_ask(ask);
+            return Ok(Poll::Busy);
+        }
+        let claim = Claim::of(self.limits.sharing, ask.get(), &self.tree);
+        if self.commands.is_barred(ask.key(), claim) {
             drop_ask(ask);
             return Ok(Poll::Busy);
         }
@@ -210,19 +243,31 @@ impl Core {
             drop_ask(ask);
             return Err(CoreFault::Spent);
         }
-        match self.begin_key(client, request, ask) {
+        match self.begin_key(client, request, ask, claim) {
             Ok(()) => self.act_last(client),
             Err(fault) => Err(fault),
         }
     }
 
-    // The first command of the client that can go on, or else that waits for its server.
-    fn ready(&self, full: bool, client: usize) -> Option<Ready>
-        ensures { IfSome result (λ ready. IsTurn client self.now.limits.window self.now.commands ready.number ready.turn) }
+    // The first command of the client that can go on.
+    fn ready(&self, client: usize) -> Option<Ready>
+        requires { ForClient self.now client IsServed }
+        ensures some { IfSome result (λ ready. IsReady client self.now.limits.window self.now.commands ready) }
+        ensures none { IfNone result (NoneGoesOn self.now client) }
+    {
+        match self.clients.get(client) {
+            None => unreachable!(),
+            Some(x) => first_ready(client, self.limits.window, &x.queue, &self.commands),
+        }
+    }
+
+    // The first command of the client that waits for its server.
+    fn full(&self, client: usize) -> Option<u64>
+        ensures { IfSome result (λ number. IsTurn client self.now.limits.window self.now.commands number Full) }
     {
         match self.clients.get(client) {
             None => None,
-            Some(x) => first_ready(full, client, self.limits.window, &x.queue, &self.commands),
+            Some(x) => first_full(client, self.limits.window, &x.queue, &self.commands),
         }
     }
 
@@ -239,7 +284,7 @@ impl Core {
 
     fn act_ready(&mut self, client: usize, ready: Ready) -> Result<Poll, CoreFault>
         requires served { ForClient self.old client IsServed }
-        requires turn { IsTurn client self.old.limits.window self.old.commands ready.number ready.turn }
+        requires ready { IsReady client self.old.limits.window self.old.commands ready }
         ensures ok { IfOk result (λ poll. Polls self.old client poll self.new) }
         ensures err { IfErr result (λ fault. ReadFault self.old client fault self.new) }
     {
@@ -247,20 +292,21 @@ impl Core {
     }
 
     // Nothing can be done: whether the client waits for a server, or for a reply.
-    fn rest(&mut self, client: usize) -> Result<Poll, CoreFault>
-        requires { ForClient self.old client IsServed }
-        ensures ok { IfOk result (λ poll. Polls self.old client poll self.new) }
-        ensures err { IfErr result (λ fault. ReadFault self.old client fault self.new) }
+    fn rest(&self, client: usize) -> Poll
+        requires held { NoneGoesOn self.now client }
+        requires later { NothingBegins self.now client }
+        ensures { Polls self.now client result self.now }
     {
-        match self.ready(true, client) {
-            Some(ready) => self.act_ready(client, ready),
-            None => Ok(Poll::Waiting),
+        match self.full(client) {
+            Some(_) => Poll::Busy,
+            None => Poll::Waiting,
         }
     }
 
     // What stands at the client's front is done, or begins.
     fn read_on(&mut self, client: usize, next: Next) -> Result<Poll, CoreFault>
         requires served { ForClient self.old client IsServed }
+        requires held { NoneGoesOn self.old client }
         requires next { ForClient self.old client (λ x. IsNextOf self.old.limits.depth x next) }
         ensures ok { IfOk result (λ poll. Polls self.old client poll self.new) }
         ensures err { IfErr result (λ fault. ReadFault self.old client fault self.new) }
@@ -273,7 +319,7 @@ impl Core {
                 Err(fault) => Err(fault),
             },
             Next::Key(request) => self.begin_next(client, &request),
-            Next::Later => self.rest(client),
+            Next::Later => Ok(self.rest(client)),
         }
     }
 
@@ -283,7 +329,7 @@ impl Core {
         ensures ok { IfOk result (λ poll. Polls self.old client poll self.new) }
         ensures err { IfErr result (λ fault. ReadFault self.old client fault self.new) }
     {
-        match self.ready(false, client) {
+        match self.ready(client) {
             Some(ready) => self.act_ready(client, ready),
             None => {
                 let next = self.next_of(client);
@@ -293,8 +339,12 @@ impl Core {
     }
 
     /// The next thing that can be done for a client: a command of it goes on, its next command begins, or a message that asks
-    /// no server is answered. A command begins where no other on its key is under way, and where fewer commands of its client
-    /// than the depth have no shown reply.
+    /// no server is answered. A command begins where no command of its client on its key is without a reply, where none under way
+    /// stands in the way of what it claims of its key, and where fewer commands of its client than the depth have no shown reply.
+    ///
+    /// Where it is `Waiting` or `Busy`, none of its commands that have no reply yet can go on: each has its call out, or waits
+    /// for its server. Where it is `Waiting`, nothing at its front can be done either. After `Did` each reply that could be
+    /// shown was.
     ///
     /// `NoClient`. `Spent` where the last number that there is was given out: the core is as it was. `NoMemory`: nothing is
     /// done for the client any more, whose output so far is kept, and those of its commands of which no call is out are broken

@@ -1,8 +1,8 @@
 //! The core and its calls.
 
 ghost use Rattle.slab.specs.Slab.{get};
-ghost use Rattle.std.specs.Prelude.{◌≡◌, ◌↔◌, IsTrue, IfOk, IfErr, OnOk, OnErr};
-ghost use Rattle.proxy_core.specs.Standing.{IsFresh, IsOut, Opens, Feeds, Gives, Closes, Reloads};
+ghost use Rattle.std.specs.Prelude.{◌≡◌, ◌++◌, ◌↔◌, IsTrue, IfOk, IfErr, OnOk, OnErr};
+ghost use Rattle.proxy_core.specs.CoreState.{IsFresh, IsOut, Opens, Feeds, Gives, Closes, Reloads, client_at, output_by};
 ghost use Rattle.proxy_core.specs.Faults.{IsClosed, CanOpen, CanFeed, CanClose, OpenFault, FeedFault, OutputFault, CloseFault};
 
 use crate::client::Client;
@@ -10,6 +10,7 @@ use crate::command_table::CommandTable;
 use crate::fault::{CoreFault, ReloadFault};
 use crate::limits::Limits;
 use crate::looking::has_commands;
+use bytes::BytesMut;
 use route_tree::Tree;
 use slab::Slab;
 use std::alloc::Global;
@@ -71,6 +72,24 @@ impl Core {
         match self.clients.get_mut(client) {
             None => Err(CoreFault::NoClient),
             Some(x) => x.feed_within(self.limits.held, piece),
+        }
+    }
+
+    /// A client's new output goes behind `out`, and is then empty. Where nothing stands in `out`, no byte is copied.
+    ///
+    /// `NoClient`; `NoMemory`.
+    pub fn move_output(&mut self, client: usize, out: &mut BytesMut) -> Result<(), CoreFault>
+        ensures bytes { OnOk result (out.new.items ≡ out.old.items ++ output_by (client_at self.old client)) }
+        ensures ok { OnOk result (Gives self.old client (output_by (client_at self.old client)) self.new) }
+        ensures err { IfErr result (λ fault. OutputFault self.old client fault × (self.new ≡ self.old)) }
+        ensures out { OnErr result (out.new.items ≡ out.old.items) }
+    {
+        match self.clients.get_mut(client) {
+            None => Err(CoreFault::NoClient),
+            Some(x) => match x.move_output(out) {
+                Ok(()) => Ok(()),
+                Err(_) => Err(CoreFault::NoMemory),
+            },
         }
     }
 

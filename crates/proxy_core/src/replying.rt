@@ -1,9 +1,10 @@
 //! The reply of one of a client's commands comes.
 
-ghost use Rattle.std.specs.Prelude.{◌≡◌, ◌<◌, ℕ, Bool, false, length, position, slice_set, slice_index_or, IfSome};
+ghost use Rattle.std.specs.Prelude.{◌≡◌, ◌<◌, ℕ, Bool, false, length, position, slice_set, slice_index_or, IfSome, IfNone};
 ghost use Rattle.proxy_core.specs.declared.client.Pending.{Pending as PendingOf};
 ghost use Rattle.proxy_core.specs.Ending.{GoesOn};
-ghost use Rattle.proxy_core.specs.Replying.{is_numbered, IsAnswered, KeepsRest, IsPlace, IsOnward, IsOnwardOfSome, replied, Answers};
+ghost use Rattle.proxy_core.specs.declared.replying.Place.{Place as PlaceOf};
+ghost use Rattle.proxy_core.specs.Replying.{is_numbered, IsAnswered, HasKeyAtFront, HasPlace, HasNoPlace, KeepsRest, IsPlace, IsOnward, IsOnwardOfSome, replied, Answers};
 
 use crate::client::{Client, Pending};
 use mc_types::Answer;
@@ -29,6 +30,9 @@ fn put_reply(queue: &mut VecDeque<Pending>, at: usize, reply: Answer)
 {
     queue[at].reply = Some(reply);
 }
+
+// A drop that is a call keeps the proof of a caller short.
+fn forget(_reply: Answer) {}
 
 impl Client {
     // After the reply to a key that isn't the last of its message: after the message where the reply ends it, else before its next
@@ -61,22 +65,40 @@ impl Client {
         }
     }
 
+    // The request whose key is waited for, if it stands at the front.
+    fn asked_at_front(&self) -> Option<Request>
+        ensures some { IfSome result (λ request. IsAnswered self.now request) }
+        ensures none { IfNone result (HasKeyAtFront self.now → ⊥) }
+    {
+        match self.stream.read() {
+            Read::Request(request) => {
+                if self.index < request.asks() {
+                    Some(request)
+                } else {
+                    None
+                }
+            }
+            Read::More => None,
+            Read::TooLong => None,
+            Read::Refused { .. } => None,
+        }
+    }
+
     /// The place of the reply of the command of this number, where one can come. It takes no memory.
     pub fn place_of(&self, number: u64) -> Option<Place>
-        ensures { IfSome result (λ place. IsPlace self.now number place) }
+        ensures some { IfSome result (λ place. IsPlace self.now number place) }
+        ensures none { IfNone result (HasNoPlace self.now number) }
     {
         let at = place_in(&self.queue, number)?;
         let pending = self.queue.get(at)?;
         if pending.last {
             return Some(Place { at, onward: None });
         }
-        match self.stream.read() {
-            Read::Request(request) if self.index < request.asks() => Some(Place {
-                at,
-                onward: Some(request),
-            }),
-            _ => None,
-        }
+        let request = self.asked_at_front()?;
+        Some(Place {
+            at,
+            onward: Some(request),
+        })
     }
 
     /// The reply came there.
@@ -86,5 +108,16 @@ impl Client {
     {
         self.go_on_by(&place.onward, &reply);
         put_reply(&mut self.queue, place.at, reply);
+    }
+
+    /// The reply of the command of this number came; it is let go where none can come. It takes no memory.
+    pub fn take_reply(&mut self, number: u64, reply: Answer)
+        ensures answered { (pending : PendingOf) → HasPlace self.old number pending → (place : PlaceOf) × (is : IsPlace self.old number place) × Answers self.old place.at is.pending.last reply self.new }
+        ensures dropped { self.new.dropped ≡ self.old.dropped }
+    {
+        match self.place_of(number) {
+            Some(place) => self.answer(place, reply),
+            None => forget(reply),
+        }
     }
 }

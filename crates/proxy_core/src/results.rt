@@ -1,7 +1,7 @@
 //! The result of a call of a server comes.
 
 ghost use Rattle.std.specs.Prelude.{◌≡◌, OnOk, IfErr, option_map};
-ghost use Rattle.proxy_core.specs.Standing.{client_at, dropped_by};
+ghost use Rattle.proxy_core.specs.CoreState.{client_at, dropped_by};
 ghost use Rattle.proxy_core.specs.Settles.{FitsCall, asked, TakesOut, Settles, SettleFault};
 
 use crate::fault::CoreFault;

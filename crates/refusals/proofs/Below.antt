@@ -8,7 +8,7 @@ use Rattle.route_tree.specs.Operation.{same_op}
 use Rattle.route_tree.specs.Plan as plan
 use Rattle.route_tree.specs.Plan.{Plan, Plans, PlanPolicies}
 use Rattle.route_tree.specs.Route.{Route, Routes, Policies, Prefixes, Pool, Server, Null, Failing, AllSync, Failover, MissFailover, WarmUp, ByOperation, ByPrefix, End, More, Otherwise, Policy, Wildcard, Prefix, IsTree, IsGood, AreGood, ArePoliciesGood, ArePrefixesGood}
-use Rattle.route_tree.specs.At.{begins, is_longer, left_of, left_of_all, left_of_policies, left_of_prefixes, tree_at}
+use Rattle.route_tree.specs.At.{begins, is_longer, plain_for, plain_for_all, plain_for_policies, plain_for_prefixes, tree_at}
 use Rattle.route_json.specs.Fits.{IsBelow, AreBelow, ArePoliciesBelow, ArePrefixesBelow}
 use Rattle.route_json.specs.Pools.{AllBelow}
 use Rattle.coverage.specs.Computed.{is_get, fails}
@@ -51,31 +51,31 @@ module _ (bound hash : ℕ) (text : List ℕ) where
   best_below false x best h k = k
 
   mutual
-    left_below : (r : Route) → IsGood r → IsBelow bound r → IsPlanBelow bound (left_of hash text r)
-    left_below (Pool servers) good below = slot_below bound servers (hash % length servers) below (mod-lt hash good.0)
-    left_below (Server s) good below = below
-    left_below Null good below = tt
-    left_below Failing good below = tt
-    left_below (AllSync rs) good below = all_left_below rs good.1 below
-    left_below (Failover rs) good below = all_left_below rs good.1 below
-    left_below (MissFailover rs) good below = all_left_below rs good.1 below
-    left_below (WarmUp cold warm e) good below = (left_below cold good.0 below.0, left_below warm good.1 below.1)
-    left_below (ByOperation ps) good below = policies_left_below ps good below
-    left_below (ByPrefix ps) good below = prefixes_left_below ps None tt good below
+    plain_below : (r : Route) → IsGood r → IsBelow bound r → IsPlanBelow bound (plain_for hash text r)
+    plain_below (Pool servers) good below = slot_below bound servers (hash % length servers) below (mod-lt hash good.0)
+    plain_below (Server s) good below = below
+    plain_below Null good below = tt
+    plain_below Failing good below = tt
+    plain_below (AllSync rs) good below = all_plain_below rs good.1 below
+    plain_below (Failover rs) good below = all_plain_below rs good.1 below
+    plain_below (MissFailover rs) good below = all_plain_below rs good.1 below
+    plain_below (WarmUp cold warm e) good below = (plain_below cold good.0 below.0, plain_below warm good.1 below.1)
+    plain_below (ByOperation ps) good below = policies_plain_below ps good below
+    plain_below (ByPrefix ps) good below = prefixes_plain_below ps None tt good below
 
-    all_left_below : (rs : Routes) → AreGood rs → AreBelow bound rs → ArePlansBelow bound (left_of_all hash text rs)
-    all_left_below End good below = tt
-    all_left_below (More r rs) good below = (left_below r good.0 below.0, all_left_below rs good.1 below.1)
+    all_plain_below : (rs : Routes) → AreGood rs → AreBelow bound rs → ArePlansBelow bound (plain_for_all hash text rs)
+    all_plain_below End good below = tt
+    all_plain_below (More r rs) good below = (plain_below r good.0 below.0, all_plain_below rs good.1 below.1)
 
-    policies_left_below : (ps : Policies) → ArePoliciesGood ps → ArePoliciesBelow bound ps → ArePlanPoliciesBelow bound (left_of_policies hash text ps)
-    policies_left_below (Otherwise r) good below = left_below r good below
-    policies_left_below (Policy o r ps) good below = (left_below r good.0 below.0, policies_left_below ps good.1 below.1)
+    policies_plain_below : (ps : Policies) → ArePoliciesGood ps → ArePoliciesBelow bound ps → ArePlanPoliciesBelow bound (plain_for_policies hash text ps)
+    policies_plain_below (Otherwise r) good below = plain_below r good below
+    policies_plain_below (Policy o r ps) good below = (plain_below r good.0 below.0, policies_plain_below ps good.1 below.1)
 
-    prefixes_left_below : (ps : Prefixes) (best : Option (List ℕ × Plan)) → IsBestBelow best → ArePrefixesGood ps → ArePrefixesBelow bound ps → IsPlanBelow bound (left_of_prefixes hash text ps best)
-    prefixes_left_below (Wildcard r) None b good below = left_below r good below
-    prefixes_left_below (Wildcard r) (Some best) b good below = b
-    prefixes_left_below (Prefix p r ps) best b good below =
-        prefixes_left_below ps _ (best_below (begins p text && is_longer p best) (p, left_of hash text r) best (left_below r good.1 below.0) b) good.2 below.1
+    prefixes_plain_below : (ps : Prefixes) (best : Option (List ℕ × Plan)) → IsBestBelow best → ArePrefixesGood ps → ArePrefixesBelow bound ps → IsPlanBelow bound (plain_for_prefixes hash text ps best)
+    prefixes_plain_below (Wildcard r) None b good below = plain_below r good below
+    prefixes_plain_below (Wildcard r) (Some best) b good below = b
+    prefixes_plain_below (Prefix p r ps) best b good below =
+        prefixes_plain_below ps _ (best_below (begins p text && is_longer p best) (p, plain_for hash text r) best (plain_below r good.1 below.0) b) good.2 below.1
 
 -- what is found first is found here or behind
 or_else_some : (here behind' : Option ℕ) (n : ℕ) (A : Type 0) → or_else here behind' ≡ Some n → ((m : ℕ) → here ≡ Some m → A) → ((m : ℕ) → behind' ≡ Some m → A) → A
@@ -141,4 +141,4 @@ module _ (bound : ℕ) (op : Op) (s : ℕ) where
 -- the server that a read of the key shows is below a bound of the tree's
 pub found_is_below : (bound : ℕ) (tree : Route) (key : List ℕ) (op : Op) (server n : ℕ) → IsTree tree → IsBelow bound tree → finds op server (tree_at tree key) ≡ Some n → server < bound
 found_is_below bound tree key op server n is_tree below found =
-    found_below bound op server (tree_at tree key) n found (left_below bound (key_hash key) key tree is_tree.good below)
+    found_below bound op server (tree_at tree key) n found (plain_below bound (key_hash key) key tree is_tree.good below)

@@ -206,9 +206,9 @@ module _ (law : DirectIsOneServer) (config : Configuration) (reloads : List Relo
   alone shown marks report d none =
       drives law config.tree (map is_refused loadings) events shown marks report (subst (λ (rs : List Reload). DrivesBy config.tree (map is_refused loadings) rs events shown marks report) none d)
 
-  part_alone : (t : Transcript) (marks : List ℕ) → DrivesPartBy config.tree (map is_refused loadings) reloads events (transcript_of t) marks → reloads ≡ [] → DrivesPart config.tree events (transcript_of t)
-  part_alone t marks d none =
-      ends_as law config.tree (map is_refused loadings) events t marks faults.NoMemory (subst (λ (rs : List Reload). DrivesPartBy config.tree (map is_refused loadings) rs events (transcript_of t) marks) none d)
+  part_alone : (t : Transcript) (marks : List ℕ) (fleet : MemoryFleet) → DrivesPartBy config.tree (map is_refused loadings) reloads events (transcript_of t) marks fleet → reloads ≡ [] → DrivesPart config.tree events (transcript_of t) fleet
+  part_alone t marks fleet d none =
+      ends_as law config.tree (map is_refused loadings) events t marks fleet faults.NoMemory (subst (λ (rs : List Reload). DrivesPartBy config.tree (map is_refused loadings) rs events (transcript_of t) marks fleet) none d)
 
   module _ (driven : Result Report DriveFault) (t : Transcript) (marks : List ℕ) (old new : Option (List ℕ)) (rs : List Reload) (ls : List Loading) (ms : List ℕ) (rs_are : rs ≡ reloads) (ls_are : ls ≡ loadings) (ms_are : ms ≡ marks) where
     lines_are : (any : Bool) → transcript_lines any rs ls (transcript_of t) ms ≡ transcript_lines any reloads loadings (transcript_of t) marks
@@ -235,21 +235,22 @@ module _ (law : DirectIsOneServer) (config : Configuration) (reloads : List Relo
           alone = alone (transcript_of t) marks w.report d;
         }
 
-    pub breaks_any : loadings ≡ [] → IfErr driven (EndsBy config.tree (map is_refused loadings) rs events t marks) → (fault : RunFault) → BrokeOff driven (transcript_lines true rs ls (transcript_of t) ms) old new fault → BreaksTreeOff true config reloads events old new fault
-    breaks_any none ends NoMemory b =
-        let r = subst (λ (r : Result Report DriveFault). IfErr r (EndsBy config.tree (map is_refused loadings) rs events t marks)) b.0 ends in
-        let d = subst (λ (x : List Reload). DrivesPartBy config.tree (map is_refused loadings) x events (transcript_of t) marks) rs_are r in
+    pub breaks_any : loadings ≡ [] → (fleet : MemoryFleet) → IfErr driven (EndsBy config.tree (map is_refused loadings) rs events t marks fleet) → (fault : RunFault) → BrokeOff driven (transcript_lines true rs ls (transcript_of t) ms) old new fault → BreaksTreeOff true config reloads events old new fault
+    breaks_any none fleet ends NoMemory b =
+        let r = subst (λ (r : Result Report DriveFault). IfErr r (EndsBy config.tree (map is_refused loadings) rs events t marks fleet)) b.0 ends in
+        let d = subst (λ (x : List Reload). DrivesPartBy config.tree (map is_refused loadings) x events (transcript_of t) marks fleet) rs_are r in
         inr (record {
           loadings = loadings;
           shown = transcript_of t;
           marks = marks;
+          fleet = fleet;
           part = d;
           printed = subst (λ (l : List ℕ). Appends old new l) (lines_are true) b.1;
           are_loadings = none;
           fresh = λ e. absurd (true_is_not_false e);
-          alone = part_alone t marks d;
+          alone = part_alone t marks fleet d;
         })
-    breaks_any none ends Writer b = tt
+    breaks_any none fleet ends Writer b = tt
 
     -- through trees that the gate accepted
     pub runs_accepted : AreLoadings false config reloads loadings → IfOk driven (ReloadsFreshly config.tree loadings rs events (transcript_of t) marks) → Wrote driven (transcript_lines false rs ls (transcript_of t) ms) old new → RunsTree false config reloads events old new
@@ -269,21 +270,22 @@ module _ (law : DirectIsOneServer) (config : Configuration) (reloads : List Relo
           alone = alone (transcript_of t) marks w.report freshly.drives;
         }
 
-    pub breaks_accepted : AreLoadings false config reloads loadings → IfErr driven (EndsReloads config.tree loadings rs events t marks) → (fault : RunFault) → BrokeOff driven (transcript_lines false rs ls (transcript_of t) ms) old new fault → BreaksTreeOff false config reloads events old new fault
-    breaks_accepted judged ends NoMemory b =
-        let r = subst (λ (r : Result Report DriveFault). IfErr r (EndsReloads config.tree loadings rs events t marks)) b.0 ends in
-        let freshly = subst (λ (x : List Reload). ReloadsPartFreshly config.tree loadings x events (transcript_of t) marks) rs_are r in
+    pub breaks_accepted : AreLoadings false config reloads loadings → (fleet : MemoryFleet) → IfErr driven (EndsReloads config.tree loadings rs events t marks fleet) → (fault : RunFault) → BrokeOff driven (transcript_lines false rs ls (transcript_of t) ms) old new fault → BreaksTreeOff false config reloads events old new fault
+    breaks_accepted judged fleet ends NoMemory b =
+        let r = subst (λ (r : Result Report DriveFault). IfErr r (EndsReloads config.tree loadings rs events t marks fleet)) b.0 ends in
+        let freshly = subst (λ (x : List Reload). ReloadsPartFreshly config.tree loadings x events (transcript_of t) marks fleet) rs_are r in
         inr (record {
           loadings = loadings;
           shown = transcript_of t;
           marks = marks;
+          fleet = fleet;
           part = freshly.part;
           printed = subst (λ (l : List ℕ). Appends old new l) (lines_are false) b.1;
           are_loadings = judged;
           fresh = λ e. freshly.fresh;
-          alone = part_alone t marks freshly.part;
+          alone = part_alone t marks fleet freshly.part;
         })
-    breaks_accepted judged ends Writer b = tt
+    breaks_accepted judged fleet ends Writer b = tt
 
 -- through a first tree that the gate refused
 pub refused_first : (config refused : Configuration) (reloads : List Reload) (events : List Scripted) (old new : Option (List ℕ)) (status : ℕ) → refused ≡ config → (status ≡ 1) × PrintsRefused refused old new → RunsGood false config reloads events old new status

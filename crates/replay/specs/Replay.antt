@@ -8,6 +8,7 @@ use Rattle.route_json.specs.Configuration.{Configuration}
 use Rattle.route_json.specs.Servers.{Addresses}
 use Rattle.fresh_gate.specs.Gate.{IsCertified}
 use Rattle.fresh_gate.specs.Sound.{AreGenerations, trees_of}
+use Rattle.memory_fleet.specs.declared.fleet.MemoryFleet.{MemoryFleet}
 use Rattle.fleet_run.specs.declared.script.Script.{Script}
 use Rattle.fleet_run.specs.declared.script.Reload.{Reload}
 use Rattle.fleet_run.specs.declared.script.Report.{Report}
@@ -109,17 +110,18 @@ pub record RunsTree (any : Bool) (config : Configuration) (reloads : List Reload
   -- where nothing is loaded, all commands have the one tree
   pub alone : reloads ≡ [] → Drives config.tree events shown report
 
--- a part of the events ran so, and the lines of its transcript were written
+-- a part of the events ran so, and left the servers so; the lines of its transcript were written
 pub record PrintsPart (any : Bool) (config : Configuration) (reloads : List Reload) (events : List Scripted) (old new : Option (List ℕ)) : Type 0 where
   pub loadings : List Loading
   pub shown : List Shown
   pub marks : List ℕ
-  pub part : DrivesPartBy config.tree (map is_refused loadings) reloads events shown marks
+  pub fleet : MemoryFleet
+  pub part : DrivesPartBy config.tree (map is_refused loadings) reloads events shown marks fleet
   pub printed : Appends old new (transcript_lines any reloads loadings shown marks)
   pub are_loadings : AreLoadings any config reloads loadings
   pub fresh : any ≡ false → IsFresh (opening_of (take part.count events)) (run_of part.log)
   -- where nothing is loaded, all commands have the one tree
-  pub alone : reloads ≡ [] → DrivesPart config.tree events shown
+  pub alone : reloads ≡ [] → DrivesPart config.tree events shown fleet
 
 -- memory was refused before the run, and nothing was written; or during it, and the transcript so far was. Nothing is said of a
 -- writer that failed

@@ -1,9 +1,13 @@
 //! Worked configurations: the tree that each means, or its first fault as it is printed.
 
-use mc_types::{Op, ServerId};
+ghost use Rattle.std.specs.Prelude.{◌<◌, ◌≤◌};
+
+use crate::tables::{Teller, between, wrong};
+use mc_types::{Key, Op, ServerId};
 use route_json::{Config, ConfigFault, read_config};
 use route_tree::{Tree, TreeForm};
-use std::alloc::Global;
+use server_addresses::Servers;
+use std::alloc::{AllocError, Global};
 use std::test::Fail;
 
 // Whole configurations, and what is printed of each.
@@ -21,7 +25,9 @@ fn texts() -> &'static str {
 {"pools":{"B":5,"A":{"servers":[]}},"route":5} => empty pool A
 {"pools":{"B":5,"A":{"servers":["h:0"]}},"route":5} => bad address h:0
 {"b\n\u00e9":1,"a\\":2} => bad field a\\
-{"b\n\u00e9":1} => bad field b\n\xc3\xa9"#
+{"b\n\u00e9":1} => bad field b\n\xc3\xa9
+# No end of opening brackets.
+«200 [» => not JSON"#
 }
 
 // Lists of servers.
@@ -35,7 +41,17 @@ fn server_lists() -> &'static str {
 ["h:1:0"] => bad address h:1:0
 ["a:1",5,"h:0"] => bad field servers
 ["h:0",5] => bad address h:0
-5 => bad field servers"#
+5 => bad field servers
+# Lengths.
+["h:1"«1023 ,"h:1"»] => accepted
+["h:0"«1023 ,"h:1"»] => bad address h:0
+["h:0"«1024 ,"h:1"»] => too many servers in A
+# Weights: at most 2,048 slots.
+[«127 "h:1:16",»"h:2:16"] => accepted
+[«127 "h:1:16",»"h:2:15","h:3"] => accepted
+[«128 "h:1:16",»"h:2"] => too many slots in A
+[«128 "h:1:16",»"h:0"] => bad address h:0
+[«1024 "h:1:16",»"h:2"] => too many servers in A"#
 }
 
 // Routes over pool A of two servers and B of one.
@@ -76,7 +92,25 @@ fn routes() -> &'static str {
 {"type":"WarmUpRoute","cold":"NullRoute","warm":"NullRoute","exptime":2147483648} => bad field exptime
 {"type":"WarmUpRoute","cold":"NullRoute","warm":"NullRoute","exptime":-0} => bad field exptime
 {"type":"WarmUpRoute","cold":"NullRoute","warm":"NullRoute","exptime":1.0} => bad field exptime
-5 => bad field route"#
+5 => bad field route
+# Depth.
+«31 {"type":"AllSyncRoute","children":[»"NullRoute"«31 ]}» => accepted
+«32 {"type":"AllSyncRoute","children":[»"NullRoute"«32 ]}» => too deep
+«33 {"type":"AllSyncRoute","children":[»"NullRoute"«33 ]}» => too deep
+«30 {"type":"AllSyncRoute","children":[»"AllSyncRoute|Pool|A"«30 ]}» => accepted
+«31 {"type":"AllSyncRoute","children":[»"AllSyncRoute|Pool|A"«31 ]}» => too deep
+«32 {"type":"AllSyncRoute","children":[»5«32 ]}» => too deep
+# Count: each route three times for every cold.
+«6 {"type":"WarmUpRoute","warm":"NullRoute","cold":»"NullRoute"«6 }» => accepted
+«7 {"type":"WarmUpRoute","warm":"NullRoute","cold":»"NullRoute"«7 }» => too many routes
+«8 {"type":"WarmUpRoute","warm":"NullRoute","cold":»"NullRoute"«8 }» => too many routes
+# The inmost value would be number 4,097 and at depth 33; with one null route more that number comes a level before.
+{"type":"AllSyncRoute","children":[«4064 "NullRoute",»«31 {"type":"AllSyncRoute","children":[»5«31 ]}»]} => too deep
+{"type":"AllSyncRoute","children":[«4065 "NullRoute",»«31 {"type":"AllSyncRoute","children":[»5«31 ]}»]} => too many routes
+# Lengths.
+{"type":"AllSyncRoute","children":["NullRoute"«4094 ,"NullRoute"»]} => accepted
+{"type":"AllSyncRoute","children":["NullRoute"«4095 ,"NullRoute"»]} => too many routes
+{"type":"AllSyncRoute","children":["NullRoute"«4094 ,"NullRoute"»,5]} => too many routes"#
 }
 
 // Usual set-ups over the same pools: the root, and what is directly below it.
@@ -93,77 +127,111 @@ fn set_ups() -> &'static str {
 {"type":"PrefixSelectorRoute","policies":{}} => ByPrefix; Error"#
 }
 
-// What stands before and after the arrow.
-fn parts(line: &str) -> (&str, &str) {
-    line.split_once(" => ").unwrap_or((line, ""))
+// Routes over pool W of a server of weight 2 and one of weight 1.
+fn weighted_set_ups() -> &'static str {
+    r#""PoolRoute|W" => 2 servers: Pool h:1 h:1 h:2
+"AllSyncRoute|Pool|W" => 2 servers: AllSync; Server h:1; Server h:2
+{"type":"FailoverRoute","children":"Pool|W"} => 2 servers: Failover; Server h:1; Server h:2
+"MissFailoverRoute|Pool|W" => 2 servers: MissFailover; Server h:1; Server h:2"#
+}
+
+// Whole configurations whose servers are told too, and what comes after the last.
+fn numberings() -> &'static str {
+    r#"# Servers are numbered by their first appearance.
+{"route":"PoolRoute|B","pools":{"B":{"servers":["x:1","y:1","z:1"]},"A":{"servers":["y:1","x:1","y:1"]}}} => 3 servers: Pool x:1 y:1 z:1; y:1 x:1 z:1 none"#
 }
 
 // What is printed of a text: `accepted`, or the fault.
-fn printed(alloc: Global, text: &str) -> Result<String, Fail> {
+fn printed(alloc: Global, text: &str) -> Result<String, AllocError> {
     match read_config(alloc, text) {
-        Ok(_) => Ok("accepted".to_string(alloc)?),
-        Err(fault) => Ok(fault.to_string(alloc)?),
+        Ok(_) => "accepted".to_string(alloc),
+        Err(fault) => fault.to_string(alloc),
     }
 }
 
-fn between(alloc: Global, front: &str, text: &str, back: &str) -> Result<String, Fail> {
-    let mut whole = String::from_str(alloc, front)?;
-    whole.push_str(text)?;
-    whole.push_str(back)?;
-    Ok(whole)
-}
+struct OfWhole;
 
-fn with_route(alloc: Global, route: &str) -> Result<String, Fail> {
-    let front = r#"{"pools":{"A":{"servers":["a:1","a:2"]},"B":{"servers":["b:1"]}},"route":"#;
-    between(alloc, front, route, "}")
-}
-
-fn with_servers(alloc: Global, servers: &str) -> Result<String, Fail> {
-    let back = r#"}},"route":"NullRoute"}"#;
-    between(alloc, r#"{"pools":{"A":{"servers":"#, servers, back)
-}
-
-// The text so often.
-fn times(alloc: Global, text: &str, count: u32) -> Result<String, Fail> {
-    let mut all = String::new(alloc);
-    for _ in 0..count {
-        all.push_str(text)?;
+impl Teller for OfWhole {
+    fn told(alloc: Global, text: &str) -> Result<String, AllocError> {
+        printed(alloc, text)
     }
-    Ok(all)
 }
 
-// `front` so often, then `inner`, then `back` as often.
-fn nested(alloc: Global, front: &str, inner: &str, back: &str, count: u32) -> Result<String, Fail> {
-    let fronts = times(alloc, front, count)?;
-    let backs = times(alloc, back, count)?;
-    between(alloc, fronts.as_str(), inner, backs.as_str())
+// The pools of routes.
+fn pools() -> &'static str {
+    r#"{"pools":{"A":{"servers":["a:1","a:2"]},"B":{"servers":["b:1"]}},"route":"#
 }
 
-fn push_leaf(out: &mut String, config: &Config, tree: &Tree) -> Result<(), Fail> {
-    match tree.form() {
-        TreeForm::Pool(servers) => {
-            out.push_str("Pool")?;
-            for server in servers.as_slice() {
-                push_server(out, config, *server)?;
-            }
-        }
-        TreeForm::Server(server) => {
-            out.push_str("Server")?;
-            push_server(out, config, *server)?;
-        }
-        TreeForm::Null => out.push_str("Null")?,
-        TreeForm::Error => out.push_str("Error")?,
-        TreeForm::AllSync(_) => out.push_str("AllSync")?,
-        TreeForm::Failover(_) => out.push_str("Failover")?,
-        TreeForm::MissFailover(_) => out.push_str("MissFailover")?,
-        TreeForm::WarmUp { .. } => out.push_str("WarmUp")?,
-        TreeForm::ByOperation { .. } => out.push_str("ByOperation")?,
-        TreeForm::ByPrefix { .. } => out.push_str("ByPrefix")?,
+fn weighted() -> &'static str {
+    r#"{"pools":{"W":{"servers":["h:1:2","h:2"]}},"route":"#
+}
+
+fn null_route() -> &'static str {
+    r#"}},"route":"NullRoute"}"#
+}
+
+fn with_route(alloc: Global, route: &str) -> Result<String, AllocError> {
+    between(alloc, pools(), route, "}")
+}
+
+fn with_weighted(alloc: Global, route: &str) -> Result<String, AllocError> {
+    between(alloc, weighted(), route, "}")
+}
+
+fn with_servers(alloc: Global, servers: &str) -> Result<String, AllocError> {
+    between(alloc, r#"{"pools":{"A":{"servers":"#, servers, null_route())
+}
+
+struct OfServers;
+
+impl Teller for OfServers {
+    fn told(alloc: Global, servers: &str) -> Result<String, AllocError> {
+        let text = with_servers(alloc, servers)?;
+        printed(alloc, text.as_str())
+    }
+}
+
+struct OfRoutes;
+
+impl Teller for OfRoutes {
+    fn told(alloc: Global, route: &str) -> Result<String, AllocError> {
+        let text = with_route(alloc, route)?;
+        printed(alloc, text.as_str())
+    }
+}
+
+fn push_servers(out: &mut String, config: &Config, servers: &[ServerId]) -> Result<(), AllocError> {
+    for server in servers {
+        push_server(out, config, *server)?;
     }
     Ok(())
 }
 
-fn push_server(out: &mut String, config: &Config, server: ServerId) -> Result<(), Fail> {
+fn form_word(form: &TreeForm) -> &'static str {
+    match form {
+        TreeForm::Pool(_) => "Pool",
+        TreeForm::Server(_) => "Server",
+        TreeForm::Null => "Null",
+        TreeForm::Error => "Error",
+        TreeForm::AllSync(_) => "AllSync",
+        TreeForm::Failover(_) => "Failover",
+        TreeForm::MissFailover(_) => "MissFailover",
+        TreeForm::WarmUp { .. } => "WarmUp",
+        TreeForm::ByOperation { .. } => "ByOperation",
+        TreeForm::ByPrefix { .. } => "ByPrefix",
+    }
+}
+
+fn push_leaf(out: &mut String, config: &Config, tree: &Tree) -> Result<(), AllocError> {
+    out.push_str(form_word(tree.form()))?;
+    match tree.form() {
+        TreeForm::Pool(servers) => push_servers(out, config, servers),
+        TreeForm::Server(server) => push_server(out, config, *server),
+        _ => Ok(()),
+    }
+}
+
+fn push_server(out: &mut String, config: &Config, server: ServerId) -> Result<(), AllocError> {
     out.push_str(" ")?;
     if let Some(text) = config.servers().get(server) {
         out.push_str(text)?;
@@ -171,7 +239,7 @@ fn push_server(out: &mut String, config: &Config, server: ServerId) -> Result<()
     Ok(())
 }
 
-fn push_children(out: &mut String, config: &Config, children: &[Tree]) -> Result<(), Fail> {
+fn push_children(out: &mut String, config: &Config, children: &[Tree]) -> Result<(), AllocError> {
     for child in children {
         out.push_str("; ")?;
         push_leaf(out, config, child)?;
@@ -187,55 +255,152 @@ fn op_name(op: Op) -> &'static str {
     }
 }
 
-// The root, and what is directly below it.
-fn shown(alloc: Global, config: &Config) -> Result<String, Fail> {
-    let mut out = String::new(alloc);
-    push_leaf(&mut out, config, config.tree())?;
+// The children by operation, each after its operation, and the default.
+fn push_policies(
+    out: &mut String,
+    config: &Config,
+    policies: &[(Op, Tree)],
+    default: &Tree,
+) -> Result<(), AllocError> {
+    for (op, child) in policies {
+        out.push_str(op_name(*op))?;
+        push_leaf(out, config, child)?;
+    }
+    out.push_str("; ")?;
+    push_leaf(out, config, default)
+}
+
+// The children by prefix, each after its prefix, and the wildcard.
+fn push_prefixes(
+    out: &mut String,
+    config: &Config,
+    policies: &[(Key, Tree)],
+    wildcard: &Tree,
+) -> Result<(), AllocError> {
+    for (prefix, child) in policies {
+        out.push_str("; ")?;
+        out.push_str(str::from_utf8(prefix.as_bytes()).unwrap_or("?"))?;
+        out.push_str(" ")?;
+        push_leaf(out, config, child)?;
+    }
+    out.push_str("; ")?;
+    push_leaf(out, config, wildcard)
+}
+
+fn push_sides(
+    out: &mut String,
+    config: &Config,
+    cold: &Tree,
+    warm: &Tree,
+    exptime: u32,
+) -> Result<(), AllocError> {
+    write!(out, " {exptime}; ")?;
+    push_leaf(out, config, cold)?;
+    out.push_str("; ")?;
+    push_leaf(out, config, warm)
+}
+
+// What is directly below the root.
+fn push_below(out: &mut String, config: &Config) -> Result<(), AllocError> {
     match config.tree().form() {
         TreeForm::AllSync(children)
         | TreeForm::Failover(children)
-        | TreeForm::MissFailover(children) => push_children(&mut out, config, children)?,
+        | TreeForm::MissFailover(children) => push_children(out, config, children),
         TreeForm::WarmUp {
             cold,
             warm,
             exptime,
-        } => {
-            out.push_str(" ")?;
-            out.push_str(exptime.to_string(alloc)?.as_str())?;
-            out.push_str("; ")?;
-            push_leaf(&mut out, config, cold)?;
-            out.push_str("; ")?;
-            push_leaf(&mut out, config, warm)?;
-        }
+        } => push_sides(out, config, cold, warm, *exptime),
         TreeForm::ByOperation { policies, default } => {
-            for (op, child) in policies.as_slice() {
-                out.push_str(op_name(*op))?;
-                push_leaf(&mut out, config, child)?;
-            }
-            out.push_str("; ")?;
-            push_leaf(&mut out, config, default)?;
+            push_policies(out, config, policies, default)
         }
         TreeForm::ByPrefix { policies, wildcard } => {
-            for (prefix, child) in policies.as_slice() {
-                out.push_str("; ")?;
-                out.push_str(str::from_utf8(prefix.as_bytes()).unwrap_or("?"))?;
-                out.push_str(" ")?;
-                push_leaf(&mut out, config, child)?;
-            }
-            out.push_str("; ")?;
-            push_leaf(&mut out, config, wildcard)?;
+            push_prefixes(out, config, policies, wildcard)
         }
-        _ => {}
+        _ => Ok(()),
     }
+}
+
+// The root, and what is directly below it.
+fn shown(alloc: Global, config: &Config) -> Result<String, AllocError> {
+    let mut out = String::new(alloc);
+    push_leaf(&mut out, config, config.tree())?;
+    push_below(&mut out, config)?;
     Ok(out)
+}
+
+fn copy_shown(alloc: Global, config: &Config) -> Result<String, AllocError> {
+    let copy = config.copy(alloc)?;
+    shown(alloc, &copy)
+}
+
+// What a copy of the route's configuration shows.
+struct OfSetUps;
+
+impl Teller for OfSetUps {
+    fn told(alloc: Global, route: &str) -> Result<String, AllocError> {
+        let text = with_route(alloc, route)?;
+        match read_config(alloc, text.as_str()) {
+            Ok(config) => copy_shown(alloc, &config),
+            Err(fault) => fault.to_string(alloc),
+        }
+    }
+}
+
+// The number of servers, unless there are none, and the tree.
+fn shown_with_count(alloc: Global, config: &Config) -> Result<String, AllocError> {
+    let tree = shown(alloc, config)?;
+    if config.servers().is_empty() {
+        return Ok(tree);
+    }
+    let mut out = config.servers().len().to_string(alloc)?;
+    out.push_str(" servers: ")?;
+    out.push_str(tree.as_str())?;
+    Ok(out)
+}
+
+struct OfWeightedPools;
+
+impl Teller for OfWeightedPools {
+    fn told(alloc: Global, route: &str) -> Result<String, AllocError> {
+        let text = with_weighted(alloc, route)?;
+        match read_config(alloc, text.as_str()) {
+            Ok(config) => shown_with_count(alloc, &config),
+            Err(fault) => fault.to_string(alloc),
+        }
+    }
+}
+
+// The addresses of servers 0 to 3.
+fn push_four(out: &mut String, servers: &Servers) -> Result<(), AllocError> {
+    for number in 0..4 {
+        out.push_str(" ")?;
+        out.push_str(servers.get(ServerId::new(number)).unwrap_or("none"))?;
+    }
+    Ok(())
+}
+
+fn numbered(alloc: Global, config: &Config) -> Result<String, AllocError> {
+    let mut out = shown_with_count(alloc, config)?;
+    out.push_str(";")?;
+    push_four(&mut out, config.servers())?;
+    Ok(out)
+}
+
+struct OfNumberings;
+
+impl Teller for OfNumberings {
+    fn told(alloc: Global, text: &str) -> Result<String, AllocError> {
+        match read_config(alloc, text) {
+            Ok(config) => numbered(alloc, &config),
+            Err(fault) => fault.to_string(alloc),
+        }
+    }
 }
 
 #[test]
 fn configuration_faults(rt: HostRuntime) -> Result<(), Fail> {
-    for line in texts().lines() {
-        let (text, want) = parts(line);
-        assert_eq!(rt; printed(rt.alloc(), text)?.as_str(), want, "at {text}");
-    }
+    assert_eq!(rt; wrong::<OfWhole>(rt.alloc(), texts())?.as_str(), "");
     let none = ConfigFault::NoMemory.to_string(rt.alloc())?;
     assert_eq!(rt; none.as_str(), "out of memory");
     Ok(())
@@ -243,207 +408,69 @@ fn configuration_faults(rt: HostRuntime) -> Result<(), Fail> {
 
 #[test]
 fn faults_of_servers(rt: HostRuntime) -> Result<(), Fail> {
-    for line in server_lists().lines() {
-        let (list, want) = parts(line);
-        let text = with_servers(rt.alloc(), list)?;
-        assert_eq!(rt;
-            printed(rt.alloc(), text.as_str())?.as_str(),
-            want,
-            "at {list}"
-        );
-    }
+    assert_eq!(rt;
+        wrong::<OfServers>(rt.alloc(), server_lists())?.as_str(),
+        ""
+    );
     Ok(())
 }
 
 #[test]
 fn faults_of_routes(rt: HostRuntime) -> Result<(), Fail> {
-    for line in routes().lines() {
-        let (route, want) = parts(line);
-        let text = with_route(rt.alloc(), route)?;
-        assert_eq!(rt;
-            printed(rt.alloc(), text.as_str())?.as_str(),
-            want,
-            "at {route}"
-        );
-    }
+    assert_eq!(rt; wrong::<OfRoutes>(rt.alloc(), routes())?.as_str(), "");
     Ok(())
-}
-
-#[test]
-fn depth_and_count(rt: HostRuntime) -> Result<(), Fail> {
-    let alloc = rt.alloc();
-    let open = times(alloc, "[", 200)?;
-    assert_eq!(rt; printed(alloc, open.as_str())?.as_str(), "not JSON");
-
-    let list = r#"{"type":"AllSyncRoute","children":["#;
-    let null = r#""NullRoute""#;
-    let each = r#""AllSyncRoute|Pool|A""#;
-    for (count, inner, want) in [
-        (31, null, "accepted"),
-        (32, null, "too deep"),
-        (33, null, "too deep"),
-        (30, each, "accepted"),
-        (31, each, "too deep"),
-        (32, "5", "too deep"),
-    ] {
-        let route = nested(alloc, list, inner, "]}", count)?;
-        let text = with_route(alloc, route.as_str())?;
-        assert_eq!(rt; printed(alloc, text.as_str())?.as_str(), want, "at {count}");
-    }
-
-    let cold = r#"{"type":"WarmUpRoute","warm":"NullRoute","cold":"#;
-    for (count, want) in [
-        (6, "accepted"),
-        (7, "too many routes"),
-        (8, "too many routes"),
-    ] {
-        let route = nested(alloc, cold, null, "}", count)?;
-        let text = with_route(alloc, route.as_str())?;
-        assert_eq!(rt; printed(alloc, text.as_str())?.as_str(), want, "at {count}");
-    }
-    Ok(())
-}
-
-// So many null routes, and after them routes nested as deep as may be, whose inmost value is no route.
-fn wide_and_deep(alloc: Global, nulls: u32) -> Result<String, Fail> {
-    let list = r#"{"type":"AllSyncRoute","children":["#;
-    let null = times(alloc, r#""NullRoute","#, nulls)?;
-    let deep = nested(alloc, list, "5", "]}", 31)?;
-    let children = between(alloc, null.as_str(), deep.as_str(), "]}")?;
-    between(alloc, list, children.as_str(), "")
-}
-
-// The inmost value would be number 4,097 and at depth 33; with one null route more that number comes a level before.
-#[test]
-fn depth_before_count(rt: HostRuntime) -> Result<(), Fail> {
-    let alloc = rt.alloc();
-    for (nulls, want) in [(4064, "too deep"), (4065, "too many routes")] {
-        let route = wide_and_deep(alloc, nulls)?;
-        let text = with_route(alloc, route.as_str())?;
-        assert_eq!(rt; printed(alloc, text.as_str())?.as_str(), want, "at {nulls}");
-    }
-    Ok(())
-}
-
-#[test]
-fn lengths(rt: HostRuntime) -> Result<(), Fail> {
-    let alloc = rt.alloc();
-    for (count, want) in [(4094, "accepted"), (4095, "too many routes")] {
-        let more = times(alloc, r#","NullRoute""#, count)?;
-        let list = r#"{"type":"AllSyncRoute","children":["NullRoute""#;
-        let route = between(alloc, list, more.as_str(), "]}")?;
-        let text = with_route(alloc, route.as_str())?;
-        assert_eq!(rt; printed(alloc, text.as_str())?.as_str(), want, "at {count}");
-    }
-    let more = times(alloc, r#","NullRoute""#, 4094)?;
-    let list = r#"{"type":"AllSyncRoute","children":["NullRoute""#;
-    let route = between(alloc, list, more.as_str(), ",5]}")?;
-    let text = with_route(alloc, route.as_str())?;
-    assert_eq!(rt; printed(alloc, text.as_str())?.as_str(), "too many routes");
-    for (count, first, want) in [
-        (1023, r#"["h:1""#, "accepted"),
-        (1023, r#"["h:0""#, "bad address h:0"),
-        (1024, r#"["h:0""#, "too many servers in A"),
-    ] {
-        let more = times(alloc, r#","h:1""#, count)?;
-        let list = between(alloc, first, more.as_str(), "]")?;
-        let text = with_servers(alloc, list.as_str())?;
-        assert_eq!(rt; printed(alloc, text.as_str())?.as_str(), want, "at {count}");
-    }
-    Ok(())
-}
-
-// A list of so many texts of weight 16, and then this text.
-fn heavy_servers(alloc: Global, count: u32, last: &str) -> Result<String, Fail> {
-    let all = times(alloc, r#""h:1:16","#, count)?;
-    between(alloc, "[", all.as_str(), last)
-}
-
-#[test]
-fn weight_texts(rt: HostRuntime) -> Result<(), Fail> {
-    let alloc = rt.alloc();
-    for (count, last, want) in [
-        (127, r#""h:2:16"]"#, "accepted"),
-        (127, r#""h:2:15","h:3"]"#, "accepted"),
-        (128, r#""h:2"]"#, "too many slots in A"),
-        (128, r#""h:0"]"#, "bad address h:0"),
-        (1024, r#""h:2"]"#, "too many servers in A"),
-    ] {
-        let list = heavy_servers(alloc, count, last)?;
-        let text = with_servers(alloc, list.as_str())?;
-        assert_eq!(rt;
-            printed(alloc, text.as_str())?.as_str(),
-            want,
-            "at {count} {last}"
-        );
-    }
-    Ok(())
-}
-
-// Routes over pool W of a server of weight 2 and one of weight 1.
-fn weighted_set_ups() -> &'static str {
-    r#""PoolRoute|W" => Pool h:1 h:1 h:2
-"AllSyncRoute|Pool|W" => AllSync; Server h:1; Server h:2
-{"type":"FailoverRoute","children":"Pool|W"} => Failover; Server h:1; Server h:2
-"MissFailoverRoute|Pool|W" => MissFailover; Server h:1; Server h:2"#
-}
-
-#[test]
-fn weighted_pools(rt: HostRuntime) -> Result<(), Fail> {
-    let alloc = rt.alloc();
-    for line in weighted_set_ups().lines() {
-        let (route, want) = parts(line);
-        let front = r#"{"pools":{"W":{"servers":["h:1:2","h:2"]}},"route":"#;
-        let text = between(alloc, front, route, "}")?;
-        let config = read_config(alloc, text.as_str())?;
-        assert_eq!(rt; shown(alloc, &config)?.as_str(), want, "at {route}");
-        assert_eq!(rt; config.servers().len(), 2);
-    }
-    Ok(())
-}
-
-// The same of a copy of what a route means.
-fn shown_copy(alloc: Global, route: &str) -> Result<String, Fail> {
-    let text = with_route(alloc, route)?;
-    let config = read_config(alloc, text.as_str())?;
-    let copy = config.copy(alloc)?;
-    shown(alloc, &copy)
 }
 
 #[test]
 fn usual_set_ups(rt: HostRuntime) -> Result<(), Fail> {
-    for line in set_ups().lines() {
-        let (route, want) = parts(line);
-        assert_eq!(rt; shown_copy(rt.alloc(), route)?.as_str(), want, "at {route}");
-    }
+    assert_eq!(rt; wrong::<OfSetUps>(rt.alloc(), set_ups())?.as_str(), "");
+    Ok(())
+}
+
+#[test]
+fn weighted_pools(rt: HostRuntime) -> Result<(), Fail> {
+    assert_eq!(rt;
+        wrong::<OfWeightedPools>(rt.alloc(), weighted_set_ups())?.as_str(),
+        ""
+    );
     Ok(())
 }
 
 #[test]
 fn servers_by_first_appearance(rt: HostRuntime) -> Result<(), Fail> {
-    let alloc = rt.alloc();
-    let text =
-        r#"{"route":"PoolRoute|B","pools":{"B":{"servers":["x:1","y:1","z:1"]},"A":{"servers":["y:1","x:1","y:1"]}}}"#;
-    let config = read_config(alloc, text)?;
-    assert_eq!(rt; shown(alloc, &config)?.as_str(), "Pool x:1 y:1 z:1");
-    let servers = config.servers();
-    assert_eq!(rt; servers.len(), 3);
-    assert!(rt; !servers.is_empty());
-    for (number, want) in [(0, "y:1"), (1, "x:1"), (2, "z:1")] {
-        assert_eq!(rt; servers.get(ServerId::new(number)), Some(want));
-    }
-    assert_eq!(rt; servers.get(ServerId::new(3)), None);
+    assert_eq!(rt;
+        wrong::<OfNumberings>(rt.alloc(), numberings())?.as_str(),
+        ""
+    );
     Ok(())
+}
+
+// What a configuration of one pool shows.
+fn pool_shown(alloc: Global, count: u32) -> Result<String, AllocError>
+    requires some { 0 < count }
+    requires few { count ≤ 1024 }
+{
+    let config = Config::of_pool(alloc, count)?;
+    shown(alloc, &config)
+}
+
+// The number of servers, and the last.
+fn last_of_pool(alloc: Global, count: u32, last: u32) -> Result<String, AllocError>
+    requires some { 0 < count }
+    requires few { count ≤ 1024 }
+{
+    let config = Config::of_pool(alloc, count)?;
+    let servers = config.servers();
+    let text = servers.get(ServerId::new(last)).unwrap_or("none");
+    format!(in alloc; "{} {text}", servers.len())
 }
 
 #[test]
 fn one_pool(rt: HostRuntime) -> Result<(), Fail> {
-    let alloc = rt.alloc();
-    let config = Config::of_pool(alloc, 3)?;
-    assert_eq!(rt; shown(alloc, &config)?.as_str(), "Pool s0:1 s1:1 s2:1");
-    let config = Config::of_pool(alloc, 1024)?;
-    let servers = config.servers();
-    assert_eq!(rt; servers.len(), 1024);
-    assert_eq!(rt; servers.get(ServerId::new(1023)), Some("s1023:1"));
+    assert_eq!(rt; pool_shown(rt.alloc(), 3)?.as_str(), "Pool s0:1 s1:1 s2:1");
+    assert_eq!(rt;
+        last_of_pool(rt.alloc(), 1024, 1023)?.as_str(),
+        "1024 s1023:1"
+    );
     Ok(())
 }

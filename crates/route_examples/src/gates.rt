@@ -1,11 +1,12 @@
-//! Worked verdicts.
+//! Worked verdicts of the gate, on configurations, certificates and reloads.
 
+use crate::tables::{Teller, between, halves, number_of, wrong};
 use certificates::{Certificate, ClassRows, Run, places};
 use coverage::Deleting;
 use fresh_gate::{Accepted, Gap, Reason, Refused, ReloadFault, check, judge};
 use mc_types::{Op, ServerId};
-use route_json::{Config, read_config};
-use std::alloc::Global;
+use route_json::{Config, ConfigFault, read_config};
+use std::alloc::{AllocError, Global};
 use std::test::Fail;
 
 // Routes over pool A of one server, 127.0.0.1:5001, and B of one, 127.0.0.1:5002, and their verdicts.
@@ -23,37 +24,45 @@ delete_never_acknowledged: {"type":"OperationSelectorRoute","default_policy":"Po
 
 // Whole configurations and their verdicts.
 fn whole_verdicts() -> &'static str {
-    r#"pools_of_two_and_three: {"pools":{"D":{"servers":["h:1","h:2","h:3"]},"R":{"servers":["h:1","h:2"]}},"route":{"type":"OperationSelectorRoute","default_policy":"PoolRoute|R","operation_policies":{"delete":"PoolRoute|D"}}} => refused: server=h:1 read=get delete=delete residue=2/6
+    r#"# 262,144 places are the most: 1,023 and 1,024 have a multiple above it.
+more_than_the_most: {"pools":{"A":{"servers":[«1022 "a:#",»"a:1023"]},"B":{"servers":[«1023 "b:#",»"b:1024"]}},"route":{"type":"AllSyncRoute","children":["PoolRoute|A","PoolRoute|B"]}} => refused: too many places
+many_places: {"pools":{"A":{"servers":[«511 "a:#",»"a:512"]},"B":{"servers":[«511 "b:#",»"b:512"]}},"route":{"type":"AllSyncRoute","children":["PoolRoute|A","PoolRoute|B"]}} => accepted places=512
+pools_of_two_and_three: {"pools":{"D":{"servers":["h:1","h:2","h:3"]},"R":{"servers":["h:1","h:2"]}},"route":{"type":"OperationSelectorRoute","default_policy":"PoolRoute|R","operation_policies":{"delete":"PoolRoute|D"}}} => refused: server=h:1 read=get delete=delete residue=2/6
 certificate_by_runs: {"pools":{"D":{"servers":["h:1","h:2","h:3"]},"R":{"servers":["h:1","h:2"]}},"route":{"type":"PrefixSelectorRoute","policies":{"d:":"PoolRoute|D"},"wildcard":"PoolRoute|R"}} => accepted places=12
 one_server_in_two_slots: {"pools":{"D":{"servers":["h:1"]},"R":{"servers":["h:1:2"]}},"route":{"type":"OperationSelectorRoute","default_policy":"PoolRoute|R","operation_policies":{"delete":"PoolRoute|D"}}} => accepted places=2
 weighted_slots: {"pools":{"W":{"servers":["h:1:2","h:2"]}},"route":"PoolRoute|W"} => accepted places=3"#
 }
 
-// What stands before and after these bytes.
-fn parted<'a>(line: &'a str, by: &str) -> (&'a str, &'a str) {
-    line.split_once(by).unwrap_or((line, ""))
+// Certificates for two of these configurations, and the verdicts. A class has its modulus and its runs, each of one residue.
+fn certificates() -> &'static str {
+    r#"all_sync_delete_over_failover by 1: 0 1 => accepted places=1
+all_sync_delete_over_failover by nothing => refused: bad certificate row 0
+all_sync_delete_over_failover by 1: 0 => refused: bad certificate row 0
+all_sync_delete_over_failover by 1: 1 0 => refused: bad certificate row 0
+all_sync_delete_over_failover by 1: 0 1 2 => refused: bad certificate row 0
+all_sync_delete_over_failover by 1: 0 1; 1: 0 => refused: bad certificate row 1
+certificate_by_runs by 2: 0 | 1; 3: 0 | 1 | 2 => accepted places=12
+certificate_by_runs by 2: 0 | 1 => refused: bad certificate row 6
+certificate_by_runs by 6: 0 | 1; 3: 0 | 1 | 2 => refused: bad certificate row 0
+certificate_by_runs by 2: 0 | none; 3: 0 | 1 | 2 => refused: bad certificate row 1"#
 }
 
-fn joined(alloc: Global, front: &str, text: &str, back: &str) -> Result<String, Fail> {
-    let mut whole = String::from_str(alloc, front)?;
-    whole.push_str(text)?;
-    whole.push_str(back)?;
-    Ok(whole)
+// A first route, and what comes of reloads with others; at last the verdict on a copy of all.
+fn reloads() -> &'static str {
+    r#"# Against every generation: the last of three trees goes with the second alone, not with the first.
+"PoolRoute|A"; {"type":"OperationSelectorRoute","default_policy":"PoolRoute|A","operation_policies":{"delete":{"type":"AllSyncRoute","children":["PoolRoute|A","PoolRoute|B"]}}}; "PoolRoute|B" => accepted generation=2; generation=1 refused: server=127.0.0.1:5002 read=get delete=delete residue=0/1; accepted places=1
+# Sixteen generations.
+"PoolRoute|A"«16 ; "PoolRoute|A"» => accepted generation=2; accepted generation=3; accepted generation=4; accepted generation=5; accepted generation=6; accepted generation=7; accepted generation=8; accepted generation=9; accepted generation=10; accepted generation=11; accepted generation=12; accepted generation=13; accepted generation=14; accepted generation=15; accepted generation=16; too many generations; accepted places=1"#
 }
 
-fn config_of(alloc: Global, text: &str) -> Result<Config, Fail> {
-    match read_config(alloc, text) {
-        Ok(config) => Ok(config),
-        Err(_) => Err("the text is no configuration")?,
-    }
+// The pools of routes.
+fn pools() -> &'static str {
+    r#"{"pools":{"A":{"servers":["127.0.0.1:5001"]},"B":{"servers":["127.0.0.1:5002"]}},"route":"#
 }
 
-// The configuration of this route over the pools A and B.
-fn with_route(alloc: Global, route: &str) -> Result<Config, Fail> {
-    let front =
-        r#"{"pools":{"A":{"servers":["127.0.0.1:5001"]},"B":{"servers":["127.0.0.1:5002"]}},"route":"#;
-    let text = joined(alloc, front, route, "}")?;
-    config_of(alloc, text.as_str())
+// The text of a configuration of this route over the pools A and B.
+fn with_route(alloc: Global, route: &str) -> Result<String, AllocError> {
+    between(alloc, pools(), route, "}")
 }
 
 fn read_name(op: Op) -> &'static str {
@@ -73,264 +82,242 @@ fn delete_name(deleting: Deleting) -> &'static str {
     }
 }
 
-fn gap_line(alloc: Global, config: &Config, gap: &Gap) -> Result<String, Fail> {
+fn gap_line(alloc: Global, config: &Config, gap: &Gap) -> Result<String, AllocError> {
     let server = config.servers().get(gap.server).unwrap_or("");
     let read = read_name(gap.op);
     let delete = delete_name(gap.deleting);
     let residue = gap.place.residue;
     let modulus = gap.place.modulus;
-    Ok(format!(in alloc;
-        "refused: server={server} read={read} delete={delete} residue={residue}/{modulus}"
-    )?)
+    let mut out = format!(in alloc; "refused: server={server} read={read}")?;
+    write!(out, " delete={delete} residue=")?;
+    write!(out, "{residue}/{modulus}")?;
+    Ok(out)
 }
 
-fn reason_line(alloc: Global, refused: &Refused) -> Result<String, Fail> {
+fn reason_line(alloc: Global, refused: &Refused) -> Result<String, AllocError> {
     match &refused.reason {
-        Reason::TooManyPlaces => Ok("refused: too many places".to_string(alloc)?),
-        Reason::BadCertificate(row) => Ok(format!(in alloc; "refused: bad certificate row {row}")?),
+        Reason::TooManyPlaces => "refused: too many places".to_string(alloc),
+        Reason::BadCertificate(row) => format!(in alloc; "refused: bad certificate row {row}"),
         Reason::Uncovered(gap) => gap_line(alloc, &refused.config, gap),
-        Reason::NoMemory => Ok("refused: no memory".to_string(alloc)?),
+        Reason::NoMemory => "refused: no memory".to_string(alloc),
     }
 }
 
-fn accepted_line(alloc: Global, accepted: &Accepted) -> Result<String, Fail> {
+fn accepted_line(alloc: Global, accepted: &Accepted) -> Result<String, AllocError> {
     match places(alloc, accepted.config().tree()) {
-        Ok(table) => Ok(format!(in alloc; "accepted places={}", table.rows())?),
-        Err(_) => Ok("no table".to_string(alloc)?),
+        Ok(table) => format!(in alloc; "accepted places={}", table.rows()),
+        Err(_) => "no table".to_string(alloc),
     }
 }
 
-// The verdict on the configuration.
-fn judged(alloc: Global, config: Config) -> Result<String, Fail> {
-    match judge(alloc, config) {
+fn verdict(alloc: Global, judged: Result<Accepted, Refused>) -> Result<String, AllocError> {
+    match judged {
         Ok(accepted) => accepted_line(alloc, &accepted),
         Err(refused) => reason_line(alloc, &refused),
     }
 }
 
-// The verdict on the configuration with this certificate.
-fn checked(alloc: Global, config: Config, certificate: &Certificate) -> Result<String, Fail> {
-    match check(alloc, config, certificate) {
-        Ok(accepted) => accepted_line(alloc, &accepted),
-        Err(refused) => reason_line(alloc, &refused),
+// The verdict on the configuration of this text.
+fn judged(alloc: Global, text: &str) -> Result<String, AllocError> {
+    match read_config(alloc, text) {
+        Ok(config) => verdict(alloc, judge(alloc, config)),
+        Err(fault) => fault.to_string(alloc),
     }
 }
 
-#[test]
-fn verdicts_over_two_servers(rt: HostRuntime) -> Result<(), Fail> {
-    let alloc = rt.alloc();
-    for line in verdicts().lines() {
-        let (name, rest) = parted(line, ": ");
-        let (route, wanted) = parted(rest, " => ");
-        let told = judged(alloc, with_route(alloc, route)?)?;
-        assert!(rt; told.as_str() == wanted, "{name}: {told}");
+// After a name.
+struct OfConfigurations;
+
+impl Teller for OfConfigurations {
+    fn told(alloc: Global, example: &str) -> Result<String, AllocError> {
+        judged(alloc, halves(example, ": ").1)
     }
-    Ok(())
 }
 
-#[test]
-fn verdicts_over_other_pools(rt: HostRuntime) -> Result<(), Fail> {
-    let alloc = rt.alloc();
-    for line in whole_verdicts().lines() {
-        let (name, rest) = parted(line, ": ");
-        let (text, wanted) = parted(rest, " => ");
-        let told = judged(alloc, config_of(alloc, text)?)?;
-        assert!(rt; told.as_str() == wanted, "{name}: {told}");
+struct OfRoutes;
+
+impl Teller for OfRoutes {
+    fn told(alloc: Global, example: &str) -> Result<String, AllocError> {
+        let text = with_route(alloc, halves(example, ": ").1)?;
+        judged(alloc, text.as_str())
     }
-    Ok(())
 }
 
-// So many addresses, as JSON texts.
-fn addresses(alloc: Global, host: &str, count: u32) -> Result<String, Fail> {
-    let mut all = String::new(alloc);
-    for port in 0..count {
-        let comma = if port == 0 { "" } else { "," };
-        let next = format!(in alloc; "{comma}\"{host}:{}\"", port.wrapping_add(1))?;
-        all.push_str(next.as_str())?;
-    }
-    Ok(all)
-}
-
-// An all-sync of two pools of so many servers.
-fn all_sync_of(alloc: Global, first: u32, second: u32) -> Result<Config, Fail> {
-    let a = addresses(alloc, "a", first)?;
-    let b = addresses(alloc, "b", second)?;
-    let front = joined(alloc, r#"{"pools":{"A":{"servers":["#, a.as_str(), "]}")?;
-    let pools = joined(alloc, front.as_str(), r#","B":{"servers":["#, b.as_str())?;
-    let back = r#"]}},"route":{"type":"AllSyncRoute","children":["PoolRoute|A","PoolRoute|B"]}}"#;
-    let text = joined(alloc, pools.as_str(), back, "")?;
-    config_of(alloc, text.as_str())
-}
-
-// 262,144 places are the most: 1,023 and 1,024 have a multiple above it.
-#[test]
-fn too_many_places(rt: HostRuntime) -> Result<(), Fail> {
-    let alloc = rt.alloc();
-    for (first, second, wanted) in [
-        (1023, 1024, "refused: too many places"),
-        (512, 512, "accepted places=512"),
-    ] {
-        let told = judged(alloc, all_sync_of(alloc, first, second)?)?;
-        assert!(rt; told.as_str() == wanted, "{first} and {second}: {told}");
-    }
-    Ok(())
-}
-
-// A class whose runs have one residue each, and these servers.
-fn class_of(alloc: Global, modulus: u32, rows: &[&[u32]]) -> Result<ClassRows, Fail> {
-    let mut runs = Vec::new(alloc);
-    let mut first: u32 = 0;
-    for row in rows {
-        runs.push(run_of(alloc, first, row)?)?;
-        first = first.wrapping_add(1);
-    }
-    Ok(ClassRows { modulus, runs })
-}
-
-fn run_of(alloc: Global, first: u32, row: &[u32]) -> Result<Run, Fail> {
-    let mut servers = Vec::new(alloc);
-    for number in row {
-        servers.push(ServerId::new(*number))?;
-    }
-    Ok(Run { first, servers })
-}
-
-// Classes of modulus 1.
-fn single_rows(alloc: Global, rows: &[&[u32]]) -> Result<Certificate, Fail> {
-    let mut classes = Vec::new(alloc);
-    for row in rows {
-        classes.push(class_of(alloc, 1, &[row])?)?;
-    }
-    Ok(Certificate { classes })
-}
-
-// The route that the test of this name is about.
-fn route_named(wanted: &str) -> &'static str {
-    for line in verdicts().lines() {
-        let (name, rest) = parted(line, ": ");
+// What the table has a verdict on under this name.
+fn named(table: &'static str, wanted: &str) -> &'static str {
+    for line in table.lines() {
+        let (name, rest) = halves(line, ": ");
         if name == wanted {
-            return parted(rest, " => ").0;
+            return halves(rest, " => ").0;
         }
     }
     ""
 }
 
-// The verdict on a delete to both servers over reads that fail over, with these rows.
-fn by_rows(alloc: Global, rows: &[&[u32]]) -> Result<String, Fail> {
-    let config = with_route(alloc, route_named("all_sync_delete_over_failover"))?;
-    let certificate = single_rows(alloc, rows)?;
-    checked(alloc, config, &certificate)
-}
-
-#[test]
-fn certificates_refused(rt: HostRuntime) -> Result<(), Fail> {
-    let alloc = rt.alloc();
-    let told = by_rows(alloc, &[&[0, 1]])?;
-    assert!(rt; told.as_str() == "accepted places=1", "{told}");
-    let bad: [&[&[u32]]; 4] = [&[], &[&[0]], &[&[1, 0]], &[&[0, 1, 2]]];
-    for rows in bad {
-        let told = by_rows(alloc, rows)?;
-        assert!(rt; told.as_str() == "refused: bad certificate row 0", "{told}");
+fn config_named(alloc: Global, name: &str) -> Result<Config, ConfigFault> {
+    let whole = named(whole_verdicts(), name);
+    if !whole.is_empty() {
+        return read_config(alloc, whole);
     }
-    let told = by_rows(alloc, &[&[0, 1], &[0]])?;
-    assert!(rt; told.as_str() == "refused: bad certificate row 1", "{told}");
-    Ok(())
+    let text = with_route(alloc, named(verdicts(), name))?;
+    read_config(alloc, text.as_str())
 }
 
-// The verdict on pools of three and two by prefix, with these classes.
-fn by_runs(alloc: Global, classes: &[(u32, &[&[u32]])]) -> Result<String, Fail> {
-    let mut all = Vec::new(alloc);
-    for (modulus, rows) in classes {
-        all.push(class_of(alloc, *modulus, rows)?)?;
+// Words that are no numbers are none of its servers.
+fn run_of(alloc: Global, first: u32, text: &str) -> Result<Run, AllocError> {
+    let mut servers = Vec::new(alloc);
+    for word in text.split(' ') {
+        if let Ok(number) = word.parse::<u32>() {
+            servers.push(ServerId::new(number))?;
+        }
     }
-    let text =
-        r#"{"pools":{"D":{"servers":["h:1","h:2","h:3"]},"R":{"servers":["h:1","h:2"]}},"route":{"type":"PrefixSelectorRoute","policies":{"d:":"PoolRoute|D"},"wildcard":"PoolRoute|R"}}"#;
-    checked(
-        alloc,
-        config_of(alloc, text)?,
-        &Certificate { classes: all },
-    )
+    Ok(Run { first, servers })
 }
 
-#[test]
-fn certificate_by_runs(rt: HostRuntime) -> Result<(), Fail> {
-    let alloc = rt.alloc();
-    let two: &[&[u32]] = &[&[0], &[1]];
-    let three: &[&[u32]] = &[&[0], &[1], &[2]];
-    let empty: &[&[u32]] = &[&[0], &[]];
-    let cases: [(&[(u32, &[&[u32]])], &str); 4] = [
-        (&[(2, two), (3, three)], "accepted places=12"),
-        (&[(2, two)], "refused: bad certificate row 6"),
-        (&[(6, two), (3, three)], "refused: bad certificate row 0"),
-        (&[(2, empty), (3, three)], "refused: bad certificate row 1"),
-    ];
-    for (classes, wanted) in cases {
-        let told = by_runs(alloc, classes)?;
-        assert!(rt; told.as_str() == wanted, "{wanted}: {told}");
+fn class_of(alloc: Global, modulus: u32, text: &str) -> Result<ClassRows, AllocError> {
+    let mut runs = Vec::new(alloc);
+    let mut first: u32 = 0;
+    for run in text.split(" | ") {
+        runs.push(run_of(alloc, first, run)?)?;
+        first = first.wrapping_add(1);
     }
-    Ok(())
+    Ok(ClassRows { modulus, runs })
 }
 
-fn fault_line(alloc: Global, config: &Config, fault: &ReloadFault) -> Result<String, Fail> {
+fn certificate_of(alloc: Global, text: &str) -> Result<Certificate, AllocError> {
+    let mut classes = Vec::new(alloc);
+    for class in text.split("; ") {
+        if let Some((modulus, runs)) = class.split_once(": ") {
+            classes.push(class_of(alloc, number_of(modulus), runs)?)?;
+        }
+    }
+    Ok(Certificate { classes })
+}
+
+// The verdict on the configuration of this name with this certificate.
+struct OfCertificates;
+
+impl Teller for OfCertificates {
+    fn told(alloc: Global, example: &str) -> Result<String, AllocError> {
+        let (name, text) = halves(example, " by ");
+        let certificate = certificate_of(alloc, text)?;
+        match config_named(alloc, name) {
+            Ok(config) => verdict(alloc, check(alloc, config, &certificate)),
+            Err(fault) => fault.to_string(alloc),
+        }
+    }
+}
+
+fn numbered(alloc: Global, generation: u32, line: &str) -> Result<String, AllocError> {
+    let mut out = format!(in alloc; "generation={generation} ")?;
+    out.push_str(line)?;
+    Ok(out)
+}
+
+fn fault_line(alloc: Global, config: &Config, fault: &ReloadFault) -> Result<String, AllocError> {
     match fault {
-        ReloadFault::TooManyGenerations => Ok("too many generations".to_string(alloc)?),
-        ReloadFault::TooManyPlaces(n) => Ok(format!(in alloc; "generation={n} too many places")?),
+        ReloadFault::TooManyGenerations => "too many generations".to_string(alloc),
+        ReloadFault::TooManyPlaces(n) => format!(in alloc; "generation={n} too many places"),
         ReloadFault::Uncovered(n, gap) => {
             let line = gap_line(alloc, config, gap)?;
-            Ok(format!(in alloc; "generation={n} {line}")?)
+            numbered(alloc, *n, line.as_str())
         }
-        ReloadFault::NoMemory => Ok("no memory".to_string(alloc)?),
+        ReloadFault::NoMemory => "no memory".to_string(alloc),
     }
 }
 
-// What comes of a reload with this route.
-fn reloaded(alloc: Global, accepted: &mut Accepted, route: &str) -> Result<String, Fail> {
-    let config = with_route(alloc, route)?;
+// What comes of a reload with this configuration.
+fn reloaded(alloc: Global, accepted: &mut Accepted, config: Config) -> Result<String, AllocError> {
     if !accepted.keeps_numbers(&config) {
-        return Err("the servers have other numbers")?;
+        return "the servers have other numbers".to_string(alloc);
     }
     match accepted.reload(alloc, config) {
-        Ok(generation) => Ok(format!(in alloc; "accepted generation={generation}")?),
+        Ok(generation) => format!(in alloc; "accepted generation={generation}"),
         Err(fault) => fault_line(alloc, accepted.config(), &fault),
     }
 }
 
-// The first generation, a pool of one server.
-fn first_generation(alloc: Global) -> Result<Accepted, Fail> {
-    match judge(alloc, with_route(alloc, r#""PoolRoute|A""#)?) {
-        Ok(accepted) => Ok(accepted),
-        Err(_) => Err("a pool of one server is refused")?,
+fn push_reload(
+    alloc: Global,
+    accepted: &mut Accepted,
+    route: &str,
+    out: &mut String,
+) -> Result<(), AllocError> {
+    let text = with_route(alloc, route)?;
+    let line = match read_config(alloc, text.as_str()) {
+        Ok(config) => reloaded(alloc, accepted, config)?,
+        Err(fault) => fault.to_string(alloc)?,
+    };
+    out.push_str(line.as_str())?;
+    out.push_str("; ")
+}
+
+fn push_copy(alloc: Global, accepted: &Accepted, out: &mut String) -> Result<(), AllocError> {
+    let copy = accepted.copy(alloc)?;
+    let line = accepted_line(alloc, &copy)?;
+    out.push_str(line.as_str())
+}
+
+// All reloads after the first generation.
+fn all_reloaded(
+    alloc: Global,
+    accepted: &mut Accepted,
+    routes: &str,
+) -> Result<String, AllocError> {
+    let mut out = String::new(alloc);
+    for route in routes.split("; ") {
+        push_reload(alloc, accepted, route, &mut out)?;
+    }
+    push_copy(alloc, accepted, &mut out)?;
+    Ok(out)
+}
+
+fn reloads_after(alloc: Global, first: Config, routes: &str) -> Result<String, AllocError> {
+    match judge(alloc, first) {
+        Ok(mut accepted) => all_reloaded(alloc, &mut accepted, routes),
+        Err(refused) => reason_line(alloc, &refused),
     }
 }
 
-// The last of three trees goes with the second alone, not with the first.
+struct OfReloads;
+
+impl Teller for OfReloads {
+    fn told(alloc: Global, example: &str) -> Result<String, AllocError> {
+        let (first, routes) = halves(example, "; ");
+        let text = with_route(alloc, first)?;
+        match read_config(alloc, text.as_str()) {
+            Ok(config) => reloads_after(alloc, config, routes),
+            Err(fault) => fault.to_string(alloc),
+        }
+    }
+}
+
 #[test]
-fn reload_against_every_generation(rt: HostRuntime) -> Result<(), Fail> {
-    let alloc = rt.alloc();
-    let mut accepted = first_generation(alloc)?;
-    let second =
-        r#"{"type":"OperationSelectorRoute","default_policy":"PoolRoute|A","operation_policies":{"delete":{"type":"AllSyncRoute","children":["PoolRoute|A","PoolRoute|B"]}}}"#;
-    let told = reloaded(alloc, &mut accepted, second)?;
-    assert!(rt; told.as_str() == "accepted generation=2", "{told}");
-    let told = reloaded(alloc, &mut accepted, r#""PoolRoute|B""#)?;
-    let wanted = "generation=1 refused: server=127.0.0.1:5002 read=get delete=delete residue=0/1";
-    assert!(rt; told.as_str() == wanted, "{told}");
-    let copy = accepted.copy(alloc)?;
-    let told = accepted_line(alloc, &copy)?;
-    assert!(rt; told.as_str() == "accepted places=1", "{told}");
+fn verdicts_over_two_servers(rt: HostRuntime) -> Result<(), Fail> {
+    assert_eq!(rt; wrong::<OfRoutes>(rt.alloc(), verdicts())?.as_str(), "");
     Ok(())
 }
 
 #[test]
-fn sixteen_generations(rt: HostRuntime) -> Result<(), Fail> {
-    let alloc = rt.alloc();
-    let mut accepted = first_generation(alloc)?;
-    for generation in 2..17 {
-        let told = reloaded(alloc, &mut accepted, r#""PoolRoute|A""#)?;
-        let wanted = format!(in alloc; "accepted generation={generation}")?;
-        assert!(rt; told == wanted, "{told}");
-    }
-    let told = reloaded(alloc, &mut accepted, r#""PoolRoute|A""#)?;
-    assert!(rt; told.as_str() == "too many generations", "{told}");
+fn verdicts_over_other_pools(rt: HostRuntime) -> Result<(), Fail> {
+    assert_eq!(rt;
+        wrong::<OfConfigurations>(rt.alloc(), whole_verdicts())?.as_str(),
+        ""
+    );
+    Ok(())
+}
+
+#[test]
+fn verdicts_by_certificates(rt: HostRuntime) -> Result<(), Fail> {
+    assert_eq!(rt;
+        wrong::<OfCertificates>(rt.alloc(), certificates())?.as_str(),
+        ""
+    );
+    Ok(())
+}
+
+#[test]
+fn verdicts_on_reloads(rt: HostRuntime) -> Result<(), Fail> {
+    assert_eq!(rt; wrong::<OfReloads>(rt.alloc(), reloads())?.as_str(), "");
     Ok(())
 }

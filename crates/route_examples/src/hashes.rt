@@ -1,44 +1,57 @@
-//! Tests: hashes and hash parts that are known from outside.
+//! Hashes, hash parts and slots that are known from outside.
 
+use crate::tables::{Teller, halves, wrong};
 use key_hash::{fnv1a_32, hash_part, slot};
 use mc_types::Key;
+use std::alloc::{AllocError, Global};
+use std::test::Fail;
 
-// Values of the published test vectors, of a pool of servers that other proxies know (`apple`), and of one with a tag.
-#[test]
-fn known_hashes(rt: HostRuntime) {
-    let known: [(&[u8], u32); 7] = [
-        (b"", 0x811c9dc5),
-        (b"a", 0xe40c292c),
-        (b"b", 0xe70c2de5),
-        (b"c", 0xe60c2c52),
-        (b"foobar", 0xbf9cf968),
-        (b"k6", 0x993d8254),
-        (b"apple", 280_767_167),
-    ];
-    for (bytes, hash) in known.iter() {
-        assert_eq!(rt; fnv1a_32(bytes), *hash);
+fn table() -> &'static str {
+    r#"# Values of the published test vectors, of a pool of servers that other proxies know (`apple`), and of one with a tag.
+hash of "" => 811c9dc5
+hash of "a" => e40c292c
+hash of "b" => e70c2de5
+hash of "c" => e60c2c52
+hash of "foobar" => bf9cf968
+hash of "k6" => 993d8254
+hash in decimal of "apple" => 280767167
+# Nothing between the braces: the whole key.
+slot among 2 of "x{}y" => 0
+# No closing brace: the whole key.
+slot among 2 of "x{a" => 1
+# As `b`.
+slot among 2 of "{b}{a}" => 1
+# As `a`.
+slot among 2 of "x{a}y" => 0
+hash part of "user:{42}:name" => 42"#
+}
+
+struct OfHashes;
+
+impl Teller for OfHashes {
+    fn told(alloc: Global, example: &str) -> Result<String, AllocError> {
+        let (question, quoted) = halves(example, " of ");
+        let text = quoted.trim_matches('"');
+        match question {
+            "hash" => format!(in alloc; "{:x}", fnv1a_32(text.as_bytes())),
+            "hash in decimal" => fnv1a_32(text.as_bytes()).to_string(alloc),
+            _ => told_of_key(alloc, question, text.as_bytes()),
+        }
     }
 }
 
-fn is_slot(text: &[u8], n: u32, wanted: u32) -> bool {
-    match Key::read(text) {
-        Ok(key) => n > 0 && slot(&key, n) == wanted,
-        Err(_) => false,
+fn told_of_key(alloc: Global, question: &str, text: &[u8]) -> Result<String, AllocError> {
+    match (question, Key::read(text)) {
+        ("slot among 2", Ok(key)) => slot(&key, 2).to_string(alloc),
+        ("hash part", Ok(key)) => str::from_utf8(hash_part(&key))
+            .unwrap_or("?")
+            .to_string(alloc),
+        _ => "no question or no key".to_string(alloc),
     }
 }
 
 #[test]
-fn hash_tags(rt: HostRuntime) {
-    assert!(rt; is_slot(b"x{}y", 2, 0), "nothing between: the whole key");
-    assert!(rt; is_slot(b"x{a", 2, 1), "no closing brace: the whole key");
-    assert!(rt; is_slot(b"{b}{a}", 2, 1), "as b");
-    assert!(rt; is_slot(b"x{a}y", 2, 0), "as a");
-}
-
-#[test]
-fn hash_part_of_a_tagged_key(rt: HostRuntime) {
-    match Key::read(b"user:{42}:name") {
-        Ok(key) => assert_eq!(rt; hash_part(&key), b"42".as_slice()),
-        Err(_) => assert!(rt; false, "it is a key"),
-    }
+fn hashes(rt: HostRuntime) -> Result<(), Fail> {
+    assert_eq!(rt; wrong::<OfHashes>(rt.alloc(), table())?.as_str(), "");
+    Ok(())
 }

@@ -2,35 +2,117 @@
 //! from the definition of a word; a call is told as its server and the first letter of what it is asked, a copy's as `c` and
 //! the number of the call whose data it carries.
 
-ghost use Rattle.std.specs.Prelude.{◌≡◌, [], ◌∷◌, IfOk};
+ghost use Rattle.std.specs.Prelude.{IfOk};
 ghost use Rattle.mc_types.specs.Fits.{Fits, IsAnswer, FitsFetch, FitsStore, FitsCas, FitsDelete};
 ghost use Rattle.mc_runs.specs.Single.{FitsOutcome};
-ghost use Rattle.route_tree.specs.Route as route;
 
+use crate::tables::{Teller, halves, push_number, push_word, wrong};
+use crate::trees::tree_of;
 use mc_types::{Answer, Ask, Body, Dialect, Key, Op, Origin, Outcome, ServerId, Tokens};
 use route_job::{Job, Step};
+use route_json::ConfigFault;
+use route_names::op_of;
 use route_tree::{Tree, TreeForm};
 use std::alloc::{AllocError, Global};
 use std::test::Fail;
 
-// An ask of the key `a`; its key's hash is e40c292c, which is 0 modulo 2 and 1 modulo 3.
-fn ask_of(alloc: Global, op: Op, with_cas: bool) -> Result<Ask, Fail> {
-    Ok(Ask {
-        key: Key::read(b"a").ok().ok_or("a is a key")?,
-        op,
-        dialect: Dialect::Classic,
-        with_cas,
-        flags: 0,
-        exptime: None,
-        body: Body::empty(),
-        cas: None,
-        delta: 0,
-        tokens: Tokens::new(alloc),
-    })
+// A route, a command, the outcomes of its calls; and then the calls, with the reply or what is called next.
+//
+// Of a get the outcome is a miss (`m`) or a hit of that byte, of a store stored (`s`) or not, of a cas another value (`x`)
+// or no item, of a delete deleted (`d`) or no item; `e` is an error line, and `f` a call that failed.
+fn table() -> &'static str {
+    r#"# A server is called once.
+server: get => 7g
+server: get h => 7g = hit of 0
+server: get m => 7g = miss
+server: set f => 7s = failed
+# Null and error call nothing.
+null: get => = miss
+null: add => = not stored
+null: delete => = not found
+error: get => = failed
+# All-sync gives the worst reply.
+all_sync: delete d => 1d 2d
+all_sync: delete dd => 1d 2d = deleted
+all_sync: delete df => 1d 2d = failed
+all_sync: delete fd => 1d 2d = failed
+all_sync: delete nd => 1d 2d = not found
+all_sync: get hm => 1g 2g = miss
+all_sync: get hi => 1g 2g = hit of 0
+# Exists outranks not found.
+all_sync: cas nx => 1c 2c = exists
+all_sync: cas xn => 1c 2c = exists
+# Failover passes over errors.
+failover: get m => 1g = miss
+failover: get f => 1g 2g
+failover: get e => 1g = error
+failover: get fh => 1g 2g = hit of 1
+failover: get ff => 1g 2g = failed
+failover: set fs => 1s 2s = stored
+# Miss-failover looks for a hit.
+miss_failover: get h => 1g = hit of 0
+miss_failover: get m => 1g 2g
+miss_failover: get mh => 1g 2g = hit of 1
+miss_failover: get fm => 1g 2g = miss
+miss_failover: set f => 1s = failed
+# Warm-up fills the cold side.
+warm_up: get h => 1g = hit of 0
+warm_up: get mm => 1g 2g = miss
+warm_up: get ff => 1g 2g = failed
+warm_up: get mh => 1g 2g 1ac1
+warm_up: get mhs => 1g 2g 1ac1 = hit of 1
+warm_up: get mhf => 1g 2g 1ac1 = hit of 1
+warm_up: set s => 1s = stored
+warm_up: delete d => 1d = deleted
+# A gets is answered by the cold side.
+warm_up: gets mhsm => 1g 2g 1ac1 1g = miss
+# An operation has its own routes.
+by_operation: delete dn => 1d 2d = not found
+by_operation: get h => 5g = hit of 0
+# Replicas, and a warm-up with deletes to both servers.
+replicas: get fh => 1g 2g = hit of 1
+replicas: delete df => 1d 2d = failed
+warm_up_with_deletes: get mhs => 1g 2g 1ac1 = hit of 1
+warm_up_with_deletes: delete dd => 1d 2d = deleted"#
+}
+
+// The route of this name.
+fn route_of(name: &str) -> &'static str {
+    match name {
+        "null" => r#""NullRoute""#,
+        "error" => r#""ErrorRoute""#,
+        "all_sync" => r#""AllSyncRoute|Pool|s1-s2""#,
+        "failover" => r#""FailoverRoute|Pool|s1-s2""#,
+        "miss_failover" => r#""MissFailoverRoute|Pool|s1-s2""#,
+        "warm_up" =>
+            r#"{"type":"WarmUpRoute","cold":"PoolRoute|s1","warm":"PoolRoute|s2","exptime":60}"#,
+        _ => route_with_deletes(name),
+    }
+}
+
+// As before: deletes go to both servers, all else by the default.
+fn route_with_deletes(name: &str) -> &'static str {
+    match name {
+        "by_operation" =>
+            r#"{"type":"OperationSelectorRoute","operation_policies":{"delete":"AllSyncRoute|Pool|s1-s2"},"default_policy":"PoolRoute|s5-s6"}"#,
+        "replicas" =>
+            r#"{"type":"OperationSelectorRoute","operation_policies":{"delete":"AllSyncRoute|Pool|s1-s2"},"default_policy":"FailoverRoute|Pool|s1-s2"}"#,
+        "warm_up_with_deletes" =>
+            r#"{"type":"OperationSelectorRoute","operation_policies":{"delete":"AllSyncRoute|Pool|s1-s2"},"default_policy":{"type":"WarmUpRoute","cold":"PoolRoute|s1","warm":"PoolRoute|s2","exptime":60}}"#,
+        _ => "",
+    }
+}
+
+// The tree of this name: server 7 itself, or that of its route.
+fn tree_named(alloc: Global, name: &str) -> Result<Tree, ConfigFault> {
+    if name == "server" {
+        return Ok(Tree::new(alloc, TreeForm::Server(ServerId::new(7)))?);
+    }
+    tree_of(alloc, route_of(name))
 }
 
 // What the letter means for a get: a miss (`m`), or a hit of that byte.
-fn fetched(alloc: Global, with_cas: bool, letter: u8) -> Result<Answer, Fail>
+fn fetched(alloc: Global, with_cas: bool, letter: u8) -> Result<Answer, AllocError>
     ensures fits { IfOk result (FitsFetch with_cas) }
     ensures ranges { IfOk result IsAnswer }
 {
@@ -80,15 +162,15 @@ fn deleted(letter: u8) -> Answer
     }
 }
 
-// The answer that the letter means for this classic ask; `e` is an error line.
-fn answer_of(alloc: Global, ask: &Ask, letter: u8) -> Result<Answer, Fail>
+// The answer that the letter means for this ask; `e` is an error line, as is every letter for other operations.
+fn answer_of(alloc: Global, ask: &Ask, letter: u8) -> Result<Answer, AllocError>
     ensures { IfOk result (Fits ask.now) }
 {
     if letter == b'e' {
         return Ok(Answer::Error);
     }
     match ask.dialect {
-        Dialect::Meta => Err(Fail::from("a meta ask")),
+        Dialect::Meta => Ok(Answer::Error),
         Dialect::Classic => match ask.op {
             Op::Get => {
                 let answer = fetched(alloc, ask.with_cas, letter)?;
@@ -98,13 +180,13 @@ fn answer_of(alloc: Global, ask: &Ask, letter: u8) -> Result<Answer, Fail>
             Op::Add => Ok(stored(letter)),
             Op::Cas => Ok(compared(letter)),
             Op::Delete => Ok(deleted(letter)),
-            _ => Err(Fail::from("another operation")),
+            _ => Ok(Answer::Error),
         },
     }
 }
 
 // The outcome that the letter means; `f` is a call that failed.
-fn outcome_of(alloc: Global, ask: &Ask, letter: u8) -> Result<Outcome, Fail>
+fn outcome_of(alloc: Global, ask: &Ask, letter: u8) -> Result<Outcome, AllocError>
     ensures { IfOk result (FitsOutcome ask.now) }
 {
     if letter == b'f' {
@@ -115,30 +197,29 @@ fn outcome_of(alloc: Global, ask: &Ask, letter: u8) -> Result<Outcome, Fail>
 }
 
 // The first letter of the operation.
-fn letter_of(op: Op) -> char {
+fn letter_of(op: Op) -> &'static str {
     match op {
-        Op::Get => 'g',
-        Op::Set => 's',
-        Op::Add => 'a',
-        Op::Cas => 'c',
-        Op::Delete => 'd',
-        _ => '?',
+        Op::Get => "g",
+        Op::Set => "s",
+        Op::Add => "a",
+        Op::Cas => "c",
+        Op::Delete => "d",
+        _ => "?",
     }
 }
 
 // The next call, told as its server, its operation and its origin.
-fn push_call(out: &mut String, server: ServerId, ask: &Ask, origin: Origin) -> Result<(), Fail> {
-    let letter = letter_of(ask.op);
-    write!(out, "{}{letter}", server.number())?;
-    if let Origin::CopyOf(call) = origin {
-        write!(out, "c{call}")?;
+fn push_call(out: &mut String, server: ServerId, op: Op, origin: Origin) -> Result<(), AllocError> {
+    push_number(out, server.number())?;
+    out.push_str(letter_of(op))?;
+    match origin {
+        Origin::CopyOf(call) => write!(out, "c{call}"),
+        Origin::Client => Ok(()),
     }
-    Ok(())
 }
 
-// The reply, and the call whose item it shows.
-fn push_end(out: &mut String, reply: &Answer, from: Option<u64>) -> Result<(), Fail> {
-    let name = match reply {
+fn reply_word(reply: &Answer) -> &'static str {
+    match reply {
         Answer::Hit { .. } => "hit",
         Answer::Miss => "miss",
         Answer::Stored => "stored",
@@ -149,220 +230,116 @@ fn push_end(out: &mut String, reply: &Answer, from: Option<u64>) -> Result<(), F
         Answer::Error => "error",
         Answer::ServerError(_) => "failed",
         _ => "other",
-    };
-    write!(out, "= {name}")?;
-    if let Some(call) = from {
-        write!(out, " of {call}")?;
     }
-    Ok(())
+}
+
+// The reply, and the call whose item it shows.
+fn push_end(out: &mut String, reply: &Answer, from: Option<u64>) -> Result<(), AllocError> {
+    push_word(out, "= ")?;
+    out.push_str(reply_word(reply))?;
+    match from {
+        Some(call) => write!(out, " of {call}"),
+        None => Ok(()),
+    }
 }
 
 // One call with the outcome that the letter means.
-fn step(alloc: Global, job: &mut Job, letter: u8, out: &mut String) -> Result<(), Fail> {
+fn step(alloc: Global, job: &mut Job, letter: u8, out: &mut String) -> Result<(), AllocError> {
     let outcome = match job.next() {
         Step::Call {
             server,
             ask,
             origin,
         } => {
-            push_call(out, server, ask, origin)?;
-            out.push(' ')?;
+            push_call(out, server, ask.op, origin)?;
             outcome_of(alloc, ask, letter)?
         }
-        Step::Done(_) => return Err(Fail::from("done too early")),
+        Step::Done(_) => return push_word(out, "done too early"),
     };
-    job.take(alloc, outcome)?;
-    Ok(())
+    job.take(alloc, outcome)
 }
 
-// The calls of the command with these outcomes, and then its reply, or what is called next.
-fn told(
-    alloc: Global,
-    tree: &Tree,
-    op: Op,
-    with_cas: bool,
-    letters: &[u8],
-) -> Result<String, Fail> {
-    let mut job = Job::new(alloc, tree, ask_of(alloc, op, with_cas)?)?;
-    let mut out = String::new(alloc);
-    for letter in letters {
-        step(alloc, &mut job, *letter, &mut out)?;
-    }
+// The reply, or what is called next.
+fn push_next(out: &mut String, job: &Job) -> Result<(), AllocError> {
     match job.next() {
         Step::Call {
             server,
             ask,
             origin,
-        } => push_call(&mut out, server, ask, origin)?,
-        Step::Done(done) => push_end(&mut out, &done.reply, done.from)?,
+        } => push_call(out, server, ask.op, origin),
+        Step::Done(done) => push_end(out, &done.reply, done.from),
     }
+}
+
+// The calls with these outcomes, and then the reply or the next call.
+fn told_of(alloc: Global, job: &mut Job, letters: &[u8]) -> Result<String, AllocError> {
+    let mut out = String::new(alloc);
+    for letter in letters {
+        step(alloc, job, *letter, &mut out)?;
+    }
+    push_next(&mut out, job)?;
     Ok(out)
 }
 
-fn leaf(alloc: Global, number: u32) -> Result<Tree, AllocError>
-    ensures { IfOk result (λ tree. tree ≡ route.Server number) }
-{
-    Tree::new(alloc, TreeForm::Server(ServerId::new(number)))
+// A classic ask.
+fn ask_of(alloc: Global, key: Key, op: Op, with_cas: bool) -> Ask {
+    Ask {
+        key,
+        op,
+        dialect: Dialect::Classic,
+        with_cas,
+        flags: 0,
+        exptime: None,
+        body: Body::empty(),
+        cas: None,
+        delta: 0,
+        tokens: Tokens::new(alloc),
+    }
 }
 
-fn two(alloc: Global) -> Result<Vec<Tree>, AllocError>
-    ensures { IfOk result (λ trees. trees.items ≡ route.Server 1 ∷ route.Server 2 ∷ []) }
-{
-    let trees = vec![in alloc; leaf(alloc, 1)?, leaf(alloc, 2)?]?;
-    Ok(trees)
+// A command of the key `a`; its hash is e40c292c, which is 0 modulo 2 and 1 modulo 3.
+fn told_by(
+    alloc: Global,
+    tree: &Tree,
+    op: Op,
+    with_cas: bool,
+    letters: &[u8],
+) -> Result<String, AllocError> {
+    match Key::read(b"a") {
+        Ok(key) => {
+            let mut job = Job::new(alloc, tree, ask_of(alloc, key, op, with_cas))?;
+            told_of(alloc, &mut job, letters)
+        }
+        Err(_) => "a is no key".to_string(alloc),
+    }
 }
 
-fn all_sync(alloc: Global) -> Result<Tree, AllocError>
-    ensures { IfOk result (λ tree. tree ≡ route.AllSync (route.More (route.Server 1) (route.More (route.Server 2) route.End))) }
-{
-    Tree::new(alloc, TreeForm::AllSync(two(alloc)?))
+fn told_on(alloc: Global, tree: &Tree, command: &str) -> Result<String, AllocError> {
+    let (word, letters) = halves(command, " ");
+    if word == "gets" {
+        return told_by(alloc, tree, Op::Get, true, letters.as_bytes());
+    }
+    match op_of(word) {
+        Some(op) => told_by(alloc, tree, op, false, letters.as_bytes()),
+        None => "no such operation".to_string(alloc),
+    }
 }
 
-fn failover(alloc: Global) -> Result<Tree, AllocError>
-    ensures { IfOk result (λ tree. tree ≡ route.Failover (route.More (route.Server 1) (route.More (route.Server 2) route.End))) }
-{
-    Tree::new(alloc, TreeForm::Failover(two(alloc)?))
-}
+struct OfJobs;
 
-fn miss_failover(alloc: Global) -> Result<Tree, AllocError> {
-    Tree::new(alloc, TreeForm::MissFailover(two(alloc)?))
-}
-
-fn warm_up(alloc: Global) -> Result<Tree, AllocError>
-    ensures { IfOk result (λ tree. tree ≡ route.WarmUp (route.Server 1) (route.Server 2) 60) }
-{
-    let cold = Box::new(alloc, leaf(alloc, 1)?)?;
-    let warm = Box::new(alloc, leaf(alloc, 2)?)?;
-    Tree::new(
-        alloc,
-        TreeForm::WarmUp {
-            cold,
-            warm,
-            exptime: 60,
-        },
-    )
-}
-
-// Deletes go to servers 1 and 2, all else to a pool of servers 5 and 6.
-fn by_operation(alloc: Global) -> Result<Tree, AllocError> {
-    let pool = vec![in alloc; ServerId::new(5), ServerId::new(6)]?;
-    let policies = vec![in alloc; (Op::Delete, all_sync(alloc)?)]?;
-    let default = Box::new(alloc, Tree::new(alloc, TreeForm::Pool(pool))?)?;
-    Tree::new(alloc, TreeForm::ByOperation { policies, default })
-}
-
-// Deletes go to both servers, all else fails over.
-fn replicas(alloc: Global) -> Result<Tree, AllocError> {
-    let policies = vec![in alloc; (Op::Delete, all_sync(alloc)?)]?;
-    let default = Box::new(alloc, failover(alloc)?)?;
-    Tree::new(alloc, TreeForm::ByOperation { policies, default })
-}
-
-// Deletes go to both servers, all else to the first, which is filled from the second.
-fn warm_up_with_deletes(alloc: Global) -> Result<Tree, AllocError> {
-    let policies = vec![in alloc; (Op::Delete, all_sync(alloc)?)]?;
-    let default = Box::new(alloc, warm_up(alloc)?)?;
-    Tree::new(alloc, TreeForm::ByOperation { policies, default })
-}
-
-macro_rules! tells {
-    ($rt:expr, $tree:expr, $op:expr, $letters:expr, $text:expr) => {
-        assert_eq!($rt; told($rt.alloc(), &$tree, $op, false, $letters)?.as_str(), $text)
-    };
+impl Teller for OfJobs {
+    fn told(alloc: Global, example: &str) -> Result<String, AllocError> {
+        let (name, command) = halves(example, ": ");
+        match tree_named(alloc, name) {
+            Ok(tree) => told_on(alloc, &tree, command),
+            Err(fault) => fault.to_string(alloc),
+        }
+    }
 }
 
 #[test]
-fn a_server_is_called_once(rt: HostRuntime) -> Result<(), Fail> {
-    let tree = leaf(rt.alloc(), 7)?;
-    tells!(rt, tree, Op::Get, b"", "7g");
-    tells!(rt, tree, Op::Get, b"h", "7g = hit of 0");
-    tells!(rt, tree, Op::Get, b"m", "7g = miss");
-    tells!(rt, tree, Op::Set, b"f", "7s = failed");
-    Ok(())
-}
-
-#[test]
-fn null_and_error_call_nothing(rt: HostRuntime) -> Result<(), Fail> {
-    let null = Tree::new(rt.alloc(), TreeForm::Null)?;
-    tells!(rt, null, Op::Get, b"", "= miss");
-    tells!(rt, null, Op::Add, b"", "= not stored");
-    tells!(rt, null, Op::Delete, b"", "= not found");
-    let error = Tree::new(rt.alloc(), TreeForm::Error)?;
-    tells!(rt, error, Op::Get, b"", "= failed");
-    Ok(())
-}
-
-#[test]
-fn all_sync_gives_the_worst_reply(rt: HostRuntime) -> Result<(), Fail> {
-    let tree = all_sync(rt.alloc())?;
-    tells!(rt, tree, Op::Delete, b"d", "1d 2d");
-    tells!(rt, tree, Op::Delete, b"dd", "1d 2d = deleted");
-    tells!(rt, tree, Op::Delete, b"df", "1d 2d = failed");
-    tells!(rt, tree, Op::Delete, b"fd", "1d 2d = failed");
-    tells!(rt, tree, Op::Delete, b"nd", "1d 2d = not found");
-    tells!(rt, tree, Op::Get, b"hm", "1g 2g = miss");
-    tells!(rt, tree, Op::Get, b"hi", "1g 2g = hit of 0");
-    Ok(())
-}
-
-#[test]
-fn exists_outranks_not_found(rt: HostRuntime) -> Result<(), Fail> {
-    let tree = all_sync(rt.alloc())?;
-    tells!(rt, tree, Op::Cas, b"nx", "1c 2c = exists");
-    tells!(rt, tree, Op::Cas, b"xn", "1c 2c = exists");
-    Ok(())
-}
-
-#[test]
-fn failover_passes_over_errors(rt: HostRuntime) -> Result<(), Fail> {
-    let tree = failover(rt.alloc())?;
-    tells!(rt, tree, Op::Get, b"m", "1g = miss");
-    tells!(rt, tree, Op::Get, b"f", "1g 2g");
-    tells!(rt, tree, Op::Get, b"e", "1g = error");
-    tells!(rt, tree, Op::Get, b"fh", "1g 2g = hit of 1");
-    tells!(rt, tree, Op::Get, b"ff", "1g 2g = failed");
-    tells!(rt, tree, Op::Set, b"fs", "1s 2s = stored");
-    Ok(())
-}
-
-#[test]
-fn miss_failover_looks_for_a_hit(rt: HostRuntime) -> Result<(), Fail> {
-    let tree = miss_failover(rt.alloc())?;
-    tells!(rt, tree, Op::Get, b"h", "1g = hit of 0");
-    tells!(rt, tree, Op::Get, b"m", "1g 2g");
-    tells!(rt, tree, Op::Get, b"mh", "1g 2g = hit of 1");
-    tells!(rt, tree, Op::Get, b"fm", "1g 2g = miss");
-    tells!(rt, tree, Op::Set, b"f", "1s = failed");
-    Ok(())
-}
-
-#[test]
-fn warm_up_fills_the_cold_side(rt: HostRuntime) -> Result<(), Fail> {
-    let tree = warm_up(rt.alloc())?;
-    tells!(rt, tree, Op::Get, b"h", "1g = hit of 0");
-    tells!(rt, tree, Op::Get, b"mm", "1g 2g = miss");
-    tells!(rt, tree, Op::Get, b"ff", "1g 2g = failed");
-    tells!(rt, tree, Op::Get, b"mh", "1g 2g 1ac1");
-    tells!(rt, tree, Op::Get, b"mhs", "1g 2g 1ac1 = hit of 1");
-    tells!(rt, tree, Op::Get, b"mhf", "1g 2g 1ac1 = hit of 1");
-    tells!(rt, tree, Op::Set, b"s", "1s = stored");
-    tells!(rt, tree, Op::Delete, b"d", "1d = deleted");
-    Ok(())
-}
-
-#[test]
-fn a_gets_is_answered_by_the_cold_side(rt: HostRuntime) -> Result<(), Fail> {
-    let tree = warm_up(rt.alloc())?;
-    let text = told(rt.alloc(), &tree, Op::Get, true, b"mhsm")?;
-    assert_eq!(rt; text.as_str(), "1g 2g 1ac1 1g = miss");
-    Ok(())
-}
-
-#[test]
-fn an_operation_has_its_own_routes(rt: HostRuntime) -> Result<(), Fail> {
-    let tree = by_operation(rt.alloc())?;
-    tells!(rt, tree, Op::Delete, b"dn", "1d 2d = not found");
-    tells!(rt, tree, Op::Get, b"h", "5g = hit of 0");
+fn jobs(rt: HostRuntime) -> Result<(), Fail> {
+    assert_eq!(rt; wrong::<OfJobs>(rt.alloc(), table())?.as_str(), "");
     Ok(())
 }
 
@@ -390,20 +367,10 @@ fn a_command_of_a_pool_takes_no_memory(rt: HostRuntime) -> Result<(), Fail> {
     let alloc = rt.alloc();
     let pool = vec![in alloc; ServerId::new(5), ServerId::new(6)]?;
     let tree = Tree::new(alloc, TreeForm::Pool(pool))?;
-    let mut job = Job::new(alloc, &tree, ask_of(alloc, Op::Get, false)?)?;
+    let key = Key::read(b"a").ok().ok_or("a is a key")?;
+    let mut job = Job::new(alloc, &tree, ask_of(alloc, key, Op::Get, false))?;
     assert!(rt; next_server(&job) == Some(ServerId::new(5)));
     fail_next(alloc, &mut job)?;
     assert!(rt; next_server(&job).is_none());
-    Ok(())
-}
-
-#[test]
-fn replicas_and_a_warm_up(rt: HostRuntime) -> Result<(), Fail> {
-    let tree = replicas(rt.alloc())?;
-    tells!(rt, tree, Op::Get, b"fh", "1g 2g = hit of 1");
-    tells!(rt, tree, Op::Delete, b"df", "1d 2d = failed");
-    let tree = warm_up_with_deletes(rt.alloc())?;
-    tells!(rt, tree, Op::Get, b"mhs", "1g 2g 1ac1 = hit of 1");
-    tells!(rt, tree, Op::Delete, b"dd", "1d 2d = deleted");
     Ok(())
 }

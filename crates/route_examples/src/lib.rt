@@ -19,3 +19,7 @@ mod names;
 mod places;
 #[cfg(test)]
 mod route_trees;
+#[cfg(test)]
+mod tables;
+#[cfg(test)]
+mod trees;

@@ -1,51 +1,95 @@
-//! Tests: names of routes, fields and operations.
+//! Names of routes, fields and operations.
 
+use crate::tables::{Teller, halves, wrong};
 use mc_types::Op;
 use route_names::{Holder, Kind, Lists, behind, is_field, kind_of, op_of};
+use std::alloc::{AllocError, Global};
+use std::test::Fail;
 
-// Each operation has its name in the classic dialect.
-#[test]
-fn operations(rt: HostRuntime) {
-    let cases = [
-        ("get", Op::Get),
-        ("gat", Op::Gat),
-        ("set", Op::Set),
-        ("add", Op::Add),
-        ("replace", Op::Replace),
-        ("append", Op::Append),
-        ("prepend", Op::Prepend),
-        ("cas", Op::Cas),
-        ("delete", Op::Delete),
-        ("incr", Op::Incr),
-        ("decr", Op::Decr),
-        ("touch", Op::Touch),
-    ];
-    for (name, op) in cases {
-        assert!(rt; op_of(name) == Some(op), "at {name}");
+fn table() -> &'static str {
+    r#"# Each operation has its name in the classic dialect.
+operation get => Get
+operation gat => Gat
+operation set => Set
+operation add => Add
+operation replace => Replace
+operation append => Append
+operation prepend => Prepend
+operation cas => Cas
+operation delete => Delete
+operation incr => Incr
+operation decr => Decr
+operation touch => Touch
+operation gets => none
+operation GET => none
+kind WarmUpRoute => WarmUp
+kind MissFailoverRoute => MissFailover
+kind PoolRoute|A => none
+configuration route => a field
+configuration routes => no field
+WarmUpRoute exptime => a field
+NullRoute pool => no field
+# What is behind `PoolRoute|`.
+behind PoolRoute|A => Some("A")
+behind PoolRoute| => Some("")
+behind PoolRoute => None"#
+}
+
+struct OfNames;
+
+impl Teller for OfNames {
+    fn told(alloc: Global, example: &str) -> Result<String, AllocError> {
+        let (front, name) = halves(example, " ");
+        match front {
+            "operation" => op_word(op_of(name)).to_string(alloc),
+            "kind" => kind_word(kind_of(name)).to_string(alloc),
+            "configuration" => field_word(is_field(Holder::Config, name)).to_string(alloc),
+            "behind" => format!(in alloc; "{:?}", behind("PoolRoute|", name)),
+            _ => route_field(front, name).to_string(alloc),
+        }
     }
-    assert!(rt; op_of("gets").is_none());
-    assert!(rt; op_of("GET").is_none());
+}
+
+fn route_field(route: &str, name: &str) -> &'static str {
+    match kind_of(route) {
+        Some(kind) => field_word(is_field(Holder::Route(kind), name)),
+        None => "no kind",
+    }
+}
+
+fn field_word(is_one: bool) -> &'static str {
+    if is_one { "a field" } else { "no field" }
+}
+
+fn op_word(op: Option<Op>) -> &'static str {
+    match op {
+        None => "none",
+        Some(Op::Get) => "Get",
+        Some(Op::Gat) => "Gat",
+        Some(Op::Set) => "Set",
+        Some(Op::Add) => "Add",
+        Some(Op::Replace) => "Replace",
+        Some(Op::Append) => "Append",
+        Some(Op::Prepend) => "Prepend",
+        Some(Op::Cas) => "Cas",
+        Some(Op::Delete) => "Delete",
+        Some(Op::Incr) => "Incr",
+        Some(Op::Decr) => "Decr",
+        Some(Op::Touch) => "Touch",
+    }
+}
+
+fn kind_word(kind: Option<Kind>) -> &'static str {
+    match kind {
+        None => "none",
+        Some(Kind::WarmUp) => "WarmUp",
+        Some(Kind::List(Lists::MissFailover)) => "MissFailover",
+        Some(_) => "another",
+    }
 }
 
 #[test]
-fn kinds_and_fields(rt: HostRuntime) {
-    assert!(rt; matches!(kind_of("WarmUpRoute"), Some(Kind::WarmUp)));
-    assert!(rt;
-        matches!(
-            kind_of("MissFailoverRoute"),
-            Some(Kind::List(Lists::MissFailover))
-        )
-    );
-    assert!(rt; kind_of("PoolRoute|A").is_none());
-    assert!(rt; is_field(Holder::Config, "route"));
-    assert!(rt; !is_field(Holder::Config, "routes"));
-    assert!(rt; is_field(Holder::Route(Kind::WarmUp), "exptime"));
-    assert!(rt; !is_field(Holder::Route(Kind::Null), "pool"));
-}
-
-#[test]
-fn fronts_of_short_texts(rt: HostRuntime) {
-    assert_eq!(rt; behind("PoolRoute|", "PoolRoute|A"), Some("A"));
-    assert_eq!(rt; behind("PoolRoute|", "PoolRoute|"), Some(""));
-    assert_eq!(rt; behind("PoolRoute|", "PoolRoute"), None);
+fn names(rt: HostRuntime) -> Result<(), Fail> {
+    assert_eq!(rt; wrong::<OfNames>(rt.alloc(), table())?.as_str(), "");
+    Ok(())
 }

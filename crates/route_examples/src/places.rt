@@ -1,215 +1,121 @@
 //! Worked trees: their places, what they take and clear, and the certificates that are proposed for them.
 
-ghost use Rattle.std.specs.Prelude.{◌≡◌, ◌<◌, ◌≤◌, ℕ, List, [], ◌∷◌, IfOk, IfSome, length};
-ghost use Rattle.mc_types.specs.KeyText.{IsKey};
-ghost use Rattle.route_tree.specs.Route as route;
-ghost use Rattle.route_tree.specs.Route.{IsGood, depth, count};
-ghost use Rattle.certificates.specs.Tables.{IsTable};
+ghost use Rattle.std.specs.Prelude.{◌<◌, ◌≤◌};
+ghost use Rattle.certificates.specs.Tables.{row_count, most_rows};
 
-use certificates::{Certificate, PlaceFault, PlaceTable, places, places_of_two, propose};
+use crate::tables::{Teller, halves, number_of, push_number, push_word, written_out, wrong};
+use crate::trees::{place_of, tree_of, tree_of_text};
+use certificates::{
+    Certificate, ClassRows, PlaceFault, PlaceTable, Run, places, places_of_two, propose,
+};
 use coverage::{Deleting, cleared, taken};
-use mc_types::{Key, Op, ServerId};
-use route_tree::{Place, Plain, Tree, TreeForm};
+use mc_types::{Key, ServerId};
+use route_json::ConfigFault;
+use route_names::op_of;
+use route_tree::{Place, Plain, Tree};
 use std::alloc::{AllocError, Global};
 use std::test::Fail;
 
-fn key_of(text: &[u8]) -> Option<Key>
-    ensures { IfSome result IsKey }
-{
-    Key::read(text).ok()
+fn table() -> &'static str {
+    r#"# Six places; at residue 2 a get takes server 0 and a delete clears server 2 alone.
+two_and_three: modulus => 6
+two_and_three: rows => 6
+two_and_three: moduli => 6
+two_and_three: taken by get at 2/6 among 0 1 => 0
+two_and_three: taken by gat at 2/6 among 0 1 => 0
+two_and_three: taken by incr at 2/6 among 0 1 => 0
+two_and_three: taken by decr at 2/6 among 0 1 => 0
+two_and_three: cleared by delete at 2/6 among 0 2 => 2
+two_and_three: cleared by md at 2/6 among 0 2 => 2
+# Neighbours differ, so there are as many runs as residues.
+two_and_three: run 0 of class 0 => of 6 from 0: 0
+two_and_three: run 3 of class 0 => of 6 from 3: 1
+two_and_three: run 5 of class 0 => of 6 from 5: 1
+# Twelve places in two classes, whose own moduli are 2 and 3.
+by_prefix_d: modulus => 6
+by_prefix_d: rows => 12
+by_prefix_d: moduli => 2 3
+by_prefix_d: classes => 2
+by_prefix_d: run 0 of class 0 => of 2 from 0: 0
+by_prefix_d: run 1 of class 0 => of 2 from 1: 1
+by_prefix_d: run 0 of class 1 => of 3 from 0: 0
+by_prefix_d: run 1 of class 1 => of 3 from 1: 1
+by_prefix_d: run 2 of class 1 => of 3 from 2: 2
+# 1,023 times 1,024 is too large. 512 and 512 have 512 places; of two hits the first is the reply, so each row has one server.
+large: rows => too many places
+large: classes => too many places
+large: rows with small => too many places
+small: rows => 512
+small: run 0 of class 0 => of 512 from 0: 0
+small: run 511 of class 0 => of 512 from 511: 511
+# Three places, in byte order of their prefixes; a key's is that of the longest prefix that begins it.
+by_prefixes: rows => 3
+by_prefixes: prefix lengths => 0 1 2
+by_prefixes: prefix length of b => 0
+by_prefixes: prefix length of ac => 1
+by_prefixes: prefix length of abc => 2
+# A warm side that isn't the first child is no reply, but its item is copied to the cold one: server 2 is taken, 1 isn't.
+warm_second: taken by get at 0/6 among 0 1 2 => 0 2
+warm_second: taken by gat at 0/6 among 2 => none
+warm_second: run 0 of class 0 => of 1 from 0: 0 2
+# Where the cold side's add asks no server, nothing is copied: server 2 isn't taken.
+no_add: taken by get at 0/6 among 0 2 => 0
+no_add: run 0 of class 0 => of 1 from 0: 0"#
 }
 
-// A pool of the servers from this number on, so many.
-fn pool(alloc: Global, from: u32, count: u32) -> Result<Tree, AllocError>
-    requires some { 0 < count }
-    requires few { count ≤ 1024 }
-    requires within { from ≤ 2048 }
-    ensures { IfOk result (λ tree. (servers : List ℕ) × (tree ≡ route.Pool servers) × (length servers ≡ count)) }
-{
-    let mut servers = Vec::new(alloc);
-    for number in 0..count {
-        servers.push(ServerId::new(from + number))?;
+// The route of this name.
+//
+// Of `two_and_three` deletes go to a pool of three, all else to one of two; of `by_prefix_d` keys that begin with `d:` go to a pool
+// of three. Of `warm_second` a get goes to both children, server 0 and a cold 1 with a warm 2; all else to the first of the copies'
+// children. `no_add` is as that, but the cold side's add asks no server. Of `by_prefixes` keys that begin `a` go to server 0, those
+// that begin `ab` to 1, the others to 0, and it has the longer prefix first.
+fn route_of(name: &str) -> &'static str {
+    match name {
+        "two_and_three" =>
+            r#"{"type":"OperationSelectorRoute","operation_policies":{"delete":"PoolRoute|s0-s2"},"default_policy":"PoolRoute|s0-s1"}"#,
+        "by_prefix_d" =>
+            r#"{"type":"PrefixSelectorRoute","policies":{"d:":"PoolRoute|s0-s2"},"wildcard":"PoolRoute|s0-s1"}"#,
+        "by_prefixes" =>
+            r#"{"type":"PrefixSelectorRoute","policies":{"ab":"PoolRoute|s1"},"wildcard":{"type":"PrefixSelectorRoute","policies":{"a":"PoolRoute|s0"},"wildcard":"PoolRoute|s0"}}"#,
+        "warm_second" =>
+            r#"{"type":"AllSyncRoute","children":["PoolRoute|s0",{"type":"WarmUpRoute","cold":"PoolRoute|s1","warm":"PoolRoute|s2"}]}"#,
+        "no_add" =>
+            r#"{"type":"AllSyncRoute","children":["PoolRoute|s0",{"type":"WarmUpRoute","cold":{"type":"OperationSelectorRoute","operation_policies":{"add":"NullRoute"},"default_policy":"PoolRoute|s1"},"warm":"PoolRoute|s2"}]}"#,
+        _ => "",
     }
-    Tree::new(alloc, TreeForm::Pool(servers))
-}
-
-// The places of the tree.
-fn table_of(alloc: Global, tree: &Tree) -> Option<PlaceTable>
-    ensures { IfSome result (IsTable (tree.now ∷ [])) }
-{
-    places(alloc, tree).ok()
-}
-
-// Whether the row has these servers.
-fn is_row(row: &[ServerId], wanted: &[u32]) -> bool {
-    if row.len() != wanted.len() {
-        return false;
-    }
-    for index in 0..row.len() {
-        if row[index].number() != wanted[index] {
-            return false;
-        }
-    }
-    true
-}
-
-// Whether the class has so many runs, and the run of this index begins at the residue and has these servers.
-fn has_run(
-    certificate: &Certificate,
-    class: usize,
-    count: usize,
-    index: usize,
-    first: u32,
-    servers: &[u32],
-) -> bool {
-    if class >= certificate.classes.len() {
-        return false;
-    }
-    let runs = &certificate.classes[class].runs;
-    if runs.len() != count || index >= runs.len() {
-        return false;
-    }
-    runs[index].first == first && is_row(&runs[index].servers, servers)
-}
-
-// The modulus of the class, if there is one.
-fn modulus_at(table: &PlaceTable, class: usize) -> Option<u32> {
-    if class < table.classes.len() {
-        Some(table.modulus_of(class))
-    } else {
-        None
-    }
-}
-
-// Deletes go to a pool of three, servers 0 to 2, all else to one of two, 0 and 1.
-fn two_and_three(alloc: Global) -> Result<Tree, AllocError> {
-    let policies = vec![in alloc; (Op::Delete, pool(alloc, 0, 3)?)]?;
-    let default = Box::new(alloc, pool(alloc, 0, 2)?)?;
-    Tree::new(alloc, TreeForm::ByOperation { policies, default })
-}
-
-fn plain_at(alloc: Global, tree: &Tree, residue: u32) -> Result<Plain, AllocError> {
-    let place = Place {
-        prefix: None,
-        residue,
-        modulus: 6,
-    };
-    tree.at_place(alloc, &place)
-}
-
-// Six places; at residue 2 a get takes server 0 and a delete clears server 2 alone.
-#[test]
-fn pools_of_two_and_three(rt: HostRuntime) -> Result<(), Fail> {
-    let alloc = rt.alloc();
-    let tree = two_and_three(alloc)?;
-    let table = table_of(alloc, &tree).ok_or("there are few places")?;
-    assert_eq!(rt; table.modulus, 6);
-    assert_eq!(rt; table.rows(), 6);
-    assert_eq!(rt; modulus_at(&table, 0), Some(6));
-    let plain = plain_at(alloc, &tree, 2)?;
-    for op in [Op::Get, Op::Gat, Op::Incr, Op::Decr] {
-        assert!(rt; taken(&plain, op, ServerId::new(0)));
-        assert!(rt; !taken(&plain, op, ServerId::new(1)));
-    }
-    for deleting in [Deleting::Delete, Deleting::Md] {
-        assert!(rt; cleared(&plain, deleting, ServerId::new(2)));
-        assert!(rt; !cleared(&plain, deleting, ServerId::new(0)));
-    }
-    Ok(())
-}
-
-// Neighbours differ, so there are as many runs as residues.
-#[test]
-fn runs_of_two_and_three(rt: HostRuntime) -> Result<(), Fail> {
-    let alloc = rt.alloc();
-    let tree = two_and_three(alloc)?;
-    let certificate = propose(alloc, &tree).ok().ok_or("there are few places")?;
-    assert!(rt; has_run(&certificate, 0, 6, 0, 0, &[0]));
-    assert!(rt; has_run(&certificate, 0, 6, 3, 3, &[1]));
-    assert!(rt; has_run(&certificate, 0, 6, 5, 5, &[1]));
-    Ok(())
-}
-
-// Keys that begin with `d:` go to a pool of three, the others to one of two.
-fn by_prefix_d(alloc: Global, d: Key) -> Result<Tree, AllocError>
-    requires { IsKey d }
-{
-    let policies = vec![in alloc; (d, pool(alloc, 0, 3)?)]?;
-    let wildcard = Box::new(alloc, pool(alloc, 0, 2)?)?;
-    Tree::new(alloc, TreeForm::ByPrefix { policies, wildcard })
-}
-
-// Twelve places in two classes, whose own moduli are 2 and 3.
-#[test]
-fn certificate_by_runs(rt: HostRuntime) -> Result<(), Fail> {
-    let alloc = rt.alloc();
-    let d = key_of(b"d:").ok_or("it is a key")?;
-    let tree = by_prefix_d(alloc, d)?;
-    let table = table_of(alloc, &tree).ok_or("there are few places")?;
-    assert_eq!(rt; table.modulus, 6);
-    assert_eq!(rt; table.rows(), 12);
-    assert_eq!(rt; modulus_at(&table, 0), Some(2));
-    assert_eq!(rt; modulus_at(&table, 1), Some(3));
-    let certificate = propose(alloc, &tree).ok().ok_or("there are few places")?;
-    assert_eq!(rt; certificate.classes.len(), 2);
-    assert!(rt; has_run(&certificate, 0, 2, 0, 0, &[0]));
-    assert!(rt; has_run(&certificate, 0, 2, 1, 1, &[1]));
-    assert!(rt; has_run(&certificate, 1, 3, 0, 0, &[0]));
-    assert!(rt; has_run(&certificate, 1, 3, 1, 1, &[1]));
-    assert!(rt; has_run(&certificate, 1, 3, 2, 2, &[2]));
-    Ok(())
 }
 
 // All deletes and reads go to both pools.
-fn both_pools(alloc: Global, first: u32, second: u32) -> Result<Tree, AllocError>
-    requires some_first { 0 < first }
-    requires few_first { first ≤ 1024 }
-    requires some_second { 0 < second }
-    requires few_second { second ≤ 1024 }
-{
-    let children = vec![in alloc; pool(alloc, 0, first)?, pool(alloc, first, second)?]?;
-    Tree::new(alloc, TreeForm::AllSync(children))
+fn large() -> &'static str {
+    r#"{"pools":{"A":{"servers":[«1022 "a#:1",»"a:1"]},"B":{"servers":[«1023 "b#:1",»"b:1"]}},"route":{"type":"AllSyncRoute","children":["PoolRoute|A","PoolRoute|B"]}}"#
 }
 
-// 1,023 times 1,024 is too large. 512 and 512 have 512 places; of two hits the first is the reply, so each row has one server.
-#[test]
-fn too_many_places(rt: HostRuntime) -> Result<(), Fail> {
-    let alloc = rt.alloc();
-    let large = both_pools(alloc, 1023, 1024)?;
-    assert!(rt; matches!(places(alloc, &large), Err(PlaceFault::TooManyPlaces)));
-    assert!(rt; matches!(propose(alloc, &large), Err(PlaceFault::TooManyPlaces)));
-    let small = both_pools(alloc, 512, 512)?;
-    let table = table_of(alloc, &small).ok_or("there are few places")?;
-    assert_eq!(rt; table.rows(), 512);
-    let certificate = propose(alloc, &small).ok().ok_or("there are few places")?;
-    assert!(rt; has_run(&certificate, 0, 512, 0, 0, &[0]));
-    assert!(rt; has_run(&certificate, 0, 512, 511, 511, &[511]));
-    assert!(rt;
-        matches!(
-            places_of_two(alloc, &large, &small),
-            Err(PlaceFault::TooManyPlaces)
-        )
-    );
-    Ok(())
+fn small() -> &'static str {
+    r#"{"pools":{"A":{"servers":[«511 "a#:1",»"a:1"]},"B":{"servers":[«511 "b#:1",»"b:1"]}},"route":{"type":"AllSyncRoute","children":["PoolRoute|A","PoolRoute|B"]}}"#
 }
 
-fn leaf(alloc: Global, number: u32) -> Result<Tree, AllocError>
-    ensures { IfOk result (λ tree. tree ≡ route.Server number) }
-{
-    Tree::new(alloc, TreeForm::Server(ServerId::new(number)))
+fn tree_of_whole(alloc: Global, text: &str) -> Result<Tree, ConfigFault> {
+    let whole = written_out(alloc, text)?;
+    tree_of_text(alloc, whole.as_str())
 }
 
-// Keys that begin `a` go to server 0, those that begin `ab` to 1, the others to 0.
-fn by_prefixes(alloc: Global, a: Key, ab: Key) -> Result<Tree, AllocError>
-    requires a { IsKey a }
-    requires ab { IsKey ab }
-{
-    let policies = vec![in alloc; (ab, leaf(alloc, 1)?), (a, leaf(alloc, 0)?)]?;
-    let wildcard = Box::new(alloc, leaf(alloc, 0)?)?;
-    Tree::new(alloc, TreeForm::ByPrefix { policies, wildcard })
+// The tree of this name.
+fn tree_named(alloc: Global, name: &str) -> Result<Tree, ConfigFault> {
+    match name {
+        "large" => tree_of_whole(alloc, large()),
+        "small" => tree_of_whole(alloc, small()),
+        _ => tree_of(alloc, route_of(name)),
+    }
 }
 
-// The length of the prefix of the key's place, and that of the row's; 0 where there is none.
+fn fault_word(fault: PlaceFault) -> &'static str {
+    match fault {
+        PlaceFault::TooManyPlaces => "too many places",
+        PlaceFault::NoMemory => "no memory",
+    }
+}
+
+// The length of the prefix of the place; 0 where there is none.
 fn length_of(place: &Place) -> usize {
     match &place.prefix {
         Some(prefix) => prefix.as_bytes().len(),
@@ -217,94 +123,183 @@ fn length_of(place: &Place) -> usize {
     }
 }
 
-// Three places, in byte order of their prefixes; a key's is that of the longest prefix that begins it.
-#[test]
-fn key_lengths_and_longest_prefix(rt: HostRuntime) -> Result<(), Fail> {
-    let alloc = rt.alloc();
-    let a = key_of(b"a").ok_or("it is a key")?;
-    let ab = key_of(b"ab").ok_or("it is a key")?;
-    let tree = by_prefixes(alloc, a, ab)?;
-    let table = table_of(alloc, &tree).ok_or("there are few places")?;
-    let rows = table.rows();
-    assert_eq!(rt; rows, 3);
-    for row in 0..rows {
-        assert_eq!(rt; length_of(&table.place(row)), row as usize);
+fn moduli(alloc: Global, table: &PlaceTable) -> Result<String, AllocError> {
+    let mut out = String::new(alloc);
+    for class in 0..table.classes.len() {
+        push_number(&mut out, table.modulus_of(class))?;
     }
-    let cases = [
-        (b"b".as_slice(), 0),
-        (b"ac".as_slice(), 1),
-        (b"abc".as_slice(), 2),
-    ];
-    for (text, length) in cases {
-        let key = key_of(text).ok_or("a text is a key")?;
-        assert_eq!(rt; length_of(&table.of(&key)), length);
-    }
-    Ok(())
+    Ok(out)
 }
 
-// A get that the cold side misses is asked of the warm one.
-fn warm_up(alloc: Global, cold: Tree, warm: Tree) -> Result<Tree, AllocError>
-    requires cold { IsGood cold × (depth cold ≤ 2) × (count cold ≤ 8) }
-    requires warm { IsGood warm × (depth warm ≤ 2) × (count warm ≤ 8) }
-    ensures { IfOk result (λ tree. tree ≡ route.WarmUp cold warm 0) }
+// The lengths of the prefixes of all rows.
+fn prefix_lengths(alloc: Global, table: &PlaceTable) -> Result<String, AllocError>
+    requires some { 0 < table.now.modulus }
+    requires within { row_count table.now ≤ most_rows }
 {
-    let cold = Box::new(alloc, cold)?;
-    let warm = Box::new(alloc, warm)?;
-    let exptime = 0;
-    Tree::new(
-        alloc,
-        TreeForm::WarmUp {
-            cold,
-            warm,
-            exptime,
+    let mut out = String::new(alloc);
+    let rows = table.rows();
+    for row in 0..rows {
+        let length = length_of(&table.place(row)).to_string(alloc)?;
+        push_word(&mut out, length.as_str())?;
+    }
+    Ok(out)
+}
+
+fn prefix_length(alloc: Global, table: &PlaceTable, text: &str) -> Result<String, AllocError>
+    requires { 0 < table.now.modulus }
+{
+    match Key::read(text.as_bytes()) {
+        Ok(key) => length_of(&table.of(&key)).to_string(alloc),
+        Err(_) => "no key".to_string(alloc),
+    }
+}
+
+fn told_of_table(alloc: Global, table: &PlaceTable, question: &str) -> Result<String, AllocError>
+    requires some { 0 < table.now.modulus }
+    requires within { row_count table.now ≤ most_rows }
+{
+    if let Some(text) = question.strip_prefix("prefix length of ") {
+        return prefix_length(alloc, table, text);
+    }
+    match question {
+        "modulus" => table.modulus.to_string(alloc),
+        "moduli" => moduli(alloc, table),
+        "prefix lengths" => prefix_lengths(alloc, table),
+        _ => table.rows().to_string(alloc),
+    }
+}
+
+fn told_of_places(alloc: Global, tree: &Tree, question: &str) -> Result<String, AllocError> {
+    match places(alloc, tree) {
+        Ok(table) => told_of_table(alloc, &table, question),
+        Err(fault) => fault_word(fault).to_string(alloc),
+    }
+}
+
+// The number of places of the tree and a small one together.
+fn rows_with_small(alloc: Global, tree: &Tree) -> Result<String, AllocError> {
+    match tree_of_whole(alloc, small()) {
+        Ok(other) => match places_of_two(alloc, tree, &other) {
+            Ok(table) => told_of_table(alloc, &table, "rows"),
+            Err(fault) => fault_word(fault).to_string(alloc),
         },
-    )
+        Err(fault) => fault.to_string(alloc),
+    }
 }
 
-// A get goes to both children, server 0 and a cold 1 with a warm 2; all else to the first of the copies' children.
-fn warm_second(alloc: Global) -> Result<Tree, AllocError> {
-    let copying = warm_up(alloc, leaf(alloc, 1)?, leaf(alloc, 2)?)?;
-    let children = vec![in alloc; leaf(alloc, 0)?, copying]?;
-    Tree::new(alloc, TreeForm::AllSync(children))
+// The number of runs, the first residue of this one, and its servers.
+fn told_of_run(alloc: Global, count: usize, run: &Run) -> Result<String, AllocError> {
+    let mut out = String::new(alloc);
+    write!(out, "of {count}")?;
+    write!(out, " from {}:", run.first)?;
+    for server in run.servers.as_slice() {
+        push_number(&mut out, server.number())?;
+    }
+    Ok(out)
 }
 
-// A warm side that isn't the first child is no reply, but its item is copied to the cold one: server 2 is taken, 1 isn't.
+fn told_of_class(alloc: Global, class: &ClassRows, index: usize) -> Result<String, AllocError> {
+    match class.runs.as_slice().get(index) {
+        Some(run) => told_of_run(alloc, class.runs.len(), run),
+        None => "no run".to_string(alloc),
+    }
+}
+
+// Of the index, ` of class `, and the class.
+fn told_of_runs(
+    alloc: Global,
+    certificate: &Certificate,
+    text: &str,
+) -> Result<String, AllocError> {
+    let (index, class) = halves(text, " of class ");
+    match certificate
+        .classes
+        .as_slice()
+        .get(number_of(class) as usize)
+    {
+        Some(class) => told_of_class(alloc, class, number_of(index) as usize),
+        None => "no class".to_string(alloc),
+    }
+}
+
+// Of a run, or else the number of classes.
+fn told_of_certificate(alloc: Global, tree: &Tree, question: &str) -> Result<String, AllocError> {
+    match propose(alloc, tree) {
+        Ok(certificate) => match question.strip_prefix("run ") {
+            Some(text) => told_of_runs(alloc, &certificate, text),
+            None => certificate.classes.len().to_string(alloc),
+        },
+        Err(fault) => fault_word(fault).to_string(alloc),
+    }
+}
+
+// Whether the server is taken by the read, or cleared by the delete.
+fn is_so(plain: &Plain, by: &str, server: ServerId) -> bool {
+    match by {
+        "cleared by delete" => cleared(plain, Deleting::Delete, server),
+        "cleared by md" => cleared(plain, Deleting::Md, server),
+        _ => match op_of(halves(by, "taken by ").1) {
+            Some(op) => taken(plain, op, server),
+            None => false,
+        },
+    }
+}
+
+// Those of the servers of which it is so.
+fn told_of_plain(
+    alloc: Global,
+    plain: &Plain,
+    by: &str,
+    servers: &str,
+) -> Result<String, AllocError> {
+    let mut out = String::new(alloc);
+    for server in servers.split(' ') {
+        if is_so(plain, by, ServerId::new(number_of(server))) {
+            push_word(&mut out, server)?;
+        }
+    }
+    if out.is_empty() {
+        out.push_str("none")?;
+    }
+    Ok(out)
+}
+
+// By what, ` at `, the place, ` among `, and the servers.
+fn told_at_place(alloc: Global, tree: &Tree, question: &str) -> Result<String, AllocError> {
+    let (by, rest) = halves(question, " at ");
+    let (place, servers) = halves(rest, " among ");
+    let plain = tree.at_place(alloc, &place_of(place))?;
+    told_of_plain(alloc, &plain, by, servers)
+}
+
+fn told_on(alloc: Global, tree: &Tree, question: &str) -> Result<String, AllocError> {
+    match halves(question, " ").0 {
+        "taken" | "cleared" => told_at_place(alloc, tree, question),
+        "run" | "classes" => told_of_certificate(alloc, tree, question),
+        _ => {
+            if question == "rows with small" {
+                rows_with_small(alloc, tree)
+            } else {
+                told_of_places(alloc, tree, question)
+            }
+        }
+    }
+}
+
+struct OfPlaces;
+
+impl Teller for OfPlaces {
+    fn told(alloc: Global, example: &str) -> Result<String, AllocError> {
+        let (name, question) = halves(example, ": ");
+        match tree_named(alloc, name) {
+            Ok(tree) => told_on(alloc, &tree, question),
+            Err(fault) => fault.to_string(alloc),
+        }
+    }
+}
+
 #[test]
-fn warm_side_of_a_later_child(rt: HostRuntime) -> Result<(), Fail> {
-    let alloc = rt.alloc();
-    let plain = plain_at(alloc, &warm_second(alloc)?, 0)?;
-    assert!(rt; taken(&plain, Op::Get, ServerId::new(0)));
-    assert!(rt; !taken(&plain, Op::Get, ServerId::new(1)));
-    assert!(rt; taken(&plain, Op::Get, ServerId::new(2)));
-    assert!(rt; !taken(&plain, Op::Gat, ServerId::new(2)));
-    let certificate = propose(alloc, &warm_second(alloc)?)
-        .ok()
-        .ok_or("there is one place")?;
-    assert!(rt; has_run(&certificate, 0, 1, 0, 0, &[0, 2]));
-    Ok(())
-}
-
-// As before, but the cold side's add asks no server.
-fn no_add(alloc: Global) -> Result<Tree, AllocError> {
-    let null = Tree::new(alloc, TreeForm::Null)?;
-    let policies = vec![in alloc; (Op::Add, null)]?;
-    let default = Box::new(alloc, leaf(alloc, 1)?)?;
-    let cold = Tree::new(alloc, TreeForm::ByOperation { policies, default })?;
-    let copying = warm_up(alloc, cold, leaf(alloc, 2)?)?;
-    let children = vec![in alloc; leaf(alloc, 0)?, copying]?;
-    Tree::new(alloc, TreeForm::AllSync(children))
-}
-
-// Where the cold side's add asks no server, nothing is copied: server 2 isn't taken.
-#[test]
-fn cold_side_without_add(rt: HostRuntime) -> Result<(), Fail> {
-    let alloc = rt.alloc();
-    let plain = plain_at(alloc, &no_add(alloc)?, 0)?;
-    assert!(rt; taken(&plain, Op::Get, ServerId::new(0)));
-    assert!(rt; !taken(&plain, Op::Get, ServerId::new(2)));
-    let certificate = propose(alloc, &no_add(alloc)?)
-        .ok()
-        .ok_or("there is one place")?;
-    assert!(rt; has_run(&certificate, 0, 1, 0, 0, &[0]));
+fn places_of_trees(rt: HostRuntime) -> Result<(), Fail> {
+    assert_eq!(rt; wrong::<OfPlaces>(rt.alloc(), table())?.as_str(), "");
     Ok(())
 }

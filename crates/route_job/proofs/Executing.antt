@@ -8,7 +8,7 @@ use Rattle.mc_types.specs.declared.call.Outcome.TheVariants.{Failed}
 use Rattle.mc_runs.specs.Run.{Call}
 use Rattle.mc_runs.specs.Single.{FitsOutcome}
 use Rattle.key_hash.specs.Tag.{key_hash}
-use Rattle.route_tree.proofs.Left.{plan_left}
+use Rattle.route_tree.proofs.PlainTrees.{plan_plain}
 use Rattle.route_tree.specs.At.{tree_at}
 use Rattle.route_tree.specs.Route.{Route, IsTree}
 use Rattle.route_tree.specs.Each.{Each}
@@ -23,7 +23,7 @@ use Rattle.route_job.specs.declared.job.Job.{Job}
 
 -- the plain tree of a key keeps the limits
 pub good_at : (tree : Route) (key : List ℕ) → IsTree tree → IsPlan (tree_at tree key)
-good_at tree key is = plan_left (key_hash key) key tree is
+good_at tree key is = plan_plain (key_hash key) key tree is
 
 -- what may still come begins with the call of the job
 abbrev pub Begins : Job → Type 0

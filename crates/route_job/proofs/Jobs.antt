@@ -6,7 +6,7 @@ use Rattle.mc_types.specs.declared.call.Origin.TheVariants.{Client}
 use Rattle.mc_types.specs.declared.call.Outcome.{Outcome}
 use Rattle.mc_runs.specs.Run.{Call}
 use Rattle.mc_runs.specs.Single.{FitsOutcome}
-use Rattle.route_tree.specs.At.{left_of}
+use Rattle.route_tree.specs.At.{plain_for}
 use Rattle.route_tree.specs.Route.{Route}
 use Rattle.route_tree.specs.Plan.{Server}
 use Rattle.route_tree.specs.Word.{Given, Gives, Word, given_by}
@@ -58,7 +58,7 @@ is_reply pending done e = subst IsReply (sym e) tt
 
 -- Trees are seen by the keys of this hash and text.
 module _ (hash : ℕ) (text : List ℕ) where
-  pub new_is : (fs fs' : List Frame) (ask : Ask) (tree : Route) (pending : Pending) → fs ≡ [] → ((b : ℕ) → Leads hash text b ask fs (Enter tree) fs' pending) → ((calls : List Call) (given : Given) → Comings hash text fs' ask Client pending 0 calls given ↔ Word (left_of hash text tree) ask Client 0 calls given) × AreSure hash text 0 ask fs' pending
+  pub new_is : (fs fs' : List Frame) (ask : Ask) (tree : Route) (pending : Pending) → fs ≡ [] → ((b : ℕ) → Leads hash text b ask fs (Enter tree) fs' pending) → ((calls : List Call) (given : Given) → Comings hash text fs' ask Client pending 0 calls given ↔ Word (plain_for hash text tree) ask Client 0 calls given) × AreSure hash text 0 ask fs' pending
   new_is fs fs' ask tree pending e leads =
       let l = subst (λ x. Leads hash text 0 ask x (Enter tree) fs' pending) e (leads 0) in
       let r = l tt in

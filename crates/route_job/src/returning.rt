@@ -4,7 +4,7 @@ ghost use Rattle.std.specs.Prelude.{◌+◌, ◌*◌, ◌≤◌, ℕ, List, Some
 ghost use Rattle.mc_types.specs.declared.ask.Ask.{Ask};
 ghost use Rattle.mc_types.specs.declared.call.Origin.{Origin};
 ghost use Rattle.mc_types.specs.declared.call.Origin.TheVariants.{CopyOf};
-ghost use Rattle.route_tree.specs.At.{left_of, left_of_all};
+ghost use Rattle.route_tree.specs.At.{plain_for, plain_for_all};
 ghost use Rattle.route_tree.specs.Plan.{count, count_of_all};
 ghost use Rattle.route_tree.specs.Word.{Word, plain_get, refill, rank, AfterWarm, AfterRefill, Refilled};
 ghost use Rattle.route_job.specs.Given.{given_of};
@@ -22,9 +22,9 @@ use std::alloc::{AllocError, Global};
 
 // The next child of an AllSync, or its worst reply.
 fn back_all(rest: Children, worst: Option<Done>, done: Done) -> Result<Advance, AllocError>
-    ensures same { IfOk result (λ advance. (hash : ℕ) (text : List ℕ) (ask : Ask) (origin : Origin) (b : ℕ) → SameAt b (AfterAll (option_map given_of worst) (left_of_all hash text rest) ask origin (given_of done)) (AdvanceOf hash text advance ask origin)) }
+    ensures same { IfOk result (λ advance. (hash : ℕ) (text : List ℕ) (ask : Ask) (origin : Origin) (b : ℕ) → SameAt b (AfterAll (option_map given_of worst) (plain_for_all hash text rest) ask origin (given_of done)) (AdvanceOf hash text advance ask origin)) }
     ensures sure { IfOk result (λ advance. (hash : ℕ) (text : List ℕ) (ask : Ask) (origin : Origin) (b : ℕ) → IsSure hash text advance ask origin b) }
-    ensures less { IfOk result (λ advance. (hash : ℕ) (text : List ℕ) → advance_work hash text advance ≤ 3 * count_of_all (left_of_all hash text rest) + 1) }
+    ensures less { IfOk result (λ advance. (hash : ℕ) (text : List ℕ) → advance_work hash text advance ≤ 3 * count_of_all (plain_for_all hash text rest) + 1) }
 {
     let worst = match worst {
         None => done,
@@ -35,9 +35,9 @@ fn back_all(rest: Children, worst: Option<Done>, done: Done) -> Result<Advance, 
 
 // The next child of an AllSync, or this reply.
 fn next_of_all(rest: Children, worst: Done) -> Result<Advance, AllocError>
-    ensures same { IfOk result (λ advance. (hash : ℕ) (text : List ℕ) (ask : Ask) (origin : Origin) (b : ℕ) → SameAt b (WorstWith (left_of_all hash text rest) ask origin (given_of worst)) (AdvanceOf hash text advance ask origin)) }
+    ensures same { IfOk result (λ advance. (hash : ℕ) (text : List ℕ) (ask : Ask) (origin : Origin) (b : ℕ) → SameAt b (WorstWith (plain_for_all hash text rest) ask origin (given_of worst)) (AdvanceOf hash text advance ask origin)) }
     ensures sure { IfOk result (λ advance. (hash : ℕ) (text : List ℕ) (ask : Ask) (origin : Origin) (b : ℕ) → IsSure hash text advance ask origin b) }
-    ensures less { IfOk result (λ advance. (hash : ℕ) (text : List ℕ) → advance_work hash text advance ≤ 3 * count_of_all (left_of_all hash text rest) + 1) }
+    ensures less { IfOk result (λ advance. (hash : ℕ) (text : List ℕ) → advance_work hash text advance ≤ 3 * count_of_all (plain_for_all hash text rest) + 1) }
 {
     let parts = rest.parted()?;
     match parts {
@@ -63,9 +63,9 @@ fn drop_ask(_ask: Box<Ask>) {}
 
 // The next child where the reply isn't good enough.
 fn back_first(rest: Children, limit: u8, done: Done) -> Result<Advance, AllocError>
-    ensures same { IfOk result (λ advance. (hash : ℕ) (text : List ℕ) (ask : Ask) (origin : Origin) (b : ℕ) → SameAt b (AfterFirst (left_of_all hash text rest) limit ask origin (given_of done)) (AdvanceOf hash text advance ask origin)) }
+    ensures same { IfOk result (λ advance. (hash : ℕ) (text : List ℕ) (ask : Ask) (origin : Origin) (b : ℕ) → SameAt b (AfterFirst (plain_for_all hash text rest) limit ask origin (given_of done)) (AdvanceOf hash text advance ask origin)) }
     ensures sure { IfOk result (λ advance. (hash : ℕ) (text : List ℕ) (ask : Ask) (origin : Origin) (b : ℕ) → IsSure hash text advance ask origin b) }
-    ensures less { IfOk result (λ advance. (hash : ℕ) (text : List ℕ) → advance_work hash text advance ≤ 3 * count_of_all (left_of_all hash text rest) + 1) }
+    ensures less { IfOk result (λ advance. (hash : ℕ) (text : List ℕ) → advance_work hash text advance ≤ 3 * count_of_all (plain_for_all hash text rest) + 1) }
 {
     if done.reply.rank() < limit {
         return Ok(Advance {
@@ -118,9 +118,9 @@ fn back_warm(
     first: Done,
     from_warm: Done,
 ) -> Result<Advance, AllocError>
-    ensures same { IfOk result (λ advance. (hash : ℕ) (text : List ℕ) (origin : Origin) (b : ℕ) → NamesHit (given_of from_warm) → SameAt b (AfterWarm ask.now (Word (left_of hash text sides.cold) ask.now origin) (Word (left_of hash text sides.warm) (plain_get ask.now) origin) (λ hit w. Word (left_of hash text sides.cold) (refill ask.now hit sides.exptime) (CopyOf w)) (given_of first) (given_of from_warm) (rank (given_of from_warm))) (AdvanceOf hash text advance ask.now origin)) }
+    ensures same { IfOk result (λ advance. (hash : ℕ) (text : List ℕ) (origin : Origin) (b : ℕ) → NamesHit (given_of from_warm) → SameAt b (AfterWarm ask.now (Word (plain_for hash text sides.cold) ask.now origin) (Word (plain_for hash text sides.warm) (plain_get ask.now) origin) (λ hit w. Word (plain_for hash text sides.cold) (refill ask.now hit sides.exptime) (CopyOf w)) (given_of first) (given_of from_warm) (rank (given_of from_warm))) (AdvanceOf hash text advance ask.now origin)) }
     ensures sure { IfOk result (λ advance. (hash : ℕ) (text : List ℕ) (origin : Origin) (b : ℕ) → IsSure hash text advance ask.now origin b) }
-    ensures less { IfOk result (λ advance. (hash : ℕ) (text : List ℕ) → advance_work hash text advance ≤ 6 * count (left_of hash text sides.cold) + 2) }
+    ensures less { IfOk result (λ advance. (hash : ℕ) (text : List ℕ) → advance_work hash text advance ≤ 6 * count (plain_for hash text sides.cold) + 2) }
 {
     if from_warm.reply.rank() != 0 {
         let_go(from_warm);
@@ -152,9 +152,9 @@ fn refill_frame(
     from_warm: Done,
     from: u64,
 ) -> Result<Advance, AllocError>
-    ensures same { IfOk result (λ advance. (hash : ℕ) (text : List ℕ) (origin : Origin) (b : ℕ) → SameAt b (Refilled ask.now (Word (left_of hash text sides.cold) ask.now origin) (Word (left_of hash text sides.warm) (plain_get ask.now) origin) (λ hit w. Word (left_of hash text sides.cold) (refill ask.now hit sides.exptime) (CopyOf w)) (given_of from_warm) (Some from)) (AdvanceOf hash text advance ask.now origin)) }
+    ensures same { IfOk result (λ advance. (hash : ℕ) (text : List ℕ) (origin : Origin) (b : ℕ) → SameAt b (Refilled ask.now (Word (plain_for hash text sides.cold) ask.now origin) (Word (plain_for hash text sides.warm) (plain_get ask.now) origin) (λ hit w. Word (plain_for hash text sides.cold) (refill ask.now hit sides.exptime) (CopyOf w)) (given_of from_warm) (Some from)) (AdvanceOf hash text advance ask.now origin)) }
     ensures sure { IfOk result (λ advance. (hash : ℕ) (text : List ℕ) (origin : Origin) (b : ℕ) → IsSure hash text advance ask.now origin b) }
-    ensures less { IfOk result (λ advance. (hash : ℕ) (text : List ℕ) → advance_work hash text advance ≤ 6 * count (left_of hash text sides.cold) + 1) }
+    ensures less { IfOk result (λ advance. (hash : ℕ) (text : List ℕ) → advance_work hash text advance ≤ 6 * count (plain_for hash text sides.cold) + 1) }
 {
     let add = refill_of(alloc, ask, &from_warm.reply, sides.exptime)?;
     let add = Box::new(alloc, add)?;
@@ -173,9 +173,9 @@ fn refill_frame(
 
 // A classic get is answered from the warm side, another asks the cold side again.
 fn back_refill(ask: &Ask, sides: Sides, from_warm: Done) -> Advance
-    ensures same { (hash : ℕ) (text : List ℕ) (origin : Origin) (b : ℕ) → SameAt b (AfterRefill ask.now (Word (left_of hash text sides.cold) ask.now origin) (Word (left_of hash text sides.warm) (plain_get ask.now) origin) (λ hit w. Word (left_of hash text sides.cold) (refill ask.now hit sides.exptime) (CopyOf w)) (given_of from_warm)) (AdvanceOf hash text result ask.now origin) }
+    ensures same { (hash : ℕ) (text : List ℕ) (origin : Origin) (b : ℕ) → SameAt b (AfterRefill ask.now (Word (plain_for hash text sides.cold) ask.now origin) (Word (plain_for hash text sides.warm) (plain_get ask.now) origin) (λ hit w. Word (plain_for hash text sides.cold) (refill ask.now hit sides.exptime) (CopyOf w)) (given_of from_warm)) (AdvanceOf hash text result ask.now origin) }
     ensures sure { (hash : ℕ) (text : List ℕ) (origin : Origin) (b : ℕ) → IsSure hash text result ask.now origin b }
-    ensures less { (hash : ℕ) (text : List ℕ) → advance_work hash text result ≤ 3 * count (left_of hash text sides.cold) + 1 }
+    ensures less { (hash : ℕ) (text : List ℕ) → advance_work hash text result ≤ 3 * count (plain_for hash text sides.cold) + 1 }
 {
     if is_plain_get(ask) {
         Advance {

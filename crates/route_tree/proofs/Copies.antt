@@ -103,3 +103,27 @@ trees_bar at number ask calls reply from word j call i got o n delete op same = 
   ]) refl,
   op,
 )
+
+either_false : (t a b : Bool) → a ≡ false → b ≡ false → cond t a b ≡ false
+either_false true a b e f = e
+either_false false a b e f = f
+
+-- no other command than a get may copy
+mutual
+  pub others_copy_nothing : (op : Op) (plan : Plan) → is_get op ≡ false → may_copy op plan ≡ false
+  others_copy_nothing op (Server s) e = refl
+  others_copy_nothing op Null e = refl
+  others_copy_nothing op Failing e = refl
+  others_copy_nothing op (AllSync ps) e = others_copy_nothing_in op ps e
+  others_copy_nothing op (Failover ps) e = others_copy_nothing_in op ps e
+  others_copy_nothing op (MissFailover ps) e = others_copy_nothing_in op ps e
+  others_copy_nothing op (WarmUp cold warm exptime) e = ap (λ b. b || may_copy op cold) e ∙ others_copy_nothing op cold e
+  others_copy_nothing op (ByOperation policies) e = others_copy_nothing_by op policies e
+
+  others_copy_nothing_in : (op : Op) (ps : Plans) → is_get op ≡ false → may_copy_in op ps ≡ false
+  others_copy_nothing_in op End e = refl
+  others_copy_nothing_in op (More p ps) e = ap (λ b. b || may_copy_in op ps) (others_copy_nothing op p e) ∙ others_copy_nothing_in op ps e
+
+  others_copy_nothing_by : (op : Op) (policies : PlanPolicies) → is_get op ≡ false → may_copy_by op policies ≡ false
+  others_copy_nothing_by op (Otherwise p) e = others_copy_nothing op p e
+  others_copy_nothing_by op (Policy o p rest) e = either_false (same_op o op) (may_copy op p) (may_copy_by op rest) (others_copy_nothing op p e) (others_copy_nothing_by op rest e)

@@ -4,9 +4,9 @@ use Rattle.std.proofs.lemmas.Bool.{leb-true, le-leb, cases_lt}
 use Rattle.key_hash.specs.Tag.{key_hash}
 use Rattle.route_tree.specs.Each.{Each, IsIn}
 use Rattle.route_tree.specs.Route.{Route, Prefixes, Wildcard, Prefix}
-use Rattle.route_tree.specs.At.{begins, is_longer, left_of, policy_list, wildcard_of, LongestIsTaken}
+use Rattle.route_tree.specs.At.{begins, is_longer, plain_for, policy_list, wildcard_of, LongestIsTaken}
 use Rattle.route_tree.specs.Chosen.{chosen}
-use Rattle.route_tree.proofs.Left.{left_of_chosen}
+use Rattle.route_tree.proofs.PlainTrees.{plain_for_chosen}
 
 same_item : (x y : List ℕ × Route) → Some x ≡ Some y → y ≡ x
 same_item x y h = cc
@@ -66,6 +66,6 @@ module _ (key : List ℕ) where
 pub longest_is_taken : LongestIsTaken
 longest_is_taken ps key =
     ⊎_elim
-    (λ h. inl (h.0, h.1, (⊎_elim (λ k. k) (λ k. absurd (cc)) h.2, h.3, h.4), left_of_chosen (key_hash key) key ps ∙ ap (left_of (key_hash key) key) h.6))
-    (λ h. inr (h.1, left_of_chosen (key_hash key) key ps ∙ ap (left_of (key_hash key) key) h.2))
+    (λ h. inl (h.0, h.1, (⊎_elim (λ k. k) (λ k. absurd (cc)) h.2, h.3, h.4), plain_for_chosen (key_hash key) key ps ∙ ap (plain_for (key_hash key) key) h.6))
+    (λ h. inr (h.1, plain_for_chosen (key_hash key) key ps ∙ ap (plain_for (key_hash key) key) h.2))
     (longest key ps None tt)

@@ -8,7 +8,7 @@ use Rattle.mc_runs.specs.Run.{Call}
 use Rattle.route_tree.specs.Plan as plan
 use Rattle.route_tree.specs.Plan.{Plan}
 use Rattle.route_tree.specs.Route.{Route, Prefixes, Pool, Server, Null, Failing, AllSync, Failover, MissFailover, WarmUp, ByOperation, ByPrefix, Wildcard, Prefix}
-use Rattle.route_tree.specs.At.{begins, is_longer, left_of, left_of_prefixes, tree_at}
+use Rattle.route_tree.specs.At.{begins, is_longer, plain_for, plain_for_prefixes, tree_at}
 use Rattle.route_tree.specs.Word.{Word, tree_words}
 use Rattle.route_tree.specs.Direct.{is_direct, are_direct, server_of, server_at, DirectIsOneServer}
 use Rattle.route_tree.proofs.Words.{one_server_is_one_call}
@@ -27,24 +27,24 @@ module _ (hash : ℕ) (text : List ℕ) where
   best_is_one false x best h k = k
 
   mutual
-    one_left : (r : Route) → is_direct r ≡ true → IsOne (left_of hash text r)
-    one_left (Pool servers) h = refl
-    one_left (Server s) h = refl
-    one_left Null h = absurd (false≢true h)
-    one_left Failing h = absurd (false≢true h)
-    one_left (AllSync rs) h = absurd (false≢true h)
-    one_left (Failover rs) h = absurd (false≢true h)
-    one_left (MissFailover rs) h = absurd (false≢true h)
-    one_left (WarmUp cold warm e) h = absurd (false≢true h)
-    one_left (ByOperation ps) h = absurd (false≢true h)
-    one_left (ByPrefix ps) h = ones_left ps None tt h
+    one_plain : (r : Route) → is_direct r ≡ true → IsOne (plain_for hash text r)
+    one_plain (Pool servers) h = refl
+    one_plain (Server s) h = refl
+    one_plain Null h = absurd (false≢true h)
+    one_plain Failing h = absurd (false≢true h)
+    one_plain (AllSync rs) h = absurd (false≢true h)
+    one_plain (Failover rs) h = absurd (false≢true h)
+    one_plain (MissFailover rs) h = absurd (false≢true h)
+    one_plain (WarmUp cold warm e) h = absurd (false≢true h)
+    one_plain (ByOperation ps) h = absurd (false≢true h)
+    one_plain (ByPrefix ps) h = ones_plain ps None tt h
 
-    ones_left : (ps : Prefixes) (best : Option (List ℕ × Plan)) → BestIsOne best → are_direct ps ≡ true → IsOne (left_of_prefixes hash text ps best)
-    ones_left (Wildcard r) None b h = one_left r h
-    ones_left (Wildcard r) (Some best) b h = b
-    ones_left (Prefix p r ps) best b h =
+    ones_plain : (ps : Prefixes) (best : Option (List ℕ × Plan)) → BestIsOne best → are_direct ps ≡ true → IsOne (plain_for_prefixes hash text ps best)
+    ones_plain (Wildcard r) None b h = one_plain r h
+    ones_plain (Wildcard r) (Some best) b h = b
+    ones_plain (Prefix p r ps) best b h =
         let both = and_parts (is_direct r) (are_direct ps) h in
-        ones_left ps _ (best_is_one (begins p text && is_longer p best) (p, left_of hash text r) best (one_left r both.0) b) both.1
+        ones_plain ps _ (best_is_one (begins p text && is_longer p best) (p, plain_for hash text r) best (one_plain r both.0) b) both.1
 
 -- the words of trees that are the same for each number and key
 words_agree : (first second : List ℕ → Plan) → ((key : List ℕ) → first key ≡ second key) → (number : ℕ) (ask : Ask) (calls : List Call) (reply : Answer) (from : Option ℕ) → tree_words (λ n key. first key) number ask calls reply from → tree_words (λ n key. second key) number ask calls reply from
@@ -53,7 +53,7 @@ words_agree first second same number ask calls reply from w =
 
 pub direct_is_one_server : DirectIsOneServer
 direct_is_one_server tree direct =
-    let one = λ (key : List ℕ). one_left _ key tree direct in (
+    let one = λ (key : List ℕ). one_plain _ key tree direct in (
       one,
       λ number ask calls reply from.
           let law = one_server_is_one_call (server_at tree) number ask calls reply from in (

@@ -7,7 +7,7 @@ use Rattle.std.proofs.lemmas.Bool.{eqb-true, eq-eqb}
 use Rattle.route_tree.specs.Plan as plan
 use Rattle.route_tree.specs.Plan.{Plan, Plans, PlanPolicies}
 use Rattle.route_tree.specs.Route.{Route, Routes, Policies, Prefixes, Pool, Server, Null, Failing, AllSync, Failover, MissFailover, WarmUp, ByOperation, ByPrefix, End, More, Otherwise, Policy, Wildcard, Prefix, IsGood, AreGood, ArePoliciesGood, ArePrefixesGood, IsTree}
-use Rattle.route_tree.specs.At.{begins, is_longer, best_or, left_of, left_of_all, left_of_policies, left_of_prefixes}
+use Rattle.route_tree.specs.At.{begins, is_longer, best_or, plain_for, plain_for_all, plain_for_policies, plain_for_prefixes}
 use Rattle.route_tree.specs.Each.{Each}
 use Rattle.route_tree.specs.Place.{sizes, sizes_of_all, sizes_of_policies, sizes_of_prefixes, prefixes, prefixes_of_all, prefixes_of_policies, prefixes_of_prefixes, IsLongest, prefix_text, PlaceIsEnough}
 use Rattle.key_hash.specs.Tag.{key_hash}
@@ -33,7 +33,7 @@ module _ (hash hash' : ℕ) (text text' : List ℕ) where
   Test p = begins p text ≡ begins p text'
 
   mutual
-    pub alike : (r : Route) → Each Rest (sizes r) → Each Test (prefixes r) → left_of hash text r ≡ left_of hash' text' r
+    pub alike : (r : Route) → Each Rest (sizes r) → Each Test (prefixes r) → plain_for hash text r ≡ plain_for hash' text' r
     alike (Pool servers) h t = ap (λ n. plan.Server (slice_index servers n)) h.0
     alike (Server s) h t = refl
     alike Null h t = refl
@@ -45,19 +45,19 @@ module _ (hash hash' : ℕ) (text text' : List ℕ) where
     alike (ByOperation ps) h t = ap plan.ByOperation (policies_alike ps h t)
     alike (ByPrefix ps) h t = prefixes_alike ps None h t
 
-    all_alike : (rs : Routes) → Each Rest (sizes_of_all rs) → Each Test (prefixes_of_all rs) → left_of_all hash text rs ≡ left_of_all hash' text' rs
+    all_alike : (rs : Routes) → Each Rest (sizes_of_all rs) → Each Test (prefixes_of_all rs) → plain_for_all hash text rs ≡ plain_for_all hash' text' rs
     all_alike End h t = refl
     all_alike (More r rs) h t = ap₂ plan.More (alike r (each_left Rest (sizes r) (sizes_of_all rs) h) (each_left Test (prefixes r) (prefixes_of_all rs) t)) (all_alike rs (each_right Rest (sizes r) (sizes_of_all rs) h) (each_right Test (prefixes r) (prefixes_of_all rs) t))
 
-    policies_alike : (ps : Policies) → Each Rest (sizes_of_policies ps) → Each Test (prefixes_of_policies ps) → left_of_policies hash text ps ≡ left_of_policies hash' text' ps
+    policies_alike : (ps : Policies) → Each Rest (sizes_of_policies ps) → Each Test (prefixes_of_policies ps) → plain_for_policies hash text ps ≡ plain_for_policies hash' text' ps
     policies_alike (Otherwise r) h t = ap plan.Otherwise (alike r h t)
     policies_alike (Policy op r ps) h t = ap₂ (plan.Policy op) (alike r (each_left Rest (sizes r) (sizes_of_policies ps) h) (each_left Test (prefixes r) (prefixes_of_policies ps) t)) (policies_alike ps (each_right Rest (sizes r) (sizes_of_policies ps) h) (each_right Test (prefixes r) (prefixes_of_policies ps) t))
 
-    prefixes_alike : (ps : Prefixes) (best : Option (List ℕ × Plan)) → Each Rest (sizes_of_prefixes ps) → Each Test (prefixes_of_prefixes ps) → left_of_prefixes hash text ps best ≡ left_of_prefixes hash' text' ps best
+    prefixes_alike : (ps : Prefixes) (best : Option (List ℕ × Plan)) → Each Rest (sizes_of_prefixes ps) → Each Test (prefixes_of_prefixes ps) → plain_for_prefixes hash text ps best ≡ plain_for_prefixes hash' text' ps best
     prefixes_alike (Wildcard r) best h t = ap (λ p. best_or p best) (alike r h t)
     prefixes_alike (Prefix p r ps) best h t =
         prefixes_alike ps _ (each_right Rest (sizes r) (sizes_of_prefixes ps) h) (each_right Test (prefixes r) (prefixes_of_prefixes ps) t.1)
-        ∙ (λ i. left_of_prefixes hash' text' ps (cond (t.0 i && is_longer p best) (Some (p, alike r (each_left Rest (sizes r) (sizes_of_prefixes ps) h) (each_left Test (prefixes r) (prefixes_of_prefixes ps) t.1) i)) best))
+        ∙ (λ i. plain_for_prefixes hash' text' ps (cond (t.0 i && is_longer p best) (Some (p, alike r (each_left Rest (sizes r) (sizes_of_prefixes ps) h) (each_left Test (prefixes r) (prefixes_of_prefixes ps) t.1) i)) best))
 
 -- ---- fronts
 

@@ -16,7 +16,7 @@ use Rattle.route_tree.specs.Plan as plan
 use Rattle.route_tree.specs.Plan.{Plan, Plans, PlanPolicies}
 use Rattle.route_tree.specs.Route as route
 use Rattle.route_tree.specs.Route.{Route, Routes, Policies, Prefixes}
-use Rattle.route_tree.specs.At.{begins, is_longer, left_of, left_of_all, left_of_policies, left_of_prefixes}
+use Rattle.route_tree.specs.At.{begins, is_longer, plain_for, plain_for_all, plain_for_policies, plain_for_prefixes}
 use Rattle.route_tree.specs.Place.{prefix_text}
 use Rattle.route_tree.specs.Word.{Given, rank, plain_get, refill, is_plain_get, Word, WordOfAll, WordOfFirst, WordOfHead, WordOfPolicy, Gives, AfterRefill, Refilled, AfterWarm, AfterCold, WarmUpWord}
 use Rattle.route_tree.specs.Servers.{servers, servers_of_all, servers_of_policies, tree_servers, tree_servers_of_all, tree_servers_of_policies, tree_servers_of_prefixes, ServersStay, CallsStay}
@@ -50,39 +50,39 @@ module _ (P : ℕ → Type 0) (hash : ℕ) (text : List ℕ) where
   best_has false x best g h = h
 
   mutual
-    pub left_has : (r : Route) → route.IsGood r → Each P (tree_servers r) → Each P (servers (left_of hash text r))
-    left_has (route.Pool ss) good h = (each_index P ss (hash % length ss) (mod-lt hash good.0) h, tt)
-    left_has (route.Server s) good h = h
-    left_has route.Null good h = tt
-    left_has route.Failing good h = tt
-    left_has (route.AllSync rs) good h = all_left_have rs good.1 h
-    left_has (route.Failover rs) good h = all_left_have rs good.1 h
-    left_has (route.MissFailover rs) good h = all_left_have rs good.1 h
-    left_has (route.WarmUp c w e) good h =
-        each_append P (servers (left_of hash text c)) (servers (left_of hash text w)) (left_has c good.0 (each_left P (tree_servers c) (tree_servers w) h)) (left_has w good.1 (each_right P (tree_servers c) (tree_servers w) h))
-    left_has (route.ByOperation ps) good h = policies_left_have ps good h
-    left_has (route.ByPrefix ps) good h = prefixes_left_have ps None tt good h
+    pub plain_has : (r : Route) → route.IsGood r → Each P (tree_servers r) → Each P (servers (plain_for hash text r))
+    plain_has (route.Pool ss) good h = (each_index P ss (hash % length ss) (mod-lt hash good.0) h, tt)
+    plain_has (route.Server s) good h = h
+    plain_has route.Null good h = tt
+    plain_has route.Failing good h = tt
+    plain_has (route.AllSync rs) good h = all_plain_have rs good.1 h
+    plain_has (route.Failover rs) good h = all_plain_have rs good.1 h
+    plain_has (route.MissFailover rs) good h = all_plain_have rs good.1 h
+    plain_has (route.WarmUp c w e) good h =
+        each_append P (servers (plain_for hash text c)) (servers (plain_for hash text w)) (plain_has c good.0 (each_left P (tree_servers c) (tree_servers w) h)) (plain_has w good.1 (each_right P (tree_servers c) (tree_servers w) h))
+    plain_has (route.ByOperation ps) good h = policies_plain_have ps good h
+    plain_has (route.ByPrefix ps) good h = prefixes_plain_have ps None tt good h
 
-    all_left_have : (rs : Routes) → route.AreGood rs → Each P (tree_servers_of_all rs) → Each P (servers_of_all (left_of_all hash text rs))
-    all_left_have route.End good h = tt
-    all_left_have (route.More r rs) good h =
-        each_append P (servers (left_of hash text r)) (servers_of_all (left_of_all hash text rs)) (left_has r good.0 (each_left P (tree_servers r) (tree_servers_of_all rs) h)) (all_left_have rs good.1 (each_right P (tree_servers r) (tree_servers_of_all rs) h))
+    all_plain_have : (rs : Routes) → route.AreGood rs → Each P (tree_servers_of_all rs) → Each P (servers_of_all (plain_for_all hash text rs))
+    all_plain_have route.End good h = tt
+    all_plain_have (route.More r rs) good h =
+        each_append P (servers (plain_for hash text r)) (servers_of_all (plain_for_all hash text rs)) (plain_has r good.0 (each_left P (tree_servers r) (tree_servers_of_all rs) h)) (all_plain_have rs good.1 (each_right P (tree_servers r) (tree_servers_of_all rs) h))
 
-    policies_left_have : (ps : Policies) → route.ArePoliciesGood ps → Each P (tree_servers_of_policies ps) → Each P (servers_of_policies (left_of_policies hash text ps))
-    policies_left_have (route.Otherwise r) good h = left_has r good h
-    policies_left_have (route.Policy op r ps) good h =
-        each_append P (servers (left_of hash text r)) (servers_of_policies (left_of_policies hash text ps)) (left_has r good.0 (each_left P (tree_servers r) (tree_servers_of_policies ps) h)) (policies_left_have ps good.1 (each_right P (tree_servers r) (tree_servers_of_policies ps) h))
+    policies_plain_have : (ps : Policies) → route.ArePoliciesGood ps → Each P (tree_servers_of_policies ps) → Each P (servers_of_policies (plain_for_policies hash text ps))
+    policies_plain_have (route.Otherwise r) good h = plain_has r good h
+    policies_plain_have (route.Policy op r ps) good h =
+        each_append P (servers (plain_for hash text r)) (servers_of_policies (plain_for_policies hash text ps)) (plain_has r good.0 (each_left P (tree_servers r) (tree_servers_of_policies ps) h)) (policies_plain_have ps good.1 (each_right P (tree_servers r) (tree_servers_of_policies ps) h))
 
-    prefixes_left_have : (ps : Prefixes) (best : Option (List ℕ × Plan)) → BestHas best → route.ArePrefixesGood ps → Each P (tree_servers_of_prefixes ps) → Each P (servers (left_of_prefixes hash text ps best))
-    prefixes_left_have (route.Wildcard r) None b good h = left_has r good h
-    prefixes_left_have (route.Wildcard r) (Some best) b good h = b
-    prefixes_left_have (route.Prefix p r ps) best b good h =
-        prefixes_left_have ps _ (best_has (begins p text && is_longer p best) (p, left_of hash text r) best (left_has r good.1 (each_left P (tree_servers r) (tree_servers_of_prefixes ps) h)) b) good.2 (each_right P (tree_servers r) (tree_servers_of_prefixes ps) h)
+    prefixes_plain_have : (ps : Prefixes) (best : Option (List ℕ × Plan)) → BestHas best → route.ArePrefixesGood ps → Each P (tree_servers_of_prefixes ps) → Each P (servers (plain_for_prefixes hash text ps best))
+    prefixes_plain_have (route.Wildcard r) None b good h = plain_has r good h
+    prefixes_plain_have (route.Wildcard r) (Some best) b good h = b
+    prefixes_plain_have (route.Prefix p r ps) best b good h =
+        prefixes_plain_have ps _ (best_has (begins p text && is_longer p best) (p, plain_for hash text r) best (plain_has r good.1 (each_left P (tree_servers r) (tree_servers_of_prefixes ps) h)) b) good.2 (each_right P (tree_servers r) (tree_servers_of_prefixes ps) h)
 
 pub servers_stay : ServersStay
 servers_stay tree h = (
-  (λ key. left_has (λ s. IsIn s (tree_servers tree)) (key_hash key) key tree h.good (each_is_in (tree_servers tree))),
-  (λ place. left_has (λ s. IsIn s (tree_servers tree)) place.residue (prefix_text place.prefix) tree h.good (each_is_in (tree_servers tree))),
+  (λ key. plain_has (λ s. IsIn s (tree_servers tree)) (key_hash key) key tree h.good (each_is_in (tree_servers tree))),
+  (λ place. plain_has (λ s. IsIn s (tree_servers tree)) place.residue (prefix_text place.prefix) tree h.good (each_is_in (tree_servers tree))),
 )
 
 -- ---- the calls of words

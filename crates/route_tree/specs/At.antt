@@ -25,36 +25,36 @@ best_or other (Some best) = best.1
 module _ (hash : ℕ) (text : List ℕ) where
   abbrev mutual
     -- of a pool the server at the hash modulo its size; of policies by prefix the longest that begins the text
-    pub left_of : Route → Plan
-    left_of (Pool servers) = plan.Server (slice_index servers (hash % length servers))
-    left_of (Server s) = plan.Server s
-    left_of Null = plan.Null
-    left_of Failing = plan.Failing
-    left_of (AllSync rs) = plan.AllSync (left_of_all rs)
-    left_of (Failover rs) = plan.Failover (left_of_all rs)
-    left_of (MissFailover rs) = plan.MissFailover (left_of_all rs)
-    left_of (WarmUp cold warm e) = plan.WarmUp (left_of cold) (left_of warm) e
-    left_of (ByOperation ps) = plan.ByOperation (left_of_policies ps)
-    left_of (ByPrefix ps) = left_of_prefixes ps None
+    pub plain_for : Route → Plan
+    plain_for (Pool servers) = plan.Server (slice_index servers (hash % length servers))
+    plain_for (Server s) = plan.Server s
+    plain_for Null = plan.Null
+    plain_for Failing = plan.Failing
+    plain_for (AllSync rs) = plan.AllSync (plain_for_all rs)
+    plain_for (Failover rs) = plan.Failover (plain_for_all rs)
+    plain_for (MissFailover rs) = plan.MissFailover (plain_for_all rs)
+    plain_for (WarmUp cold warm e) = plan.WarmUp (plain_for cold) (plain_for warm) e
+    plain_for (ByOperation ps) = plan.ByOperation (plain_for_policies ps)
+    plain_for (ByPrefix ps) = plain_for_prefixes ps None
 
     -- what is left of each child
-    pub left_of_all : Routes → Plans
-    left_of_all End = plan.End
-    left_of_all (More r rs) = plan.More (left_of r) (left_of_all rs)
+    pub plain_for_all : Routes → Plans
+    plain_for_all End = plan.End
+    plain_for_all (More r rs) = plan.More (plain_for r) (plain_for_all rs)
 
     -- what is left of each child by operation
-    pub left_of_policies : Policies → PlanPolicies
-    left_of_policies (Otherwise r) = plan.Otherwise (left_of r)
-    left_of_policies (Policy op r ps) = plan.Policy op (left_of r) (left_of_policies ps)
+    pub plain_for_policies : Policies → PlanPolicies
+    plain_for_policies (Otherwise r) = plan.Otherwise (plain_for r)
+    plain_for_policies (Policy op r ps) = plan.Policy op (plain_for r) (plain_for_policies ps)
 
     -- the longest policy that begins the text, with the longest so far, else the wildcard
-    pub left_of_prefixes : Prefixes → Option (List ℕ × Plan) → Plan
-    left_of_prefixes (Wildcard r) best = best_or (left_of r) best
-    left_of_prefixes (Prefix p r ps) best = left_of_prefixes ps (if begins p text && is_longer p best then Some (p, left_of r) else best)
+    pub plain_for_prefixes : Prefixes → Option (List ℕ × Plan) → Plan
+    plain_for_prefixes (Wildcard r) best = best_or (plain_for r) best
+    plain_for_prefixes (Prefix p r ps) best = plain_for_prefixes ps (if begins p text && is_longer p best then Some (p, plain_for r) else best)
 
 -- the plain tree of a key
 abbrev pub tree_at : Route → List ℕ → Plan
-tree_at r key = left_of (key_hash key) key r
+tree_at r key = plain_for (key_hash key) key r
 
 -- the policies by prefix, as a list
 abbrev pub policy_list : Prefixes → List (List ℕ × Route)

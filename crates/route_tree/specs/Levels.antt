@@ -1,7 +1,7 @@
 -- One level of a tree, as the keys of one hash and text see it.
 use Rattle.std.specs.Prelude.{ℕ, List, if◌then◌else◌}
 use Rattle.mc_types.specs.declared.ask.Op.{Op}
-use Rattle.route_tree.specs.At.{left_of, left_of_all, left_of_policies}
+use Rattle.route_tree.specs.At.{plain_for, plain_for_all, plain_for_policies}
 use Rattle.route_tree.specs.Form.{policies_of}
 use Rattle.route_tree.specs.Operation.{same_op}
 use Rattle.route_tree.specs.Plan as plan
@@ -14,11 +14,11 @@ abbrev pub plan_of_level : ℕ → List ℕ → Level → Plan
 plan_of_level hash text (levels.Server s) = plan.Server s
 plan_of_level hash text levels.Null = plan.Null
 plan_of_level hash text levels.Error = plan.Failing
-plan_of_level hash text (levels.AllSync first rest) = plan.AllSync (plan.More (left_of hash text first) (left_of_all hash text rest))
-plan_of_level hash text (levels.Failover first rest) = plan.Failover (plan.More (left_of hash text first) (left_of_all hash text rest))
-plan_of_level hash text (levels.MissFailover first rest) = plan.MissFailover (plan.More (left_of hash text first) (left_of_all hash text rest))
-plan_of_level hash text (levels.WarmUp cold warm e) = plan.WarmUp (left_of hash text cold.now) (left_of hash text warm.now) e
-plan_of_level hash text (levels.ByOperation ps d) = plan.ByOperation (left_of_policies hash text (policies_of ps.now d.now))
+plan_of_level hash text (levels.AllSync first rest) = plan.AllSync (plan.More (plain_for hash text first) (plain_for_all hash text rest))
+plan_of_level hash text (levels.Failover first rest) = plan.Failover (plan.More (plain_for hash text first) (plain_for_all hash text rest))
+plan_of_level hash text (levels.MissFailover first rest) = plan.MissFailover (plan.More (plain_for hash text first) (plain_for_all hash text rest))
+plan_of_level hash text (levels.WarmUp cold warm e) = plan.WarmUp (plain_for hash text cold.now) (plain_for hash text warm.now) e
+plan_of_level hash text (levels.ByOperation ps d) = plan.ByOperation (plain_for_policies hash text (policies_of ps.now d.now))
 
 -- the child of the operation, else the default
 abbrev pub chosen_plan : Op → PlanPolicies → Plan

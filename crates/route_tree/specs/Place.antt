@@ -4,7 +4,7 @@ use Rattle.std.specs.Int.{◌∣◌}
 use Rattle.key_hash.specs.Tag.{key_hash}
 use Rattle.route_tree.specs.declared.place.Place.{Place}
 use Rattle.route_tree.specs.Each.{Each, IsIn}
-use Rattle.route_tree.specs.At.{begins, left_of, tree_at}
+use Rattle.route_tree.specs.At.{begins, plain_for, tree_at}
 use Rattle.route_tree.specs.Plan.{Plan}
 use Rattle.route_tree.specs.Route.{Route, Routes, Policies, Prefixes, Pool, Server, Null, Failing, AllSync, Failover, MissFailover, WarmUp, ByOperation, ByPrefix, End, More, Otherwise, Policy, Wildcard, Prefix, IsTree}
 
@@ -92,7 +92,7 @@ prefix_text (Some p) = p
 
 -- the plain tree of the keys of a place
 abbrev pub tree_at_place : Route → Place → Plan
-tree_at_place r place = left_of place.residue (prefix_text place.prefix) r
+tree_at_place r place = plain_for place.residue (prefix_text place.prefix) r
 
 -- The plain tree of a key is that of its place.
 abbrev pub PlaceIsEnough : Type 0

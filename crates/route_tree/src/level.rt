@@ -5,7 +5,7 @@ ghost use Rattle.route_tree.specs.Plan.{IsPlan};
 ghost use Rattle.route_tree.specs.Route.{IsNotEmpty};
 ghost use Rattle.route_tree.specs.Route as route;
 ghost use Rattle.route_tree.specs.Form.{policies_of};
-ghost use Rattle.route_tree.specs.At.{left_of, left_of_policies};
+ghost use Rattle.route_tree.specs.At.{plain_for, plain_for_policies};
 ghost use Rattle.route_tree.specs.After.{children_of};
 ghost use Rattle.route_tree.specs.Levels.{plan_of_level, chosen_plan};
 
@@ -49,8 +49,8 @@ impl Tree {
     /// selector by prefix that of the longest policy that begins the text, else of the wildcard. It takes no memory, and
     /// is refused only where a count of sharers is full.
     pub fn level(&self, hash: u32, text: &[u8]) -> Result<Level<'_>, AllocError>
-        ensures form { IfOk result (λ level. plan_of_level hash text.now level ≡ left_of hash text.now self.now) }
-        ensures plan { IsPlan (left_of hash text.now self.now) }
+        ensures form { IfOk result (λ level. plan_of_level hash text.now level ≡ plain_for hash text.now self.now) }
+        ensures plan { IsPlan (plain_for hash text.now self.now) }
     {
         let _form = self.form();
         level_of(self, hash, text)
@@ -59,7 +59,7 @@ impl Tree {
 
 // The level, without the limits of the plain tree.
 fn level_of<'a>(tree: &'a Tree, hash: u32, text: &[u8]) -> Result<Level<'a>, AllocError>
-    ensures { IfOk result (λ level. plan_of_level hash text.now level ≡ left_of hash text.now tree.now) }
+    ensures { IfOk result (λ level. plan_of_level hash text.now level ≡ plain_for hash text.now tree.now) }
 {
     match tree.form() {
         TreeForm::Pool(servers) => Ok(Level::Server(servers[hash as usize % servers.len()])),
@@ -107,7 +107,7 @@ fn parts_of(tree: &Tree) -> Result<(Tree, Children), AllocError>
 
 /// The first policy of the operation, else the default. It takes no memory.
 pub fn policy_of<'a>(policies: &'a [(Op, Tree)], default: &'a Tree, op: Op) -> &'a Tree
-    ensures { (hash : ℕ) (text : List ℕ) → left_of hash text result.now ≡ chosen_plan op (left_of_policies hash text (policies_of policies.now default.now)) }
+    ensures { (hash : ℕ) (text : List ℕ) → plain_for hash text result.now ≡ chosen_plan op (plain_for_policies hash text (policies_of policies.now default.now)) }
 {
     match policies {
         [] => default,

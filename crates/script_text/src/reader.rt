@@ -110,7 +110,7 @@ fn read_line(alloc: Global, known: &Servers, line: &str) -> Result<Meaning, Allo
     }
 }
 
-/// What lines say over the servers known before them, behind so many other lines, which are counted too. The only error is running
+/// What lines say over the servers known before them, after so many other lines, which are counted too. The only error is running
 /// out of memory.
 pub fn read_further(
     alloc: Global,
@@ -167,7 +167,7 @@ fn bad_event_line(script: &ConfiguredScript) -> Option<usize>
     }
 }
 
-/// The script that lines say over a configuration, behind so many other lines, which are counted too.
+/// The script that lines say over a configuration, after so many other lines, which are counted too.
 ///
 /// [`ScriptFault::BadLine`] comes as of [`read_script`]'s further lines, and otherwise running out of memory is the only error.
 pub fn read_behind(

@@ -1,274 +1,249 @@
 //! Tests: failures, losses and the count of calls.
 
-ghost use Rattle.std.specs.Prelude.{◌≡◌, ◌<◌, ◌≤◌, [], ◌∷◌, length, IfOk};
-ghost use Rattle.mc_types.specs.KeyText.{IsKey};
-ghost use Rattle.mc_types.specs.declared.token.Token.TheVariants as tokens;
+ghost use Rattle.std.specs.Prelude.{◌≡◌, ◌<◌, ◌≤◌, length, IfOk};
+ghost use Rattle.mc_types.specs.Asks.{IsAsk};
 ghost use Rattle.memory_fleet.specs.Fleets.{count_of};
 
-use mc_types::{
-    Answer, Ask, Body, Code, Dialect, Fields, Key, Op, Origin, Outcome, ServerId, Token, Tokens,
-};
+use crate::reading::{answer_text, ask, drop_ask, halves, key, number, same, short, with_stamp};
+use mc_types::{Ask, Origin, Outcome, ServerId};
 use memory_fleet::{Loss, Manner, MemoryFleet};
 use route_job::Fleet;
-use std::alloc::Global;
+use std::alloc::{AllocError, Global};
 use std::test::Fail;
 
-fn key(text: &[u8]) -> Result<Key, Fail>
-    ensures { IfOk result IsKey }
-{
-    Ok(Key::read(text).ok().ok_or("a key")?)
+// A name, how many servers there are, and what happens. A call has its server, its stamp, its command and the answer, and
+// behind this the stamp of the item that it found. The calls of a command that has begun have a word for the stamp: `own`, or
+// `copy` for that of the item that the command's first call found.
+fn scenarios() -> &'static str {
+    r#"calls of two servers
+2
+1 #5 set a 0 0 1|1| => STORED|
+1 #99 get a| => VALUE a 0 1|1|END| #5
+0 #99 get a| => END|
+
+failed but applied
+1
+fail 1 before
+fail 2 after
+0 #1 set a 0 0 1|1| => failed
+0 #2 set b 0 0 1|2| => failed
+0 #99 get a| => END|
+0 #99 get b| => VALUE b 0 1|2|END| #2
+
+held and lost
+2
+hold 0 a 1
+hold 1 a 2
+0 #99 get a| => VALUE a 0 1|1|END| #0
+lose 0 a
+0 #99 get a| => END|
+1 #99 get a| => VALUE a 0 1|2|END| #0
+restart 1
+1 #99 get a| => END|
+
+expiry by the moment
+1
+0 #3 set a 0 10 1|1| => STORED|
+moment 9
+0 #99 get a| => VALUE a 0 1|1|END| #3
+moment 10
+0 #99 get a| => END|
+
+failed meta calls
+1
+hold 0 a 1
+fail 1 before
+fail 3 after
+0 #98 md a| => failed
+0 #99 mg a v| => VA 1|1| #0
+0 #98 md a| => failed
+0 #98 md a| => NF|
+
+a copy has the stamp of its item: that of its command is another
+2
+1 #5 set a 0 0 1|1| => STORED|
+begin
+1 own mg a v| => VA 1|1|
+0 copy add a 0 0 1|1| => STORED|
+0 #99 mg a v| => VA 1|1| #5"#
 }
 
-fn short(alloc: Global, text: &[u8]) -> Result<Body, Fail>
-    ensures { IfOk result (λ body. length body ≤ 100) }
-{
-    if text.len() > 100 {
-        return Err(Fail::from("too long"));
-    }
-    Ok(Body::from_slice(alloc, text)?)
-}
-
-fn server(fleet: &MemoryFleet, number: u32) -> Result<ServerId, Fail>
+fn server(fleet: &MemoryFleet, text: &str) -> Result<ServerId, Fail>
     ensures { IfOk result (λ server. server < count_of fleet.now) }
 {
+    let number = number(text)?;
     if number as usize >= fleet.servers() {
-        return Err(Fail::from("no such server"));
+        return Err(Fail::new("no such server"));
     }
     Ok(ServerId::new(number))
 }
 
-macro_rules! classic {
-    ($alloc:expr, $op:expr, $text:expr, $exptime:expr, $body:expr) => {
-        Ask {
-            key: key($text)?,
-            op: $op,
-            dialect: Dialect::Classic,
-            with_cas: false,
-            flags: 0,
-            exptime: $exptime,
-            body: $body,
-            cas: None,
-            delta: 0,
-            tokens: Tokens::new($alloc),
-        }
-    };
-}
-
-// Whether the set was answered as stored.
-fn set(
-    fleet: &mut MemoryFleet,
-    alloc: Global,
-    number: u64,
-    at: u32,
-    text: &[u8],
-    exptime: i64,
-    body: &[u8],
-) -> Result<bool, Fail> {
-    let ask = classic!(alloc, Op::Set, text, Some(exptime), short(alloc, body)?);
+fn hold(fleet: &mut MemoryFleet, text: &str) -> Result<(), Fail> {
+    let (at, rest) = halves(text, " ");
+    let (name, data) = halves(rest, " ");
+    let key = key(name)?;
+    let data = short(data)?;
     let at = server(fleet, at)?;
-    let made = fleet.call_as(number, at, &ask).ok().ok_or("a set")?;
-    Ok(matches!(made.outcome, Outcome::Answered(Answer::Stored)))
+    Ok(fleet.hold(at, &key, data)?)
 }
 
-// A hit without flags and with these data.
-fn shows(answer: &Answer, data: &[u8]) -> bool {
-    match answer {
-        Answer::Hit { flags, body, .. } => *flags == 0 && body.as_slice() == data,
-        _ => false,
-    }
-}
-
-// The stamp of a hit without flags and with these data.
-fn hit(
-    fleet: &mut MemoryFleet,
-    alloc: Global,
-    at: u32,
-    text: &[u8],
-    data: &[u8],
-) -> Result<Option<u64>, Fail> {
-    let ask = classic!(alloc, Op::Get, text, None, Body::empty());
+fn lose(fleet: &mut MemoryFleet, text: &str) -> Result<(), Fail> {
+    let (at, name) = halves(text, " ");
+    let key = key(name)?;
     let at = server(fleet, at)?;
-    let made = fleet.call_as(99, at, &ask).ok().ok_or("a get")?;
-    match &made.outcome {
-        Outcome::Answered(answer) if shows(answer, data) => Ok(made.stamp),
-        _ => Ok(None),
-    }
-}
-
-#[test]
-fn calls_of_two_servers(rt: HostRuntime) -> Result<(), Fail> {
-    let alloc = rt.alloc();
-    let mut fleet = MemoryFleet::new(alloc, 2)?;
-    assert_eq!(rt; fleet.servers(), 2);
-    assert!(rt; set(&mut fleet, alloc, 5, 1, b"a", 0, b"1")?);
-    assert_eq!(rt; hit(&mut fleet, alloc, 1, b"a", b"1")?, Some(5));
-    assert_eq!(rt; hit(&mut fleet, alloc, 0, b"a", b"1")?, None);
+    fleet.lose(Loss::Item(at, key));
     Ok(())
 }
 
-#[test]
-fn failed_but_applied(rt: HostRuntime) -> Result<(), Fail> {
-    let alloc = rt.alloc();
-    let mut fleet = MemoryFleet::new(alloc, 1)?;
-    fleet.fail(1, Manner::Before).ok().ok_or("a failure")?;
-    fleet.fail(2, Manner::After).ok().ok_or("a failure")?;
-    assert!(rt; !set(&mut fleet, alloc, 1, 0, b"a", 0, b"1")?);
-    assert!(rt; !set(&mut fleet, alloc, 2, 0, b"b", 0, b"2")?);
-    assert_eq!(rt; hit(&mut fleet, alloc, 0, b"a", b"1")?, None);
-    assert_eq!(rt; hit(&mut fleet, alloc, 0, b"b", b"2")?, Some(2));
+fn restart(fleet: &mut MemoryFleet, text: &str) -> Result<(), Fail> {
+    let at = server(fleet, text)?;
+    fleet.lose(Loss::Restart(at));
     Ok(())
 }
 
-#[test]
-fn held_and_lost(rt: HostRuntime) -> Result<(), Fail> {
-    let alloc = rt.alloc();
-    let mut fleet = MemoryFleet::new(alloc, 2)?;
-    let a = key(b"a")?;
-    let first = server(&fleet, 0)?;
-    fleet.hold(first, &a, b"1")?;
-    let second = server(&fleet, 1)?;
-    fleet.hold(second, &a, b"2")?;
-    assert_eq!(rt; hit(&mut fleet, alloc, 0, b"a", b"1")?, Some(0));
-    let first = server(&fleet, 0)?;
-    fleet.lose(Loss::Item(first, a));
-    assert_eq!(rt; hit(&mut fleet, alloc, 0, b"a", b"1")?, None);
-    assert_eq!(rt; hit(&mut fleet, alloc, 1, b"a", b"2")?, Some(0));
-    let second = server(&fleet, 1)?;
-    fleet.lose(Loss::Restart(second));
-    assert_eq!(rt; hit(&mut fleet, alloc, 1, b"a", b"2")?, None);
-    Ok(())
-}
-
-#[test]
-fn expiry_by_the_moment(rt: HostRuntime) -> Result<(), Fail> {
-    let alloc = rt.alloc();
-    let mut fleet = MemoryFleet::new(alloc, 1)?;
-    assert!(rt; set(&mut fleet, alloc, 3, 0, b"a", 10, b"1")?);
-    fleet.set_moment(9);
-    assert_eq!(rt; hit(&mut fleet, alloc, 0, b"a", b"1")?, Some(3));
-    fleet.set_moment(10);
-    assert_eq!(rt; hit(&mut fleet, alloc, 0, b"a", b"1")?, None);
-    Ok(())
-}
-
-// The flag `v`.
-fn value_flag(alloc: Global) -> Result<Tokens, Fail>
-    ensures { IfOk result (λ flags. flags ≡ tokens.Value ∷ []) }
-{
-    let mut tokens = Tokens::new(alloc);
-    tokens.push(Token::Value)?;
-    Ok(tokens)
-}
-
-macro_rules! meta {
-    ($op:expr, $text:expr, $tokens:expr) => {
-        Ask {
-            key: key($text)?,
-            op: $op,
-            dialect: Dialect::Meta,
-            with_cas: false,
-            flags: 0,
-            exptime: None,
-            body: Body::empty(),
-            cas: None,
-            delta: 0,
-            tokens: $tokens,
-        }
-    };
-}
-
-// The code of a meta answer, where the call was answered with one.
-fn code_of(outcome: &Outcome) -> Option<Code> {
-    match outcome {
-        Outcome::Answered(Answer::Meta(code, _)) => Some(*code),
-        _ => None,
-    }
-}
-
-fn has_data(fields: &Fields, data: &[u8]) -> bool {
-    match &fields.body {
-        Some(body) => body.as_slice() == data,
-        None => false,
-    }
-}
-
-fn is_value(outcome: &Outcome, data: &[u8]) -> bool {
-    match outcome {
-        Outcome::Answered(Answer::Meta(Code::Va, fields)) => has_data(fields, data),
-        _ => false,
-    }
-}
-
-// The code of the answer to `md`.
-fn meta_delete(
-    fleet: &mut MemoryFleet,
-    alloc: Global,
-    at: u32,
-    text: &[u8],
-) -> Result<Option<Code>, Fail> {
-    let ask = meta!(Op::Delete, text, Tokens::new(alloc));
-    let at = server(fleet, at)?;
-    let made = fleet.call_as(98, at, &ask).ok().ok_or("a delete")?;
-    Ok(code_of(&made.outcome))
-}
-
-// The stamp of what `mg v` shows, where that has these data.
-fn meta_value(
-    fleet: &mut MemoryFleet,
-    alloc: Global,
-    at: u32,
-    text: &[u8],
-    data: &[u8],
-) -> Result<Option<u64>, Fail> {
-    let ask = meta!(Op::Get, text, value_flag(alloc)?);
-    let at = server(fleet, at)?;
-    let made = fleet.call_as(99, at, &ask).ok().ok_or("a get")?;
-    Ok(if is_value(&made.outcome, data) {
-        made.stamp
+fn fail(fleet: &mut MemoryFleet, text: &str) -> Result<(), Fail> {
+    let (turn, manner) = halves(text, " ");
+    let turn = number(turn)?;
+    let manner = if manner == "before" {
+        Manner::Before
     } else {
-        None
-    })
-}
-
-#[test]
-fn failed_meta_calls(rt: HostRuntime) -> Result<(), Fail> {
-    let alloc = rt.alloc();
-    let mut fleet = MemoryFleet::new(alloc, 1)?;
-    let first = server(&fleet, 0)?;
-    fleet.hold(first, &key(b"a")?, b"1")?;
-    fleet.fail(1, Manner::Before).ok().ok_or("a failure")?;
-    fleet.fail(3, Manner::After).ok().ok_or("a failure")?;
-    assert!(rt; meta_delete(&mut fleet, alloc, 0, b"a")?.is_none());
-    assert_eq!(rt; meta_value(&mut fleet, alloc, 0, b"a", b"1")?, Some(0));
-    assert!(rt; meta_delete(&mut fleet, alloc, 0, b"a")?.is_none());
-    assert!(rt; meta_delete(&mut fleet, alloc, 0, b"a")? == Some(Code::Nf));
+        Manner::After
+    };
+    if turn == 0 || fleet.fail(turn, manner).is_err() {
+        return Err(Fail::new("a failure"));
+    }
     Ok(())
 }
 
-// Whether the key that is held at server 1 was copied to server 0 by the next command: that one's own stamp is another.
-fn copies(fleet: &mut MemoryFleet, alloc: Global, text: &[u8]) -> Result<bool, Fail> {
-    let number = fleet.begin().ok().ok_or("a command")?;
-    let get = meta!(Op::Get, text, value_flag(alloc)?);
-    let from = server(fleet, 1)?;
-    let found = fleet
-        .call(number, from, &get, Origin::Client)
-        .ok()
-        .ok_or("a get")?;
-    let add = classic!(alloc, Op::Add, text, Some(0), short(alloc, b"1")?);
-    let to = server(fleet, 0)?;
-    let added = fleet
-        .call(number, to, &add, Origin::CopyOf(0))
-        .ok()
-        .ok_or("an add")?;
-    Ok(is_value(&found, b"1") && matches!(added, Outcome::Answered(Answer::Stored)))
+fn set_moment(fleet: &mut MemoryFleet, text: &str) -> Result<(), Fail> {
+    fleet.set_moment(i64::from(number(text)?));
+    Ok(())
+}
+
+fn begin(fleet: &mut MemoryFleet) -> Result<(), Fail> {
+    match fleet.begin() {
+        Ok(_) => Ok(()),
+        Err(_) => Err(Fail::new("a command")),
+    }
+}
+
+fn outcome_text(alloc: Global, ask: &Ask, outcome: &Outcome) -> Result<String, AllocError> {
+    match outcome {
+        Outcome::Answered(answer) => answer_text(alloc, ask, answer),
+        Outcome::Failed => "failed".to_string(alloc),
+    }
+}
+
+fn drop_outcome(_outcome: Outcome) {}
+
+// A call with this stamp.
+fn call_as(
+    alloc: Global,
+    fleet: &mut MemoryFleet,
+    at: ServerId,
+    stamp: u32,
+    ask: &Ask,
+) -> Result<String, Fail>
+    requires there { at < count_of fleet.old }
+    requires ask { IsAsk ask.now }
+{
+    let Ok(made) = fleet.call_as(u64::from(stamp), at, ask) else {
+        return Err(Fail::new("a call"));
+    };
+    let text = outcome_text(alloc, ask, &made.outcome);
+    let stamp = made.stamp;
+    drop_outcome(made.outcome);
+    Ok(with_stamp(alloc, text?, stamp)?)
+}
+
+// A call of the command that began last.
+fn call_of(
+    alloc: Global,
+    fleet: &mut MemoryFleet,
+    at: ServerId,
+    origin: Origin,
+    ask: &Ask,
+) -> Result<String, Fail>
+    requires there { at < count_of fleet.old }
+    requires ask { IsAsk ask.now }
+{
+    let Ok(outcome) = fleet.call(fleet.commands(), at, ask, origin) else {
+        return Err(Fail::new("a call"));
+    };
+    let text = outcome_text(alloc, ask, &outcome);
+    drop_outcome(outcome);
+    Ok(text?)
+}
+
+fn called(
+    alloc: Global,
+    fleet: &mut MemoryFleet,
+    at: &str,
+    how: &str,
+    ask: &Ask,
+) -> Result<String, Fail>
+    requires { IsAsk ask.now }
+{
+    let at = server(fleet, at)?;
+    match how {
+        "own" => call_of(alloc, fleet, at, Origin::Client, ask),
+        "copy" => call_of(alloc, fleet, at, Origin::CopyOf(0), ask),
+        _ => {
+            let stamp = number(halves(how, "#").1)?;
+            call_as(alloc, fleet, at, stamp, ask)
+        }
+    }
+}
+
+// A server, a stamp and a request.
+fn call(alloc: Global, fleet: &mut MemoryFleet, text: &str) -> Result<String, Fail> {
+    let (at, rest) = halves(text, " ");
+    let (how, request) = halves(rest, " ");
+    let ask = ask(alloc, request)?;
+    let text = called(alloc, fleet, at, how, &ask);
+    drop_ask(ask);
+    text
+}
+
+fn step(alloc: Global, fleet: &mut MemoryFleet, name: &str, line: &str) -> Result<(), Fail> {
+    let (first, rest) = halves(line, " ");
+    match first {
+        "hold" => hold(fleet, rest),
+        "lose" => lose(fleet, rest),
+        "restart" => restart(fleet, rest),
+        "fail" => fail(fleet, rest),
+        "moment" => set_moment(fleet, rest),
+        "begin" => begin(fleet),
+        _ => {
+            let (text, want) = halves(line, " => ");
+            let got = call(alloc, fleet, text)?;
+            same(name, line, got.as_str(), want)
+        }
+    }
+}
+
+fn new_fleet(alloc: Global, count: u32) -> Result<MemoryFleet, Fail> {
+    let fleet = MemoryFleet::new(alloc, count)?;
+    if fleet.servers() != count as usize {
+        return Err(Fail::new("another count of servers"));
+    }
+    Ok(fleet)
+}
+
+fn scenario(alloc: Global, text: &str) -> Result<(), Fail> {
+    let (name, rest) = halves(text, "\n");
+    let (count, lines) = halves(rest, "\n");
+    let mut fleet = new_fleet(alloc, number(count)?)?;
+    for line in lines.lines() {
+        step(alloc, &mut fleet, name, line)?;
+    }
+    Ok(())
 }
 
 #[test]
-fn a_copy_has_the_stamp_of_its_item(rt: HostRuntime) -> Result<(), Fail> {
-    let alloc = rt.alloc();
-    let mut fleet = MemoryFleet::new(alloc, 2)?;
-    assert!(rt; set(&mut fleet, alloc, 5, 1, b"a", 0, b"1")?);
-    assert!(rt; copies(&mut fleet, alloc, b"a")?);
-    assert_eq!(rt; meta_value(&mut fleet, alloc, 0, b"a", b"1")?, Some(5));
+fn failures_losses_and_copies(rt: HostRuntime) -> Result<(), Fail> {
+    for text in scenarios().split("\n\n") {
+        scenario(rt.alloc(), text)?;
+    }
     Ok(())
 }

@@ -1,142 +1,238 @@
 //! Worked cases of what a server holds, by hand from memcached's protocol.txt, "Increment/Decrement" and "Storage
 //! commands", and from the rule that a stamp is the number of the command whose data began the item.
 
+use crate::reading::{ask, drop_answer, drop_ask, halves, key, number, same, wire};
 use mc_runs::{HeldItem, Mark, agrees, held};
-use mc_types::{Answer, Ask, Body, Code, Dialect, Fields, Key, Op, Tokens};
+use mc_types::{Answer, Ask, Body, Key};
 use std::alloc::{AllocError, Global};
 use std::test::Fail;
+use text_codec::{AnswerRead, read_answer};
 
-fn key_of(text: &[u8]) -> Option<Key> {
-    Key::read(text).ok()
+// A name, the opening item's data, whose flags are 7 and whose stamp is 0, and what happens. A call that is applied has its
+// stamp and an answer that agrees with what is held, and behind it how many spaces the server put after the number that it
+// stored. `agrees` and `differs` say of another answer whether it agrees with what is held now, and `now` says what that is:
+// the data, the flags and the stamp.
+fn lives() -> &'static str {
+    r#"behind the greatest number comes 0
+(18446744073709551615)
+differs incr a 1| => 1|
+#1 incr a 1| => 0|
+now a => (0) 7 #0
+
+no number is below 0
+(5)
+differs decr a 9| => 1|
+#1 decr a 9| => 0|
+now a => (0) 7 #0
+
+spaces behind a number are no part of it
+(5  )
+differs incr a 1| => 7|
+#1 incr a 1| => 6|
+now a => (6) 7 #0
+
+zeros before a number are no part of it
+(007)
+differs incr a 0| => 8|
+#1 incr a 0| => 7|
+now a => (7) 7 #0
+
+a digit appended to a number
+(0)
+#1 append a 7 0 1|5| => STORED|
+now a => (05) 7 #0
+
+spaces behind a number
+(10)
+#1 decr a 1| => 9| and 1 space
+now a => (9 ) 7 #0
+
+nothing after a restart
+nothing
+#1 set a 7 0 1|1| => STORED|
+restarted
+now a => nothing
+agrees incr a 1| => NOT_FOUND|
+differs incr a 1| => 2|
+
+append keeps the stamp
+nothing
+#3 set a 7 0 1|x| => STORED|
+#9 append a 7 0 1|y| => STORED|
+agrees get a| => VALUE a 7 2|xy|END|
+differs get a| => END|
+now a => (xy) 7 #3
+
+a delete of one key
+(x)
+agrees md a| => HD|
+#1 delete a| => DELETED|
+now a => nothing
+now b => (x) 7 #0
+
+a loss of one key
+(x)
+lost a
+now a => nothing
+now b => (x) 7 #0"#
 }
 
-fn ask_of(alloc: Global, key: Key, op: Op, text: &[u8], delta: u64) -> Result<Ask, AllocError> {
-    Ok(Ask {
-        key,
-        op,
-        dialect: Dialect::Classic,
-        with_cas: false,
-        flags: 7,
-        exptime: None,
-        body: Body::from_slice(alloc, text)?,
-        cas: None,
-        delta,
-        tokens: Tokens::new(alloc),
+// What was held at the opening, and what happened, the latest first.
+#[derive(Drop)]
+struct Life {
+    opening: Option<HeldItem>,
+    marks: Vec<Mark>,
+}
+
+fn opening_of(alloc: Global, text: &str) -> Result<Option<HeldItem>, AllocError> {
+    if text == "nothing" {
+        return Ok(None);
+    }
+    let (_, rest) = halves(text, "(");
+    let (data, _) = halves(rest, ")");
+    let body = Body::from_slice(alloc, data.as_bytes())?;
+    Ok(Some(HeldItem::new(body, 7, 0)))
+}
+
+fn item_text(alloc: Global, item: &HeldItem) -> Result<String, AllocError> {
+    let data = str::from_utf8(item.content()).unwrap_or("no text");
+    let flags = item.flags();
+    let stamp = item.stamp();
+    format!(in alloc; "({data}) {flags} #{stamp}")
+}
+
+fn held_text(alloc: Global, item: Option<HeldItem>) -> Result<String, AllocError> {
+    match item {
+        Some(item) => item_text(alloc, &item),
+        None => "nothing".to_string(alloc),
+    }
+}
+
+fn now(alloc: Global, life: &Life, name: &str) -> Result<String, Fail> {
+    let key = key(name)?;
+    let item = held(alloc, &life.opening, life.marks.as_slice(), &key)?;
+    Ok(held_text(alloc, item)?)
+}
+
+fn answer(alloc: Global, ask: &Ask, text: &str) -> Result<Answer, Fail> {
+    let bytes = wire(alloc, text)?;
+    match read_answer(alloc, ask, bytes.as_str().as_bytes())? {
+        AnswerRead::Answer(answer, _) => Ok(answer),
+        _ => Err(Fail::new("no answer")),
+    }
+}
+
+fn agrees_now(
+    alloc: Global,
+    life: &Life,
+    ask: &Ask,
+    answer: &Answer,
+) -> Result<&'static str, AllocError> {
+    let item = held(alloc, &life.opening, life.marks.as_slice(), &ask.key)?;
+    Ok(if agrees(ask, answer, &item) {
+        "agrees"
+    } else {
+        "differs"
     })
 }
 
-fn applied(ask: Ask, stamp: u64, answer: Answer) -> Mark {
-    Mark::Applied {
-        ask,
-        stamp,
-        answer,
-        spaces: 0,
+fn told(alloc: Global, life: &Life, ask: &Ask, text: &str) -> Result<&'static str, Fail> {
+    let answer = answer(alloc, ask, text)?;
+    let says = agrees_now(alloc, life, ask, &answer);
+    drop_answer(answer);
+    Ok(says?)
+}
+
+// Whether the answer agrees with what is held.
+fn agreement(alloc: Global, life: &Life, request: &str, text: &str) -> Result<&'static str, Fail> {
+    let ask = ask(alloc, request)?;
+    let says = told(alloc, life, &ask, text);
+    drop_ask(ask);
+    says
+}
+
+fn add(life: &mut Life, mark: Mark) -> Result<(), AllocError> {
+    match life.marks.insert(0, mark) {
+        Ok(()) => Ok(()),
+        Err(_) => Err(AllocError),
     }
 }
 
-fn item_of(alloc: Global, text: &[u8], stamp: u64) -> Result<Option<HeldItem>, AllocError> {
-    Ok(Some(HeldItem::new(Body::from_slice(alloc, text)?, 7, stamp)))
-}
-
-// The opening item's data, the operation with its data or number, the answer, and the data that are then held.
-#[test]
-fn data_after_a_call(rt: HostRuntime) -> Result<(), Fail> {
-    let alloc = rt.alloc();
-    let key = key_of(b"a").ok_or("a is a key")?;
-    let numbers = [
-        (
-            b"18446744073709551615".as_slice(),
-            Op::Incr,
-            1,
-            0,
-            b"0".as_slice(),
-        ),
-        (b"5".as_slice(), Op::Decr, 9, 0, b"0".as_slice()),
-        (b"5  ".as_slice(), Op::Incr, 1, 6, b"6".as_slice()),
-        (b"007".as_slice(), Op::Incr, 0, 7, b"7".as_slice()),
-    ];
-    for (before, op, delta, number, after) in numbers {
-        let opening = item_of(alloc, before, 0)?;
-        let ask = ask_of(alloc, key, op, b"", delta)?;
-        assert!(rt; agrees(&ask, &Answer::Number(number), &opening));
-        assert!(rt; !agrees(&ask, &Answer::Number(number + 1), &opening));
-        let life = [applied(ask, 1, Answer::Number(number))];
-        let item = held(alloc, &opening, &life, &key)?.ok_or("an item is held")?;
-        assert_eq!(rt; item.content(), after);
+// The answer, and how many spaces the server put after the number that it stored.
+fn with_spaces(text: &str) -> Result<(&str, u32), Fail> {
+    let (answer, spaces) = halves(text, " and ");
+    if spaces.is_empty() {
+        return Ok((answer, 0));
     }
-    let opening = item_of(alloc, b"0", 0)?;
-    let ask = ask_of(alloc, key, Op::Append, b"5", 0)?;
-    let life = [applied(ask, 1, Answer::Stored)];
-    let item = held(alloc, &opening, &life, &key)?.ok_or("an item is held")?;
-    assert_eq!(rt; item.content(), b"05".as_slice());
-    Ok(())
+    let (count, _) = halves(spaces, " ");
+    Ok((answer, number(count)?))
 }
 
-#[test]
-fn spaces_behind_a_number(rt: HostRuntime) -> Result<(), Fail> {
-    let alloc = rt.alloc();
-    let key = key_of(b"a").ok_or("a is a key")?;
-    let life = [Mark::Applied {
-        ask: ask_of(alloc, key, Op::Decr, b"", 1)?,
-        stamp: 1,
-        answer: Answer::Number(9),
-        spaces: 1,
-    }];
-    let item = held(alloc, &item_of(alloc, b"10", 0)?, &life, &key)?.ok_or("an item is held")?;
-    assert_eq!(rt; item.content(), b"9 ".as_slice());
-    Ok(())
+fn applied(
+    alloc: Global,
+    stamp: u32,
+    request: &str,
+    text: &str,
+    spaces: u32,
+) -> Result<Mark, Fail> {
+    let ask = ask(alloc, request)?;
+    match answer(alloc, &ask, text) {
+        Ok(answer) => Ok(Mark::Applied {
+            ask,
+            stamp: u64::from(stamp),
+            answer,
+            spaces,
+        }),
+        Err(fail) => {
+            drop_ask(ask);
+            Err(fail)
+        }
+    }
 }
 
-#[test]
-fn nothing_after_a_restart(rt: HostRuntime) -> Result<(), Fail> {
-    let alloc = rt.alloc();
-    let key = key_of(b"a").ok_or("a is a key")?;
-    let set = ask_of(alloc, key, Op::Set, b"1", 0)?;
-    let life = [Mark::Restarted, applied(set, 1, Answer::Stored)];
-    let now = held(alloc, &None, &life, &key)?;
-    assert!(rt; now.is_none());
-    let incr = ask_of(alloc, key, Op::Incr, b"", 1)?;
-    assert!(rt; agrees(&incr, &Answer::NotFound, &now));
-    assert!(rt; !agrees(&incr, &Answer::Number(2), &now));
-    Ok(())
+fn call(alloc: Global, life: &mut Life, name: &str, stamp: &str, line: &str) -> Result<(), Fail> {
+    let stamp = number(stamp)?;
+    let (request, told) = halves(line, " => ");
+    let (text, spaces) = with_spaces(told)?;
+    same(name, line, agreement(alloc, life, request, text)?, "agrees")?;
+    let mark = applied(alloc, stamp, request, text, spaces)?;
+    Ok(add(life, mark)?)
 }
 
-#[test]
-fn append_keeps_the_stamp(rt: HostRuntime) -> Result<(), Fail> {
-    let alloc = rt.alloc();
-    let key = key_of(b"a").ok_or("a is a key")?;
-    let life = [
-        applied(ask_of(alloc, key, Op::Append, b"y", 0)?, 9, Answer::Stored),
-        applied(ask_of(alloc, key, Op::Set, b"x", 0)?, 3, Answer::Stored),
-    ];
-    let now = held(alloc, &None, &life, &key)?;
-    let get = ask_of(alloc, key, Op::Get, b"", 0)?;
-    let hit = Answer::Hit {
-        flags: 7,
-        body: Body::from_slice(alloc, b"xy")?,
-        cas: None,
+fn lost(life: &mut Life, name: &str) -> Result<(), Fail> {
+    let key = key(name)?;
+    Ok(add(life, Mark::Lost(key))?)
+}
+
+fn step(alloc: Global, life: &mut Life, name: &str, line: &str) -> Result<(), Fail> {
+    let (first, rest) = halves(line, " ");
+    let (left, right) = halves(rest, " => ");
+    match first {
+        "restarted" => Ok(add(life, Mark::Restarted)?),
+        "lost" => lost(life, rest),
+        "now" => same(name, line, now(alloc, life, left)?.as_str(), right),
+        "agrees" | "differs" => same(name, line, agreement(alloc, life, left, right)?, first),
+        _ => call(alloc, life, name, halves(first, "#").1, rest),
+    }
+}
+
+fn lived(alloc: Global, text: &str) -> Result<(), Fail> {
+    let (name, rest) = halves(text, "\n");
+    let (opening, lines) = halves(rest, "\n");
+    let mut life = Life {
+        opening: opening_of(alloc, opening)?,
+        marks: Vec::new(alloc),
     };
-    assert!(rt; agrees(&get, &hit, &now));
-    assert!(rt; !agrees(&get, &Answer::Miss, &now));
-    let item = now.ok_or("an item is held")?;
-    assert_eq!(rt; item.stamp(), 3);
-    assert_eq!(rt; item.flags(), 7);
+    for line in lines.lines() {
+        step(alloc, &mut life, name, line)?;
+    }
     Ok(())
 }
 
 #[test]
-fn deletes_and_losses_of_one_key(rt: HostRuntime) -> Result<(), Fail> {
-    let alloc = rt.alloc();
-    let key = key_of(b"a").ok_or("a is a key")?;
-    let other = key_of(b"b").ok_or("b is a key")?;
-    let opening = item_of(alloc, b"x", 0)?;
-    let delete = ask_of(alloc, key, Op::Delete, b"", 0)?;
-    assert!(rt; agrees(&delete, &Answer::Meta(Code::Hd, Fields::none()), &opening));
-    let deleted = [applied(delete, 1, Answer::Deleted)];
-    assert!(rt; held(alloc, &opening, &deleted, &key)?.is_none());
-    assert!(rt; held(alloc, &opening, &deleted, &other)?.is_some());
-    let lost = [Mark::Lost(key)];
-    assert!(rt; held(alloc, &opening, &lost, &key)?.is_none());
-    assert!(rt; held(alloc, &opening, &lost, &other)?.is_some());
+fn what_each_life_leaves(rt: HostRuntime) -> Result<(), Fail> {
+    for text in lives().split("\n\n") {
+        lived(rt.alloc(), text)?;
+    }
     Ok(())
 }

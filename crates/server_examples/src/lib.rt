@@ -10,4 +10,6 @@ mod fleets;
 #[cfg(test)]
 mod held_items;
 #[cfg(test)]
+mod reading;
+#[cfg(test)]
 mod table;

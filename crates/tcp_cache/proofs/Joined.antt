@@ -1,4 +1,4 @@
--- Bytes that are fed behind others.
+-- Bytes that are fed after others.
 use Rattle.std.proofs.Common.{◌≡◌, ℕ, ℤ, List, ◌++◌, take, drop, inl, inr, refl, sym, ap, ◌∙◌, subst, append_assoc}
 use Rattle.std.proofs.lemmas.List.{take-append-drop}
 use Rattle.request_parts.specs.Stream.{Place, extended}
@@ -32,7 +32,7 @@ behind_some one moment h u p c h1 u1 p1 c1 h2 u2 p2 c2 a b =
       unsent_is = b.unsent_is ∙ ap (λ (l : List ℕ). l ++ b.text) a.unsent_is ∙ append_assoc u a.text b.text;
     }
 
--- a piece that is served behind what was served
+-- a piece that is served after what was served
 pub serves_behind : PiecesAreOne → (moment : ℤ) (h u : List ℕ) (p : Place) (c : Contents) (h1 u1 : List ℕ) (p1 : Place) (c1 : Contents) (h2 u2 : List ℕ) (p2 : Place) (c2 : Contents)
     → ServesOn moment h u p c h1 u1 p1 c1 → Serves moment h1 u1 p1 c1 h2 u2 p2 c2 → ServesOn moment h u p c h2 u2 p2 c2
 serves_behind one moment h u p c h1 u1 p1 c1 h2 u2 p2 c2 (inl a) b = inr (behind_none moment h u p c h1 u1 p1 c1 h2 u2 p2 c2 a b)

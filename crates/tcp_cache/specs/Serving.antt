@@ -4,7 +4,7 @@ use Rattle.request_parts.specs.Stream.{Place, Closed, extended}
 use Rattle.cache_server.specs.Contents.{Contents}
 use Rattle.cache_connection.specs.Serving.{Feeds, Stops}
 
--- the first bytes of those that are held were fed to the connection, and the text that they gave stands behind what is to be sent
+-- the first bytes of those that are held were fed to the connection, and the text that they gave stands after what is to be sent
 pub record Serves (moment : ℤ) (held unsent : List ℕ) (place : Place) (old : Contents) (held' unsent' : List ℕ) (place' : Place) (new : Contents) : Type 0 where
   pub fed : List ℕ
   pub text : List ℕ
@@ -23,14 +23,14 @@ abbrev pub ServesOn : ℤ → List ℕ → List ℕ → Place → Contents → L
 ServesOn moment held unsent place old held' unsent' place' new =
     Stays held unsent place old held' unsent' place' new ⊎ Serves moment held unsent place old held' unsent' place' new
 
--- memory was refused while the first bytes of those that are held were fed, or behind that
+-- memory was refused while the first bytes of those that are held were fed, or after that
 pub record StopsIn (moment : ℤ) (held : List ℕ) (place : Place) (old new : Contents) : Type 0 where
   pub fed : List ℕ
   pub rest : List ℕ
   pub held_is : held ≡ fed ++ rest
   pub stops : Stops moment (extended place fed) old new
 
--- the same, behind bytes that were served
+-- the same, after bytes that were served
 pub record StopsOn (moment : ℤ) (held unsent : List ℕ) (place : Place) (old new : Contents) : Type 0 where
   pub held_then : List ℕ
   pub unsent_then : List ℕ

@@ -101,7 +101,7 @@ impl<S: Read + Write + Drop> Client<S> {
     }
 
     // The first line that is held, or all where no line ends there: it is fed, and what that gives is to be sent. So one line is
-    // the most that is served behind a backlog.
+    // the most that is served after a backlog.
     fn serve_piece(&mut self, cache: &mut Cache, moment: Moment) -> Result<(), AllocError>
         requires { 0 < length self.old.conn.held.items }
         ensures ok { OnOk result (Serves moment.seconds self.old.conn.held.items self.old.conn.unsent.items self.old.served cache.old self.new.conn.held.items self.new.conn.unsent.items self.new.served cache.new) }
@@ -131,7 +131,7 @@ impl<S: Read + Write + Drop> Client<S> {
     }
 
     /// All that is held is served at this moment, piece by piece, up to a backlog or the end of the stream: it is fed in order, none left
-    /// out, and what that gives goes behind what is to be sent.
+    /// out, and what that gives goes after what is to be sent.
     ///
     /// The only error is running out of memory, which may break off a message; then the client is to be closed.
     ///
@@ -167,7 +167,7 @@ impl<S: Read + Write + Drop> Client<S> {
         }
         let got = self.conn.read_once(READ_ROOM);
         if self.served.is_closed() {
-            // What comes behind the end is dropped. Left unread, it would take the last replies with it when the socket is closed.
+            // What comes after the end is dropped. Left unread, it would take the last replies with it when the socket is closed.
             self.conn.held.clear();
         }
         match got {

@@ -162,7 +162,7 @@ impl<R: Net + Clock + AllocGlobal> CacheEnd<R> {
         Ok(())
     }
 
-    // A client that can't be served for want of memory or of the system is closed.
+    // A client that can't be served, since memory or the system refuses it, is closed.
     fn admit(&mut self, stream: R::Stream) {
         if self.clients.len() >= self.most_clients {
             turn_away(stream);

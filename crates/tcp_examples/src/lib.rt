@@ -5,7 +5,15 @@
 #[cfg(test)]
 mod caches;
 #[cfg(test)]
+mod configs;
+#[cfg(test)]
+mod dialects;
+#[cfg(test)]
+mod ends;
+#[cfg(test)]
 mod links;
+#[cfg(test)]
+mod playing;
 #[cfg(test)]
 mod proxies;
 #[cfg(test)]

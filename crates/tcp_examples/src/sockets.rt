@@ -1,40 +1,97 @@
-//! Tests: an end over a stream in memory, which gives and takes a few bytes at a time.
+//! An end over a stream in memory, which gives and takes a few bytes at a time.
 
 ghost use Rattle.std.specs.Prelude.{◌≡◌, ◌≤◌};
 ghost use Rattle.std.specs.Io.{ReadsAtMost, WritesAtMost};
 ghost use Rattle.std.specs.Io.KnownBytes.{ReadConsumes, WriteAppends, Keeps};
 
+use crate::playing::{Stage, cut, first_line, plain, play_lines, shown, yes_or_no};
+use std::alloc::Global;
 use std::io;
 use std::io::{ErrorKind, Read, Write};
 use std::test::Fail;
 use tcp_socket::{Conn, Got, Limits, Sent};
 
-// What a stream does when it is next called.
-#[derive(Clone, Copy)]
-enum Turn {
-    // It gives or takes so many bytes.
-    Count(usize),
-    Fails(ErrorKind),
+// What streams give is held up to 8 bytes, and 4 that are unsent are a backlog. The first line of an example says what its stream gives,
+// and its turns: how many bytes it gives or takes when it is next called, or how that fails. Without a turn it isn't ready.
+fn texts() -> &'static str {
+    r"A read that is interrupted is made again, and nothing is read where too much is held.
+get abcdef in turns 3 interrupted 5
+read => bytes
+held => get
+readable => no
+wake
+read => nothing
+readable => yes
+read => bytes
+held => get abcd
+read => full
+use 8
+wake
+read => nothing
+readable => no
+
+The end is read behind the last bytes.
+q in turns 9 9 reset
+closing
+read => bytes
+readable => yes
+read => ended
+held => q
+read => failed
+
+Short writes send what is unsent in its order.
+nothing in turns 2 interrupted waits 9
+send => nothing
+write END\r\n
+backlog => yes
+send => bytes
+backlog => no
+-- This one was interrupted.
+send => nothing
+writable => yes
+send => nothing
+writable => no
+send => bytes
+unsent => nothing
+taken => END\r\n
+
+A stream that takes nothing has failed.
+nothing in turns 0
+write END\r\n
+send => failed
+unsent => END\r\n
+
+A stream that fails has.
+nothing in turns broken
+write END\r\n
+send => failed
+unsent => END\r\n"
 }
 
-// Gives bytes of a text and takes bytes, by its turns; without one it isn't ready.
+// Gives bytes of a text and takes bytes, by its turns.
 #[derive(Drop)]
 struct Script<'a> {
     text: &'a [u8],
-    turns: &'a [Turn],
+    turns: &'a str,
     taken: Vec<u8>,
+}
+
+fn kind_of(word: &str) -> ErrorKind {
+    match word {
+        "interrupted" => ErrorKind::Interrupted,
+        "reset" => ErrorKind::ConnectionReset,
+        "broken" => ErrorKind::BrokenPipe,
+        _ => ErrorKind::WouldBlock,
+    }
 }
 
 impl<'a> Script<'a> {
     fn next_turn(&mut self) -> io::Result<usize> {
-        let turns = self.turns;
-        let Some((first, rest)) = turns.split_first() else {
-            return Err(io::Error::from(ErrorKind::WouldBlock));
-        };
+        let (word, rest) = cut(self.turns);
         self.turns = rest;
-        match first {
-            Turn::Count(count) => Ok(*count),
-            Turn::Fails(kind) => Err(io::Error::from(*kind)),
+        match word.parse::<usize>() {
+            Ok(count) => Ok(count),
+            Err(_) => Err(io::Error::from(kind_of(word))),
         }
     }
 }
@@ -62,99 +119,104 @@ impl<'a> Write for Script<'a> {
     }
 }
 
+// An end.
+#[derive(Drop)]
+struct End<'a> {
+    alloc: Global,
+    conn: Conn<Script<'a>>,
+}
+
 const LIMITS: Limits = Limits { held: 8, unsent: 4 };
 
-#[test]
-fn short_reads(rt: HostRuntime) -> Result<(), Fail> {
+fn make_end(alloc: Global, text: &str) -> End<'_> {
+    let (text, turns) = text.split_once(" in turns ").unwrap_or((text, ""));
     let stream = Script {
-        text: b"get abcdef",
-        turns: &[
-            Turn::Count(3),
-            Turn::Fails(ErrorKind::Interrupted),
-            Turn::Count(5),
-        ],
-        taken: Vec::new(rt.alloc()),
+        text: if text == "nothing" {
+            b"".as_slice()
+        } else {
+            text.as_bytes()
+        },
+        turns,
+        taken: Vec::new(alloc),
     };
-    let mut conn = Conn::new(rt.alloc(), stream, LIMITS);
-    assert!(rt; conn.read_once(4)? == Got::Bytes);
-    assert_eq!(rt; conn.held.as_slice(), b"get".as_slice());
-    assert!(rt; !conn.readable);
-    conn.readable = true;
-    assert!(rt; conn.read_once(4)? == Got::Nothing);
-    // An interrupted read is made again.
-    assert!(rt; conn.readable);
-    assert!(rt; conn.read_once(4)? == Got::Bytes);
-    assert_eq!(rt; conn.held.as_slice(), b"get abcd".as_slice());
-    assert!(rt; conn.read_once(4)? == Got::Full);
-    conn.held.advance(8);
-    conn.readable = true;
-    assert!(rt; conn.read_once(4)? == Got::Nothing);
-    assert!(rt; !conn.readable);
-    Ok(())
+    End {
+        alloc,
+        conn: Conn::new(alloc, stream, LIMITS),
+    }
+}
+
+fn got_word(got: Got) -> &'static str {
+    match got {
+        Got::Bytes => "bytes",
+        Got::Nothing => "nothing",
+        Got::Full => "full",
+        Got::Ended => "ended",
+        Got::Failed => "failed",
+    }
+}
+
+fn sent_word(sent: Sent) -> &'static str {
+    match sent {
+        Sent::Bytes => "bytes",
+        Sent::Nothing => "nothing",
+        Sent::Failed => "failed",
+    }
+}
+
+impl End<'_> {
+    // Events that give nothing.
+    fn set(&mut self, verb: &str, text: &str) -> Result<&'static str, Fail> {
+        match verb {
+            "wake" => self.conn.readable = true,
+            "closing" => self.conn.closing = true,
+            "use" => self
+                .conn
+                .held
+                .advance(text.parse::<usize>()?.min(self.conn.held.len())),
+            "write" => self
+                .conn
+                .unsent
+                .extend_from_slice(plain(self.alloc, text)?.as_bytes())?,
+            _ => return Err("no such event")?,
+        }
+        Ok("")
+    }
+
+    // Those that give a word.
+    fn word(&mut self, verb: &str, text: &str) -> Result<&'static str, Fail> {
+        match verb {
+            "read" => Ok(got_word(self.conn.read_once(4)?)),
+            "send" => Ok(sent_word(self.conn.send_once())),
+            "readable" => Ok(yes_or_no(self.conn.readable)),
+            "writable" => Ok(yes_or_no(self.conn.writable)),
+            "backlog" => Ok(yes_or_no(self.conn.has_backlog())),
+            _ => self.set(verb, text),
+        }
+    }
+}
+
+impl Stage for End<'_> {
+    fn answer(&mut self, event: &str, _want: &str) -> Result<String, Fail> {
+        let (verb, text) = cut(event);
+        match verb {
+            "held" => shown(self.alloc, self.conn.held.as_slice()),
+            "unsent" => shown(self.alloc, self.conn.unsent.as_slice()),
+            "taken" => shown(self.alloc, self.conn.stream.taken.as_slice()),
+            _ => Ok(self.word(verb, text)?.to_string(self.alloc)?),
+        }
+    }
+}
+
+fn play(alloc: Global, name: &str, lines: &str) -> Result<(), Fail> {
+    let (first, rest) = first_line(lines);
+    play_lines(&mut make_end(alloc, first), name, rest)
 }
 
 #[test]
-fn the_end_is_read_behind_the_last_bytes(rt: HostRuntime) -> Result<(), Fail> {
-    let stream = Script {
-        text: b"q",
-        turns: &[
-            Turn::Count(9),
-            Turn::Count(9),
-            Turn::Fails(ErrorKind::ConnectionReset),
-        ],
-        taken: Vec::new(rt.alloc()),
-    };
-    let mut conn = Conn::new(rt.alloc(), stream, LIMITS);
-    conn.closing = true;
-    assert!(rt; conn.read_once(4)? == Got::Bytes);
-    assert!(rt; conn.readable);
-    assert!(rt; conn.read_once(4)? == Got::Ended);
-    assert_eq!(rt; conn.held.as_slice(), b"q".as_slice());
-    assert!(rt; conn.read_once(4)? == Got::Failed);
-    Ok(())
-}
-
-#[test]
-fn short_writes(rt: HostRuntime) -> Result<(), Fail> {
-    let stream = Script {
-        text: b"",
-        turns: &[
-            Turn::Count(2),
-            Turn::Fails(ErrorKind::Interrupted),
-            Turn::Fails(ErrorKind::WouldBlock),
-            Turn::Count(9),
-        ],
-        taken: Vec::new(rt.alloc()),
-    };
-    let mut conn = Conn::new(rt.alloc(), stream, LIMITS);
-    assert!(rt; conn.send_once() == Sent::Nothing);
-    conn.unsent.extend_from_slice(b"END\r\n")?;
-    assert!(rt; conn.has_backlog());
-    assert!(rt; conn.send_once() == Sent::Bytes);
-    assert!(rt; !conn.has_backlog());
-    assert!(rt; conn.send_once() == Sent::Nothing);
-    assert!(rt; conn.writable);
-    assert!(rt; conn.send_once() == Sent::Nothing);
-    assert!(rt; !conn.writable);
-    assert!(rt; conn.send_once() == Sent::Bytes);
-    assert!(rt; conn.unsent.is_empty());
-    assert_eq!(rt; conn.stream.taken.as_slice(), b"END\r\n".as_slice());
-    Ok(())
-}
-
-#[test]
-fn a_stream_that_fails_a_write(rt: HostRuntime) -> Result<(), Fail> {
-    for turn in [Turn::Count(0), Turn::Fails(ErrorKind::BrokenPipe)] {
-        let turns = [turn];
-        let stream = Script {
-            text: b"",
-            turns: turns.as_slice(),
-            taken: Vec::new(rt.alloc()),
-        };
-        let mut conn = Conn::new(rt.alloc(), stream, LIMITS);
-        conn.unsent.extend_from_slice(b"END\r\n")?;
-        assert!(rt; conn.send_once() == Sent::Failed);
-        assert_eq!(rt; conn.unsent.as_slice(), b"END\r\n".as_slice());
+fn streams_in_memory(rt: HostRuntime) -> Result<(), Fail> {
+    for example in texts().split("\n\n") {
+        let (name, lines) = first_line(example);
+        play(rt.alloc(), name, lines)?;
     }
     Ok(())
 }

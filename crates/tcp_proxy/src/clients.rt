@@ -1,5 +1,7 @@
 //! The clients' ends, by their ids in the core, and which of them are to be served.
 
+ghost use Rattle.std.specs.Prelude.{◌<◌};
+
 use mio::net::TcpStream;
 use std::alloc::{AllocError, Global};
 use tcp_socket::{Conn, Limits, Ready, Sent};
@@ -17,6 +19,11 @@ pub fn note(conn: &mut Conn<TcpStream>, told: Ready) {
     conn.writable = conn.writable || told.writes;
     conn.closing = conn.closing || told.closes;
 }
+
+// How much room a client's read has at least, and where long data come.
+const READ: usize = 16_384;
+
+const LONG_READ: usize = 262_144;
 
 // So many writes are made at once at most.
 const WRITES: usize = 64;
@@ -40,6 +47,8 @@ pub fn send(conn: &mut Conn<TcpStream>) -> bool {
 #[derive(Drop)]
 pub struct Client {
     pub conn: Conn<TcpStream>,
+    /// Whether its last read filled its room, so that long data come.
+    reads_long: bool,
     /// How many of its commands can go on since their calls were settled: so many polls begin none.
     pub settled: usize,
     /// It sends no more, or nothing more is read of it.
@@ -55,6 +64,7 @@ impl Client {
     pub fn new(alloc: Global, stream: TcpStream) -> Client {
         Client {
             conn: Conn::new(alloc, stream, LIMITS),
+            reads_long: false,
             settled: 0,
             is_ended: false,
             is_ready: false,
@@ -71,6 +81,18 @@ impl Client {
     /// Whether something may be read of it.
     pub fn can_read(&self) -> bool {
         self.conn.readable && !self.is_ended && self.conn.held.is_empty() && self.has_room()
+    }
+
+    /// How much room its next read has at least.
+    pub fn read_room(&self) -> usize
+        ensures { 0 < result }
+    {
+        if self.reads_long { LONG_READ } else { READ }
+    }
+
+    /// A read gave something.
+    pub fn has_read(&mut self) {
+        self.reads_long = self.conn.held.len() >= self.read_room();
     }
 
     /// One of its commands went on.

@@ -6,6 +6,7 @@ use crate::link::Link;
 use crate::news::{Cause, LinkNews};
 use crate::settings::Settings;
 use crate::tally::Tally;
+use bytes::BytesMut;
 use fresh_core::FreshCore;
 use fresh_gate::{Accepted, ReloadFault};
 use link_calls::{AnyCore, LoadFault, Next, SentCall, fail_call};
@@ -28,8 +29,6 @@ const LISTENER: usize = 1_000_000_000_000;
 
 const LINKS: usize = 1_000_000_000;
 
-const CLIENT_READ: usize = 16_384;
-
 const LINK_READ: usize = 65_536;
 
 const HELD_LIMIT: usize = 2_097_152;
@@ -42,12 +41,15 @@ const ACCEPTS: usize = 64;
 #[derive(Drop)]
 pub struct ProxyEnd {
     alloc: Global,
-    core: AnyCore,
+    // On the heap, so that whoever owns an end drops it by one call.
+    core: Box<AnyCore>,
     settings: Settings,
     poll: Poll,
     events: Events,
     listener: TcpListener,
     clients: Clients,
+    // What is read of a client comes here first: a client that is idle keeps no room for it.
+    input: BytesMut,
     links: Vec<Link>,
     ready_links: Vec<usize>,
     links_with_output: Vec<usize>,
@@ -94,6 +96,17 @@ fn connect<N: Net>(
     Ok(stream)
 }
 
+// A buffer in which nothing is left is the one for the next client, if it has more room than that has.
+fn give_back(alloc: Global, held: &mut BytesMut, input: &mut BytesMut) {
+    if !held.is_empty() {
+        return;
+    }
+    if input.capacity() < held.capacity() {
+        std::mem::swap(held, input);
+    }
+    *held = BytesMut::new(alloc);
+}
+
 // Why a link failed, if too many reads were in vain.
 fn vain(has_failed: bool) -> Option<Cause> {
     if has_failed {
@@ -109,6 +122,7 @@ fn limits_of(settings: Settings) -> Limits {
         held: HELD_LIMIT,
         depth: settings.client_window,
         window: settings.link_window,
+        sharing: settings.sharing,
     }
 }
 
@@ -166,6 +180,24 @@ impl Parts {
     }
 }
 
+fn fresh_core(
+    alloc: Global,
+    accepted: Accepted,
+    settings: Settings,
+) -> Result<Box<AnyCore>, AllocError> {
+    let core = FreshCore::new(alloc, accepted, limits_of(settings))?;
+    Ok(Box::new(alloc, AnyCore::Fresh(core))?)
+}
+
+fn unchecked_core(
+    alloc: Global,
+    tree: Tree,
+    settings: Settings,
+) -> Result<Box<AnyCore>, AllocError> {
+    let core = Core::unchecked(alloc, tree, limits_of(settings));
+    Ok(Box::new(alloc, AnyCore::Unchecked(core))?)
+}
+
 impl ProxyEnd {
     /// Listens, and has no link yet: each is made when the first call is to go out on it. The calls of a server without an address
     /// fail.
@@ -177,8 +209,8 @@ impl ProxyEnd {
         settings: Settings,
     ) -> io::Result<ProxyEnd> {
         let parts = Parts::open(rt, listen, servers)?;
-        let core = FreshCore::new(rt.alloc(), accepted, limits_of(settings))?;
-        Ok(ProxyEnd::of(rt.alloc(), AnyCore::Fresh(core), settings, parts))
+        let core = fresh_core(rt.alloc(), accepted, settings)?;
+        Ok(ProxyEnd::of(rt.alloc(), core, settings, parts))
     }
 
     /// The same on a tree of which no gate was asked: nothing is promised of what replies show.
@@ -190,11 +222,11 @@ impl ProxyEnd {
         settings: Settings,
     ) -> io::Result<ProxyEnd> {
         let parts = Parts::open(rt, listen, servers)?;
-        let core = Core::unchecked(rt.alloc(), tree, limits_of(settings));
-        Ok(ProxyEnd::of(rt.alloc(), AnyCore::Unchecked(core), settings, parts))
+        let core = unchecked_core(rt.alloc(), tree, settings)?;
+        Ok(ProxyEnd::of(rt.alloc(), core, settings, parts))
     }
 
-    fn of(alloc: Global, core: AnyCore, settings: Settings, parts: Parts) -> ProxyEnd {
+    fn of(alloc: Global, core: Box<AnyCore>, settings: Settings, parts: Parts) -> ProxyEnd {
         let Parts {
             poll,
             events,
@@ -210,6 +242,7 @@ impl ProxyEnd {
             events,
             listener,
             clients: Clients::new(alloc),
+            input: BytesMut::new(alloc),
             links,
             ready_links: Vec::new(alloc),
             links_with_output: Vec::new(alloc),
@@ -430,7 +463,7 @@ impl ProxyEnd {
         self.has_news = true;
         self.is_freed = true;
         for _ in 0..link.calls.len() {
-            if let Some(client) = link.calls.fail_next(&mut self.core) {
+            if let Some(client) = link.calls.fail_next(self.core.as_mut()) {
                 self.clients.mark_settled(client)?;
             }
         }
@@ -527,7 +560,7 @@ impl ProxyEnd {
         self.settle_all(at, true)
     }
 
-    // All whole answers are settled, behind another whole answer or not. Why the link fails by that, if it does.
+    // All whole answers are settled, after another whole answer or not. Why the link fails by that, if it does.
     fn settle_all(&mut self, at: usize, has_answered: bool) -> io::Result<Option<Cause>> {
         let Some(link) = self.links.get_mut(at) else {
             return Ok(None);
@@ -542,7 +575,7 @@ impl ProxyEnd {
             if rest.is_empty() {
                 break;
             }
-            match link.calls.settle_next(&mut self.core, rest) {
+            match link.calls.settle_next(self.core.as_mut(), rest) {
                 Next::Settled { client, used: len } => {
                     used = used.saturating_add(len);
                     self.is_freed = true;
@@ -636,10 +669,15 @@ impl ProxyEnd {
             return Ok(());
         };
         if client.can_read() {
-            match client.conn.read_once(CLIENT_READ)? {
+            std::mem::swap(&mut client.conn.held, &mut self.input);
+            let room = client.read_room();
+            match client.conn.read_once(room)? {
                 Got::Ended => client.is_ended = true,
                 Got::Failed => client.break_off(),
-                Got::Bytes => self.tally.note_read(client.conn.held.len()),
+                Got::Bytes => {
+                    client.has_read();
+                    self.tally.note_read(client.conn.held.len());
+                }
                 Got::Nothing | Got::Full => {}
             }
         }
@@ -651,6 +689,7 @@ impl ProxyEnd {
                 Err(_) => client.break_off(),
             }
         }
+        give_back(self.alloc, &mut client.conn.held, &mut self.input);
         Ok(())
     }
 
@@ -775,31 +814,29 @@ impl ProxyEnd {
 
     // The call has failed, and never went out.
     fn refuse_call(&mut self, id: usize, ticket: Ticket) -> Result<(), AllocError> {
-        fail_call(&mut self.core, ticket);
+        fail_call(self.core.as_mut(), ticket);
         self.clients.mark_settled(id)
     }
 
-    // What the core has for the client goes behind what is to be sent.
+    // What the core has for the client goes after what is to be sent.
     fn show_client(&mut self, id: usize) -> io::Result<()> {
         let Some(client) = self.clients.get_mut(id) else {
             return Ok(());
         };
-        let Ok(bytes) = self.core.take_output(id) else {
-            return Ok(());
-        };
-        if bytes.is_empty() {
+        let unsent = client.conn.unsent.len();
+        match self.core.move_output(id, &mut client.conn.unsent) {
+            Ok(()) => {}
+            Err(CoreFault::NoMemory) => {
+                client.break_off();
+                return Ok(());
+            }
+            Err(_) => return Ok(()),
+        }
+        let shown = client.conn.unsent.len().saturating_sub(unsent);
+        if shown == 0 {
             return Ok(());
         }
-        if client
-            .conn
-            .unsent
-            .extend_from_slice(bytes.as_slice())
-            .is_err()
-        {
-            client.break_off();
-            return Ok(());
-        }
-        self.tally.note_shown(bytes.len());
+        self.tally.note_shown(shown);
         Ok(self.clients.mark_output(id)?)
     }
 

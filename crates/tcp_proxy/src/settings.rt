@@ -1,5 +1,7 @@
 //! How many and how long.
 
+use proxy_core::Sharing;
+
 /// In which dialect a server is asked for classic gets. All else is asked as the client wrote it.
 #[derive(Clone, Copy, PartialEq, Eq)]
 pub enum ServerDialect {
@@ -19,6 +21,8 @@ pub struct Settings {
     pub client_window: usize,
     /// How many calls may be out at one server.
     pub link_window: usize,
+    /// Which commands may be under way together on one key.
+    pub sharing: Sharing,
     /// How many milliseconds a call may take.
     pub call_ms: u64,
     /// How many milliseconds a connection to a server may take to stand.
@@ -33,13 +37,14 @@ pub struct Settings {
 }
 
 impl Settings {
-    /// 1,024 clients, 32 commands of each, 256 calls at each server, one second each time, three failures, any number of reads, and dialects
-    /// as servers tell.
+    /// 1,024 clients, 32 commands of each, 256 calls at each server, keys shared, one second each time, three failures, any number of reads,
+    /// and dialects as servers tell.
     pub fn usual() -> Settings {
         Settings {
             clients: 1_024,
             client_window: 32,
             link_window: 256,
+            sharing: Sharing::Shared,
             call_ms: 1_000,
             connect_ms: 1_000,
             fail_limit: 3,

@@ -6,7 +6,7 @@ use Rattle.tcp_socket.specs.declared.conn.Got.TheVariants as got
 use Rattle.tcp_socket.specs.declared.conn.Sent.{Sent}
 use Rattle.tcp_socket.specs.declared.conn.Sent.TheVariants as sent
 
--- bytes came, and stand behind those that are held
+-- bytes came, and stand after those that are held
 pub record Comes (held held' : List ℕ) (left left' : Option (List ℕ)) : Type 0 where
   pub bytes : List ℕ
   pub some : 0 < length bytes

@@ -1,12 +1,15 @@
-//! The stream of an end and its two buffers: a read goes behind what is held, a write takes from the front of what is to be sent.
+//! The stream of an end and its two buffers: a read goes after what is held, a write takes from the front of what is to be sent.
 
-ghost use Rattle.std.specs.Prelude.{◌≡◌, false, ◌↔◌, ◌<◌, ◌≤◌, ◌⊎◌, [], length, IsTrue, IfOk, OnErr};
+ghost use Rattle.std.specs.Prelude.{◌≡◌, false, ◌↔◌, ◌<◌, ◌≤◌, ◌⊎◌, [], length, IsTrue, IfOk, OnOk, OnErr};
 ghost use Rattle.tcp_socket.specs.Ends.{Reads, Sends};
 
 use bytes::BytesMut;
 use std::alloc::{AllocError, Global};
-use std::io;
 use std::io::{ErrorKind, Read, Write};
+use std::{io, mem};
+
+// From so many bytes on, what is held is copied as a whole where it has to move.
+const MOVED_FROM: usize = 4_096;
 
 /// How much an end keeps, in bytes.
 #[derive(Clone, Copy)]
@@ -49,6 +52,8 @@ pub struct Conn<S: Drop> {
     pub stream: S,
     /// What came and isn't used yet.
     pub held: BytesMut,
+    // Where what is held goes when it has to move. What stands in it is of no account.
+    other: BytesMut,
     /// What is to be sent.
     pub unsent: BytesMut,
     pub limits: Limits,
@@ -90,6 +95,7 @@ impl<S: Read + Write + Drop> Conn<S> {
         Conn {
             stream,
             held: BytesMut::new(alloc),
+            other: BytesMut::new(alloc),
             unsent: BytesMut::new(alloc),
             limits,
             readable: true,
@@ -105,7 +111,28 @@ impl<S: Read + Write + Drop> Conn<S> {
         self.unsent.len() >= self.limits.unsent
     }
 
-    /// One read, into room for at least so many bytes behind what is held. Nothing that came is lost, and nothing else is held.
+    // Makes room for so many bytes after what is held. Where much has to move for that, it is copied at once into the other buffer, in
+    // place of the moving byte by byte that `reserve` does, and no room is taken anew while both are large enough.
+    fn make_room(&mut self, room: usize) -> Result<(), AllocError>
+        ensures held { self.new.held.items ≡ self.old.held.items }
+        ensures room { OnOk result (room ≤ self.new.held.spare) }
+        ensures err { OnErr result (self.new.held.items ≡ self.old.held.items) }
+        ensures rest { self.new ≡ record self.old { held = self.new.held; other = self.new.other } }
+    {
+        let len = self.held.len();
+        if len < MOVED_FROM || room <= self.held.capacity() - len {
+            return self.held.reserve(room);
+        }
+        self.other.clear();
+        self.other.reserve(len)?;
+        self.other.extend_reserved(self.held.as_slice());
+        // Four times as much, so that it seldom has to move again.
+        self.other.reserve(room.max(len.saturating_mul(4)))?;
+        mem::swap(&mut self.held, &mut self.other);
+        Ok(())
+    }
+
+    /// One read, into room for at least so many bytes after what is held. Nothing that came is lost, and nothing else is held.
     ///
     /// `readable` is cleared where the stream has nothing for now: it said so, or it gave less than there was room for and its peer
     /// isn't closing. The only error is running out of memory for the room; then nothing was read, and it can be tried again.
@@ -122,7 +149,7 @@ impl<S: Read + Write + Drop> Conn<S> {
         if self.held.len() >= self.limits.held {
             return Ok(Got::Full);
         }
-        self.held.reserve(room)?;
+        self.make_room(room)?;
         let room = self.held.capacity() - self.held.len();
         match self.held.read_from(&mut self.stream) {
             Ok(0) => Ok(Got::Ended),

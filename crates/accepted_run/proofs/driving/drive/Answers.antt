@@ -21,5 +21,5 @@ returns-clause-ok c =
 pub returns-clause-fault : goal.returns-clause-fault
 returns-clause-fault c =
     let law = runs_fresh c.generations_are_fresh.ensures c.args.accepted.now c.config-config.result.now c.config-config.ensures.generations c.config-config.ensures.config in
-    in_use c.args.accepted.now (λ config. IfErr c.drive_any.result (EndsFreshly config.tree (map scripted_of c.args.script.now.events.items) c.drive_any.new.transcript)) c.config-config.result.now c.config-config.ensures.config
-    (IfErr-weaker c.drive_any.result _ _ (λ fault. ends_freshly c.config-config.result.now.tree _ c.drive_any.new.transcript fault law) c.drive_any.ensures.fault)
+    in_use c.args.accepted.now (λ config. IfErr c.drive_any.result (EndsFreshly config.tree (map scripted_of c.args.script.now.events.items) c.drive_any.new.transcript c.drive_any.new.fleet)) c.config-config.result.now c.config-config.ensures.config
+    (IfErr-weaker c.drive_any.result _ _ (λ fault. ends_freshly c.config-config.result.now.tree _ c.drive_any.new.transcript c.drive_any.new.fleet fault law) c.drive_any.ensures.fault)

@@ -18,5 +18,5 @@ returns-clause-fault c =
     let j = c.requires.judged in
     let events = map scripted_of c.args.script.now.events.items in
     let same = c.as_slice-refused.ensures.value ∙ j.refused_are in
-    IfErr-weaker c.drive_by.result _ _ (λ fault e. ends_reloads c.generations_are_fresh.ensures j.configs c.args.accepted.now c.args.reloads.now c.args.judged.now.loadings.items c.args.first.now events j.judged c.config-in_use.ensures.generations (some_of j.configs c.args.first.now j.first_is) j.first_is c.drive_by.new.transcript c.drive_by.new.marks.items fault
-    (subst (λ (refused : List Bool). EndsBy c.args.first.now.tree refused c.args.reloads.now events c.drive_by.new.transcript c.drive_by.new.marks.items fault) same e)) c.drive_by.ensures.fault
+    IfErr-weaker c.drive_by.result _ _ (λ fault e. ends_reloads c.generations_are_fresh.ensures j.configs c.args.accepted.now c.args.reloads.now c.args.judged.now.loadings.items c.args.first.now events j.judged c.config-in_use.ensures.generations (some_of j.configs c.args.first.now j.first_is) j.first_is c.drive_by.new.transcript c.drive_by.new.marks.items c.drive_by.new.fleet fault
+    (subst (λ (refused : List Bool). EndsBy c.args.first.now.tree refused c.args.reloads.now events c.drive_by.new.transcript c.drive_by.new.marks.items c.drive_by.new.fleet fault) same e)) c.drive_by.ensures.fault

@@ -4,7 +4,7 @@ use Rattle.route_tree.specs.Route.{ByPrefix}
 use Rattle.route_tree.specs.RouteCode.{route_size}
 use Rattle.route_tree.specs.Form.{route_of_form, prefixes_of}
 use Rattle.route_tree.specs.Place.{sizes}
-use Rattle.route_tree.proofs.Left.{chosen_falls}
+use Rattle.route_tree.proofs.PlainTrees.{chosen_falls}
 use Rattle.certificates.specs.Resolved.{resolved}
 use Rattle.certificates.proofs.Sizing.{resolved_is_chosen}
 use Rattle.certificates.proofs.collecting.+resolved.Goals as goal

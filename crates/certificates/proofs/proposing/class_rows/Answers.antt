@@ -1,8 +1,8 @@
 use Rattle.std.proofs.Common.{◌≡◌, ℕ, List, sym, subst, ap, ◌∙◌, refl, arith}
-use Rattle.route_tree.proofs.Left.{plan_left}
+use Rattle.route_tree.proofs.PlainTrees.{plan_plain}
 use Rattle.certificates.specs.declared.table.ClassRows.{ClassRows}
 use Rattle.coverage.specs.Pools.{taken_pools}
-use Rattle.route_tree.specs.At.{left_of}
+use Rattle.route_tree.specs.At.{plain_for}
 use Rattle.route_tree.specs.Place.{prefix_text}
 use Rattle.certificates.specs.Rows.{IsRowOf}
 use Rattle.certificates.specs.Proposed.{AreRowsBelow, IsValidIfCovered}
@@ -18,9 +18,9 @@ loop-residue-preserved c =
     let text = prefix_text class.prefix in
     let pools : c.deref.result.now ≡ taken_pools text tree = c.deref.ensures.value ∙ c.in_ok-pools.ensures ∙ ap (λ (x : List ℕ). taken_pools x tree) c.text.ensures in
     let row = subst (λ (x : List (List ℕ)). IsRowOf residue x c.put_row.new.row.items) pools c.in_ok-put_row.ensures in
-    let valid = valid_if_covered text tree residue c.put_row.new.row.items (plan_left residue text tree c.form-form.ensures.tree).good row in
+    let valid = valid_if_covered text tree residue c.put_row.new.row.items (plan_plain residue text tree c.form-form.ensures.tree).good row in
     rows_with tree class.prefix c.args.modulus residue c.loop-residue.runs.items c.add_run.new.runs.items c.deref-in-loop-residue.result.now c.loop-residue.invariant
-    (subst (λ (x : List ℕ). IsValidIfCovered (left_of residue text tree) x) (sym c.deref-in-loop-residue.ensures.value) valid) c.in_ok-add_run.ensures
+    (subst (λ (x : List ℕ). IsValidIfCovered (plain_for residue text tree) x) (sym c.deref-in-loop-residue.ensures.value) valid) c.in_ok-add_run.ensures
 
 pub returns : goal.returns
 returns c =

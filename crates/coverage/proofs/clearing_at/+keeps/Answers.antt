@@ -2,8 +2,8 @@ use Rattle.std.proofs.Common.{sym, ap, ap₂, ◌∙◌, arith}
 use Rattle.route_tree.specs.Route.{ByPrefix}
 use Rattle.route_tree.specs.RouteCode.{route_size}
 use Rattle.route_tree.specs.Form.{route_of_form, prefixes_of}
-use Rattle.route_tree.specs.At.{left_of}
-use Rattle.route_tree.proofs.Left.{chosen_falls, left_of_chosen}
+use Rattle.route_tree.specs.At.{plain_for}
+use Rattle.route_tree.proofs.PlainTrees.{chosen_falls, plain_for_chosen}
 use Rattle.coverage.specs.Computed.{kept}
 use Rattle.coverage.proofs.clearing_at.+keeps.Goals as goal
 
@@ -20,5 +20,5 @@ keeps_at-returns-in-ByPrefix t c =
     let text = c.args.text.now in
     let hash = c.args.hash in
     let is = ap₂ (λ ps d. ByPrefix (prefixes_of ps d)) c.deref-in-ByPrefix.ensures.value c.deref-in-ByPrefix-2.ensures ∙ ap route_of_form (sym c.in-ByPrefix.is) ∙ c.form.ensures.form in
-    let same = ap (left_of hash text) c.longest.ensures ∙ sym (left_of_chosen hash text (prefixes_of c.deref-in-ByPrefix.result.now c.deref-in-ByPrefix-2.result.now)) ∙ ap (left_of hash text) is in
+    let same = ap (plain_for hash text) c.longest.ensures ∙ sym (plain_for_chosen hash text (prefixes_of c.deref-in-ByPrefix.result.now c.deref-in-ByPrefix-2.result.now)) ∙ ap (plain_for hash text) is in
     c.keeps_at-in-ByPrefix.ensures ∙ ap (kept c.args.server) same

@@ -2,7 +2,7 @@ use Rattle.std.proofs.Common.{sym, ap, ap₂, ◌∙◌, arith}
 use Rattle.route_tree.specs.Route.{ByPrefix}
 use Rattle.route_tree.specs.RouteCode.{route_size}
 use Rattle.route_tree.specs.Form.{route_of_form, prefixes_of}
-use Rattle.route_tree.proofs.Left.{chosen_falls}
+use Rattle.route_tree.proofs.PlainTrees.{chosen_falls}
 use Rattle.coverage.specs.Doubted.{doubts}
 use Rattle.coverage.proofs.SurePools.{doubts_of_chosen}
 use Rattle.coverage.proofs.doubts.+doubts.Goals as goal

@@ -3,7 +3,7 @@ use Rattle.std.proofs.lemmas.Result.{IfOk-weaker}
 use Rattle.route_tree.specs.Route.{ByPrefix}
 use Rattle.route_tree.specs.RouteCode.{route_size}
 use Rattle.route_tree.specs.Form.{route_of_form, prefixes_of}
-use Rattle.route_tree.proofs.Left.{chosen_falls}
+use Rattle.route_tree.proofs.PlainTrees.{chosen_falls}
 use Rattle.coverage.specs.Pools.{pools_of}
 use Rattle.coverage.proofs.TakenPools.{pools_of_chosen}
 use Rattle.coverage.proofs.pools.+pools.Goals as goal

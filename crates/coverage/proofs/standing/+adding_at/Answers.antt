@@ -3,8 +3,8 @@ use Rattle.mc_types.specs.declared.ask.Op.TheVariants.{Add}
 use Rattle.route_tree.specs.Route.{ByPrefix}
 use Rattle.route_tree.specs.RouteCode.{route_size}
 use Rattle.route_tree.specs.Form.{route_of_form, prefixes_of}
-use Rattle.route_tree.specs.At.{left_of}
-use Rattle.route_tree.proofs.Left.{chosen_falls, left_of_chosen}
+use Rattle.route_tree.specs.At.{plain_for}
+use Rattle.route_tree.proofs.PlainTrees.{chosen_falls, plain_for_chosen}
 use Rattle.coverage.specs.Computed.{adds, fails}
 use Rattle.coverage.proofs.standing.+adding_at.Goals as goal
 
@@ -20,12 +20,12 @@ pub adding_at-returns-in-ByPrefix-clause-adds : goal.adding_at-returns-in-ByPref
 adding_at-returns-in-ByPrefix-clause-adds t c =
     let text = c.args.text.now in
     let is = ap₂ (λ ps d. ByPrefix (prefixes_of ps d)) c.deref-in-ByPrefix.ensures.value c.deref-in-ByPrefix-2.ensures ∙ ap route_of_form (sym c.in-ByPrefix.is) ∙ c.form.ensures.form in
-    let same = ap (left_of 0 text) c.longest.ensures ∙ sym (left_of_chosen 0 text (prefixes_of c.deref-in-ByPrefix.result.now c.deref-in-ByPrefix-2.result.now)) ∙ ap (left_of 0 text) is in
+    let same = ap (plain_for 0 text) c.longest.ensures ∙ sym (plain_for_chosen 0 text (prefixes_of c.deref-in-ByPrefix.result.now c.deref-in-ByPrefix-2.result.now)) ∙ ap (plain_for 0 text) is in
     c.adding_at-in-ByPrefix.ensures.adds ∙ ap (adds) same
 
 pub adding_at-returns-in-ByPrefix-clause-fails : goal.adding_at-returns-in-ByPrefix-clause-fails
 adding_at-returns-in-ByPrefix-clause-fails t c =
     let text = c.args.text.now in
     let is = ap₂ (λ ps d. ByPrefix (prefixes_of ps d)) c.deref-in-ByPrefix.ensures.value c.deref-in-ByPrefix-2.ensures ∙ ap route_of_form (sym c.in-ByPrefix.is) ∙ c.form.ensures.form in
-    let same = ap (left_of 0 text) c.longest.ensures ∙ sym (left_of_chosen 0 text (prefixes_of c.deref-in-ByPrefix.result.now c.deref-in-ByPrefix-2.result.now)) ∙ ap (left_of 0 text) is in
+    let same = ap (plain_for 0 text) c.longest.ensures ∙ sym (plain_for_chosen 0 text (prefixes_of c.deref-in-ByPrefix.result.now c.deref-in-ByPrefix-2.result.now)) ∙ ap (plain_for 0 text) is in
     c.adding_at-in-ByPrefix.ensures.fails ∙ ap (fails Add) same

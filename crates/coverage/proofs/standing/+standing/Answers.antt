@@ -2,8 +2,8 @@ use Rattle.std.proofs.Common.{sym, ap, ap₂, ◌∙◌, arith}
 use Rattle.route_tree.specs.Route.{ByPrefix}
 use Rattle.route_tree.specs.RouteCode.{route_size}
 use Rattle.route_tree.specs.Form.{route_of_form, prefixes_of}
-use Rattle.route_tree.specs.At.{left_of}
-use Rattle.route_tree.proofs.Left.{chosen_falls, left_of_chosen}
+use Rattle.route_tree.specs.At.{plain_for}
+use Rattle.route_tree.proofs.PlainTrees.{chosen_falls, plain_for_chosen}
 use Rattle.coverage.specs.Computed.{fails, hits}
 use Rattle.coverage.proofs.standing.+standing.Goals as goal
 
@@ -19,12 +19,12 @@ pub standing-returns-in-ByPrefix-clause-fails : goal.standing-returns-in-ByPrefi
 standing-returns-in-ByPrefix-clause-fails t c =
     let text = c.args.text.now in
     let is = ap₂ (λ ps d. ByPrefix (prefixes_of ps d)) c.deref-in-ByPrefix.ensures.value c.deref-in-ByPrefix-2.ensures ∙ ap route_of_form (sym c.in-ByPrefix.is) ∙ c.form.ensures.form in
-    let same = ap (left_of 0 text) c.longest.ensures ∙ sym (left_of_chosen 0 text (prefixes_of c.deref-in-ByPrefix.result.now c.deref-in-ByPrefix-2.result.now)) ∙ ap (left_of 0 text) is in
+    let same = ap (plain_for 0 text) c.longest.ensures ∙ sym (plain_for_chosen 0 text (prefixes_of c.deref-in-ByPrefix.result.now c.deref-in-ByPrefix-2.result.now)) ∙ ap (plain_for 0 text) is in
     c.standing.ensures.fails ∙ ap (fails c.args.op) same
 
 pub standing-returns-in-ByPrefix-clause-hits : goal.standing-returns-in-ByPrefix-clause-hits
 standing-returns-in-ByPrefix-clause-hits t c =
     let text = c.args.text.now in
     let is = ap₂ (λ ps d. ByPrefix (prefixes_of ps d)) c.deref-in-ByPrefix.ensures.value c.deref-in-ByPrefix-2.ensures ∙ ap route_of_form (sym c.in-ByPrefix.is) ∙ c.form.ensures.form in
-    let same = ap (left_of 0 text) c.longest.ensures ∙ sym (left_of_chosen 0 text (prefixes_of c.deref-in-ByPrefix.result.now c.deref-in-ByPrefix-2.result.now)) ∙ ap (left_of 0 text) is in
+    let same = ap (plain_for 0 text) c.longest.ensures ∙ sym (plain_for_chosen 0 text (prefixes_of c.deref-in-ByPrefix.result.now c.deref-in-ByPrefix-2.result.now)) ∙ ap (plain_for 0 text) is in
     c.standing.ensures.hits ∙ ap (hits c.args.op) same

@@ -1,4 +1,4 @@
-use Rattle.std.proofs.Common.{◌≡◌, Bool, [], ◌∙◌, subst, map, List}
+use Rattle.std.proofs.Common.{Bool, [], ◌∙◌, subst, map, List}
 use Rattle.std.proofs.lemmas.Result.{IfOk-weaker, IfErr-weaker}
 use Rattle.fleet_run.specs.declared.script.Reload.{Reload}
 use Rattle.fleet_run.specs.Scripted.{scripted_of, transcript_of}
@@ -19,5 +19,5 @@ returns-clause-fault c =
     let events = map scripted_of c.args.script.now.events.items in
     let refused : List Bool = [] in
     let none = c.deref.ensures.value ∙ c.new-none.ensures.items in
-    IfErr-weaker c.drive_by.result _ _ (λ fault e. ends_as c.direct_is_one_server.ensures c.args.config.now.tree refused events c.drive_by.new.transcript c.drive_by.new.marks.items fault
-    (subst (λ (rs : List Reload). EndsBy c.args.config.now.tree refused rs events c.drive_by.new.transcript c.drive_by.new.marks.items fault) none e)) c.drive_by.ensures.fault
+    IfErr-weaker c.drive_by.result _ _ (λ fault e. ends_as c.direct_is_one_server.ensures c.args.config.now.tree refused events c.drive_by.new.transcript c.drive_by.new.marks.items c.drive_by.new.fleet fault
+    (subst (λ (rs : List Reload). EndsBy c.args.config.now.tree refused rs events c.drive_by.new.transcript c.drive_by.new.marks.items c.drive_by.new.fleet fault) none e)) c.drive_by.ensures.fault

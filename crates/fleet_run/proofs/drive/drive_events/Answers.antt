@@ -1,5 +1,4 @@
-use Rattle.std.proofs.Common.{◌≡◌, ◌<◌, ◌≤◌, ◌+◌, ◌++◌, ◌∷◌, [], List, length, take, drop, map, Some, refl, sym, ap, ◌∙◌, subst, arith, ℕ, Bool, false}
-use Rattle.std.specs.Prelude.{slice_get}
+use Rattle.std.proofs.Common.{◌≡◌, ◌≤◌, ◌+◌, ◌++◌, ◌∷◌, [], List, length, take, drop, map, Some, refl, sym, ap, ◌∙◌, subst, arith, ℕ, Bool, false}
 use Rattle.memory_fleet.specs.Fleets.{count_of, begun_of}
 use Rattle.route_tree.specs.Route.{Route}
 use Rattle.fleet_run.specs.declared.router.Router.{Router}
@@ -12,11 +11,11 @@ use Rattle.fleet_run.specs.Reloads.{AreInOrder, DrivesBy, DrivesPartBy, one_more
 use Rattle.fleet_run.proofs.BadEvents.{good_here, not_here}
 use Rattle.fleet_run.proofs.Driven.{starts, on_err}
 use Rattle.fleet_run.proofs.Due.{order_on, order_at, due_at, event_left, none_left}
-use Rattle.fleet_run.proofs.Reloading.{begins, goes_on, loads, drives_by, drives_part_by, nothing_driven}
+use Rattle.fleet_run.proofs.Reloading.{begins, goes_on, loads, drives_by, cut_between, cut_within, nothing_driven}
 use Rattle.fleet_run.proofs.drive.drive_events.Goals as goal
 
 pub returns-in_err-clients-clause-err : goal.returns-in_err-clients-clause-err
-returns-in_err-clients-clause-err c = on_err c.from_residual.result (nothing_driven c.args.tree.now c.args.refused.now c.args.reloads.now (map scripted_of c.args.script.now.events.items) c.args.transcript.now c.args.marks.now.items c.requires.transcript c.requires.marks)
+returns-in_err-clients-clause-err c = on_err c.from_residual.result (nothing_driven c.args.tree.now c.args.refused.now c.args.reloads.now (map scripted_of c.args.script.now.events.items) c.args.transcript.now c.args.marks.now.items (count_of c.args.fleet.now) c.args.fleet.now c.requires.transcript c.requires.marks c.requires.fleet)
 
 pub loop-events-init : goal.loop-events-init
 loop-events-init c =
@@ -36,8 +35,8 @@ loop-events-init c =
 
 pub returns-in_err-mark-clause-err : goal.returns-in_err-mark-clause-err
 returns-in_err-mark-clause-err c =
-    on_err c.from_residual-in_err-mark.result (subst (λ (l : List Event). DrivesPartBy c.args.tree.now c.args.refused.now c.args.reloads.now (map scripted_of l) (transcript_of c.loop-events.transcript) c.mark.new.marks.items) c.as_slice-events.ensures.value
-    (drives_part_by c.args.tree.now c.args.refused.now c.args.reloads.now c.as_slice-events.result.now c.loop-events.next c.loop-events.loaded c.loop-events.clients.items c.loop-events.router c.loop-events.fleet c.loop-events.transcript c.loop-events.transcript c.loop-events.marks.items c.mark.new.marks.items c.loop-events.invariant.going refl c.in_err-mark.ensures.err))
+    on_err c.from_residual-in_err-mark.result (subst (λ (l : List Event). DrivesPartBy c.args.tree.now c.args.refused.now c.args.reloads.now (map scripted_of l) (transcript_of c.loop-events.transcript) c.mark.new.marks.items c.loop-events.fleet) c.as_slice-events.ensures.value
+    (cut_between c.args.tree.now c.args.refused.now c.args.reloads.now c.as_slice-events.result.now c.loop-events.next c.loop-events.loaded c.loop-events.clients.items c.loop-events.router c.loop-events.fleet c.loop-events.transcript c.loop-events.transcript c.loop-events.marks.items c.mark.new.marks.items c.loop-events.invariant.going refl c.in_err-mark.ensures.err))
 
 pub loop-events-preserved-then-is_due : goal.loop-events-preserved-then-is_due
 loop-events-preserved-then-is_due c =
@@ -79,8 +78,9 @@ take_up-requires-clause-good c =
 
 pub returns-in_err-take_up-clause-err : goal.returns-in_err-take_up-clause-err
 returns-in_err-take_up-clause-err c =
-    on_err c.from_residual-in_err-take_up.result (subst (λ (l : List Event). DrivesPartBy c.args.tree.now c.args.refused.now c.args.reloads.now (map scripted_of l) (transcript_of c.take_up.new.transcript) c.loop-events.marks.items) c.as_slice-events.ensures.value
-    (drives_part_by c.args.tree.now c.args.refused.now c.args.reloads.now c.as_slice-events.result.now c.loop-events.next c.loop-events.loaded c.loop-events.clients.items c.loop-events.router c.loop-events.fleet c.loop-events.transcript c.take_up.new.transcript c.loop-events.marks.items c.loop-events.marks.items c.loop-events.invariant.going c.in_err-take_up.ensures.err refl))
+    let lt = event_left (length c.as_slice-events.result.now) (count_of c.args.fleet.now) c.loop-events.loaded c.loop-events.next c.args.reloads.now c.is_due.result c.is_due.ensures.1 c.if-is_due.false c.loop-events.invariant.order (c.is_left.ensures.0 c.loop-events-test.true) in
+    on_err c.from_residual-in_err-take_up.result (subst (λ (l : List Event). DrivesPartBy c.args.tree.now c.args.refused.now c.args.reloads.now (map scripted_of l) (transcript_of c.take_up.new.transcript) c.loop-events.marks.items c.take_up.new.fleet) c.as_slice-events.ensures.value
+    (cut_within c.args.tree.now c.args.refused.now c.args.reloads.now c.as_slice-events.result.now c.loop-events.next c.loop-events.loaded c.loop-events.clients.items c.loop-events.router c.loop-events.fleet c.take_up.new.fleet c.loop-events.transcript c.take_up.new.transcript c.loop-events.marks.items c.index-events-next.result c.loop-events.invariant.going lt c.index-events-next.is c.in_err-take_up.ensures.broken c.in_err-take_up.ensures.err))
 
 pub loop-events-smaller : goal.loop-events-smaller
 loop-events-smaller c =

@@ -1,4 +1,4 @@
-use Rattle.std.proofs.Common.{sym, subst, ◌≤◌, length}
+use Rattle.std.proofs.Common.{refl, sym, subst, ◌≤◌, length}
 use Rattle.client_requests.specs.declared.reader.Read.TheVariants as reads
 use Rattle.request_parts.specs.Message.{Refusal}
 use Rattle.request_parts.specs.Stream.{Place}
@@ -7,6 +7,8 @@ use Rattle.client_requests.specs.Both.{both_grammar}
 use Rattle.text_codec.specs.Held.{held_at}
 use Rattle.connections.proofs.Fronts.{read_front, request_is_some, refused_is_some, long_is_some, more_stuck}
 use Rattle.fleet_run.proofs.Messages.{refused_done, long_line_done, served_more}
+use Rattle.fleet_run.proofs.Driven.{on_err}
+use Rattle.fleet_run.proofs.Breaking.{untouched, breaks_at, breaks_on}
 use Rattle.fleet_run.proofs.serve.serve.Goals as goal
 
 pub returns-in-More-clause-ok : goal.returns-in-More-clause-ok
@@ -46,3 +48,17 @@ serve_request-requires-clause-front c =
 pub loop-connection-preserved : goal.loop-connection-preserved
 loop-connection-preserved c =
     served_more c.args.connection.now c.loop-connection.connection c.serve_request.new.connection c.args.router.now c.loop-connection.router c.serve_request.new.router c.args.fleet.now c.loop-connection.fleet c.serve_request.new.fleet c.loop-connection.invariant c.in_ok-serve_request-in-Request.ensures.ok
+
+pub returns-in_err-refuse_long_line-in-TooLong-clause-broken : goal.returns-in_err-refuse_long_line-in-TooLong-clause-broken
+returns-in_err-refuse_long_line-in-TooLong-clause-broken c =
+    let f = c.loop-connection.fleet in
+    on_err c.from_residual.result (breaks_at c.args.connection.now c.loop-connection.connection 0 c.args.router.now c.loop-connection.router c.args.fleet.now f f c.loop-connection.invariant (untouched f f refl))
+
+pub returns-in_err-refuse-in-Refused-clause-broken : goal.returns-in_err-refuse-in-Refused-clause-broken
+returns-in_err-refuse-in-Refused-clause-broken c =
+    let f = c.loop-connection.fleet in
+    on_err c.from_residual-in_err-refuse-in-Refused.result (breaks_at c.args.connection.now c.loop-connection.connection 0 c.args.router.now c.loop-connection.router c.args.fleet.now f f c.loop-connection.invariant (untouched f f refl))
+
+pub returns-in_err-serve_request-in-Request-clause-broken : goal.returns-in_err-serve_request-in-Request-clause-broken
+returns-in_err-serve_request-in-Request-clause-broken c =
+    on_err c.from_residual-in_err-serve_request-in-Request.result (breaks_on c.args.connection.now c.loop-connection.connection c.args.router.now c.loop-connection.router c.args.fleet.now c.loop-connection.fleet c.serve_request.new.fleet c.loop-connection.invariant c.in_err-serve_request-in-Request.ensures.broken)

@@ -1,7 +1,9 @@
-use Rattle.std.proofs.Common.{ℕ, ◌≤◌, length, sym, ◌∙◌, subst}
+use Rattle.std.proofs.Common.{ℕ, ◌≤◌, length, refl, sym, ◌∙◌, subst}
 use Rattle.text_codec.specs.Held.{held_at}
-use Rattle.fleet_run.proofs.Advancing.{used_held}
+use Rattle.fleet_run.proofs.Advancing.{used_held, advances_nothing}
 use Rattle.fleet_run.proofs.Messages.{own_done, key_more, key_same, key_last}
+use Rattle.fleet_run.proofs.Driven.{on_err}
+use Rattle.fleet_run.proofs.Breaking.{untouched, breaks_at}
 use Rattle.fleet_run.proofs.serve.serve_request.Goals as goal
 
 pub answer_own-requires : goal.answer_own-requires
@@ -26,3 +28,11 @@ pub returns-clause-ok : goal.returns-clause-ok
 returns-clause-ok c =
     let i = c.loop-index.invariant in
     key_last c.args.connection.now c.loop-index.connection c.serve_key.new.connection c.args.request.now c.loop-index.asks c.serve_key.new.asks c.loop-index.index c.args.router.now c.loop-index.router c.serve_key.new.router c.args.fleet.now c.loop-index.fleet c.serve_key.new.fleet _ i.advances i.way i.same c.in_ok-serve_key.ensures.ok c.if-not-branch.false
+
+pub returns-in_err-answer_own-clause-broken : goal.returns-in_err-answer_own-clause-broken
+returns-in_err-answer_own-clause-broken c =
+    on_err c.from_residual.result (breaks_at c.args.connection.now c.args.connection.now 0 c.args.router.now c.args.router.now c.args.fleet.now c.args.fleet.now c.args.fleet.now (advances_nothing c.args.connection.now 0 c.args.router.now c.args.fleet.now) (untouched c.args.fleet.now c.args.fleet.now refl))
+
+pub returns-in_err-serve_key-clause-broken : goal.returns-in_err-serve_key-clause-broken
+returns-in_err-serve_key-clause-broken c =
+    on_err c.from_residual-in_err-serve_key.result (breaks_at c.args.connection.now c.loop-index.connection c.loop-index.index c.args.router.now c.loop-index.router c.args.fleet.now c.loop-index.fleet c.serve_key.new.fleet c.loop-index.invariant.advances c.in_err-serve_key.ensures.broken)

@@ -1,11 +1,11 @@
 use Rattle.std.proofs.Common.{◌≡◌, List, ℕ, Option, true, sym, subst}
-use Rattle.route_tree.specs.At.{left_of}
+use Rattle.route_tree.specs.At.{plain_for}
 use Rattle.route_tree.specs.Place.{prefix_text}
 use Rattle.coverage.specs.Taking.{Covers}
 use Rattle.fresh_gate.specs.declared.finding.Found.{Found}
 use Rattle.fresh_gate.specs.Looking.{IfGap}
 use Rattle.fresh_gate.specs.Rows.{all_cleared}
-use Rattle.fresh_gate.proofs.RowTests.{covers_cleared, good_left}
+use Rattle.fresh_gate.proofs.RowTests.{covers_cleared, good_plain}
 use Rattle.fresh_gate.proofs.classes.look_at.Goals as goal
 
 pub is_valid_at-requires-clause-cleared : goal.is_valid_at-requires-clause-cleared
@@ -13,7 +13,7 @@ is_valid_at-requires-clause-cleared c =
     let r = c.args.residue in
     let tree = c.args.tree.now in
     let text = prefix_text c.args.class.now.prefix in
-    let plain = left_of r text tree in
-    let good = good_left tree text r c.form-form.ensures.tree in
+    let plain = plain_for r text tree in
+    let good = good_plain tree text r c.form-form.ensures.tree in
     let covers : Covers plain plain = subst (λ (x : Option Found). IfGap plain plain x) c.in-None.is c.in_ok-found.ensures in
-    subst (λ (x : List ℕ). all_cleared (left_of r x tree) c.args.taken.now ≡ true) (sym c.text.ensures) (covers_cleared plain plain good good c.args.taken.now c.requires.taken covers)
+    subst (λ (x : List ℕ). all_cleared (plain_for r x tree) c.args.taken.now ≡ true) (sym c.text.ensures) (covers_cleared plain plain good good c.args.taken.now c.requires.taken covers)

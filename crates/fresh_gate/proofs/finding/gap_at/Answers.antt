@@ -1,11 +1,11 @@
 use Rattle.std.proofs.Common.{◌≡◌, ◌∙◌, List, ℕ, true, ap, sym, subst}
-use Rattle.route_tree.specs.At.{left_of}
+use Rattle.route_tree.specs.At.{plain_for}
 use Rattle.route_tree.specs.Place.{prefix_text}
 use Rattle.route_tree.specs.Plan.{Plan}
 use Rattle.coverage.specs.Pools.{servers_at}
 use Rattle.fresh_gate.specs.Looking.{IfGap}
 use Rattle.fresh_gate.specs.Rows.{HoldsTaken, IsTakenRow, all_cleared}
-use Rattle.fresh_gate.proofs.RowTests.{cleared_covers, good_left, holds_what_is_taken}
+use Rattle.fresh_gate.proofs.RowTests.{cleared_covers, good_plain, holds_what_is_taken}
 use Rattle.fresh_gate.proofs.finding.gap_at.Goals as goal
 
 pub returns-then-are_pools_cleared : goal.returns-then-are_pools_cleared
@@ -14,21 +14,21 @@ returns-then-are_pools_cleared c =
     let text = prefix_text c.args.class.now.prefix in
     let e = c.args.earlier.now in
     let l = c.args.later.now in
-    let all : all_cleared (left_of r text e) (servers_at r c.args.doubted.now) ≡ true = sym (c.are_pools_cleared.ensures ∙ ap (λ (x : List ℕ). all_cleared (left_of r x e) (servers_at r c.args.doubted.now)) c.text.ensures) ∙ c.if-are_pools_cleared.true in
-    cleared_covers text r e l c.form-earlier.ensures.tree c.form-later.ensures.tree (subst (λ (ps : List (List ℕ)). all_cleared (left_of r text e) (servers_at r ps) ≡ true) c.requires all)
+    let all : all_cleared (plain_for r text e) (servers_at r c.args.doubted.now) ≡ true = sym (c.are_pools_cleared.ensures ∙ ap (λ (x : List ℕ). all_cleared (plain_for r x e) (servers_at r c.args.doubted.now)) c.text.ensures) ∙ c.if-are_pools_cleared.true in
+    cleared_covers text r e l c.form-earlier.ensures.tree c.form-later.ensures.tree (subst (λ (ps : List (List ℕ)). all_cleared (plain_for r text e) (servers_at r ps) ≡ true) c.requires all)
 
 pub first_gap-requires : goal.first_gap-requires
 first_gap-requires c =
     let r = c.args.residue in
     let text = prefix_text c.args.class.now.prefix in
     let l = c.args.later.now in
-    let row : IsTakenRow (left_of r text l) c.deref-2.result.now =
-    subst (λ (x : List ℕ). IsTakenRow (left_of r text l) x) (sym c.deref-2.ensures.value) (subst (λ (x : List ℕ). IsTakenRow (left_of r x l) c.take_row.new.row.items) c.text-3.ensures c.in_ok-take_row.ensures) in
-    subst (λ (p : Plan). HoldsTaken p c.deref-2.result.now) (sym c.in_ok-second.ensures) (holds_what_is_taken (left_of r text l) (good_left l text r c.form-later.ensures.tree) c.deref-2.result.now row)
+    let row : IsTakenRow (plain_for r text l) c.deref-2.result.now =
+    subst (λ (x : List ℕ). IsTakenRow (plain_for r text l) x) (sym c.deref-2.ensures.value) (subst (λ (x : List ℕ). IsTakenRow (plain_for r x l) c.take_row.new.row.items) c.text-3.ensures c.in_ok-take_row.ensures) in
+    subst (λ (p : Plan). HoldsTaken p c.deref-2.result.now) (sym c.in_ok-second.ensures) (holds_what_is_taken (plain_for r text l) (good_plain l text r c.form-later.ensures.tree) c.deref-2.result.now row)
 
 pub returns : goal.returns
 returns c =
     let r = c.args.residue in
     let text = prefix_text c.args.class.now.prefix in
-    subst (λ (p : Plan). IfGap p (left_of r text c.args.later.now) c.first_gap.result) c.in_ok-first.ensures
+    subst (λ (p : Plan). IfGap p (plain_for r text c.args.later.now) c.first_gap.result) c.in_ok-first.ensures
     (subst (λ (p : Plan). IfGap c.in_ok-first.first p c.first_gap.result) c.in_ok-second.ensures c.first_gap.ensures)

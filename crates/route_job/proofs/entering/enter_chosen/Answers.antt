@@ -1,5 +1,5 @@
 use Rattle.std.proofs.Common.{◌≡◌, sym, ◌∙◌, subst, arith, ap}
-use Rattle.route_tree.specs.At.{left_of, left_of_policies}
+use Rattle.route_tree.specs.At.{plain_for, plain_for_policies}
 use Rattle.route_tree.specs.Form.{policies_of}
 use Rattle.route_tree.specs.Levels.{chosen_plan}
 use Rattle.route_tree.specs.Plan.{count}
@@ -12,15 +12,15 @@ use Rattle.route_job.proofs.entering.enter_chosen.Goals as goal
 
 pub returns-clause-same : goal.returns-clause-same
 returns-clause-same c = λ hash text origin b.
-    let ps = left_of_policies hash text (policies_of c.args.policies.now c.args.default.now) in
-    let e = sym (c.policy_of.ensures hash text) ∙ ap (left_of hash text) (sym c.in_ok-tree.ensures) in
+    let ps = plain_for_policies hash text (policies_of c.args.policies.now c.args.default.now) in
+    let e = sym (c.policy_of.ensures hash text) ∙ ap (plain_for hash text) (sym c.in_ok-tree.ensures) in
     let here = subst (λ p. SameAt b (WordOfPolicy ps c.args.ask.now origin) (Word p c.args.ask.now origin)) e (chosen_is ps c.args.ask.now origin b) in
-    same_trans b (WordOfPolicy ps c.args.ask.now origin) (Word (left_of hash text c.in_ok-tree.tree) c.args.ask.now origin) (AdvanceOf hash text c.enter_alone.result c.args.ask.now origin) here (c.enter_alone.ensures.same hash text c.args.ask.now origin b)
+    same_trans b (WordOfPolicy ps c.args.ask.now origin) (Word (plain_for hash text c.in_ok-tree.tree) c.args.ask.now origin) (AdvanceOf hash text c.enter_alone.result c.args.ask.now origin) here (c.enter_alone.ensures.same hash text c.args.ask.now origin b)
 
 pub returns-clause-less : goal.returns-clause-less
 returns-clause-less c = λ hash text.
-    let ps = left_of_policies hash text (policies_of c.args.policies.now c.args.default.now) in
-    let e = ap count (sym (c.policy_of.ensures hash text) ∙ ap (left_of hash text) (sym c.in_ok-tree.ensures)) in
+    let ps = plain_for_policies hash text (policies_of c.args.policies.now c.args.default.now) in
+    let e = ap count (sym (c.policy_of.ensures hash text) ∙ ap (plain_for hash text) (sym c.in_ok-tree.ensures)) in
     let k = chosen_count ps c.args.ask.now in
     let l = c.enter_alone.ensures.less hash text in
     omega (arith, e, k, l)

@@ -1,6 +1,6 @@
 use Rattle.std.proofs.Common.{length, sym, ap, ◌∙◌, subst}
 use Rattle.route_tree.specs.Route.{Route}
-use Rattle.proxy_core.specs.Standing.{Reloads}
+use Rattle.proxy_core.specs.CoreState.{Reloads}
 use Rattle.fresh_core.proofs.Reloading.{loads}
 use Rattle.fresh_core.proofs.fresh.FreshCore.reload.Goals as goal
 

@@ -1,6 +1,19 @@
-use Rattle.std.proofs.Common.{ℕ, ◌<◌, ◌∙◌, subst}
+use Rattle.std.proofs.Common.{ℕ, ◌<◌, ◌≤◌, inl, inr, ◌∙◌, subst}
 use Rattle.proxy_core.proofs.Fronts.{front_is}
+use Rattle.proxy_core.proofs.Resting.{later_key}
+use Rattle.proxy_core.proofs.client.Client.key_of.Goals.{then-self-via-then-self, then-self-via-else-self+then-depth-len, then-self-via-else-self+else-depth-len+then-asks-self}
 use Rattle.proxy_core.proofs.client.Client.key_of.Goals as goal
+
+pub returns-then-self : goal.returns-then-self
+returns-then-self c =
+    let x = c.args.self.now in
+    let front = front_is x.stream c.args.request c.requires.at in
+    later_key x c.args.request c.args.depth c.requires.at c.requires.some
+    (elim c.then-self.branch [
+      | then-self-via-then-self w ↦ inl w.if-self.true
+      | then-self-via-else-self+then-depth-len w ↦ inr (inl (subst (λ (n : ℕ). c.args.depth ≤ n) (w.len.ensures ∙ x.queue.ok.0) w.if-depth-len.true))
+      | then-self-via-else-self+else-depth-len+then-asks-self w ↦ inr (inr (subst (λ (n : ℕ). n ≤ x.index) (w.asks.ensures _ front.read) w.if-asks-self.true))
+    ])
 
 pub returns : goal.returns
 returns c =

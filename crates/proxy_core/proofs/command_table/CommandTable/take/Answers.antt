@@ -17,8 +17,8 @@ invariant_of-self c = λ e.
     let on = c.both-self-inside.ensures e in
     let same : c.requires.out.0 ≡ a = some_command (sym (c.in-Some.ensures.value ∙ ap (λ m. get nat_eq m c.args.number) c.self.view_is ∙ c.requires.out.1)) in
     let server : c.number.result ≡ server_in a.job.pending = c.number.ensures ∙ c.server-server.ensures in
-    counted_taken table.by_number (c.get_mut.follows.lender b) table.on_key table.at_server c.args.number a (c.self.invariant on.0) b (sym c.in-Some.ensures.value) (c.get_mut.follows.holds b).0
-    c.uncount_one-is_counted.new.counts c.take-taken.ensures.ask (subst (λ (d : Command). has_call_out d ≡ true) same c.requires.out.2) c.take-taken.ensures.idle
+    counted_taken table.by_number (c.get_mut.follows.lender b) table.clearing table.copying table.at_server c.args.number a (c.self.invariant on.0) b (sym c.in-Some.ensures.value) (c.get_mut.follows.holds b).0
+    c.uncount_one-is_counted.new.counts c.take-taken.ensures.ask c.take-taken.ensures.claim (subst (λ (d : Command). has_call_out d ≡ true) same c.requires.out.2) c.take-taken.ensures.idle
     (subst (λ s. SetsCount nat_eq s (count_at (get nat_eq table.at_server) s - 1) table.at_server c.uncount_one-is_counted.new.counts) server (c.uncount_one-is_counted.ensures on.1))
 
 pub returns : goal.returns

@@ -14,6 +14,7 @@ returns-clause-ok c =
         others = others_by c.args.client old.clients c.remove.new.self c.remove.ensures.updates.others;
         commands = λ n. refl;
         tree = refl;
+        limits = refl;
         number = refl;
       }) (sym c.if-has_commands.ensures),
     )

@@ -1,6 +1,6 @@
 use Rattle.std.proofs.Common.{IfOk, subst, sym, refl, arith}
 use Rattle.proxy_core.specs.declared.proxy.Core.{Core}
-use Rattle.proxy_core.specs.Standing.{Opens}
+use Rattle.proxy_core.specs.CoreState.{Opens}
 use Rattle.proxy_core.specs.Faults.{CanOpen}
 use Rattle.proxy_core.proofs.Clients.{opens, others_by}
 use Rattle.proxy_core.proofs.proxy.Core.open_client.Goals as goal
@@ -20,6 +20,7 @@ returns-clause-ok c =
           others = others_by w.in-Ok.client old.clients c.insert.new.self w.in-Ok.ensures.updates.others;
           commands = λ n. refl;
           tree = refl;
+          limits = refl;
           number = refl;
         }) c.new.ensures,
       )

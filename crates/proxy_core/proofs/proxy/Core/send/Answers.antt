@@ -1,7 +1,7 @@
 use Rattle.std.proofs.Common.{◌≡◌, true, cond, nat_eq, Some, sym, refl, ap, ◌∙◌}
 use Rattle.indexmap.specs.IndexMap as map
 use Rattle.proxy_core.specs.declared.command.Command.{Command}
-use Rattle.proxy_core.specs.Standing.{command_at}
+use Rattle.proxy_core.specs.CoreState.{command_at}
 use Rattle.proxy_core.specs.Begun.{ticket_of}
 use Rattle.proxy_core.proofs.Commands.{some_command}
 use Rattle.proxy_core.proofs.Polls.{sent_goes, same_goes}
@@ -18,7 +18,7 @@ returns-in-Ok-clause-ok c =
     let same : sent.command ≡ can.command = some_command (sym sent.was ∙ can.was) in
     sent_goes old _ c.args.number can c.in-Ok.ticket (sent.is ∙ ap (λ (b : Command). ticket_of c.args.number b.job) same)
     (λ n. sent.out n ∙ ap (λ (b : Command). cond (nat_eq c.args.number n) (Some (record b { is_out = true })) (command_at old n)) same)
-    (λ n. refl) refl refl
+    (λ n. refl) refl refl refl
 
 pub returns-in-Err-clause-err : goal.returns-in-Err-clause-err
-returns-in-Err-clause-err c = (same_goes c.args.self.now _ (λ n. refl) (λ n. ap (λ m. map.get nat_eq m n) c.in-Err.ensures.err) refl refl, c.requires.served)
+returns-in-Err-clause-err c = (same_goes c.args.self.now _ (λ n. refl) (λ n. ap (λ m. map.get nat_eq m n) c.in-Err.ensures.err) refl refl refl, c.requires.served)

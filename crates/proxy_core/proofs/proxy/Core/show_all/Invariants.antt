@@ -1,4 +1,4 @@
-use Rattle.proxy_core.specs.Standing.{client_at, GoesBy}
+use Rattle.proxy_core.specs.CoreState.{client_at, GoesBy}
 use Rattle.proxy_core.specs.Polls.{ForClient, IsServed, AreShown, queue_len}
 use Rattle.proxy_core.proofs.proxy.Core.show_all.Given as goal
 

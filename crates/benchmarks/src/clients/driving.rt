@@ -1,0 +1,169 @@
+//! Clients of a core whose calls are answered at once.
+
+use crate::clients::answering::outcome_of;
+use crate::clients::saying::{Load, pieces_of};
+use crate::jobs::pool;
+use bytes::BytesMut;
+use proxy_core::{Core, CoreFault, Limits, Poll, Sharing, Ticket};
+use std::alloc::{AllocError, AllocFailed, Global};
+use std::collections::VecDeque;
+
+/// Why a round doesn't end.
+#[derive(Clone, Copy)]
+pub enum Stop {
+    /// Memory was refused, or the core answered what it doesn't answer here.
+    Failed,
+}
+
+impl From<CoreFault> for Stop {
+    fn from(_fault: CoreFault) -> Stop {
+        Stop::Failed
+    }
+}
+
+impl From<AllocError> for Stop {
+    fn from(_error: AllocError) -> Stop {
+        Stop::Failed
+    }
+}
+
+impl From<AllocFailed<Ticket>> for Stop {
+    fn from(_failed: AllocFailed<Ticket>) -> Stop {
+        Stop::Failed
+    }
+}
+
+/// What rounds came to.
+#[derive(Clone, Copy)]
+pub struct Counts {
+    /// How many commands ended.
+    pub commands: u64,
+    /// How many bytes clients were given.
+    pub bytes: u64,
+}
+
+/// A core, and the calls that are out, the first of them in front.
+#[derive(Drop)]
+pub struct Drive {
+    core: Core,
+    calls: VecDeque<Ticket>,
+    pieces: Vec<BytesMut>,
+    counts: Counts,
+}
+
+/// How many calls may be out at a server, as the proxy has it.
+const WINDOW: usize = 256;
+
+/// More polls than a client has in a row.
+const POLLS: u64 = 1_000_000;
+
+fn as_count(bytes: usize) -> u64 {
+    u64::try_from(bytes).unwrap_or(u64::MAX)
+}
+
+impl Drive {
+    /// A core on a pool of three servers, with these clients.
+    pub fn new(alloc: Global, load: Load) -> Result<Drive, Stop> {
+        let limits = Limits {
+            clients: load.clients,
+            held: 2_097_152,
+            depth: 32,
+            window: WINDOW,
+            sharing: Sharing::Shared,
+        };
+        let mut core = Core::unchecked(alloc, pool(alloc)?, limits);
+        for _ in 0..load.clients {
+            core.open_client()?;
+        }
+        Ok(Drive {
+            core,
+            calls: VecDeque::new(alloc),
+            pieces: pieces_of(alloc, load)?,
+            counts: Counts {
+                commands: 0,
+                bytes: 0,
+            },
+        })
+    }
+
+    // One poll of a client: whether there may be more to do for it.
+    fn poll_once(&mut self, client: usize) -> Result<bool, Stop> {
+        match self.core.poll(client)? {
+            Poll::Call(ticket) => {
+                self.calls.push_back(ticket)?;
+                Ok(true)
+            }
+            Poll::Did(_) => {
+                self.counts.commands = self.counts.commands.saturating_add(1);
+                Ok(true)
+            }
+            Poll::Own | Poll::Refused => Ok(true),
+            Poll::Idle | Poll::Waiting | Poll::Busy => Ok(false),
+        }
+    }
+
+    // Polls of a client until there is nothing to do for it.
+    fn poll_client(&mut self, client: usize) -> Result<(), Stop> {
+        for _ in 0..POLLS {
+            if !self.poll_once(client)? {
+                break;
+            }
+        }
+        Ok(())
+    }
+
+    // All that can be done for clients.
+    fn poll_all(&mut self) -> Result<(), Stop> {
+        for client in 0..self.pieces.len() {
+            self.poll_client(client)?;
+        }
+        Ok(())
+    }
+
+    // All calls that are out are answered.
+    fn answer_all(&mut self) -> Result<(), Stop> {
+        for _ in 0..self.calls.len() {
+            let Some(ticket) = self.calls.pop_front() else {
+                break;
+            };
+            if let Some(outcome) = outcome_of(&self.core, ticket.number) {
+                self.core.settle(ticket, outcome)?;
+            }
+        }
+        Ok(())
+    }
+
+    fn feed_all(&mut self) -> Result<(), Stop> {
+        for (client, piece) in self.pieces.iter().enumerate() {
+            self.core.feed(client, piece.as_slice())?;
+        }
+        Ok(())
+    }
+
+    fn take_all(&mut self) -> Result<(), Stop> {
+        for client in 0..self.pieces.len() {
+            let bytes = self.core.take_output(client)?;
+            self.counts.bytes = self.counts.bytes.saturating_add(as_count(bytes.len()));
+        }
+        Ok(())
+    }
+
+    /// Each client says its commands, and is given all replies.
+    pub fn round(&mut self) -> Result<(), Stop> {
+        self.feed_all()?;
+        self.poll_all()?;
+        for _ in 0..POLLS {
+            if self.calls.is_empty() {
+                break;
+            }
+            self.answer_all()?;
+            self.poll_all()?;
+        }
+        self.take_all()
+    }
+
+    /// What all rounds so far came to.
+    pub fn counts(&self) -> Counts {
+        self.counts
+    }
+}

@@ -1,5 +1,0 @@
-use Rattle.client_requests.specs.Asks.{IsWalk}
-use Rattle.codec_bench.proofs.passes.make_asks.Given as goal
-
-abbrev pub invariant-loop : goal.invariant-loop
-invariant-loop l = IsWalk l.bytes l.asks

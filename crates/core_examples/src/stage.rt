@@ -1,0 +1,473 @@
+//! A core that is played by lines of text: an event, and behind an arrow what it gives.
+
+ghost use Rattle.std.specs.Prelude.{◌≡◌, IfOk};
+ghost use Rattle.route_tree.specs.Route as route;
+
+use fresh_core::FreshCore;
+use fresh_gate::judge;
+use mc_types::{Ask, Body, Dialect, Key, Op, Origin, Outcome, ServerId, Tokens};
+use proxy_core::{Core, CoreFault, Limits, Poll, SharedAsk, Sharing, Ticket};
+use route_json::{Config, read_config};
+use route_tree::{Tree, TreeForm};
+use std::alloc::{AllocError, Global};
+use std::test::Fail;
+
+// A core without a gate, or with one.
+#[derive(Drop)]
+enum Played {
+    Bare(Core),
+    Fresh(FreshCore),
+}
+
+/// A core, and the tickets that it gave out and that weren't handed back.
+#[derive(Drop)]
+pub struct Stage {
+    alloc: Global,
+    core: Played,
+    tickets: Vec<Ticket>,
+}
+
+// What is told of an event: a word or two, and a number behind them if there is one.
+#[derive(Clone, Copy)]
+struct Told {
+    words: &'static str,
+    number: Option<u64>,
+}
+
+fn word(words: &'static str) -> Told {
+    Told {
+        words,
+        number: None,
+    }
+}
+
+fn yes_or_no(is_so: bool) -> Told {
+    word(if is_so { "yes" } else { "no" })
+}
+
+fn number(words: &'static str, number: u64) -> Told {
+    Told {
+        words,
+        number: Some(number),
+    }
+}
+
+fn words_of(fault: CoreFault) -> &'static str {
+    match fault {
+        CoreFault::TooManyClients => "too many clients",
+        CoreFault::NoClient => "no client",
+        CoreFault::InputFull => "input full",
+        CoreFault::UnderWay => "under way",
+        CoreFault::NoMemory => "no memory",
+        CoreFault::NoTicket => "no ticket",
+        CoreFault::Spent => "spent",
+    }
+}
+
+fn done(given: Result<(), CoreFault>) -> Told {
+    match given {
+        Ok(()) => word("ok"),
+        Err(fault) => word(words_of(fault)),
+    }
+}
+
+fn polled(poll: &Poll) -> Told {
+    match poll {
+        Poll::Idle => word("idle"),
+        Poll::Own => word("own"),
+        Poll::Refused => word("refused"),
+        Poll::Call(ticket) => number("call ", ticket.number),
+        Poll::Waiting => word("waiting"),
+        Poll::Busy => word("busy"),
+        Poll::Did(note) => number("did ", note.number),
+    }
+}
+
+impl Played {
+    fn open(&mut self) -> Result<usize, CoreFault> {
+        match self {
+            Played::Bare(core) => core.open_client(),
+            Played::Fresh(core) => core.open_client(),
+        }
+    }
+
+    fn feed(&mut self, client: usize, piece: &[u8]) -> Result<(), CoreFault> {
+        match self {
+            Played::Bare(core) => core.feed(client, piece),
+            Played::Fresh(core) => core.feed(client, piece),
+        }
+    }
+
+    fn poll(&mut self, client: usize) -> Result<Poll, CoreFault> {
+        match self {
+            Played::Bare(core) => core.poll(client),
+            Played::Fresh(core) => core.poll(client),
+        }
+    }
+
+    fn fail(&mut self, ticket: Ticket) -> Result<(), CoreFault> {
+        match self {
+            Played::Bare(core) => core.settle(ticket, Outcome::Failed),
+            Played::Fresh(core) => core.settle(ticket, Outcome::Failed),
+        }
+    }
+
+    fn output(&mut self, client: usize) -> Result<Vec<u8>, CoreFault> {
+        match self {
+            Played::Bare(core) => core.take_output(client),
+            Played::Fresh(core) => core.take_output(client),
+        }
+    }
+
+    fn close(&mut self, client: usize) -> Result<(), CoreFault> {
+        match self {
+            Played::Bare(core) => core.close(client),
+            Played::Fresh(core) => core.close(client),
+        }
+    }
+
+    fn is_closed(&self, client: usize) -> bool {
+        match self {
+            Played::Bare(core) => core.is_closed(client),
+            Played::Fresh(core) => core.is_closed(client),
+        }
+    }
+
+    fn is_out(&self) -> bool {
+        match self {
+            Played::Bare(core) => core.is_out(),
+            Played::Fresh(core) => core.is_out(),
+        }
+    }
+
+    // The number of the generation that what the text says is.
+    fn reload(&mut self, alloc: Global, text: &str) -> Result<u32, Fail> {
+        match self {
+            Played::Bare(core) => reload_bare(core, tree(alloc, text)?),
+            Played::Fresh(core) => reload_fresh(alloc, core, config(alloc, text)?),
+        }
+    }
+}
+
+fn reload_bare(core: &mut Core, tree: Tree) -> Result<u32, Fail> {
+    match core.reload(tree) {
+        Ok(number) => Ok(number),
+        Err(_) => Err("too many generations")?,
+    }
+}
+
+fn reload_fresh(alloc: Global, core: &mut FreshCore, config: Config) -> Result<u32, Fail> {
+    if !core.keeps_numbers(&config) {
+        return Err("the servers have other numbers")?;
+    }
+    match core.reload(alloc, config) {
+        Ok(number) => Ok(number),
+        Err(_) => Err("the configuration is refused")?,
+    }
+}
+
+// The trees of the examples: no server, server 0, server 0 warmed up from server 1, and server 0 warmed up from itself.
+fn tree(alloc: Global, name: &str) -> Result<Tree, Fail> {
+    match name {
+        "null" => Ok(Tree::new(alloc, TreeForm::Null)?),
+        "server" => Ok(server(alloc, 0)?),
+        "warm-up" => Ok(warm_up(alloc, 1)?),
+        "warm-up of itself" => Ok(warm_up(alloc, 0)?),
+        _ => Err("no tree has this name")?,
+    }
+}
+
+fn server(alloc: Global, number: u32) -> Result<Tree, AllocError>
+    ensures { IfOk result (λ tree. tree ≡ route.Server number) }
+{
+    Tree::new(alloc, TreeForm::Server(ServerId::new(number)))
+}
+
+fn warm_up(alloc: Global, warm: u32) -> Result<Tree, AllocError> {
+    let cold = Box::new(alloc, server(alloc, 0)?)?;
+    let warm = Box::new(alloc, server(alloc, warm)?)?;
+    let form = TreeForm::WarmUp {
+        cold,
+        warm,
+        exptime: 0,
+    };
+    Tree::new(alloc, form)
+}
+
+fn config(alloc: Global, text: &str) -> Result<Config, Fail> {
+    Ok(read_config(alloc, text)?)
+}
+
+// The limits of the examples: those of scripts, or so many commands of a client and four calls at a server.
+fn limits(text: &str) -> Limits {
+    let (depth, sharing) = match text {
+        "depth 1, alone" => (1, Sharing::Alone),
+        "depth 2, alone" => (2, Sharing::Alone),
+        "depth 2, shared" => (2, Sharing::Shared),
+        _ => return Limits::of_scripts(),
+    };
+    Limits {
+        clients: 64,
+        held: 2_097_152,
+        depth,
+        window: 4,
+        sharing,
+    }
+}
+
+fn fresh_core(alloc: Global, text: &str) -> Result<FreshCore, Fail> {
+    match judge(alloc, config(alloc, text)?) {
+        Ok(accepted) => Ok(FreshCore::new(alloc, accepted, Limits::of_scripts())?),
+        Err(_) => Err("the gate refuses the configuration")?,
+    }
+}
+
+// A core as the text says: `configuration JSON`, or the name of a tree and the limits.
+fn core(alloc: Global, text: &str) -> Result<Played, Fail> {
+    match text.split_once(": ") {
+        Some(("configuration", json)) => Ok(Played::Fresh(fresh_core(alloc, json)?)),
+        Some((name, rest)) => Ok(Played::Bare(Core::unchecked(
+            alloc,
+            tree(alloc, name)?,
+            limits(rest),
+        ))),
+        None => Err("no core")?,
+    }
+}
+
+// An ask like that of the call that is out.
+fn ask(alloc: Global) -> Result<Ask, Fail> {
+    Ok(Ask {
+        key: Key::read(b"a").ok().ok_or("a is a key")?,
+        op: Op::Get,
+        dialect: Dialect::Classic,
+        with_cas: false,
+        flags: 0,
+        exptime: None,
+        body: Body::empty(),
+        cas: None,
+        delta: 0,
+        tokens: Tokens::new(alloc),
+    })
+}
+
+// A ticket that no core gave out.
+fn forged(alloc: Global, number: u64) -> Result<Ticket, Fail> {
+    Ok(Ticket {
+        ask: SharedAsk::new(alloc, ask(alloc)?)?,
+        number,
+        origin: Origin::Client,
+        server: ServerId::new(0),
+    })
+}
+
+// 2,097,152 letters.
+fn two_mebibytes(alloc: Global) -> Result<Vec<u8>, AllocError> {
+    let mut piece = Vec::new(alloc);
+    piece.resize(2_097_152, b'a')?;
+    Ok(piece)
+}
+
+// The ticket of this number, if it was given out and not handed back.
+fn take(tickets: &mut Vec<Ticket>, number: u64) -> Option<Ticket> {
+    for at in 0..tickets.len() {
+        if tickets
+            .get(at)
+            .is_some_and(|ticket| ticket.number == number)
+        {
+            return Some(tickets.remove(at));
+        }
+    }
+    None
+}
+
+impl Stage {
+    /// A core as the text says, from which no ticket was given out.
+    pub fn new(alloc: Global, text: &str) -> Result<Stage, Fail> {
+        Ok(Stage {
+            alloc,
+            core: core(alloc, text)?,
+            tickets: Vec::new(alloc),
+        })
+    }
+
+    fn open(&mut self) -> Told {
+        match self.core.open() {
+            Ok(client) => number("", client as u64),
+            Err(fault) => word(words_of(fault)),
+        }
+    }
+
+    // So many clients come; what the first one is told that isn't taken, if one isn't.
+    fn open_all(&mut self, count: u64) -> Told {
+        for _ in 0..count {
+            if let Err(fault) = self.core.open() {
+                return word(words_of(fault));
+            }
+        }
+        word("ok")
+    }
+
+    fn feed(&mut self, client: usize, text: &str) -> Result<Told, AllocError> {
+        let piece = text.replace(self.alloc, r"\r\n", "\r\n")?;
+        Ok(done(self.core.feed(client, piece.as_bytes())))
+    }
+
+    fn fill(&mut self, client: usize) -> Result<Told, AllocError> {
+        let piece = two_mebibytes(self.alloc)?;
+        Ok(done(self.core.feed(client, piece.as_slice())))
+    }
+
+    fn poll(&mut self, client: usize) -> Result<Told, Fail> {
+        match self.core.poll(client) {
+            Ok(poll) => {
+                let told = polled(&poll);
+                self.keep(poll)?;
+                Ok(told)
+            }
+            Err(fault) => Ok(word(words_of(fault))),
+        }
+    }
+
+    fn keep(&mut self, poll: Poll) -> Result<(), Fail> {
+        if let Poll::Call(ticket) = poll {
+            if self.tickets.push(ticket).is_err() {
+                return Err("no memory for a ticket")?;
+            }
+        }
+        Ok(())
+    }
+
+    // The call of this number fails, whose ticket was given out.
+    fn fail(&mut self, number: u64) -> Result<Told, Fail> {
+        match take(&mut self.tickets, number) {
+            Some(ticket) => Ok(done(self.core.fail(ticket))),
+            None => Err("no ticket of this number was given out")?,
+        }
+    }
+
+    /// Whether the core takes it that the call of this number fails.
+    pub fn takes_failure(&mut self, number: u64) -> Result<bool, Fail> {
+        match take(&mut self.tickets, number) {
+            Some(ticket) => Ok(self.core.fail(ticket).is_ok()),
+            None => Err("no ticket of this number was given out")?,
+        }
+    }
+
+    // The same, but with a ticket that this core didn't give out.
+    fn forge(&mut self, number: u64) -> Result<Told, Fail> {
+        let ticket = forged(self.alloc, number)?;
+        Ok(done(self.core.fail(ticket)))
+    }
+
+    fn output(&mut self, client: usize) -> Result<String, Fail> {
+        match self.core.output(client) {
+            Ok(bytes) => shown(self.alloc, bytes),
+            Err(fault) => Ok(words_of(fault).to_string(self.alloc)?),
+        }
+    }
+
+    fn reload(&mut self, text: &str) -> Result<Told, Fail> {
+        Ok(number("", self.core.reload(self.alloc, text)? as u64))
+    }
+
+    fn close(&mut self, client: usize) -> Told {
+        done(self.core.close(client))
+    }
+
+    // What is told of an event that is about a client or a number.
+    fn told_of(&mut self, verb: &str, about: u64, text: &str) -> Result<Told, Fail> {
+        let client = about as usize;
+        match verb {
+            "open" => Ok(self.open_all(about)),
+            "feed" => Ok(self.feed(client, text)?),
+            "fill" => Ok(self.fill(client)?),
+            "poll" => self.poll(client),
+            "fail" => self.fail(about),
+            "forge" => self.forge(about),
+            "close" => Ok(self.close(client)),
+            "closed" => Ok(yes_or_no(self.core.is_closed(client))),
+            _ => Err("no such event")?,
+        }
+    }
+
+    fn told(&mut self, verb: &str, rest: &str) -> Result<Told, Fail> {
+        match (verb, rest) {
+            ("open", "") => Ok(self.open()),
+            ("out", "") => Ok(yes_or_no(self.core.is_out())),
+            ("reload", text) => self.reload(text),
+            _ => {
+                let (about, text) = cut(rest);
+                self.told_of(verb, about.parse::<u64>()?, text)
+            }
+        }
+    }
+
+    // What an event gives, as text.
+    fn answer(&mut self, event: &str) -> Result<String, Fail> {
+        let (verb, rest) = cut(event);
+        if verb == "output" {
+            self.output(rest.parse::<usize>()?)
+        } else {
+            text_of(self.alloc, self.told(verb, rest)?)
+        }
+    }
+}
+
+// The first word, and what comes behind the space.
+fn cut(text: &str) -> (&str, &str) {
+    text.split_once(' ').unwrap_or((text, ""))
+}
+
+fn text_of(alloc: Global, told: Told) -> Result<String, Fail> {
+    let mut text = told.words.to_string(alloc)?;
+    if let Some(number) = told.number {
+        text.push_str(number.to_string(alloc)?.as_str())?;
+    }
+    Ok(text)
+}
+
+// Output as it stands in the examples.
+fn shown(alloc: Global, bytes: Vec<u8>) -> Result<String, Fail> {
+    if bytes.is_empty() {
+        return Ok("nothing".to_string(alloc)?);
+    }
+    let text = String::from_utf8(bytes)?;
+    Ok(text.as_str().replace(alloc, "\r\n", r"\r\n")?)
+}
+
+// An event gives what stands behind its arrow; a remark is passed over.
+fn play_line(stage: &mut Stage, name: &str, line: &str) -> Result<(), Fail> {
+    if line.starts_with("-- ") {
+        return Ok(());
+    }
+    let (event, want) = line.split_once(" => ").ok_or("no arrow")?;
+    let got = stage.answer(event)?;
+    if got.as_str() != want {
+        return Err(Fail::new(format_args!("{name}\n{event} => {got}")));
+    }
+    Ok(())
+}
+
+/// Plays these events.
+pub fn play_lines(stage: &mut Stage, name: &str, lines: &str) -> Result<(), Fail> {
+    for line in lines.lines() {
+        play_line(stage, name, line)?;
+    }
+    Ok(())
+}
+
+fn play_example(alloc: Global, name: &str, lines: &str) -> Result<(), Fail> {
+    let (first, rest) = lines.split_once('\n').ok_or("no events")?;
+    let mut stage = Stage::new(alloc, first)?;
+    play_lines(&mut stage, name, rest)
+}
+
+/// Plays each example of a text: its name, its core, and its events.
+pub fn play(alloc: Global, text: &str) -> Result<(), Fail> {
+    for example in text.split("\n\n") {
+        let (name, lines) = example.split_once('\n').ok_or("no core")?;
+        play_example(alloc, name, lines)?;
+    }
+    Ok(())
+}

@@ -1,0 +1,83 @@
+-- What the program prints on standard output of an input, and how it ends. Source: mcgate's own.
+use Rattle.std.specs.Prelude.{◌≡◌, ℕ, ◌≤◌, ◌++◌, List, codes, Option, Some, None, Result, Ok, Err, String, string_bytes}
+use Rattle.std.specs.Io.KnownBytes.{Appends}
+use Rattle.std.specs.declared.alloc.Global.{Global}
+use Rattle.serde_json.specs.Read.{read}
+use Rattle.route_json.specs.Configs.{read_or}
+use Rattle.route_json.specs.Configuration.{Configuration}
+use Rattle.config_check.specs.Checking.{PrintsFault}
+use Rattle.config_check.specs.Reporting.{Checks}
+use Rattle.replay.specs.Replay.{Replays}
+use Rattle.program.specs.declared.arguments.Task.{Task}
+use Rattle.program.specs.declared.arguments.Task.TheVariants as tasks
+use Rattle.text_input.specs.declared.reading.InputFault.{InputFault}
+use Rattle.text_input.specs.declared.reading.InputFault.TheVariants.{TooLarge, NotUtf8, NoMemory, Device}
+use Rattle.program.specs.declared.ends.Stop.{Stop}
+use Rattle.program.specs.declared.ends.Stop.TheVariants as stops
+
+-- memory was refused, or a device failed
+abbrev pub IsBrokenOff : Stop → Type 0
+IsBrokenOff stops.Usage = ⊥
+IsBrokenOff (stops.Key fault) = ⊥
+IsBrokenOff stops.Memory = Unit {0}
+IsBrokenOff stops.Device = Unit {0}
+
+-- this line was written and the status is 2; or the line could not be written
+abbrev pub Tells : List ℕ → Option (List ℕ) → Option (List ℕ) → Result ℕ Stop → Type 0
+Tells line old new (Ok status) = (status ≡ 2) × Appends old new line
+Tells line old new (Err stop) = IsBrokenOff stop
+
+-- nothing was written
+abbrev pub StopsBy : Stop → Option (List ℕ) → Option (List ℕ) → Result ℕ Stop → Type 0
+StopsBy stop old new ended = (ended ≡ Err stop) × (new ≡ old)
+
+-- what a task does with a text, and the status of that
+abbrev pub Does : Task → List ℕ → Option (List ℕ) → Option (List ℕ) → ℕ → Type 0
+Does (tasks.Check form) text old new status = Checks form text old new status
+Does (tasks.Replay any) text old new status = Replays any text old new status
+
+-- what its call answers: a status, or that memory or the writer failed
+pub record Answers (task : Task) (text : List ℕ) (old new : Option (List ℕ)) (answer : ℕ) : Type 0 where
+  pub few : answer ≤ 4
+  pub does : answer ≤ 2 → Does task text old new answer
+
+-- a text was dealt with so, and how that ended; or memory or the writer failed
+abbrev pub RunsBy : (List ℕ → Option (List ℕ) → Option (List ℕ) → ℕ → Type 0) → List ℕ → Option (List ℕ) → Option (List ℕ) → Result ℕ Stop → Type 0
+RunsBy P text old new (Ok status) = P text old new status
+RunsBy P text old new (Err stop) = IsBrokenOff stop
+
+-- what is written of an input that was not read, and how that ended
+abbrev pub Declines : InputFault → Option (List ℕ) → Option (List ℕ) → Result ℕ Stop → Type 0
+Declines TooLarge old new ended = Tells (codes "input: too large" ++ codes "\n") old new ended
+Declines NotUtf8 old new ended = Tells (codes "input: not UTF-8" ++ codes "\n") old new ended
+Declines NoMemory old new ended = StopsBy stops.Memory old new ended
+Declines Device old new ended = StopsBy stops.Device old new ended
+
+-- an input that was read or not, what was written of it, and how that ended
+abbrev pub AnswersBy : (List ℕ → Option (List ℕ) → Option (List ℕ) → ℕ → Type 0) → Result (String Global) InputFault → Option (List ℕ) → Option (List ℕ) → Result ℕ Stop → Type 0
+AnswersBy P (Ok text) old new ended = RunsBy P (string_bytes text) old new ended
+AnswersBy P (Err fault) old new ended = Declines fault old new ended
+
+-- the task was done with a text; or memory or the writer failed
+abbrev pub Runs : Task → List ℕ → Option (List ℕ) → Option (List ℕ) → Result ℕ Stop → Type 0
+Runs task = RunsBy (Does task)
+
+abbrev pub AnswersInput : Task → Result (String Global) InputFault → Option (List ℕ) → Option (List ℕ) → Result ℕ Stop → Type 0
+AnswersInput task = AnswersBy (Does task)
+
+-- the configuration of a text, and nothing was written; or its first fault was; or memory or the writer failed
+abbrev pub GivesConfig : List ℕ → Option (List ℕ) → Option (List ℕ) → Result (Option Configuration) Stop → Type 0
+GivesConfig text old new (Ok (Some config)) = (read_or (read text) ≡ Ok (config.tree, config.servers)) × (new ≡ old)
+GivesConfig text old new (Ok None) = PrintsFault text old new
+GivesConfig text old new (Err stop) = IsBrokenOff stop
+
+-- of an input that was not read none comes
+abbrev pub GivesNoConfig : InputFault → Option (List ℕ) → Option (List ℕ) → Result (Option Configuration) Stop → Type 0
+GivesNoConfig fault old new (Ok (Some config)) = ⊥
+GivesNoConfig fault old new (Ok None) = Declines fault old new (Ok 2)
+GivesNoConfig fault old new (Err stop) = Declines fault old new (Err stop)
+
+-- the configuration of an input, or what was written of it
+abbrev pub ReadsConfig : Result (String Global) InputFault → Option (List ℕ) → Option (List ℕ) → Result (Option Configuration) Stop → Type 0
+ReadsConfig (Ok text) old new given = GivesConfig (string_bytes text) old new given
+ReadsConfig (Err fault) old new given = GivesNoConfig fault old new given

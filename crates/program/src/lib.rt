@@ -1,0 +1,10 @@
+//! What the program's arguments ask for, and how each input ends: what is printed on which stream, and the exit status.
+#![tactic(auto)]
+
+pub mod arguments;
+pub mod bad_lines;
+pub mod cache_words;
+pub mod ends;
+pub mod input;
+pub mod loopback_words;
+pub mod serve_words;

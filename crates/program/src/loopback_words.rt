@@ -1,0 +1,35 @@
+//! The arguments of `mcgate loopback`, and what they ask for.
+
+use crate::arguments::{Job, help_flag};
+use clap::{Arg, ArgMatches, Command};
+use std::alloc::{AllocError, Global};
+
+pub const LOOPBACK_HELP: &str = "usage: mcgate loopback [SCRIPT]
+
+Reads a script, of the file SCRIPT or of standard input: a configuration on its first line, or pool N, and then one event a line,
+or reload and a configuration, which is loaded there.
+Runs it with the proxy, its clients and cache servers as ends of TCP connections on 127.0.0.1, in one thread and at ports that the
+system picks. It prints what mcgate replay prints, but no count of stale replies:
+  < C TEXT               new output of client C
+  done N commands M calls
+A tree that the gate refuses isn't run, and its refused: line is printed.
+Exit status: 0 done, 1 refused by the gate, 2 bad script, 3 memory, a device or a socket failed.
+";
+
+/// The command and its flags.
+pub fn loopback_command<'a>(alloc: Global) -> Result<Command<'a>, AllocError> {
+    Command::new(alloc, "loopback")
+        .disable_help_flag(true)
+        .arg(help_flag(alloc))?
+        .arg(Arg::new(alloc, "SCRIPT"))
+}
+
+/// What the arguments after `loopback` ask for.
+pub fn loopback_job<'a>(given: &ArgMatches<'a>) -> Job<'a> {
+    if given.get_flag("help") {
+        return Job::Print(LOOPBACK_HELP);
+    }
+    Job::Loopback {
+        file: given.get_str("SCRIPT"),
+    }
+}

@@ -1,0 +1,15 @@
+use Rattle.std.proofs.Common.{sym, ap, ◌∙◌, ◌++◌}
+use Rattle.proxy_core.specs.CoreState.{client_at, output_by}
+use Rattle.proxy_core.proofs.Clients.{written, gives}
+use Rattle.proxy_core.proofs.proxy.Core.move_output.Goals as goal
+
+pub returns-in-Ok-clause-bytes : goal.returns-in-Ok-clause-bytes
+returns-in-Ok-clause-bytes c = c.in-Ok.ensures.bytes ∙ ap (λ l. c.args.out.now.items ++ output_by l) c.in-Some.ensures.value
+
+pub returns-in-Ok-clause-ok : goal.returns-in-Ok-clause-ok
+returns-in-Ok-clause-ok c =
+    let old = c.args.self.now in
+    let x = c.in-Some.x.now in
+    let y = c.move_output.new.self in
+    let was = sym c.in-Some.ensures.value in
+    gives old _ c.args.client x y (output_by (client_at old c.args.client)) (written old c.args.client x y was) (ap output_by was) c.in-Ok.ensures.ok

@@ -1,0 +1,493 @@
+//! Ends on 127.0.0.1 that are turned by turns: cache servers, a proxy, and the clients' ends of connections.
+
+use crate::configs::{read, read_after, with_configs};
+use crate::playing::{Stage, cut, first_line, numbered, plain, play_lines, shown, yes_or_no};
+use fresh_gate::{Accepted, judge};
+use route_json::Config;
+use std::alloc::{AllocError, Global};
+use std::io;
+use std::io::{ErrorKind, Read, Write};
+use std::net::{IpAddr, Ipv4Addr, Shutdown, SocketAddr, TcpListener, TcpStream};
+use std::test::Fail;
+use std::time::Duration;
+use tcp_cache::CacheEnd;
+use tcp_proxy::{Cause, LinkNews, ProxyEnd, Settings};
+
+type Cache = CacheEnd<HostRuntime>;
+
+/// The ends. One that is gone is none any more.
+#[derive(Drop)]
+pub struct Ends<'a> {
+    rt: &'a HostRuntime,
+    caches: Vec<Option<Cache>>,
+    proxy: Option<ProxyEnd>,
+    // The text of the configuration by which the proxy began.
+    config: String,
+    // Where a server listens whose part the example plays.
+    played: Option<TcpListener>,
+    // Clients, and what such a server accepted.
+    streams: Vec<Option<TcpStream>>,
+}
+
+fn listen(rt: &HostRuntime, settings: tcp_cache::Settings) -> io::Result<Cache> {
+    CacheEnd::listen(rt, "127.0.0.1:0", settings)
+}
+
+// 127.0.0.1, at a port that the system picks.
+fn any_port() -> SocketAddr {
+    SocketAddr::new(IpAddr::V4(Ipv4Addr::LOCALHOST), 0)
+}
+
+fn judged(alloc: Global, config: Config) -> Result<Accepted, Fail> {
+    match judge(alloc, config) {
+        Ok(accepted) => Ok(accepted),
+        Err(_) => Err("the gate refuses the configuration")?,
+    }
+}
+
+// As many of these servers as the configuration has.
+fn used<'a>(config: &Config, servers: &'a [Option<SocketAddr>]) -> &'a [Option<SocketAddr>] {
+    &servers[..config.servers().len().min(servers.len())]
+}
+
+fn proxy(
+    rt: &HostRuntime,
+    accepted: Accepted,
+    servers: &[Option<SocketAddr>],
+) -> io::Result<ProxyEnd> {
+    ProxyEnd::new(rt, any_port(), accepted, servers, Settings::usual())
+}
+
+// A proxy over as many of these servers as the configuration has, on its tree.
+fn proxy_by(
+    rt: &HostRuntime,
+    text: &str,
+    servers: &[Option<SocketAddr>],
+) -> Result<ProxyEnd, Fail> {
+    let config = read(rt.alloc(), text)?;
+    let servers = used(&config, servers);
+    let accepted = judged(rt.alloc(), config)?;
+    Ok(proxy(rt, accepted, servers)?)
+}
+
+// Drops the configuration.
+fn drop_config(_config: Config) {}
+
+// The number of the generation that a configuration is.
+fn load(
+    alloc: Global,
+    proxy: &mut ProxyEnd,
+    config: Config,
+    servers: &[Option<SocketAddr>],
+) -> Result<String, Fail> {
+    match proxy.load(config, servers) {
+        Ok(number) => Ok(number.to_string(alloc)?),
+        Err(_) => Ok("refused".to_string(alloc)?),
+    }
+}
+
+fn address(end: &Option<Cache>) -> io::Result<Option<SocketAddr>> {
+    match end {
+        Some(end) => Ok(Some(end.address()?)),
+        None => Ok(None),
+    }
+}
+
+fn turn_cache(rt: &HostRuntime, end: &mut Option<Cache>, most: Duration) -> io::Result<()> {
+    match end {
+        Some(end) => end.turn_within(rt, most),
+        None => Ok(()),
+    }
+}
+
+// One read. The answer is whether there is more to come.
+fn read_some(stream: &mut TcpStream, given: &mut Vec<u8>) -> io::Result<bool> {
+    let mut part = [0; 65_536];
+    match stream.read(&mut part) {
+        Ok(count) => {
+            given.extend_from_slice(&part[..count])?;
+            Ok(count > 0)
+        }
+        Err(error) if error.kind() == ErrorKind::WouldBlock => Ok(true),
+        Err(error) => Err(error),
+    }
+}
+
+// A text so often.
+fn times(alloc: Global, count: usize, text: &str) -> Result<String, AllocError> {
+    let mut all = String::new(alloc);
+    for _ in 0..count {
+        all.push_str(text)?;
+    }
+    Ok(all)
+}
+
+// How many bytes these are, and the last ten.
+fn counted(alloc: Global, bytes: &[u8]) -> Result<String, Fail> {
+    let (_, last) = bytes.split_at(bytes.len().saturating_sub(10));
+    let count = bytes.len();
+    let last = shown(alloc, last)?;
+    Ok(format!(in alloc; "{count} bytes, at the end {last}")?)
+}
+
+fn news_word(news: LinkNews) -> &'static str {
+    match news {
+        LinkNews::Opened => "opened",
+        LinkNews::Back => "back",
+        LinkNews::Failed(Cause::Unreachable, _) => "unreachable",
+        LinkNews::Failed(_, _) => "failed",
+    }
+}
+
+impl<'a> Ends<'a> {
+    /// No end.
+    pub fn new(rt: &'a HostRuntime) -> Ends<'a> {
+        Ends {
+            rt,
+            caches: Vec::new(rt.alloc()),
+            proxy: None,
+            config: String::new(rt.alloc()),
+            played: None,
+            streams: Vec::new(rt.alloc()),
+        }
+    }
+
+    // Where the servers listen: the caches, or the one that the example plays.
+    fn servers(&self) -> io::Result<Vec<Option<SocketAddr>>> {
+        let mut servers = Vec::new(self.rt.alloc());
+        for end in self.caches.as_slice() {
+            servers.push(address(end)?)?;
+        }
+        if let Some(listener) = &self.played {
+            servers.push(Some(listener.local_addr()?))?;
+        }
+        Ok(servers)
+    }
+
+    // Where clients connect: to the proxy, or to the first cache where there is none.
+    fn front(&self) -> Result<SocketAddr, Fail> {
+        if let Some(proxy) = &self.proxy {
+            return Ok(proxy.local_addr()?);
+        }
+        match self.caches.first() {
+            Some(Some(cache)) => Ok(cache.address()?),
+            _ => Err("there is no end to connect to")?,
+        }
+    }
+
+    fn turn_proxy(&mut self) -> io::Result<()> {
+        match &mut self.proxy {
+            Some(proxy) => proxy.turn_within(self.rt, Duration::from_millis(1)),
+            None => Ok(()),
+        }
+    }
+
+    // How long a cache waits in a turn where nothing is ready.
+    fn wait(&self) -> Duration {
+        Duration::from_millis(if self.proxy.is_some() { 1 } else { 5 })
+    }
+
+    fn turn(&mut self) -> io::Result<()> {
+        self.turn_proxy()?;
+        let wait = self.wait();
+        for end in self.caches.as_mut_slice() {
+            turn_cache(self.rt, end, wait)?;
+        }
+        Ok(())
+    }
+
+    fn stream(&mut self, at: usize) -> Option<&mut TcpStream> {
+        self.streams.get_mut(at)?.as_mut()
+    }
+
+    fn read(&mut self, at: usize, given: &mut Vec<u8>) -> io::Result<bool> {
+        match self.stream(at) {
+            Some(stream) => read_some(stream, given),
+            None => Ok(false),
+        }
+    }
+
+    // What comes by a stream in turns: so many bytes, or fewer where its connection ends before.
+    fn given(&mut self, at: usize, count: usize) -> io::Result<Vec<u8>> {
+        let mut given = Vec::new(self.rt.alloc());
+        for _ in 0..4_000 {
+            self.turn()?;
+            if !self.read(at, &mut given)? || given.len() >= count {
+                break;
+            }
+        }
+        Ok(given)
+    }
+
+    // Whether a connection ends, and nothing comes before.
+    fn is_closed(&mut self, at: usize) -> io::Result<bool> {
+        let given = self.given(at, 1)?;
+        Ok(given.is_empty())
+    }
+
+    fn listen(&mut self, settings: tcp_cache::Settings) -> Result<(), Fail> {
+        let cache = listen(self.rt, settings)?;
+        if self.caches.push(Some(cache)).is_err() {
+            return Err("no memory")?;
+        }
+        Ok(())
+    }
+
+    fn play_server(&mut self) -> Result<(), Fail> {
+        let listener = TcpListener::bind(self.rt, "127.0.0.1:0")?;
+        listener.set_nonblocking(true)?;
+        self.played = Some(listener);
+        Ok(())
+    }
+
+    fn begin_proxy(&mut self, text: &str) -> Result<(), Fail> {
+        let servers = self.servers()?;
+        self.proxy = Some(proxy_by(self.rt, text, servers.as_slice())?);
+        self.config = text.to_string(self.rt.alloc())?;
+        Ok(())
+    }
+
+    // Its number.
+    fn keep(&mut self, stream: TcpStream) -> Result<usize, Fail> {
+        stream.set_nonblocking(true)?;
+        if self.streams.push(Some(stream)).is_err() {
+            return Err("no memory")?;
+        }
+        Ok(self.streams.len() - 1)
+    }
+
+    fn connect(&mut self) -> Result<usize, Fail> {
+        let stream = TcpStream::connect(self.rt, self.front()?)?;
+        self.keep(stream)
+    }
+
+    fn accepted(&self) -> Result<TcpStream, Fail> {
+        match &self.played {
+            Some(listener) => Ok(listener.accept()?.0),
+            None => Err("no server is played")?,
+        }
+    }
+
+    // The proxy is turned until its connection to the server has come.
+    fn accept(&mut self) -> Result<usize, Fail> {
+        self.turn_often(100)?;
+        let stream = self.accepted()?;
+        self.keep(stream)
+    }
+
+    fn turn_often(&mut self, count: usize) -> io::Result<()> {
+        for _ in 0..count {
+            self.turn()?;
+        }
+        Ok(())
+    }
+
+    fn write(&mut self, at: usize, bytes: &[u8]) -> Result<(), Fail> {
+        match self.stream(at) {
+            Some(stream) => Ok(stream.write_all(bytes)?),
+            None => Err("no stream has this number")?,
+        }
+    }
+
+    fn send(&mut self, at: usize, text: &str) -> Result<(), Fail> {
+        let piece = plain(self.rt.alloc(), text)?;
+        self.write(at, piece.as_bytes())
+    }
+
+    fn send_often(&mut self, at: usize, text: &str) -> Result<(), Fail> {
+        let (count, text) = numbered(text)?;
+        let text = plain(self.rt.alloc(), text)?;
+        let all = times(self.rt.alloc(), count, text.as_str())?;
+        self.write(at, all.as_bytes())
+    }
+
+    fn shut(&mut self, at: usize) -> Result<(), Fail> {
+        match self.stream(at) {
+            Some(stream) => Ok(stream.shutdown(Shutdown::Write)?),
+            None => Err("no stream has this number")?,
+        }
+    }
+
+    fn leave(&mut self, at: usize) {
+        if let Some(place) = self.streams.get_mut(at) {
+            *place = None;
+        }
+    }
+
+    fn kill(&mut self, at: usize) {
+        if let Some(place) = self.caches.get_mut(at) {
+            *place = None;
+        }
+    }
+
+    // As many bytes as are wanted, and those that came with them.
+    fn gets(&mut self, at: usize, want: &str) -> Result<String, Fail> {
+        let count = plain(self.rt.alloc(), want)?.len();
+        let given = self.given(at, count)?;
+        shown(self.rt.alloc(), given.as_slice())
+    }
+
+    fn ask(&mut self, at: usize, text: &str, want: &str) -> Result<String, Fail> {
+        self.send(at, text)?;
+        self.gets(at, want)
+    }
+
+    fn count(&mut self, at: usize, text: &str) -> Result<String, Fail> {
+        let given = self.given(at, text.parse::<usize>()?)?;
+        counted(self.rt.alloc(), given.as_slice())
+    }
+
+    fn clients(&self) -> usize {
+        match self.caches.first() {
+            Some(Some(cache)) => cache.clients(),
+            _ => 0,
+        }
+    }
+
+    fn next_config(&self, text: &str) -> Result<Config, Fail> {
+        let first = read(self.rt.alloc(), self.config.as_str())?;
+        read_after(self.rt.alloc(), &first, text)
+    }
+
+    fn loaded(&mut self, config: Config, servers: &[Option<SocketAddr>]) -> Result<String, Fail> {
+        let alloc = self.rt.alloc();
+        match self.proxy.as_mut() {
+            Some(proxy) => load(alloc, proxy, config, servers),
+            None => {
+                drop_config(config);
+                Err("there is no proxy")?
+            }
+        }
+    }
+
+    fn load(&mut self, text: &str) -> Result<String, Fail> {
+        let servers = self.servers()?;
+        let config = self.next_config(text)?;
+        self.loaded(config, servers.as_slice())
+    }
+
+    fn next_news(&mut self) -> Option<(usize, LinkNews)> {
+        match &mut self.proxy {
+            Some(proxy) => proxy.next_news(),
+            None => None,
+        }
+    }
+
+    // What is told of a link next.
+    fn news(&mut self) -> io::Result<Option<(usize, LinkNews)>> {
+        for _ in 0..4_000 {
+            self.turn()?;
+            let news = self.next_news();
+            if news.is_some() {
+                return Ok(news);
+            }
+        }
+        Ok(None)
+    }
+
+    fn news_text(&mut self) -> Result<String, Fail> {
+        let alloc = self.rt.alloc();
+        match self.news()? {
+            Some((server, news)) => {
+                let word = news_word(news);
+                Ok(format!(in alloc; "server {server} {word}")?)
+            }
+            None => Ok("none".to_string(alloc)?),
+        }
+    }
+}
+
+impl Ends<'_> {
+    // Events of servers, which give nothing.
+    fn set_server(&mut self, verb: &str, text: &str) -> Result<(), Fail> {
+        match verb {
+            "cache" => self.listen(tcp_cache::Settings::of(16)),
+            "small-cache" => self.listen(one_client()),
+            "server" => self.play_server(),
+            "proxy" => self.begin_proxy(text),
+            _ => Err("no such event")?,
+        }
+    }
+
+    // Events that give nothing, of what has this number.
+    fn set(&mut self, verb: &str, at: usize, text: &str) -> Result<(), Fail> {
+        match verb {
+            "send" => self.send(at, text),
+            "repeat" => self.send_often(at, text),
+            "shut" => self.shut(at),
+            "turn" => Ok(self.turn_often(at)?),
+            "leave" => {
+                self.leave(at);
+                Ok(())
+            }
+            "kill" => {
+                self.kill(at);
+                Ok(())
+            }
+            _ => Err("no such event")?,
+        }
+    }
+
+    // Events of streams.
+    fn answer_of(&mut self, verb: &str, text: &str, want: &str) -> Result<String, Fail> {
+        let (at, text) = numbered(text)?;
+        match verb {
+            "ask" => self.ask(at, text, want),
+            "gets" => self.gets(at, want),
+            "count" => self.count(at, text),
+            "closed" => Ok(yes_or_no(self.is_closed(at)?).to_string(self.rt.alloc())?),
+            _ => {
+                self.set(verb, at, text)?;
+                Ok(String::new(self.rt.alloc()))
+            }
+        }
+    }
+
+    fn number(&mut self, verb: &str) -> Result<usize, Fail> {
+        match verb {
+            "connect" => self.connect(),
+            "accept" => self.accept(),
+            _ => Ok(self.clients()),
+        }
+    }
+}
+
+// The settings of a cache that serves one client.
+fn one_client() -> tcp_cache::Settings {
+    tcp_cache::Settings {
+        capacity: 16,
+        clients: 1,
+    }
+}
+
+impl Stage for Ends<'_> {
+    fn answer(&mut self, event: &str, want: &str) -> Result<String, Fail> {
+        let (verb, text) = cut(event);
+        match verb {
+            "cache" | "small-cache" | "server" | "proxy" => {
+                self.set_server(verb, text)?;
+                Ok(String::new(self.rt.alloc()))
+            }
+            "connect" | "accept" | "clients" => Ok(self.number(verb)?.to_string(self.rt.alloc())?),
+            "load" => self.load(text),
+            "news" => self.news_text(),
+            _ => self.answer_of(verb, text, want),
+        }
+    }
+}
+
+/// Plays an example: its name, and its events.
+pub fn play(rt: &HostRuntime, example: &str) -> Result<(), Fail> {
+    let (name, lines) = first_line(example);
+    let lines = with_configs(rt.alloc(), lines)?;
+    let mut ends = Ends::new(rt);
+    play_lines(&mut ends, name, lines.as_str())
+}
+
+/// Plays the examples of a text, between which a line is empty.
+pub fn play_all(rt: &HostRuntime, text: &str) -> Result<(), Fail> {
+    for example in text.split("\n\n") {
+        play(rt, example)?;
+    }
+    Ok(())
+}
