@@ -293,14 +293,23 @@ fn events_of_an_input(rt: HostRuntime) -> Result<(), Fail> {
     Ok(())
 }
 
+// Whether there is a configuration. It is dropped here, where nothing else can end the function.
+fn is_there(config: Option<Config>) -> bool {
+    config.is_some()
+}
+
+fn is_read(alloc: Global, text: &str, out: &mut Vec<u8>) -> Result<bool, Fail> {
+    match read_configuration(alloc, input_of(alloc, text), out) {
+        Ok(config) => Ok(is_there(config)),
+        Err(_) => Err(Fail::from("stopped")),
+    }
+}
+
 // What is printed of an input that is to be a configuration; nothing of one.
 fn configured(alloc: Global, text: &str) -> Result<Vec<u8>, Fail> {
-    let input = input_of(alloc, text);
     let mut out = Vec::new(alloc);
-    match read_configuration(alloc, input, &mut out) {
-        Ok(Some(_config)) => out.extend_from_slice(b"a configuration".as_slice())?,
-        Ok(None) => {}
-        Err(_) => return Err(Fail::from("stopped")),
+    if is_read(alloc, text, &mut out)? {
+        out.extend_from_slice(b"a configuration".as_slice())?;
     }
     Ok(out)
 }
