@@ -72,7 +72,7 @@ keeps configs r before kept next used last = kept_on used.servers before r.confi
 pub begun_first : (configs : List Configuration) (rs : List Reload) (c : Configuration) → IsLast configs c → InUse configs (λ d. AreChained d.servers rs) → (before : Addresses) × IsBegun configs before × AreChained before rs
 begun_first configs rs c last chained = (c.servers, λ used at i lt. ap (λ (d : Configuration). slice_get d.servers i) (same_config configs c used last at), chained c last)
 
--- the next reload, and those behind it
+-- the next reload, and those after it
 pub chained_at : (before : Addresses) (reloads : List Reload) (i : ℕ) (r : Reload) → i < length reloads → r ≡ get_or reloads i r → AreChained before (drop i reloads) → AreKept before r.config.servers × AreChained r.config.servers (drop (i + 1) reloads)
 chained_at before reloads i r lt is h =
     let one : suc i ≡ i + 1 = omega arith in

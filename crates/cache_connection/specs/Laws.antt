@@ -33,7 +33,7 @@ NothingBehindEnd =
     (moment : ℤ) (next : Place) (bytes text : List ℕ) (old new : Contents)
     → Feeds moment Closed bytes old text next new → (text ≡ []) × (next ≡ Closed) × (new ≡ old)
 
--- none of these replies is for lack of memory
+-- none of these replies says that memory ran out
 abbrev pub NoneWants : List Answer → Type 0
 NoneWants [] = Unit {0}
 NoneWants (reply ∷ replies) = (reply ≢ out_of_memory) × NoneWants replies

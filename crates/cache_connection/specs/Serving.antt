@@ -1,4 +1,4 @@
--- How a cache answers what the client of a connection sends. Source: memcached's protocol.txt, "Commands" and "Error strings"; what is done for lack of memory is mcgate's own.
+-- How a cache answers what the client of a connection sends. Source: memcached's protocol.txt, "Commands" and "Error strings"; what is done where memory runs out is mcgate's own.
 use Rattle.std.specs.Prelude.{◌≡◌, ℕ, ℤ, nat_abs, Bool, true, false, ◌⊎◌, List, [], ◌∷◌, Option, map}
 use Rattle.mc_types.specs.declared.ask.Ask.{Ask}
 use Rattle.mc_types.specs.declared.ask.Op.{Op}
@@ -37,7 +37,7 @@ out_of_memory = ServerError (own_text OutOfMemory)
 abbrev pub AnswersByTable : ℤ → Ask → Contents → Answer → Contents → Type 0
 AnswersByTable moment ask old answer new = (found : Option ℕ) × Applies moment 0 ask old answer found new
 
--- the cache wants memory for what the ask would store: nothing changes but that what has expired is gone
+-- the cache runs out of memory for what the ask would store: nothing changes but that what has expired is gone
 pub record WantsMemory (moment : ℤ) (ask : Ask) (old : Contents) (answer : Answer) (new : Contents) : Type 0 where
   pub stores : can_store ask.op ≡ true
   pub answer_is : answer ≡ out_of_memory

@@ -17,7 +17,7 @@ pub fn nothing_behind_end()
     ensures { NothingBehindEnd }
 {}
 
-/// Where no reply is for lack of memory, the definition leaves no choice: what is given, where the stream stands then,
+/// Where no reply says that memory ran out, the definition leaves no choice: what is given, where the stream stands then,
 /// and what the cache holds follow from what came and what it held.
 pub fn feed_is_determined()
     ensures { FeedIsDetermined }

@@ -76,8 +76,8 @@ impl Served {
     /// connection, and so does a line without an end in its first 65,536 bytes, which is answered. After the end bytes
     /// are dropped, and nothing is given.
     ///
-    /// Where the cache wants memory to store an item, the reply is `SERVER_ERROR out of memory storing object`. Want of
-    /// memory anywhere else is the only error; then the connection has ended, and what wasn't given is lost.
+    /// Where the cache runs out of memory to store an item, the reply is `SERVER_ERROR out of memory storing object`. Running out
+    /// of it anywhere else is the only error; then the connection has ended, and what wasn't given is lost.
     ///
     /// Source: memcached's protocol.txt.
     pub fn feed(

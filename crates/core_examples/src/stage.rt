@@ -1,4 +1,4 @@
-//! A core that is played by lines of text: an event, and behind an arrow what it gives.
+//! A core that is played by lines of text: an event, and after an arrow what it gives.
 
 ghost use Rattle.std.specs.Prelude.{◌≡◌, IfOk};
 ghost use Rattle.route_tree.specs.Route as route;
@@ -27,7 +27,7 @@ pub struct Stage {
     tickets: Vec<Ticket>,
 }
 
-// What is told of an event: a word or two, and a number behind them if there is one.
+// What is told of an event: a word or two, and a number after them if there is one.
 #[derive(Clone, Copy)]
 struct Told {
     words: &'static str,
@@ -414,7 +414,7 @@ impl Stage {
     }
 }
 
-// The first word, and what comes behind the space.
+// The first word, and what comes after the space.
 fn cut(text: &str) -> (&str, &str) {
     text.split_once(' ').unwrap_or((text, ""))
 }
@@ -436,7 +436,7 @@ fn shown(alloc: Global, bytes: Vec<u8>) -> Result<String, Fail> {
     Ok(text.as_str().replace(alloc, "\r\n", r"\r\n")?)
 }
 
-// An event gives what stands behind its arrow; a remark is passed over.
+// An event gives what stands after its arrow; a remark is passed over.
 fn play_line(stage: &mut Stage, name: &str, line: &str) -> Result<(), Fail> {
     if line.starts_with("-- ") {
         return Ok(());

@@ -38,12 +38,12 @@ raised : (end servers place place' : ℕ) (rs : List Reload) → AreInOrder end 
 raised end servers place place' [] h up = tt
 raised end servers place place' (r ∷ rs) h up = (up r refl, h.1, h.2, h.3)
 
--- the reloads that are left stand in order behind one more event
+-- the reloads that are left stand in order after one more event
 pub order_on : (end servers loaded next : ℕ) (reloads : List Reload) (due : Bool) → (IsDue reloads loaded next → IsTrue due) → due ≡ false → AreInOrder end servers next (drop loaded reloads) → AreInOrder end servers (next + 1) (drop loaded reloads)
 order_on end servers loaded next reloads due says none h =
     raised end servers next (next + 1) (drop loaded reloads) h (λ r e. let lt = later due reloads loaded next r says none (sym (at_front reloads loaded) ∙ e) in omega (arith, lt))
 
--- the one that is due, and those behind it
+-- the one that is due, and those after it
 pub order_at : (end servers loaded next : ℕ) (reloads : List Reload) (r : Reload) → loaded < length reloads → r ≡ get_or reloads loaded r → AreInOrder end servers next (drop loaded reloads) → (next ≤ r.at) × (r.at ≤ end) × (length r.config.servers ≤ servers) × AreInOrder end servers r.at (drop (loaded + 1) reloads)
 order_at end servers loaded next reloads r lt is h =
     let one : suc loaded ≡ loaded + 1 = omega arith in

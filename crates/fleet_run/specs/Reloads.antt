@@ -18,7 +18,7 @@ use Rattle.fleet_run.specs.Driving.{IsCutShort}
 use Rattle.memory_fleet.specs.declared.fleet.MemoryFleet.{MemoryFleet}
 use Rattle.fleet_run.specs.Serving.{words_by}
 
--- after the place each comes not before the one before it, none behind the script's end, and each of its servers is there
+-- after the place each comes not before the one before it, none after the script's end, and each of its servers is there
 abbrev pub AreInOrder : ℕ → ℕ → ℕ → List Reload → Type 0
 AreInOrder end servers place [] = Unit {0}
 AreInOrder end servers place (r ∷ rs) = (place ≤ r.at) × (r.at ≤ end) × (length r.config.servers ≤ servers) × AreInOrder end servers r.at rs

@@ -74,7 +74,7 @@ pub data Entry (P : Protocol) : Type 0 where
   Passes : (client : ℕ) (message : P.Message) (next : P.Place) → Entry P
   -- the client is given its new output
   Gives : (client : ℕ) (bytes : List ℕ) → Entry P
-  -- nothing is done for the client any more, as for lack of memory
+  -- nothing is done for the client any more, as where memory ran out
   Drops : (client : ℕ) → Entry P
   -- a command of such a client is broken off
   Frees : (number : ℕ) → Entry P

@@ -37,7 +37,7 @@ pub fn answered_goes_on<W: HasWords>()
     ensures { AnsweredGoesOn W.words }
 {}
 
-/// A command that was broken off, as for lack of memory, is more of the run too.
+/// A command that was broken off, as where memory ran out, is more of the run too.
 pub fn broken_goes_on<W: HasWords>()
     ensures { BrokenGoesOn W.words }
 {}

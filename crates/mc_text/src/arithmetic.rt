@@ -5,7 +5,7 @@ ghost use Rattle.mc_text.specs.Arithmetic.{without_spaces, number_held, changed}
 
 use crate::number::number;
 
-// the bytes without the spaces at their end
+// The bytes without the spaces at their end.
 fn trimmed(bytes: &[u8]) -> &[u8]
     ensures { result.now ≡ without_spaces bytes.now }
 {

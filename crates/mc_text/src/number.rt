@@ -5,7 +5,7 @@ ghost use Rattle.std.specs.Option.{SomeIff};
 ghost use Rattle.std.specs.Char.{IsAsciiDigit, digit_value};
 ghost use Rattle.mc_text.specs.Number.{number_below, signed_number};
 
-// the value with one more digit after it
+// The value with one more digit after it.
 fn with_digit(value: u64, byte: u8) -> Option<u64>
     ensures { SomeIff result (IsAsciiDigit byte × (value * 10 + digit_value byte < 2 ^ 64)) (value * 10 + digit_value byte) }
 {

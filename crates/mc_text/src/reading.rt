@@ -9,7 +9,7 @@ use memchr::memchr;
 /// A line's end stands among this many first bytes, or the line is too long.
 pub const LINE_LIMIT: usize = 65_536;
 
-// where the first line end stands
+// Where the first line end stands.
 fn line_end(bytes: &[u8]) -> Option<usize>
     ensures { MatchOption result (IsOneLine (take LINE_LIMIT bytes.now)) (IsLineAt bytes.now) }
 {

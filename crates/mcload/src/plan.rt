@@ -15,6 +15,7 @@ pub struct Plan {
 }
 
 impl Plan {
+    /// The plan of these settings, with no command chosen yet.
     pub fn new(settings: Settings<'_>) -> Plan {
         Plan {
             job: settings.job,

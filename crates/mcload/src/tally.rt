@@ -69,6 +69,7 @@ pub struct Tally {
 }
 
 impl Tally {
+    /// Nothing counted yet. The only error is that memory ran out.
     pub fn new(alloc: Global, settings: Settings<'_>) -> Result<Tally, AllocError> {
         Ok(Tally {
             keys: settings.keys,

@@ -22,14 +22,14 @@ fn sets(mode: Option<Op>) -> bool
     }
 }
 
-// a cas number with a mode other than set
+// A cas number with a mode other than set.
 fn mixes(values: Values) -> bool
     ensures { result ≡ mixes values }
 {
     values.cas.is_some() && !sets(values.mode)
 }
 
-// what `mg`, `md` and `ma` ask
+// What `mg`, `md` and `ma` ask.
 fn asking(line: &[u8], at: usize, kind: Kind) -> Result<Command, RefusalReason>
     requires { at ≤ length line.now }
     ensures order { Gives (order_in line.now) result (asking kind (words (drop at line.now))) }
@@ -46,7 +46,7 @@ fn asking(line: &[u8], at: usize, kind: Kind) -> Result<Command, RefusalReason>
     })
 }
 
-// what `ms` asks
+// What `ms` asks.
 fn storing(line: &[u8], at: usize) -> Result<Command, RefusalReason>
     requires { at ≤ length line.now }
     ensures order { Gives (order_in line.now) result (storing (words (drop at line.now))) }
@@ -71,7 +71,7 @@ fn storing(line: &[u8], at: usize) -> Result<Command, RefusalReason>
     })
 }
 
-// what `mn` asks
+// What `mn` asks.
 fn noop(line: &[u8], at: usize) -> Result<Command, RefusalReason>
     requires { at ≤ length line.now }
     ensures order { Gives (order_in line.now) result (noop (words (drop at line.now))) }

@@ -10,7 +10,7 @@ use crate::values::is_served;
 use mc_text::word::{Span, next_word};
 use request_parts::RefusalReason;
 
-// one flag more, if its letter is served and wasn't seen, and its value is one
+// One flag more, if its letter is served and wasn't seen, and its value is one.
 fn next_flag(
     kind: Kind,
     seen: &mut [bool; 256],

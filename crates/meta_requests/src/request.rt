@@ -37,7 +37,7 @@ fn wanted_by(letter: u8, text: &[u8]) -> Option<Token>
     }
 }
 
-// what a flag wants back
+// What a flag wants back.
 fn wanted(word: &[u8]) -> Option<Token>
     requires { 0 < length word.now }
     ensures { result ≡ wanted word.now }
@@ -45,7 +45,7 @@ fn wanted(word: &[u8]) -> Option<Token>
     wanted_by(word[0], &word[1..])
 }
 
-// what the flags want back, in their order
+// What the flags want back, in their order.
 fn tokens(alloc: Global, bytes: &[u8], flags: Span) -> Result<Tokens, AllocError>
     requires { IsIn (length bytes.now) flags }
     ensures { IfOk result (λ tokens. tokens ≡ tokens_in (words (text_at bytes.now flags))) }
@@ -97,7 +97,7 @@ fn bare(op: Op, key: Key, tokens: Tokens) -> Ask
     }
 }
 
-// the ask of a kind, by what its flags say
+// The ask of a kind, by what its flags say.
 fn ask_by(kind: Kind, key: Key, values: Values, tokens: Tokens, body: Body) -> Ask
     ensures { result ≡ ask_by kind key values tokens body }
 {

@@ -49,7 +49,7 @@ fn mode_text(op: Op) -> &'static [u8]
     }
 }
 
-// a word after a space, by its first part and the rest
+// A word after a space, by its first part and the rest.
 fn put_word(out: &mut BytesMut, letter: &[u8], text: &[u8]) -> Result<(), AllocError>
     ensures ok { OnOk result (out.new.items ≡ out.old.items ++ led ((letter.now ++ text.now) ∷ [])) }
     ensures err { OnErr result (take (length out.old.items) out.new.items ≡ out.old.items) }
@@ -106,7 +106,7 @@ fn put_exptime(out: &mut BytesMut, exptime: Option<i64>) -> Result<(), AllocErro
     }
 }
 
-// a cas number, a number with its letter, a mode, an exptime
+// A cas number, a number with its letter, a mode, an exptime.
 fn put_counted(out: &mut BytesMut, letter: &[u8], n: u64, ask: &Ask) -> Result<(), AllocError>
     ensures ok { OnOk result (out.new.items ≡ out.old.items ++ led (cas_words ask.now.cas ++ (letter.now ++ decimal n) ∷ mode_word ask.now.op ∷ exptime_words ask.now.exptime)) }
     ensures err { OnErr result (take (length out.old.items) out.new.items ≡ out.old.items) }
@@ -118,7 +118,7 @@ fn put_counted(out: &mut BytesMut, letter: &[u8], n: u64, ask: &Ask) -> Result<(
     put_exptime(out, ask.exptime)
 }
 
-// the flags with a value
+// The flags with a value.
 fn put_values(out: &mut BytesMut, kind: Kind, ask: &Ask) -> Result<(), AllocError>
     ensures ok { OnOk result (out.new.items ≡ out.old.items ++ led (value_words kind ask.now)) }
     ensures err { OnErr result (take (length out.old.items) out.new.items ≡ out.old.items) }
@@ -155,7 +155,7 @@ fn put_block(out: &mut BytesMut, kind: Kind, body: &[u8]) -> Result<(), AllocErr
     }
 }
 
-// the words after the command word
+// The words after the command word.
 fn put_words(out: &mut BytesMut, kind: Kind, ask: &Ask) -> Result<(), AllocError>
     ensures ok { OnOk result (out.new.items ≡ out.old.items ++ led (ask.now.key ∷ length_words kind ask.now ++ flag_words kind ask.now)) }
     ensures err { OnErr result (take (length out.old.items) out.new.items ≡ out.old.items) }

@@ -1,5 +1,6 @@
 //! Texts that are no configuration, each with the fault that is told of it.
 
+/// A line each: a text, and what is told of it.
 pub fn faults() -> &'static str {
     r#"[] => config: not JSON
 {} => config: bad field pools

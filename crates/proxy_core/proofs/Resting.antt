@@ -86,7 +86,7 @@ no_more_keys x request is few message next ask here at =
 pub later_none : (x : Client) → IsReadAt x.stream reads.More → (depth : ℕ) → IsLater depth x
 later_none x is depth = record { key = λ part n. absurd (more_stuck x.stream is part.message part.next n.reads); other = λ message next here none. absurd (more_stuck x.stream is message next here) }
 
--- what asks no server stands behind a command
+-- what asks no server stands after a command
 pub later_other : (x : Client) (read : Read) → IsReadAt x.stream read → AsksNone x.stream read → 0 < length x.queue.items → (depth : ℕ) → IsLater depth x
 later_other x read is none some depth = record { key = λ part n. no_key x read is none part.index part.message part.next part.ask n.reads n.asks; other = λ message next here none. some }
 

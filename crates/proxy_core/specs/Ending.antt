@@ -23,7 +23,7 @@ abbrev pub replied_in : ℕ → Answer → List Pending → List Pending
 replied_in n reply [] = []
 replied_in n reply (pending ∷ rest) = if nat_eq pending.number n then record pending { reply = Some reply } ∷ rest else pending ∷ replied_in n reply rest
 
--- where the starting of a client's commands goes on when this reply has come: of a last key it had gone on before; of any other it stands behind the message, where the reply ends it, or before its next key
+-- where the starting of a client's commands goes on when this reply has come: of a last key it had gone on before; of any other it stands after the message, where the reply ends it, or before its next key
 abbrev pub GoesOn : Bool → Client → Answer → Client → Type 0
 GoesOn true x reply y = front_by (Some y) ≡ front_by (Some x)
 GoesOn false x reply y =

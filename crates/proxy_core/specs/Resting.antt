@@ -37,7 +37,7 @@ AreHeldUp client window commands (pending ∷ rest) = (pending.reply ≡ None �
 abbrev pub HasCommand : Client → Type 0
 HasCommand x = 0 < length x.queue.items
 
--- nothing at the client's front can be done: if it waits for no reply before its next key, it has as many commands as it may have; and what asks no server stands behind a command
+-- nothing at the client's front can be done: if it waits for no reply before its next key, it has as many commands as it may have; and what asks no server stands after a command
 pub record IsLater (depth : ℕ) (x : Client) : Type 0 where
   pub key : (part : Part dialect) → IsNext (front_by (Some x)) part → depth ≤ length x.queue.items
   pub other : (message : Message) (next : Place) → dialect.Reads x.stream message next → dialect.asks_of message ≡ [] → HasCommand x

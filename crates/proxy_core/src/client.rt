@@ -112,7 +112,7 @@ impl Client {
         }
     }
 
-    /// The output so far goes behind `out`, and is then empty. Where nothing stands in `out` they are exchanged, so that no byte is copied.
+    /// The output so far goes after what stands in `out`, and is then empty. Where nothing stands in `out` they are exchanged, so that no byte is copied.
     /// The only error is running out of memory, which leaves both as they were.
     pub fn move_output(&mut self, out: &mut BytesMut) -> Result<(), AllocError>
         ensures bytes { OnOk result (out.new.items ≡ out.old.items ++ self.old.output.items) }

@@ -75,7 +75,7 @@ impl Core {
         }
     }
 
-    /// A client's new output goes behind `out`, and is then empty. Where nothing stands in `out`, no byte is copied.
+    /// A client's new output goes after what stands in `out`, and is then empty. Where nothing stands in `out`, no byte is copied.
     ///
     /// `NoClient`; `NoMemory`.
     pub fn move_output(&mut self, client: usize, out: &mut BytesMut) -> Result<(), CoreFault>

@@ -77,7 +77,7 @@ module _ (bound hash : ℕ) (text : List ℕ) where
     prefixes_plain_below (Prefix p r ps) best b good below =
         prefixes_plain_below ps _ (best_below (begins p text && is_longer p best) (p, plain_for hash text r) best (plain_below r good.1 below.0) b) good.2 below.1
 
--- what is found first is found here or behind
+-- what is found first is found here or after it
 or_else_some : (here behind' : Option ℕ) (n : ℕ) (A : Type 0) → or_else here behind' ≡ Some n → ((m : ℕ) → here ≡ Some m → A) → ((m : ℕ) → behind' ≡ Some m → A) → A
 or_else_some (Some m) o n A e f g = f m refl
 or_else_some None o n A e f g = g n e

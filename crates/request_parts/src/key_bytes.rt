@@ -24,7 +24,7 @@ fn are_good(group: &[u8]) -> bool
     tested(group)
 }
 
-// where the groups of this size end that stand from a place on with no other byte in them, if none stands before it
+// Where the groups of this size end that stand from a place on with no other byte in them, if none stands before it.
 fn groups_end(text: &[u8], from: usize, size: usize) -> usize
     requires size { 0 < size }
     requires within { from ≤ length text.now }

@@ -50,7 +50,7 @@ number_lacks byte n lt small = decimal_lacks byte n lt (omega arith)
 
 -- ---- lines
 
--- a first word, and what stands behind it
+-- a first word, and what stands after it
 event_by : (word text : List ℕ) (event : Scripted) → Lacks 32 word → said_behind word text ≡ Some event → event_said (word ++ 32 ∷ text) ≡ Some event
 event_by word text event lacks said = ap (option_and_then (λ (p : Parts). said_behind p.word p.rest)) (cut_at word text lacks) ∙ said
 
@@ -124,7 +124,7 @@ fail_line turn manner h =
       means = means_by (codes "fail") (d ++ 32 ∷ m) (Fail turn manner) (lacks_by 32 (codes "fail") refl) refl said;
     }
 
--- the line of what is lost: its first word, and what stands behind it
+-- the line of what is lost: its first word, and what stands after it
 record LossLineOf (loss : Loss) : Type 0 where
   word : List ℕ
   text : List ℕ
@@ -232,7 +232,7 @@ said_again events h n config =
     let back = lines_back events h config.servers n 0 in
     record { configuration = refl; said = back.said; whole = back.whole; nothing_loaded = back.nothing_loaded }
 
--- the first line, and those behind it
+-- the first line, and those after it
 told_front : (line : List ℕ) (events : List Scripted) (config : Configuration) → All (λ b. is_line_end b ≡ false) line → first_said line ≡ Ok config → told (line ++ 10 ∷ script_lines events) ≡ Ok (told_from 2 config (lines_of (script_lines events)))
 told_front line events config one said =
     ap told_by (slice_split_at is_line_end line 10 (script_lines events) one refl)

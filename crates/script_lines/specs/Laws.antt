@@ -61,7 +61,7 @@ pub record SaysAll (t : Told) (config : Configuration) (events : List Scripted) 
   pub whole : t.unreadable ≡ None
   pub nothing_loaded : t.loads ≡ []
 
--- the lines of these events say them, over a configuration from elsewhere and behind each first line that says one
+-- the lines of these events say them, over a configuration from elsewhere and after each first line that says one
 pub record AreReadBack (events : List Scripted) : Type 0 where
   pub over : (config : Configuration) → SaysAll (told_over config (script_lines events)) config events
   pub behind : (line : List ℕ) (config : Configuration) → All (λ b. is_line_end b ≡ false) line → first_said line ≡ Ok config

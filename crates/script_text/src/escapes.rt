@@ -38,14 +38,14 @@ fn letter_value(letter: u8) -> Option<u8>
     }
 }
 
-// what the front of a text spells: a byte, and how many bytes spell it
+// What the front of a text spells: a byte, and how many bytes spell it.
 #[derive(Clone, Copy)]
 struct Spelled {
     byte: u8,
     len: usize,
 }
 
-// the first byte that a text spells; `None` where its front is no spelling
+// The first byte that a text spells; `None` where its front is no spelling.
 fn first_byte(text: &[u8]) -> Option<Spelled>
     requires { 0 < length text.now }
     ensures { MatchOption result (unescaped text.now ≡ None) (λ s. (0 < s.len) × (s.len ≤ length text.now) × (unescaped text.now ≡ onto (Some s.byte) (unescaped (drop s.len text.now)))) }

@@ -6,7 +6,7 @@ use std::alloc::{AllocError, Global};
 use std::test::Fail;
 
 // A name, and pieces of one connection with what is answered to each. `at 9` says the moment, which is 0 otherwise; `closed`
-// stands behind the answer where the connection has ended, and `nothing` for no answer; `(9 x)` are 9 letters x.
+// stands after the answer where the connection has ended, and `nothing` for no answer; `(9 x)` are 9 letters x.
 fn connections() -> &'static str {
     r#"noreply hides the answer
 set a 0 0 1 noreply|1|get a| => VALUE a 0 1|1|END|

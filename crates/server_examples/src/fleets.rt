@@ -12,7 +12,7 @@ use std::alloc::{AllocError, Global};
 use std::test::Fail;
 
 // A name, how many servers there are, and what happens. A call has its server, its stamp, its command and the answer, and
-// behind this the stamp of the item that it found. The calls of a command that has begun have a word for the stamp: `own`, or
+// after this the stamp of the item that it found. The calls of a command that has begun have a word for the stamp: `own`, or
 // `copy` for that of the item that the command's first call found.
 fn scenarios() -> &'static str {
     r#"calls of two servers

@@ -9,7 +9,7 @@ use std::test::Fail;
 use text_codec::{AnswerRead, read_answer};
 
 // A name, the opening item's data, whose flags are 7 and whose stamp is 0, and what happens. A call that is applied has its
-// stamp and an answer that agrees with what is held, and behind it how many spaces the server put after the number that it
+// stamp and an answer that agrees with what is held, and after it how many spaces the server put after the number that it
 // stored. `agrees` and `differs` say of another answer whether it agrees with what is held now, and `now` says what that is:
 // the data, the flags and the stamp.
 fn lives() -> &'static str {

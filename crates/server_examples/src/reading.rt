@@ -23,11 +23,12 @@ pub fn text_of(alloc: Global, bytes: &[u8]) -> Result<String, AllocError> {
         .replace(alloc, "\r\n", "|")
 }
 
-/// What stands before the mark, and what stands behind it: nothing where the text doesn't have it.
+/// What stands before the mark, and what stands after it: nothing where the text doesn't have it.
 pub fn halves<'a>(text: &'a str, mark: &str) -> (&'a str, &'a str) {
     text.split_once(mark).unwrap_or((text, ""))
 }
 
+/// A number of 32 bits; what is none fails the test.
 pub fn number(text: &str) -> Result<u32, Fail> {
     match u32_number(text.as_bytes()) {
         Some(number) => Ok(number),
@@ -35,6 +36,7 @@ pub fn number(text: &str) -> Result<u32, Fail> {
     }
 }
 
+/// A key; what is none fails the test.
 pub fn key(text: &str) -> Result<Key, Fail>
     ensures { IfOk result IsKey }
 {
@@ -86,7 +88,7 @@ pub fn answer_text(alloc: Global, ask: &Ask, answer: &Answer) -> Result<String, 
     text_of(alloc, out.as_slice())
 }
 
-/// The text, and behind it the stamp, where there is one.
+/// The text, and after it the stamp, where there is one.
 pub fn with_stamp(alloc: Global, text: String, stamp: Option<u64>) -> Result<String, AllocError> {
     match stamp {
         Some(stamp) => format!(in alloc; "{text} #{stamp}"),
@@ -105,4 +107,5 @@ pub fn same(name: &str, line: &str, got: &str, want: &str) -> Result<(), Fail> {
 // A drop that is a call keeps the proof of a caller short.
 pub fn drop_ask(_ask: Ask) {}
 
+/// Drops an answer by a call, so that its many ways to end don't stand in the caller's proof.
 pub fn drop_answer(_answer: Answer) {}

@@ -41,7 +41,7 @@ touch k 9| => TOUCHED| / NOT_FOUND|"#
 }
 
 // A name, how many items there is room for, and what happens. A call has its moment, its stamp, its command and the answer,
-// and behind this the stamp of the item that it found.
+// and after this the stamp of the item that it found.
 fn scenarios() -> &'static str {
     r#"expiry by the moment
 2
@@ -127,7 +127,7 @@ fn lose(cache: &mut Cache, name: &str) -> Result<(), Fail> {
     Ok(())
 }
 
-// What the ask is answered, and behind it the stamp of the item that it found.
+// What the ask is answered, and after it the stamp of the item that it found.
 fn applied(
     alloc: Global,
     cache: &mut Cache,

@@ -1,4 +1,4 @@
-//! Examples as lines of text: an event in each, and behind an arrow what it gives, if it gives something.
+//! Examples as lines of text: an event in each, and after an arrow what it gives, if it gives something.
 
 use std::alloc::{AllocError, Global};
 use std::test::Fail;
@@ -9,12 +9,12 @@ pub trait Stage {
     fn answer(&mut self, event: &str, want: &str) -> Result<String, Fail>;
 }
 
-/// The first word, and what comes behind the space.
+/// The first word, and what comes after the space.
 pub fn cut(text: &str) -> (&str, &str) {
     text.split_once(' ').unwrap_or((text, ""))
 }
 
-/// A number and what comes behind the space.
+/// A number and what comes after the space.
 pub fn numbered(text: &str) -> Result<(usize, &str), Fail> {
     let (number, rest) = cut(text);
     Ok((number.parse::<usize>()?, rest))

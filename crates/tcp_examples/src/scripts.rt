@@ -5,7 +5,7 @@ use crate::playing::first_line;
 use loopback::run_loopback;
 use std::test::Fail;
 
-// The name of an example, its script, and behind an arrow the status and what is printed.
+// The name of an example, its script, and after an arrow the status and what is printed.
 fn texts() -> &'static str {
     r"The first path.
 pool 1
@@ -156,7 +156,7 @@ fn printed(rt: &HostRuntime, script: &str) -> (u8, Vec<u8>) {
     (status, out)
 }
 
-// Whether a script ends with this status and prints this: both stand behind its arrow.
+// Whether a script ends with this status and prints this: both stand after its arrow.
 fn run(rt: &HostRuntime, name: &str, script: &str, want: &str) -> Result<(), Fail> {
     let (status, out) = printed(rt, script);
     let (want_status, want_text) = first_line(want);

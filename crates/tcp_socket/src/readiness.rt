@@ -18,6 +18,7 @@ pub struct Ready {
 }
 
 impl Ready {
+    /// What an event of the system says of its socket.
     pub fn of(event: &Event) -> Ready {
         let closes = event.is_read_closed() || event.is_error();
         Ready {

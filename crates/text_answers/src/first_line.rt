@@ -175,7 +175,7 @@ fn hit_line(ask: &Ask, line: &[u8], at: usize) -> Option<HitLine>
     Some(HitLine { flags, len, cas })
 }
 
-// the line without the spaces before its first word
+// The line without the spaces before its first word.
 fn from_first_word(line: &[u8]) -> &[u8]
     ensures { result.now ≡ from_first_word line.now }
 {
@@ -192,7 +192,7 @@ fn first_space(text: &[u8]) -> Option<usize>
     text.iter().position(|b| *b == b' ')
 }
 
-// what stands after the first space
+// What stands after the first space.
 fn behind_space(text: &[u8]) -> &[u8]
     ensures { result.now ≡ after_first is_space text.now }
 {

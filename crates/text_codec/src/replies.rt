@@ -10,7 +10,7 @@ use request_parts::{ProxyCommand, RefusalReason};
 use std::alloc::AllocError;
 use text_answers::{write_answer, write_end, write_value};
 
-// whether the reply is a value, and has `END` after the last key
+// Whether the reply is a value, and has `END` after the last key.
 fn shows_values(dialect: Dialect, op: Op) -> bool
     ensures { result ≡ shows_values dialect op }
 {
@@ -20,7 +20,7 @@ fn shows_values(dialect: Dialect, op: Op) -> bool
     }
 }
 
-// whether `q` hides this code of an answer
+// Whether `q` hides this code of an answer.
 fn hidden_code(op: Op, code: Code) -> bool
     ensures { result ≡ hidden_code op code }
 {

@@ -31,7 +31,7 @@ fn spaces_len(text: &[u8]) -> usize
     first_other(text).unwrap_or(text.len())
 }
 
-// whether so many bytes that a key may have are a whole word, by what stands after them
+// Whether so many bytes that a key may have are a whole word, by what stands after them.
 fn are_key(len: usize, behind: &[u8]) -> bool
     ensures { result ≡ (nat_le len KEY_LIMIT && ends_word behind.now) }
 {

@@ -78,7 +78,7 @@ fn stored(
     Ok(ask)
 }
 
-// the ask of a request that has a single key
+// The ask of a request that has a single key.
 fn single(alloc: Global, bytes: &[u8], request: &Request) -> Result<Option<Ask>, AllocError>
     requires { IsReadFrom bytes.now request.now }
     ensures { IfOk result (λ ask. ask ≡ single_ask (order_in bytes.now request.now.command) (text_at bytes.now request.now.block)) }

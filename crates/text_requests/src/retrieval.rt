@@ -13,7 +13,7 @@ use mc_text::word::Span;
 use request_parts::RefusalReason;
 use request_parts::parts::{exptime, word};
 
-// how many words there are, if each is a key
+// How many words there are, if each is a key.
 fn count_keys(line: &[u8], at: usize) -> Option<usize>
     requires { at ≤ length line.now }
     ensures { MatchOption result (list_all is_key (words (drop at line.now)) ≡ false)

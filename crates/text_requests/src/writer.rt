@@ -34,7 +34,7 @@ fn put_word(out: &mut BytesMut, op: Op, with_cas: bool) -> Result<(), AllocError
     }
 }
 
-// the command's word and the key
+// The command's word and the key.
 fn put_keyed(out: &mut BytesMut, ask: &Ask) -> Result<(), AllocError>
     ensures ok { OnOk result (out.new.items ≡ out.old.items ++ line_of (command_word ask.now.op ask.now.with_cas ∷ ask.now.key ∷ [])) }
     ensures err { OnErr result (take (length out.old.items) out.new.items ≡ out.old.items) }
@@ -44,7 +44,7 @@ fn put_keyed(out: &mut BytesMut, ask: &Ask) -> Result<(), AllocError>
     out.extend_from_slice(b"\r\n")
 }
 
-// the command's word and two more
+// The command's word and two more.
 fn put_three(out: &mut BytesMut, ask: &Ask, first: &[u8], second: &[u8]) -> Result<(), AllocError>
     ensures ok { OnOk result (out.new.items ≡ out.old.items ++ line_of (command_word ask.now.op ask.now.with_cas ∷ first.now ∷ second.now ∷ [])) }
     ensures err { OnErr result (take (length out.old.items) out.new.items ≡ out.old.items) }
@@ -70,7 +70,7 @@ fn cas_text<'a>(buffer: &'a mut Buffer, ask: &Ask) -> &'a [u8]
     buffer.format(cas).as_bytes()
 }
 
-// the words that each store's line begins with
+// The words that each store's line begins with.
 fn put_head(out: &mut BytesMut, ask: &Ask, exptime: &[u8]) -> Result<(), AllocError>
     ensures ok { OnOk result (out.new.items ≡ out.old.items ++ spaced (command_word ask.now.op ask.now.with_cas ∷ ask.now.key ∷ decimal ask.now.flags ∷ exptime.now ∷ decimal (length ask.now.body) ∷ [])) }
     ensures err { OnErr result (take (length out.old.items) out.new.items ≡ out.old.items) }
@@ -86,7 +86,7 @@ fn put_head(out: &mut BytesMut, ask: &Ask, exptime: &[u8]) -> Result<(), AllocEr
     out.extend_from_slice(buffer.format(ask.body.len()).as_bytes())
 }
 
-// the end of a store's line, and its data block
+// The end of a store's line, and its data block.
 fn put_block(out: &mut BytesMut, body: &[u8]) -> Result<(), AllocError>
     ensures ok { OnOk result (out.new.items ≡ out.old.items ++ codes "\r\n" ++ block_text body.now) }
     ensures err { OnErr result (take (length out.old.items) out.new.items ≡ out.old.items) }

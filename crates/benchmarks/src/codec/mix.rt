@@ -114,7 +114,7 @@ fn put_number(out: &mut BytesMut, number: u64) -> Result<(), AllocError> {
     out.extend_from_slice(buffer.format(number).as_bytes())
 }
 
-// the key of this number, some twenty bytes long
+// The key of this number, some twenty bytes long.
 fn put_key(out: &mut BytesMut, number: u64) -> Result<(), AllocError> {
     out.extend_from_slice(b"user:")?;
     put_number(out, number)?;

@@ -15,7 +15,7 @@ use text_codec::{
     write_ask,
 };
 
-// what stands after the first line, if it ends
+// What stands after the first line, if it ends.
 fn behind_line(bytes: &[u8]) -> Option<&[u8]> {
     let end = first_byte(b'\n', bytes)?;
     Some(&bytes[end + 1..])
@@ -35,7 +35,7 @@ pub fn split_lines(bytes: &[u8]) -> u64 {
     lines
 }
 
-// what stands after bytes that are passed over
+// What stands after bytes that are passed over.
 fn passed(rest: &[u8], skip: Skip) -> &[u8] {
     match skip {
         Skip::Nothing => rest,
@@ -82,7 +82,7 @@ fn drop_ask(ask: Ask) {
     let _ask = ask;
 }
 
-// how many asks the request is, each of them made and dropped
+// How many asks the request is, each of them made and dropped.
 fn make_asks(alloc: Global, request: &Request, bytes: &[u8]) -> Result<u64, AllocError>
     requires { IsReadFrom bytes.now request.now }
 {
@@ -119,7 +119,7 @@ pub fn read_asks(alloc: Global, bytes: &[u8]) -> Result<Counts, AllocError> {
     Ok(counts)
 }
 
-// the asks of the request, each with an answer to it
+// The asks of the request, each with an answer to it.
 fn add_exchanges(
     alloc: Global,
     request: &Request,
