@@ -83,6 +83,11 @@ impl Client {
         self.conn.readable && !self.is_ended && self.conn.held.is_empty() && self.has_room()
     }
 
+    /// Whether bytes that were read wait for room in the core.
+    pub fn has_held(&self) -> bool {
+        !self.conn.held.is_empty()
+    }
+
     /// How much room its next read has at least.
     pub fn read_room(&self) -> usize
         ensures { 0 < result }
@@ -108,7 +113,7 @@ impl Client {
     }
 }
 
-/// All clients. Each stands once at most in each list, for which memory was taken when it came: so no list runs out of it.
+/// All clients. Each stands once at most in each list.
 #[derive(Drop)]
 pub struct Clients {
     all: Vec<Option<Client>>,

@@ -18,7 +18,7 @@ use route_json::Config;
 use route_tree::Tree;
 use std::alloc::{AllocError, Global};
 use std::io;
-use std::io::{ErrorKind, Write};
+use std::io::{ErrorKind, Read, Write};
 use std::net::{Net, SocketAddr};
 use std::os::fd::AsRawFd;
 use std::rt::Clock;
@@ -78,6 +78,13 @@ enum Rest {
     Full,
     // Its time is up.
     More,
+}
+
+// Tells a client that there are too many. What it sent already is read first: left unread, it would take the line with it.
+fn turn_away(stream: &mut TcpStream) {
+    let mut part = [0; 4_096];
+    let _ = stream.read(&mut part);
+    let _ = stream.write(b"SERVER_ERROR too many clients\r\n".as_slice());
 }
 
 fn watch_stream(poll: &Poll, stream: &TcpStream, token: usize) -> io::Result<()> {
@@ -327,7 +334,7 @@ impl ProxyEnd {
         self.wait(rt, limit)?;
         self.fail_late()?;
         if self.is_accepting {
-            self.accept_some()?;
+            self.accept_some();
         }
         self.serve_links()?;
         self.serve_clients(rt)?;
@@ -486,35 +493,38 @@ impl ProxyEnd {
         Ok(())
     }
 
-    fn accept_some(&mut self) -> io::Result<()> {
+    fn accept_some(&mut self) {
         for _ in 0..ACCEPTS {
             match self.listener.accept() {
-                Ok((stream, _)) => self.take_client(stream)?,
-                Err(_) => {
-                    self.is_accepting = false;
-                    return Ok(());
-                }
+                Ok((stream, _)) => self.take_client(stream),
+                Err(error) => match error.kind() {
+                    // That one has gone.
+                    ErrorKind::Interrupted | ErrorKind::ConnectionAborted => {}
+                    _ => {
+                        self.is_accepting = false;
+                        return;
+                    }
+                },
             }
         }
-        Ok(())
     }
 
-    // A client came: it is one more, or is told that there are too many.
-    fn take_client(&mut self, stream: TcpStream) -> io::Result<()> {
+    // A client came: it is one more, or is told that there are too many. One for which there is no memory is closed.
+    fn take_client(&mut self, stream: TcpStream) {
         let mut stream = stream;
         match self.core.open_client() {
             Ok(id) => {
-                if watch_stream(&self.poll, &stream, id).is_err() {
+                let is_kept = watch_stream(&self.poll, &stream, id).is_ok()
+                    && self
+                        .clients
+                        .insert(id, Client::new(self.alloc, stream))
+                        .is_ok();
+                if !is_kept {
+                    self.clients.remove(id);
                     let _ = self.core.close(id);
-                    return Ok(());
                 }
-                self.clients.insert(id, Client::new(self.alloc, stream))?;
-                Ok(())
             }
-            Err(_) => {
-                let _ = stream.write(b"SERVER_ERROR too many clients\r\n".as_slice());
-                Ok(())
-            }
+            Err(_) => turn_away(&mut stream),
         }
     }
 
@@ -671,7 +681,8 @@ impl ProxyEnd {
         if client.can_read() {
             std::mem::swap(&mut client.conn.held, &mut self.input);
             let room = client.read_room();
-            match client.conn.read_once(room)? {
+            // A client for whose bytes there is no memory is closed, and no other one.
+            match client.conn.read_once(room).unwrap_or(Got::Failed) {
                 Got::Ended => client.is_ended = true,
                 Got::Failed => client.break_off(),
                 Got::Bytes => {
@@ -846,8 +857,11 @@ impl ProxyEnd {
             return;
         };
         let is_ended = client.is_ended || self.core.is_closed(id);
+        // Bytes that were left unread would take the last replies with them when the socket is closed.
+        let is_read = client.is_ended || !client.conn.readable;
         if rest == Rest::Idle
             && is_ended
+            && is_read
             && client.conn.unsent.is_empty()
             && self.core.close(id).is_ok()
         {
@@ -862,7 +876,9 @@ impl ProxyEnd {
         self.show_client(id)?;
         self.close_client(id, rest);
         let is_more = match self.clients.get_mut(id) {
-            Some(client) => rest == Rest::More || client.can_read(),
+            Some(client) => {
+                rest == Rest::More || client.can_read() || (rest == Rest::Idle && client.has_held())
+            }
             None => false,
         };
         if rest == Rest::Busy {
