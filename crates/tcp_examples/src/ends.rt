@@ -20,6 +20,8 @@ type Cache = CacheEnd<HostRuntime>;
 pub struct Ends<'a> {
     rt: &'a HostRuntime,
     caches: Vec<Option<Cache>>,
+    // Where the one listened that was killed last.
+    gone: Option<SocketAddr>,
     proxy: Option<ProxyEnd>,
     // The text of the configuration by which the proxy began.
     config: String,
@@ -32,6 +34,18 @@ pub struct Ends<'a> {
 fn listen(rt: &HostRuntime, settings: tcp_cache::Settings) -> io::Result<Cache> {
     CacheEnd::listen(rt, "127.0.0.1:0", settings)
 }
+
+fn listen_at(rt: &HostRuntime, address: SocketAddr) -> Result<Cache, Fail> {
+    let address = format!(in rt.alloc(); "{address}")?;
+    Ok(CacheEnd::listen(rt, address.as_str(), sixteen())?)
+}
+
+// The settings of a cache of 16 items.
+fn sixteen() -> tcp_cache::Settings {
+    tcp_cache::Settings::of(16)
+}
+
+fn drop_cache(_cache: Cache) {}
 
 // 127.0.0.1, at a port that the system picks.
 fn any_port() -> SocketAddr {
@@ -145,6 +159,7 @@ impl<'a> Ends<'a> {
         Ends {
             rt,
             caches: Vec::new(rt.alloc()),
+            gone: None,
             proxy: None,
             config: String::new(rt.alloc()),
             played: None,
@@ -314,9 +329,37 @@ impl<'a> Ends<'a> {
         }
     }
 
-    fn kill(&mut self, at: usize) {
+    fn address_of(&self, at: usize) -> io::Result<Option<SocketAddr>> {
+        match self.caches.get(at) {
+            Some(end) => address(end),
+            None => Ok(None),
+        }
+    }
+
+    fn put(&mut self, at: usize, cache: Cache) {
+        match self.caches.get_mut(at) {
+            Some(place) => *place = Some(cache),
+            None => drop_cache(cache),
+        }
+    }
+
+    fn kill(&mut self, at: usize) -> io::Result<()> {
+        self.gone = self.address_of(at)?;
         if let Some(place) = self.caches.get_mut(at) {
             *place = None;
+        }
+        Ok(())
+    }
+
+    // A cache begins, empty, where the one listened that was killed last.
+    fn begin_again(&mut self, at: usize) -> Result<(), Fail> {
+        match self.gone {
+            Some(address) => {
+                let cache = listen_at(self.rt, address)?;
+                self.put(at, cache);
+                Ok(())
+            }
+            None => Err("no server was killed")?,
         }
     }
 
@@ -330,6 +373,29 @@ impl<'a> Ends<'a> {
     fn ask(&mut self, at: usize, text: &str, want: &str) -> Result<String, Fail> {
         self.send(at, text)?;
         self.gets(at, want)
+    }
+
+    // So many clients connect and say this.
+    fn connect_all(&mut self, count: usize, text: &str) -> Result<(), Fail> {
+        for _ in 0..count {
+            let at = self.connect()?;
+            self.send(at, text)?;
+            self.turn()?;
+        }
+        Ok(())
+    }
+
+    // So many clients connect and say this, and then each reads. The answer is what all of them get, or the first other one.
+    fn crowd(&mut self, count: usize, text: &str, want: &str) -> Result<String, Fail> {
+        let first = self.streams.len();
+        self.connect_all(count, text)?;
+        for at in first..self.streams.len() {
+            let got = self.gets(at, want)?;
+            if got.as_str() != want {
+                return Ok(got);
+            }
+        }
+        Ok(want.to_string(self.rt.alloc())?)
     }
 
     fn count(&mut self, at: usize, text: &str) -> Result<String, Fail> {
@@ -401,7 +467,7 @@ impl Ends<'_> {
     // Events of servers, which give nothing.
     fn set_server(&mut self, verb: &str, text: &str) -> Result<(), Fail> {
         match verb {
-            "cache" => self.listen(tcp_cache::Settings::of(16)),
+            "cache" => self.listen(sixteen()),
             "small-cache" => self.listen(one_client()),
             "server" => self.play_server(),
             "proxy" => self.begin_proxy(text),
@@ -420,10 +486,8 @@ impl Ends<'_> {
                 self.leave(at);
                 Ok(())
             }
-            "kill" => {
-                self.kill(at);
-                Ok(())
-            }
+            "kill" => Ok(self.kill(at)?),
+            "again" => self.begin_again(at),
             _ => Err("no such event")?,
         }
     }
@@ -434,6 +498,7 @@ impl Ends<'_> {
         match verb {
             "ask" => self.ask(at, text, want),
             "gets" => self.gets(at, want),
+            "crowd" => self.crowd(at, text, want),
             "count" => self.count(at, text),
             "closed" => Ok(yes_or_no(self.is_closed(at)?).to_string(self.rt.alloc())?),
             _ => {

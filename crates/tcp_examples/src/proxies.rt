@@ -59,7 +59,86 @@ ask 0 get a\r\n => SERVER_ERROR call failed\r\n
 news => server 0 unreachable"
 }
 
+// Many commands, many clients, and a client that reads late.
+fn crowds() -> &'static str {
+    r"Ten thousand commands at once, cut wherever a read ends.
+cache
+cache
+proxy <two servers>
+connect => 0
+repeat 0 500 get a\r\nget b\r\nget c\r\nget d\r\nget e\r\nget f\r\nget g\r\nget h\r\nget i\r\nget j\r\nget k\r\nget l\r\nget m\r\nget n\r\nget o\r\nget p\r\nget q\r\nget r\r\nget s\r\nget t\r\n
+count 0 50000 => 50000 bytes, at the end END\r\nEND\r\n
+ask 0 mn\r\n => MN\r\n
+
+Three hundred clients.
+cache
+cache
+proxy <two servers>
+connect => 0
+ask 0 set a 0 0 1\r\n7\r\n => STORED\r\n
+crowd 300 get a\r\nget b\r\nmn\r\n => VALUE a 0 1\r\n7\r\nEND\r\nEND\r\nMN\r\n
+
+A client reads late: 20 MB of answers are more than the system takes for it. They wait for it, and no one waits for them.
+cache
+proxy <one server>
+connect => 0
+connect => 1
+send 0 set k 0 0 100000\r\n
+repeat 0 100000 x
+send 0 \r\n
+repeat 0 200 get k\r\n
+turn 400
+ask 1 get a\r\n => END\r\n
+-- 8 + 200 * (18 + 100,000 + 2 + 5)
+count 0 20005008 => 20005008 bytes, at the end xxx\r\nEND\r\n
+ask 0 mn\r\n => MN\r\n"
+}
+
+// Servers that fail: one that comes back, and one that answers too late.
+fn failures() -> &'static str {
+    r"A server that is killed fails its own keys alone, and is empty when it is back.
+cache
+cache
+proxy <two servers>
+connect => 0
+ask 0 set a 0 0 1\r\n1\r\nset b 0 0 1\r\n2\r\n => STORED\r\nSTORED\r\n
+kill 0
+ask 0 get a\r\nget b\r\n => SERVER_ERROR call failed\r\nVALUE b 0 1\r\n2\r\nEND\r\n
+again 0
+ask 0 get a\r\nget b\r\n => END\r\nVALUE b 0 1\r\n2\r\nEND\r\n
+ask 0 set a 0 0 1\r\n3\r\nget a\r\n => STORED\r\nVALUE a 0 1\r\n3\r\nEND\r\n
+
+An answer that comes after the time limit meets no later command: its connection is closed with the call.
+server
+proxy <one server>
+connect => 0
+send 0 get a\r\n
+accept => 1
+gets 1 => mn\r\nget a\r\n
+send 1 MN\r\nEND\r\n
+gets 0 => END\r\n
+send 0 get a\r\n
+gets 1 => mg a k f v\r\n
+gets 0 => SERVER_ERROR call failed\r\n
+send 1 VA 1 ka f5\r\nx\r\n
+send 0 get a\r\n
+accept => 2
+gets 2 => mn\r\nget a\r\n
+send 2 MN\r\nVALUE a 0 1\r\ny\r\nEND\r\n
+gets 0 => VALUE a 0 1\r\ny\r\nEND\r\n"
+}
+
 #[test]
 fn clients_of_a_proxy(rt: HostRuntime) -> Result<(), Fail> {
     play_all(&rt, texts())
+}
+
+#[test]
+fn crowds_of_a_proxy(rt: HostRuntime) -> Result<(), Fail> {
+    play_all(&rt, crowds())
+}
+
+#[test]
+fn failures_of_servers(rt: HostRuntime) -> Result<(), Fail> {
+    play_all(&rt, failures())
 }
