@@ -12,4 +12,6 @@ mod held_items;
 #[cfg(test)]
 mod reading;
 #[cfg(test)]
+mod stepped_calls;
+#[cfg(test)]
 mod table;

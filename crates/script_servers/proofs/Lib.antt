@@ -1,0 +1,4 @@
+pub mod Losses
+pub mod Cuts
+pub mod Calls
+pub mod Steps
