@@ -4,11 +4,13 @@ ghost use Rattle.std.specs.Prelude.{◌≡◌, ◌<◌, ◌≤◌, length, IfOk}
 ghost use Rattle.mc_types.specs.Asks.{IsAsk};
 ghost use Rattle.memory_fleet.specs.Fleets.{count_of};
 
-use crate::reading::{answer_text, ask, drop_ask, halves, key, number, same, short, with_stamp};
-use mc_types::{Ask, Origin, Outcome, ServerId};
+use crate::reading::{
+    ask, drop_ask, drop_outcome, halves, key, number, outcome_text, same, short, with_stamp,
+};
+use mc_types::{Ask, Origin, ServerId};
 use memory_fleet::{Loss, Manner, MemoryFleet};
 use route_job::Fleet;
-use std::alloc::{AllocError, Global};
+use std::alloc::Global;
 use std::test::Fail;
 
 // A name, how many servers there are, and what happens. A call has its server, its stamp, its command and the answer, and
@@ -126,15 +128,6 @@ fn begin(fleet: &mut MemoryFleet) -> Result<(), Fail> {
         Err(_) => Err(Fail::new("a command")),
     }
 }
-
-fn outcome_text(alloc: Global, ask: &Ask, outcome: &Outcome) -> Result<String, AllocError> {
-    match outcome {
-        Outcome::Answered(answer) => answer_text(alloc, ask, answer),
-        Outcome::Failed => "failed".to_string(alloc),
-    }
-}
-
-fn drop_outcome(_outcome: Outcome) {}
 
 // A call with this stamp.
 fn call_as(

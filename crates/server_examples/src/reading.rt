@@ -6,7 +6,7 @@ ghost use Rattle.mc_types.specs.KeyText.{IsKey};
 
 use bytes::BytesMut;
 use mc_text::number::u32_number;
-use mc_types::{Answer, Ask, Key};
+use mc_types::{Answer, Ask, Key, Outcome};
 use std::alloc::{AllocError, Global};
 use std::test::Fail;
 use text_codec::{Read, read_request, write_answer};
@@ -88,6 +88,14 @@ pub fn answer_text(alloc: Global, ask: &Ask, answer: &Answer) -> Result<String, 
     text_of(alloc, out.as_slice())
 }
 
+/// The text of an answer, or `failed`.
+pub fn outcome_text(alloc: Global, ask: &Ask, outcome: &Outcome) -> Result<String, AllocError> {
+    match outcome {
+        Outcome::Answered(answer) => answer_text(alloc, ask, answer),
+        Outcome::Failed => "failed".to_string(alloc),
+    }
+}
+
 /// The text, and after it the stamp, where there is one.
 pub fn with_stamp(alloc: Global, text: String, stamp: Option<u64>) -> Result<String, AllocError> {
     match stamp {
@@ -109,3 +117,6 @@ pub fn drop_ask(_ask: Ask) {}
 
 /// Drops an answer by a call, so that its many ways to end don't stand in the caller's proof.
 pub fn drop_answer(_answer: Answer) {}
+
+/// The same of what came of a call.
+pub fn drop_outcome(_outcome: Outcome) {}

@@ -4,10 +4,12 @@ ghost use Rattle.std.specs.Prelude.{◌<◌, IfOk};
 ghost use Rattle.mc_types.specs.Asks.{IsAsk};
 ghost use Rattle.script_servers.specs.Servers.{count_of};
 
-use crate::reading::{answer_text, ask, drop_ask, halves, key, number, same, short, with_stamp};
-use mc_types::{Ask, Outcome, ServerId};
+use crate::reading::{
+    ask, drop_ask, drop_outcome, halves, key, number, outcome_text, same, short, with_stamp,
+};
+use mc_types::{Ask, ServerId};
 use script_servers::{Loss, Manner, ScriptServers};
-use std::alloc::{AllocError, Global};
+use std::alloc::Global;
 use std::test::Fail;
 
 // A name, how many servers there are, and what happens. A call has its server, the stamp of what it stores, its command and the answer,
@@ -145,15 +147,6 @@ fn set_moment(servers: &mut ScriptServers, text: &str) -> Result<(), Fail> {
     servers.set_moment(i64::from(number(text)?));
     Ok(())
 }
-
-fn outcome_text(alloc: Global, ask: &Ask, outcome: &Outcome) -> Result<String, AllocError> {
-    match outcome {
-        Outcome::Answered(answer) => answer_text(alloc, ask, answer),
-        Outcome::Failed => "failed".to_string(alloc),
-    }
-}
-
-fn drop_outcome(_outcome: Outcome) {}
 
 fn answered(
     alloc: Global,
