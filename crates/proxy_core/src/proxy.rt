@@ -8,6 +8,7 @@ ghost use Rattle.proxy_core.specs.Faults.{IsClosed, CanOpen, CanFeed, CanClose, 
 use crate::client::Client;
 use crate::command_table::CommandTable;
 use crate::fault::{CoreFault, ReloadFault};
+use crate::key_lines::KeyLines;
 use crate::limits::Limits;
 use crate::looking::has_commands;
 use bytes::BytesMut;
@@ -21,6 +22,8 @@ pub struct Core {
     pub(crate) clients: Slab<Client>,
     /// The commands that have begun and have not ended, by number.
     pub(crate) commands: CommandTable,
+    /// The clients whose next command waits for its key.
+    pub(crate) lines: KeyLines,
     pub(crate) tree: Tree,
     /// The last number that was given to a command.
     pub(crate) number: u64,
@@ -38,6 +41,7 @@ impl Core {
         Core {
             clients: Slab::new(alloc),
             commands: CommandTable::new(alloc),
+            lines: KeyLines::new(alloc),
             tree,
             number: 0,
             limits,
@@ -52,6 +56,7 @@ impl Core {
     pub fn open_client(&mut self) -> Result<usize, CoreFault>
         ensures ok { IfOk result (λ client. CanOpen self.old × Opens self.old client self.new) }
         ensures err { IfErr result (λ fault. OpenFault self.old fault self.new) }
+        ensures lines { self.new.lines ≡ self.old.lines }
     {
         if self.limits.clients <= self.clients.len() {
             return Err(CoreFault::TooManyClients);
@@ -68,6 +73,7 @@ impl Core {
     pub fn feed(&mut self, client: usize, piece: &[u8]) -> Result<(), CoreFault>
         ensures ok { OnOk result (CanFeed self.old client piece.now × Feeds self.old client piece.now self.new) }
         ensures err { IfErr result (λ fault. FeedFault self.old client piece.now fault × (self.new ≡ self.old)) }
+        ensures lines { self.new.lines ≡ self.old.lines }
     {
         match self.clients.get_mut(client) {
             None => Err(CoreFault::NoClient),
@@ -83,6 +89,7 @@ impl Core {
         ensures ok { OnOk result (Gives self.old client (output_by (client_at self.old client)) self.new) }
         ensures err { IfErr result (λ fault. OutputFault self.old client fault × (self.new ≡ self.old)) }
         ensures out { OnErr result (out.new.items ≡ out.old.items) }
+        ensures lines { self.new.lines ≡ self.old.lines }
     {
         match self.clients.get_mut(client) {
             None => Err(CoreFault::NoClient),
@@ -99,6 +106,7 @@ impl Core {
     pub fn take_output(&mut self, client: usize) -> Result<Vec<u8>, CoreFault>
         ensures ok { IfOk result (λ bytes. Gives self.old client bytes.items self.new) }
         ensures err { IfErr result (λ fault. OutputFault self.old client fault × (self.new ≡ self.old)) }
+        ensures lines { self.new.lines ≡ self.old.lines }
     {
         match self.clients.get_mut(client) {
             None => Err(CoreFault::NoClient),
@@ -109,7 +117,7 @@ impl Core {
         }
     }
 
-    /// The client is gone, and with it what it sent and was not given.
+    /// The client is gone, and with it what it sent and was not given. It stands in no line of a key any more.
     ///
     /// `NoClient`; `UnderWay` where a command of it has begun and not ended.
     pub fn close(&mut self, client: usize) -> Result<(), CoreFault>
@@ -123,6 +131,7 @@ impl Core {
             return Err(CoreFault::UnderWay);
         }
         self.clients.remove(client);
+        self.lines.leave(client);
         Ok(())
     }
 
