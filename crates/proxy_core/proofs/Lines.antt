@@ -1,12 +1,13 @@
 -- Who stands before whom in the line of a key.
-use Rattle.std.proofs.Common.{◌≡◌, ℕ, ◌+◌, ◌<◌, Bool, true, false, cond, not, ◌||◌, List, [], ◌∷◌, length, drop, get_or, refl, sym, ap, ◌∙◌, nat_eq}
+use Rattle.std.proofs.Common.{◌≡◌, ℕ, ◌+◌, ◌<◌, Bool, true, false, cond, not, ◌||◌, List, [], ◌∷◌, ◌++◌, length, drop, get_or, refl, sym, ap, ◌∙◌, nat_eq}
+use Rattle.std.proofs.lemmas.Bool.{eqb-true}
 use Rattle.std.specs.List.{list_any}
 use Rattle.std.specs.Cmp.Lexicographic.{pointwise}
 use Rattle.std.proofs.lemmas.List.{drop_more}
 use Rattle.std.proofs.lemmas.List.Sums.{take_while-cons}
 use Rattle.proxy_core.specs.declared.claim.Claim.{Claim}
 use Rattle.proxy_core.specs.declared.key_lines.Standing.{Standing}
-use Rattle.proxy_core.specs.Lines.{is_place, is_in_way, before, is_behind, others}
+use Rattle.proxy_core.specs.Lines.{is_place, is_in_way, before, is_behind, others, put_at, NobodyIsPassed}
 
 -- what claims nothing has nobody in its way
 pub nobody_in_way : (key : List ℕ) (claim : Claim) (lines : List Standing) → not claim.clears ≡ true → not claim.copies ≡ true → list_any (is_in_way key claim) lines ≡ false
@@ -56,3 +57,61 @@ others_again client (it ∷ rest) =
       | true ↦ λ e. others_again client rest
       | false ↦ λ e. ap (λ b. cond (not b) (it ∷ others client (others client rest)) (others client (others client rest))) e ∙ ap (λ l. it ∷ l) (others_again client rest)
     ]) refl
+
+module _ (client : ℕ) (key : List ℕ) where
+  before_first : (it : Standing) (rest : List Standing) → is_place client key it ≡ true → before client key (it ∷ rest) ≡ []
+  before_first it rest e = take_while-cons (λ (x : Standing). not (is_place client key x)) it rest ∙ ap (λ b. cond (not b) (it ∷ before client key rest) []) e
+
+  before_more : (it : Standing) (rest : List Standing) → is_place client key it ≡ false → before client key (it ∷ rest) ≡ it ∷ before client key rest
+  before_more it rest e = take_while-cons (λ (x : Standing). not (is_place client key x)) it rest ∙ ap (λ b. cond (not b) (it ∷ before client key rest) []) e
+
+  -- who comes to the end of a line stands before nobody who is there
+  before_end : (xs ys : List Standing) → list_any (is_place client key) xs ≡ true → before client key (xs ++ ys) ≡ before client key xs
+  before_end [] ys e = absurd cc
+  before_end (it ∷ xs) ys e =
+      (elim (is_place client key it) as (λ b. is_place client key it ≡ b → (b || list_any (is_place client key) xs) ≡ true → before client key (it ∷ (xs ++ ys)) ≡ before client key (it ∷ xs)) [
+        | true ↦ λ is e. before_first it (xs ++ ys) is ∙ sym (before_first it xs is)
+        | false ↦ λ is e. before_more it (xs ++ ys) is ∙ ap (λ l. it ∷ l) (before_end xs ys e) ∙ sym (before_more it xs is)
+      ]) refl e
+
+  module _ (c : ℕ) (apart : nat_eq client c ≡ false) where
+    others_cons : (it : Standing) (rest : List Standing) (b : Bool) → nat_eq it.client c ≡ b → others c (it ∷ rest) ≡ cond (not b) (it ∷ others c rest) (others c rest)
+    others_cons it rest b e = ap (λ z. cond (not z) (it ∷ others c rest) (others c rest)) e
+
+    -- its place is nobody else's
+    place_kept : (it : Standing) → is_place client key it ≡ true → nat_eq it.client c ≡ false
+    place_kept it e =
+        (elim (nat_eq it.client client) as (λ b. nat_eq it.client client ≡ b → cond b (pointwise nat_eq it.key key) false ≡ true → nat_eq it.client c ≡ false) [
+          | true ↦ λ same e. ap (λ n. nat_eq n c) (eqb-true it.client client same) ∙ apart
+          | false ↦ λ differs e. absurd cc
+        ]) refl e
+
+    before_others : (lines : List Standing) → before client key (others c lines) ≡ others c (before client key lines)
+    before_others [] = refl
+    before_others (it ∷ rest) =
+        (elim (is_place client key it) as (λ b. is_place client key it ≡ b → before client key (others c (it ∷ rest)) ≡ others c (before client key (it ∷ rest))) [
+          | true ↦ λ is. ap (before client key) (others_cons it rest false (place_kept it is)) ∙ before_first it (others c rest) is ∙ sym (ap (others c) (before_first it rest is))
+          | false ↦ λ is. (elim (nat_eq it.client c) as (λ b. nat_eq it.client c ≡ b → before client key (others c (it ∷ rest)) ≡ others c (before client key (it ∷ rest))) [
+            | true ↦ λ same. ap (before client key) (others_cons it rest true same) ∙ before_others rest ∙ sym (ap (others c) (before_more it rest is) ∙ others_cons it (before client key rest) true same)
+            | false ↦ λ differs.
+                ap (before client key) (others_cons it rest false differs) ∙ before_more it (others c rest) is ∙ ap (λ l. it ∷ l) (before_others rest) ∙ sym (ap (others c) (before_more it rest is) ∙ others_cons it (before client key rest) false differs)
+          ]) refl
+        ]) refl
+
+    place_stays : (lines : List Standing) → list_any (is_place client key) lines ≡ true → list_any (is_place client key) (others c lines) ≡ true
+    place_stays [] e = e
+    place_stays (it ∷ rest) e =
+        (elim (is_place client key it) as (λ b. is_place client key it ≡ b → (b || list_any (is_place client key) rest) ≡ true → list_any (is_place client key) (others c (it ∷ rest)) ≡ true) [
+          | true ↦ λ is e. ap (list_any (is_place client key)) (others_cons it rest false (place_kept it is)) ∙ ap (λ b. b || list_any (is_place client key) (others c rest)) is
+          | false ↦ λ is e. (elim (nat_eq it.client c) as (λ b. nat_eq it.client c ≡ b → list_any (is_place client key) (others c (it ∷ rest)) ≡ true) [
+            | true ↦ λ same. ap (list_any (is_place client key)) (others_cons it rest true same) ∙ place_stays rest e
+            | false ↦ λ differs. ap (list_any (is_place client key)) (others_cons it rest false differs) ∙ ap (λ b. b || list_any (is_place client key) (others c rest)) is ∙ place_stays rest e
+          ]) refl
+        ]) refl e
+
+pub nobody_is_passed : NobodyIsPassed
+nobody_is_passed client key it lines apart = (
+  before_others client key it.client apart lines,
+  λ there none.
+      ap (λ place. before client key (put_at place it lines)) none ∙ before_end client key (others it.client lines) (it ∷ []) (place_stays client key it.client apart lines there) ∙ before_others client key it.client apart lines,
+)

@@ -228,6 +228,10 @@ Gives old client bytes new = (bytes ≡ output_by (client_at old client)) × Goe
 abbrev pub Closes : Core → ℕ → Core → Type 0
 Closes old client new = (client_at new client ≡ None) × GoesByOne old (Resets client) new × (new.lines ≡ others client old.lines)
 
+-- the client stands in no line of a key, and nothing else changes
+abbrev pub LeavesLine : Core → ℕ → Core → Type 0
+LeavesLine old client new = (new ≡ record old { lines = others client old.lines }) × GoesBy old (λ entries. entries ≡ []) new
+
 -- these are the plain trees of what has begun, and after that of this tree
 pub record IsTakenOver (old : Core) (tree : Route) (beside : Beside) (at : ℕ → List ℕ → Plan) : Type 0 where
   pub begun : (n : ℕ) (key : List ℕ) → n ≤ old.number → at n key ≡ beside.at n key

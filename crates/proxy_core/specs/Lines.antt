@@ -1,5 +1,5 @@
 -- The lines of keys: clients whose next command waits for its key, first come first. Source: mcgate's own.
-use Rattle.std.specs.Prelude.{ℕ, Bool, false, not, List, [], ◌∷◌, ◌++◌, Option, Some, None, ◌||◌, if◌then◌else◌, nat_eq, filter, position, slice_set, take_while}
+use Rattle.std.specs.Prelude.{◌≡◌, ℕ, Bool, true, false, not, List, [], ◌∷◌, ◌++◌, Option, Some, None, ◌||◌, if◌then◌else◌, nat_eq, filter, position, slice_set, take_while}
 use Rattle.std.specs.Cmp.Lexicographic.{pointwise}
 use Rattle.std.specs.List.{list_any}
 use Rattle.proxy_core.specs.declared.claim.Claim.{Claim}
@@ -32,3 +32,14 @@ put_at (Some place) it lines = slice_set lines place it
 
 abbrev pub joined : Standing → List Standing → List Standing
 joined it lines = put_at (position (is_place it.client it.key) lines) it lines
+
+-- the client stands in a line
+abbrev pub is_standing : ℕ → List Standing → Bool
+is_standing client lines = list_any (λ it. nat_eq it.client client) lines
+
+-- first come first: where another client leaves, or comes to stand in a line where it didn't stand, the same stand before the client as did but for that one
+abbrev pub NobodyIsPassed : Type 0
+NobodyIsPassed =
+    (client : ℕ) (key : List ℕ) (it : Standing) (lines : List Standing) → nat_eq client it.client ≡ false
+    → (before client key (others it.client lines) ≡ others it.client (before client key lines))
+    × (list_any (is_place client key) lines ≡ true → position (is_place it.client it.key) lines ≡ None → before client key (joined it lines) ≡ others it.client (before client key lines))

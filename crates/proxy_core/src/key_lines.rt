@@ -1,7 +1,7 @@
 //! The lines of keys: clients whose next command waits for its key.
 
 ghost use Rattle.std.specs.Prelude.{◌≡◌, [], position, OnOk, OnErr};
-ghost use Rattle.proxy_core.specs.Lines.{is_place, is_in_way, is_behind, others, joined};
+ghost use Rattle.proxy_core.specs.Lines.{is_place, is_in_way, is_behind, is_standing, others, joined};
 
 use crate::claim::Claim;
 use mc_types::Key;
@@ -70,6 +70,13 @@ fn any_before(client: usize, key: &Key, claim: Claim, standing: &[Standing]) -> 
     false
 }
 
+// Whether one of them is the client.
+fn any_of(client: usize, standing: &[Standing]) -> bool
+    ensures { result ≡ is_standing client standing.now }
+{
+    standing.iter().any(|it| it.client == client)
+}
+
 impl KeyLines {
     /// Nobody waits. It takes no memory.
     pub fn new(alloc: Global) -> KeyLines
@@ -110,6 +117,13 @@ impl KeyLines {
             }
         }
         Ok(())
+    }
+
+    /// Whether the client stands in a line. It takes no memory.
+    pub fn is_standing(&self, client: usize) -> bool
+        ensures { result ≡ is_standing client self.now }
+    {
+        any_of(client, self.standing.as_slice())
     }
 
     /// The client stands in no line any more. It takes no memory.

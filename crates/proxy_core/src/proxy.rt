@@ -2,7 +2,8 @@
 
 ghost use Rattle.slab.specs.Slab.{get};
 ghost use Rattle.std.specs.Prelude.{◌≡◌, ◌++◌, ◌↔◌, IsTrue, IfOk, IfErr, OnOk, OnErr};
-ghost use Rattle.proxy_core.specs.CoreState.{IsFresh, IsOut, Opens, Feeds, Gives, Closes, Reloads, client_at, output_by};
+ghost use Rattle.proxy_core.specs.CoreState.{IsFresh, IsOut, Opens, Feeds, Gives, Closes, LeavesLine, Reloads, client_at, output_by};
+ghost use Rattle.proxy_core.specs.Lines.{is_standing};
 ghost use Rattle.proxy_core.specs.Faults.{IsClosed, CanOpen, CanFeed, CanClose, OpenFault, FeedFault, OutputFault, CloseFault};
 
 use crate::client::Client;
@@ -133,6 +134,17 @@ impl Core {
         self.clients.remove(client);
         self.lines.leave(client);
         Ok(())
+    }
+
+    /// The client leaves the line of the key that its next command waits for: whether it stood in one. It is for a client that won't be
+    /// polled for a while, so that nobody waits behind it; where it is polled again, it comes to the end. It takes no memory.
+    pub fn leave_line(&mut self, client: usize) -> bool
+        ensures stood { result ≡ is_standing client self.old.lines }
+        ensures left { LeavesLine self.old client self.new }
+    {
+        let stood = self.lines.is_standing(client);
+        self.lines.leave(client);
+        stood
     }
 
     /// Whether there is no client of this id, or nothing is read of it any more: after `quit`, after a line that was too
