@@ -193,11 +193,11 @@ stands_before core client ask = is_behind client ask.key (claim_of core ask) cor
 abbrev pub IsNextAsk : Core → ℕ → Ask → Bool → Type 0
 IsNextAsk core client ask own = (request : Request) × ForClient core client (λ x. IsAskAt x request ask × (has_own ask.key x.queue.items ≡ own))
 
--- the client's next command waits for one of the client's own on its key, and stands in no line for it
+-- the client's next command waits for one of the client's own on its key, and all is as it was
 abbrev pub WaitsForOwn : Core → ℕ → Core → Type 0
 WaitsForOwn old client new = (new ≡ old) × ((ask : Ask) × IsNextAsk old client ask true)
 
--- it waits in the line of its key: one under way bars it, or a client stands before it there whose claim is in the way. Where it stood there it keeps its place, and else it has come to the end; nothing else changes
+-- it waits in the line of its key: one under way bars it, or a client stands before it there whose claim is in the way. Where it stood there it keeps its place, else it came to the end; nothing else changes
 pub record StandsInLine (old : Core) (client : ℕ) (new : Core) : Type 0 where
   pub ask : Ask
   pub next : IsNextAsk old client ask false
@@ -221,7 +221,7 @@ pub record BeginsInTurn (old : Core) (client : ℕ) (new : Core) : Type 0 where
 abbrev pub StandsStill : Core → Core → Type 0
 StandsStill old new = (new.number ≡ old.number) × (new.lines ≡ old.lines)
 
--- a command begins in its turn alone, and a client leaves the line of its key in no other way
+-- a command begins in its turn alone. Where none does, everybody stands where it stood, but for a client that comes to stand in a line
 abbrev pub KeepsOrder : Core → ℕ → Core → Type 0
 KeepsOrder old client new = StandsStill old new ⊎ (BeginsInTurn old client new ⊎ StandsInLine old client new)
 

@@ -16,8 +16,7 @@ pub struct Standing {
     pub claim: Claim,
 }
 
-/// The lines of all keys, as one: clients in the order in which they came. Who stands in none costs nothing: there is no line of a
-/// key for which nobody waits.
+/// The lines of all keys in one list: clients in the order in which they came. It is empty as long as nobody waits.
 #[derive(Drop)]
 pub struct KeyLines {
     standing: Vec<Standing>,

@@ -228,7 +228,7 @@ impl Core {
         }
     }
 
-    // The client's next command waits for its key: the client stands in the line of it, at the end if it didn't stand there.
+    // The client's next command waits for its key: the client stands in its line, at the end if it didn't stand there.
     fn wait_in_line(
         &mut self,
         client: usize,
@@ -377,17 +377,17 @@ impl Core {
     /// stands in the way of what it claims of its key, where no client whose claim is in the way stands before its own in the line
     /// of its key, and where fewer commands of its client than the depth have no shown reply.
     ///
-    /// A client whose next command waits for its key stands in the line of it from its first poll on until that command begins,
-    /// or the client is closed or dropped: at the end as it comes, and later before all who come after it. So a key that became free is its who came
-    /// first, even if others are polled before. A client that waits for a command of its own on the key stands in no line.
+    /// A client whose next command waits for its key stands in the line of that key until the command begins, or the client is
+    /// closed, dropped or leaves: it comes to the end, and is passed by nobody who comes after it. So a key that became free goes to
+    /// whoever came first, even if others are polled before. A client that waits for a command of its own comes to no line.
     ///
     /// Where it is `Waiting` or `Busy`, none of its commands that have no reply yet can go on: each has its call out, or waits
     /// for its server. Where it is `Waiting`, nothing at its front can be done either. After `Did` each reply that could be
     /// shown was.
     ///
     /// `NoClient`. `Spent` where the last number that there is was given out: the core is as it was. `NoMemory`: nothing is
-    /// done for the client any more, whose output so far is kept, and those of its commands of which no call is out are broken
-    /// off.
+    /// done for the client any more, whose output so far is kept, which stands in no line, and whose commands of which no call is out
+    /// are broken off.
     pub fn poll(&mut self, client: usize) -> Result<Poll, CoreFault>
         ensures ok { IfOk result (λ poll. Polls self.old client poll self.new) }
         ensures err { IfErr result (λ fault. PollFault self.old client fault self.new) }
