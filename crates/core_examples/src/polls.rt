@@ -176,6 +176,27 @@ poll 0 => busy
 close 2 => ok
 poll 0 => call 2
 
+A client that leaves its line comes to the end of it as it is polled again.
+server: of scripts
+open => 0
+open => 1
+open => 2
+feed 0 get a\r\n => ok
+poll 0 => call 1
+feed 1 get a\r\n => ok
+poll 1 => busy
+feed 2 get a\r\n => ok
+poll 2 => busy
+leave 1 => yes
+leave 1 => no
+fail 1 => ok
+poll 0 => did 1
+poll 1 => busy
+poll 2 => call 2
+fail 2 => ok
+poll 2 => did 2
+poll 1 => call 3
+
 A new client has no place of one that was closed.
 server: of scripts
 open => 0
