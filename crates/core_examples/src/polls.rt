@@ -109,6 +109,167 @@ poll 1 => did 2
 poll 2 => call 3"
 }
 
+// Lines of keys: who waits for one, and who is next.
+fn lines() -> &'static str {
+    r"A freed key is its who came first, also where others are polled before; who comes later stands behind.
+server: of scripts
+open => 0
+open => 1
+open => 2
+feed 1 set a 0 0 1\r\nx\r\n => ok
+poll 1 => call 1
+feed 2 get a\r\n => ok
+poll 2 => busy
+feed 0 get a\r\n => ok
+poll 0 => busy
+fail 1 => ok
+poll 0 => busy
+poll 1 => did 1
+poll 0 => busy
+feed 1 get a\r\n => ok
+poll 1 => busy
+poll 2 => call 2
+poll 0 => busy
+fail 2 => ok
+poll 2 => did 2
+poll 1 => busy
+poll 0 => call 3
+fail 3 => ok
+poll 0 => did 3
+poll 1 => call 4
+
+Other keys don't wait in the line of this one.
+server: depth 1, alone
+open => 0
+open => 1
+open => 2
+open => 3
+feed 0 get a\r\n => ok
+poll 0 => call 1
+feed 1 get a\r\n => ok
+poll 1 => busy
+feed 2 get b\r\n => ok
+poll 2 => call 2
+fail 1 => ok
+poll 0 => did 1
+feed 3 get b\r\n => ok
+poll 3 => busy
+fail 2 => ok
+poll 2 => did 2
+poll 3 => call 3
+poll 1 => call 4
+
+A client that is closed while it stands in a line lets the next one go.
+server: of scripts
+open => 0
+open => 1
+open => 2
+feed 1 set a 0 0 1\r\nx\r\n => ok
+poll 1 => call 1
+feed 2 get a\r\n => ok
+poll 2 => busy
+feed 0 get a\r\n => ok
+poll 0 => busy
+fail 1 => ok
+poll 1 => did 1
+poll 0 => busy
+close 2 => ok
+poll 0 => call 2
+
+A client that leaves its line comes to the end of it as it is polled again.
+server: of scripts
+open => 0
+open => 1
+open => 2
+feed 0 get a\r\n => ok
+poll 0 => call 1
+feed 1 get a\r\n => ok
+poll 1 => busy
+feed 2 get a\r\n => ok
+poll 2 => busy
+leave 1 => yes
+leave 1 => no
+fail 1 => ok
+poll 0 => did 1
+poll 1 => busy
+poll 2 => call 2
+fail 2 => ok
+poll 2 => did 2
+poll 1 => call 3
+
+A new client has no place of one that was closed.
+server: of scripts
+open => 0
+open => 1
+open => 2
+feed 0 get a\r\n => ok
+poll 0 => call 1
+feed 1 get a\r\n => ok
+poll 1 => busy
+feed 2 get a\r\n => ok
+poll 2 => busy
+close 1 => ok
+open => 1
+feed 1 get a\r\n => ok
+poll 1 => busy
+fail 1 => ok
+poll 0 => did 1
+poll 1 => busy
+poll 2 => call 2
+
+A delete stands behind two gets that may copy: a third one that comes later waits behind it, and a set passes.
+warm-up: depth 2, shared
+open => 0
+open => 1
+open => 2
+open => 3
+open => 4
+feed 0 get a\r\n => ok
+feed 1 get a\r\n => ok
+poll 0 => call 1
+poll 1 => call 2
+feed 2 delete a\r\n => ok
+poll 2 => busy
+feed 3 get a\r\n => ok
+poll 3 => busy
+feed 4 set a 0 0 1\r\nx\r\n => ok
+poll 4 => call 3
+fail 1 => ok
+poll 0 => call 1
+fail 1 => ok
+poll 0 => did 1
+poll 3 => busy
+poll 2 => busy
+fail 2 => ok
+poll 1 => call 2
+fail 2 => ok
+poll 1 => did 2
+poll 3 => busy
+poll 2 => call 4
+poll 3 => busy
+fail 4 => ok
+poll 2 => did 4
+poll 3 => call 5
+
+A delete stands behind a get that may copy, and gets that can't copy pass both.
+warm-up: depth 2, shared
+open => 0
+open => 1
+open => 2
+open => 3
+feed 0 get a\r\n => ok
+poll 0 => call 1
+feed 1 delete a\r\n => ok
+poll 1 => busy
+feed 2 get a\r\n => ok
+poll 2 => busy
+reload server => 2
+feed 3 get a\r\n => ok
+poll 3 => call 2
+poll 2 => call 3
+poll 1 => busy"
+}
+
 #[test]
 fn replies_in_their_order(rt: HostRuntime) -> Result<(), Fail> {
     play(rt.alloc(), replies())
@@ -117,4 +278,9 @@ fn replies_in_their_order(rt: HostRuntime) -> Result<(), Fail> {
 #[test]
 fn commands_on_one_key(rt: HostRuntime) -> Result<(), Fail> {
     play(rt.alloc(), keys())
+}
+
+#[test]
+fn lines_of_keys(rt: HostRuntime) -> Result<(), Fail> {
+    play(rt.alloc(), lines())
 }

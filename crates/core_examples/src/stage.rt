@@ -126,6 +126,13 @@ impl Played {
         }
     }
 
+    fn leave_line(&mut self, client: usize) -> bool {
+        match self {
+            Played::Bare(core) => core.leave_line(client),
+            Played::Fresh(core) => core.leave_line(client),
+        }
+    }
+
     fn is_closed(&self, client: usize) -> bool {
         match self {
             Played::Bare(core) => core.is_closed(client),
@@ -386,6 +393,7 @@ impl Stage {
             "fail" => self.fail(about),
             "forge" => self.forge(about),
             "close" => Ok(self.close(client)),
+            "leave" => Ok(yes_or_no(self.core.leave_line(client))),
             "closed" => Ok(yes_or_no(self.core.is_closed(client))),
             _ => Err("no such event")?,
         }

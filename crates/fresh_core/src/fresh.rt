@@ -5,7 +5,8 @@ ghost use Rattle.mc_runs.specs.Overlap as log;
 ghost use Rattle.proxy_core.specs.Faults.{IsClosed, CanOpen, CanFeed, CanClose, OpenFault, FeedFault, OutputFault, CloseFault};
 ghost use Rattle.fresh_gate.specs.Reload.{KeepsNumbers};
 ghost use Rattle.fresh_gate.specs.Sound.{IsLast};
-ghost use Rattle.proxy_core.specs.CoreState.{IsOut, Opens, Feeds, Gives, Closes, Reloads, client_at, dropped_by, output_by};
+ghost use Rattle.proxy_core.specs.CoreState.{IsOut, Opens, Feeds, Gives, Closes, LeavesLine, Reloads, client_at, dropped_by, output_by};
+ghost use Rattle.proxy_core.specs.Lines.{is_standing};
 ghost use Rattle.proxy_core.specs.Polls.{Polls, PollFault, Then, Perhaps, BeginsOne, IsPolled};
 ghost use Rattle.proxy_core.specs.Settles.{FitsCall, asked, SettleFault};
 ghost use Rattle.fresh_core.specs.Freshly.{IsNew, GoesFreshly, fed};
@@ -103,6 +104,16 @@ impl FreshCore {
         ensures stops { IfErr result (λ fault. PollStops self.old client fault self.new) }
     {
         self.core.poll(client)
+    }
+
+    /// As `Core::leave_line`.
+    pub fn leave_line(&mut self, client: usize) -> bool
+        ensures stood { result ≡ is_standing client self.old.core.lines }
+        ensures left { LeavesLine self.old.core client self.new.core }
+        ensures accepted { self.new.accepted ≡ self.old.accepted }
+        ensures fresh { GoesFreshly self.old (λ entries. entries ≡ []) self.new }
+    {
+        self.core.leave_line(client)
     }
 
     /// As `Core::asked`.

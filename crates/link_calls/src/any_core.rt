@@ -3,7 +3,8 @@
 ghost use Rattle.std.specs.Prelude.{◌≡◌, ◌++◌, ◌↔◌, [], ◌∷◌, IsTrue, IfOk, IfErr, OnOk, OnErr, option_map};
 ghost use Rattle.mc_runs.specs.Overlap as log;
 ghost use Rattle.proxy_core.specs.Faults.{IsClosed, CanOpen, CanFeed, CanClose, OpenFault, FeedFault, OutputFault, CloseFault};
-ghost use Rattle.proxy_core.specs.CoreState.{Opens, Feeds, Gives, Closes, Reloads, client_at, dropped_by, output_by};
+ghost use Rattle.proxy_core.specs.CoreState.{Opens, Feeds, Gives, Closes, LeavesLine, Reloads, client_at, dropped_by, output_by};
+ghost use Rattle.proxy_core.specs.Lines.{is_standing};
 ghost use Rattle.proxy_core.specs.Polls.{Polls, PollFault, Then, Perhaps, BeginsOne, IsPolled};
 ghost use Rattle.proxy_core.specs.Settles.{FitsCall, asked};
 ghost use Rattle.fresh_core.specs.Freshly.{GoesFreshly, fed};
@@ -147,6 +148,18 @@ impl AnyCore {
         match self {
             AnyCore::Fresh(core) => core.poll(client),
             AnyCore::Unchecked(core) => core.poll(client),
+        }
+    }
+
+    /// As `Core::leave_line`.
+    pub fn leave_line(&mut self, client: usize) -> bool
+        ensures stood { result ≡ is_standing client (core_of self.old).lines }
+        ensures left { LeavesLine (core_of self.old) client (core_of self.new) }
+        ensures fresh { IsKept (λ old new. GoesFreshly old (λ entries. entries ≡ []) new) self.old self.new }
+    {
+        match self {
+            AnyCore::Fresh(core) => core.leave_line(client),
+            AnyCore::Unchecked(core) => core.leave_line(client),
         }
     }
 

@@ -20,6 +20,7 @@ use Rattle.proxy_core.specs.Clients.{IsNew, Takes, TakesPiece, LosesOutput}
 use Rattle.route_tree.specs.Plan.{Plan}
 use Rattle.proxy_core.specs.declared.limits.Limits.{Limits}
 use Rattle.proxy_core.specs.Faults.{has_commands}
+use Rattle.proxy_core.specs.Lines.{others}
 use Rattle.proxy_core.specs.Steps.{Turns}
 use Rattle.proxy_core.proofs.Slots.{held_then, same_held}
 use Rattle.proxy_core.proofs.Tickets.{contrary}
@@ -218,8 +219,8 @@ none_is client (x ∷ rest) n o e f =
         no e f = absurd cc
 
 -- its place was freed
-pub closes : (old new : Core) (client : ℕ) (x : Client) → Turns old new client (Some x) None → has_commands client old.commands ≡ false → Closes old client new
-closes old new client x t none = (
+pub closes : (old new : Core) (client : ℕ) (x : Client) → Turns old new client (Some x) None → has_commands client old.commands ≡ false → new.lines ≡ others client old.lines → Closes old client new
+closes old new client x t none left = (
   t.is,
   λ beside fits.
       let queue : ℕ → List (Slot dialect) = λ c. cond (nat_eq client c) [] (beside.queue c) in
@@ -266,6 +267,7 @@ closes old new client x t none = (
         }),
         t.limits,
       ),
+  left,
 )
 
 -- other clients are those of other places

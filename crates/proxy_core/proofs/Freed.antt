@@ -1,5 +1,5 @@
 -- Commands of a client for whom nothing is done any more, broken off one after another.
-use Rattle.std.proofs.Common.{◌≡◌, ℕ, Bool, true, false, cond, not, [], ◌∷◌, ◌++◌, Option, Some, None, refl, sym, ap, ◌∙◌, subst, nat_eq}
+use Rattle.std.proofs.Common.{◌≡◌, ℕ, Bool, true, false, cond, not, List, [], ◌∷◌, ◌++◌, Option, Some, None, refl, sym, ap, ◌∙◌, subst, nat_eq}
 use Rattle.std.proofs.lemmas.Bool.{eqb-true}
 use Rattle.std.specs.Prelude.{IsSome}
 use Rattle.slab.specs.Slab as slab
@@ -13,6 +13,8 @@ use Rattle.proxy_core.specs.declared.proxy.Core.{Core}
 use Rattle.proxy_core.specs.CoreState.{client_at, command_at, dropped_by}
 use Rattle.proxy_core.specs.Settles.{is_idle, HasIdle, freed, FreesSome, DropsBy, TakesOut}
 use Rattle.proxy_core.specs.Ending.{Drops}
+use Rattle.proxy_core.specs.declared.key_lines.Standing.{Standing}
+use Rattle.proxy_core.specs.Lines as line
 use Rattle.proxy_core.proofs.Chains.{Then, goes_then, goes_as, goes_nowhere}
 use Rattle.proxy_core.proofs.Clients.{others_by}
 use Rattle.proxy_core.proofs.Commands.{no_command}
@@ -36,11 +38,11 @@ dropped_is None e = absurd cc
 dropped_is (Some x) e = (x, refl, e)
 
 pub none_yet : (core : Core) (client : ℕ) → FreesSome core client core
-none_yet core client = record { numbers = []; idle = tt; goes = λ _. goes_nowhere core; kept = λ n command e. e; clients = λ c. refl; tree = refl; limits = refl; number = refl }
+none_yet core client = record { numbers = []; idle = tt; goes = λ _. goes_nowhere core; kept = λ n command e. e; clients = λ c. refl; tree = refl; limits = refl; number = refl; lines = refl }
 
 -- one more
-pub one_more : (old now new : Core) (client n : ℕ) → FreesSome old client now → HasIdle client now.commands n → ((m : ℕ) → command_at new m ≡ cond (nat_eq n m) None (command_at now m)) → ((c : ℕ) → client_at new c ≡ client_at now c) → new.tree ≡ now.tree → new.limits ≡ now.limits → new.number ≡ now.number → FreesSome old client new
-one_more old now new client n some idle commands clients tree limits number =
+pub one_more : (old now new : Core) (client n : ℕ) → FreesSome old client now → HasIdle client now.commands n → ((m : ℕ) → command_at new m ≡ cond (nat_eq n m) None (command_at now m)) → ((c : ℕ) → client_at new c ≡ client_at now c) → new.tree ≡ now.tree → new.limits ≡ now.limits → new.number ≡ now.number → new.lines ≡ now.lines → FreesSome old client new
+one_more old now new client n some idle commands clients tree limits number lines =
     let a = idle.0 in
     let parts = idle_parts client a idle.2 in
     record {
@@ -70,14 +72,16 @@ one_more old now new client n some idle commands clients tree limits number =
       tree = tree ∙ some.tree;
       limits = limits ∙ some.limits;
       number = number ∙ some.number;
+      lines = lines ∙ some.lines;
     }
 
--- a command was taken out, and its client was written
+-- a command was taken out, and its client was written, which left its line
 pub taken_out :
-    (old : Core) (commands : _) (number client : ℕ) (x y : Client) → client_at old client ≡ Some x → Drops x y
+    (old : Core) (commands : _) (lines : List Standing) (number client : ℕ) (x y : Client) → client_at old client ≡ Some x → Drops x y
     → ((n : ℕ) → map.get nat_eq commands n ≡ cond (nat_eq number n) None (command_at old n))
-    → TakesOut old number client (record old { clients = slab.with_value old.clients client y; commands = commands })
-taken_out old commands number client x y was drops gone =
+    → lines ≡ line.others client old.lines
+    → TakesOut old number client (record old { clients = slab.with_value old.clients client y; commands = commands; lines = lines })
+taken_out old commands lines number client x y was drops gone left =
     let u = Updates-with_value old.clients client y (subst IsSome (sym was) refl) in
     record {
       commands = gone;
@@ -86,4 +90,5 @@ taken_out old commands number client x y was drops gone =
       tree = refl;
       limits = refl;
       number_is = refl;
+      lines = left;
     }

@@ -9,6 +9,7 @@ use Rattle.proxy_core.specs.declared.command.Command.{Command}
 use Rattle.proxy_core.specs.declared.proxy.Core.{Core}
 use Rattle.proxy_core.specs.CoreState.{dialect, client_at, command_at, output_by, dropped_by, is_call, has_call_out, IsHeld}
 use Rattle.proxy_core.specs.Steps.{Resolves}
+use Rattle.proxy_core.specs.Lines as line
 use Rattle.proxy_core.specs.Settles.{TakesOutcome, FitsCall, SettlesBy, Settles, AreIdle, freed, FreesSome, FreesIdle, DropsBy, TakesOut, Breaks}
 use Rattle.proxy_core.proofs.Broken.{settles_alone, settles_then, settles_as, breaks}
 use Rattle.proxy_core.proofs.Came.{Came}
@@ -28,7 +29,7 @@ out_parts a e = by a.is_out (is_call a.job.pending) e
 pub came_of : (old : Core) (number : ℕ) (a : Command) (outcome : Outcome) → command_at old number ≡ Some a → has_call_out a ≡ true → FitsCall old number outcome → Came old number a outcome
 came_of old number a outcome was out fits = let p = out_parts a out in record { was = was; waiting = p.0; calling = call_is_true a.job.pending p.1; fits = fits a was out }
 
-module _ (old mid : Core) (number : ℕ) (a b : Command) (outcome : Outcome) (was : command_at old number ≡ Some a) (out : has_call_out a ≡ true) (fits : FitsCall old number outcome) (took : TakesOutcome a outcome b) (commands : (n : ℕ) → command_at mid n ≡ cond (nat_eq number n) (Some b) (command_at old n)) (clients : (c : ℕ) → client_at mid c ≡ client_at old c) (tree : mid.tree ≡ old.tree) (limits : mid.limits ≡ old.limits) (number_is : mid.number ≡ old.number) where
+module _ (old mid : Core) (number : ℕ) (a b : Command) (outcome : Outcome) (was : command_at old number ≡ Some a) (out : has_call_out a ≡ true) (fits : FitsCall old number outcome) (took : TakesOutcome a outcome b) (commands : (n : ℕ) → command_at mid n ≡ cond (nat_eq number n) (Some b) (command_at old n)) (clients : (c : ℕ) → client_at mid c ≡ client_at old c) (tree : mid.tree ≡ old.tree) (limits : mid.limits ≡ old.limits) (number_is : mid.number ≡ old.number) (lines : mid.lines ≡ old.lines) where
   resolves : Resolves old mid number a b outcome
   resolves =
       let c = came_of old number a outcome was out fits in
@@ -51,11 +52,12 @@ module _ (old mid : Core) (number : ℕ) (a b : Command) (outcome : Outcome) (wa
         idle = λ c e. subst (λ (d : Command). has_call_out d ≡ false) (some_command (sym own ∙ e)) (ap (λ z. cond z (is_call b.job.pending) false) took.idle);
         others = others;
         clients = clients;
+        lines = lines;
       }
 
   -- nothing is done for its client any more
-  pub is_freed : dropped_by (client_at old a.client) ≡ true → (new : Core) → ((n : ℕ) → command_at new n ≡ cond (nat_eq number n) None (command_at mid n)) → ((c : ℕ) → client_at new c ≡ client_at mid c) → new.tree ≡ mid.tree → new.limits ≡ mid.limits → new.number ≡ mid.number → Settles old number outcome new
-  is_freed dropped new gone stay same limited last =
+  pub is_freed : dropped_by (client_at old a.client) ≡ true → (new : Core) → ((n : ℕ) → command_at new n ≡ cond (nat_eq number n) None (command_at mid n)) → ((c : ℕ) → client_at new c ≡ client_at mid c) → new.tree ≡ mid.tree → new.limits ≡ mid.limits → new.number ≡ mid.number → new.lines ≡ mid.lines → Settles old number outcome new
+  is_freed dropped new gone stay same limited last stand =
       let x = dropped_is (client_at old a.client) dropped in
       let owner : b.client ≡ a.client = ap (λ (o : Owner). o.client) took.owner in
       record {
@@ -78,10 +80,11 @@ module _ (old mid : Core) (number : ℕ) (a b : Command) (outcome : Outcome) (wa
         idle = λ c e. no_command (sym (gone number ∙ ap (λ z. cond z None (command_at mid number)) (eq-eqb number number refl)) ∙ e);
         others = λ n differs. gone n ∙ ap (λ z. cond z None (command_at mid n)) differs ∙ others n differs;
         clients = λ c. stay c ∙ clients c;
+        lines = stand ∙ lines;
       }
 
 -- memory was refused
-module _ (old mid out new : Core) (number : ℕ) (a : Command) (outcome : Outcome) (was : command_at old number ≡ Some a) (is_out : has_call_out a ≡ true) (fits : FitsCall old number outcome) (others : (n : ℕ) → nat_eq number n ≡ false → command_at mid n ≡ command_at old n) (clients : (c : ℕ) → client_at mid c ≡ client_at old c) (tree : mid.tree ≡ old.tree) (limits : mid.limits ≡ old.limits) (number_is : mid.number ≡ old.number) (takes : TakesOut mid number a.client out) (frees_idle : FreesIdle out a.client new) where
+module _ (old mid out new : Core) (number : ℕ) (a : Command) (outcome : Outcome) (was : command_at old number ≡ Some a) (is_out : has_call_out a ≡ true) (fits : FitsCall old number outcome) (others : (n : ℕ) → nat_eq number n ≡ false → command_at mid n ≡ command_at old n) (clients : (c : ℕ) → client_at mid c ≡ client_at old c) (tree : mid.tree ≡ old.tree) (limits : mid.limits ≡ old.limits) (number_is : mid.number ≡ old.number) (lines : mid.lines ≡ old.lines) (takes : TakesOut mid number a.client out) (frees_idle : FreesIdle out a.client new) where
   taken : TakesOut old number a.client out
   taken =
       record {
@@ -94,6 +97,7 @@ module _ (old mid out new : Core) (number : ℕ) (a : Command) (outcome : Outcom
         tree = takes.tree ∙ tree;
         limits = takes.limits ∙ limits;
         number_is = takes.number_is ∙ number_is;
+        lines = takes.lines ∙ ap (line.others a.client) lines;
       }
 
   was_there : (n : ℕ) (command : Command) → command_at out n ≡ Some command → command_at old n ≡ Some command
@@ -134,6 +138,7 @@ module _ (old mid out new : Core) (number : ℕ) (a : Command) (outcome : Outcom
         are = were_idle some.numbers some.idle;
         goes = all;
         gone = frees_idle.1;
+        lines = some.lines ∙ taken.lines;
         output = λ c. ap output_by (some.clients c) ∙ (elim (nat_eq a.client c) as (λ z. nat_eq a.client c ≡ z → output_by (client_at out c) ≡ output_by (client_at old c)) [
           | true ↦ λ same. subst (λ d. output_by (client_at out d) ≡ output_by (client_at old d)) (eqb-true a.client c same) (outputs (client_at old a.client) (client_at out a.client) taken.client_is)
           | false ↦ λ differs. ap output_by (taken.others c differs)

@@ -32,8 +32,10 @@ use Rattle.proxy_core.specs.Steps.{Turns}
 use Rattle.proxy_core.specs.Fronts.{Stays, PassesFront, BeginsKey}
 use Rattle.proxy_core.specs.Ready.{IsIdle}
 use Rattle.proxy_core.specs.Begun.{IsBegun, ticket_of}
-use Rattle.proxy_core.specs.Polls.{ForClient, IsPassed, IsNothing, HasBegun, BeginsAt, CanSend, IsSent, IsEnded, IsServed, AreShown, IsShown, queue_len, ShowsNext, StopsFirst, StopsAfter, IsBelowDepth, BeginsBelow, Acts, Polls, IsPolled, IsActed, IsWhy, SoEnded, SoFar, ReadFault, Perhaps, BeginsOne, DropsAll, StopsAt}
+use Rattle.proxy_core.specs.Polls.{ForClient, IsPassed, IsNothing, HasBegun, BeginsAt, CanSend, IsSent, IsEnded, IsServed, AreShown, IsShown, queue_len, ShowsNext, StopsFirst, StopsAfter, IsBelowDepth, BeginsBelow, MayAsk, NoneGoesOn, IsNextAsk, bars, stands_before, StandsStill, StandsInLine, Acts, Polls, IsPolled, IsActed, IsWhy, SoEnded, SoFar, ReadFault, Perhaps, BeginsOne, DropsAll, StopsAt}
 use Rattle.proxy_core.specs.Settles.{freed}
+use Rattle.proxy_core.specs.Lines as line
+use Rattle.proxy_core.proofs.Lines.{others_again}
 use Rattle.proxy_core.specs.Heads.{HasNoReply, ShowsOne}
 use Rattle.proxy_core.specs.Resting.{HasCommand}
 use Rattle.proxy_core.specs.Replying.{IsPlace, Answers}
@@ -139,12 +141,13 @@ some_more before pending now e = let l = ap length e ∙ length-append before (p
 pub begun_goes :
     (old new : Core) (client : ℕ) (x y : Client) (ask : Ask) (command : Command) → client_at old client ≡ Some x → client_at new client ≡ Some y → ((c : ℕ) → nat_eq client c ≡ false → client_at new c ≡ client_at old c)
     → x.dropped ≡ false → has_own ask.key x.queue.items ≡ false → is_barred ask.key command.claim old.commands ≡ false → command.claim ≡ claim_by old.limits.sharing ask.op (tree_at old.tree ask.key) → IsAsk ask → IsTree old.tree → IsBegun old.tree client ask command.claim command → BeginsKey x ask (old.number + 1) y
-    → ((n : ℕ) → command_at new n ≡ (if nat_eq (old.number + 1) n then Some command else command_at old n)) → new.tree ≡ old.tree → new.limits ≡ old.limits → new.number ≡ old.number + 1 → BeginsAt old client ask new
-begun_goes old new client x y ask command was is others served first apart claim asks tree_is begun k commands tree limits number =
+    → ((n : ℕ) → command_at new n ≡ (if nat_eq (old.number + 1) n then Some command else command_at old n)) → new.tree ≡ old.tree → new.limits ≡ old.limits → new.number ≡ old.number + 1 → new.lines ≡ line.others client old.lines → BeginsAt old client ask new
+begun_goes old new client x y ask command was is others served first apart claim asks tree_is begun k commands tree limits number left =
     let part = k.part in
     let back : ask ≡ part.ask = sym k.ask_is in
     record {
       number = number;
+      lines = left;
       last = record {
         command = command;
         idle = record {
@@ -273,6 +276,10 @@ shown_goes old new client x y false t served p = (
   subst (λ o. MatchOption o ⊥ (λ z. HasNoReply z.queue.items)) (sym t.is) (subst (λ (z : Client). HasNoReply z.queue.items) (sym p.1) p.0),
 )
 
+-- no command began in either of two steps, and who waits stands where it stood
+pub still_on : (old mid new : Core) → StandsStill old mid → StandsStill mid new → StandsStill old new
+still_on old mid new a b = (b.0 ∙ a.0, b.1 ∙ a.1)
+
 -- replies that were shown, and after them some more
 pub shown_more : (client : ℕ) (entries : List (Entry dialect)) → Then (AreShown client) (AreShown client) entries → AreShown client entries
 shown_more client entries h =
@@ -302,8 +309,8 @@ show_stops old mid new client faults.NoTicket a b = absurd b
 show_stops old mid new client faults.Spent a b = absurd b
 
 -- a command ended, and replies were shown
-pub finish_goes : (old mid new : Core) (client : ℕ) (note : Note) → GoesBy old (IsEnded client note) mid → GoesBy mid (AreShown client) new → IsShown new client → Acts old client (polls.Did note) new
-finish_goes old mid new client note a b shown = record { goes = goes_then old mid new (IsEnded client note) (AreShown client) a b; why = shown }
+pub finish_goes : (old mid new : Core) (client : ℕ) (note : Note) → GoesBy old (IsEnded client note) mid → GoesBy mid (AreShown client) new → IsShown new client → StandsStill old new → Acts old client (polls.Did note) new
+finish_goes old mid new client note a b shown still = record { goes = goes_then old mid new (IsEnded client note) (AreShown client) a b; why = shown; still = still }
 
 pub finish_stops : (old mid new : Core) (client : ℕ) (note : Note) (fault : CoreFault) → GoesBy old (IsEnded client note) mid → StopsAfter client (AreShown client) mid fault new → StopsAfter client (SoEnded client) old fault new
 finish_stops old mid new client note faults.NoMemory a b =
@@ -323,14 +330,14 @@ append_nil [] = refl
 append_nil (x ∷ entries) = ap (λ l. x ∷ l) (append_nil entries)
 
 -- a command ended so far
-pub ended_stops : (old new : Core) (client : ℕ) (fault : CoreFault) → StopsAfter client (SoEnded client) old fault new → ReadFault old client fault new
-ended_stops old new client faults.NoMemory a = (goes_as old new (SoEnded client) (SoFar client) (λ entries h. ([], entries, inl refl, h, append_nil entries)) a.0, a.1)
-ended_stops old new client faults.TooManyClients a = absurd a
-ended_stops old new client faults.NoClient a = absurd a
-ended_stops old new client faults.InputFull a = absurd a
-ended_stops old new client faults.UnderWay a = absurd a
-ended_stops old new client faults.NoTicket a = absurd a
-ended_stops old new client faults.Spent a = absurd a
+pub ended_stops : (old new : Core) (client : ℕ) (fault : CoreFault) → StopsAfter client (SoEnded client) old fault new → line.others client new.lines ≡ line.others client old.lines → ReadFault old client fault new
+ended_stops old new client faults.NoMemory a kept = (goes_as old new (SoEnded client) (SoFar client) (λ entries h. ([], entries, inl refl, h, append_nil entries)) a.0, a.1, kept)
+ended_stops old new client faults.TooManyClients a kept = absurd a
+ended_stops old new client faults.NoClient a kept = absurd a
+ended_stops old new client faults.InputFull a kept = absurd a
+ended_stops old new client faults.UnderWay a kept = absurd a
+ended_stops old new client faults.NoTicket a kept = absurd a
+ended_stops old new client faults.Spent a kept = absurd a
 
 -- nothing happened so far
 pub first_ended : (old new : Core) (client : ℕ) (fault : CoreFault) → StopsFirst client old fault new → StopsAfter client (SoEnded client) old fault new
@@ -342,21 +349,22 @@ first_ended old new client faults.UnderWay a = absurd a
 first_ended old new client faults.NoTicket a = absurd a
 first_ended old new client faults.Spent a = absurd a
 
-pub first_stops : (old new : Core) (client : ℕ) (fault : CoreFault) → StopsFirst client old fault new → ReadFault old client fault new
-first_stops old new client fault a = ended_stops old new client fault (first_ended old new client fault a)
+pub first_stops : (old new : Core) (client : ℕ) (fault : CoreFault) → StopsFirst client old fault new → line.others client new.lines ≡ line.others client old.lines → ReadFault old client fault new
+first_stops old new client fault a kept = ended_stops old new client fault (first_ended old new client fault a) kept
 
 -- a command began before it
-pub begun_stops : (old mid new : Core) (client : ℕ) (ask : Ask) (fault : CoreFault) → BeginsAt old client ask mid → StopsAfter client (SoEnded client) mid fault new → ReadFault old client fault new
-begun_stops old mid new client ask faults.NoMemory a b = (
+pub begun_stops : (old mid new : Core) (client : ℕ) (ask : Ask) (fault : CoreFault) → BeginsAt old client ask mid → StopsAfter client (SoEnded client) mid fault new → StandsStill mid new → ReadFault old client fault new
+begun_stops old mid new client ask faults.NoMemory a b still = (
   goes_as old new (Then (HasBegun client mid.number ask) (SoEnded client)) (SoFar client) (λ entries h. (h.0, h.1, inr (mid.number, ask, h.2), h.3, h.4)) (goes_then old mid new (HasBegun client mid.number ask) (SoEnded client) a.goes b.0),
   b.1,
+  ap (line.others client) (still.1 ∙ a.lines) ∙ others_again client old.lines,
 )
-begun_stops old mid new client ask faults.TooManyClients a b = absurd b
-begun_stops old mid new client ask faults.NoClient a b = absurd b
-begun_stops old mid new client ask faults.InputFull a b = absurd b
-begun_stops old mid new client ask faults.UnderWay a b = absurd b
-begun_stops old mid new client ask faults.NoTicket a b = absurd b
-begun_stops old mid new client ask faults.Spent a b = absurd b
+begun_stops old mid new client ask faults.TooManyClients a b still = absurd b
+begun_stops old mid new client ask faults.NoClient a b still = absurd b
+begun_stops old mid new client ask faults.InputFull a b still = absurd b
+begun_stops old mid new client ask faults.UnderWay a b still = absurd b
+begun_stops old mid new client ask faults.NoTicket a b still = absurd b
+begun_stops old mid new client ask faults.Spent a b still = absurd b
 
 -- what holds after a command went on holds after the answer
 pub why_of : (old new : Core) (client : ℕ) (poll : Poll) → IsActed client poll new → IsWhy old client poll new
@@ -370,19 +378,20 @@ why_of old new client (polls.Did note) h = h
 
 -- the same answer, where nothing began before it
 pub acts_polls : (old new : Core) (client : ℕ) (poll : Poll) → Acts old client poll new → Polls old client poll new
-acts_polls old new client poll a = record { goes = polled_as old new client poll a.goes; why = why_of old new client poll a.why }
+acts_polls old new client poll a = record { goes = polled_as old new client poll a.goes; why = why_of old new client poll a.why; order = inl a.still }
   where
     polled_as : (old new : Core) (client : ℕ) (poll : Poll) → GoesBy old (IsPolled client poll) new → GoesBy old (Then (Perhaps (BeginsBelow old client)) (IsPolled client poll)) new
     polled_as old new client poll g =
         goes_as old new (Then IsNothing (IsPolled client poll)) (Then (Perhaps (BeginsBelow old client)) (IsPolled client poll)) (λ entries h. (h.0, h.1, inl h.2, h.3, h.4)) (goes_then old old new IsNothing (IsPolled client poll) (goes_nowhere old) g)
 
 -- and where a command did
-pub begun_polls : (old mid new : Core) (client : ℕ) (ask : Ask) (poll : Poll) → IsBelowDepth old client → BeginsAt old client ask mid → Acts mid client poll new → Polls old client poll new
-begun_polls old mid new client ask poll below a b =
+pub begun_polls : (old mid new : Core) (client : ℕ) (ask : Ask) (poll : Poll) → IsBelowDepth old client → IsNextAsk old client ask false → bars old ask ≡ false → stands_before old client ask ≡ false → BeginsAt old client ask mid → Acts mid client poll new → Polls old client poll new
+begun_polls old mid new client ask poll below next free first a b =
     record {
       goes = goes_as old new (Then (HasBegun client mid.number ask) (IsPolled client poll)) (Then (Perhaps (BeginsBelow old client)) (IsPolled client poll)) (λ entries h. (h.0, h.1, inr (below, (mid.number, ask, h.2)), h.3, h.4))
           (goes_then old mid new (HasBegun client mid.number ask) (IsPolled client poll) a.goes b.goes);
       why = why_of old new client poll b.why;
+      order = inr (inl (record { ask = ask; next = next; free = free; first = first; number = b.still.0 ∙ a.number; lines = b.still.1 ∙ a.lines }));
     }
 
 -- what happened, where nobody asks for the depth
@@ -397,7 +406,12 @@ polls_goes old new client poll polled =
 -- an answer by which nothing happened
 pub nothing_polls : (old : Core) (client : ℕ) (poll : Poll) → ((entries : List (Entry dialect)) → IsNothing entries → IsPolled client poll entries) → IsWhy old client poll old → Polls old client poll old
 nothing_polls old client poll f why =
-    record { goes = goes_as old old IsNothing (Then (Perhaps (BeginsBelow old client)) (IsPolled client poll)) (λ entries e. ([], [], inl refl, f [] refl, e)) (goes_nowhere old); why = why }
+    record { goes = goes_as old old IsNothing (Then (Perhaps (BeginsBelow old client)) (IsPolled client poll)) (λ entries e. ([], [], inl refl, f [] refl, e)) (goes_nowhere old); why = why; order = inl (refl, refl) }
+
+-- or nothing but that the client stands in the line of its key
+pub line_polls : (old new : Core) (client : ℕ) → GoesBy old IsNothing new → StandsInLine old client new → MayAsk old client → NoneGoesOn new client → Polls old client polls.Busy new
+line_polls old new client goes stands may held =
+    record { goes = goes_as old new IsNothing (Then (Perhaps (BeginsBelow old client)) (IsPolled client polls.Busy)) (λ entries e. ([], [], inl refl, refl, e)) goes; why = (held, inr (inr stands, may)); order = inr (inr stands) }
 
 -- what holds of a client gives what else holds of it
 pub for_map : (core : Core) (client : ℕ) (P Q : Client → Type 0) → ((x : Client) → P x → Q x) → ForClient core client P → ForClient core client Q
@@ -431,6 +445,7 @@ pub refused : (old mid new : Core) (client : ℕ) (drops : DropsAll mid client n
 refused old mid new client d a =
     record {
       numbers = d.numbers;
+      lines = d.lines ∙ a.2;
       goes = goes_then old mid new (SoFar client) (λ entries. entries ≡ freed d.numbers ++ Drops client ∷ []) a.0 d.goes;
       gone = d.gone;
       dropped = d.dropped;

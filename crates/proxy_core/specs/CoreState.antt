@@ -27,6 +27,7 @@ use Rattle.proxy_core.specs.declared.command.Command.{Command}
 use Rattle.proxy_core.specs.declared.limits.Limits.{Limits}
 use Rattle.proxy_core.specs.declared.limits.Sharing.{Sharing}
 use Rattle.proxy_core.specs.Claims.{claim_by, bars_by}
+use Rattle.proxy_core.specs.Lines.{others}
 use Rattle.proxy_core.specs.declared.proxy.Core.{Core}
 pub use Rattle.proxy_core.specs.Out.{is_call, has_call_out}
 
@@ -174,6 +175,7 @@ nothing_beside at opening = record { at = at; queue = λ c. []; out = λ s. []; 
 pub record IsFresh (tree : Route) (limits : Limits) (core : Core) : Type 0 where
   pub clients : (c : ℕ) → client_at core c ≡ None
   pub commands : (n : ℕ) → command_at core n ≡ None
+  pub lines : core.lines ≡ []
   pub limits_are : core.limits ≡ limits
   pub tree_is : core.tree ≡ tree
   pub number : core.number ≡ 0
@@ -222,9 +224,13 @@ Feeds old client bytes new = FeedsOpen (dropped_by (client_at old client)) old c
 abbrev pub Gives : Core → ℕ → List ℕ → Core → Type 0
 Gives old client bytes new = (bytes ≡ output_by (client_at old client)) × GoesByOne old (log.Gives client bytes) new
 
--- its place is free
+-- its place is free, and it stands in no line of a key
 abbrev pub Closes : Core → ℕ → Core → Type 0
-Closes old client new = (client_at new client ≡ None) × GoesByOne old (Resets client) new
+Closes old client new = (client_at new client ≡ None) × GoesByOne old (Resets client) new × (new.lines ≡ others client old.lines)
+
+-- the client stands in no line of a key, and nothing else changes
+abbrev pub LeavesLine : Core → ℕ → Core → Type 0
+LeavesLine old client new = (new ≡ record old { lines = others client old.lines }) × GoesBy old (λ entries. entries ≡ []) new
 
 -- these are the plain trees of what has begun, and after that of this tree
 pub record IsTakenOver (old : Core) (tree : Route) (beside : Beside) (at : ℕ → List ℕ → Plan) : Type 0 where

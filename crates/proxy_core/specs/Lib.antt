@@ -1,5 +1,6 @@
 pub mod Out
 pub mod Claims
+pub mod Lines
 pub mod Counts
 pub mod Clients
 pub mod CoreState

@@ -30,7 +30,9 @@ use Rattle.proxy_core.specs.declared.ticket.Ticket.{Ticket}
 use Rattle.proxy_core.specs.CoreState.{dialect, Message, client_at, command_at, output_by, dropped_by, GoesBy}
 use Rattle.proxy_core.specs.Fronts.{AsksNone, told_of, IsAskAt}
 use Rattle.route_tree.specs.At.{tree_at}
+use Rattle.proxy_core.specs.declared.claim.Claim.{Claim}
 use Rattle.proxy_core.specs.Claims.{claim_by, is_barred, has_own}
+use Rattle.proxy_core.specs.Lines.{is_behind, others, joined}
 use Rattle.proxy_core.specs.Heads.{HasNoReply}
 use Rattle.proxy_core.specs.Ready.{IsIdle, IsTurn}
 use Rattle.proxy_core.specs.Resting.{AreHeldUp, HasCommand, IsLater}
@@ -100,9 +102,10 @@ pub record IsAtLast (core : Core) (client : ℕ) : Type 0 where
   pub served : ForClient core client IsServed
   pub some : ForClient core client HasCommand
 
--- it has the next number
+-- it has the next number, and its client stands in no line of a key
 pub record BeginsAt (old : Core) (client : ℕ) (ask : Ask) (new : Core) : Type 0 where
   pub number : new.number ≡ old.number + 1
+  pub lines : new.lines ≡ others client old.lines
   pub last : IsAtLast new client
   pub goes : GoesBy old (HasBegun client new.number ask) new
 
@@ -174,11 +177,53 @@ IsPolled client (polls.Did note) = Then (IsEnded client note) (AreShown client)
 abbrev pub IsDone : Client → Type 0
 IsDone x = (x.dropped ≡ true) ⊎ ((x.queue.items ≡ []) × IsStuck dialect x.stream)
 
--- the client's next command waits for its key: one of the client's own there has no reply, or one under way stands in its way
-abbrev pub HasNoKey : Core → ℕ → Type 0
-HasNoKey core client =
-    (request : Request) × (ask : Ask)
-    × ForClient core client (λ x. IsAskAt x request ask × ((has_own ask.key x.queue.items ≡ true) ⊎ (is_barred ask.key (claim_by core.limits.sharing ask.op (tree_at core.tree ask.key)) core.commands ≡ true)))
+-- what a command of this ask claims of its key where it begins now
+abbrev pub claim_of : Core → Ask → Claim
+claim_of core ask = claim_by core.limits.sharing ask.op (tree_at core.tree ask.key)
+
+-- one under way bars it
+abbrev pub bars : Core → Ask → Bool
+bars core ask = is_barred ask.key (claim_of core ask) core.commands
+
+-- somebody stands before its client in the line of its key, whose claim is in the way
+abbrev pub stands_before : Core → ℕ → Ask → Bool
+stands_before core client ask = is_behind client ask.key (claim_of core ask) core.lines
+
+-- this ask is the client's next, and one of the client's own on its key has no reply, or none has
+abbrev pub IsNextAsk : Core → ℕ → Ask → Bool → Type 0
+IsNextAsk core client ask own = (request : Request) × ForClient core client (λ x. IsAskAt x request ask × (has_own ask.key x.queue.items ≡ own))
+
+-- the client's next command waits for one of the client's own on its key, and all is as it was
+abbrev pub WaitsForOwn : Core → ℕ → Core → Type 0
+WaitsForOwn old client new = (new ≡ old) × ((ask : Ask) × IsNextAsk old client ask true)
+
+-- it waits in the line of its key: one under way bars it, or a client stands before it there whose claim is in the way. Where it stood there it keeps its place, else it came to the end; nothing else changes
+pub record StandsInLine (old : Core) (client : ℕ) (new : Core) : Type 0 where
+  pub ask : Ask
+  pub next : IsNextAsk old client ask false
+  pub waits : (bars old ask ≡ true) ⊎ (stands_before old client ask ≡ true)
+  pub core_is : new ≡ record old { lines = joined (record { claim = claim_of old ask; client = client; key = ask.key }) old.lines }
+
+-- it waits for its key
+abbrev pub HasNoKey : Core → ℕ → Core → Type 0
+HasNoKey old client new = WaitsForOwn old client new ⊎ StandsInLine old client new
+
+-- its next command began: none under way bars it, and nobody stands before it in the line of its key whose claim is in the way. It stands in no line any more
+pub record BeginsInTurn (old : Core) (client : ℕ) (new : Core) : Type 0 where
+  pub ask : Ask
+  pub next : IsNextAsk old client ask false
+  pub free : bars old ask ≡ false
+  pub first : stands_before old client ask ≡ false
+  pub number : new.number ≡ old.number + 1
+  pub lines : new.lines ≡ others client old.lines
+
+-- no command began, and who waits stands where it stood
+abbrev pub StandsStill : Core → Core → Type 0
+StandsStill old new = (new.number ≡ old.number) × (new.lines ≡ old.lines)
+
+-- a command begins in its turn alone. Where none does, everybody stands where it stood, but for a client that comes to stand in a line
+abbrev pub KeepsOrder : Core → ℕ → Core → Type 0
+KeepsOrder old client new = StandsStill old new ⊎ (BeginsInTurn old client new ⊎ StandsInLine old client new)
 
 -- a command of the client waits for its server, which has as many calls out as it may have
 abbrev pub HasNoRoom : Core → ℕ → Type 0
@@ -196,9 +241,9 @@ NothingBegins core client = ForClient core client (IsLater core.limits.depth)
 abbrev pub MayAsk : Core → ℕ → Type 0
 MayAsk core client = (request : Request) × ForClient core client (CanAskBelow core.limits.depth request)
 
--- a command of the client waits for its server: it began just now, or nothing at the front can be done. Or its next command waits for its key
+-- a command of the client waits for its server: it began just now, or nothing at the front can be done. Or its next command waits for its key; where nothing that it waits for is there, it begins
 abbrev pub IsBusy : Core → ℕ → Core → Type 0
-IsBusy old client new = (HasNoRoom new client × (ForClient new client HasCommand ⊎ ((new ≡ old) × NothingBegins old client))) ⊎ ((new ≡ old) × HasNoKey old client × MayAsk old client)
+IsBusy old client new = (HasNoRoom new client × (ForClient new client HasCommand ⊎ ((new ≡ old) × NothingBegins old client))) ⊎ (HasNoKey old client new × MayAsk old client)
 
 -- what holds after an answer: why nothing can be done, or that no reply is left to be shown
 abbrev pub IsWhy : Core → ℕ → Poll → Core → Type 0
@@ -224,10 +269,12 @@ IsActed client (polls.Did note) new = IsShown new client
 pub record Acts (old : Core) (client : ℕ) (poll : Poll) (new : Core) : Type 0 where
   pub goes : GoesBy old (IsPolled client poll) new
   pub why : IsActed client poll new
+  pub still : StandsStill old new
 
 pub record Polls (old : Core) (client : ℕ) (poll : Poll) (new : Core) : Type 0 where
   pub goes : GoesBy old (Then (Perhaps (BeginsBelow old client)) (IsPolled client poll)) new
   pub why : IsWhy old client poll new
+  pub order : KeepsOrder old client new
 
 -- a command ended, perhaps, and replies were shown
 abbrev pub SoEnded : ℕ → List (Entry dialect) → Type 0
@@ -237,8 +284,9 @@ SoEnded client = Then (Perhaps (EndsOne client)) (AreShown client)
 abbrev pub SoFar : ℕ → List (Entry dialect) → Type 0
 SoFar client = Then (Perhaps (BeginsOne client)) (SoEnded client)
 
--- nothing is done for the client any more
+-- nothing is done for the client any more, which stands in no line of a key
 pub record DropsOne (old : Core) (client : ℕ) (new : Core) : Type 0 where
+  pub lines : new.lines ≡ others client old.lines
   pub goes : GoesBy old (λ entries. entries ≡ Drops client ∷ []) new
   pub dropped : dropped_by (client_at new client) ≡ true
   pub output : (c : ℕ) → output_by (client_at new c) ≡ output_by (client_at old c)
@@ -246,14 +294,16 @@ pub record DropsOne (old : Core) (client : ℕ) (new : Core) : Type 0 where
 -- nothing is done for the client any more, whose output stays, and those of its commands of which no call is out are broken off
 pub record DropsAll (old : Core) (client : ℕ) (new : Core) : Type 0 where
   pub numbers : List ℕ
+  pub lines : new.lines ≡ others client old.lines
   pub goes : GoesBy old (λ entries. entries ≡ freed numbers ++ Drops client ∷ []) new
   pub gone : HasNoIdle new client
   pub dropped : dropped_by (client_at new client) ≡ true
   pub output : (c : ℕ) → output_by (client_at new c) ≡ output_by (client_at old c)
 
--- memory was refused after some of it, and the client is dropped
+-- memory was refused after some of it, and the client is dropped and stands in no line of a key
 pub record StopsAt (old : Core) (client : ℕ) (new : Core) : Type 0 where
   pub numbers : List ℕ
+  pub lines : new.lines ≡ others client old.lines
   pub goes : GoesBy old (Then (SoFar client) (λ entries. entries ≡ freed numbers ++ Drops client ∷ [])) new
   pub gone : HasNoIdle new client
   pub dropped : dropped_by (client_at new client) ≡ true
@@ -269,7 +319,7 @@ PollFault old client faults.NoTicket new = ⊥
 
 -- the same before the client is dropped
 abbrev pub ReadFault : Core → ℕ → CoreFault → Core → Type 0
-ReadFault old client faults.NoMemory new = GoesBy old (SoFar client) new × ForClient new client IsServed
+ReadFault old client faults.NoMemory new = GoesBy old (SoFar client) new × ForClient new client IsServed × (others client new.lines ≡ others client old.lines)
 ReadFault old client faults.Spent new = (old.number ≡ 18446744073709551615) × (new ≡ old)
 ReadFault old client faults.NoClient new = ⊥
 ReadFault old client faults.TooManyClients new = ⊥

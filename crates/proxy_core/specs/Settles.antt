@@ -21,6 +21,7 @@ use Rattle.proxy_core.specs.declared.proxy.Core.{Core}
 use Rattle.proxy_core.specs.CoreState.{dialect, bars_of, client_at, command_at, Beside, output_by, dropped_by, owner_by, state_of, has_call_out, Fits, IsBeside, GoesBy}
 use Rattle.proxy_core.specs.Steps.{event_of, settled}
 use Rattle.proxy_core.specs.Ending.{Drops}
+use Rattle.proxy_core.specs.Lines as line
 
 -- a command took the outcome of its call, which is out no more
 pub record TakesOutcome (a : Command) (outcome : Outcome) (b : Command) : Type 0 where
@@ -63,6 +64,7 @@ pub record Settles (old : Core) (number : ℕ) (outcome : Outcome) (new : Core) 
   pub idle : HasNoCall new number
   pub others : (n : ℕ) → nat_eq number n ≡ false → command_at new n ≡ command_at old n
   pub clients : (c : ℕ) → client_at new c ≡ client_at old c
+  pub lines : new.lines ≡ old.lines
 
 -- it is this client's, and no call of it is out
 abbrev pub is_idle : ℕ → Command → Bool
@@ -98,6 +100,7 @@ pub record FreesSome (old : Core) (client : ℕ) (new : Core) : Type 0 where
   pub tree : new.tree ≡ old.tree
   pub limits : new.limits ≡ old.limits
   pub number : new.number ≡ old.number
+  pub lines : new.lines ≡ old.lines
 
 -- all of them
 abbrev pub FreesIdle : Core → ℕ → Core → Type 0
@@ -108,7 +111,7 @@ abbrev pub DropsBy : Option Client → Option Client → Type 0
 DropsBy None now = now ≡ None
 DropsBy (Some x) now = (y : Client) × (now ≡ Some y) × Drops x y
 
--- a command was taken out, and nothing is done for its client any more
+-- a command was taken out, and nothing is done for its client any more, which stands in no line of a key
 pub record TakesOut (old : Core) (number client : ℕ) (new : Core) : Type 0 where
   pub commands : (n : ℕ) → command_at new n ≡ (if nat_eq number n then None else command_at old n)
   pub client_is : DropsBy (client_at old client) (client_at new client)
@@ -116,8 +119,9 @@ pub record TakesOut (old : Core) (number client : ℕ) (new : Core) : Type 0 whe
   pub tree : new.tree ≡ old.tree
   pub limits : new.limits ≡ old.limits
   pub number_is : new.number ≡ old.number
+  pub lines : new.lines ≡ line.others client old.lines
 
--- memory was refused: the command of this number has the result of its call all the same, nothing is done for its client any more, which keeps its output, and its commands of which no call is out are broken off
+-- memory was refused: the command of this number has the result of its call all the same, nothing is done for its client any more, which keeps its output and stands in no line of a key, and its commands of which no call is out are broken off
 pub record Breaks (old : Core) (number : ℕ) (outcome : Outcome) (new : Core) : Type 0 where
   pub command : Command
   pub was : command_at old number ≡ Some command
@@ -127,6 +131,7 @@ pub record Breaks (old : Core) (number : ℕ) (outcome : Outcome) (new : Core) :
   pub goes : SettlesBy old number command outcome (λ more. more ≡ freed numbers ++ log.Frees number ∷ log.Drops command.client ∷ []) new
   pub gone : HasNoIdle new command.client
   pub output : (c : ℕ) → output_by (client_at new c) ≡ output_by (client_at old c)
+  pub lines : new.lines ≡ line.others command.client old.lines
 
 abbrev pub SettleFault : Core → ℕ → Outcome → CoreFault → Core → Type 0
 SettleFault old number outcome faults.NoTicket new = HasNoCall old number × (new ≡ old)

@@ -25,7 +25,7 @@ use Rattle.proxy_core.specs.declared.proxy.Core.{Core}
 use Rattle.proxy_core.specs.Claims.{claim_by, is_barred, has_own}
 use Rattle.proxy_core.specs.CoreState.{dialect, Message, bars_of, client_at, command_at, Beside, front_by, owner_by, state_of, IsSlot, Fits, GoesBy, GoesByOne}
 
--- one client's place changed, and nothing else of the core but the room for clients
+-- one client's place changed, and nothing else of the core but the room for clients and the lines of keys
 pub record Turns (old new : Core) (client : ℕ) (a b : Option Client) : Type 0 where
   pub was : client_at old client ≡ a
   pub is : client_at new client ≡ b

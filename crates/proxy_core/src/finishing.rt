@@ -4,7 +4,7 @@ ghost use Rattle.std.specs.Prelude.{◌≡◌, ◌↔◌, [], IsTrue, None, fals
 ghost use Rattle.route_job.specs.Given.{given_of};
 ghost use Rattle.route_job.specs.Jobs.{Comes, IsDone};
 ghost use Rattle.proxy_core.specs.CoreState.{GoesBy};
-ghost use Rattle.proxy_core.specs.Polls.{ForClient, IsServed, IsEnded, AreShown, IsShown, ShowsNext, StopsFirst, StopsAfter};
+ghost use Rattle.proxy_core.specs.Polls.{ForClient, IsServed, IsEnded, AreShown, IsShown, ShowsNext, StandsStill, StopsFirst, StopsAfter};
 ghost use Rattle.proxy_core.specs.Finishing.{CanEnd, IsNote};
 
 use crate::command::Command;
@@ -54,6 +54,7 @@ impl Core {
         requires done { CanEnd self.old client number }
         ensures ended { GoesBy self.old (IsEnded client result) self.new }
         ensures served { ForClient self.new client IsServed }
+        ensures still { StandsStill self.old self.new }
     {
         let Some(command) = self.commands.remove(number) else {
             unreachable!();
@@ -72,6 +73,7 @@ impl Core {
         requires { ForClient self.old client IsServed }
         ensures ok { IfOk result (λ shown. ShowsNext self.old client shown self.new) }
         ensures err { IfErr result (λ fault. StopsFirst client self.old fault self.new) }
+        ensures still { StandsStill self.old self.new }
     {
         match self.clients.get_mut(client) {
             None => unreachable!(),
@@ -88,6 +90,7 @@ impl Core {
         ensures ok { OnOk result (GoesBy self.old (AreShown client) self.new) }
         ensures shown { OnOk result (IsShown self.new client) }
         ensures err { IfErr result (λ fault. StopsAfter client (AreShown client) self.old fault self.new) }
+        ensures still { StandsStill self.old self.new }
     {
         while self.show_next(client)? {}
         Ok(())

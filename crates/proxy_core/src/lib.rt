@@ -13,6 +13,7 @@ pub mod finishing;
 pub mod freeing;
 pub mod heads;
 pub mod held_job;
+pub mod key_lines;
 pub mod laws;
 pub mod limits;
 pub mod looking;

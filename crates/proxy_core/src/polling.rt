@@ -1,6 +1,6 @@
 //! What can be done next for a client.
 
-ghost use Rattle.std.specs.Prelude.{◌≡◌, ◌<◌, true, false, OnOk, IfOk, IfErr, IfSome, IfNone};
+ghost use Rattle.std.specs.Prelude.{◌≡◌, ◌<◌, ◌⊎◌, true, false, OnOk, OnErr, IfOk, IfErr, IfSome, IfNone};
 ghost use Rattle.mc_types.specs.Asks.{IsAsk};
 ghost use Rattle.route_tree.specs.Route.{IsTree};
 ghost use Rattle.proxy_core.specs.CoreState.{GoesBy};
@@ -9,7 +9,7 @@ ghost use Rattle.proxy_core.specs.Claims.{claim_by, is_barred, has_own};
 ghost use Rattle.proxy_core.specs.Begun.{IsBegun};
 ghost use Rattle.proxy_core.specs.Ready.{IsTurn};
 ghost use Rattle.proxy_core.specs.Finishing.{CanEnd};
-ghost use Rattle.proxy_core.specs.Polls.{ForClient, IsPassing, IsPassed, StopsFirst, CanBegin, BeginsAt, CanSend, IsSent, IsServed, CanAskBelow, DropsOne, DropsAll, Acts, SoEnded, StopsAfter, CanAsk, IsAtLast, NoneGoesOn, NothingBegins, Polls, ReadFault, PollFault};
+ghost use Rattle.proxy_core.specs.Polls.{ForClient, IsPassing, IsPassed, StopsFirst, CanBegin, BeginsAt, CanSend, IsSent, IsServed, CanAskBelow, DropsOne, DropsAll, Acts, SoEnded, StopsAfter, CanAsk, IsAtLast, NoneGoesOn, NothingBegins, MayAsk, IsNextAsk, bars, stands_before, claim_of, StandsStill, Polls, ReadFault, PollFault};
 ghost use Rattle.proxy_core.specs.declared.fault.CoreFault.TheVariants.{NoMemory};
 ghost use Rattle.proxy_core.specs.Nexts.{IsNextOf};
 ghost use Rattle.proxy_core.specs.Resting.{goes_on, IsReady};
@@ -35,6 +35,7 @@ impl Core {
         requires { ForClient self.old client (IsPassing read) }
         ensures ok { IfOk result (λ passed. GoesBy self.old (IsPassed client passed) self.new) }
         ensures err { IfErr result (λ fault. StopsFirst client self.old fault self.new) }
+        ensures still { StandsStill self.old self.new }
     {
         match self.clients.get_mut(client) {
             None => unreachable!(),
@@ -45,7 +46,7 @@ impl Core {
         }
     }
 
-    // The next key of the request at the client's front begins as this command.
+    // The next key of the request at the client's front begins as this command, and the client leaves the line of its key.
     fn begin_command(
         &mut self,
         client: usize,
@@ -63,6 +64,7 @@ impl Core {
         requires tree { IsTree self.old.tree }
         ensures ok { OnOk result (BeginsAt self.old client ask self.new) }
         ensures err { IfErr result (λ fault. StopsFirst client self.old fault self.new) }
+        ensures kept { OnErr result (self.new.lines ≡ self.old.lines) }
     {
         if self.commands.make_room().is_err() {
             drop_command(command);
@@ -79,6 +81,7 @@ impl Core {
             return Err(CoreFault::NoMemory);
         }
         self.commands.put(number, command);
+        self.lines.leave(client);
         self.number = number;
         Ok(())
     }
@@ -99,6 +102,7 @@ impl Core {
         requires number { self.old.number < 18446744073709551615 }
         ensures ok { OnOk result (BeginsAt self.old client ask self.new) }
         ensures err { IfErr result (λ fault. StopsFirst client self.old fault self.new) }
+        ensures kept { OnErr result (self.new.lines ≡ self.old.lines) }
     {
         match command_of(self.alloc, &self.tree, client, &ask, claim) {
             Ok(command) => self.begin_command(client, request, ask, command),
@@ -116,6 +120,7 @@ impl Core {
         ensures number { IfOk result (λ ticket. ticket.number ≡ number) }
         ensures ok { IfOk result (λ ticket. GoesBy self.old (IsSent ticket) self.new) }
         ensures err { IfErr result (λ fault. StopsFirst client self.old fault self.new) }
+        ensures still { StandsStill self.old self.new }
     {
         match self.commands.send(self.alloc, number) {
             Ok(ticket) => Ok(ticket),
@@ -123,11 +128,12 @@ impl Core {
         }
     }
 
-    // Nothing is done for the client any more.
+    // Nothing is done for the client any more, which leaves its line.
     fn drop_one(&mut self, client: usize)
         requires { ForClient self.old client IsServed }
         ensures { DropsOne self.old client self.new }
     {
+        self.lines.leave(client);
         match self.clients.get_mut(client) {
             None => unreachable!(),
             Some(x) => x.dropped = true,
@@ -149,6 +155,7 @@ impl Core {
         requires done { CanEnd self.old client number }
         ensures ok { IfOk result (λ poll. Acts self.old client poll self.new) }
         ensures err { IfErr result (λ fault. StopsAfter client (SoEnded client) self.old fault self.new) }
+        ensures still { StandsStill self.old self.new }
     {
         let note = self.end(client, number);
         match self.show_all(client) {
@@ -164,6 +171,7 @@ impl Core {
         requires goes_on { goes_on turn ≡ true }
         ensures ok { IfOk result (λ poll. Acts self.old client poll self.new) }
         ensures err { IfErr result (λ fault. StopsAfter client (SoEnded client) self.old fault self.new) }
+        ensures still { StandsStill self.old self.new }
     {
         match turn {
             Turn::Sends => match self.send(client, number) {
@@ -181,6 +189,7 @@ impl Core {
         requires { IsAtLast self.old client }
         ensures ok { IfOk result (λ poll. Acts self.old client poll self.new) }
         ensures err { IfErr result (λ fault. StopsAfter client (SoEnded client) self.old fault self.new) }
+        ensures still { StandsStill self.old self.new }
     {
         let turn = turn_of(client, self.limits.window, self.number, &self.commands);
         if turn.goes_on() {
@@ -219,6 +228,29 @@ impl Core {
         }
     }
 
+    // The client's next command waits for its key: the client stands in its line, at the end if it didn't stand there.
+    fn wait_in_line(
+        &mut self,
+        client: usize,
+        ask: SharedAsk,
+        claim: Claim,
+    ) -> Result<Poll, CoreFault>
+        requires next { IsNextAsk self.old client ask false }
+        requires claim_is { claim ≡ claim_of self.old ask }
+        requires waits { (bars self.old ask ≡ true) ⊎ (stands_before self.old client ask ≡ true) }
+        requires may { MayAsk self.old client }
+        requires held { NoneGoesOn self.old client }
+        ensures ok { IfOk result (λ poll. Polls self.old client poll self.new) }
+        ensures err { IfErr result (λ fault. ReadFault self.old client fault self.new) }
+    {
+        let joined = self.lines.join(client, ask.key(), claim);
+        drop_ask(ask);
+        match joined {
+            Ok(()) => Ok(Poll::Busy),
+            Err(_) => Err(CoreFault::NoMemory),
+        }
+    }
+
     // The next key of the request at the client's front begins, and goes on as it can.
     fn begin_next(&mut self, client: usize, request: &Request) -> Result<Poll, CoreFault>
         requires asks { ForClient self.old client (CanAskBelow self.old.limits.depth request.now) }
@@ -236,8 +268,10 @@ impl Core {
         }
         let claim = Claim::of(self.limits.sharing, ask.get(), &self.tree);
         if self.commands.is_barred(ask.key(), claim) {
-            drop_ask(ask);
-            return Ok(Poll::Busy);
+            return self.wait_in_line(client, ask, claim);
+        }
+        if self.lines.is_behind(client, ask.key(), claim) {
+            return self.wait_in_line(client, ask, claim);
         }
         if self.number == 18_446_744_073_709_551_615 {
             drop_ask(ask);
@@ -340,15 +374,20 @@ impl Core {
 
     /// The next thing that can be done for a client: a command of it goes on, its next command begins, or a message that asks
     /// no server is answered. A command begins where no command of its client on its key is without a reply, where none under way
-    /// stands in the way of what it claims of its key, and where fewer commands of its client than the depth have no shown reply.
+    /// stands in the way of what it claims of its key, where no client whose claim is in the way stands before its own in the line
+    /// of its key, and where fewer commands of its client than the depth have no shown reply.
+    ///
+    /// A client whose next command waits for its key stands in the line of that key until the command begins, or the client is
+    /// closed, dropped or leaves: it comes to the end, and is passed by nobody who comes after it. So a key that became free goes to
+    /// whoever came first, even if others are polled before. A client that waits for a command of its own comes to no line.
     ///
     /// Where it is `Waiting` or `Busy`, none of its commands that have no reply yet can go on: each has its call out, or waits
     /// for its server. Where it is `Waiting`, nothing at its front can be done either. After `Did` each reply that could be
     /// shown was.
     ///
     /// `NoClient`. `Spent` where the last number that there is was given out: the core is as it was. `NoMemory`: nothing is
-    /// done for the client any more, whose output so far is kept, and those of its commands of which no call is out are broken
-    /// off.
+    /// done for the client any more, whose output so far is kept, which stands in no line, and whose commands of which no call is out
+    /// are broken off.
     pub fn poll(&mut self, client: usize) -> Result<Poll, CoreFault>
         ensures ok { IfOk result (λ poll. Polls self.old client poll self.new) }
         ensures err { IfErr result (λ fault. PollFault self.old client fault self.new) }

@@ -2,12 +2,14 @@
 
 ghost use Rattle.slab.specs.Slab.{get};
 ghost use Rattle.std.specs.Prelude.{◌≡◌, ◌++◌, ◌↔◌, IsTrue, IfOk, IfErr, OnOk, OnErr};
-ghost use Rattle.proxy_core.specs.CoreState.{IsFresh, IsOut, Opens, Feeds, Gives, Closes, Reloads, client_at, output_by};
+ghost use Rattle.proxy_core.specs.CoreState.{IsFresh, IsOut, Opens, Feeds, Gives, Closes, LeavesLine, Reloads, client_at, output_by};
+ghost use Rattle.proxy_core.specs.Lines.{is_standing};
 ghost use Rattle.proxy_core.specs.Faults.{IsClosed, CanOpen, CanFeed, CanClose, OpenFault, FeedFault, OutputFault, CloseFault};
 
 use crate::client::Client;
 use crate::command_table::CommandTable;
 use crate::fault::{CoreFault, ReloadFault};
+use crate::key_lines::KeyLines;
 use crate::limits::Limits;
 use crate::looking::has_commands;
 use bytes::BytesMut;
@@ -21,6 +23,8 @@ pub struct Core {
     pub(crate) clients: Slab<Client>,
     /// The commands that have begun and have not ended, by number.
     pub(crate) commands: CommandTable,
+    /// The clients whose next command waits for its key.
+    pub(crate) lines: KeyLines,
     pub(crate) tree: Tree,
     /// The last number that was given to a command.
     pub(crate) number: u64,
@@ -38,6 +42,7 @@ impl Core {
         Core {
             clients: Slab::new(alloc),
             commands: CommandTable::new(alloc),
+            lines: KeyLines::new(alloc),
             tree,
             number: 0,
             limits,
@@ -52,6 +57,7 @@ impl Core {
     pub fn open_client(&mut self) -> Result<usize, CoreFault>
         ensures ok { IfOk result (λ client. CanOpen self.old × Opens self.old client self.new) }
         ensures err { IfErr result (λ fault. OpenFault self.old fault self.new) }
+        ensures lines { self.new.lines ≡ self.old.lines }
     {
         if self.limits.clients <= self.clients.len() {
             return Err(CoreFault::TooManyClients);
@@ -68,6 +74,7 @@ impl Core {
     pub fn feed(&mut self, client: usize, piece: &[u8]) -> Result<(), CoreFault>
         ensures ok { OnOk result (CanFeed self.old client piece.now × Feeds self.old client piece.now self.new) }
         ensures err { IfErr result (λ fault. FeedFault self.old client piece.now fault × (self.new ≡ self.old)) }
+        ensures lines { self.new.lines ≡ self.old.lines }
     {
         match self.clients.get_mut(client) {
             None => Err(CoreFault::NoClient),
@@ -83,6 +90,7 @@ impl Core {
         ensures ok { OnOk result (Gives self.old client (output_by (client_at self.old client)) self.new) }
         ensures err { IfErr result (λ fault. OutputFault self.old client fault × (self.new ≡ self.old)) }
         ensures out { OnErr result (out.new.items ≡ out.old.items) }
+        ensures lines { self.new.lines ≡ self.old.lines }
     {
         match self.clients.get_mut(client) {
             None => Err(CoreFault::NoClient),
@@ -99,6 +107,7 @@ impl Core {
     pub fn take_output(&mut self, client: usize) -> Result<Vec<u8>, CoreFault>
         ensures ok { IfOk result (λ bytes. Gives self.old client bytes.items self.new) }
         ensures err { IfErr result (λ fault. OutputFault self.old client fault × (self.new ≡ self.old)) }
+        ensures lines { self.new.lines ≡ self.old.lines }
     {
         match self.clients.get_mut(client) {
             None => Err(CoreFault::NoClient),
@@ -109,7 +118,7 @@ impl Core {
         }
     }
 
-    /// The client is gone, and with it what it sent and was not given.
+    /// The client is gone, and with it what it sent and was not given. It stands in no line of a key any more.
     ///
     /// `NoClient`; `UnderWay` where a command of it has begun and not ended.
     pub fn close(&mut self, client: usize) -> Result<(), CoreFault>
@@ -123,7 +132,19 @@ impl Core {
             return Err(CoreFault::UnderWay);
         }
         self.clients.remove(client);
+        self.lines.leave(client);
         Ok(())
+    }
+
+    /// The client leaves the line of the key that its next command waits for: whether it stood in one. It is for a client that won't be
+    /// polled for a while, so that nobody waits behind it; where it is polled again, it comes to the end. It takes no memory.
+    pub fn leave_line(&mut self, client: usize) -> bool
+        ensures stood { result ≡ is_standing client self.old.lines }
+        ensures left { LeavesLine self.old client self.new }
+    {
+        let stood = self.lines.is_standing(client);
+        self.lines.leave(client);
+        stood
     }
 
     /// Whether there is no client of this id, or nothing is read of it any more: after `quit`, after a line that was too

@@ -23,11 +23,12 @@ impl Core {
         }
     }
 
-    // A command whose client is dropped is taken out.
+    // A command is taken out whose client is dropped, and stands in no line of a key.
     fn take_out(&mut self, number: u64, client: usize)
         ensures { TakesOut self.old number client self.new }
     {
         remove(number, &mut self.commands);
+        self.lines.leave(client);
         if let Some(x) = self.clients.get_mut(client) {
             x.dropped = true;
         }
@@ -47,8 +48,8 @@ impl Core {
     /// for the command's client any more, it is broken off instead.
     ///
     /// `NoTicket` where no call of the ticket's number is out in this core, which is then as it was. `NoMemory`: the call had
-    /// its outcome all the same; nothing is done for the command's client any more, whose output so far is kept, and those of
-    /// its commands of which no call is out are broken off.
+    /// its outcome all the same; nothing is done for the command's client any more, whose output so far is kept, which stands in no
+    /// line of a key, and whose commands of which no call is out are broken off.
     pub fn settle(&mut self, ticket: Ticket, outcome: Outcome) -> Result<(), CoreFault>
         requires fits { FitsCall self.old ticket.number outcome }
         ensures ok { OnOk result (Settles self.old ticket.number outcome self.new) }

@@ -717,10 +717,18 @@ impl ProxyEnd {
         }
     }
 
+    // Nobody waits behind a client that isn't polled until it has taken what it was sent.
+    fn leave_line(&mut self, id: usize) {
+        if self.core.leave_line(id) {
+            self.is_freed = true;
+        }
+    }
+
     // What can be done for the client is done.
     fn poll_client<N: Net>(&mut self, net: &N, id: usize) -> io::Result<Rest> {
         for _ in 0..POLLS {
             if !self.may_go_on(id) {
+                self.leave_line(id);
                 return Ok(Rest::Full);
             }
             match self.core.poll(id) {

@@ -1,3 +1,5 @@
+use Rattle.std.proofs.Common.{ap}
+use Rattle.proxy_core.specs.Lines.{others}
 use Rattle.proxy_core.specs.Polls.{Acts, Polls, StopsAfter, SoEnded, ReadFault}
 use Rattle.proxy_core.proofs.Polls.{acts_polls, ended_stops, if_err, if_ok}
 use Rattle.proxy_core.proofs.proxy.Core.act_ready.Goals as goal
@@ -12,4 +14,4 @@ pub returns-clause-err : goal.returns-clause-err
 returns-clause-err c =
     let old = c.args.self.now in
     let new = c.act.new.self in
-    if_err c.act.result (λ fault. StopsAfter c.args.client (SoEnded c.args.client) old fault new) (λ fault. ReadFault old c.args.client fault new) (λ fault a. ended_stops old new c.args.client fault a) c.act.ensures.err
+    if_err c.act.result (λ fault. StopsAfter c.args.client (SoEnded c.args.client) old fault new) (λ fault. ReadFault old c.args.client fault new) (λ fault a. ended_stops old new c.args.client fault a (ap (others c.args.client) c.act.ensures.still.1)) c.act.ensures.err

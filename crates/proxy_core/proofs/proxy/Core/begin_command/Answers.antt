@@ -34,4 +34,4 @@ returns-clause-ok c =
     let can = of_client old c.args.client (CanBegin c.args.request.now c.args.ask) x (sym c.in-Some.ensures.value) c.requires.key in
     begun_goes old _ c.args.client x y c.args.ask c.args.command t.was t.is t.others can.served (of_client old c.args.client (λ (z : Client). has_own c.args.ask.key z.queue.items ≡ false) x (sym c.in-Some.ensures.value) c.requires.first) c.requires.apart c.requires.claim c.requires.well_formed c.requires.tree c.requires.begun
     (when_ok c.begin-begun.result _ (sym c.is_err-2.ensures.value ∙ c.if-is_err-2.false) c.begin-begun.ensures.ok)
-    (λ n. c.put.ensures n ∙ ap (λ o. cond (nat_eq (old.number + 1) n) (Some c.args.command) o) (ap (lookup (nat_eq n)) c.make_room.ensures.entries)) refl refl refl
+    (λ n. c.put.ensures n ∙ ap (λ o. cond (nat_eq (old.number + 1) n) (Some c.args.command) o) (ap (lookup (nat_eq n)) c.make_room.ensures.entries)) refl refl refl c.leave.ensures

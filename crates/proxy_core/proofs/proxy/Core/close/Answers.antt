@@ -16,5 +16,5 @@ returns-clause-ok c =
         tree = refl;
         limits = refl;
         number = refl;
-      }) (sym c.if-has_commands.ensures),
+      }) (sym c.if-has_commands.ensures) c.leave.ensures,
     )

@@ -16,6 +16,7 @@ returns c =
     let IsSecond : List (Entry dialect) → Type 0 = λ entries. entries ≡ freed f.numbers in
     record {
       numbers = f.numbers;
+      lines = f.lines ∙ d.lines;
       goes = goes_as old new (Then IsFirst IsSecond) (λ entries. entries ≡ freed f.numbers ++ Drops c.args.client ∷ []) (λ entries h. h.4 ∙ (λ i. h.3 i ++ h.2 i)) (goes_then old mid new IsFirst IsSecond d.goes (f.goes d.dropped));
       gone = c.free_idle.ensures.1;
       dropped = ap dropped_by (f.clients c.args.client) ∙ d.dropped;

@@ -17,8 +17,8 @@ returns-then-is_dropped-clause-ok c =
     let mid : Core = record old { commands = c.take.new.self } in
     let new : Core = record old { commands = c.remove.new.commands } in
     subst (λ n. Settles old n c.args.outcome new) c.into_number-number.ensures
-    (is_freed old mid number taken.before taken.after c.args.outcome taken.was (subst (λ (a : Command). has_call_out a ≡ true) same caller.2) (subst (λ n. FitsCall old n c.args.outcome) (sym c.into_number-number.ensures) c.requires.fits) taken.takes taken.replaces (λ d. refl) refl refl refl
-    (ap (λ (a : Command). dropped_by (client_at old a.client)) (sym same) ∙ ap (λ d. dropped_by (client_at old d)) (sym caller.3) ∙ sym c.if-is_dropped.ensures) new c.remove.ensures.gone (λ d. refl) refl refl refl)
+    (is_freed old mid number taken.before taken.after c.args.outcome taken.was (subst (λ (a : Command). has_call_out a ≡ true) same caller.2) (subst (λ n. FitsCall old n c.args.outcome) (sym c.into_number-number.ensures) c.requires.fits) taken.takes taken.replaces (λ d. refl) refl refl refl refl
+    (ap (λ (a : Command). dropped_by (client_at old a.client)) (sym same) ∙ ap (λ d. dropped_by (client_at old d)) (sym caller.3) ∙ sym c.if-is_dropped.ensures) new c.remove.ensures.gone (λ d. refl) refl refl refl refl)
 
 pub returns-else-is_dropped-clause-ok : goal.returns-else-is_dropped-clause-ok
 returns-else-is_dropped-clause-ok c =
@@ -29,7 +29,7 @@ returns-else-is_dropped-clause-ok c =
     let same : caller.0 ≡ taken.before = some_command (sym caller.1 ∙ taken.was) in
     let mid : Core = record old { commands = c.take.new.self } in
     subst (λ n. Settles old n c.args.outcome mid) c.into_number-number.ensures
-    (goes_further old mid number taken.before taken.after c.args.outcome taken.was (subst (λ (a : Command). has_call_out a ≡ true) same caller.2) (subst (λ n. FitsCall old n c.args.outcome) (sym c.into_number-number.ensures) c.requires.fits) taken.takes taken.replaces (λ d. refl) refl refl refl
+    (goes_further old mid number taken.before taken.after c.args.outcome taken.was (subst (λ (a : Command). has_call_out a ≡ true) same caller.2) (subst (λ n. FitsCall old n c.args.outcome) (sym c.into_number-number.ensures) c.requires.fits) taken.takes taken.replaces (λ d. refl) refl refl refl refl
     (ap (λ (a : Command). dropped_by (client_at old a.client)) (sym same) ∙ ap (λ d. dropped_by (client_at old d)) (sym caller.3) ∙ sym c.if-is_dropped.ensures))
 
 pub returns-in-Err-clause-err : goal.returns-in-Err-clause-err
@@ -42,5 +42,5 @@ returns-in-Err-clause-err c =
     let mid : Core = record old { commands = c.take.new.self } in
     subst (λ n. Breaks old n c.args.outcome c.free_idle.new.self) c.into_number-number.ensures
     (breaks_off old mid c.take_out.new.self c.free_idle.new.self number caller.0 c.args.outcome caller.1 caller.2 (subst (λ n. FitsCall old n c.args.outcome) (sym c.into_number-number.ensures) c.requires.fits)
-    (λ n differs. taken.replaces n ∙ ap (λ z. cond z (Some taken.after) (command_at old n)) differs) (λ d. refl) refl refl refl
+    (λ n differs. taken.replaces n ∙ ap (λ z. cond z (Some taken.after) (command_at old n)) differs) (λ d. refl) refl refl refl refl
     (subst (λ d. TakesOut mid number d c.take_out.new.self) caller.3 c.take_out.ensures) (subst (λ d. FreesIdle c.take_out.new.self d c.free_idle.new.self) caller.3 c.free_idle.ensures))

@@ -1,11 +1,12 @@
 use Rattle.proxy_core.specs.CoreState.{client_at, GoesBy}
-use Rattle.proxy_core.specs.Polls.{ForClient, IsServed, AreShown, queue_len}
+use Rattle.proxy_core.specs.Polls.{ForClient, IsServed, AreShown, queue_len, StandsStill}
 use Rattle.proxy_core.proofs.proxy.Core.show_all.Given as goal
 
 abbrev pub invariant-loop : goal.invariant-loop
 invariant-loop l = record {
   goes : GoesBy l.fn.self (AreShown l.client) l.self;
   served : ForClient l.self l.client IsServed;
+  still : StandsStill l.fn.self l.self;
 }
 
 abbrev pub decreases-loop : goal.decreases-loop
