@@ -44,7 +44,7 @@ const ACCEPT_PAUSE: u64 = 100;
 const KEPT_ROOM: usize = 262_144;
 
 // So many such buffers of clients are spare at most, and none of them has more room than this.
-const SPARES: usize = 4;
+const SPARES: usize = 16;
 
 const SPARE_ROOM: usize = 4_194_304;
 
