@@ -44,9 +44,9 @@ const ACCEPT_PAUSE: u64 = 100;
 const KEPT_ROOM: usize = 262_144;
 
 // So many such buffers of clients are spare at most, and none of them has more room than this.
-const SPARES: usize = 16;
+const SPARES: usize = 8;
 
-const SPARE_ROOM: usize = 4_194_304;
+const SPARE_ROOM: usize = 8_388_608;
 
 // How long such buffers are kept while nothing large comes, in milliseconds.
 const SPARE_MS: u64 = 1_000;
@@ -980,20 +980,52 @@ impl ProxyEnd {
         self.clients.mark_settled(id)
     }
 
-    // Where the client has nothing to send, the core writes its replies into a spare buffer, if one is there: it has the room that large
-    // ones want.
-    fn lend_room(&mut self, id: usize) -> io::Result<()> {
-        let Some(client) = self.clients.get_mut(id) else {
-            return Ok(());
+    // The core writes the replies to the client into a spare buffer, if one is there: it has the room that large ones want. Whether one is.
+    fn lend_room(&mut self, id: usize) -> io::Result<bool> {
+        let is_settled = match self.clients.get_mut(id) {
+            Some(client) => client.settled > 0,
+            None => false,
         };
-        if client.settled == 0 || !client.conn.unsent.is_empty() {
-            return Ok(());
+        if !is_settled || self.spares.is_empty() {
+            return Ok(false);
         }
-        let Some(spare) = self.spares.pop() else {
-            return Ok(());
-        };
-        client.conn.unsent = spare;
-        self.show_client(id)
+        // What the core has for the client now is shown first, so that what it gives for the spare buffer is room alone.
+        self.show_client(id)?;
+        match self.spares.pop() {
+            Some(spare) => {
+                self.exchange_room(id, spare);
+                Ok(true)
+            }
+            None => Ok(false),
+        }
+    }
+
+    // The core, which has nothing for the client, writes into this buffer from now on. What it wrote into so far is spare.
+    fn exchange_room(&mut self, id: usize, buffer: BytesMut) {
+        let mut buffer = buffer;
+        let _ = self.core.move_output(id, &mut buffer);
+        self.keep_spare(buffer);
+    }
+
+    // What was done for the client is shown to it, and the core keeps no room that was lent.
+    fn show_lent(&mut self, id: usize, is_lent: bool) -> io::Result<()> {
+        self.show_client(id)?;
+        if is_lent {
+            self.exchange_room(id, BytesMut::new(self.alloc));
+        }
+        self.take_room(id);
+        Ok(())
+    }
+
+    // The buffer is spare, if it is empty and has much room.
+    fn keep_spare(&mut self, buffer: BytesMut) {
+        let mut buffer = buffer;
+        buffer.clear();
+        let room = buffer.capacity();
+        if room > KEPT_ROOM && room <= SPARE_ROOM && self.spares.len() < SPARES {
+            let _ = self.spares.push(buffer);
+            self.note_room(false, true);
+        }
     }
 
     // A client that has nothing to send keeps no large room for it: it is spare.
@@ -1001,15 +1033,11 @@ impl ProxyEnd {
         let Some(client) = self.clients.get_mut(id) else {
             return;
         };
-        let room = client.conn.unsent.capacity();
-        if !client.conn.unsent.is_empty() || room <= KEPT_ROOM {
+        if !client.conn.unsent.is_empty() || client.conn.unsent.capacity() <= KEPT_ROOM {
             return;
         }
         let unsent = std::mem::replace(&mut client.conn.unsent, BytesMut::new(self.alloc));
-        if room <= SPARE_ROOM && self.spares.len() < SPARES {
-            let _ = self.spares.push(unsent);
-            self.note_room(false, true);
-        }
+        self.keep_spare(unsent);
     }
 
     // The same for what the core has for it, which is written into what it is shown next.
@@ -1064,10 +1092,9 @@ impl ProxyEnd {
 
     fn serve_client<N: Net>(&mut self, net: &N, id: usize) -> io::Result<()> {
         self.read_client(id)?;
-        self.lend_room(id)?;
+        let is_lent = self.lend_room(id)?;
         let rest = self.poll_client(net, id)?;
-        self.show_client(id)?;
-        self.take_room(id);
+        self.show_lent(id, is_lent)?;
         self.close_client(id, rest);
         let is_more = match self.clients.get_mut(id) {
             Some(client) => {
