@@ -7,7 +7,6 @@ ghost use Rattle.cache_connection.specs.Serving.{Feeds, Stops};
 ghost use Rattle.tcp_cache.specs.Serving.{Serves, ServesOn, StopsIn, StopsOn, IsServed};
 
 use crate::clock::Moment;
-use bytes::BytesMut;
 use cache_connection::laws::pieces_are_one;
 use cache_connection::{Cache, Served};
 use memchr::memchr;
