@@ -7,7 +7,6 @@ ghost use Rattle.cache_connection.specs.Serving.{Feeds, Stops};
 ghost use Rattle.tcp_cache.specs.Serving.{Serves, ServesOn, StopsIn, StopsOn, IsServed};
 
 use crate::clock::Moment;
-use bytes::BytesMut;
 use cache_connection::laws::pieces_are_one;
 use cache_connection::{Cache, Served};
 use memchr::memchr;
@@ -116,7 +115,7 @@ impl<S: Read + Write + Drop> Client<S> {
             moment,
             &self.conn.held.as_slice()[..count],
         )?;
-        self.conn.held.advance(count);
+        self.conn.use_held(count);
         let added = self.conn.unsent.extend_from_slice(text.as_slice());
         drop_text(text);
         added
@@ -154,9 +153,7 @@ impl<S: Read + Write + Drop> Client<S> {
             return Sent::Nothing;
         }
         let sent = self.conn.send_once();
-        if self.conn.unsent.is_empty() && self.conn.unsent.capacity() > KEPT_ROOM {
-            self.conn.unsent = BytesMut::new(self.alloc);
-        }
+        self.conn.give_back(self.alloc, KEPT_ROOM);
         sent
     }
 

@@ -68,8 +68,9 @@ fn proxy(
     rt: &HostRuntime,
     accepted: Accepted,
     servers: &[Option<SocketAddr>],
+    settings: Settings,
 ) -> io::Result<ProxyEnd> {
-    ProxyEnd::new(rt, any_port(), accepted, servers, Settings::usual())
+    ProxyEnd::new(rt, any_port(), accepted, servers, settings)
 }
 
 // A proxy over as many of these servers as the configuration has, on its tree.
@@ -77,11 +78,12 @@ fn proxy_by(
     rt: &HostRuntime,
     text: &str,
     servers: &[Option<SocketAddr>],
+    settings: Settings,
 ) -> Result<ProxyEnd, Fail> {
     let config = read(rt.alloc(), text)?;
     let servers = used(&config, servers);
     let accepted = judged(rt.alloc(), config)?;
-    Ok(proxy(rt, accepted, servers)?)
+    Ok(proxy(rt, accepted, servers, settings)?)
 }
 
 // Drops the configuration.
@@ -255,9 +257,9 @@ impl<'a> Ends<'a> {
         Ok(())
     }
 
-    fn begin_proxy(&mut self, text: &str) -> Result<(), Fail> {
+    fn begin_proxy(&mut self, text: &str, settings: Settings) -> Result<(), Fail> {
         let servers = self.servers()?;
-        self.proxy = Some(proxy_by(self.rt, text, servers.as_slice())?);
+        self.proxy = Some(proxy_by(self.rt, text, servers.as_slice(), settings)?);
         self.config = text.to_string(self.rt.alloc())?;
         Ok(())
     }
@@ -470,7 +472,8 @@ impl Ends<'_> {
             "cache" => self.listen(sixteen()),
             "small-cache" => self.listen(one_client()),
             "server" => self.play_server(),
-            "proxy" => self.begin_proxy(text),
+            "proxy" => self.begin_proxy(text, Settings::usual()),
+            "small-proxy" => self.begin_proxy(text, one_client_of_a_proxy()),
             _ => Err("no such event")?,
         }
     }
@@ -525,11 +528,19 @@ fn one_client() -> tcp_cache::Settings {
     }
 }
 
+// The settings of a proxy that serves one client.
+fn one_client_of_a_proxy() -> Settings {
+    Settings {
+        clients: 1,
+        ..Settings::usual()
+    }
+}
+
 impl Stage for Ends<'_> {
     fn answer(&mut self, event: &str, want: &str) -> Result<String, Fail> {
         let (verb, text) = cut(event);
         match verb {
-            "cache" | "small-cache" | "server" | "proxy" => {
+            "cache" | "small-cache" | "server" | "proxy" | "small-proxy" => {
                 self.set_server(verb, text)?;
                 Ok(String::new(self.rt.alloc()))
             }

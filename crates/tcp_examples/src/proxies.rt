@@ -44,6 +44,20 @@ load <A, both cleared> => 2
 ask 0 get a\r\n => VALUE a 0 1\r\n1\r\nEND\r\n
 ask 0 delete b\r\n => NOT_FOUND\r\n
 
+One client too many is told so and closed, and the other one is served. When that one has left there is room again.
+cache
+small-proxy <one server>
+connect => 0
+ask 0 set a 0 0 1\r\n7\r\n => STORED\r\n
+connect => 1
+gets 1 => SERVER_ERROR too many clients\r\n
+closed 1 => yes
+ask 0 get a\r\n => VALUE a 0 1\r\n7\r\nEND\r\n
+leave 0
+turn 10
+connect => 2
+ask 2 get a\r\n => VALUE a 0 1\r\n7\r\nEND\r\n
+
 Gets of a server that is gone fail, time after time, and so is told.
 cache
 proxy <one server>

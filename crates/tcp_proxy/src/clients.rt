@@ -6,8 +6,8 @@ use mio::net::TcpStream;
 use std::alloc::{AllocError, Global};
 use tcp_socket::{Conn, Limits, Ready, Sent};
 
-/// What is kept of a client, and for one that does not read it. Above the latter nothing is read of the client, and none of its
-/// commands begins.
+// What is kept of a client, and for one that does not read it. Above the latter nothing is read of the client, and none of its
+// commands begins.
 const LIMITS: Limits = Limits {
     held: 1_048_576,
     unsent: 1_048_576,
@@ -18,6 +18,12 @@ pub fn note(conn: &mut Conn<TcpStream>, told: Ready) {
     conn.readable = conn.readable || told.reads;
     conn.writable = conn.writable || told.writes;
     conn.closing = conn.closing || told.closes;
+}
+
+/// So many bytes of what is held are done with.
+pub fn use_held(conn: &mut Conn<TcpStream>, count: usize) {
+    let count = count.min(conn.held.len());
+    conn.use_held(count);
 }
 
 // How much room a client's read has at least, and where long data come.
@@ -51,6 +57,8 @@ pub struct Client {
     reads_long: bool,
     /// How many of its commands can go on since their calls were settled: so many polls begin none.
     pub settled: usize,
+    /// How many of its calls wait until their server takes more.
+    waiting: usize,
     /// It sends no more, or nothing more is read of it.
     pub is_ended: bool,
     pub is_ready: bool,
@@ -66,6 +74,7 @@ impl Client {
             conn: Conn::new(alloc, stream, LIMITS),
             reads_long: false,
             settled: 0,
+            waiting: 0,
             is_ended: false,
             is_ready: false,
             has_output: false,
@@ -78,9 +87,19 @@ impl Client {
         !self.conn.has_backlog()
     }
 
+    /// Whether a command of it may begin: it takes what is shown to it, and none of its calls waits.
+    fn may_begin(&self) -> bool {
+        self.waiting == 0 && self.has_room()
+    }
+
+    /// Whether one of its commands may go on, or begin.
+    pub fn may_go_on(&self) -> bool {
+        self.settled > 0 || self.may_begin()
+    }
+
     /// Whether something may be read of it.
     pub fn can_read(&self) -> bool {
-        self.conn.readable && !self.is_ended && self.conn.held.is_empty() && self.has_room()
+        self.conn.readable && !self.is_ended && self.conn.held.is_empty() && self.may_begin()
     }
 
     /// Whether bytes that were read wait for room in the core.
@@ -202,6 +221,21 @@ impl Clients {
     pub fn mark_settled(&mut self, id: usize) -> Result<(), AllocError> {
         if let Some(client) = self.get_mut(id) {
             client.settled = client.settled.saturating_add(1);
+        }
+        self.mark_ready(id)
+    }
+
+    /// A call of it waits until its server takes more.
+    pub fn mark_waiting(&mut self, id: usize) {
+        if let Some(client) = self.get_mut(id) {
+            client.waiting = client.waiting.saturating_add(1);
+        }
+    }
+
+    /// A call of it waits no longer.
+    pub fn end_waiting(&mut self, id: usize) -> Result<(), AllocError> {
+        if let Some(client) = self.get_mut(id) {
+            client.waiting = client.waiting.saturating_sub(1);
         }
         self.mark_ready(id)
     }

@@ -1,16 +1,18 @@
 //! One server's link: its connection, if it has one, and the calls that are out.
 
+use crate::clients::use_held;
 use crate::news::{Cause, LinkNews};
 use crate::settings::{ServerDialect, Settings};
-use link_calls::LinkCalls;
+use link_calls::{LinkCalls, SentCall};
 use mc_types::Dialect;
 use meta_asks::{DialectRead, read_dialect, write_noop};
 use mio::net::TcpStream;
-use std::alloc::{AllocError, Global};
+use std::alloc::{AllocError, AllocFailed, Global};
+use std::collections::VecDeque;
 use std::net::SocketAddr;
 use tcp_socket::{Conn, Limits};
 
-// An answer is shorter than what is held at most.
+// An answer is shorter than what is held at most. No further call goes out while so much is to be sent.
 const LIMITS: Limits = Limits {
     held: 4_194_304,
     unsent: 1_048_576,
@@ -42,6 +44,8 @@ pub struct Link {
     pub address: Option<SocketAddr>,
     pub conn: Option<Conn<TcpStream>>,
     pub calls: LinkCalls,
+    // Calls that wait until the server takes more, the one that came first in front. Some are out while one waits.
+    waiting: VecDeque<SentCall>,
     /// In which dialect calls go out from now on.
     pub dialect: Dialect,
     /// Whether the answer to `mn` is still to come, before those to all calls.
@@ -73,6 +77,7 @@ impl Link {
             address,
             conn: None,
             calls: LinkCalls::new(alloc),
+            waiting: VecDeque::new(alloc),
             dialect: Dialect::Classic,
             awaits_dialect: false,
             opened: 0,
@@ -86,6 +91,40 @@ impl Link {
             news_from: 0,
             was_down: false,
         }
+    }
+
+    // Whether what is to be sent is a backlog.
+    fn has_backlog(&self) -> bool {
+        match &self.conn {
+            Some(conn) => conn.has_backlog(),
+            None => false,
+        }
+    }
+
+    /// Whether a further call has to wait.
+    pub fn is_full(&self) -> bool {
+        !self.waiting.is_empty() || self.has_backlog()
+    }
+
+    /// The call waits. Where memory was refused it is given back.
+    pub fn let_wait(&mut self, call: SentCall) -> Result<(), SentCall> {
+        match self.waiting.push_back(call) {
+            Ok(()) => Ok(()),
+            Err(AllocFailed { value }) => Err(value),
+        }
+    }
+
+    /// The first of the calls that wait, if it may go out now.
+    pub fn next_waiting(&mut self) -> Option<SentCall> {
+        if self.has_backlog() {
+            return None;
+        }
+        self.waiting.pop_front()
+    }
+
+    /// How many calls wait.
+    pub fn waiting(&self) -> usize {
+        self.waiting.len()
     }
 
     /// When it fails if nothing comes, in milliseconds: its first call, or its connection, has taken too long then.
@@ -169,7 +208,7 @@ impl Link {
             DialectRead::More => true,
             DialectRead::Foreign => false,
             DialectRead::Told(dialect, used) => {
-                conn.held.advance(used.min(conn.held.len()));
+                use_held(conn, used);
                 self.dialect = dialect;
                 self.awaits_dialect = false;
                 true

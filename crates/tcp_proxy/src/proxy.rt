@@ -1,7 +1,7 @@
 //! The proxy's end, and its turns: what is ready is read, what was asked goes to the links and what was answered to the
 //! clients, and then each end that has something to send is written once.
 
-use crate::clients::{Client, Clients, note, send};
+use crate::clients::{Client, Clients, note, send, use_held};
 use crate::link::Link;
 use crate::news::{Cause, LinkNews};
 use crate::settings::Settings;
@@ -37,6 +37,34 @@ const POLLS: usize = 128;
 
 const ACCEPTS: usize = 64;
 
+// How long accepting pauses after it has failed, in milliseconds.
+const ACCEPT_PAUSE: u64 = 100;
+
+// An empty buffer with more room than this isn't kept by its end, in bytes.
+const KEPT_ROOM: usize = 262_144;
+
+// So many such buffers of clients are spare at most, and none of them has more room than this.
+const SPARES: usize = 8;
+
+const SPARE_ROOM: usize = 8_388_608;
+
+// How long such buffers are kept while nothing large comes, in milliseconds.
+const SPARE_MS: u64 = 1_000;
+
+// So many times at most a link is written and calls that waited for it go out, in one turn.
+const LINK_SENDS: usize = 64;
+
+// Whether clients may wait to be accepted.
+#[derive(Clone, Copy, PartialEq, Eq)]
+enum Accepting {
+    // There may be some now.
+    Now,
+    // There may be some, but the system refused to accept them: not before this time.
+    From(u64),
+    // There are none.
+    Idle,
+}
+
 /// The proxy's end.
 #[derive(Drop)]
 pub struct ProxyEnd {
@@ -50,6 +78,10 @@ pub struct ProxyEnd {
     clients: Clients,
     // What is read of a client comes here first: a client that is idle keeps no room for it.
     input: BytesMut,
+    // Buffers with much room that clients had: replies are written into one of them where one is there.
+    spares: Vec<BytesMut>,
+    // When spare buffers, and those of links, give their room back, if they have much.
+    spare_until: Option<u64>,
     links: Vec<Link>,
     ready_links: Vec<usize>,
     links_with_output: Vec<usize>,
@@ -57,7 +89,7 @@ pub struct ProxyEnd {
     work: Vec<usize>,
     start: Instant,
     now: u64,
-    is_accepting: bool,
+    accepting: Accepting,
     // Whether a key or a server became free since busy clients were served.
     is_freed: bool,
     // Whether there may be something to tell of a link.
@@ -250,13 +282,15 @@ impl ProxyEnd {
             listener,
             clients: Clients::new(alloc),
             input: BytesMut::new(alloc),
+            spares: Vec::new(alloc),
+            spare_until: None,
             links,
             ready_links: Vec::new(alloc),
             links_with_output: Vec::new(alloc),
             work: Vec::new(alloc),
             start,
             now: 0,
-            is_accepting: true,
+            accepting: Accepting::Now,
             is_freed: false,
             has_news: false,
             tally: Tally::new(),
@@ -332,8 +366,9 @@ impl ProxyEnd {
 
     fn turn_by<R: Net + Clock>(&mut self, rt: &R, limit: Option<Duration>) -> io::Result<()> {
         self.wait(rt, limit)?;
+        self.give_back_room();
         self.fail_late()?;
-        if self.is_accepting {
+        if self.may_accept() {
             self.accept_some();
         }
         self.serve_links()?;
@@ -349,12 +384,70 @@ impl ProxyEnd {
         Ok(())
     }
 
+    fn may_accept(&self) -> bool {
+        match self.accepting {
+            Accepting::Now => true,
+            Accepting::From(time) => time <= self.now,
+            Accepting::Idle => false,
+        }
+    }
+
+    // When accepting is tried again, if it has failed.
+    fn accept_limit(&self) -> Option<u64> {
+        match self.accepting {
+            Accepting::From(time) => Some(time),
+            Accepting::Now | Accepting::Idle => None,
+        }
+    }
+
     // Whether something is left to do.
     fn has_work(&self) -> bool {
-        self.is_accepting
+        self.may_accept()
             || !self.clients.ready.is_empty()
             || !self.ready_links.is_empty()
+            || !self.links_with_output.is_empty()
             || (self.is_freed && !self.clients.busy.is_empty())
+    }
+
+    // Room that is spare is kept for a while from now on.
+    fn keep_room(&mut self) {
+        self.spare_until = Some(self.now.saturating_add(SPARE_MS));
+    }
+
+    // Large data came or went, or room for such is there and not noted yet.
+    fn note_room(&mut self, is_large: bool, has_room: bool) {
+        if is_large || (has_room && self.spare_until.is_none()) {
+            self.keep_room();
+        }
+    }
+
+    // Links give back the room that they don't need now. Whether one has much that it needs.
+    fn give_back_links(&mut self) -> bool {
+        let mut has_room = false;
+        for at in 0..self.links.len() {
+            if let Some(link) = self.links.get_mut(at) {
+                if let Some(conn) = link.conn.as_mut() {
+                    conn.give_back(self.alloc, KEPT_ROOM);
+                    has_room = has_room || conn.has_room_above(KEPT_ROOM);
+                }
+            }
+        }
+        has_room
+    }
+
+    // Where nothing large came for a while, the room that was for it goes back.
+    fn give_back_room(&mut self) {
+        match self.spare_until {
+            Some(time) if time <= self.now => {}
+            _ => return,
+        }
+        self.spare_until = None;
+        self.spares.clear();
+        if self.input.capacity() > KEPT_ROOM {
+            self.input = BytesMut::new(self.alloc);
+        }
+        let has_room = self.give_back_links();
+        self.note_room(false, has_room);
     }
 
     // When the first link is late.
@@ -377,10 +470,12 @@ impl ProxyEnd {
 
     // When something is to be done though nothing is ready.
     fn next_limit(&self) -> Option<u64> {
+        let limit = earlier(self.time_limit(), self.accept_limit());
+        let limit = earlier(limit, self.spare_until);
         if self.has_news {
-            return earlier(self.time_limit(), self.news_limit());
+            return earlier(limit, self.news_limit());
         }
-        self.time_limit()
+        limit
     }
 
     // How long may be waited, by the clock of now.
@@ -410,7 +505,7 @@ impl ProxyEnd {
             let Token(token) = event.token();
             let told = Ready::of(event);
             if token == LISTENER {
-                self.is_accepting = true;
+                self.accepting = Accepting::Now;
             } else if token >= LINKS {
                 self.note_link(token - LINKS, told)?;
             } else {
@@ -474,6 +569,22 @@ impl ProxyEnd {
                 self.clients.mark_settled(client)?;
             }
         }
+        self.fail_waiting(at)
+    }
+
+    // The calls that wait for the link, which has no connection, have failed.
+    fn fail_waiting(&mut self, at: usize) -> Result<(), AllocError> {
+        let Some(link) = self.links.get_mut(at) else {
+            return Ok(());
+        };
+        for _ in 0..link.waiting() {
+            if let Some(call) = link.next_waiting() {
+                let client = call.client;
+                fail_call(self.core.as_mut(), call.ticket);
+                self.clients.end_waiting(client)?;
+                self.clients.mark_settled(client)?;
+            }
+        }
         Ok(())
     }
 
@@ -500,8 +611,13 @@ impl ProxyEnd {
                 Err(error) => match error.kind() {
                     // That one has gone.
                     ErrorKind::Interrupted | ErrorKind::ConnectionAborted => {}
+                    ErrorKind::WouldBlock => {
+                        self.accepting = Accepting::Idle;
+                        return;
+                    }
                     _ => {
-                        self.is_accepting = false;
+                        let again = self.now.saturating_add(ACCEPT_PAUSE);
+                        self.accepting = Accepting::From(again);
                         return;
                     }
                 },
@@ -545,9 +661,12 @@ impl ProxyEnd {
             Got::Failed => Ok(Some(Cause::Broken)),
             Got::Full => Ok(Some(Cause::Foreign)),
             Got::Bytes => {
+                let is_large = conn.held.len() > KEPT_ROOM;
+                let has_room = conn.has_room_above(KEPT_ROOM);
                 if link.stand() {
                     self.has_news = true;
                 }
+                self.note_room(is_large, has_room);
                 self.learn_and_settle(at)
             }
         }
@@ -598,7 +717,7 @@ impl ProxyEnd {
                 }
             }
         }
-        conn.held.advance(used.min(conn.held.len()));
+        use_held(conn, used);
         let has_failed = link.has_read(has_answered || used > 0, self.settings.polls);
         if !is_kept {
             return Ok(Some(Cause::Foreign));
@@ -706,7 +825,7 @@ impl ProxyEnd {
 
     fn may_go_on(&mut self, id: usize) -> bool {
         match self.clients.get_mut(id) {
-            Some(client) => client.settled > 0 || client.has_room(),
+            Some(client) => client.may_go_on(),
             None => false,
         }
     }
@@ -799,7 +918,7 @@ impl ProxyEnd {
         }
     }
 
-    // The call is written to its server's link, or has failed.
+    // The call is written to its server's link or waits for it, or has failed.
     fn send_call<N: Net>(&mut self, net: &N, id: usize, ticket: Ticket) -> io::Result<()> {
         let at = ticket.server.number() as usize;
         if !self.is_open(net, at) {
@@ -811,9 +930,41 @@ impl ProxyEnd {
             since: self.now,
             dialect: self.dialect_of(at),
         };
+        if self.is_full(at) {
+            return Ok(self.let_wait(at, call)?);
+        }
+        self.begin_call(at, call)?;
+        Ok(self.mark_link_output(at)?)
+    }
+
+    // Whether a further call has to wait until the server takes more.
+    fn is_full(&self, at: usize) -> bool {
+        match self.links.get(at) {
+            Some(link) => link.is_full(),
+            None => false,
+        }
+    }
+
+    // The call waits until its server takes more, or has failed. Until then none of its client's commands begins.
+    fn let_wait(&mut self, at: usize, call: SentCall) -> Result<(), AllocError> {
+        let client = call.client;
+        let Some(link) = self.links.get_mut(at) else {
+            return self.refuse_call(client, call.ticket);
+        };
+        match link.let_wait(call) {
+            Ok(()) => {
+                self.clients.mark_waiting(client);
+                Ok(())
+            }
+            Err(call) => self.refuse_call(client, call.ticket),
+        }
+    }
+
+    // The call is written to its server's link, or has failed.
+    fn begin_call(&mut self, at: usize, call: SentCall) -> Result<(), AllocError> {
         match self.write_call(at, call) {
-            None => Ok(self.mark_link_output(at)?),
-            Some(call) => Ok(self.refuse_call(id, call.ticket)?),
+            None => Ok(()),
+            Some(call) => self.refuse_call(call.client, call.ticket),
         }
     }
 
@@ -837,6 +988,74 @@ impl ProxyEnd {
         self.clients.mark_settled(id)
     }
 
+    // The core writes the replies to the client into a spare buffer, if one is there: it has the room that large ones want. Whether one is.
+    fn lend_room(&mut self, id: usize) -> io::Result<bool> {
+        let is_settled = match self.clients.get_mut(id) {
+            Some(client) => client.settled > 0,
+            None => false,
+        };
+        if !is_settled || self.spares.is_empty() {
+            return Ok(false);
+        }
+        // What the core has for the client now is shown first, so that what it gives for the spare buffer is room alone.
+        self.show_client(id)?;
+        match self.spares.pop() {
+            Some(spare) => {
+                self.exchange_room(id, spare);
+                Ok(true)
+            }
+            None => Ok(false),
+        }
+    }
+
+    // The core, which has nothing for the client, writes into this buffer from now on. What it wrote into so far is spare.
+    fn exchange_room(&mut self, id: usize, buffer: BytesMut) {
+        let mut buffer = buffer;
+        let _ = self.core.move_output(id, &mut buffer);
+        self.keep_spare(buffer);
+    }
+
+    // What was done for the client is shown to it, and the core keeps no room that was lent.
+    fn show_lent(&mut self, id: usize, is_lent: bool) -> io::Result<()> {
+        self.show_client(id)?;
+        if is_lent {
+            self.exchange_room(id, BytesMut::new(self.alloc));
+        }
+        self.take_room(id);
+        Ok(())
+    }
+
+    // The buffer is spare, if it is empty and has much room.
+    fn keep_spare(&mut self, buffer: BytesMut) {
+        let mut buffer = buffer;
+        buffer.clear();
+        let room = buffer.capacity();
+        if room > KEPT_ROOM && room <= SPARE_ROOM && self.spares.len() < SPARES {
+            let _ = self.spares.push(buffer);
+            self.note_room(false, true);
+        }
+    }
+
+    // A client that has nothing to send keeps no large room for it: it is spare.
+    fn take_room(&mut self, id: usize) {
+        let Some(client) = self.clients.get_mut(id) else {
+            return;
+        };
+        if !client.conn.unsent.is_empty() || client.conn.unsent.capacity() <= KEPT_ROOM {
+            return;
+        }
+        let unsent = std::mem::replace(&mut client.conn.unsent, BytesMut::new(self.alloc));
+        self.keep_spare(unsent);
+    }
+
+    // The same for what the core has for it, which is written into what it is shown next.
+    fn take_rooms(&mut self, id: usize) -> io::Result<()> {
+        self.take_room(id);
+        self.show_client(id)?;
+        self.take_room(id);
+        Ok(())
+    }
+
     // What the core has for the client goes after what is to be sent.
     fn show_client(&mut self, id: usize) -> io::Result<()> {
         let Some(client) = self.clients.get_mut(id) else {
@@ -856,6 +1075,7 @@ impl ProxyEnd {
             return Ok(());
         }
         self.tally.note_shown(shown);
+        self.note_room(shown > KEPT_ROOM, false);
         Ok(self.clients.mark_output(id)?)
     }
 
@@ -874,14 +1094,15 @@ impl ProxyEnd {
             && self.core.close(id).is_ok()
         {
             self.clients.remove(id);
-            self.is_accepting = true;
+            self.accepting = Accepting::Now;
         }
     }
 
     fn serve_client<N: Net>(&mut self, net: &N, id: usize) -> io::Result<()> {
         self.read_client(id)?;
+        let is_lent = self.lend_room(id)?;
         let rest = self.poll_client(net, id)?;
-        self.show_client(id)?;
+        self.show_lent(id, is_lent)?;
         self.close_client(id, rest);
         let is_more = match self.clients.get_mut(id) {
             Some(client) => {
@@ -898,21 +1119,56 @@ impl ProxyEnd {
         Ok(())
     }
 
-    fn send_link(&mut self, at: usize) -> Result<(), AllocError> {
-        let is_kept = match self.links.get_mut(at) {
-            Some(link) => {
-                link.has_output = false;
-                match link.conn.as_mut() {
-                    Some(conn) => send(conn),
-                    None => true,
-                }
-            }
-            None => true,
+    // What is to be sent to the server goes out, as far as it is taken. Whether the link stands still.
+    fn send_unsent(&mut self, at: usize) -> bool {
+        let Some(link) = self.links.get_mut(at) else {
+            return true;
         };
-        if !is_kept {
-            self.fail_link(at, Cause::Broken)?;
+        let Some(conn) = link.conn.as_mut() else {
+            return true;
+        };
+        let is_large = conn.unsent.len() > KEPT_ROOM;
+        let is_kept = send(conn);
+        self.note_room(is_large, false);
+        is_kept
+    }
+
+    // Of the calls that wait the first that may go out.
+    fn next_waiting(&mut self, at: usize) -> Option<SentCall> {
+        self.links.get_mut(at)?.next_waiting()
+    }
+
+    // Calls that waited are written to the link, up to a backlog. Whether one was.
+    fn begin_waiting(&mut self, at: usize) -> Result<bool, AllocError> {
+        let count = match self.links.get(at) {
+            Some(link) => link.waiting(),
+            None => 0,
+        };
+        let mut has_begun = false;
+        for _ in 0..count {
+            let Some(call) = self.next_waiting(at) else {
+                break;
+            };
+            has_begun = true;
+            self.clients.end_waiting(call.client)?;
+            self.begin_call(at, call)?;
         }
-        Ok(())
+        Ok(has_begun)
+    }
+
+    fn send_link(&mut self, at: usize) -> Result<(), AllocError> {
+        if let Some(link) = self.links.get_mut(at) {
+            link.has_output = false;
+        }
+        for _ in 0..LINK_SENDS {
+            if !self.send_unsent(at) {
+                return self.fail_link(at, Cause::Broken);
+            }
+            if !self.begin_waiting(at)? {
+                return Ok(());
+            }
+        }
+        self.mark_link_output(at)
     }
 
     fn send_links(&mut self) -> Result<(), AllocError> {
@@ -927,7 +1183,7 @@ impl ProxyEnd {
         Ok(())
     }
 
-    fn send_client(&mut self, id: usize) -> Result<(), AllocError> {
+    fn send_client(&mut self, id: usize) -> io::Result<()> {
         let Some(client) = self.clients.get_mut(id) else {
             return Ok(());
         };
@@ -937,9 +1193,13 @@ impl ProxyEnd {
             client.break_off();
         }
         let is_empty = client.conn.unsent.is_empty();
+        let has_room = client.conn.unsent.capacity() > KEPT_ROOM;
         let is_free = was_full && client.has_room();
         if is_free || (is_empty && (client.is_ended || self.core.is_closed(id))) {
             self.clients.mark_ready(id)?;
+        }
+        if is_empty && has_room {
+            self.take_rooms(id)?;
         }
         Ok(())
     }

@@ -1,6 +1,6 @@
 //! The stream of an end and its two buffers: a read goes after what is held, a write takes from the front of what is to be sent.
 
-ghost use Rattle.std.specs.Prelude.{◌≡◌, false, ◌↔◌, ◌<◌, ◌≤◌, ◌⊎◌, [], length, IsTrue, IfOk, OnOk, OnErr};
+ghost use Rattle.std.specs.Prelude.{◌≡◌, false, ◌↔◌, ◌<◌, ◌≤◌, ◌⊎◌, [], length, drop, IsTrue, IfOk, OnOk, OnErr};
 ghost use Rattle.tcp_socket.specs.Ends.{Reads, Sends};
 
 use bytes::BytesMut;
@@ -9,7 +9,7 @@ use std::io::{ErrorKind, Read, Write};
 use std::{io, mem};
 
 // From so many bytes on, what is held is copied as a whole where it has to move.
-const MOVED_FROM: usize = 4_096;
+const MOVED_FROM: usize = 64;
 
 /// How much an end keeps, in bytes.
 #[derive(Clone, Copy)]
@@ -80,6 +80,26 @@ fn pause_of(error: &io::Error) -> Pause {
         ErrorKind::WouldBlock => Pause::NotReady,
         ErrorKind::Interrupted => Pause::Interrupted,
         _ => Pause::Failure,
+    }
+}
+
+// So many bytes go from the front. Where none is left all of the room is free again, so that nothing has to move for what comes next.
+fn take_front(buffer: &mut BytesMut, count: usize)
+    requires { count ≤ length buffer.old.items }
+    ensures { buffer.new.items ≡ drop count buffer.old.items }
+{
+    buffer.advance(count);
+    if buffer.is_empty() {
+        buffer.clear();
+    }
+}
+
+// The room of a buffer goes back where nothing stands in it, and it is more than so many bytes.
+fn give_back(alloc: Global, kept: usize, buffer: &mut BytesMut)
+    ensures { buffer.new.items ≡ buffer.old.items }
+{
+    if buffer.is_empty() && buffer.capacity() > kept {
+        *buffer = BytesMut::new(alloc);
     }
 }
 
@@ -193,11 +213,37 @@ impl<S: Read + Write + Drop> Conn<S> {
         match self.stream.write(self.unsent.as_slice()) {
             Ok(0) => Sent::Failed,
             Ok(count) => {
-                self.unsent.advance(count);
+                take_front(&mut self.unsent, count);
                 Sent::Bytes
             }
             Err(error) => self.sent_at(pause_of(&error)),
         }
+    }
+
+    /// So many bytes of what is held are done with.
+    pub fn use_held(&mut self, count: usize)
+        requires { count ≤ length self.old.held.items }
+        ensures held { self.new.held.items ≡ drop count self.old.held.items }
+        ensures rest { self.new ≡ record self.old { held = self.new.held } }
+    {
+        take_front(&mut self.held, count);
+    }
+
+    /// Buffers in which nothing stands give their room back, where it is more than so many bytes.
+    pub fn give_back(&mut self, alloc: Global, kept: usize)
+        ensures held { self.new.held.items ≡ self.old.held.items }
+        ensures unsent { self.new.unsent.items ≡ self.old.unsent.items }
+        ensures rest { self.new ≡ record self.old { held = self.new.held; other = self.new.other; unsent = self.new.unsent } }
+    {
+        self.other.clear();
+        give_back(alloc, kept, &mut self.held);
+        give_back(alloc, kept, &mut self.other);
+        give_back(alloc, kept, &mut self.unsent);
+    }
+
+    /// Whether a buffer has more room than so many bytes.
+    pub fn has_room_above(&self, kept: usize) -> bool {
+        self.held.capacity() > kept || self.other.capacity() > kept || self.unsent.capacity() > kept
     }
 
     fn sent_at(&mut self, pause: Pause) -> Sent
