@@ -1,2 +1,1 @@
-pub mod AskTest
 pub mod CallOrder

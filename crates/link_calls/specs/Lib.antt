@@ -1,4 +1,3 @@
-pub mod Asks
 pub mod Cores
 pub mod Dialects
 pub mod Calls

@@ -9,8 +9,8 @@ ghost use Rattle.link_calls.specs.Calls.{IsReadFor, IsReadNext, first_asked, Fit
 ghost use Rattle.mc_types.specs.declared.call.Outcome.TheVariants.{Failed};
 
 use crate::any_core::AnyCore;
-use crate::asks::is_ask;
 use bytes::BytesMut;
+use client_asks::is_ask;
 use mc_types::{Ask, Dialect, Outcome};
 use meta_asks::{read_in_meta, write_in_meta};
 use proxy_core::Ticket;

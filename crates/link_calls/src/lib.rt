@@ -3,9 +3,7 @@
 #![tactic(auto)]
 
 mod any_core;
-mod asks;
 mod calls;
 
 pub use any_core::{AnyCore, LoadFault};
-pub use asks::is_ask;
 pub use calls::{LinkCalls, Next, SentCall, fail_call};

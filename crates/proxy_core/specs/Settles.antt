@@ -3,6 +3,7 @@ use Rattle.std.specs.Prelude.{◌≡◌, ◌↔◌, ℕ, Bool, true, false, List
 use Rattle.indexmap.specs.IndexMap as map
 use Rattle.mc_types.specs.declared.ask.Ask.{Ask}
 use Rattle.mc_types.specs.declared.call.Outcome.{Outcome}
+use Rattle.mc_types.specs.declared.call.Origin.{Origin}
 use Rattle.mc_types.specs.declared.call.Origin.TheVariants.{Client as OfClient}
 use Rattle.mc_runs.specs.Run.{Call, End, outcome_of}
 use Rattle.mc_runs.specs.Fleet.{EndsIn}
@@ -42,6 +43,19 @@ asked_by (Some a) = if has_call_out a then Some (ask_under a.job.frames.items a.
 -- what this core's call of this number asks, if one is out
 abbrev pub asked : Core → ℕ → Option Ask
 asked core number = asked_by (command_at core number)
+
+-- the call of a command that is out
+pub record IsOutAs (command : Command) (server : ℕ) (ask : Ask) (origin : Origin) : Type 0 where
+  pub out : has_call_out command ≡ true
+  pub server_is : server ≡ server_in command.job.pending
+  pub ask_is : ask ≡ ask_under command.job.frames.items command.job.ask
+  pub origin_is : origin ≡ origin_under command.job.frames.items OfClient
+
+-- this call of the core is out
+pub record IsCalled (core : Core) (number server : ℕ) (ask : Ask) (origin : Origin) : Type 0 where
+  pub command : Command
+  pub was : command_at core number ≡ Some command
+  pub is : IsOutAs command server ask origin
 
 -- no call of this number is out
 abbrev pub HasNoCall : Core → ℕ → Type 0

@@ -1,16 +1,17 @@
 //! A command that has begun and has not ended.
 
-ghost use Rattle.std.specs.Prelude.{◌≡◌, true, false, OnOk, Some, option_map};
+ghost use Rattle.std.specs.Prelude.{◌≡◌, true, false, OnOk, IfSome, Some, option_map};
 ghost use Rattle.mc_runs.specs.Single.{FitsOutcome};
 ghost use Rattle.route_job.specs.Jobs.{server_in};
 ghost use Rattle.route_job.specs.Rest.{ask_under};
 ghost use Rattle.proxy_core.specs.Out.{has_call_out};
 ghost use Rattle.proxy_core.specs.Counts.{is_called};
-ghost use Rattle.proxy_core.specs.Settles.{TakesOutcome, asked_by};
+ghost use Rattle.proxy_core.specs.Settles.{TakesOutcome, asked_by, IsOutAs};
 
 use crate::claim::Claim;
 use crate::held_job::HeldJob;
 use crate::shared::SharedAsk;
+use crate::ticket::OutCall;
 use mc_types::{Ask, Key, Outcome, ServerId};
 use route_job::Step;
 use std::alloc::{AllocError, Global};
@@ -77,6 +78,27 @@ impl Command {
         }
         match self.job.next() {
             Step::Call { ask, .. } => Some(ask),
+            Step::Done(_) => None,
+        }
+    }
+
+    /// Its call that is out, if one is. It takes no memory.
+    pub fn called(&self) -> Option<OutCall<'_>>
+        ensures { IfSome result (λ call. IsOutAs self.now call.server call.ask.now call.origin) }
+    {
+        if !self.is_out {
+            return None;
+        }
+        match self.job.next() {
+            Step::Call {
+                server,
+                ask,
+                origin,
+            } => Some(OutCall {
+                ask,
+                origin,
+                server,
+            }),
             Step::Done(_) => None,
         }
     }

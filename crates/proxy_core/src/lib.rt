@@ -36,4 +36,4 @@ pub use limits::{Limits, Sharing};
 pub use note::{Note, Poll};
 pub use proxy::Core;
 pub use shared::SharedAsk;
-pub use ticket::Ticket;
+pub use ticket::{OutCall, Ticket};

@@ -1,13 +1,13 @@
 //! The result of a call of a server comes.
 
-ghost use Rattle.std.specs.Prelude.{◌≡◌, OnOk, IfErr, option_map};
+ghost use Rattle.std.specs.Prelude.{◌≡◌, OnOk, IfErr, IfSome, option_map};
 ghost use Rattle.proxy_core.specs.CoreState.{client_at, dropped_by};
-ghost use Rattle.proxy_core.specs.Settles.{FitsCall, asked, TakesOut, Settles, SettleFault};
+ghost use Rattle.proxy_core.specs.Settles.{FitsCall, asked, IsCalled, TakesOut, Settles, SettleFault};
 
 use crate::fault::CoreFault;
 use crate::freeing::remove;
 use crate::proxy::Core;
-use crate::ticket::Ticket;
+use crate::ticket::{OutCall, Ticket};
 use mc_types::{Ask, Outcome};
 
 fn forget(_outcome: Outcome) {}
@@ -41,6 +41,16 @@ impl Core {
         match self.commands.get(number) {
             None => None,
             Some(command) => command.asked(),
+        }
+    }
+
+    /// The call of this number that is out in this core; `None` where none is out. It takes no memory.
+    pub fn called(&self, number: u64) -> Option<OutCall<'_>>
+        ensures { IfSome result (λ call. IsCalled self.now number call.server call.ask.now call.origin) }
+    {
+        match self.commands.get(number) {
+            None => None,
+            Some(command) => command.called(),
         }
     }
 

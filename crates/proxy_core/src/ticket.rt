@@ -3,7 +3,7 @@
 ghost use Rattle.std.specs.Prelude.{◌≡◌};
 
 use crate::shared::SharedAsk;
-use mc_types::{Origin, ServerId};
+use mc_types::{Ask, Origin, ServerId};
 
 /// A call that is out: the command's next call, which nobody else has. It is handed back with its outcome.
 #[derive(Drop)]
@@ -11,6 +11,14 @@ pub struct Ticket {
     pub ask: SharedAsk,
     /// The command's number.
     pub number: u64,
+    pub origin: Origin,
+    pub server: ServerId,
+}
+
+/// A call that is out, as the core has it.
+#[derive(Clone, Copy)]
+pub struct OutCall<'a> {
+    pub ask: &'a Ask,
     pub origin: Origin,
     pub server: ServerId,
 }

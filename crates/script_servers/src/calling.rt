@@ -28,6 +28,7 @@ fn apply(
     requires ask { IsAsk ask.now }
     ensures ok { IfOk result (λ r. AppliesAt stamp moment.seconds caches.old.items server ask.now r.0 r.1 caches.new.items) }
     ensures err { OnErr result (caches.new.items ≡ changed_at server (at_moment (nat_abs moment.seconds)) caches.old.items) }
+    ensures count { length caches.new.items ≡ length caches.old.items }
 {
     caches[server.number() as usize].apply(moment.seconds, stamp, ask)
 }
@@ -59,6 +60,7 @@ fn cut_call(
     requires ask { IsAsk ask.now }
     ensures ok { IfOk result (λ made. IsMade (Some (Cut count)) stamp moment.seconds caches.old.items server ask.now made caches.new.items) }
     ensures err { OnErr result (IsRefused (Some (Cut count)) stamp moment.seconds caches.old.items server ask.now caches.new.items) }
+    ensures count { length caches.new.items ≡ length caches.old.items }
 {
     let (answer, found) = apply(caches, moment, stamp, server, ask)?;
     let read = read_cut(alloc, ask, &answer, count)?;
@@ -79,6 +81,7 @@ fn fail_call(
     requires ask { IsAsk ask.now }
     ensures ok { IfOk result (λ made. IsMade (Some (manner_of manner)) stamp moment.seconds caches.old.items server ask.now made caches.new.items) }
     ensures err { OnErr result (IsRefused (Some (manner_of manner)) stamp moment.seconds caches.old.items server ask.now caches.new.items) }
+    ensures count { length caches.new.items ≡ length caches.old.items }
 {
     match manner {
         Manner::Before => Ok(Made::failed()),
@@ -111,6 +114,7 @@ pub fn make_call(
     requires ask { IsAsk ask.now }
     ensures ok { IfOk result (λ made. IsMade (option_map manner_of named) stamp moment.seconds caches.old.items server ask.now made caches.new.items) }
     ensures err { OnErr result (IsRefused (option_map manner_of named) stamp moment.seconds caches.old.items server ask.now caches.new.items) }
+    ensures count { length caches.new.items ≡ length caches.old.items }
 {
     match named {
         None => {

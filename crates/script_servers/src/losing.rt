@@ -1,6 +1,6 @@
 //! What losses leave of the caches of servers.
 
-ghost use Rattle.std.specs.Prelude.{◌≡◌, ℕ, List};
+ghost use Rattle.std.specs.Prelude.{◌≡◌, ℕ, List, length};
 ghost use Rattle.memory_fleet.specs.Losing.{loss_of, held_at, after_loss};
 ghost use Rattle.mc_runs.specs.Fleet.{after_event};
 ghost use Rattle.script_servers.specs.Losing.{AreLost};
@@ -12,6 +12,7 @@ use memory_fleet::Loss;
 pub fn lose_one(caches: &mut Vec<Cache>, loss: &Loss)
     ensures contents { caches.new.items ≡ after_loss (loss_of loss.now) caches.old.items }
     ensures held { (s : ℕ) (k : List ℕ) → held_at caches.new.items s k ≡ after_event (loss_of loss.now) (held_at caches.old.items) s k }
+    ensures count { length caches.new.items ≡ length caches.old.items }
 {
     match loss {
         Loss::Item(server, key) => {
@@ -31,7 +32,8 @@ pub fn lose_one(caches: &mut Vec<Cache>, loss: &Loss)
 
 /// These losses, in order. It takes no memory.
 pub fn lose_all(caches: &mut Vec<Cache>, losses: &[Loss])
-    ensures { AreLost losses.now caches.old.items caches.new.items }
+    ensures lost { AreLost losses.now caches.old.items caches.new.items }
+    ensures count { length caches.new.items ≡ length caches.old.items }
 {
     for loss in losses {
         lose_one(caches, loss);

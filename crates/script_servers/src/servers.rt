@@ -82,6 +82,7 @@ impl ScriptServers {
         requires short { length body.now ≤ data_limit }
         ensures ok { OnOk result (caches_of self.new ≡ changed_at server (λ c. storing c key.now (opening body.now)) (caches_of self.old)) }
         ensures err { OnErr result (caches_of self.new ≡ caches_of self.old) }
+        ensures count { count_of self.new ≡ count_of self.old }
         ensures rest { self.new ≡ record self.old { caches = self.new.caches } }
     {
         self.caches[server.number() as usize].hold(key, body)
@@ -130,6 +131,7 @@ impl ScriptServers {
     pub fn lose(&mut self, loss: &Loss)
         ensures contents { caches_of self.new ≡ after_loss (loss_of loss.now) (caches_of self.old) }
         ensures held { (s : ℕ) (k : List ℕ) → held_at (caches_of self.new) s k ≡ after_event (loss_of loss.now) (held_at (caches_of self.old)) s k }
+        ensures count { count_of self.new ≡ count_of self.old }
         ensures rest { self.new ≡ record self.old { caches = self.new.caches } }
     {
         lose_one(&mut self.caches, loss);
@@ -155,6 +157,7 @@ impl ScriptServers {
     fn lose_named(&mut self)
         requires { turn_of self.old < last_turn }
         ensures lost { AreLost (lost_of self.old (turn_of self.old + 1)) (caches_of self.old) (caches_of self.new) }
+        ensures count { count_of self.new ≡ count_of self.old }
         ensures rest { self.new ≡ record self.old { caches = self.new.caches } }
     {
         if let Some(losses) = self.losses.get(&(self.turn + 1)) {
@@ -177,6 +180,7 @@ impl ScriptServers {
         ensures err { OnErr result (turn_of self.new ≡ turn_of self.old) }
         ensures stops { IfErr result (λ fault. Stops fault stamp self.old server ask.now self.new) }
         ensures spent { (result ≡ Err Spent) ↔ (turn_of self.old ≡ last_turn) }
+        ensures count { count_of self.new ≡ count_of self.old }
         ensures rest { self.new ≡ record self.old { caches = self.new.caches; turn = self.new.turn } }
     {
         if self.turn == u64::MAX {

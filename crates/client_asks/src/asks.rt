@@ -4,8 +4,8 @@ ghost use Rattle.std.specs.Prelude.{◌≡◌, ◌≤◌, ◌<◌, ◌^◌, IsTr
 ghost use Rattle.mc_types.specs.Asks.{IsAsk, AreInRange, IsExptime, data_limit, classic_shape, meta_shape, shape_of};
 ghost use Rattle.mc_types.specs.KeyText.{IsKey};
 ghost use Rattle.mc_types.specs.Tokens.{letter_of, same_letter, has_letter, wants, are_served};
-ghost use Rattle.link_calls.specs.Asks.{presence_of, letters_of, fields_of, flag_is, number_is, some_is, place_of, has_shape, has_shape_of};
-ghost use Rattle.link_calls.specs.declared.asks.May.TheVariants as may;
+ghost use Rattle.client_asks.specs.Asks.{presence_of, letters_of, fields_of, flag_is, number_is, some_is, place_of, has_shape, has_shape_of};
+ghost use Rattle.client_asks.specs.declared.asks.May.TheVariants as may;
 
 use mc_types::{Ask, DATA_LIMIT, Dialect, Key, Op, Token};
 

@@ -10,7 +10,7 @@ use Rattle.mc_types.specs.declared.limits.TheConstants.{KEY_LIMIT}
 use Rattle.mc_types.specs.Tokens.{Letter, LetterC, LetterF, LetterK, LetterS, LetterT, LetterV, LetterO, same_letter, are_served}
 use Rattle.mc_types.specs.Asks.{AreInRange, Presence, Absent, Optional, Required, Shape, FlagIs, NumberIs, OptionIs, BytesAre, HasShape, HasShapeOf, shape_of, IsAsk}
 use Rattle.mc_types.specs.declared.ask.Ask.{Ask}
-use Rattle.link_calls.specs.Asks.{place_of, flag_is, number_is, some_is, has_shape, has_shape_of}
+use Rattle.client_asks.specs.Asks.{place_of, flag_is, number_is, some_is, has_shape, has_shape_of}
 
 flag_ok : (p : Presence) (flag : Bool) → flag_is p flag ≡ true → FlagIs p flag
 flag_ok Absent true e = absurd cc

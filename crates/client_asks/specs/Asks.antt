@@ -3,11 +3,11 @@ use Rattle.std.specs.Prelude.{ℕ, Bool, true, false, not, ◌&&◌, ◌==◌, L
 use Rattle.mc_types.specs.Tokens.{Letter, LetterC, LetterF, LetterK, LetterS, LetterT, LetterV, LetterO, are_served}
 use Rattle.mc_types.specs.Asks.{Presence, Absent, Optional, Required, Shape, of_get, of_store, of_delete, of_count}
 use Rattle.mc_types.specs.declared.ask.Ask.{Ask}
-use Rattle.link_calls.specs.declared.asks.May.{May}
-use Rattle.link_calls.specs.declared.asks.May.TheVariants as may
-use Rattle.link_calls.specs.declared.asks.Served.{Served}
-use Rattle.link_calls.specs.declared.asks.Served.TheVariants as served
-use Rattle.link_calls.specs.declared.asks.Fields.{Fields}
+use Rattle.client_asks.specs.declared.asks.May.{May}
+use Rattle.client_asks.specs.declared.asks.May.TheVariants as may
+use Rattle.client_asks.specs.declared.asks.Served.{Served}
+use Rattle.client_asks.specs.declared.asks.Served.TheVariants as served
+use Rattle.client_asks.specs.declared.asks.Fields.{Fields}
 
 -- whether a field stands in an ask
 abbrev pub presence_of : May → Presence

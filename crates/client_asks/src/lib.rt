@@ -1,0 +1,6 @@
+//! Which asks a client can write.
+#![tactic(auto)]
+
+pub mod asks;
+
+pub use asks::is_ask;

@@ -1,0 +1,153 @@
+-- What calls of a runner make of a log, one after another.
+use Rattle.std.proofs.Common.{◌≡◌, ℕ, cond, nat_eq, List, [], ◌∷◌, ◌++◌, Option, Result, Ok, Err, refl, sym, ap, ◌∙◌, subst, append_assoc}
+use Rattle.std.specs.Prelude.{OnOk, ℤ}
+use Rattle.mc_types.specs.declared.ask.Ask.{Ask}
+use Rattle.mc_types.specs.Items.{Item}
+use Rattle.mc_runs.specs.Overlap.{Entry}
+use Rattle.mc_runs.specs.OverlapStream.{stream_of}
+use Rattle.mc_runs.specs.Overlap.{given_of}
+use Rattle.mc_runs.specs.Run.{End, Read, Unread, Never, outcome_of}
+use Rattle.mc_runs.specs.Single.{FitsOutcome}
+use Rattle.mc_types.specs.declared.call.Origin.{Origin}
+use Rattle.proxy_core.specs.CoreState.{dialect, Reloads}
+use Rattle.proxy_core.specs.Polls.{Polls}
+use Rattle.proxy_core.specs.Settles.{IsCalled, Settles}
+use Rattle.proxy_core.specs.declared.note.Poll.{Poll}
+use Rattle.proxy_core.specs.declared.note.Poll.TheVariants as polls
+use Rattle.proxy_core.specs.declared.proxy.Core.{Core}
+use Rattle.memory_fleet.specs.Law.{stamp_given}
+use Rattle.route_tree.specs.Route.{Route}
+use Rattle.cache_server.specs.Contents.{Contents}
+use Rattle.memory_fleet.specs.declared.event.Made.{Made}
+use Rattle.script_servers.specs.Calling.{Ends}
+use Rattle.script_servers.specs.Servers.{Answers}
+use Rattle.script_servers.specs.declared.servers.ScriptServers.{ScriptServers}
+use Rattle.stepped_log.specs.Standing.{Kept, Stands, GoesOn, GoesOnFed, IsBesides}
+use Rattle.stepped_log.specs.Laws.{CountsPoll, PollsGoOn, ResultsGoOn, LoadsGoOn}
+use Rattle.core_run.specs.Counting.{last_of}
+use Rattle.core_run.specs.Finding.{found_of}
+use Rattle.core_run.specs.Running.{kept_of, Moves, MovesFed, IsLoadedBy}
+use Rattle.core_run.specs.declared.found.Found.{Found}
+use Rattle.core_run.specs.declared.runner.Runner.{Runner}
+
+-- nothing was done
+pub stays : (a : Runner) (s : ScriptServers) → Moves a s a s
+stays a s opening tree log stands = record { more = []; stands = stands; streams = λ c. refl; given = λ c. refl }
+
+module _ (opening : ℕ → List ℕ → Option Item) (tree : ℕ → Route) (log : List (Entry dialect)) where
+  longer : (more first : List (Entry dialect)) (k : Kept) → Stands opening tree (more ++ (first ++ log)) k → Stands opening tree ((more ++ first) ++ log) k
+  longer more first k stands = subst (λ l. Stands opening tree l k) (sym (append_assoc more first log)) stands
+
+  streams_on : (more first : List (Entry dialect)) (c : ℕ) → stream_of (more ++ (first ++ log)) c ≡ stream_of (first ++ log) c → stream_of ((more ++ first) ++ log) c ≡ stream_of (first ++ log) c
+  streams_on more first c e = ap (λ l. stream_of l c) (append_assoc more first log) ∙ e
+
+  given_on : (more first : List (Entry dialect)) (c : ℕ) → given_of (more ++ (first ++ log)) c ≡ given_of (first ++ log) c → given_of ((more ++ first) ++ log) c ≡ given_of (first ++ log) c
+  given_on more first c e = ap (λ l. given_of l c) (append_assoc more first log) ∙ e
+
+  goes_then : (k l : Kept) (g : GoesOn opening tree log k) → GoesOn opening tree (g.more ++ log) l → GoesOn opening tree log l
+  goes_then k l g h =
+      record {
+        more = h.more ++ g.more;
+        stands = longer h.more g.more l h.stands;
+        streams = λ c. streams_on h.more g.more c (h.streams c) ∙ g.streams c;
+        given = λ c. given_on h.more g.more c (h.given c) ∙ g.given c;
+      }
+
+  fed_goes_then : (client : ℕ) (bytes : List ℕ) (k l : Kept) (g : GoesOnFed opening tree log client bytes k) → GoesOn opening tree (g.more ++ log) l → GoesOnFed opening tree log client bytes l
+  fed_goes_then client bytes k l g h =
+      record {
+        more = h.more ++ g.more;
+        stands = longer h.more g.more l h.stands;
+        streams = λ c. streams_on h.more g.more c (h.streams c) ∙ g.streams c;
+        given = λ c. given_on h.more g.more c (h.given c) ∙ g.given c;
+      }
+
+-- one after another
+pub then : (a b d : Runner) (s t u : ScriptServers) → Moves a s b t → Moves b t d u → Moves a s d u
+then a b d s t u m n opening tree log stands =
+    let g = m opening tree log stands in
+    goes_then opening tree log (kept_of b t) (kept_of d u) g (n opening tree (g.more ++ log) g.stands)
+
+-- bytes, and then what is done of them
+pub fed_then : (client : ℕ) (bytes : List ℕ) (a b d : Runner) (s t u : ScriptServers) → MovesFed client bytes a s b t → Moves b t d u → MovesFed client bytes a s d u
+fed_then client bytes a b d s t u m n opening tree log stands =
+    let g = m opening tree log stands in
+    fed_goes_then opening tree log client bytes (kept_of b t) (kept_of d u) g (n opening tree (g.more ++ log) g.stands)
+
+-- all but the core is kept as it was
+pub besides : (k l : Kept) → l ≡ record k { core = l.core } → IsBesides k l
+besides k l same =
+    record {
+      servers = record { caches = ap (λ x. x.caches) same; turn = ap (λ x. x.turn) same };
+      counts = record { commands = ap (λ x. x.commands) same; stale = ap (λ x. x.stale) same; last = λ key. ap (λ x. x.last key) same };
+      found = λ n. ap (λ x. x.stamps n) same;
+    }
+
+-- a call that was made has an outcome that fits its ask
+fits_by : (end : End) (stamp : ℕ) (moment : ℤ) (old : List Contents) (server : ℕ) (ask : Ask) (found : Option ℕ) (new : List Contents) → Ends stamp moment old server ask end found new → FitsOutcome ask (outcome_of end)
+fits_by (Read s answer spaces) stamp moment old server ask found new e = e.2.call.fits
+fits_by (Unread s answer spaces) stamp moment old server ask found new e = tt
+fits_by Never stamp moment old server ask found new e = tt
+
+pub made_fits : (stamp : ℕ) (old : ScriptServers) (server : ℕ) (ask : Ask) (made : Made) (new : ScriptServers) → Answers stamp old server ask made new → FitsOutcome ask made.outcome
+made_fits stamp old server ask made new a = subst (FitsOutcome ask) (sym a.is_made.outcome_is) (fits_by a.is_made.end stamp _ _ server ask made.stamp _ a.is_made.ends)
+
+-- of a result that came
+pub on_ok : {A E : Type 0} (r : Result A E) (P Q : Type 0) → (P → Q) → OnOk r P → OnOk r Q
+on_ok (Ok a) P Q f p = f p
+on_ok (Err e) P Q f p = tt
+
+-- ---- one call of the core
+
+-- what is counted doesn't depend on the core
+same_besides : (k l : Kept) (x : Core) → IsBesides (record k { core = x }) l → IsBesides k l
+same_besides k l x b =
+    record {
+      servers = record { caches = b.servers.caches; turn = b.servers.turn };
+      counts = record { commands = b.counts.commands; stale = b.counts.stale; last = b.counts.last };
+      found = b.found;
+    }
+
+same_counts : (poll : Poll) (k l : Kept) (x : Core) → CountsPoll poll (record k { core = x }) l → CountsPoll poll k l
+same_counts (polls.Did note) k l x b =
+    record { servers = record { caches = b.servers.caches; turn = b.servers.turn }; commands = b.commands; stale = b.stale; last = b.last; stamps = b.stamps }
+same_counts polls.Idle k l x b = same_besides k l x b
+same_counts polls.Own k l x b = same_besides k l x b
+same_counts polls.Refused k l x b = same_besides k l x b
+same_counts (polls.Call ticket) k l x b = same_besides k l x b
+same_counts polls.Waiting k l x b = same_besides k l x b
+same_counts polls.Busy k l x b = same_besides k l x b
+
+-- a poll, and what is counted of it
+pub polled : PollsGoOn → (client : ℕ) (poll : Poll) (a b : Runner) (x : Core) → Polls a.core client poll x → b.core ≡ x → ((s : ScriptServers) → CountsPoll poll (kept_of (record a { core = x }) s) (kept_of b s)) → (s : ScriptServers) → Moves a s b s
+polled law client poll a b x step same counts s opening tree log stands =
+    law opening tree log client poll (kept_of a s) (kept_of b s) stands (subst (λ y. Polls a.core client poll y) (sym same) step) (same_counts poll (kept_of a s) (kept_of b s) x (counts s))
+
+-- a tree is loaded
+pub loaded : LoadsGoOn → (a : Runner) (x : Core) (t tree : Route) → t ≡ tree → Reloads a.core t x → (s : ScriptServers) → IsLoadedBy tree a s (record a { core = x }) s
+loaded law a x t tree same step s opening first loads log stands =
+    law opening first loads log tree (kept_of a s) (kept_of (record a { core = x }) s) stands (subst (λ r. Reloads a.core r x) same step) (besides (kept_of a s) (kept_of (record a { core = x }) s) refl)
+
+-- a call has its result
+pub resulted :
+    ResultsGoOn → (number server : ℕ) (ask : Ask) (origin : Origin) (made : Made) (stamp : ℕ) (a b : Runner) (room : Found) (s t : ScriptServers)
+    → IsCalled a.core number server ask origin → ((n : ℕ) → found_of room n ≡ found_of a.found n) → stamp ≡ stamp_given (found_of room number) number origin → Answers stamp s server ask made t
+    → ((n : ℕ) → found_of b.found n ≡ cond (nat_eq number n) (found_of room n ++ made.stamp ∷ []) (found_of room n)) → Settles a.core number made.outcome b.core → b.counts ≡ a.counts → Moves a s b t
+resulted law number server ask origin made stamp a b room s t called same is answers found settles counts opening tree log stands =
+    law opening tree log number server ask origin made s t (kept_of a s) (kept_of b t) stands (
+      record {
+        called = called;
+        caches_were = refl;
+        turn_was = refl;
+        answers = subst (λ n. Answers n s server ask made t) (is ∙ ap (λ f. stamp_given f number origin) (same number)) answers;
+        settles = settles;
+        caches_are = refl;
+        turn_is = refl;
+        stamps = λ n. found n ∙ ap (λ f. cond (nat_eq number n) (f ++ made.stamp ∷ []) f) (same n);
+        counts = record { commands = ap (λ c. c.tally.commands) counts; stale = ap (λ c. c.tally.stale) counts; last = λ key. ap (λ c. last_of c key) counts };
+      }
+    )
+
+-- which calls are out isn't kept
+pub out_only : (a b d : Runner) (s t : ScriptServers) → b ≡ record a { out = b.out } → Moves b s d t → Moves a s d t
+out_only a b d s t same m = subst (λ r. Moves r s d t) same m

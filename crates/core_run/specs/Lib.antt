@@ -1,0 +1,4 @@
+pub mod Finding
+pub mod Tallying
+pub mod Counting
+pub mod Running

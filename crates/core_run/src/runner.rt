@@ -1,0 +1,336 @@
+//! The core, what it can't know, and its calls at the servers of a script.
+
+ghost use Rattle.std.specs.Prelude.{◌≡◌, IfOk, OnOk};
+ghost use Rattle.proxy_core.specs.Polls.{Polls};
+ghost use Rattle.script_servers.specs.Servers.{count_of, turn_of, Answers};
+ghost use Rattle.stepped_log.specs.Laws.{stamp_shown, CountsPoll, CountsOne, IsBegin};
+ghost use Rattle.core_run.specs.Finding.{found_of};
+
+use crate::counting::Counts;
+use crate::found::Found;
+use crate::tally::Tally;
+use client_asks::is_ask;
+use mc_types::{Ask, ServerId};
+use memory_fleet::{FleetFault, Made};
+use proxy_core::{Core, CoreFault, Limits, Note, Poll, Ticket};
+use route_tree::Tree;
+use script_servers::ScriptServers;
+use std::alloc::Global;
+use stepped_log::laws::{
+    feeds_go_on, gives_go_on, loads_go_on, openings_go_on, polls_go_on, results_go_on,
+};
+
+/// The core, and what it can't know: how many clients were opened, which calls are out, in the order in which they went out, what
+/// calls found, and the counts.
+///
+/// Each call keeps a log of all that happened: what stands beside it in `Stands` is what a runner and its servers keep. That the
+/// core numbers its clients from 0 is tested as they are opened; with the faults that can't come (a client that isn't there, more bytes
+/// than may be held, a ticket that isn't out) it ends as `Spent`.
+#[derive(Drop)]
+pub struct Runner {
+    core: Core,
+    clients: usize,
+    out: Vec<Ticket>,
+    found: Found,
+    counts: Counts,
+}
+
+// What stops a run where the core has a fault.
+fn fault_of(fault: CoreFault) -> FleetFault {
+    match fault {
+        CoreFault::NoMemory => FleetFault::NoMemory,
+        CoreFault::Spent
+        | CoreFault::TooManyClients
+        | CoreFault::NoClient
+        | CoreFault::InputFull
+        | CoreFault::UnderWay
+        | CoreFault::NoTicket => FleetFault::Spent,
+    }
+}
+
+// What the server answers to a call, where it is one that a client can ask, at a server that is there.
+fn answer(
+    servers: &mut ScriptServers,
+    stamp: u64,
+    server: ServerId,
+    ask: &Ask,
+) -> Result<Made, FleetFault>
+    ensures ok { IfOk result (λ made. Answers stamp servers.old server ask.now made servers.new) }
+    ensures count { count_of servers.new ≡ count_of servers.old }
+{
+    if !is_ask(ask) || server.number() as usize >= servers.servers() {
+        return Err(FleetFault::Spent);
+    }
+    servers.answer(stamp, server, ask)
+}
+
+impl Runner {
+    ghost use Rattle.core_run.specs.Running.{kept_of, Moves, MovesFed, MovesGiven, IsLoadedBy};
+
+    /// No client was opened; commands begin on this tree.
+    pub fn new(alloc: Global, tree: Tree) -> Runner
+        ensures { (servers : ScriptServers) → turn_of servers ≡ 0 → IsBegin tree (kept_of result servers) }
+    {
+        Runner {
+            core: Core::unchecked(alloc, tree, Limits::of_scripts()),
+            clients: 0,
+            out: Vec::new(alloc),
+            found: Found::new(alloc),
+            counts: Counts::new(alloc),
+        }
+    }
+
+    /// How many clients were opened.
+    pub fn clients(&self) -> usize
+        ensures { result ≡ self.now.clients }
+    {
+        self.clients
+    }
+
+    /// What is counted of commands that ended.
+    pub fn tally(&self) -> Tally
+        ensures { result ≡ self.now.counts.tally }
+    {
+        self.counts.tally()
+    }
+
+    // One more client.
+    fn open_next(&mut self) -> Result<(), FleetFault>
+        ensures { OnOk result ((servers : ScriptServers) → Moves self.old servers self.new servers) }
+    {
+        openings_go_on();
+        match self.core.open_client() {
+            Err(fault) => Err(fault_of(fault)),
+            Ok(place) => {
+                if place != self.clients || place == usize::MAX {
+                    return Err(FleetFault::Spent);
+                }
+                self.clients = place + 1;
+                Ok(())
+            }
+        }
+    }
+
+    /// Clients are opened up to this one, counted from 0. The errors are running out of memory, and `Spent` where no more may be open.
+    pub fn open(&mut self, client: usize) -> Result<(), FleetFault>
+        ensures { OnOk result ((servers : ScriptServers) → Moves self.old servers self.new servers) }
+    {
+        for _number in self.clients..client.saturating_add(1) {
+            self.open_next()?;
+        }
+        Ok(())
+    }
+
+    // A client's bytes come.
+    fn feed(&mut self, client: usize, piece: &[u8]) -> Result<(), FleetFault>
+        ensures { OnOk result ((servers : ScriptServers) → MovesFed client piece.now self.old servers self.new servers) }
+    {
+        feeds_go_on();
+        match self.core.feed(client, piece) {
+            Ok(()) => Ok(()),
+            Err(fault) => Err(fault_of(fault)),
+        }
+    }
+
+    // The stamp of the item that the command's reply shows, if it shows one.
+    fn stamp_shown(&self, note: &Note) -> Option<u64>
+        ensures { result ≡ stamp_shown (found_of self.now.found note.now.number) note.now.from }
+    {
+        match note.from {
+            None => None,
+            Some(call) => self.found.stamp_at(note.number, call),
+        }
+    }
+
+    // A command ended.
+    fn count(&mut self, note: &Note) -> Result<(), FleetFault>
+        ensures { OnOk result ((self.new.core ≡ self.old.core) × ((servers : ScriptServers) → CountsOne note.now (kept_of self.old servers) (kept_of self.new servers))) }
+    {
+        let shown = self.stamp_shown(note);
+        self.counts
+            .count(note.number, note.ask.key(), shown, note.acknowledged)?;
+        self.found.forget(note.number);
+        Ok(())
+    }
+
+    // A call went out.
+    fn put_out(&mut self, ticket: Ticket) -> Result<(), FleetFault>
+        ensures { self.new ≡ record self.old { out = self.new.out } }
+    {
+        Ok(self.out.push(ticket)?)
+    }
+
+    // What was done for a client: whether anything was.
+    fn take_poll(&mut self, poll: Poll) -> Result<bool, FleetFault>
+        ensures { OnOk result ((self.new.core ≡ self.old.core) × ((servers : ScriptServers) → CountsPoll poll (kept_of self.old servers) (kept_of self.new servers))) }
+    {
+        match poll {
+            Poll::Idle => Ok(false),
+            Poll::Waiting => Ok(false),
+            Poll::Busy => Ok(false),
+            Poll::Own => Ok(true),
+            Poll::Refused => Ok(true),
+            Poll::Did(note) => {
+                self.count(&note)?;
+                Ok(true)
+            }
+            Poll::Call(ticket) => {
+                self.put_out(ticket)?;
+                Ok(true)
+            }
+        }
+    }
+
+    // The next thing is done for a client: whether anything was.
+    fn poll(&mut self, client: usize) -> Result<bool, FleetFault>
+        ensures { OnOk result ((servers : ScriptServers) → Moves self.old servers self.new servers) }
+    {
+        polls_go_on();
+        match self.core.poll(client) {
+            Ok(poll) => self.take_poll(poll),
+            Err(fault) => Err(fault_of(fault)),
+        }
+    }
+
+    // Each client is polled once, in rising number: whether anything was done.
+    fn poll_round(&mut self) -> Result<bool, FleetFault>
+        ensures { OnOk result ((servers : ScriptServers) → Moves self.old servers self.new servers) }
+    {
+        let mut is_moved = false;
+        for client in 0..self.clients {
+            if self.poll(client)? {
+                is_moved = true;
+            }
+        }
+        Ok(is_moved)
+    }
+
+    // Clients are polled until a whole round gives nothing.
+    fn poll_all(&mut self) -> Result<(), FleetFault>
+        ensures { OnOk result ((servers : ScriptServers) → Moves self.old servers self.new servers) }
+    {
+        for _round in 0..u64::MAX {
+            if !self.poll_round()? {
+                return Ok(());
+            }
+        }
+        Err(FleetFault::Spent)
+    }
+
+    /// A client's bytes come, and all that can be done without a result is done. The errors are running out of memory, and `Spent`
+    /// where the last number that there is was given to a command.
+    pub fn add(&mut self, client: usize, bytes: &[u8]) -> Result<(), FleetFault>
+        ensures { OnOk result ((servers : ScriptServers) → MovesFed client bytes.now self.old servers self.new servers) }
+    {
+        self.feed(client, bytes)?;
+        self.poll_all()
+    }
+
+    // The place of the first call that is out at the server.
+    fn first_at(&self, server: ServerId) -> Option<usize> {
+        self.out
+            .iter()
+            .position(|ticket| ticket.server.number() == server.number())
+    }
+
+    // The first call that is out at the server is out no more.
+    fn take_first(&mut self, server: ServerId) -> Option<Ticket>
+        ensures { self.new ≡ record self.old { out = self.new.out } }
+    {
+        let at = self.first_at(server)?;
+        if at < self.out.len() {
+            Some(self.out.remove(at))
+        } else {
+            None
+        }
+    }
+
+    // The least server at which a call is out.
+    fn least(&self) -> Option<ServerId> {
+        let mut least: Option<ServerId> = None;
+        for ticket in self.out.iter() {
+            least = match least {
+                Some(server) if server.number() <= ticket.server.number() => Some(server),
+                _ => Some(ticket.server),
+            };
+        }
+        least
+    }
+
+    // The call has its result.
+    fn settle(&mut self, servers: &mut ScriptServers, ticket: Ticket) -> Result<(), FleetFault>
+        ensures ok { OnOk result (Moves self.old servers.old self.new servers.new) }
+        ensures count { count_of servers.new ≡ count_of servers.old }
+    {
+        results_go_on();
+        let number = ticket.number;
+        self.found.make_room(number)?;
+        let Some(call) = self.core.called(number) else {
+            return Err(FleetFault::Spent);
+        };
+        let stamp = self.found.stamp_of(number, call.origin);
+        let made = answer(servers, stamp, call.server, call.ask)?;
+        self.found.note(number, made.stamp)?;
+        match self.core.settle(ticket, made.outcome) {
+            Ok(()) => Ok(()),
+            Err(fault) => Err(fault_of(fault)),
+        }
+    }
+
+    /// The first call that is out at the server has its result, if there is one, and then all that can be done without another is done.
+    /// The errors are running out of memory, and `Spent` where calls or commands have no more numbers.
+    pub fn settle_first(
+        &mut self,
+        servers: &mut ScriptServers,
+        server: ServerId,
+    ) -> Result<(), FleetFault>
+        ensures ok { OnOk result (Moves self.old servers.old self.new servers.new) }
+        ensures count { count_of servers.new ≡ count_of servers.old }
+    {
+        match self.take_first(server) {
+            None => self.poll_all(),
+            Some(ticket) => {
+                self.settle(servers, ticket)?;
+                self.poll_all()
+            }
+        }
+    }
+
+    /// Each call that is out has its result, that of the least server first, until none is out. The errors are those of
+    /// [`settle_first`](Runner::settle_first).
+    pub fn settle_all(&mut self, servers: &mut ScriptServers) -> Result<(), FleetFault>
+        ensures ok { OnOk result (Moves self.old servers.old self.new servers.new) }
+        ensures count { count_of servers.new ≡ count_of servers.old }
+    {
+        for _round in 0..u64::MAX {
+            match self.least() {
+                None => return Ok(()),
+                Some(server) => self.settle_first(servers, server)?,
+            }
+        }
+        Err(FleetFault::Spent)
+    }
+
+    /// A client's new output, which is then empty. The errors are running out of memory, and `Spent` where there is no such client.
+    pub fn take_output(&mut self, client: usize) -> Result<Vec<u8>, FleetFault>
+        ensures { IfOk result (λ bytes. (servers : ScriptServers) → MovesGiven client bytes.items self.old servers self.new servers) }
+    {
+        gives_go_on();
+        match self.core.take_output(client) {
+            Ok(bytes) => Ok(bytes),
+            Err(fault) => Err(fault_of(fault)),
+        }
+    }
+
+    /// Commands that begin from now on run by this tree, of which no gate is asked. The errors are running out of memory, and `Spent`
+    /// where as many trees were in use as can be numbered.
+    pub fn load(&mut self, tree: &Tree) -> Result<(), FleetFault>
+        ensures { OnOk result ((servers : ScriptServers) → IsLoadedBy tree.now self.old servers self.new servers) }
+    {
+        loads_go_on();
+        match self.core.reload(tree.copy()?) {
+            Ok(_generation) => Ok(()),
+            Err(_) => Err(FleetFault::Spent),
+        }
+    }
+}

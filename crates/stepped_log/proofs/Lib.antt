@@ -1,0 +1,6 @@
+pub mod Ends
+pub mod PollsTells
+pub mod PollsEntries
+pub mod ResultsLosses
+pub mod ResultsFound
+pub mod Results

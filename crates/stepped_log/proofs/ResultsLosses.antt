@@ -1,0 +1,158 @@
+-- Losses of servers lead on, and go on with a log that stands; what of a log neither they nor calls change.
+use Rattle.std.proofs.Common.{◌≡◌, ℕ, ◌<◌, List, [], ◌∷◌, ◌++◌, Option, refl, sym, ap, ◌∙◌, subst}
+use Rattle.mc_types.specs.declared.ask.Ask.{Ask}
+use Rattle.mc_types.specs.declared.call.Origin.{Origin}
+use Rattle.mc_types.specs.Items.{Item}
+use Rattle.mc_runs.specs.Run.{End}
+use Rattle.mc_runs.specs.Sharing.{Event, Begins, Calls, Replies, Breaks, Loses, Restarts, calls_so_far, commands_in}
+use Rattle.mc_runs.specs.SharingFleet.{after_losses, AreLosses}
+use Rattle.mc_runs.specs.SharingStale.{tally_of, last_gone}
+use Rattle.mc_runs.specs.ScriptLog.{lost_by}
+use Rattle.mc_runs.specs.Overlap.{Entry, Happens, run_of, given_of, is_dropped, owner_of}
+use Rattle.mc_runs.specs.OverlapState.{LeadsTo, Leads, IsLike, MayHappenNow, after}
+use Rattle.mc_runs.specs.OverlapStream.{stream_of}
+use Rattle.mc_runs.proofs.OverlapSteps.{walks_lead, leads_on}
+use Rattle.memory_fleet.specs.Law.{AreFound}
+use Rattle.memory_fleet.specs.Losing.{held_at}
+use Rattle.memory_fleet.specs.declared.event.Loss.{Loss}
+use Rattle.memory_fleet.specs.declared.event.Loss.TheVariants.{Item as LostItem, Restart}
+use Rattle.script_servers.specs.Losing.{told_of}
+use Rattle.script_servers.proofs.Losses.{same_event, same_held}
+use Rattle.route_tree.specs.Word.{tree_words}
+use Rattle.proxy_core.specs.declared.proxy.Core.{Core}
+use Rattle.proxy_core.specs.CoreState.{dialect, bars_of, Beside, Fits, state_of}
+use Rattle.stepped_log.specs.Standing.{replied_in}
+use Rattle.stepped_log.specs.Laws.{LossesGoOn}
+
+-- what stands beside the core after losses
+abbrev pub bereft : List Event → Beside → Beside
+bereft lost beside = record beside { holds = after_losses lost beside.holds }
+
+-- losses as entries of a log
+abbrev pub happened : List Event → List (Entry dialect)
+happened [] = []
+happened (e ∷ es) = Happens e ∷ happened es
+
+-- the core keeps nothing of what servers hold
+pub still_fits : (x : Core) (beside : Beside) (lost : List Event) → Fits x beside → Fits x (bereft lost beside)
+still_fits x beside lost f =
+    record { queues = f.queues; held = f.held; numbered = f.numbered; to_come = f.to_come; tickets = f.tickets; single = f.single; numbers = f.numbers; unseen = f.unseen; trees = f.trees }
+
+-- one loss after others
+one_more :
+    (x : Core) (beside : Beside) (e : Event) (es : List Event) → MayHappenNow (state_of x (bereft es beside)) e
+    → IsLike (state_of x (bereft (e ∷ es) beside)) (after (tree_words beside.at) (Happens e) (state_of x (bereft es beside)))
+    → Leads (tree_words beside.at) (bars_of x beside) (state_of x beside) (happened es) (state_of x (bereft es beside))
+    → Leads (tree_words beside.at) (bars_of x beside) (state_of x beside) (happened (e ∷ es)) (state_of x (bereft (e ∷ es) beside))
+one_more x beside e es may like rest =
+    leads_on (tree_words beside.at) (bars_of x beside) (state_of x beside) (state_of x (bereft es beside)) (state_of x (bereft (e ∷ es) beside)) (happened es) (Happens e ∷ []) rest
+    (walks_lead (tree_words beside.at) (bars_of x beside) (state_of x (bereft es beside)) (state_of x (bereft (e ∷ es) beside)) (Happens e ∷ []) (record { may = (may, tt); like = like }))
+
+-- losses may come at any time
+pub losses_lead : (x : Core) (beside : Beside) (lost : List Event) → AreLosses lost → Leads (tree_words beside.at) (bars_of x beside) (state_of x beside) (happened lost) (state_of x (bereft lost beside))
+losses_lead x beside [] are =
+    walks_lead (tree_words beside.at) (bars_of x beside) (state_of x beside) (state_of x (bereft [] beside)) []
+    (record { may = tt; like = record { front = λ c. refl; queue = λ c. refl; output = λ c. refl; dropped = λ c. refl; number = refl; owner = λ n. refl; to_come = λ n o e calls reply from l. l; out = λ s. refl; holds = λ s k. refl; found = λ n o e. refl; turn = refl } })
+losses_lead x beside (Loses server key ∷ es) are =
+    one_more x beside (Loses server key) es tt
+    (record { front = λ c. refl; queue = λ c. refl; output = λ c. refl; dropped = λ c. refl; number = refl; owner = λ n. refl; to_come = λ n o e calls reply from l. l; out = λ s. refl; holds = λ s k. refl; found = λ n o e. refl; turn = refl })
+    (losses_lead x beside es are)
+losses_lead x beside (Restarts server ∷ es) are =
+    one_more x beside (Restarts server) es tt
+    (record { front = λ c. refl; queue = λ c. refl; output = λ c. refl; dropped = λ c. refl; number = refl; owner = λ n. refl; to_come = λ n o e calls reply from l. l; out = λ s. refl; holds = λ s k. refl; found = λ n o e. refl; turn = refl })
+    (losses_lead x beside es are)
+losses_lead x beside (Begins number ask ∷ es) are = absurd are
+losses_lead x beside (Calls number server ask origin end ∷ es) are = absurd are
+losses_lead x beside (Replies number key reply from ∷ es) are = absurd are
+losses_lead x beside (Breaks number ∷ es) are = absurd are
+
+-- of two logs these are the same, which neither calls nor losses change
+pub record IsAlike (opening : ℕ → List ℕ → Option Item) (new old : List (Entry dialect)) : Type 0 where
+  pub dropped : (c : ℕ) → is_dropped new c ≡ is_dropped old c
+  pub owner : (n : ℕ) → owner_of new n ≡ owner_of old n
+  pub stream : (c : ℕ) → stream_of new c ≡ stream_of old c
+  pub given : (c : ℕ) → given_of new c ≡ given_of old c
+  pub begun : commands_in (run_of new) ≡ commands_in (run_of old)
+  pub replied : replied_in (run_of new) ≡ replied_in (run_of old)
+  pub tally : tally_of opening (run_of new) ≡ tally_of opening (run_of old)
+  pub gone : (key : List ℕ) → last_gone (run_of new) key ≡ last_gone (run_of old) key
+
+-- a log is like those that are like one like it
+pub alike_then : (opening : ℕ → List ℕ → Option Item) (new mid old : List (Entry dialect)) → IsAlike opening new mid → IsAlike opening mid old → IsAlike opening new old
+alike_then opening new mid old a b =
+    record {
+      dropped = λ c. a.dropped c ∙ b.dropped c;
+      owner = λ n. a.owner n ∙ b.owner n;
+      stream = λ c. a.stream c ∙ b.stream c;
+      given = λ c. a.given c ∙ b.given c;
+      begun = a.begun ∙ b.begun;
+      replied = a.replied ∙ b.replied;
+      tally = a.tally ∙ b.tally;
+      gone = λ key. a.gone key ∙ b.gone key;
+    }
+
+-- after a call
+pub call_alike : (opening : ℕ → List ℕ → Option Item) (log : List (Entry dialect)) (number server : ℕ) (ask : Ask) (origin : Origin) (end : End) → IsAlike opening (Happens (Calls number server ask origin end) ∷ log) log
+call_alike opening log number server ask origin end =
+    record { dropped = λ c. refl; owner = λ n. refl; stream = λ c. refl; given = λ c. refl; begun = refl; replied = refl; tally = refl; gone = λ key. refl }
+
+-- after losses
+pub losses_alike : (opening : ℕ → List ℕ → Option Item) (log : List (Entry dialect)) (lost : List Event) → AreLosses lost → IsAlike opening (happened lost ++ log) log
+losses_alike opening log [] are = record { dropped = λ c. refl; owner = λ n. refl; stream = λ c. refl; given = λ c. refl; begun = refl; replied = refl; tally = refl; gone = λ key. refl }
+losses_alike opening log (Loses server key ∷ es) are =
+    alike_then opening (Happens (Loses server key) ∷ (happened es ++ log)) (happened es ++ log) log
+    (record { dropped = λ c. refl; owner = λ n. refl; stream = λ c. refl; given = λ c. refl; begun = refl; replied = refl; tally = refl; gone = λ key. refl })
+    (losses_alike opening log es are)
+losses_alike opening log (Restarts server ∷ es) are =
+    alike_then opening (Happens (Restarts server) ∷ (happened es ++ log)) (happened es ++ log) log
+    (record { dropped = λ c. refl; owner = λ n. refl; stream = λ c. refl; given = λ c. refl; begun = refl; replied = refl; tally = refl; gone = λ key. refl })
+    (losses_alike opening log es are)
+losses_alike opening log (Begins number ask ∷ es) are = absurd are
+losses_alike opening log (Calls number server ask origin end ∷ es) are = absurd are
+losses_alike opening log (Replies number key reply from ∷ es) are = absurd are
+losses_alike opening log (Breaks number ∷ es) are = absurd are
+
+-- no command makes a call by losses
+pub calls_same : (log : List (Entry dialect)) (lost : List Event) → AreLosses lost → (n : ℕ) → calls_so_far (run_of (happened lost ++ log)) n ≡ calls_so_far (run_of log) n
+calls_same log [] are n = refl
+calls_same log (Loses server key ∷ es) are n = calls_same log es are n
+calls_same log (Restarts server ∷ es) are n = calls_same log es are n
+calls_same log (Begins number ask ∷ es) are n = absurd are
+calls_same log (Calls number server ask origin end ∷ es) are n = absurd are
+calls_same log (Replies number key reply from ∷ es) are n = absurd are
+calls_same log (Breaks number ∷ es) are n = absurd are
+
+-- what is named to be lost is a loss
+one_loss : (loss : Loss) → AreLosses (lost_by (told_of loss) ∷ [])
+one_loss (LostItem server key) = tt
+one_loss (Restart server) = tt
+
+-- what a server loses goes on with the log
+pub losses_go_on : LossesGoOn
+losses_go_on opening tree log loss old new stands lost =
+    let event : Event = lost_by (told_of loss) in
+    let are : AreLosses (event ∷ []) = one_loss loss in
+    let beside : Beside = bereft (event ∷ []) stands.beside in
+    let alike : IsAlike opening (Happens event ∷ log) log = losses_alike opening log (event ∷ []) are in
+    record {
+      more = Happens event ∷ [];
+      stands = record {
+        beside = beside;
+        plain = stands.plain;
+        fits = subst (λ (x : Core). Fits x beside) (sym lost.core) (still_fits old.core stands.beside (event ∷ []) stands.fits);
+        leads = subst (λ (x : Core). LeadsTo (tree_words beside.at) (bars_of x beside) opening (Happens event ∷ log) (state_of x beside)) (sym lost.core) (losses_lead old.core stands.beside (event ∷ []) are opening log stands.leads);
+        limits = ap (λ (x : Core). x.limits) lost.core ∙ stands.limits;
+        served = λ c. alike.dropped c ∙ stands.served c;
+        holds = λ s key. same_held loss stands.beside.holds (held_at old.caches) s key (stands.holds s key) ∙ sym (same_event loss (held_at old.caches) s key) ∙ sym (lost.held s key);
+        turn = stands.turn ∙ sym lost.turn;
+        known = λ n o e.
+            subst (λ calls. AreFound calls (stands.beside.found n) (new.stamps n)) (sym (calls_same log (event ∷ []) are n))
+            (subst (λ stamps. AreFound (calls_so_far (run_of log) n) (stands.beside.found n) stamps) (sym (lost.found n)) (stands.known n o (sym (alike.owner n) ∙ e)));
+        unknown = λ n lt. lost.found n ∙ stands.unknown n (subst (λ (x : Core). x.number < n) lost.core lt);
+        commands = lost.counts.commands ∙ stands.commands ∙ sym alike.replied;
+        stale = lost.counts.stale ∙ stands.stale ∙ sym alike.tally;
+        last = λ key. lost.counts.last key ∙ stands.last key ∙ sym (alike.gone key);
+      };
+      streams = alike.stream;
+      given = alike.given;
+    }

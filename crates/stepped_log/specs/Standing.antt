@@ -1,0 +1,101 @@
+-- Where a script that steps its calls stands in the log of overlapping commands. Source: mcgate's own.
+use Rattle.std.specs.Prelude.{◌≡◌, ℕ, ◌+◌, ◌<◌, false, List, [], ◌∷◌, ◌++◌, Option, Some, None, if◌then◌else◌, nat_eq, nat_lt}
+use Rattle.mc_types.specs.Items.{Item}
+use Rattle.mc_runs.specs.Sharing.{Event, Begins, Calls, Replies, Breaks, Loses, Restarts, calls_so_far}
+use Rattle.mc_runs.specs.SharingStale.{tally_of, last_gone}
+use Rattle.mc_runs.specs.Overlap.{Owner, Entry, run_of, owner_of, given_of, is_dropped}
+use Rattle.mc_runs.specs.OverlapState.{LeadsTo}
+use Rattle.mc_runs.specs.OverlapStream.{stream_of}
+use Rattle.cache_server.specs.Contents.{Contents}
+use Rattle.memory_fleet.specs.Losing.{held_at}
+use Rattle.memory_fleet.specs.Law.{AreFound}
+use Rattle.route_tree.specs.At.{tree_at}
+use Rattle.route_tree.specs.Route.{Route}
+use Rattle.route_tree.specs.Word.{tree_words}
+use Rattle.proxy_core.specs.Faults.{script_limits}
+use Rattle.proxy_core.specs.CoreState.{dialect, bars_of, Beside, Fits, state_of}
+use Rattle.proxy_core.specs.declared.proxy.Core.{Core}
+
+-- what is kept beside the log: the core, the caches of the servers, how many calls had their results, the stamps of what the calls of each command under way found, how many commands had their
+-- replies and how many of these were stale, and the number of the last acknowledged delete of each key
+pub record Kept : Type 0 where
+  pub core : Core
+  pub caches : List Contents
+  pub turn : ℕ
+  pub stamps : ℕ → List (Option ℕ)
+  pub commands : ℕ
+  pub stale : ℕ
+  pub last : List ℕ → Option ℕ
+
+-- how many commands had their replies
+abbrev pub replied_in : List Event → ℕ
+replied_in [] = 0
+replied_in (Replies number key reply from ∷ past) = replied_in past + 1
+replied_in (Begins number ask ∷ past) = replied_in past
+replied_in (Calls number server ask origin end ∷ past) = replied_in past
+replied_in (Breaks number ∷ past) = replied_in past
+replied_in (Loses server key ∷ past) = replied_in past
+replied_in (Restarts server ∷ past) = replied_in past
+
+-- the tree of a command, by its number: the first one, or that which was loaded last before it began; of each that was loaded it is known how many commands had begun. The latest comes first
+abbrev pub tree_by : Route → List (ℕ × Route) → ℕ → Route
+tree_by first [] n = first
+tree_by first (load ∷ loads) n = if nat_lt load.0 n then load.1 else tree_by first loads n
+
+-- the log, with commands by these trees and servers that held these opening items, leads to the core and the servers as they are kept, for which every client is served; and what is counted is what the log says
+pub record Stands (opening : ℕ → List ℕ → Option Item) (tree : ℕ → Route) (log : List (Entry dialect)) (k : Kept) : Type 0 where
+  pub beside : Beside
+  pub plain : beside.at ≡ (λ n key. tree_at (tree n) key)
+  pub fits : Fits k.core beside
+  pub leads : LeadsTo (tree_words beside.at) (bars_of k.core beside) opening log (state_of k.core beside)
+  pub limits : k.core.limits ≡ script_limits
+  pub served : (c : ℕ) → is_dropped log c ≡ false
+  pub holds : (s : ℕ) (key : List ℕ) → beside.holds s key ≡ held_at k.caches s key
+  pub turn : beside.turn ≡ k.turn
+  pub known : (n : ℕ) (o : Owner) → owner_of log n ≡ Some o → AreFound (calls_so_far (run_of log) n) (beside.found n) (k.stamps n)
+  pub unknown : (n : ℕ) → k.core.number < n → k.stamps n ≡ []
+  pub commands : k.commands ≡ replied_in (run_of log)
+  pub stale : k.stale ≡ tally_of opening (run_of log)
+  pub last : (key : List ℕ) → k.last key ≡ last_gone (run_of log) key
+
+-- the log goes on, and leads there; its clients said nothing more, and were given nothing more
+pub record GoesOn (opening : ℕ → List ℕ → Option Item) (tree : ℕ → Route) (log : List (Entry dialect)) (k : Kept) : Type 0 where
+  pub more : List (Entry dialect)
+  pub stands : Stands opening tree (more ++ log) k
+  pub streams : (c : ℕ) → stream_of (more ++ log) c ≡ stream_of log c
+  pub given : (c : ℕ) → given_of (more ++ log) c ≡ given_of log c
+
+-- the log goes on, and a client said these bytes
+pub record GoesOnFed (opening : ℕ → List ℕ → Option Item) (tree : ℕ → Route) (log : List (Entry dialect)) (client : ℕ) (bytes : List ℕ) (k : Kept) : Type 0 where
+  pub more : List (Entry dialect)
+  pub stands : Stands opening tree (more ++ log) k
+  pub streams : (c : ℕ) → stream_of (more ++ log) c ≡ (if nat_eq client c then stream_of log c ++ bytes else stream_of log c)
+  pub given : (c : ℕ) → given_of (more ++ log) c ≡ given_of log c
+
+-- the log goes on, and a client was given these bytes
+pub record GoesOnGiven (opening : ℕ → List ℕ → Option Item) (tree : ℕ → Route) (log : List (Entry dialect)) (client : ℕ) (bytes : List ℕ) (k : Kept) : Type 0 where
+  pub more : List (Entry dialect)
+  pub stands : Stands opening tree (more ++ log) k
+  pub streams : (c : ℕ) → stream_of (more ++ log) c ≡ stream_of log c
+  pub given : (c : ℕ) → given_of (more ++ log) c ≡ (if nat_eq client c then given_of log c ++ bytes else given_of log c)
+
+-- all is kept as it was but the core, the servers and what calls found
+pub record CountsAsMany (old new : Kept) : Type 0 where
+  pub commands : new.commands ≡ old.commands
+  pub stale : new.stale ≡ old.stale
+  pub last : (key : List ℕ) → new.last key ≡ old.last key
+
+-- the servers are as they were
+pub record HasServers (old new : Kept) : Type 0 where
+  pub caches : new.caches ≡ old.caches
+  pub turn : new.turn ≡ old.turn
+
+-- what calls found is known as it was
+abbrev pub FoundAsMuch : Kept → Kept → Type 0
+FoundAsMuch old new = (n : ℕ) → new.stamps n ≡ old.stamps n
+
+-- all but the core is as it was
+pub record IsBesides (old new : Kept) : Type 0 where
+  pub servers : HasServers old new
+  pub counts : CountsAsMany old new
+  pub found : FoundAsMuch old new
