@@ -135,17 +135,17 @@ pub resulted :
     → ((n : ℕ) → found_of b.found n ≡ cond (nat_eq number n) (found_of room n ++ made.stamp ∷ []) (found_of room n)) → Settles a.core number made.outcome b.core → b.counts ≡ a.counts → Moves a s b t
 resulted law number server ask origin made stamp a b room s t called same is answers found settles counts opening tree log stands =
     law opening tree log number server ask origin made s t (kept_of a s) (kept_of b t) stands (
-      record {
-        called = called;
-        caches_were = refl;
-        turn_was = refl;
-        answers = subst (λ n. Answers n s server ask made t) (is ∙ ap (λ f. stamp_given f number origin) (same number)) answers;
-        settles = settles;
-        caches_are = refl;
-        turn_is = refl;
-        stamps = λ n. found n ∙ ap (λ f. cond (nat_eq number n) (f ++ made.stamp ∷ []) f) (same n);
-        counts = record { commands = ap (λ c. c.tally.commands) counts; stale = ap (λ c. c.tally.stale) counts; last = λ key. ap (λ c. last_of c key) counts };
-      }
+    record {
+      called = called;
+      caches_were = refl;
+      turn_was = refl;
+      answers = subst (λ n. Answers n s server ask made t) (is ∙ ap (λ f. stamp_given f number origin) (same number)) answers;
+      settles = settles;
+      caches_are = refl;
+      turn_is = refl;
+      stamps = λ n. found n ∙ ap (λ f. cond (nat_eq number n) (f ++ made.stamp ∷ []) f) (same n);
+      counts = record { commands = ap (λ c. c.tally.commands) counts; stale = ap (λ c. c.tally.stale) counts; last = λ key. ap (λ c. last_of c key) counts };
+    }
     )
 
 -- which calls are out isn't kept
