@@ -105,14 +105,14 @@ judged_refused configs configs' r fault o e is why = subst (λ (p : Option Loadi
     by faults.NoMemory h = tt
 
 -- how many of the first so many were accepted
-abbrev accepted_in : List Loading → ℕ → ℕ
+abbrev pub accepted_in : List Loading → ℕ → ℕ
 accepted_in [] k = zero
 accepted_in (Loaded n ∷ ls) zero = zero
 accepted_in (Refused fault ∷ ls) zero = zero
 accepted_in (Loaded n ∷ ls) (suc k) = suc (accepted_in ls k)
 accepted_in (Refused fault ∷ ls) (suc k) = accepted_in ls k
 
-accepted_rise : (ls : List Loading) (i j : ℕ) → i ≤ j → accepted_in ls i ≤ accepted_in ls j
+pub accepted_rise : (ls : List Loading) (i j : ℕ) → i ≤ j → accepted_in ls i ≤ accepted_in ls j
 accepted_rise [] i j le = omega arith
 accepted_rise (Loaded n ∷ ls) zero j le = omega arith
 accepted_rise (Refused fault ∷ ls) zero j le = omega arith
@@ -155,7 +155,7 @@ after_one t x refused r rs zero = refl
 after_one t x refused r rs (suc k) = ap (reloads.one_more (reloads.is_refused (slice_get refused k)) (slice_get rs k)) (after_one t x refused r rs k)
 
 -- the tree in use after so many reloads is one of the generations
-loaded_at : (configs configs' : List Configuration) (rs : List Reload) (ls : List Loading) (c : Configuration) → Judges configs rs ls configs' → 0 < length configs → IsLast configs c → (k : ℕ) → slice_get (trees_of configs') ((length configs - 1) + accepted_in ls k) ≡ Some (tree_after c.tree (map is_refused ls) rs k)
+pub loaded_at : (configs configs' : List Configuration) (rs : List Reload) (ls : List Loading) (c : Configuration) → Judges configs rs ls configs' → 0 < length configs → IsLast configs c → (k : ℕ) → slice_get (trees_of configs') ((length configs - 1) + accepted_in ls k) ≡ Some (tree_after c.tree (map is_refused ls) rs k)
 loaded_at configs configs' [] (l ∷ ls) c j some last k = absurd j
 loaded_at configs configs' (r ∷ rs) [] c j some last k = absurd j
 loaded_at configs configs' [] [] c j some last k =

@@ -1,2 +1,3 @@
 pub mod Freshly
 pub mod Reloads
+pub mod Stepped

@@ -1,8 +1,9 @@
 //! A script, run through the configuration that the gate accepted last.
 
-ghost use Rattle.std.specs.Prelude.{◌≡◌, ◌≤◌, [], length, map, None, IfOk, IfErr, MatchResult};
+ghost use Rattle.std.specs.Prelude.{◌≡◌, ◌≤◌, [], false, length, map, None, IfOk, IfErr, MatchResult};
 ghost use Rattle.memory_fleet.specs.Fleets.{IsNewFleet, count_of};
 ghost use Rattle.fleet_run.specs.Scripted.{scripted_of, transcript_of};
+ghost use Rattle.fleet_run.specs.Stepped.{is_stepped};
 ghost use Rattle.fleet_run.specs.Bad.{first_bad, Refuses};
 ghost use Rattle.fleet_run.specs.Driving.{IsSpent, IsKept};
 ghost use Rattle.fleet_run.specs.Reloads.{AreInOrder};
@@ -20,7 +21,8 @@ use std::alloc::Global;
 ///
 /// All holds that [`drive_any`] says, its faults too; and **the run is fresh**: once a delete of a key was acknowledged, no later
 /// reply shows data that descend from a store of that key made before that delete. So the report's `stale` is 0. That holds
-/// for every script, whichever calls fail and whatever is lost, also of what was handed out before a fault.
+/// for every script that steps no calls ([`is_stepped`](fleet_run::is_stepped)), whichever calls fail and whatever is lost, also of what
+/// was handed out before a fault.
 ///
 /// The fleet is a new one with a server for each of the configuration's; a fleet that was driven isn't driven again.
 ///
@@ -34,6 +36,7 @@ pub fn drive(
 ) -> Result<Report, DriveFault>
     requires fleet { InUse accepted.now (λ config. IsNewFleet (length config.servers) fleet.old) }
     requires transcript { transcript.old.shown.items ≡ [] }
+    requires whole { is_stepped (map scripted_of script.now.events.items) ≡ false }
     ensures refuses { InUse accepted.now (λ config. MatchResult result (λ _. first_bad (length config.servers) (map scripted_of script.now.events.items) ≡ None) (Refuses (length config.servers) script.now)) }
     ensures ok { InUse accepted.now (λ config. IfOk result (DrivesFreshly config.tree (map scripted_of script.now.events.items) (transcript_of transcript.new))) }
     ensures fault { InUse accepted.now (λ config. IfErr result (EndsFreshly config.tree (map scripted_of script.now.events.items) transcript.new fleet.new)) }
@@ -50,7 +53,7 @@ pub fn drive(
 ///
 /// All holds that [`drive_by`] says, its faults too; and **the run is fresh over all loaded trees**: once a delete of a key was
 /// acknowledged, no later reply shows data that descend from a store of that key made before that delete, whichever trees the two
-/// ran by. So the report's `stale` is 0.
+/// ran by. So the report's `stale` is 0. The script steps no calls ([`is_stepped`](fleet_run::is_stepped)).
 ///
 /// Source: mcgate's own.
 pub fn drive_judged(
@@ -71,6 +74,7 @@ pub fn drive_judged(
     requires fleet { IsNewFleet (count_of fleet.old) fleet.old }
     requires transcript { transcript.old.shown.items ≡ [] }
     requires marks { marks.old.items ≡ [] }
+    requires whole { is_stepped (map scripted_of script.now.events.items) ≡ false }
     ensures refuses { MatchResult result (λ _. first_bad (count_of fleet.old) (map scripted_of script.now.events.items) ≡ None) (Refuses (count_of fleet.old) script.now) }
     ensures ok { IfOk result (λ report. ReloadsFreshly first.now.tree judged.now.loadings.items reloads.now (map scripted_of script.now.events.items) (transcript_of transcript.new) marks.new.items report) }
     ensures fault { IfErr result (λ fault. EndsReloads first.now.tree judged.now.loadings.items reloads.now (map scripted_of script.now.events.items) transcript.new marks.new.items fleet.new fault) }

@@ -3,6 +3,8 @@
 
 pub mod driving;
 pub mod judging;
+pub mod stepping;
 
 pub use driving::{drive, drive_judged};
 pub use judging::{Judged, Loading, judge_reloads};
+pub use stepping::drive_stepped_judged;

@@ -5,7 +5,7 @@ use Rattle.mc_types.specs.declared.ask.Ask.{Ask}
 use Rattle.mc_types.specs.declared.answer.Answer.{Answer}
 use Rattle.mc_types.specs.declared.call.Outcome.TheVariants.{Answered}
 use Rattle.route_job.specs.Rest.{ask_under}
-use Rattle.proxy_core.specs.declared.command.Command.{Command}
+use Rattle.commands_under_way.specs.declared.command.Command.{Command}
 use Rattle.proxy_core.specs.declared.proxy.Core.{Core}
 use Rattle.proxy_core.specs.CoreState.{has_call_out}
 use Rattle.proxy_core.specs.Settles.{FitsCall, asked, asked_by}

@@ -6,10 +6,10 @@ use Rattle.request_parts.specs.declared.proxy_command.ProxyCommand.TheVariants.{
 use Rattle.request_parts.specs.declared.skip.Skip.{Skip}
 use Rattle.request_parts.specs.declared.skip.Skip.TheVariants.{Nothing, Bytes, ThroughNewline}
 use Rattle.request_parts.specs.Message.{Served, Refusal}
-use Rattle.request_parts.specs.Stream.{Stands, Closed, skipped, through_newline, behind_own}
+use Rattle.request_parts.specs.Stream.{Stands, Closed, skipped, through_newline, after_own}
 use Rattle.client_requests.specs.Both.{own_by}
 use Rattle.text_codec.specs.TextProtocol.{Whole, LongLine}
-use Rattle.cache_connection.specs.Laws.{ClosesBehindLast}
+use Rattle.cache_connection.specs.Laws.{ClosesAfterLast}
 
 stands : (skip : Skip) (held : List ℕ) → Stands skip held ≡ Closed → ⊥
 stands skip held e = cc
@@ -30,13 +30,13 @@ skipped_stands Nothing bytes e = stands Nothing bytes e
 skipped_stands (Bytes n) bytes e = passing_stands _ n bytes e
 skipped_stands ThroughNewline bytes e = through_stands bytes e
 
-own_closes : (own : Option ProxyCommand) (rest : List ℕ) → (behind_own own rest ≡ Closed) ↔ (own ≡ Some Quit)
+own_closes : (own : Option ProxyCommand) (rest : List ℕ) → (after_own own rest ≡ Closed) ↔ (own ≡ Some Quit)
 own_closes None rest = (λ e. absurd (stands Nothing rest e), λ e. absurd (cc))
 own_closes (Some Version) rest = (λ e. absurd (stands Nothing rest e), λ e. absurd (cc))
 own_closes (Some Noop) rest = (λ e. absurd (stands Nothing rest e), λ e. absurd (cc))
 own_closes (Some Quit) rest = (λ e. refl, λ e. refl)
 
-pub closes : ClosesBehindLast
+pub closes : ClosesAfterLast
 closes (Stands Nothing held) next (Whole (Served order block)) r =
     let is = own_closes (own_by order) (drop r.0 held) in
     (λ e. is.0 (sym r.2 ∙ e), λ e. r.2 ∙ is.1 e)

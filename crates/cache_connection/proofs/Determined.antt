@@ -9,7 +9,7 @@ use Rattle.text_codec.specs.TextProtocol.{Said, memcached_text, ends_at, asks_in
 use Rattle.text_codec.proofs.ReaderLaws.{reader_is}
 use Rattle.cache_server.specs.Contents.{Contents}
 use Rattle.cache_connection.specs.Serving.{out_of_memory, AnswersAsk, AnswersEach, ServesEach}
-use Rattle.cache_connection.specs.Laws.{NothingBehindEnd, NoneWants, AllHadMemory, FeedIsDetermined}
+use Rattle.cache_connection.specs.Laws.{NothingAfterEnd, NoneWants, AllHadMemory, FeedIsDetermined}
 use Rattle.cache_connection.proofs.Joined.{messages}
 
 ask_once : (moment : ℤ) (ask : Ask) (old c d : Contents) (r s : Answer) → AnswersAsk moment ask old r c → AnswersAsk moment ask old s d → r ≢ out_of_memory → s ≢ out_of_memory → (r ≡ s) × (c ≡ d)
@@ -63,11 +63,11 @@ determined moment place p q bytes s t old c d a b m n =
     let once = all_once moment (extended place bytes) p q old c d a.serves.done b.serves.done a.serves.goes b.serves.goes a.stuck b.stuck a.serves.whole b.serves.whole a.serves.served b.serves.served m n in
     (a.serves.text_is ∙ once.0 ∙ sym b.serves.text_is, once.1, once.2)
 
-none_behind : (moment : ℤ) (next : Place) (old new : Contents) (ds : List (Done memcached_text)) → Goes memcached_text Closed (messages ds) next → ServesEach moment old ds new → (written_all memcached_text ds ≡ []) × (next ≡ Closed) × (new ≡ old)
-none_behind moment next old new [] g s = (refl, sym g, sym s)
-none_behind moment next old new (d ∷ ds) g s = absurd g.1
+none_after : (moment : ℤ) (next : Place) (old new : Contents) (ds : List (Done memcached_text)) → Goes memcached_text Closed (messages ds) next → ServesEach moment old ds new → (written_all memcached_text ds ≡ []) × (next ≡ Closed) × (new ≡ old)
+none_after moment next old new [] g s = (refl, sym g, sym s)
+none_after moment next old new (d ∷ ds) g s = absurd g.1
 
-pub behind_end : NothingBehindEnd
-behind_end moment next bytes text old new a =
-    let none = none_behind moment next old new a.serves.done a.serves.goes a.serves.served in
+pub after_end : NothingAfterEnd
+after_end moment next bytes text old new a =
+    let none = none_after moment next old new a.serves.done a.serves.goes a.serves.served in
     (a.serves.text_is ∙ none.0, none.1, none.2)

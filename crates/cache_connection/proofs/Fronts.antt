@@ -12,20 +12,20 @@ use Rattle.client_requests.specs.Message.{Message, Begins, IsReadFrom, used_of}
 use Rattle.request_parts.specs.Message.{Refusal}
 use Rattle.client_requests.specs.Asks.{asks_of, own_of}
 use Rattle.request_parts.specs.Stream.{Place, Stands, Closed, skipped}
-use Rattle.client_requests.specs.Stream.{behind}
+use Rattle.client_requests.specs.Stream.{after_message}
 use Rattle.text_codec.specs.Held.{held_at, IsReadAt}
 use Rattle.text_codec.specs.Replies.{refusal_text, long_line_text}
 use Rattle.text_codec.specs.TextProtocol.{Said, Whole, LongLine, ReadsNext, memcached_text, own_passed, asks_in, passed_text}
 use Rattle.connections.specs.declared.connection.Connection.{Connection}
 use Rattle.connections.specs.Steps.{output_of, held_len, GoesTo}
-use Rattle.request_parts.specs.Stream.{behind_own}
+use Rattle.request_parts.specs.Stream.{after_own}
 use Rattle.cache_server.specs.Contents.{Contents}
 use Rattle.cache_connection.specs.Serving.{BreaksOff}
 use Rattle.cache_connection.specs.Steps.{message_at, IsFront, GoesOn, ServesFront}
 use Rattle.connections.proofs.Shorter.{fewer, skipped_len}
 use Rattle.connections.proofs.Fronts.{empty_is, own_len, shorter_by, read_front, request_is_some}
 use Rattle.connections.proofs.Requests.{own_next, own_text}
-use Rattle.cache_connection.proofs.Joined.{serves_one, serves_behind}
+use Rattle.cache_connection.proofs.Joined.{serves_one, serves_after}
 use Rattle.cache_connection.proofs.Keys.{reads_front}
 
 -- a message that asks no server
@@ -47,17 +47,17 @@ breaks_first moment place next c said reads = record { said = said; next = next;
 
 -- a request without an ask: what mcgate itself was asked
 pub own_done : (moment : ℤ) (old new : Connection) (c : Contents) (request : Request) (own : Option ProxyCommand) (used : ℕ) → used ≡ used_of request → IsFront old request → length (asks_of (message_at old request)) ≡ 0 → own ≡ own_of (message_at old request)
-    → GoesTo old (behind_own own (drop used (held_at old.stream))) (own_passed own) new → ServesFront moment old c new c
+    → GoesTo old (after_own own (drop used (held_at old.stream))) (own_passed own) new → ServesFront moment old c new c
 own_done moment old new c request own used used_is front none own_is told =
     let held : List ℕ = held_at old.stream in
-    let g : GoesTo old (behind_own own (drop (used_of request) held)) (own_passed own) new = subst (λ (n : ℕ). GoesTo old (behind_own own (drop n held)) (own_passed own) new) used_is told in
+    let g : GoesTo old (after_own own (drop (used_of request) held)) (own_passed own) new = subst (λ (n : ℕ). GoesTo old (after_own own (drop n held)) (own_passed own) new) used_is told in
     let m : Message = message_at old request in
     let rest : List ℕ = drop (used_of request) held in
-    let next : behind_own own rest ≡ behind m rest = ap (λ (o : Option ProxyCommand). behind_own o rest) own_is ∙ own_next held request rest in
+    let next : after_own own rest ≡ after_message m rest = ap (λ (o : Option ProxyCommand). after_own o rest) own_is ∙ own_next held request rest in
     let text : own_passed own ≡ passed_text (Whole m) = ap own_passed own_is ∙ own_text held request in
-    passes moment old new c (Whole m) (behind m rest) (reads_front old request front) (empty_is (asks_of m) none)
-    (subst (λ (p : Place). GoesTo old p (passed_text (Whole m)) new) next (subst (λ (l : List ℕ). GoesTo old (behind_own own rest) l new) text g))
-    (shorter_by old new held rest (behind_own own rest) front.place g.place_is (own_len own rest) (fewer held m (used_of request) front.read.begins))
+    passes moment old new c (Whole m) (after_message m rest) (reads_front old request front) (empty_is (asks_of m) none)
+    (subst (λ (p : Place). GoesTo old p (passed_text (Whole m)) new) next (subst (λ (l : List ℕ). GoesTo old (after_own own rest) l new) text g))
+    (shorter_by old new held rest (after_own own rest) front.place g.place_is (own_len own rest) (fewer held m (used_of request) front.read.begins))
 
 refused_reads : (place : Place) (held : List ℕ) (why : RefusalReason) (used : ℕ) (skip : Skip) → place ≡ Stands Nothing held → Begins held (Refusal why skip) used → ReadsNext place (Whole (Refusal why skip)) (skipped skip (drop used held))
 refused_reads place held why used skip at begins = subst (λ (p : Place). ReadsNext p (Whole (Refusal why skip)) (skipped skip (drop used held))) (sym at) (used, begins, refl)
@@ -90,6 +90,6 @@ pub goes_more : (moment : ℤ) (old x y : Connection) (c d e : Contents) → Goe
 goes_more moment old x y c d e a b =
     record {
       text = a.text ++ b.goes.text;
-      serves = serves_behind moment old.stream x.stream y.stream c d e a.text b.goes.text a.serves b.goes.serves;
+      serves = serves_after moment old.stream x.stream y.stream c d e a.text b.goes.text a.serves b.goes.serves;
       output_is = b.goes.output_is ∙ ap (λ (l : List ℕ). l ++ b.goes.text) a.output_is ∙ append_assoc (output_of old) a.text b.goes.text;
     }

@@ -13,37 +13,37 @@ use Rattle.cache_connection.specs.Laws.{PiecesAreOne}
 abbrev pub messages : List (Done memcached_text) → List Said
 messages done = map (λ (d : Done memcached_text). d.message) done
 
-goes_behind : (a b c : Place) (ms ns : List Said) → Goes memcached_text a ms b → Goes memcached_text b ns c → Goes memcached_text a (ms ++ ns) c
-goes_behind a b c [] ns g h = subst (λ (p : Place). Goes memcached_text p ns c) (sym g) h
-goes_behind a b c (m ∷ ms) ns g h = (g.0, g.1, goes_behind g.0 b c ms ns g.2 h)
+goes_after : (a b c : Place) (ms ns : List Said) → Goes memcached_text a ms b → Goes memcached_text b ns c → Goes memcached_text a (ms ++ ns) c
+goes_after a b c [] ns g h = subst (λ (p : Place). Goes memcached_text p ns c) (sym g) h
+goes_after a b c (m ∷ ms) ns g h = (g.0, g.1, goes_after g.0 b c ms ns g.2 h)
 
 -- what was read stays read when more comes
 goes_still : (a b : Place) (ms : List Said) (more : List ℕ) → Goes memcached_text a ms b → Goes memcached_text (extended a more) ms (extended b more)
 goes_still a b [] more g = ap (λ (p : Place). extended p more) g
 goes_still a b (m ∷ ms) more g = (extended g.0 more, reader_is.goes_on a m g.0 more g.1, goes_still g.0 b ms more g.2)
 
-served_behind : (moment : ℤ) (a b c : Contents) (ds es : List (Done memcached_text)) → ServesEach moment a ds b → ServesEach moment b es c → ServesEach moment a (ds ++ es) c
-served_behind moment a b c [] es s t = subst (λ (p : Contents). ServesEach moment p es c) (sym s) t
-served_behind moment a b c (d ∷ ds) es s t = (s.0, s.1, served_behind moment s.0 b c ds es s.2 t)
+served_after : (moment : ℤ) (a b c : Contents) (ds es : List (Done memcached_text)) → ServesEach moment a ds b → ServesEach moment b es c → ServesEach moment a (ds ++ es) c
+served_after moment a b c [] es s t = subst (λ (p : Contents). ServesEach moment p es c) (sym s) t
+served_after moment a b c (d ∷ ds) es s t = (s.0, s.1, served_after moment s.0 b c ds es s.2 t)
 
-whole_behind : (ds es : List (Done memcached_text)) → AreWhole memcached_text ds → AreWhole memcached_text es → AreWhole memcached_text (ds ++ es)
-whole_behind [] es a b = b
-whole_behind (d ∷ ds) es a b = (a.0, whole_behind ds es a.1 b)
+whole_after : (ds es : List (Done memcached_text)) → AreWhole memcached_text ds → AreWhole memcached_text es → AreWhole memcached_text (ds ++ es)
+whole_after [] es a b = b
+whole_after (d ∷ ds) es a b = (a.0, whole_after ds es a.1 b)
 
-written_behind : (ds es : List (Done memcached_text)) → written_all memcached_text (ds ++ es) ≡ written_all memcached_text ds ++ written_all memcached_text es
-written_behind [] es = refl
-written_behind (d ∷ ds) es =
-    ap (λ (l : List ℕ). written memcached_text d.message d.replies ++ l) (written_behind ds es) ∙ sym (append_assoc (written memcached_text d.message d.replies) (written_all memcached_text ds) (written_all memcached_text es))
+written_after : (ds es : List (Done memcached_text)) → written_all memcached_text (ds ++ es) ≡ written_all memcached_text ds ++ written_all memcached_text es
+written_after [] es = refl
+written_after (d ∷ ds) es =
+    ap (λ (l : List ℕ). written memcached_text d.message d.replies ++ l) (written_after ds es) ∙ sym (append_assoc (written memcached_text d.message d.replies) (written_all memcached_text ds) (written_all memcached_text es))
 
 -- messages, and then others
-pub serves_behind : (moment : ℤ) (p q r : Place) (c d e : Contents) (s t : List ℕ) → ServesTo moment p c s q d → ServesTo moment q d t r e → ServesTo moment p c (s ++ t) r e
-serves_behind moment p q r c d e s t a b =
+pub serves_after : (moment : ℤ) (p q r : Place) (c d e : Contents) (s t : List ℕ) → ServesTo moment p c s q d → ServesTo moment q d t r e → ServesTo moment p c (s ++ t) r e
+serves_after moment p q r c d e s t a b =
     record {
       done = a.done ++ b.done;
-      goes = subst (λ (ms : List Said). Goes memcached_text p ms r) (sym (map-append (λ (x : Done memcached_text). x.message) a.done b.done)) (goes_behind p q r (messages a.done) (messages b.done) a.goes b.goes);
-      whole = whole_behind a.done b.done a.whole b.whole;
-      served = served_behind moment c d e a.done b.done a.served b.served;
-      text_is = ap₂ (λ (l m : List ℕ). l ++ m) a.text_is b.text_is ∙ sym (written_behind a.done b.done);
+      goes = subst (λ (ms : List Said). Goes memcached_text p ms r) (sym (map-append (λ (x : Done memcached_text). x.message) a.done b.done)) (goes_after p q r (messages a.done) (messages b.done) a.goes b.goes);
+      whole = whole_after a.done b.done a.whole b.whole;
+      served = served_after moment c d e a.done b.done a.served b.served;
+      text_is = ap₂ (λ (l m : List ℕ). l ++ m) a.text_is b.text_is ∙ sym (written_after a.done b.done);
     }
 
 pub serves_nothing : (moment : ℤ) (p : Place) (c : Contents) → ServesTo moment p c [] p c
@@ -62,6 +62,6 @@ pub pieces : PiecesAreOne
 pieces moment place between next a b old middle new s t first second =
     record {
       serves = subst (λ (p : Place). ServesTo moment p old (s ++ t) next new) (reader_is.fed_append place a b)
-          (serves_behind moment (extended (extended place a) b) (extended between b) next old middle new s t (serves_still moment (extended place a) between old middle s b first.serves) second.serves);
+          (serves_after moment (extended (extended place a) b) (extended between b) next old middle new s t (serves_still moment (extended place a) between old middle s b first.serves) second.serves);
       stuck = second.stuck;
     }

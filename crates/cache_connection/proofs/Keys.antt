@@ -10,7 +10,7 @@ use Rattle.client_requests.specs.Message.{Message, IsReadFrom, message_in, used_
 use Rattle.client_requests.specs.declared.request.Asks.{Asks}
 use Rattle.client_requests.specs.Asks.{asks_of, quiet_of, IsWalk, counted, request_of, taken_of}
 use Rattle.request_parts.specs.Stream.{Place, Stands}
-use Rattle.client_requests.specs.Stream.{behind}
+use Rattle.client_requests.specs.Stream.{after_message}
 use Rattle.request_parts.proofs.Streams.{used_within}
 use Rattle.client_requests.specs.Both.{both_grammar}
 use Rattle.text_codec.specs.Held.{held_at}
@@ -20,10 +20,10 @@ use Rattle.connections.specs.declared.connection.Connection.{Connection}
 use Rattle.connections.specs.Steps.{output_of, held_len, GoesTo}
 use Rattle.cache_server.specs.Contents.{Contents}
 use Rattle.cache_connection.specs.Serving.{AnswersAsk, AnswersEach, BreaksOff}
-use Rattle.connections.specs.Steps.{place_behind, Shows}
+use Rattle.connections.specs.Steps.{place_after, Shows}
 use Rattle.cache_connection.specs.Steps.{message_at, IsFront, IsOnWay, IsAskAt, ServesAsk, ServesKey, StopsAtKey, HasBegun, ServesFront}
 use Rattle.connections.proofs.Shorter.{fewer}
-use Rattle.connections.proofs.Requests.{request_behind}
+use Rattle.connections.proofs.Requests.{request_after}
 use Rattle.cache_connection.proofs.Joined.{serves_one}
 
 -- what a request uses is held
@@ -31,10 +31,10 @@ pub used_held : (x : Connection) (request : Request) → IsFront x request → u
 used_held x request front = used_within both_grammar (held_at x.stream) (message_at x request) (used_of request) front.read.begins
 
 -- a request at the front is the next message
-pub reads_front : (x : Connection) (request : Request) → IsFront x request → ReadsNext x.stream (Whole (message_at x request)) (behind (message_at x request) (drop (used_of request) (held_at x.stream)))
+pub reads_front : (x : Connection) (request : Request) → IsFront x request → ReadsNext x.stream (Whole (message_at x request)) (after_message (message_at x request) (drop (used_of request) (held_at x.stream)))
 reads_front x request front =
     let m = message_at x request in
-    let next : Place = behind m (drop (used_of request) (held_at x.stream)) in
+    let next : Place = after_message m (drop (used_of request) (held_at x.stream)) in
     subst (λ (p : Place). ReadsNext p (Whole m) next) (sym front.place) (used_of request, front.read.begins, refl)
 
 -- one ask was answered and shown
@@ -44,7 +44,7 @@ pub serves_ask : (moment : ℤ) (old new : Connection) (request : Request) (i : 
 serves_ask moment old new request i ask contents contents' reply used quiet last ended used_is at answered quiet_is last_is told =
     let shows : Shows old (used_of request) quiet last ask reply ended new = subst (λ (n : ℕ). Shows old n quiet last ask reply ended new) used_is told in
     let m : Message = message_at old request in
-    let place : Place = place_behind ended old (drop (used_of request) (held_at old.stream)) in
+    let place : Place = place_after ended old (drop (used_of request) (held_at old.stream)) in
     let text : shown_text quiet last ask reply ≡ shown_of (Whole m) i reply =
     ap (λ (q : Bool). shown_text q last ask reply) quiet_is ∙ ap (λ (l : Bool). shown_text (quiet_of m) l ask reply) last_is ∙ ap (λ (o : Option Ask). shown_by (quiet_of m) (asks_of m) i o reply) (sym at.at) in
     record {
@@ -83,9 +83,9 @@ right_false : (a b : Bool) → (a || b) ≡ false → b ≡ false
 right_false true b e = absurd (cc)
 right_false false b e = e
 
-stays_behind : (ended : Bool) (x : Connection) (rest : List ℕ) → ended ≡ false → place_behind ended x rest ≡ x.stream
-stays_behind true x rest e = absurd (cc)
-stays_behind false x rest e = refl
+stays_after : (ended : Bool) (x : Connection) (rest : List ℕ) → ended ≡ false → place_after ended x rest ≡ x.stream
+stays_after true x rest e = absurd (cc)
+stays_after false x rest e = refl
 
 not_last : (reply : Answer) (i n : ℕ) (last : Bool) → last ≡ nat_eq (i + 1) n → (is_failure reply || last) ≡ false → i < n → i + 1 < n
 not_last reply i n last is none lt =
@@ -100,7 +100,7 @@ pub way_on : (moment : ℤ) (x y : Connection) (request : Request) (asks asks' :
     → IsOnWay x request asks i → bytes ≡ held_at x.stream → next ≡ Some ask → request_of asks' ≡ request_of asks → taken_of asks' ≡ counted next (taken_of asks) → IsWalk bytes asks'
     → ServesAsk moment x request i ask contents ended y contents' → ended ≡ false → IsOnWay y request asks' (i + 1)
 way_on moment x y request asks asks' i bytes next ask contents contents' ended way bytes_are is request_is taken walk served e =
-    let stays : y.stream ≡ x.stream = served.goes.place_is ∙ stays_behind ended x (drop (used_of request) (held_at x.stream)) e in
+    let stays : y.stream ≡ x.stream = served.goes.place_is ∙ stays_after ended x (drop (used_of request) (held_at x.stream)) e in
     let held : held_at x.stream ≡ held_at y.stream = ap held_at (sym stays) in
     let front : IsFront y request = record {
       place = subst (λ (p : Place). p ≡ Stands Nothing (held_at p)) (sym stays) way.front.place;
@@ -163,9 +163,9 @@ record Adds (moment : ℤ) (old : Connection) (request : Request) (contents : Co
   none : NoneEnds memcached_text (Whole (message_at old request)) 0 replies
   ended_is : ended ≡ ends_at (Whole (message_at old request)) (0 + length replies) reply
   output_is : output_of new ≡ output_of old ++ written_from memcached_text (Whole (message_at old request)) 0 (replies ++ reply ∷ [])
-  place_is : new.stream ≡ place_behind ended old (drop (used_of request) (held_at old.stream))
+  place_is : new.stream ≡ place_after ended old (drop (used_of request) (held_at old.stream))
 
-place_same : (ended : Bool) (x y : Connection) (used : ℕ) → x.stream ≡ y.stream → place_behind ended x (drop used (held_at x.stream)) ≡ place_behind ended y (drop used (held_at y.stream))
+place_same : (ended : Bool) (x y : Connection) (used : ℕ) → x.stream ≡ y.stream → place_after ended x (drop used (held_at x.stream)) ≡ place_after ended y (drop used (held_at y.stream))
 place_same true x y used e = ap (λ (p : Place). Stands Nothing (drop used (held_at p))) e
 place_same false x y used e = e
 
@@ -201,12 +201,12 @@ begins_more moment old x y request asks' i c d e ended b k goes =
       answered = a.answered;
       none = none_more (Whole (message_at old request)) 0 a.replies a.reply a.none (sym a.ended_is ∙ goes);
       output_is = a.output_is;
-      stays = a.place_is ∙ stays_behind ended old (drop (used_of request) (held_at old.stream)) goes;
+      stays = a.place_is ∙ stays_after ended old (drop (used_of request) (held_at old.stream)) goes;
     }
 
-ended_behind : (ended : Bool) (x : Connection) (rest : List ℕ) → ended ≡ true → place_behind ended x rest ≡ Stands Nothing rest
-ended_behind true x rest e = refl
-ended_behind false x rest e = absurd (cc)
+ended_after : (ended : Bool) (x : Connection) (rest : List ℕ) → ended ≡ true → place_after ended x rest ≡ Stands Nothing rest
+ended_after true x rest e = refl
+ended_after false x rest e = absurd (cc)
 
 -- the message is done with it
 pub begins_last : (moment : ℤ) (old x y : Connection) (request : Request) (asks' : Asks) (i : ℕ) (c d e : Contents) (ended : Bool) → IsFront old request → HasBegun moment old request c i x d → ServesKey moment x request i d ended y asks' e → ended ≡ true → ServesFront moment old c y e
@@ -216,8 +216,8 @@ begins_last moment old x y request asks' i c d e ended front b k ends =
     let rest : List ℕ = drop (used_of request) (held_at old.stream) in
     let same : message_at x request ≡ m = ap (λ (p : Place). message_in (held_at p) request) b.stays in
     let at : slice_get (asks_of m) i ≡ Some k.ask = subst (λ (n : Message). slice_get (asks_of n) i ≡ Some k.ask) same k.at.at in
-    let place : y.stream ≡ Stands Nothing rest = a.place_is ∙ ended_behind ended old rest ends in
-    let next : behind m rest ≡ y.stream = request_behind (held_at old.stream) request rest i k.ask at ∙ sym place in
+    let place : y.stream ≡ Stands Nothing rest = a.place_is ∙ ended_after ended old rest ends in
+    let next : after_message m rest ≡ y.stream = request_after (held_at old.stream) request rest i k.ask at ∙ sym place in
     let done : Done memcached_text = record { message = Whole m; replies = a.replies ++ a.reply ∷ [] } in
     record {
       goes = record {
@@ -233,7 +233,7 @@ begins_last moment old x y request asks' i c d e ended front b k ends =
 pub begins_stops : (moment : ℤ) (old x : Connection) (request : Request) (i : ℕ) (c d e : Contents) → IsFront old request → HasBegun moment old request c i x d → StopsAtKey moment x request i d e → BreaksOff moment old.stream c e
 begins_stops moment old x request i c d e front b stops =
     let m : Message = message_at old request in
-    let next : Place = behind m (drop (used_of request) (held_at old.stream)) in
+    let next : Place = after_message m (drop (used_of request) (held_at old.stream)) in
     let same : message_at x request ≡ m = ap (λ (p : Place). message_in (held_at p) request) b.stays in
     let reads = reads_front old request front in
     elim stops [

@@ -24,12 +24,12 @@ IsLast (Whole (Refusal why skip)) = ⊥
 IsLast LongLine = Unit {0}
 
 -- a stream is closed by these messages and by no other
-abbrev pub ClosesBehindLast : Type 0
-ClosesBehindLast = (place next : Place) (said : Said) → ReadsNext place said next → (next ≡ Closed) ↔ IsLast said
+abbrev pub ClosesAfterLast : Type 0
+ClosesAfterLast = (place next : Place) (said : Said) → ReadsNext place said next → (next ≡ Closed) ↔ IsLast said
 
 -- after the end nothing is served, and nothing is given
-abbrev pub NothingBehindEnd : Type 0
-NothingBehindEnd =
+abbrev pub NothingAfterEnd : Type 0
+NothingAfterEnd =
     (moment : ℤ) (next : Place) (bytes text : List ℕ) (old new : Contents)
     → Feeds moment Closed bytes old text next new → (text ≡ []) × (next ≡ Closed) × (new ≡ old)
 

@@ -13,7 +13,7 @@ use Rattle.request_parts.specs.Stream.{Stands}
 use Rattle.text_codec.specs.Held.{held_at}
 use Rattle.text_codec.specs.TextProtocol.{Whole, memcached_text, shown_of, ends_at}
 use Rattle.connections.specs.declared.connection.Connection.{Connection}
-use Rattle.connections.specs.Steps.{output_of, held_len, place_behind, GoesTo}
+use Rattle.connections.specs.Steps.{output_of, held_len, place_after, GoesTo}
 use Rattle.cache_server.specs.Contents.{Contents, at_moment}
 use Rattle.cache_connection.specs.Serving.{AnswersAsk, AnswersEach, ServesTo}
 
@@ -45,7 +45,7 @@ pub record ServesAsk (moment : ℤ) (old : Connection) (request : Request) (i : 
   pub reply : Answer
   pub answered : AnswersAsk moment ask contents reply contents'
   pub ended_is : ended ≡ ends_at (Whole (message_at old request)) i reply
-  pub goes : GoesTo old (place_behind ended old (drop (used_of request) (held_at old.stream))) (shown_of (Whole (message_at old request)) i reply) new
+  pub goes : GoesTo old (place_after ended old (drop (used_of request) (held_at old.stream))) (shown_of (Whole (message_at old request)) i reply) new
 
 -- running out of memory at an ask: what has expired is gone, or else it was answered, and the reply not shown
 abbrev pub StopsAtAsk : ℤ → Ask → Contents → Contents → Type 0

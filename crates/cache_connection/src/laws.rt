@@ -1,6 +1,6 @@
 //! Laws of the serving of a connection. Each is a function without a body, whose contract is the law.
 
-ghost use Rattle.cache_connection.specs.Laws.{PiecesAreOne, ClosesBehindLast, NothingBehindEnd, FeedIsDetermined};
+ghost use Rattle.cache_connection.specs.Laws.{PiecesAreOne, ClosesAfterLast, NothingAfterEnd, FeedIsDetermined};
 
 /// What a client sends in two pieces at one moment is answered as if it came in one: the texts of both, joined.
 pub fn pieces_are_one()
@@ -8,13 +8,13 @@ pub fn pieces_are_one()
 {}
 
 /// A connection is closed by `quit` and by a line that is too long, and by no other message.
-pub fn closes_behind_last()
-    ensures { ClosesBehindLast }
+pub fn closes_after_last()
+    ensures { ClosesAfterLast }
 {}
 
 /// After the end of a connection nothing is served, and nothing is given.
-pub fn nothing_behind_end()
-    ensures { NothingBehindEnd }
+pub fn nothing_after_end()
+    ensures { NothingAfterEnd }
 {}
 
 /// Where no reply says that memory ran out, the definition leaves no choice: what is given, where the stream stands then,

@@ -1,9 +1,10 @@
 -- When an item is gone. Source: memcached's protocol.txt, "Expiration times".
+use Rattle.cache_server.specs.declared.expiry.TheConstants.{RELATIVE_LIMIT}
 use Rattle.std.specs.Prelude.{ℕ, ◌+◌, ◌-◌, ◌^◌, ℤ, pos, negsuc, min, Bool, false, Option, Some, None, nat_le, ◌==◌, if◌then◌else◌}
 
 -- up to 30 days are seconds from now
 abbrev pub relative_limit : ℕ
-relative_limit = 2592000
+relative_limit = RELATIVE_LIMIT
 
 -- the last moment, in seconds
 abbrev pub last_moment : ℕ

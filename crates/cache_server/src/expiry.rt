@@ -4,7 +4,7 @@ ghost use Rattle.std.specs.Prelude.{◌≡◌, ◌<◌, ◌^◌, IfSome};
 ghost use Rattle.cache_server.specs.Expiry.{moment_of, expiry_after, ttl_of};
 
 /// The longest exptime that counts seconds from now: 30 days.
-const RELATIVE_LIMIT: i64 = 2_592_000;
+pub const RELATIVE_LIMIT: u64 = 2_592_000;
 
 fn moment_of_exptime(now: u64, exptime: i64) -> Option<u64>
     requires { now < 2 ^ 63 }
@@ -17,7 +17,7 @@ fn moment_of_exptime(now: u64, exptime: i64) -> Option<u64>
         return Some(0);
     }
     let seconds = exptime as u64;
-    if exptime <= RELATIVE_LIMIT {
+    if seconds <= RELATIVE_LIMIT {
         return Some((now + seconds).min(i64::MAX as u64));
     }
     Some(seconds)

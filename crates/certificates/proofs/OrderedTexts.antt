@@ -34,12 +34,12 @@ not_itself x e = let t = tied_itself nat_list_cmp_total x in cc
 not_both : (x y : List ℕ) → text_cmp x y ≡ Less → text_cmp y x ≡ Less → ⊥
 not_both x y e f = not_itself x (nat_list_cmp_total.trans x y x e f)
 
-behind : (x y : List ℕ) → text_cmp y x ≡ Greater → text_cmp x y ≡ Less
-behind x y e = nat_list_cmp_total.antisymm x y ∙ ap ordering_reverse e
+comes_after : (x y : List ℕ) → text_cmp y x ≡ Greater → text_cmp x y ≡ Less
+comes_after x y e = nat_list_cmp_total.antisymm x y ∙ ap ordering_reverse e
 
-put_behind : (x : List ℕ) (xs : List (List ℕ)) (k : List ℕ) (o : Option ℕ) → put_at (x ∷ xs) k (one_more o) ≡ x ∷ put_at xs k o
-put_behind x xs k None = refl
-put_behind x xs k (Some i) = refl
+put_after : (x : List ℕ) (xs : List (List ℕ)) (k : List ℕ) (o : Option ℕ) → put_at (x ∷ xs) k (one_more o) ≡ x ∷ put_at xs k o
+put_after x xs k None = refl
+put_after x xs k (Some i) = refl
 
 -- what all texts and the new one keep, all keep together
 pub kept_all : (P : List ℕ → Type 0) (xs : List (List ℕ)) (k : List ℕ) → Each P xs → P k → Each P (with_text xs k)
@@ -49,7 +49,7 @@ kept_all P (x ∷ xs) k h p = step (kept_all P xs k h.1 p) (text_cmp k x)
     step : Each P (with_text xs k) → (o : Ordering) → Each P (put_at (x ∷ xs) k (placed o (place_in xs k)))
     step rest Less = (p, h)
     step rest Equal = h
-    step rest Greater = subst (Each P) (sym (put_behind x xs k (place_in xs k))) (h.0, rest)
+    step rest Greater = subst (Each P) (sym (put_after x xs k (place_in xs k))) (h.0, rest)
 
 pub stay_in_order : (xs : List (List ℕ)) (k : List ℕ) → AreInOrder xs → AreInOrder (with_text xs k)
 stay_in_order [] k h = (tt, tt)
@@ -58,7 +58,7 @@ stay_in_order (x ∷ xs) k h = step (stay_in_order xs k h.1) (text_cmp k x) refl
     step : AreInOrder (with_text xs k) → (o : Ordering) → text_cmp k x ≡ o → AreInOrder (put_at (x ∷ xs) k (placed o (place_in xs k)))
     step rest Less e = ((e, each_weaker (λ q. text_cmp x q ≡ Less) (λ q. text_cmp k q ≡ Less) xs (λ q f. nat_list_cmp_total.trans k x q e f) h.0), h)
     step rest Equal e = h
-    step rest Greater e = subst AreInOrder (sym (put_behind x xs k (place_in xs k))) (kept_all (λ q. text_cmp x q ≡ Less) xs k h.0 (behind x k e), rest)
+    step rest Greater e = subst AreInOrder (sym (put_after x xs k (place_in xs k))) (kept_all (λ q. text_cmp x q ≡ Less) xs k h.0 (comes_after x k e), rest)
 
 pub still_in : (xs : List (List ℕ)) (k y : List ℕ) → IsIn y xs → IsIn y (with_text xs k)
 still_in [] k y h = absurd h
@@ -67,7 +67,7 @@ still_in (x ∷ xs) k y h = step (λ i. still_in xs k y i) (text_cmp k x)
     step : (IsIn y xs → IsIn y (with_text xs k)) → (o : Ordering) → IsIn y (put_at (x ∷ xs) k (placed o (place_in xs k)))
     step rest Less = inr h
     step rest Equal = h
-    step rest Greater = subst (IsIn y) (sym (put_behind x xs k (place_in xs k))) (⊎_elim (λ (e : y ≡ x). inl e) (λ (i : IsIn y xs). inr (rest i)) h)
+    step rest Greater = subst (IsIn y) (sym (put_after x xs k (place_in xs k))) (⊎_elim (λ (e : y ≡ x). inl e) (λ (i : IsIn y xs). inr (rest i)) h)
 
 pub now_in : (xs : List (List ℕ)) (k : List ℕ) → IsIn k (with_text xs k)
 now_in [] k = inl refl
@@ -76,7 +76,7 @@ now_in (x ∷ xs) k = step (now_in xs k) (text_cmp k x) refl
     step : IsIn k (with_text xs k) → (o : Ordering) → text_cmp k x ≡ o → IsIn k (put_at (x ∷ xs) k (placed o (place_in xs k)))
     step rest Less e = inl refl
     step rest Equal e = inl (same_text k x e)
-    step rest Greater e = subst (IsIn k) (sym (put_behind x xs k (place_in xs k))) (inr rest)
+    step rest Greater e = subst (IsIn k) (sym (put_after x xs k (place_in xs k))) (inr rest)
 
 -- ---- all texts
 

@@ -10,7 +10,7 @@ use Rattle.route_tree.specs.At.{begins, tree_at}
 use Rattle.route_tree.specs.Place.{sizes, prefixes, IsLongest, prefix_text, tree_at_place}
 use Rattle.route_tree.proofs.Parts.{each_weaker}
 use Rattle.route_tree.proofs.Places.{each_append, each_left, each_right, alike, tests, rests, prefixes_are_keys}
-use Rattle.coverage.specs.Taking.{Covers}
+use Rattle.coverage.specs.Cover.{Covers}
 use Rattle.certificates.specs.Places.{IsClassOf, place_at, CoversAt, SoundIsCovered}
 use Rattle.coverage.proofs.Choices.{bool_is}
 use Rattle.coverage.proofs.Covering.{covering_is_covered}

@@ -18,9 +18,9 @@ use Rattle.coverage.proofs.TakenPools.{pools_are_taken}
 use Rattle.route_tree.specs.Route.{Route}
 use Rattle.route_tree.specs.At.{plain_for}
 
-put_behind : (x : ℕ) (xs : List ℕ) (s : ℕ) (o : Option ℕ) → put_number (x ∷ xs) s (one_more o) ≡ x ∷ put_number xs s o
-put_behind x xs s None = refl
-put_behind x xs s (Some i) = refl
+put_after : (x : ℕ) (xs : List ℕ) (s : ℕ) (o : Option ℕ) → put_number (x ∷ xs) s (one_more o) ≡ x ∷ put_number xs s o
+put_after x xs s None = refl
+put_after x xs s (Some i) = refl
 
 not_less : (n k : ℕ) → nat_lt n k ≡ false → k ≤ n
 not_less n k e = grind arith
@@ -34,7 +34,7 @@ by_place P x xs s a b c = step (nat_lt s x) refl
   where
     other : nat_lt s x ≡ false → (t : Bool) → nat_eq s x ≡ t → P (put_number (x ∷ xs) s (cond t None (one_more (number_in xs s))))
     other k true e = b (eqb-true s x e)
-    other k false e = subst P (sym (put_behind x xs s (number_in xs s))) (c (let le = not_less s x k in let ne = not_same s x e in ⊎_elim (λ (lt : x < s). lt) (λ (eq : s ≡ x). absurd (ne eq)) (split le)))
+    other k false e = subst P (sym (put_after x xs s (number_in xs s))) (c (let le = not_less s x k in let ne = not_same s x e in ⊎_elim (λ (lt : x < s). lt) (λ (eq : s ≡ x). absurd (ne eq)) (split le)))
       where
         split : x ≤ s → (x < s) ⊎ (s ≡ x)
         split le = ⊎_elim (λ (e : nat_lt x s ≡ true). inl (leb-true _ _ e)) (λ (e : nat_lt x s ≡ false). inr (let k = not_less x s e in omega (arith, k, le))) (bool_is (nat_lt x s))

@@ -11,7 +11,7 @@ use Rattle.certificates.specs.declared.table.ClassRows.{ClassRows}
 use Rattle.certificates.specs.declared.table.PlaceTable.{PlaceTable}
 use Rattle.certificates.specs.Places.{place_at}
 use Rattle.certificates.specs.Tables.{IsTable}
-use Rattle.certificates.specs.Valid.{AreBehind, AreRuns, EachClass, IsClass, run_at}
+use Rattle.certificates.specs.Valid.{AreAfter, AreRuns, EachClass, IsClass, run_at}
 use Rattle.certificates.specs.Proposed.{last_of, IsLast, IsWithRun, AreRunsBelow, AreRowsBelow, AreProposed, IsValidIfCovered}
 use Rattle.certificates.proofs.Answering.{at_index}
 
@@ -21,19 +21,19 @@ at_most a b h = grind arith
 not_most : (a b : ℕ) → b < a → nat_le a b ≡ false
 not_most a b h = grind arith
 
-behind_more : (last n : ℕ) (xs : List Run) (run : Run) → AreBehind last n xs → last < n → run.first ≡ n → AreBehind last (suc n) (xs ++ run ∷ [])
-behind_more last n [] run h lt e = (omega (arith, lt, e), omega (arith, e), tt)
-behind_more last n (x ∷ xs) run h lt e = (h.0, omega (arith, h.1), behind_more x.first n xs run h.2 h.1 e)
+after_more : (last n : ℕ) (xs : List Run) (run : Run) → AreAfter last n xs → last < n → run.first ≡ n → AreAfter last (suc n) (xs ++ run ∷ [])
+after_more last n [] run h lt e = (omega (arith, lt, e), omega (arith, e), tt)
+after_more last n (x ∷ xs) run h lt e = (h.0, omega (arith, h.1), after_more x.first n xs run h.2 h.1 e)
 
 runs_more : (n : ℕ) (xs : List Run) (run : Run) → AreRunsBelow n xs → run.first ≡ n → AreRunsBelow (suc n) (xs ++ run ∷ [])
 runs_more n [] run h e = (omega arith, (e ∙ h, tt))
-runs_more n (x ∷ xs) run h e = (omega arith, (h.1.0, behind_more 0 n xs run h.1.1 h.0 e))
+runs_more n (x ∷ xs) run h e = (omega arith, (h.1.0, after_more 0 n xs run h.1.1 h.0 e))
 
 run_at_front : (s : List ℕ) (xs : List Run) (run : Run) (r : ℕ) → r < run.first → run_at s (xs ++ run ∷ []) r ≡ run_at s xs r
 run_at_front s [] run r lt = ap (λ (t : Bool). cond t run.servers.items s) (not_most run.first r lt)
 run_at_front s (x ∷ xs) run r lt = ap (λ (l : List ℕ). cond (nat_le x.first r) l s) (run_at_front x.servers.items xs run r lt)
 
-run_at_last : (s : List ℕ) (last : ℕ) (xs : List Run) (run : Run) (n : ℕ) → AreBehind last n xs → run.first ≡ n → run_at s (xs ++ run ∷ []) n ≡ run.servers.items
+run_at_last : (s : List ℕ) (last : ℕ) (xs : List Run) (run : Run) (n : ℕ) → AreAfter last n xs → run.first ≡ n → run_at s (xs ++ run ∷ []) n ≡ run.servers.items
 run_at_last s last [] run n h e = ap (λ (t : Bool). cond t run.servers.items s) (at_most run.first n (omega (arith, e)))
 run_at_last s last (x ∷ xs) run n h e =
     ap (λ (t : Bool). cond t (run_at x.servers.items (xs ++ run ∷ []) n) s) (at_most x.first n (let lt = h.1 in omega (arith, lt)))
@@ -67,15 +67,15 @@ rows_next tree prefix modulus n xs run h e v = subst (λ (k : ℕ). AreRowsBelow
 
 -- ---- going on with the last run
 
-behind_wider : (last n : ℕ) (xs : List Run) → AreBehind last n xs → AreBehind last (suc n) xs
-behind_wider last n [] h = tt
-behind_wider last n (x ∷ xs) h = (h.0, (let k = h.1 in omega (arith, k)), behind_wider x.first n xs h.2)
+after_wider : (last n : ℕ) (xs : List Run) → AreAfter last n xs → AreAfter last (suc n) xs
+after_wider last n [] h = tt
+after_wider last n (x ∷ xs) h = (h.0, (let k = h.1 in omega (arith, k)), after_wider x.first n xs h.2)
 
 runs_wider : (n : ℕ) (xs : List Run) → 0 < length xs → AreRunsBelow n xs → AreRunsBelow (suc n) xs
 runs_wider n [] some h = absurd (omega (arith, some))
-runs_wider n (x ∷ xs) some h = (omega arith, (h.1.0, behind_wider 0 n xs h.1.1))
+runs_wider n (x ∷ xs) some h = (omega arith, (h.1.0, after_wider 0 n xs h.1.1))
 
-run_at_end : (s : List ℕ) (last n : ℕ) (xs : List Run) → AreBehind last n xs → run_at s xs n ≡ last_of s xs
+run_at_end : (s : List ℕ) (last n : ℕ) (xs : List Run) → AreAfter last n xs → run_at s xs n ≡ last_of s xs
 run_at_end s last n [] h = refl
 run_at_end s last n (x ∷ xs) h =
     ap (λ (t : Bool). cond t (run_at x.servers.items xs n) s) (at_most x.first n (let lt = h.1 in omega (arith, lt)))

@@ -9,7 +9,7 @@ use Rattle.route_tree.proofs.Places.{each_append, each_left}
 use Rattle.certificates.specs.declared.table.Class.{Class}
 use Rattle.certificates.specs.declared.table.PlaceTable.{PlaceTable}
 use Rattle.certificates.specs.declared.table.ClassRows.{ClassRows}
-use Rattle.coverage.specs.Taking.{Covers}
+use Rattle.coverage.specs.Cover.{Covers}
 use Rattle.certificates.specs.Resolved.{resolved}
 use Rattle.certificates.specs.Places.{IsClassOf, place_at}
 use Rattle.certificates.specs.Valid.{EachClass, IsTableOf, IsValidRow, AreValidRows, run_at, row_at}

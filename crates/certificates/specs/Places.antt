@@ -7,7 +7,7 @@ use Rattle.route_tree.specs.Route.{Route, IsTree}
 use Rattle.route_tree.specs.At.{tree_at}
 use Rattle.route_tree.specs.Place.{sizes, prefixes, IsLeastCommonMultiple, tree_at_place}
 use Rattle.route_tree.specs.Word.{tree_words}
-use Rattle.coverage.specs.Taking.{Covers}
+use Rattle.coverage.specs.Cover.{Covers}
 
 -- no prefix, or one of these
 abbrev pub IsClassOf : List (List ℕ) → Option (List ℕ) → Type 0

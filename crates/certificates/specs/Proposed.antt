@@ -9,7 +9,7 @@ use Rattle.certificates.specs.declared.table.ClassRows.{ClassRows}
 use Rattle.certificates.specs.declared.table.PlaceTable.{PlaceTable}
 use Rattle.certificates.specs.declared.table.Certificate.{Certificate}
 use Rattle.certificates.specs.Places.{place_at}
-use Rattle.coverage.specs.Taking.{Covers}
+use Rattle.coverage.specs.Cover.{Covers}
 use Rattle.certificates.specs.Valid.{IsTableOf, IsShaped, IsValidRow, AreRuns, EachClass, row_at, run_at}
 
 -- valid, unless the place has a gap

@@ -1,4 +1,6 @@
 -- What tables of places are made with, and when there is none.
+use Rattle.route_tree.specs.declared.limits.TheConstants.{SLOT_LIMIT}
+use Rattle.certificates.specs.declared.table.TheConstants.{PLACE_LIMIT}
 use Rattle.std.specs.Prelude.{ℕ, ◌*◌, ◌<◌, ◌≤◌, List, length, Option, Some, None}
 use Rattle.std.specs.Int.{◌∣◌}
 use Rattle.route_tree.specs.Each.{Each}
@@ -11,14 +13,14 @@ use Rattle.certificates.specs.Valid.{IsTableOf}
 
 -- the most rows of a table
 abbrev pub most_rows : ℕ
-most_rows = 262144
+most_rows = PLACE_LIMIT
 
 abbrev pub row_count : PlaceTable → ℕ
 row_count table = length table.classes.items * table.modulus
 
 -- the sizes of pools
 abbrev pub AreSizes : List ℕ → Type 0
-AreSizes ns = Each (λ n. (0 < n) × (n ≤ 2048)) ns
+AreSizes ns = Each (λ n. (0 < n) × (n ≤ SLOT_LIMIT)) ns
 
 -- each common multiple is too large
 abbrev pub AreTooMany : List ℕ → Type 0

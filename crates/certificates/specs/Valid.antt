@@ -14,7 +14,7 @@ use Rattle.certificates.specs.declared.table.PlaceTable.{PlaceTable}
 use Rattle.certificates.specs.declared.table.Run.{Run}
 use Rattle.certificates.specs.declared.table.ClassRows.{ClassRows}
 use Rattle.certificates.specs.declared.table.Certificate.{Certificate}
-use Rattle.coverage.specs.Taking.{IsTaking, Takes, Clears}
+use Rattle.coverage.specs.Cover.{IsTaking, Takes, Clears}
 use Rattle.certificates.specs.Resolved.{resolved}
 use Rattle.certificates.specs.Places.{place_at}
 
@@ -63,13 +63,13 @@ pub record IsValidRow (plain : Plan) (row : List ℕ) : Type 0 where
   pub cleared : (server : ℕ) → IsIn server row → (kind : Deleting) → Clears plain kind server
 
 -- the runs begin at 0 and rise, below the modulus
-abbrev pub AreBehind : ℕ → ℕ → List Run → Type 0
-AreBehind last modulus [] = Unit {0}
-AreBehind last modulus (run ∷ runs) = (last < run.first) × (run.first < modulus) × AreBehind run.first modulus runs
+abbrev pub AreAfter : ℕ → ℕ → List Run → Type 0
+AreAfter last modulus [] = Unit {0}
+AreAfter last modulus (run ∷ runs) = (last < run.first) × (run.first < modulus) × AreAfter run.first modulus runs
 
 abbrev pub AreRuns : ℕ → List Run → Type 0
 AreRuns modulus [] = ⊥
-AreRuns modulus (run ∷ runs) = (run.first ≡ 0) × AreBehind 0 modulus runs
+AreRuns modulus (run ∷ runs) = (run.first ≡ 0) × AreAfter 0 modulus runs
 
 -- the servers of the last run that begins at the residue or before it
 abbrev pub run_at : List ℕ → List Run → ℕ → List ℕ

@@ -5,8 +5,8 @@ ghost use Rattle.route_tree.specs.Form.{routes_of, policies_of, prefixes_of};
 ghost use Rattle.route_tree.specs.Place.{sizes, sizes_of_all, sizes_of_policies, sizes_of_prefixes, prefixes, prefixes_of_all, prefixes_of_policies, prefixes_of_prefixes};
 ghost use Rattle.certificates.specs.Resolved.{resolved, resolved_all, resolved_policies};
 
-use coverage::prefixes::longest;
 use mc_types::{Key, Op};
+use route_tree::at::longest;
 use route_tree::{Tree, TreeForm};
 use std::alloc::AllocError;
 

@@ -13,4 +13,4 @@ pub mod texts;
 
 pub use making::{places, places_of_two};
 pub use proposing::propose;
-pub use table::{Certificate, Class, ClassRows, PlaceFault, PlaceTable, Run};
+pub use table::{Certificate, Class, ClassRows, PLACE_LIMIT, PlaceFault, PlaceTable, Run};

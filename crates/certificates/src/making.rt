@@ -11,17 +11,17 @@ ghost use Rattle.certificates.specs.Tables.{most_rows, AreSizes, IsMultiple, IsT
 
 use crate::collecting::{add_prefixes, add_sizes, add_sizes_at};
 use crate::multiples::common_multiple;
-use crate::table::{Class, PlaceFault, PlaceTable};
+use crate::table::{Class, PLACE_LIMIT, PlaceFault, PlaceTable};
 use crate::texts::ordered;
 use coverage::prefixes::prefix_text;
 use mc_types::Key;
-use route_tree::Tree;
+use route_tree::{SLOT_LIMIT, Tree};
 use std::alloc::{AllocError, Global};
 
 /// The places of the tree: for each class a row for each residue below the least common multiple of the sizes of all the
 /// tree's pools. The classes are no prefix, then the tree's distinct prefixes in byte order.
 ///
-/// `TooManyPlaces` comes exactly where there would be more than 262,144 rows, `NoMemory` where memory was refused.
+/// `TooManyPlaces` comes exactly where there would be more than [`PLACE_LIMIT`] rows, `NoMemory` where memory was refused.
 #[tactic(auto, using(crate::proofs::Tabling::is_table_once, crate::proofs::Tabling::fault_once))]
 pub fn places(alloc: Global, tree: &Tree) -> Result<PlaceTable, PlaceFault>
     ensures { MatchResult result (IsTable (tree.now ∷ [])) (IsPlaceFault (tree.now ∷ [])) }
@@ -53,7 +53,7 @@ fn table_of_two(
         Some(modulus) => modulus,
     };
     let texts = texts_of_two(alloc, first, second)?;
-    if texts.len() >= (262_144 / modulus) as usize {
+    if texts.len() >= (PLACE_LIMIT / modulus) as usize {
         return Ok(None);
     }
     let classes = classes_of_two(alloc, first, second, modulus, &texts)?;
@@ -92,7 +92,7 @@ fn least_multiple(sizes: &[usize]) -> Option<u32>
 #[tactic(auto, using(crate::proofs::SizeMultiples::still_large, crate::proofs::SizeMultiples::now_large, crate::proofs::SizeMultiples::still_small))]
 fn more_multiple(of_rest: Option<u32>, rest: &[usize], first: usize) -> Option<u32>
     requires some { 0 < first }
-    requires few { first ≤ 2048 }
+    requires few { first ≤ SLOT_LIMIT }
     requires of_rest { IsMultiple rest.now of_rest }
     ensures { IsMultiple (first ∷ rest.now) result }
 {
@@ -101,7 +101,7 @@ fn more_multiple(of_rest: Option<u32>, rest: &[usize], first: usize) -> Option<u
         None => None,
         Some(of_rest) => {
             let of_all = common_multiple(of_rest, first as u32);
-            if of_all <= 262_144 {
+            if of_all <= PLACE_LIMIT {
                 Some(of_all)
             } else {
                 None

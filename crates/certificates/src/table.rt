@@ -6,6 +6,9 @@ ghost use Rattle.route_tree.specs.Place.{prefix_text};
 use coverage::prefixes::prefix_text;
 use mc_types::{Key, ServerId};
 
+/// The most rows of a table: places of a tree, or of two together. mcgate's own.
+pub const PLACE_LIMIT: u32 = 262_144;
+
 /// The keys that this prefix begins, or none of the table's prefixes, where no longer one does.
 #[derive(Clone, Copy)]
 pub struct Class {
@@ -33,7 +36,7 @@ pub struct PlaceTable {
 /// Why there is no table.
 #[derive(Clone, Copy)]
 pub enum PlaceFault {
-    /// There are more than 262,144 rows.
+    /// There are more than [`PLACE_LIMIT`] rows.
     TooManyPlaces,
     /// Memory was refused.
     NoMemory,

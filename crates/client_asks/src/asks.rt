@@ -275,29 +275,6 @@ fn has_key(ask: &Ask) -> bool
     }
 }
 
-fn exptime_in_range(exptime: Option<i64>)
-    ensures { IfSome exptime IsExptime }
-{
-    if let Some(_exptime) = exptime {}
-}
-
-fn cas_in_range(cas: Option<u64>)
-    ensures { IfSome cas (λ cas. cas < 2 ^ 64) }
-{
-    if let Some(_cas) = cas {}
-}
-
-// The numbers of an ask are in the ranges of their types.
-fn numbers_in_range(ask: &Ask)
-    requires { length ask.now.body ≤ data_limit }
-    ensures { AreInRange ask.now }
-{
-    let _flags = ask.flags;
-    let _delta = ask.delta;
-    exptime_in_range(ask.exptime);
-    cas_in_range(ask.cas);
-}
-
 /// Whether the ask is one that a client can write. Each ask of the core is, so a link tests it and no condition on tickets is kept.
 #[tactic(auto, using(crate::proofs::AskTest::ask_is))]
 pub fn is_ask(ask: &Ask) -> bool
@@ -306,6 +283,6 @@ pub fn is_ask(ask: &Ask) -> bool
     if ask.body.len() > DATA_LIMIT as usize {
         return false;
     }
-    numbers_in_range(ask);
+    ask.numbers_in_range();
     has_key(ask) && has_shape(ask)
 }

@@ -88,11 +88,9 @@ pub fn read_request(bytes: &[u8]) -> Read
             }
             Some(first) => match dialect_of(&bytes[..end][first.start..first.end]) {
                 Dialect::Classic => {
-                    return of_classic(text_requests::read_behind(bytes, end, used, first));
+                    return of_classic(text_requests::read_after(bytes, end, used, first));
                 }
-                Dialect::Meta => return of_meta(meta_requests::read_behind(
-                    bytes, end, used, first,
-                )),
+                Dialect::Meta => return of_meta(meta_requests::read_after(bytes, end, used, first)),
             },
         },
     }

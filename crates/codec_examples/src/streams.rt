@@ -157,14 +157,14 @@ fn nothing_is_passed_over(alloc: Global) -> Result<bool, AllocError> {
 }
 
 // A get of one key: so many bytes of value 128, this byte, and so many again.
-fn get_of(alloc: Global, before: usize, byte: u8, behind: usize) -> Result<BytesMut, AllocError> {
+fn get_of(alloc: Global, before: usize, byte: u8, after: usize) -> Result<BytesMut, AllocError> {
     let mut out = BytesMut::new(alloc);
     out.extend_from_slice(b"get ")?;
     for _ in 0..before {
         out.extend_from_slice(&[128])?;
     }
     out.extend_from_slice(&[byte])?;
-    for _ in 0..behind {
+    for _ in 0..after {
         out.extend_from_slice(&[128])?;
     }
     out.extend_from_slice(b"\r\n")?;

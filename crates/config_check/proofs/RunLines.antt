@@ -21,19 +21,19 @@ one_more xs x front last h = let parts = wide_both xs (x ∷ []) h in line_both 
 
 fails_have_lines : (n : ℕ) → HaveWidths (fail_lines n) → HaveLines (fail_lines n)
 fails_have_lines zero h = tt
-fails_have_lines (suc n) h = one_more (fail_lines n) (Fail (suc n) Before) (fails_have_lines n) (λ lt. (omega arith, lt)) h
+fails_have_lines (suc n) h = one_more (fail_lines n) (Fail (suc n) Before) (fails_have_lines n) (λ w. ((omega arith, w.0), tt)) h
 
-fails_behind : (xs : List Scripted) (n : ℕ) → (HaveWidths xs → HaveLines xs) → HaveWidths (xs ++ fail_lines n) → HaveLines (xs ++ fail_lines n)
-fails_behind xs n front h = let parts = wide_both xs (fail_lines n) h in line_both xs (fail_lines n) (front parts.0) (fails_have_lines n parts.1)
+fails_after : (xs : List Scripted) (n : ℕ) → (HaveWidths xs → HaveLines xs) → HaveWidths (xs ++ fail_lines n) → HaveLines (xs ++ fail_lines n)
+fails_after xs n front h = let parts = wide_both xs (fail_lines n) h in line_both xs (fail_lines n) (front parts.0) (fails_have_lines n parts.1)
 
 pub run_has_lines : (server : ℕ) (key : List ℕ) (op : Op) (i j : ℕ) → IsKey key → HaveWidths (script_for server key op i j) → HaveLines (script_for server key op i j)
 run_has_lines server key op i j is_key h =
     let held = Hold server key (49 ∷ []) ∷ [] in
     let deleted = (held ++ fail_lines i) ++ Piece 0 (delete_text key) ∷ [] in
     one_more (deleted ++ fail_lines j) (Piece 0 (read_text op key)) (
-    fails_behind deleted j (
+    fails_after deleted j (
     one_more (held ++ fail_lines i) (Piece 0 (delete_text key)) (
-    fails_behind held i (λ w. ((w.0.0, is_key, w.0.1, w.0.2), tt))
+    fails_after held i (λ w. ((w.0.0, is_key, w.0.1, w.0.2), tt))
     ) (λ bytes. (omega arith, bytes))
     )
     ) (λ bytes. (omega arith, bytes)) h

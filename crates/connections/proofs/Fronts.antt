@@ -15,13 +15,13 @@ use Rattle.client_requests.specs.declared.request.Request.{Request}
 use Rattle.client_requests.specs.Both.{Order, Classic, Meta, own_by}
 use Rattle.client_requests.specs.Message.{Reads}
 use Rattle.client_requests.specs.Asks.{asks_by}
-use Rattle.client_requests.specs.Stream.{behind_order}
+use Rattle.client_requests.specs.Stream.{after_order}
 use Rattle.request_parts.specs.Stream.{Place, Stands, Closed}
 use Rattle.text_codec.specs.Held.{held_at, IsReadAt}
 use Rattle.text_codec.specs.TextProtocol.{Whole, LongLine, memcached_text}
 use Rattle.connections.specs.declared.connection.Connection.{Connection}
 use Rattle.connections.specs.Steps.{held_len}
-use Rattle.request_parts.specs.Stream.{behind_own}
+use Rattle.request_parts.specs.Stream.{after_own}
 
 -- nothing is in a list of length 0
 pub empty_is : (asks : List Ask) → length asks ≡ 0 → asks ≡ []
@@ -29,7 +29,7 @@ empty_is [] e = refl
 empty_is (ask ∷ asks) e = absurd (omega arith)
 
 -- after what mcgate itself was asked no more is held
-pub own_len : (own : Option ProxyCommand) (rest : List ℕ) → length (held_at (behind_own own rest)) ≤ length rest
+pub own_len : (own : Option ProxyCommand) (rest : List ℕ) → length (held_at (after_own own rest)) ≤ length rest
 own_len None rest = omega arith
 own_len (Some Version) rest = omega arith
 own_len (Some Quit) rest = omega arith
@@ -43,20 +43,20 @@ shorter_by old new held rest place at goes within less =
     omega (arith, a, b)
 
 -- a request with an ask is no `quit`: after it the stream goes on
-pub served_behind : (order : Order) (block rest : List ℕ) (i : ℕ) (ask : Ask) → slice_get (asks_by order block) i ≡ Some ask → behind_order order rest ≡ Stands Nothing rest
-served_behind (Classic (OfItself own)) block rest i ask e = absurd (cc)
-served_behind (Classic (Retrieval exptime with_cas keys)) block rest i ask e = refl
-served_behind (Classic (Storage kind stored quiet)) block rest i ask e = refl
-served_behind (Classic (Swapping stored cas quiet)) block rest i ask e = refl
-served_behind (Classic (Deletion key quiet)) block rest i ask e = refl
-served_behind (Classic (Touching key exptime quiet)) block rest i ask e = refl
-served_behind (Classic (Counting up key delta quiet)) block rest i ask e = refl
-served_behind (Meta (metas.OfItself own)) block rest i ask e = absurd (cc)
-served_behind (Meta (metas.Asking kind key n flags)) block rest i ask e = refl
+pub served_after : (order : Order) (block rest : List ℕ) (i : ℕ) (ask : Ask) → slice_get (asks_by order block) i ≡ Some ask → after_order order rest ≡ Stands Nothing rest
+served_after (Classic (OfItself own)) block rest i ask e = absurd (cc)
+served_after (Classic (Retrieval exptime with_cas keys)) block rest i ask e = refl
+served_after (Classic (Storage kind stored quiet)) block rest i ask e = refl
+served_after (Classic (Swapping stored cas quiet)) block rest i ask e = refl
+served_after (Classic (Deletion key quiet)) block rest i ask e = refl
+served_after (Classic (Touching key exptime quiet)) block rest i ask e = refl
+served_after (Classic (Counting up key delta quiet)) block rest i ask e = refl
+served_after (Meta (metas.OfItself own)) block rest i ask e = absurd (cc)
+served_after (Meta (metas.Asking kind key n flags)) block rest i ask e = refl
 
 -- after what mcgate itself was asked
-pub own_behind : (order : Order) (rest : List ℕ) → behind_order order rest ≡ behind_own (own_by order) rest
-own_behind order rest = refl
+pub own_after : (order : Order) (rest : List ℕ) → after_order order rest ≡ after_own (own_by order) rest
+own_after order rest = refl
 
 -- where something is read, the stream stands before it
 pub read_front : (place : Place) (read : Read) → IsReadAt place read → (read ≡ reads.More → ⊥) → (held : List ℕ) × (place ≡ Stands Nothing held) × Reads held read

@@ -3,7 +3,7 @@ use Rattle.std.proofs.Common.{◌≡◌, ℕ, List, Some, refl, slice_get}
 use Rattle.mc_text.specs.Word.{text_at}
 use Rattle.mc_types.specs.declared.ask.Ask.{Ask}
 use Rattle.request_parts.specs.declared.skip.Skip.TheVariants.{Nothing}
-use Rattle.request_parts.specs.Stream.{Stands, behind_own}
+use Rattle.request_parts.specs.Stream.{Stands, after_own}
 use Rattle.text_requests.specs.Places as texts
 use Rattle.meta_requests.specs.Places as metas
 use Rattle.client_requests.specs.declared.request.Request.{Request}
@@ -11,17 +11,17 @@ use Rattle.client_requests.specs.declared.request.Request.TheVariants.{Classic, 
 use Rattle.client_requests.specs.Both as both
 use Rattle.client_requests.specs.Message.{message_in}
 use Rattle.client_requests.specs.Asks.{asks_of, own_of}
-use Rattle.client_requests.specs.Stream.{behind}
+use Rattle.client_requests.specs.Stream.{after_message}
 use Rattle.text_codec.specs.TextProtocol.{Whole, own_passed, passed_text}
-use Rattle.connections.proofs.Fronts.{served_behind}
+use Rattle.connections.proofs.Fronts.{served_after}
 
 -- after a request with an ask the stream goes on
-pub request_behind : (held : List ℕ) (request : Request) (rest : List ℕ) (i : ℕ) (ask : Ask) → slice_get (asks_of (message_in held request)) i ≡ Some ask → behind (message_in held request) rest ≡ Stands Nothing rest
-request_behind held (Classic r) rest i ask at = served_behind (both.Classic (texts.order_in held r.command)) (text_at held r.block) rest i ask at
-request_behind held (Meta r) rest i ask at = served_behind (both.Meta (metas.order_in held r.command)) (text_at held r.block) rest i ask at
+pub request_after : (held : List ℕ) (request : Request) (rest : List ℕ) (i : ℕ) (ask : Ask) → slice_get (asks_of (message_in held request)) i ≡ Some ask → after_message (message_in held request) rest ≡ Stands Nothing rest
+request_after held (Classic r) rest i ask at = served_after (both.Classic (texts.order_in held r.command)) (text_at held r.block) rest i ask at
+request_after held (Meta r) rest i ask at = served_after (both.Meta (metas.order_in held r.command)) (text_at held r.block) rest i ask at
 
 -- where it stands after what mcgate itself was asked
-pub own_next : (held : List ℕ) (request : Request) (rest : List ℕ) → behind_own (own_of (message_in held request)) rest ≡ behind (message_in held request) rest
+pub own_next : (held : List ℕ) (request : Request) (rest : List ℕ) → after_own (own_of (message_in held request)) rest ≡ after_message (message_in held request) rest
 own_next held (Classic r) rest = refl
 own_next held (Meta r) rest = refl
 

@@ -18,14 +18,14 @@ pub record GoesTo (old : Connection) (place : Place) (more : List ℕ) (new : Co
   pub output_is : output_of new ≡ output_of old ++ more
 
 -- where it stands after a reply, with these bytes after the message: the message is done, or it stands where it stood
-abbrev pub place_behind : Bool → Connection → List ℕ → Place
-place_behind true old rest = Stands Nothing rest
-place_behind false old rest = old.stream
+abbrev pub place_after : Bool → Connection → List ℕ → Place
+place_after true old rest = Stands Nothing rest
+place_after false old rest = old.stream
 
 -- this reply was shown: whether the message is done with it, and what the output goes on by
 pub record Shows (old : Connection) (used : ℕ) (quiet last : Bool) (ask : Ask) (reply : Answer) (ended : Bool) (new : Connection) : Type 0 where
   pub ended_is : ended ≡ (is_failure reply || last)
-  pub goes : (held : List ℕ) → old.stream ≡ Stands Nothing held → GoesTo old (place_behind ended old (drop used held)) (shown_text quiet last ask reply) new
+  pub goes : (held : List ℕ) → old.stream ≡ Stands Nothing held → GoesTo old (place_after ended old (drop used held)) (shown_text quiet last ask reply) new
 
 -- how many bytes are held
 abbrev pub held_len : Connection → ℕ

@@ -7,7 +7,7 @@ ghost use Rattle.text_codec.specs.Held.{held_at};
 ghost use Rattle.text_codec.specs.Replies.{refusal_text, long_line_text, shown_text};
 ghost use Rattle.text_codec.specs.TextProtocol.{own_passed};
 ghost use Rattle.connections.specs.Steps.{output_of, GoesTo, Shows};
-ghost use Rattle.request_parts.specs.Stream.{behind_own};
+ghost use Rattle.request_parts.specs.Stream.{after_own};
 
 use bytes::BytesMut;
 use mc_types::{Answer, Ask};
@@ -70,7 +70,7 @@ impl Connection {
     /// leaves the connection as it was.
     pub fn answer_own(&mut self, own: Option<ProxyCommand>, used: usize) -> Result<(), AllocError>
         requires { used ≤ length (held_at self.old.stream) }
-        ensures ok { OnOk result ((held : List ℕ) → self.old.stream ≡ Stands Nothing held → GoesTo self.old (behind_own own (drop used held)) (own_passed own) self.new) }
+        ensures ok { OnOk result ((held : List ℕ) → self.old.stream ≡ Stands Nothing held → GoesTo self.old (after_own own (drop used held)) (own_passed own) self.new) }
         ensures err { OnErr result (GoesTo self.old self.old.stream [] self.new) }
     {
         if let Some(own) = own {

@@ -1,11 +1,12 @@
 -- What calls of a runner make of a log, one after another.
-use Rattle.std.proofs.Common.{◌≡◌, ℕ, cond, nat_eq, List, [], ◌∷◌, ◌++◌, Option, Result, Ok, Err, refl, sym, ap, ◌∙◌, subst, append_assoc}
+use Rattle.std.proofs.Common.{◌≡◌, ℕ, cond, nat_eq, List, [], ◌∷◌, ◌++◌, map, Option, Result, Ok, Err, refl, sym, ap, ◌∙◌, subst, append_assoc}
+use Rattle.std.proofs.lemmas.List.{map-append}
 use Rattle.std.specs.Prelude.{OnOk, ℤ}
 use Rattle.mc_types.specs.declared.ask.Ask.{Ask}
 use Rattle.mc_types.specs.Items.{Item}
 use Rattle.mc_runs.specs.Overlap.{Entry}
 use Rattle.mc_runs.specs.OverlapStream.{stream_of}
-use Rattle.mc_runs.specs.Overlap.{given_of}
+use Rattle.mc_runs.specs.Overlap.{given_of, run_of}
 use Rattle.mc_runs.specs.Run.{End, Read, Unread, Never, outcome_of}
 use Rattle.mc_runs.specs.Single.{FitsOutcome}
 use Rattle.mc_types.specs.declared.call.Origin.{Origin}
@@ -23,10 +24,12 @@ use Rattle.script_servers.specs.Calling.{Ends}
 use Rattle.script_servers.specs.Servers.{Answers}
 use Rattle.script_servers.specs.declared.servers.ScriptServers.{ScriptServers}
 use Rattle.stepped_log.specs.Standing.{Kept, Stands, GoesOn, GoesOnFed, IsBesides}
+use Rattle.stepped_log.specs.Results.{CallResult, NumberedCall, call_of, calls_of, AreGiven, GoesOnBy}
+use Rattle.stepped_log.proofs.Counted.{goes_on_by_none}
 use Rattle.stepped_log.specs.Laws.{CountsPoll, PollsGoOn, ResultsGoOn, LoadsGoOn}
 use Rattle.core_run.specs.Counting.{last_of}
 use Rattle.core_run.specs.Finding.{found_of}
-use Rattle.core_run.specs.Running.{kept_of, Moves, MovesFed, IsLoadedBy}
+use Rattle.core_run.specs.Running.{kept_of, Moves, MovesBy, MovesByOne, MovesByResults, MovesFed, IsLoadedBy}
 use Rattle.core_run.specs.declared.found.Found.{Found}
 use Rattle.core_run.specs.declared.runner.Runner.{Runner}
 
@@ -73,6 +76,66 @@ pub fed_then : (client : ℕ) (bytes : List ℕ) (a b d : Runner) (s t u : Scrip
 fed_then client bytes a b d s t u m n opening tree log stands =
     let g = m opening tree log stands in
     fed_goes_then opening tree log client bytes (kept_of b t) (kept_of d u) g (n opening tree (g.more ++ log) g.stands)
+
+-- ---- moves by results
+
+-- results after others
+pub given_then : (later first : List CallResult) (s t u : ScriptServers) → AreGiven first s t → AreGiven later t u → AreGiven (later ++ first) s u
+given_then [] first s t u g h = subst (AreGiven first s) (sym h) g
+given_then (r ∷ later) first s t u g h = (h.0, given_then later first s t h.0 g h.1, h.2, h.3)
+
+-- no result came
+pub none_by : (a b : Runner) (s : ScriptServers) → Moves a s b s → MovesBy [] a s b s
+none_by a b s m = record { given = refl; goes = λ opening tree log stands. goes_on_by_none opening tree log (kept_of a s) (kept_of b s) stands refl (m opening tree log stands) }
+
+pub by_none : (a b : Runner) (s : ScriptServers) → Moves a s b s → MovesByResults a s b s
+by_none a b s m = ([], none_by a b s m)
+
+by_goes_then :
+    (opening : ℕ → List ℕ → Option Item) (tree : ℕ → Route) (log : List (Entry dialect)) (later first : List CallResult) (k l : Kept) (g : GoesOnBy opening tree log first k)
+    → GoesOnBy opening tree (g.goes.more ++ log) later l → GoesOnBy opening tree log (later ++ first) l
+unfolding goes_then
+by_goes_then opening tree log later first k l g h =
+    record {
+      goes = goes_then opening tree log k l g.goes h.goes;
+      calls =
+          ap (λ es. calls_of (run_of es)) (append_assoc h.goes.more g.goes.more log) ∙ h.calls ∙ ap (λ (cs : List NumberedCall). map call_of later ++ cs) g.calls
+          ∙ sym (append_assoc (map call_of later) (map call_of first) (calls_of (run_of log))) ∙ ap (λ (cs : List NumberedCall). cs ++ calls_of (run_of log)) (sym (map-append call_of later first));
+    }
+
+-- one after another
+pub by_then : (a b d : Runner) (s t u : ScriptServers) → MovesByResults a s b t → MovesByResults b t d u → MovesByResults a s d u
+by_then a b d s t u m n = (
+  n.0 ++ m.0,
+  record {
+    given = given_then n.0 m.0 s t u m.1.given n.1.given;
+    goes = λ opening tree log stands.
+        let g = m.1.goes opening tree log stands in
+        by_goes_then opening tree log n.0 m.0 (kept_of b t) (kept_of d u) g (n.1.goes opening tree (g.goes.more ++ log) g.goes.stands);
+  },
+)
+
+-- one result, and then what is done without another
+pub one_then : (server : ℕ) (a b d : Runner) (s t : ScriptServers) → MovesByOne server a s b t → Moves b t d t → MovesByOne server a s d t
+one_then server a b d s t m n = (
+  m.0,
+  m.1,
+  record {
+    given = m.2.given;
+    goes = λ opening tree log stands.
+        let g = m.2.goes opening tree log stands in
+        by_goes_then opening tree log [] (m.0 ∷ []) (kept_of b t) (kept_of d t) g
+        (goes_on_by_none opening tree (g.goes.more ++ log) (kept_of b t) (kept_of d t) g.goes.stands refl (n opening tree (g.goes.more ++ log) g.goes.stands));
+  },
+)
+
+-- so each log goes on
+pub moved : (a b : Runner) (s t : ScriptServers) → MovesByResults a s b t → Moves a s b t
+moved a b s t m opening tree log stands = (m.1.goes opening tree log stands).goes
+
+-- a call of this server
+pub at_server : (server other : ℕ) (a b : Runner) (s t : ScriptServers) → other ≡ server → MovesByOne other a s b t → MovesByOne server a s b t
+at_server server other a b s t same m = (m.0, m.1 ∙ same, m.2)
 
 -- all but the core is kept as it was
 pub besides : (k l : Kept) → l ≡ record k { core = l.core } → IsBesides k l
@@ -132,22 +195,30 @@ loaded law a x t tree same step s opening first loads log stands =
 pub resulted :
     ResultsGoOn → (number server : ℕ) (ask : Ask) (origin : Origin) (made : Made) (stamp : ℕ) (a b : Runner) (room : Found) (s t : ScriptServers)
     → IsCalled a.core number server ask origin → ((n : ℕ) → found_of room n ≡ found_of a.found n) → stamp ≡ stamp_given (found_of room number) number origin → Answers stamp s server ask made t
-    → ((n : ℕ) → found_of b.found n ≡ cond (nat_eq number n) (found_of room n ++ made.stamp ∷ []) (found_of room n)) → Settles a.core number made.outcome b.core → b.counts ≡ a.counts → Moves a s b t
-resulted law number server ask origin made stamp a b room s t called same is answers found settles counts opening tree log stands =
-    law opening tree log number server ask origin made s t (kept_of a s) (kept_of b t) stands (
-    record {
-      called = called;
-      caches_were = refl;
-      turn_was = refl;
-      answers = subst (λ n. Answers n s server ask made t) (is ∙ ap (λ f. stamp_given f number origin) (same number)) answers;
-      settles = settles;
-      caches_are = refl;
-      turn_is = refl;
-      stamps = λ n. found n ∙ ap (λ f. cond (nat_eq number n) (f ++ made.stamp ∷ []) f) (same n);
-      counts = record { commands = ap (λ c. c.tally.commands) counts; stale = ap (λ c. c.tally.stale) counts; last = λ key. ap (λ c. last_of c key) counts };
-    }
+    → t ≡ record s { caches = t.caches; turn = t.turn }
+    → ((n : ℕ) → found_of b.found n ≡ cond (nat_eq number n) (found_of room n ++ made.stamp ∷ []) (found_of room n)) → Settles a.core number made.outcome b.core → b.counts ≡ a.counts → MovesByOne server a s b t
+resulted law number server ask origin made stamp a b room s t called same is answers rest found settles counts =
+    let by : Answers (stamp_given (found_of a.found number) number origin) s server ask made t = subst (λ n. Answers n s server ask made t) (is ∙ ap (λ f. stamp_given f number origin) (same number)) answers in (
+      record { number = number; server = server; ask = ask; origin = origin; stamp = stamp_given (found_of a.found number) number origin; made = made },
+      refl,
+      record {
+        given = (s, refl, by, rest);
+        goes = λ opening tree log stands. law opening tree log number server ask origin made s t (kept_of a s) (kept_of b t) stands (
+            record {
+              called = called;
+              caches_were = refl;
+              turn_was = refl;
+              answers = by;
+              settles = settles;
+              caches_are = refl;
+              turn_is = refl;
+              stamps = λ n. found n ∙ ap (λ f. cond (nat_eq number n) (f ++ made.stamp ∷ []) f) (same n);
+              counts = record { commands = ap (λ c. c.tally.commands) counts; stale = ap (λ c. c.tally.stale) counts; last = λ key. ap (λ c. last_of c key) counts };
+            }
+            );
+      },
     )
 
 -- which calls are out isn't kept
-pub out_only : (a b d : Runner) (s t : ScriptServers) → b ≡ record a { out = b.out } → Moves b s d t → Moves a s d t
-out_only a b d s t same m = subst (λ r. Moves r s d t) same m
+pub out_only : (a b d : Runner) (s t : ScriptServers) → b ≡ record a { out = b.out } → (results : List CallResult) → MovesBy results b s d t → MovesBy results a s d t
+out_only a b d s t same results m = record { given = m.given; goes = λ opening tree log stands. m.goes opening tree log (subst (λ r. Stands opening tree log (kept_of r s)) (sym same) stands) }

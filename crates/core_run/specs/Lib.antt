@@ -2,3 +2,4 @@ pub mod Finding
 pub mod Tallying
 pub mod Counting
 pub mod Running
+pub mod Turns

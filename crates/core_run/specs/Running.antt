@@ -1,5 +1,5 @@
 -- What a runner and its servers keep, and what its calls make of the log. Source: mcgate's own.
-use Rattle.std.specs.Prelude.{ℕ, List, ◌∷◌, Option}
+use Rattle.std.specs.Prelude.{◌≡◌, ℕ, List, [], ◌∷◌, Option}
 use Rattle.mc_types.specs.Items.{Item}
 use Rattle.mc_runs.specs.Overlap.{Entry}
 use Rattle.route_tree.specs.Route.{Route}
@@ -7,6 +7,7 @@ use Rattle.proxy_core.specs.CoreState.{dialect}
 use Rattle.script_servers.specs.Servers.{caches_of, turn_of}
 use Rattle.script_servers.specs.declared.servers.ScriptServers.{ScriptServers}
 use Rattle.stepped_log.specs.Standing.{Kept, Stands, GoesOn, GoesOnFed, GoesOnGiven, tree_by}
+use Rattle.stepped_log.specs.Results.{CallResult, AreGiven, GoesOnBy}
 use Rattle.core_run.specs.Counting.{last_of}
 use Rattle.core_run.specs.Finding.{found_of}
 use Rattle.core_run.specs.declared.runner.Runner.{Runner}
@@ -16,6 +17,7 @@ abbrev pub kept_of : Runner → ScriptServers → Kept
 kept_of runner servers =
     record {
       core = runner.core;
+      servers = servers;
       caches = caches_of servers;
       turn = turn_of servers;
       stamps = found_of runner.found;
@@ -28,6 +30,28 @@ kept_of runner servers =
 abbrev pub Moves : Runner → ScriptServers → Runner → ScriptServers → Type 0
 Moves old before new after =
     (opening : ℕ → List ℕ → Option Item) (tree : ℕ → Route) (log : List (Entry dialect)) → Stands opening tree log (kept_of old before) → GoesOn opening tree log (kept_of new after)
+
+-- the servers gave these results, the latest first, and each log that stood before goes on by them, and stands after
+pub record MovesBy (results : List CallResult) (old : Runner) (before : ScriptServers) (new : Runner) (after : ScriptServers) : Type 0 where
+  pub given : AreGiven results before after
+  pub goes : (opening : ℕ → List ℕ → Option Item) (tree : ℕ → Route) (log : List (Entry dialect)) → Stands opening tree log (kept_of old before) → GoesOnBy opening tree log results (kept_of new after)
+
+-- they gave some results
+abbrev pub MovesByResults : Runner → ScriptServers → Runner → ScriptServers → Type 0
+MovesByResults old before new after = (results : List CallResult) × MovesBy results old before new after
+
+-- one result, which is of a call of this server
+abbrev pub MovesByOne : ℕ → Runner → ScriptServers → Runner → ScriptServers → Type 0
+MovesByOne server old before new after = (r : CallResult) × (r.server ≡ server) × MovesBy (r ∷ []) old before new after
+
+-- at most one result, of a call of this server
+abbrev pub AreOfOne : ℕ → List CallResult → Type 0
+AreOfOne server [] = Unit {0}
+AreOfOne server (r ∷ []) = r.server ≡ server
+AreOfOne server (r ∷ s ∷ rs) = ⊥
+
+abbrev pub MovesAt : ℕ → Runner → ScriptServers → Runner → ScriptServers → Type 0
+MovesAt server old before new after = (results : List CallResult) × AreOfOne server results × MovesBy results old before new after
 
 -- the same, where a client said these bytes
 abbrev pub MovesFed : ℕ → List ℕ → Runner → ScriptServers → Runner → ScriptServers → Type 0

@@ -1,10 +1,12 @@
 //! The core, what it can't know, and its calls at the servers of a script.
 
-ghost use Rattle.std.specs.Prelude.{◌≡◌, IfOk, OnOk};
+ghost use Rattle.std.specs.Prelude.{◌≡◌, ◌↔◌, [], IsTrue, IfOk, OnOk};
+ghost use Rattle.proxy_core.specs.CoreState.{IsOut};
 ghost use Rattle.proxy_core.specs.Polls.{Polls};
 ghost use Rattle.script_servers.specs.Servers.{count_of, turn_of, Answers};
 ghost use Rattle.stepped_log.specs.Laws.{stamp_shown, CountsPoll, CountsOne, IsBegin};
 ghost use Rattle.core_run.specs.Finding.{found_of};
+ghost use Rattle.core_run.specs.Turns.{IsLeast, IsLesser};
 
 use crate::counting::Counts;
 use crate::found::Found;
@@ -56,6 +58,7 @@ fn answer(
     ask: &Ask,
 ) -> Result<Made, FleetFault>
     ensures ok { IfOk result (λ made. Answers stamp servers.old server ask.now made servers.new) }
+    ensures rest { servers.new ≡ record servers.old { caches = servers.new.caches; turn = servers.new.turn } }
     ensures count { count_of servers.new ≡ count_of servers.old }
 {
     if !is_ask(ask) || server.number() as usize >= servers.servers() {
@@ -64,8 +67,31 @@ fn answer(
     servers.answer(stamp, server, ask)
 }
 
+// Whether these are one server.
+fn is_same(one: ServerId, other: ServerId) -> bool
+    ensures { IsTrue result ↔ (one ≡ other) }
+{
+    one.number() == other.number()
+}
+
+// The lesser of two servers, or the only one.
+fn lesser(one: Option<ServerId>, other: ServerId) -> ServerId
+    ensures { IsLesser one other result }
+{
+    match one {
+        None => other,
+        Some(server) => {
+            if server.number() <= other.number() {
+                server
+            } else {
+                other
+            }
+        }
+    }
+}
+
 impl Runner {
-    ghost use Rattle.core_run.specs.Running.{kept_of, Moves, MovesFed, MovesGiven, IsLoadedBy};
+    ghost use Rattle.core_run.specs.Running.{kept_of, Moves, MovesByOne, MovesAt, MovesByResults, MovesFed, MovesGiven, IsLoadedBy};
 
     /// No client was opened; commands begin on this tree.
     pub fn new(alloc: Global, tree: Tree) -> Runner
@@ -92,6 +118,13 @@ impl Runner {
         ensures { result ≡ self.now.counts.tally }
     {
         self.counts.tally()
+    }
+
+    /// Whether a command is under way.
+    pub fn is_out(&self) -> bool
+        ensures { IsTrue result ↔ IsOut self.now.core }
+    {
+        self.core.is_out()
     }
 
     // One more client.
@@ -246,20 +279,25 @@ impl Runner {
     }
 
     // The least server at which a call is out.
-    fn least(&self) -> Option<ServerId> {
+    fn least(&self) -> Option<ServerId>
+        ensures { IsLeast result self.now.out.items }
+    {
         let mut least: Option<ServerId> = None;
-        for ticket in self.out.iter() {
-            least = match least {
-                Some(server) if server.number() <= ticket.server.number() => Some(server),
-                _ => Some(ticket.server),
-            };
+        let out = self.out.as_slice();
+        for ticket in out {
+            least = Some(lesser(least, ticket.server));
         }
         least
     }
 
-    // The call has its result.
-    fn settle(&mut self, servers: &mut ScriptServers, ticket: Ticket) -> Result<(), FleetFault>
-        ensures ok { OnOk result (Moves self.old servers.old self.new servers.new) }
+    // The call, which is one of this server, has its result.
+    fn settle(
+        &mut self,
+        servers: &mut ScriptServers,
+        ticket: Ticket,
+        server: ServerId,
+    ) -> Result<(), FleetFault>
+        ensures ok { OnOk result (MovesByOne server self.old servers.old self.new servers.new) }
         ensures count { count_of servers.new ≡ count_of servers.old }
     {
         results_go_on();
@@ -268,6 +306,9 @@ impl Runner {
         let Some(call) = self.core.called(number) else {
             return Err(FleetFault::Spent);
         };
+        if !is_same(call.server, server) {
+            return Err(FleetFault::Spent);
+        }
         let stamp = self.found.stamp_of(number, call.origin);
         let made = answer(servers, stamp, call.server, call.ask)?;
         self.found.note(number, made.stamp)?;
@@ -284,13 +325,13 @@ impl Runner {
         servers: &mut ScriptServers,
         server: ServerId,
     ) -> Result<(), FleetFault>
-        ensures ok { OnOk result (Moves self.old servers.old self.new servers.new) }
+        ensures ok { OnOk result (MovesAt server self.old servers.old self.new servers.new) }
         ensures count { count_of servers.new ≡ count_of servers.old }
     {
         match self.take_first(server) {
             None => self.poll_all(),
             Some(ticket) => {
-                self.settle(servers, ticket)?;
+                self.settle(servers, ticket, server)?;
                 self.poll_all()
             }
         }
@@ -299,8 +340,9 @@ impl Runner {
     /// Each call that is out has its result, that of the least server first, until none is out. The errors are those of
     /// [`settle_first`](Runner::settle_first).
     pub fn settle_all(&mut self, servers: &mut ScriptServers) -> Result<(), FleetFault>
-        ensures ok { OnOk result (Moves self.old servers.old self.new servers.new) }
+        ensures ok { OnOk result (MovesByResults self.old servers.old self.new servers.new) }
         ensures count { count_of servers.new ≡ count_of servers.old }
+        ensures none { OnOk result (self.new.out.items ≡ []) }
     {
         for _round in 0..u64::MAX {
             match self.least() {

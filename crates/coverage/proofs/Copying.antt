@@ -15,7 +15,7 @@ use Rattle.route_tree.specs.Plan.{Plan, Plans, PlanPolicies, Server, Null, Faili
 use Rattle.route_tree.specs.Word.{Given, rank, plain_get, refill, is_plain_get, Word, WordOfAll, WordOfFirst, WordOfHead, WordOfPolicy, AfterRefill, Refilled, AfterWarm, AfterCold, WarmUpWord}
 use Rattle.route_tree.proofs.Parts.{each_at, match_bool}
 use Rattle.route_tree.proofs.Words.{IsOwn, own_calls}
-use Rattle.coverage.specs.Taking.{IsTaking, Takes}
+use Rattle.coverage.specs.Cover.{IsTaking, Takes}
 use Rattle.coverage.specs.Computed.{is_get, is_taking, fails, shown, adds, adds_some, adds_first, adds_head, adds_policy, copied, copied_some, copied_first, copied_policy, taken}
 use Rattle.coverage.proofs.Choices.{both, either_left, either_right, bool_is, if_true, if_false, true_match, false_match, only_get, only_other, is_get_of, HasCall, has_front, has_back, has_weaker, get_either, AreSome, some_either, some_at}
 use Rattle.coverage.proofs.Failing.{word_fails}

@@ -30,7 +30,7 @@ use Rattle.route_tree.proofs.Parts.{each_at, if_get, match_bool, worst_is}
 use Rattle.route_tree.proofs.Words.{IsOwn, own_calls}
 use Rattle.coverage.specs.declared.deleting.Deleting.{Deleting}
 use Rattle.coverage.specs.declared.deleting.Deleting.TheVariants as kinds
-use Rattle.coverage.specs.Taking.{IsTaking, dialect_of}
+use Rattle.coverage.specs.Cover.{IsTaking, dialect_of}
 use Rattle.coverage.specs.Exact.{CoveringIsCovered}
 
 taking_classic : (op : Op) (with_cas : Bool) (answer : Answer) → FitsClassic op with_cas answer → shows answer ≡ true → IsTaking op
@@ -80,16 +80,16 @@ delete_shows_nothing Va fields fit h = fit
 delete_shows_nothing En fields fit h = fit
 delete_shows_nothing Ns fields fit h = fit
 
-behind_not : (a b : Bool) → (not a && b) ≡ true → b ≡ true
-behind_not true b h = absurd (cc)
-behind_not false b h = h
+after_not : (a b : Bool) → (not a && b) ≡ true → b ≡ true
+after_not true b h = absurd (cc)
+after_not false b h = h
 
 -- of a store neither flags nor the size can be asked for
 not_wanted : (ts : List Token) → are_served of_store ts ≡ true → (wants ts LetterF ≡ false) × (wants ts LetterS ≡ false)
 not_wanted [] h = (refl, refl)
-not_wanted (tokens.Cas ∷ ts) h = not_wanted ts (behind_not (wants ts LetterC) (are_served of_store ts) h)
-not_wanted (tokens.Key ∷ ts) h = not_wanted ts (behind_not (wants ts LetterK) (are_served of_store ts) h)
-not_wanted (tokens.Opaque t ∷ ts) h = not_wanted ts (behind_not (wants ts LetterO) (are_served of_store ts) h)
+not_wanted (tokens.Cas ∷ ts) h = not_wanted ts (after_not (wants ts LetterC) (are_served of_store ts) h)
+not_wanted (tokens.Key ∷ ts) h = not_wanted ts (after_not (wants ts LetterK) (are_served of_store ts) h)
+not_wanted (tokens.Opaque t ∷ ts) h = not_wanted ts (after_not (wants ts LetterO) (are_served of_store ts) h)
 not_wanted (tokens.Flags ∷ ts) h = absurd (cc)
 not_wanted (tokens.Size ∷ ts) h = absurd (cc)
 not_wanted (tokens.Ttl ∷ ts) h = absurd (cc)

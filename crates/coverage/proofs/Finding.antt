@@ -23,7 +23,7 @@ use Rattle.route_tree.proofs.Gets.{NamesHit, get_names_hit}
 use Rattle.route_tree.proofs.Showing.{get_front, get_back}
 use Rattle.route_tree.proofs.Words.{own_calls}
 use Rattle.route_tree.proofs.Going.{first_rest, has_word, all_some, first_some, after_refill_some, after_warm_some, after_cold_some}
-use Rattle.coverage.specs.Taking.{IsTaking, Takes}
+use Rattle.coverage.specs.Cover.{IsTaking, Takes}
 use Rattle.coverage.specs.Computed.{is_get, is_taking, fails, hits, hits_each, hits_first, hits_some, hits_head, hits_policy, shown, shown_each, shown_first, shown_some, shown_head, shown_policy, adds, copied, copied_some, copied_first, copied_policy, taken}
 use Rattle.coverage.specs.Exact.{TakenIsExact}
 use Rattle.coverage.proofs.Choices.{both, both_split, either_left, either_right, either_split, bool_is, cond_true, cond_false, if_true, if_false, match_true, match_false, by_get, get_is, other_is, is_get_of, get_of, no_get_of, HasCall, has_front, has_back, AreSome, one_less}
@@ -213,14 +213,14 @@ copy_back : (s b : ℕ) (front back : List Call) → HasCopy s (b + length front
 copy_back s b front back h = (h.0, length front + h.1, h.2, get_back front back h.1 h.2 h.3, h.4, has_back (λ c. c.server ≡ s) b front back h.0 h.5)
 
 -- a part after another one
-then_behind : {G H : Type 0} (first : ℕ → List Call → G → Type 0) (second : G → ℕ → List Call → H → Type 0) (b : ℕ) (here more : List Call) (g : G) → first b here g → Rest (second g) (b + length here) more → Rest (Then first second) b (here ++ more)
-then_behind first second b here more g w r = (r.0, r.1, (here, more ++ r.0, append_assoc here more r.0, g, w, r.2))
+then_after : {G H : Type 0} (first : ℕ → List Call → G → Type 0) (second : G → ℕ → List Call → H → Type 0) (b : ℕ) (here more : List Call) (g : G) → first b here g → Rest (second g) (b + length here) more → Rest (Then first second) b (here ++ more)
+then_after first second b here more g w r = (r.0, r.1, (here, more ++ r.0, append_assoc here more r.0, g, w, r.2))
 
-first_behind : (p : Plan) (ps : Plans) (limit : ℕ) (ask : Ask) (b : ℕ) (here more : List Call) (g : Given) → Word p ask Client b here g → limit ≤ rank g → Rest (WordOfFirst ps limit ask Client) (b + length here) more → Rest (WordOfFirst (More p ps) limit ask Client) b (here ++ more)
-first_behind p ps limit ask b here more g w le r = (r.0, r.1, inr (here, more ++ r.0, append_assoc here more r.0, g, w, le, r.2))
+first_after : (p : Plan) (ps : Plans) (limit : ℕ) (ask : Ask) (b : ℕ) (here more : List Call) (g : Given) → Word p ask Client b here g → limit ≤ rank g → Rest (WordOfFirst ps limit ask Client) (b + length here) more → Rest (WordOfFirst (More p ps) limit ask Client) b (here ++ more)
+first_after p ps limit ask b here more g w le r = (r.0, r.1, inr (here, more ++ r.0, append_assoc here more r.0, g, w, le, r.2))
 
-all_behind : (p : Plan) (ps : Plans) (ask : Ask) (b : ℕ) (here more : List Call) (g : Given) → Word p ask Client b here g → Rest (WordOfAll ps ask Client) (b + length here) more → Rest (WordOfAll (More p ps) ask Client) b (here ++ more)
-all_behind p ps ask b here more g w r = (r.0, g ∷ r.1, (here, more ++ r.0, append_assoc here more r.0, g, w, r.1, refl, r.2))
+all_after : (p : Plan) (ps : Plans) (ask : Ask) (b : ℕ) (here more : List Call) (g : Given) → Word p ask Client b here g → Rest (WordOfAll ps ask Client) (b + length here) more → Rest (WordOfAll (More p ps) ask Client) b (here ++ more)
+all_after p ps ask b here more g w r = (r.0, g ∷ r.1, (here, more ++ r.0, append_assoc here more r.0, g, w, r.1, refl, r.2))
 
 all_rest : (p : Plan) (ps : Plans) → AreGood ps → (ask : Ask) (b : ℕ) (calls : List Call) → Rest (Word p ask Client) b calls → Rest (WordOfAll (More p ps) ask Client) b calls
 all_rest p ps good ask b calls r =
@@ -268,13 +268,13 @@ module _ (cold warm : Plan) (e : ℕ) (good : IsGood cold) (good_warm : IsGood w
   in_cold b calls r = then_rest C (λ first. AfterCold ask C W A first (rank first)) Any (sure C) (λ first _. after_cold_some ask C W A c_some w_some a_some names first (rank first)) b calls r
 
   -- after a miss of the cold side
-  behind_miss : (b : ℕ) → ((b' : ℕ) (first : Given) → (calls : List Call) × Rest (Then W (λ g. AfterWarm ask C W A first g (rank g))) b' calls × HasCopy s b' calls) → (calls : List Call) × Rest Through b calls × HasCopy s b calls
-  behind_miss b f =
+  after_miss : (b : ℕ) → ((b' : ℕ) (first : Given) → (calls : List Call) × Rest (Then W (λ g. AfterWarm ask C W A first g (rank g))) b' calls × HasCopy s b' calls) → (calls : List Call) × Rest Through b calls × HasCopy s b calls
+  after_miss b f =
       let c = low cold good ask Client b in
       let m = one_less (rank c.1) c.3.low in
       let x = f (b + length c.0) c.1 in
       let r : Rest (AfterCold ask C W A c.1 (rank c.1)) (b + length c.0) x.0 = subst (λ n. Rest (AfterCold ask C W A c.1 n) (b + length c.0) x.0) (sym m.1) x.1 in
-      (c.0 ++ x.0, then_behind C (λ first. AfterCold ask C W A first (rank first)) b c.0 x.0 c.1 c.2 r, copy_back s b c.0 x.0 x.2)
+      (c.0 ++ x.0, then_after C (λ first. AfterCold ask C W A first (rank first)) b c.0 x.0 c.1 c.2 r, copy_back s b c.0 x.0 x.2)
 
   -- what the warm side did goes on
   in_warm : (b : ℕ) (first : Given) (calls : List Call) → Rest W b calls → Rest (Then W (λ g. AfterWarm ask C W A first g (rank g))) b calls
@@ -292,7 +292,7 @@ module _ (cold warm : Plan) (e : ℕ) (good : IsGood cold) (good_warm : IsGood w
       let filled : Rest (Refilled ask C W A v.1 (Some k)) (b + length v.0) a.0 = then_rest (A v.1.reply k) (λ _. AfterRefill ask C W A v.1) Any (sure (A v.1.reply k)) (λ _ _. after_refill_some ask C W A c_some w_some a_some names v.1) (b + length v.0) a.0 ([], a.1, subst (λ l. A v.1.reply k (b + length v.0) l a.1) (sym (append-nil a.0)) a.2) in
       let named : Rest (Refilled ask C W A v.1 v.1.from) (b + length v.0) a.0 = subst (λ o. Rest (Refilled ask C W A v.1 o) (b + length v.0) a.0) (sym v.3.2) filled in
       let after : Rest (AfterWarm ask C W A first v.1 (rank v.1)) (b + length v.0) a.0 = subst (λ n. Rest (AfterWarm ask C W A first v.1 n) (b + length v.0) a.0) (sym v.3.0) named in
-      (v.0 ++ a.0, then_behind W (λ g. AfterWarm ask C W A first g (rank g)) b v.0 a.0 v.1 v.2 after, (k, length v.0 + 0, own.0, get_back v.0 a.0 0 own.0 own.1, own.2, has_front (λ c. c.server ≡ s) b v.0 a.0 k v.3.3))
+      (v.0 ++ a.0, then_after W (λ g. AfterWarm ask C W A first g (rank g)) b v.0 a.0 v.1 v.2 after, (k, length v.0 + 0, own.0, get_back v.0 a.0 0 own.0 own.1, own.2, has_front (λ c. c.server ≡ s) b v.0 a.0 k v.3.3))
 
 mutual
   pub copied_word : (p : Plan) → IsGood p → (ask : Ask) → ask.op ≡ Get → (b s : ℕ) → copied Get s p ≡ true → (calls : List Call) × Rest (Word p ask Client) b calls × HasCopy s b calls
@@ -309,8 +309,8 @@ mutual
       let w = ⊎_elim
       (λ (here : copied Get s cold ≡ true). let f = copied_word cold good.0 ask op b s here in (f.0, in_cold cold warm e good.0 good.1 ask op s b f.0 f.1, f.2))
       (λ more. ⊎_elim
-      (λ (there : copied Get s warm ≡ true). behind_miss cold warm e good.0 good.1 ask op s b (λ b' first. let f = copied_word warm good.1 (plain_get ask) refl b' s there in (f.0, in_warm cold warm e good.0 good.1 ask op s b' first f.0 f.1, f.2)))
-      (λ fill. let t = both_split (shown Get s warm) (adds cold) fill in behind_miss cold warm e good.0 good.1 ask op s b (λ b' first. by_add cold warm e good.0 good.1 ask op s b' first t.0 t.1))
+      (λ (there : copied Get s warm ≡ true). after_miss cold warm e good.0 good.1 ask op s b (λ b' first. let f = copied_word warm good.1 (plain_get ask) refl b' s there in (f.0, in_warm cold warm e good.0 good.1 ask op s b' first f.0 f.1, f.2)))
+      (λ fill. let t = both_split (shown Get s warm) (adds cold) fill in after_miss cold warm e good.0 good.1 ask op s b (λ b' first. by_add cold warm e good.0 good.1 ask op s b' first t.0 t.1))
       (either_split (copied Get s warm) (shown Get s warm && adds cold) more))
       (either_split (copied Get s cold) (copied Get s warm || (shown Get s warm && adds cold)) h) in
       (w.0, (w.1.0, w.1.1, get_is ask.op _ _ op w.1.2), w.2)
@@ -324,7 +324,7 @@ mutual
       (λ there.
       let c = low p good.0 ask Client b in
       let f = copied_all ps good.1 ask op (b + length c.0) s there in
-      (c.0 ++ f.0, all_behind p ps ask b c.0 f.0 c.1 c.2 f.1, copy_back s b c.0 f.0 f.2))
+      (c.0 ++ f.0, all_after p ps ask b c.0 f.0 c.1 c.2 f.1, copy_back s b c.0 f.0 f.2))
       (either_split (copied Get s p) (copied_some Get s ps) h)
 
   copied_first_word : (ps : Plans) → AreGood ps → (ask : Ask) → ask.op ≡ Get → (b s : ℕ) → copied_first Get s ps ≡ true → (calls : List Call) × Rest (WordOfFirst ps 4 ask Client) b calls × HasCopy s b calls
@@ -336,7 +336,7 @@ mutual
       let t = both_split (fails Get p) (copied_first Get s ps) there in
       let c = low p good.0 ask Client b in
       let f = copied_first_word ps good.1 ask op (b + length c.0) s t.1 in
-      (c.0 ++ f.0, first_behind p ps 4 ask b c.0 f.0 c.1 c.2 (c.3.worst (subst (λ o. fails o p ≡ true) (sym op) t.0)) f.1, copy_back s b c.0 f.0 f.2))
+      (c.0 ++ f.0, first_after p ps 4 ask b c.0 f.0 c.1 c.2 (c.3.worst (subst (λ o. fails o p ≡ true) (sym op) t.0)) f.1, copy_back s b c.0 f.0 f.2))
       (either_split (copied Get s p) (fails Get p && copied_first Get s ps) h)
 
   copied_any : (ps : Plans) → AreGood ps → (ask : Ask) → ask.op ≡ Get → (b s : ℕ) → copied_some Get s ps ≡ true → (calls : List Call) × Rest (WordOfFirst ps 1 ask Client) b calls × HasCopy s b calls
@@ -347,7 +347,7 @@ mutual
       (λ there.
       let c = low p good.0 ask Client b in
       let f = copied_any ps good.1 ask op (b + length c.0) s there in
-      (c.0 ++ f.0, first_behind p ps 1 ask b c.0 f.0 c.1 c.2 c.3.low f.1, copy_back s b c.0 f.0 f.2))
+      (c.0 ++ f.0, first_after p ps 1 ask b c.0 f.0 c.1 c.2 c.3.low f.1, copy_back s b c.0 f.0 f.2))
       (either_split (copied Get s p) (copied_some Get s ps) h)
 
   copied_policy_word : (ps : PlanPolicies) → ArePoliciesGood ps → (ask : Ask) → ask.op ≡ Get → (b s : ℕ) → copied_policy Get s ps ≡ true → (calls : List Call) × Rest (WordOfPolicy ps ask Client) b calls × HasCopy s b calls

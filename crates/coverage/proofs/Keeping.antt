@@ -28,7 +28,7 @@ use Rattle.route_tree.proofs.Parts.{each_weaker, worst_is}
 use Rattle.route_tree.proofs.Places.{each_append, each_left, each_right}
 use Rattle.coverage.specs.declared.deleting.Deleting.{Deleting}
 use Rattle.coverage.specs.declared.deleting.Deleting.TheVariants as kinds
-use Rattle.coverage.specs.Taking.{Clears, dialect_of}
+use Rattle.coverage.specs.Cover.{Clears, dialect_of}
 use Rattle.coverage.specs.Computed.{fails, kept, kept_each, kept_first, kept_head, kept_policy, cleared}
 use Rattle.coverage.specs.Exact.{ClearedIsExact}
 use Rattle.coverage.proofs.Choices.{both, both_split, either_left, either_right, either_split, bool_is, if_true, if_false, cond_true, cond_false, not_false, match_true, match_false, true_match, false_match, only_other}

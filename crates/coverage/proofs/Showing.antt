@@ -25,7 +25,7 @@ use Rattle.route_tree.specs.Operation.{same_op}
 use Rattle.route_tree.specs.Plan.{Plan, Plans, PlanPolicies, Server, Null, Failing, AllSync, Failover, MissFailover, WarmUp, ByOperation, End, More, Otherwise, Policy}
 use Rattle.route_tree.specs.Word.{Given, rank, given_by, plain_get, refill, is_plain_get, Word, WordOfAll, WordOfFirst, WordOfHead, WordOfPolicy, Refilled, AfterWarm, AfterCold, WarmUpWord}
 use Rattle.route_tree.proofs.Parts.{match_bool}
-use Rattle.coverage.specs.Taking.{IsTaking}
+use Rattle.coverage.specs.Cover.{IsTaking}
 use Rattle.coverage.specs.Computed.{is_get, fails, shown, shown_each, shown_first, shown_some, shown_head, shown_policy}
 use Rattle.coverage.proofs.Choices.{both, either_left, either_right, bool_is, if_true, if_false, true_match, false_match, by_get, only_get, only_other, is_get_of, no_get_of, HasCall, has_front, has_back, has_weaker}
 use Rattle.coverage.proofs.Failing.{word_fails, none_above_hits}

@@ -10,7 +10,7 @@ use Rattle.route_tree.specs.Servers.{servers}
 use Rattle.route_tree.specs.Word.{Given}
 use Rattle.route_tree.proofs.Parts.{each_at}
 use Rattle.route_tree.proofs.Servers as route_servers
-use Rattle.coverage.specs.Taking.{IsTaking, Takes}
+use Rattle.coverage.specs.Cover.{IsTaking, Takes}
 use Rattle.coverage.specs.Computed.{taken, is_taken}
 use Rattle.coverage.proofs.Choices.{either_left, either_right, either_split}
 use Rattle.coverage.proofs.Finding.{taken_is_exact}

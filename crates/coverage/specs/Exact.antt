@@ -5,7 +5,7 @@ use Rattle.mc_runs.specs.Cover.{IsCovered}
 use Rattle.route_tree.specs.Plan.{Plan, IsGood}
 use Rattle.route_tree.specs.Word.{tree_words}
 use Rattle.coverage.specs.declared.deleting.Deleting.{Deleting}
-use Rattle.coverage.specs.Taking.{Takes, Clears, Covers}
+use Rattle.coverage.specs.Cover.{Takes, Clears, Covers}
 use Rattle.coverage.specs.Computed.{taken, cleared}
 
 -- what is computed of a read

@@ -1,4 +1,4 @@
-pub mod Taking
+pub mod Cover
 pub mod Computed
 pub mod Exact
 pub mod Pools

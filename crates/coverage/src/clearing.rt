@@ -3,7 +3,7 @@
 ghost use Rattle.std.specs.Prelude.{◌≡◌, ◌↔◌, IsTrue};
 ghost use Rattle.mc_types.specs.declared.ask.Op.TheVariants.{Delete};
 ghost use Rattle.route_tree.specs.Form.{plans_of, plan_policies_of};
-ghost use Rattle.coverage.specs.Taking.{Clears};
+ghost use Rattle.coverage.specs.Cover.{Clears};
 ghost use Rattle.coverage.specs.Computed.{cleared, kept, kept_each, kept_first, kept_head, kept_policy, fails, fails_some, fails_each, fails_head, fails_policy};
 
 use crate::deleting::Deleting;

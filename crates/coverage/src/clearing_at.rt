@@ -6,10 +6,10 @@ ghost use Rattle.route_tree.specs.Form.{routes_of, policies_of};
 ghost use Rattle.route_tree.specs.At.{plain_for, plain_for_all, plain_for_policies};
 ghost use Rattle.coverage.specs.Computed.{cleared, fails, kept, kept_each, kept_first, kept_head, kept_policy};
 
-use crate::prefixes::longest;
 use crate::standing::standing;
 use crate::stores::is_op;
 use mc_types::{Op, ServerId};
+use route_tree::at::longest;
 use route_tree::{Tree, TreeForm};
 
 /// Whether each acknowledged delete, of either kind, has cleared the server at the plain tree of this hash and text. It

@@ -5,10 +5,10 @@ ghost use Rattle.route_tree.specs.Form.{routes_of, policies_of};
 ghost use Rattle.coverage.specs.Doubted.{doubts, doubts_each, doubts_first, doubts_head, doubts_policy, with_doubted, doubted_pools};
 
 use crate::pools::Pool;
-use crate::prefixes::longest;
 use crate::standing::standing;
 use crate::stores::is_op;
 use mc_types::Op;
+use route_tree::at::longest;
 use route_tree::{Tree, TreeForm};
 use std::alloc::{AllocError, Global};
 use std::slice::from_ref;

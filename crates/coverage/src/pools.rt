@@ -5,10 +5,10 @@ ghost use Rattle.std.specs.Str.{bytes_eq};
 ghost use Rattle.route_tree.specs.Form.{routes_of, policies_of};
 ghost use Rattle.coverage.specs.Pools.{server_at, pools_of, pools_of_each, pools_of_some, pools_of_first, pools_of_head, pools_of_policy, has_pool, with_pool, distinct_after, sought_pools, taken_pools};
 
-use crate::prefixes::longest;
 use crate::standing::{adding_at, standing, standing_each};
 use crate::stores::is_op;
 use mc_types::{Op, ServerId};
+use route_tree::at::longest;
 use route_tree::{Tree, TreeForm};
 use std::alloc::{AllocError, Global};
 use std::marker::Model;

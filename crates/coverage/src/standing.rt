@@ -6,9 +6,9 @@ ghost use Rattle.route_tree.specs.Form.{routes_of, policies_of};
 ghost use Rattle.route_tree.specs.At.{plain_for, plain_for_all, plain_for_policies};
 ghost use Rattle.coverage.specs.Computed.{adds, adds_some, adds_first, adds_head, adds_policy, fails, fails_some, fails_each, fails_last, fails_head, fails_policy, hits, hits_each, hits_first, hits_some, hits_head, hits_policy};
 
-use crate::prefixes::longest;
 use crate::stores::{OfAdd, is_op};
 use mc_types::Op;
+use route_tree::at::longest;
 use route_tree::{Tree, TreeForm};
 
 /// What can come of an operation: that it fails, and that it hits.

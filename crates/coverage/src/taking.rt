@@ -2,7 +2,7 @@
 
 ghost use Rattle.std.specs.Prelude.{◌≡◌, ◌↔◌, ◌&&◌, ◌||◌, IsTrue};
 ghost use Rattle.route_tree.specs.Form.{plans_of, plan_policies_of};
-ghost use Rattle.coverage.specs.Taking.{Takes};
+ghost use Rattle.coverage.specs.Cover.{Takes};
 ghost use Rattle.coverage.specs.Computed.{is_taken, taken, is_get, is_taking, fails, fails_some, fails_each, fails_last, fails_head, fails_policy, hits, hits_each, hits_first, hits_some, hits_head, hits_policy, shown, shown_each, shown_first, shown_some, shown_head, shown_policy, copied, copied_some, copied_first, copied_head, copied_policy};
 
 use crate::laws::taken_is_exact;

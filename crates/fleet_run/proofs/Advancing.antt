@@ -20,7 +20,7 @@ use Rattle.request_parts.proofs.Streams.{used_within}
 use Rattle.client_requests.specs.Both.{both_grammar}
 use Rattle.text_codec.specs.Held.{held_at}
 use Rattle.request_parts.specs.Stream.{Place, Stands}
-use Rattle.client_requests.specs.Stream.{behind}
+use Rattle.client_requests.specs.Stream.{after_message}
 use Rattle.text_codec.specs.Replies.{shown_text, is_last, is_failure, ends_with}
 use Rattle.text_codec.specs.TextProtocol.{Said, Whole, ReadsNext, memcached_text, shown_by}
 use Rattle.connections.specs.declared.connection.Connection.{Connection}
@@ -32,9 +32,9 @@ use Rattle.route_tree.specs.At.{tree_at}
 use Rattle.route_tree.specs.Servers.{CallsStay}
 use Rattle.route_tree.specs.Word.{Word}
 use Rattle.fleet_run.specs.Gone.{number_in}
-use Rattle.connections.proofs.Requests.{request_behind}
+use Rattle.connections.proofs.Requests.{request_after}
 use Rattle.fleet_run.specs.declared.router.Router.{Router}
-use Rattle.connections.specs.Steps.{place_behind, Shows}
+use Rattle.connections.specs.Steps.{place_after, Shows}
 use Rattle.fleet_run.specs.Serving.{tree_of, words_by, point_at, placed, Advances, Asked, next_index, IsOnWay, IsAskAt, ServesAsk}
 
 same : {A : Type 0} (c : ℕ) (x y : A) → cond (nat_eq c c) x y ≡ x
@@ -87,12 +87,12 @@ advances_on x y z i j k p q r f g h a b =
       few = λ e. b.few (a.few e);
     }
 
-point_behind : (ended done : Bool) (old : Connection) (i : ℕ) (point : Point memcached_text) (next : Place) (rest : List ℕ) → ended ≡ done → point.place ≡ old.stream → next ≡ Stands Nothing rest
-    → ◌≡◌ {A = Point memcached_text} (record { place = place_behind ended old rest; index = next_index ended i }) (cond {A = Point memcached_text} done (record { place = next; index = 0 }) (record { place = point.place; index = i + 1 }))
-point_behind true done old i point next rest e at is =
+point_after : (ended done : Bool) (old : Connection) (i : ℕ) (point : Point memcached_text) (next : Place) (rest : List ℕ) → ended ≡ done → point.place ≡ old.stream → next ≡ Stands Nothing rest
+    → ◌≡◌ {A = Point memcached_text} (record { place = place_after ended old rest; index = next_index ended i }) (cond {A = Point memcached_text} done (record { place = next; index = 0 }) (record { place = point.place; index = i + 1 }))
+point_after true done old i point next rest e at is =
     subst (λ (b : Bool). ◌≡◌ {A = Point memcached_text} (record { place = Stands Nothing rest; index = 0 }) (cond {A = Point memcached_text} b (record { place = next; index = 0 }) (record { place = point.place; index = i + 1 }))) e
     (ap (λ (p : Place). let q : Point memcached_text = record { place = p; index = 0 } in q) (sym is))
-point_behind false done old i point next rest e at is =
+point_after false done old i point next rest e at is =
     subst (λ (b : Bool). ◌≡◌ {A = Point memcached_text} (record { place = old.stream; index = i + 1 }) (cond {A = Point memcached_text} b (record { place = next; index = 0 }) (record { place = point.place; index = i + 1 }))) e
     (ap (λ (p : Place). let q : Point memcached_text = record { place = p; index = i + 1 } in q) (sym at))
 
@@ -109,13 +109,13 @@ at_most_one (Some n) (Some item) = one_or_none (nat_le item.stamp n)
 pub replied : CallsStay → (old new : Connection) (router router' : Router) (fleet fleet' : MemoryFleet) (held : List ℕ) (request : Request) (i : ℕ) (ask : Ask) (reply : Answer) (ended : Bool)
     → old.stream ≡ Stands Nothing held → IsReadFrom held request → slice_get (asks_of (message_in held request)) i ≡ Some ask → IsAsk ask → Asked router fleet ask reply router' fleet'
     → ended ≡ ends_with (asks_of (message_in held request)) i reply
-    → GoesTo old (place_behind ended old (drop (used_of request) held)) (shown_text (quiet_of (message_in held request)) (is_last (asks_of (message_in held request)) i) ask reply) new
+    → GoesTo old (place_after ended old (drop (used_of request) held)) (shown_text (quiet_of (message_in held request)) (is_last (asks_of (message_in held request)) i) ask reply) new
     → Advances old i router fleet new (next_index ended i) router' fleet'
 replied law old new router router' fleet fleet' held request i ask reply ended place read at is asked done g =
     let m : Message = message_in held request in
     let rest : List ℕ = drop (used_of request) held in
-    let next : Place = behind m rest in
-    let behind_is : next ≡ Stands Nothing rest = request_behind held request rest i ask at in
+    let next : Place = after_message m rest in
+    let after_is : next ≡ Stands Nothing rest = request_after held request rest i ask at in
     let part : Part memcached_text = record { message = Whole m; next = next; index = i; ask = ask } in
     let on_key : AreOn ask.key asked.calls = (law (tree_at (tree_of router) ask.key) ask Client 0 asked.calls (record { reply = reply; from = asked.from }) asked.word).0 in
     record {
@@ -125,11 +125,11 @@ replied law old new router router' fleet fleet' held request i ask reply ended p
           let at_front : before.point c ≡ point_at old i = same c (point_at old i) (base.point c) in
           let reads : ReadsNext old.stream (Whole m) next = subst (λ (p : Place). ReadsNext p (Whole m) next) (sym place) (used_of request, read.begins, refl) in
           let shown : shown_text (quiet_of m) (is_last (asks_of m) i) ask reply ≡ memcached_text.shown (Whole m) i reply = ap (λ (o : Option Ask). shown_by (quiet_of m) (asks_of m) i o reply) (sym at) in
-          let point : ◌≡◌ {A = Point memcached_text} (record { place = place_behind ended old rest; index = next_index ended i }) (after_reply (before.point c) part reply) =
-          point_behind ended (ends_with (asks_of m) i reply) old i (before.point c) next rest done (ap (λ (p : Point memcached_text). p.place) at_front) behind_is in
+          let point : ◌≡◌ {A = Point memcached_text} (record { place = place_after ended old rest; index = next_index ended i }) (after_reply (before.point c) part reply) =
+          point_after ended (ends_with (asks_of m) i reply) old i (before.point c) next rest done (ap (λ (p : Point memcached_text). p.place) at_front) after_is in
           let moves : Moves before c (after_reply (before.point c) part reply) (memcached_text.shown (Whole m) i reply) after =
           subst (λ (p : Point memcached_text). Moves before c p (memcached_text.shown (Whole m) i reply) after) point
-          (subst (λ (l : List ℕ). Moves before c (record { place = place_behind ended old rest; index = next_index ended i }) l after) shown
+          (subst (λ (l : List ℕ). Moves before c (record { place = place_after ended old rest; index = next_index ended i }) l after) shown
           (placed_moves base c i (next_index ended i) old new router router' fleet fleet' _ _ g)) in
           works_each memcached_text (words_by at_number) before after c (begun_of fleet + 1) part asked.calls reply asked.from
           (record {
@@ -172,9 +172,9 @@ pub serves_ask : CallsStay → (old new : Connection) (router router' : Router) 
 serves_ask law old new router router' fleet fleet' request i ask reply used quiet last ended used_is front is asked quiet_is last_is told =
     let shows : Shows old (used_of request) quiet last ask reply ended new = subst (λ (n : ℕ). Shows old n quiet last ask reply ended new) used_is told in
     let asks : List Ask = asks_of (message_in front.held request) in
-    let goes : GoesTo old (place_behind ended old (drop (used_of request) front.held)) (shown_text (quiet_of (message_in front.held request)) (is_last asks i) ask reply) new =
-    subst (λ (q : Bool). GoesTo old (place_behind ended old (drop (used_of request) front.held)) (shown_text q (is_last asks i) ask reply) new) quiet_is
-    (subst (λ (l : Bool). GoesTo old (place_behind ended old (drop (used_of request) front.held)) (shown_text quiet l ask reply) new) last_is (shows.goes front.held front.place)) in
+    let goes : GoesTo old (place_after ended old (drop (used_of request) front.held)) (shown_text (quiet_of (message_in front.held request)) (is_last asks i) ask reply) new =
+    subst (λ (q : Bool). GoesTo old (place_after ended old (drop (used_of request) front.held)) (shown_text q (is_last asks i) ask reply) new) quiet_is
+    (subst (λ (l : Bool). GoesTo old (place_after ended old (drop (used_of request) front.held)) (shown_text quiet l ask reply) new) last_is (shows.goes front.held front.place)) in
     record {
       advances = replied law old new router router' fleet fleet' front.held request i ask reply ended front.place front.read front.at is asked (shows.ended_is ∙ ap (λ (l : Bool). is_failure reply || l) last_is) goes;
       place = λ held at. (shows.goes held at).place_is;
@@ -213,7 +213,7 @@ pub way_on : (x y : Connection) (request : Request) (asks asks' : Asks) (i : ℕ
     → request_of asks' ≡ request_of asks → taken_of asks' ≡ counted next (taken_of asks) → IsWalk bytes asks' → ServesAsk x request i router fleet ended y router' fleet' → ended ≡ false → IsOnWay y request asks' (i + 1)
 way_on x y request asks asks' i bytes next ask router router' fleet fleet' ended way bytes_are is request_is taken walk served e =
     let held_is : bytes ≡ way.held = bytes_are ∙ ap held_at way.place in
-    let stays : y.stream ≡ x.stream = subst (λ (b : Bool). y.stream ≡ place_behind b x (drop (used_of request) way.held)) e (served.place way.held way.place) in
+    let stays : y.stream ≡ x.stream = subst (λ (b : Bool). y.stream ≡ place_after b x (drop (used_of request) way.held)) e (served.place way.held way.place) in
     record {
       held = way.held;
       place = stays ∙ way.place;

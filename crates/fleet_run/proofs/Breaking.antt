@@ -33,8 +33,8 @@ made_counts number [] old new m = (ap begun_of m, let e = ap turn_of m in omega 
 made_counts number (call ∷ calls) old new m =
     let rest = made_counts number calls m.0 new m.2 in
     let one = m.1.calls.turn_is in
-    let behind = rest.1 in
-    (rest.0 ∙ m.1.calls.begun_is, omega (arith, one, behind))
+    let after = rest.1 in
+    (rest.0 ∙ m.1.calls.begun_is, omega (arith, one, after))
 
 -- also where the last one had a fault
 pub broken_counts : (number : ℕ) (calls : List Call) (old new : MemoryFleet) → BreaksOff (KeepsLaw number) (BreaksLaw number) old calls new → (begun_of new ≡ begun_of old) × (turn_of old ≤ turn_of new)

@@ -239,6 +239,8 @@ comes_put words before server key content old new given given' fleet fleet' good
 
 comes_by : (words : Words) (before : List Scripted) (event : Scripted) (old new : LogState memcached_text) (given given' : List Shown) (fleet fleet' : MemoryFleet) → bad_in (count_of fleet) before event ≡ false → TakesBy words old given fleet new given' fleet' event → (c : Comes words before old given fleet) → (d : Comes words (before ++ event ∷ []) new given' fleet') × Grown c d
 comes_by words before (log.Piece client bytes) old new given given' fleet fleet' good takes c = comes_up words before (log.Piece client bytes) old new given given' fleet fleet' refl (λ s c. refl) takes c
+comes_by words before (log.Add client bytes) old new given given' fleet fleet' good takes c = comes_up words before (log.Add client bytes) old new given given' fleet fleet' refl (λ s c. refl) takes c
+comes_by words before (log.Result server) old new given given' fleet fleet' good takes c = comes_alone words before (log.Result server) old new given given' fleet fleet' (λ s c. refl) takes c
 comes_by words before (log.Now loss) old new given given' fleet fleet' good takes c = comes_up words before (log.Now loss) old new given given' fleet fleet' refl (λ s c. refl) takes c
 comes_by words before (log.At turn loss) old new given given' fleet fleet' good takes c = comes_alone words before (log.At turn loss) old new given given' fleet fleet' (λ s c. refl) takes c
 comes_by words before (log.Fail turn manner) old new given given' fleet fleet' good takes c = comes_alone words before (log.Fail turn manner) old new given given' fleet fleet' (λ s c. refl) takes c

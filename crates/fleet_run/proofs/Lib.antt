@@ -4,6 +4,7 @@ pub mod Messages
 pub mod Clients
 pub mod Breaking
 pub mod BadEvents
+pub mod Whole
 pub mod Openings
 pub mod EventSteps
 pub mod Driven

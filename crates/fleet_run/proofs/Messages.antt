@@ -11,11 +11,11 @@ use Rattle.client_requests.specs.Message.{Message, Begins, message_in, used_of}
 use Rattle.request_parts.specs.Message.{Refusal}
 use Rattle.client_requests.specs.Asks.{asks_of, own_of}
 use Rattle.request_parts.specs.Stream.{Place, Stands, Closed, skipped}
-use Rattle.client_requests.specs.Stream.{behind}
+use Rattle.client_requests.specs.Stream.{after_message}
 use Rattle.text_codec.specs.Replies.{refusal_text, long_line_text}
 use Rattle.text_codec.specs.TextProtocol.{Said, Whole, LongLine, ReadsNext, memcached_text, own_passed}
 use Rattle.connections.specs.declared.connection.Connection.{Connection}
-use Rattle.request_parts.specs.Stream.{behind_own}
+use Rattle.request_parts.specs.Stream.{after_own}
 use Rattle.connections.specs.Steps.{GoesTo}
 use Rattle.memory_fleet.specs.declared.fleet.MemoryFleet.{MemoryFleet}
 use Rattle.fleet_run.specs.declared.router.Router.{Router}
@@ -27,18 +27,18 @@ use Rattle.fleet_run.proofs.Advancing.{passes, advances_on}
 
 -- a request without an ask: what mcgate itself was asked
 pub own_done : (old new : Connection) (router : Router) (fleet : MemoryFleet) (request : Request) (own : Option ProxyCommand) (used : ℕ) → used ≡ used_of request → (front : IsFront old request) → length (asks_of (message_in front.held request)) ≡ 0 → own ≡ own_of (message_in front.held request)
-    → GoesTo old (behind_own own (drop used front.held)) (own_passed own) new → ServesRequest old router fleet new router fleet
+    → GoesTo old (after_own own (drop used front.held)) (own_passed own) new → ServesRequest old router fleet new router fleet
 own_done old new router fleet request own used used_is front none own_is told =
     let held : List ℕ = front.held in
-    let g : GoesTo old (behind_own own (drop (used_of request) held)) (own_passed own) new = subst (λ (n : ℕ). GoesTo old (behind_own own (drop n held)) (own_passed own) new) used_is told in
+    let g : GoesTo old (after_own own (drop (used_of request) held)) (own_passed own) new = subst (λ (n : ℕ). GoesTo old (after_own own (drop n held)) (own_passed own) new) used_is told in
     let m : Message = message_in held request in
     let rest : List ℕ = drop (used_of request) held in
-    let next : behind_own own rest ≡ behind m rest = ap (λ (o : Option ProxyCommand). behind_own o rest) own_is ∙ own_next held request rest in
+    let next : after_own own rest ≡ after_message m rest = ap (λ (o : Option ProxyCommand). after_own o rest) own_is ∙ own_next held request rest in
     let text : own_passed own ≡ memcached_text.passed (Whole m) = ap own_passed own_is ∙ own_text held request in
-    let reads : ReadsNext old.stream (Whole m) (behind m rest) = subst (λ (p : Place). ReadsNext p (Whole m) (behind m rest)) (sym front.place) (used_of request, front.read.begins, refl) in
+    let reads : ReadsNext old.stream (Whole m) (after_message m rest) = subst (λ (p : Place). ReadsNext p (Whole m) (after_message m rest)) (sym front.place) (used_of request, front.read.begins, refl) in
     record {
-      advances = passes old new router fleet (Whole m) (behind m rest) reads (empty_is (asks_of m) none) (subst (λ (p : Place). GoesTo old p (memcached_text.passed (Whole m)) new) next (subst (λ (l : List ℕ). GoesTo old (behind_own own rest) l new) text g));
-      shorter = shorter_by old new held rest (behind_own own rest) front.place g.place_is (own_len own rest) (fewer held m (used_of request) front.read.begins);
+      advances = passes old new router fleet (Whole m) (after_message m rest) reads (empty_is (asks_of m) none) (subst (λ (p : Place). GoesTo old p (memcached_text.passed (Whole m)) new) next (subst (λ (l : List ℕ). GoesTo old (after_own own rest) l new) text g));
+      shorter = shorter_by old new held rest (after_own own rest) front.place g.place_is (own_len own rest) (fewer held m (used_of request) front.read.begins);
     }
 
 -- a refused message

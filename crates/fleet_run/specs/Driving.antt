@@ -1,4 +1,5 @@
 -- What a script does. Source: mcgate's own.
+use Rattle.mc_types.specs.declared.limits.TheConstants.{SCRIPT_CLIENTS}
 use Rattle.std.specs.Prelude.{◌≡◌, ℕ, zero, suc, List, [], ◌∷◌, ◌++◌, length, take, Option, true, ◌<◌, ◌≤◌, ◌⊎◌, ◌+◌, ◌^◌}
 use Rattle.mc_types.specs.Items.{Item}
 use Rattle.mc_runs.specs.Run.{Words, Run, IsFresh}
@@ -30,7 +31,7 @@ use Rattle.fleet_run.specs.declared.script.DriveFault.TheVariants.{BadEvent, NoM
 use Rattle.route_tree.specs.Route.{Route}
 use Rattle.route_tree.specs.Direct.{is_direct, words_of}
 use Rattle.fleet_run.specs.Serving.{tree_of, words_by, IsFrom, point_at, ServesAll, IsWithinOne, BreaksServing}
-use Rattle.fleet_run.specs.Scripted.{Scripted, Piece, Fail, Hold, At, Now, Moment, scripted_of, transcript_of}
+use Rattle.fleet_run.specs.Scripted.{Scripted, Piece, Add, Result, Fail, Hold, At, Now, Moment, scripted_of, transcript_of}
 use Rattle.fleet_run.specs.Opening.{opening_of}
 
 -- how far each client was served; a client that isn't there said nothing
@@ -157,6 +158,8 @@ module _ (words : Words) (old : LogState memcached_text) (given : List Shown) (f
   -- what an event changes: with a piece and with a loss the run goes on
   abbrev pub TakesBy : Scripted → Type 0
   TakesBy (Piece client bytes) = GoesOnWith words old given (Piece client bytes) new given'
+  TakesBy (Add client bytes) = GoesOnWith words old given (Add client bytes) new given'
+  TakesBy (Result server) = TakesAlone (Result server)
   TakesBy (Now loss) = GoesOnWith words old given (Now loss) new given'
   TakesBy (At turn loss) = TakesAlone (At turn loss)
   TakesBy (Fail turn manner) = TakesAlone (Fail turn manner)
@@ -190,8 +193,8 @@ TakesInPart words old given event fleet = (opening : ℕ → List ℕ → Option
 abbrev pub BreaksEvent : List Connection → Router → MemoryFleet → Transcript → Event → MemoryFleet → Type 0
 BreaksEvent clients router fleet transcript event fleet' = (at : ℕ → Route) → IsFrom (begun_of fleet) (tree_of router) at → TakesInPart (words_by at) (state_of clients router fleet) (transcript_of transcript) (scripted_of event) fleet'
 
--- 64 clients that said nothing
+-- the clients of a script, who said nothing
 pub record AreNew (clients : List Connection) : Type 0 where
-  pub count : length clients ≡ 64
+  pub count : length clients ≡ SCRIPT_CLIENTS
   pub point : (c : ℕ) → point_in clients c ≡ record { place = Stands Nothing []; index = 0 }
   pub output : (c : ℕ) → output_in clients c ≡ []

@@ -2,6 +2,7 @@ pub mod Gone
 pub mod Counting
 pub mod Serving
 pub mod Scripted
+pub mod Stepped
 pub mod Bad
 pub mod Opening
 pub mod Driving

@@ -5,12 +5,14 @@ use Rattle.cache_server.specs.Contents.{Contents, empty, storing, opening}
 use Rattle.cache_server.specs.Held.{holds}
 use Rattle.memory_fleet.specs.Fleets.{capacity}
 use Rattle.memory_fleet.specs.declared.fleet.MemoryFleet.{MemoryFleet}
-use Rattle.fleet_run.specs.Scripted.{Scripted, Piece, Fail, Hold, At, Now, Moment}
+use Rattle.fleet_run.specs.Scripted.{Scripted, Piece, Add, Result, Fail, Hold, At, Now, Moment}
 
 -- what an event puts into the cache of a server: of a full cache the least recently used is pushed out
 abbrev pub put_by : ℕ → Contents → Scripted → Contents
 put_by s cache (Hold server key content) = if nat_eq server s then storing cache key (opening content) else cache
 put_by s cache (Piece client bytes) = cache
+put_by s cache (Add client bytes) = cache
+put_by s cache (Result server) = cache
 put_by s cache (Fail turn manner) = cache
 put_by s cache (At turn loss) = cache
 put_by s cache (Now loss) = cache

@@ -6,8 +6,8 @@ use Rattle.fleet_run.specs.declared.script.Event.{Event}
 use Rattle.fleet_run.specs.declared.script.Event.TheVariants as events
 use Rattle.fleet_run.specs.declared.script.Output.{Output}
 use Rattle.fleet_run.specs.declared.script.Transcript.{Transcript}
-pub use Rattle.mc_runs.specs.Log.{Manner, Before, After, Loss, Lose, Restart, Scripted, Piece, Fail, Hold, At, Now, Moment, Shown}
-pub use Rattle.memory_fleet.specs.Fleets.{manner_of}
+pub use Rattle.mc_runs.specs.Log.{Manner, Before, After, Junk, Cut, Loss, Lose, Restart, Scripted, Piece, Add, Result, Fail, Hold, At, Now, Moment, Shown}
+pub use Rattle.script_servers.specs.Servers.{manner_of}
 
 -- what is lost
 abbrev pub loss_of : Lost → Loss
@@ -17,6 +17,8 @@ loss_of (losses.Restart server) = Restart server
 -- what an event says
 abbrev pub scripted_of : Event → Scripted
 scripted_of (events.Piece client bytes) = Piece client bytes.items
+scripted_of (events.Add client bytes) = Add client bytes.items
+scripted_of (events.Result server) = Result server
 scripted_of (events.Hold server key content) = Hold server key content.items
 scripted_of (events.Fail turn manner) = Fail turn (manner_of manner)
 scripted_of (events.At turn loss) = At turn (loss_of loss)

@@ -18,7 +18,7 @@ use Rattle.client_requests.specs.Asks.{asks_of, IsWalk, request_of, taken_of}
 use Rattle.request_parts.specs.Stream.{Stands}
 use Rattle.text_codec.specs.TextProtocol.{memcached_text}
 use Rattle.connections.specs.declared.connection.Connection.{Connection}
-use Rattle.connections.specs.Steps.{output_of, held_len, place_behind}
+use Rattle.connections.specs.Steps.{output_of, held_len, place_after}
 use Rattle.memory_fleet.specs.declared.fleet.MemoryFleet.{MemoryFleet}
 use Rattle.memory_fleet.specs.Fleets.{holds_of, turn_of, named_of, count_of, begun_of, last_turn}
 use Rattle.memory_fleet.specs.Law.{KeepsLaw, stamp_at}
@@ -137,7 +137,7 @@ pub record IsAskAt (x : Connection) (request : Request) (i : ℕ) (ask : Ask) : 
 -- its command was done
 pub record ServesAsk (old : Connection) (request : Request) (i : ℕ) (router : Router) (fleet : MemoryFleet) (ended : Bool) (new : Connection) (router' : Router) (fleet' : MemoryFleet) : Type 0 where
   pub advances : Advances old i router fleet new (next_index ended i) router' fleet'
-  pub place : (held : List ℕ) → old.stream ≡ Stands Nothing held → new.stream ≡ place_behind ended old (drop (used_of request) held)
+  pub place : (held : List ℕ) → old.stream ≡ Stands Nothing held → new.stream ≡ place_after ended old (drop (used_of request) held)
   -- where the message isn't done, another key is there
   pub more : ended ≡ false → (held : List ℕ) → old.stream ≡ Stands Nothing held → IsReadFrom held request → i + 1 < length (asks_of (message_in held request))
 

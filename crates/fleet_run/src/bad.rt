@@ -1,24 +1,26 @@
 //! Which events of a script can't be.
 
-ghost use Rattle.std.specs.Prelude.{◌≡◌, ◌≤◌, ◌<◌, List, length, map, sum_by, IfSome};
+ghost use Rattle.std.specs.Prelude.{◌≡◌, ◌<◌, List, length, map, replicate, IfSome};
 ghost use Rattle.memory_fleet.specs.Fleets.{server_of};
 ghost use Rattle.fleet_run.specs.Scripted.{Scripted, scripted_of};
-ghost use Rattle.fleet_run.specs.Bad.{len_of, begins_run, has_begun, bad_in, first_bad};
+ghost use Rattle.fleet_run.specs.Bad.{bad_in, first_bad, IsBefore, HasRoom, IsOneMore};
 
 use crate::script::{Event, Script};
-use mc_types::DATA_LIMIT;
+use mc_types::{DATA_LIMIT, SCRIPT_CLIENTS};
 use memory_fleet::Loss;
-
-/// How many clients a script has.
-pub const CLIENTS: usize = 64;
 
 /// The most bytes that all pieces of a script have together.
 pub const PIECE_LIMIT: usize = 16_777_216;
 
-/// What came before an event: how many bytes the pieces had, and whether the run has begun.
-#[derive(Clone, Copy)]
+/// The most bytes that a client adds (`Add`) between two pieces.
+pub const ADD_LIMIT: usize = 524_288;
+
+/// What came before an event: how many bytes the pieces had, those that each client added since the last `Piece`, and whether the
+/// run has begun.
+#[derive(Drop)]
 struct Before {
     bytes: usize,
+    added: [usize; SCRIPT_CLIENTS],
     begun: bool,
 }
 
@@ -31,48 +33,70 @@ fn server_of(loss: &Loss) -> u32
     }
 }
 
-// Whether the event can't be, after those before it.
-fn is_bad(servers: u32, before: Before, event: &Event) -> bool
-    requires { before.bytes ≤ 16777216 }
-    ensures { (events : List Scripted) → before.bytes ≡ sum_by len_of events → before.begun ≡ has_begun events → result ≡ bad_in servers events (scripted_of event.now) }
+// No client added anything.
+fn none_added() -> [usize; SCRIPT_CLIENTS]
+    ensures { result ≡ replicate SCRIPT_CLIENTS 0 }
 {
-    match event {
-        Event::Piece(client, bytes) => {
-            *client as usize >= CLIENTS || bytes.len() > PIECE_LIMIT - before.bytes
-        }
-        Event::Hold(server, _, content) => {
-            server.number() >= servers || content.len() > DATA_LIMIT as usize || before.begun
-        }
-        Event::Fail(turn, _) => *turn == 0,
-        Event::At(turn, loss) => *turn == 0 || server_of(loss) >= servers,
-        Event::Now(loss) => server_of(loss) >= servers,
-        Event::Moment(moment) => *moment < 0,
-    }
+    [0; SCRIPT_CLIENTS]
 }
 
-// How many bytes of a piece the event brings.
-fn piece_len(event: &Event) -> usize
-    ensures { result ≡ len_of (scripted_of event.now) }
-{
-    match event {
-        Event::Piece(_, bytes) => bytes.len(),
-        _ => 0,
+impl Before {
+    // Whether the event can't be, after those that were counted.
+    fn is_bad(&self, servers: u32, event: &Event) -> bool
+        ensures { (events : List Scripted) → IsBefore events self.now → result ≡ bad_in servers events (scripted_of event.now) }
+    {
+        match event {
+            Event::Piece(client, bytes) => {
+                *client as usize >= SCRIPT_CLIENTS
+                    || bytes.len() > PIECE_LIMIT.saturating_sub(self.bytes)
+            }
+            Event::Add(client, bytes) => {
+                let client = *client as usize;
+                client >= SCRIPT_CLIENTS
+                    || bytes.len() > PIECE_LIMIT.saturating_sub(self.bytes)
+                    || bytes.len() > ADD_LIMIT.saturating_sub(self.added[client])
+            }
+            Event::Result(server) => server.number() >= servers,
+            Event::Hold(server, _, content) => {
+                server.number() >= servers || content.len() > DATA_LIMIT as usize || self.begun
+            }
+            Event::Fail(turn, _) => *turn == 0,
+            Event::At(turn, loss) => *turn == 0 || server_of(loss) >= servers,
+            Event::Now(loss) => server_of(loss) >= servers,
+            Event::Moment(moment) => *moment < 0,
+        }
     }
-}
 
-// Whether the run begins with the event.
-fn begins_run(event: &Event) -> bool
-    ensures { result ≡ begins_run (scripted_of event.now) }
-{
-    match event {
-        Event::Piece(_, _) | Event::Now(_) => true,
-        Event::Hold(_, _, _) | Event::Fail(_, _) | Event::At(_, _) | Event::Moment(_) => false,
+    // Counts one more event, for which there is room.
+    fn take(&mut self, event: &Event)
+        requires { HasRoom self.old (scripted_of event.now) }
+        ensures { IsOneMore self.old (scripted_of event.now) self.new }
+    {
+        match event {
+            Event::Piece(_, bytes) => {
+                self.bytes += bytes.len();
+                self.added = none_added();
+                self.begun = true;
+            }
+            Event::Add(client, bytes) => {
+                self.bytes += bytes.len();
+                self.added[*client as usize] += bytes.len();
+                self.begun = true;
+            }
+            Event::Now(_) => self.begun = true,
+            Event::Result(_)
+            | Event::Hold(_, _, _)
+            | Event::Fail(_, _)
+            | Event::At(_, _)
+            | Event::Moment(_) => {}
+        }
     }
 }
 
 /// The place of the first event that can't be, counted from 0: a client above 63, a server that isn't there, a turn
-/// counted 0, a moment below 0, the piece with which all pieces exceed 16,777,216 bytes, held data above 1,048,576 bytes,
-/// a `Hold` after a piece or a loss, one named for a call (`At`) aside. It takes no memory.
+/// counted 0, a moment below 0, the piece with which all pieces exceed 16,777,216 bytes, the piece with which the pieces that
+/// a client added since the last `Piece` exceed 524,288 bytes, held data above 1,048,576 bytes, a `Hold` after a piece or a
+/// loss, one named for a call (`At`) aside. It takes no memory.
 ///
 /// Source: mcgate's own.
 pub fn first_bad_event(servers: u32, script: &Script) -> Option<usize>
@@ -81,16 +105,14 @@ pub fn first_bad_event(servers: u32, script: &Script) -> Option<usize>
 {
     let mut before = Before {
         bytes: 0,
+        added: none_added(),
         begun: false,
     };
     for (index, event) in script.events.iter().enumerate() {
-        if is_bad(servers, before, event) {
+        if before.is_bad(servers, event) {
             return Some(index);
         }
-        before = Before {
-            bytes: before.bytes + piece_len(event),
-            begun: before.begun || begins_run(event),
-        };
+        before.take(event);
     }
     None
 }

@@ -5,20 +5,24 @@ ghost use Rattle.route_tree.specs.Route.{IsTree};
 ghost use Rattle.memory_fleet.specs.Fleets.{IsNewFleet, IsMoment, count_of, begun_of};
 ghost use Rattle.memory_fleet.specs.declared.event.FleetFault.TheVariants.{NoMemory};
 ghost use Rattle.fleet_run.specs.Serving.{IsServed, SpentBy, tree_of};
-ghost use Rattle.fleet_run.specs.Scripted.{Scripted, scripted_of, transcript_of};
+ghost use Rattle.fleet_run.specs.Scripted.{Scripted, scripted_of, manner_of, transcript_of};
+ghost use Rattle.memory_fleet.specs.Fleets as fleets;
+ghost use Rattle.fleet_run.specs.Stepped.{is_by_bytes, is_step, is_stepped};
 ghost use Rattle.fleet_run.specs.Bad.{bad_in, first_bad, Refuses};
 ghost use Rattle.fleet_run.specs.Driving.{ServesPiece, BreaksPiece, HandsOut, TakesEvent, BreaksEvent, AreNew, Drives, EndsAsFault, IsSpent, IsKept, fault_of};
 ghost use Rattle.fleet_run.specs.Reloads.{AreInOrder, DrivesBy, DrivesPartBy, EndsBy, is_refused, one_more};
 
-use crate::bad::{CLIENTS, first_bad_event};
+use crate::bad::first_bad_event;
 use crate::router::Router;
 use crate::script::{DriveFault, Event, Output, Reload, Report, Script, Transcript};
 use crate::serve::serve;
 use connections::Connection;
+use mc_types::SCRIPT_CLIENTS;
 use memory_fleet::{FleetFault, MemoryFleet};
 use route_json::Config;
 use route_tree::Tree;
 use route_tree::laws::direct_is_one_server;
+use script_servers::Manner;
 use std::alloc::{AllocError, Global};
 
 // A piece comes, all that is complete is served, and the new output is taken.
@@ -62,6 +66,18 @@ fn set_clock(fleet: &mut MemoryFleet, moment: &i64)
     fleet.set_moment(*moment);
 }
 
+// How a call fails whose answer comes whole or not at all.
+fn whole_manner(manner: Manner) -> memory_fleet::Manner
+    requires { is_by_bytes (manner_of manner) ≡ false }
+    ensures { fleets.manner_of result ≡ manner_of manner }
+{
+    match manner {
+        Manner::Before => memory_fleet::Manner::Before,
+        Manner::After => memory_fleet::Manner::After,
+        Manner::Cut(_) | Manner::Junk => unreachable!(),
+    }
+}
+
 // One event of the script.
 fn take_up(
     alloc: Global,
@@ -73,8 +89,9 @@ fn take_up(
 ) -> Result<(), FleetFault>
     requires served { IsServed (tree_of router.old) (count_of fleet.old) }
     requires few { router.old.stale ≤ begun_of fleet.old }
-    requires clients { length clients.old.items ≡ 64 }
+    requires clients { length clients.old.items ≡ SCRIPT_CLIENTS }
     requires good { (before : List Scripted) × (bad_in (count_of fleet.old) before (scripted_of event.now) ≡ false) }
+    requires whole { is_step (scripted_of event.now) ≡ false }
     ensures ok { OnOk result (TakesEvent clients.old.items router.old fleet.old transcript.old event.now clients.new.items router.new fleet.new transcript.new) }
     ensures err { OnErr result (transcript.new.shown.items ≡ transcript.old.shown.items) }
     ensures broken { OnErr result (BreaksEvent clients.old.items router.old fleet.old transcript.old event.now fleet.new) }
@@ -86,8 +103,9 @@ fn take_up(
             let output = serve_piece(alloc, &mut clients[place], bytes.as_slice(), router, fleet)?;
             hand_out(*client, output, transcript)
         }
+        Event::Add(_, _) | Event::Result(_) => unreachable!(),
         Event::Hold(server, key, content) => Ok(fleet.hold(*server, key, content.as_slice())?),
-        Event::Fail(turn, manner) => fleet.fail(*turn, *manner),
+        Event::Fail(turn, manner) => fleet.fail(*turn, whole_manner(*manner)),
         Event::At(turn, loss) => fleet.lose_at(alloc, *turn, *loss),
         Event::Now(loss) => {
             fleet.lose(*loss);
@@ -104,8 +122,8 @@ fn take_up(
 fn new_clients(alloc: Global) -> Result<Vec<Connection>, AllocError>
     ensures { IfOk result (λ clients. AreNew clients.items) }
 {
-    let mut clients = Vec::with_capacity(alloc, CLIENTS)?;
-    for _ in 0..CLIENTS {
+    let mut clients = Vec::with_capacity(alloc, SCRIPT_CLIENTS)?;
+    for _ in 0..SCRIPT_CLIENTS {
         clients.push(Connection::new(alloc))?;
     }
     Ok(clients)
@@ -180,6 +198,7 @@ fn drive_events(
     requires transcript { transcript.old.shown.items ≡ [] }
     requires marks { marks.old.items ≡ [] }
     requires good { first_bad (count_of fleet.old) (map scripted_of script.now.events.items) ≡ None }
+    requires whole { is_stepped (map scripted_of script.now.events.items) ≡ false }
     ensures ok { IfOk result (λ report. DrivesBy tree.now refused.now reloads.now (map scripted_of script.now.events.items) (transcript_of transcript.new) marks.new.items report) }
     ensures err { OnErr result (DrivesPartBy tree.now refused.now reloads.now (map scripted_of script.now.events.items) (transcript_of transcript.new) marks.new.items fleet.new) }
     ensures spent { IfErr result (λ fault. SpentBy fault fleet.new) }
@@ -239,7 +258,7 @@ fn drive_fault(fault: FleetFault) -> DriveFault
 /// Runs a script on servers in memory, one command at a time, each through the tree in use when it begins: that of the
 /// configuration, and after each of the reloads that reload's, unless it is refused. Reloads of which `refused` says nothing aren't.
 ///
-/// Of each reload it notes how many outputs were in the transcript before it. All else is as [`drive_any`] says, its faults too; the
+/// The script steps no calls ([`is_stepped`](crate::is_stepped)). Of each reload it notes how many outputs were in the transcript before it. All else is as [`drive_any`] says, its faults too; the
 /// reloads stand in the order of their places, and the fleet has a server for each of all configurations'.
 ///
 /// Source: mcgate's own.
@@ -259,6 +278,7 @@ pub fn drive_by(
     requires fleet { IsNewFleet (count_of fleet.old) fleet.old }
     requires transcript { transcript.old.shown.items ≡ [] }
     requires marks { marks.old.items ≡ [] }
+    requires whole { is_stepped (map scripted_of script.now.events.items) ≡ false }
     ensures refuses { MatchResult result (λ _. first_bad (count_of fleet.old) (map scripted_of script.now.events.items) ≡ None) (Refuses (count_of fleet.old) script.now) }
     ensures ok { IfOk result (λ report. DrivesBy config.now.tree refused.now reloads.now (map scripted_of script.now.events.items) (transcript_of transcript.new) marks.new.items report) }
     ensures fault { IfErr result (λ fault. EndsBy config.now.tree refused.now reloads.now (map scripted_of script.now.events.items) transcript.new marks.new.items fleet.new fault) }
@@ -279,7 +299,8 @@ pub fn drive_by(
 }
 
 /// Runs a script through the configuration's tree on servers in memory, one command at a time. After each piece the
-/// client's new output stands in the transcript, where there is any.
+/// client's new output stands in the transcript, where there is any. The script steps no calls
+/// ([`is_stepped`](crate::is_stepped)).
 ///
 /// The tree may be any: no gate has judged it, so replies may be stale, and the report tells how many. Where each key has one
 /// server (`Tree::is_direct`), none is. The fleet is a new one with a server for each of the configuration's; a fleet that was
@@ -299,6 +320,7 @@ pub fn drive_any(
 ) -> Result<Report, DriveFault>
     requires fleet { IsNewFleet (length config.now.servers) fleet.old }
     requires transcript { transcript.old.shown.items ≡ [] }
+    requires whole { is_stepped (map scripted_of script.now.events.items) ≡ false }
     ensures refuses { MatchResult result (λ _. first_bad (length config.now.servers) (map scripted_of script.now.events.items) ≡ None) (Refuses (length config.now.servers) script.now) }
     ensures ok { IfOk result (λ report. Drives config.now.tree (map scripted_of script.now.events.items) (transcript_of transcript.new) report) }
     ensures fault { IfErr result (λ fault. EndsAsFault config.now.tree (map scripted_of script.now.events.items) transcript.new fleet.new fault) }

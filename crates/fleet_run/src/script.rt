@@ -1,20 +1,29 @@
 //! What a script holds, and what comes of driving it.
 
 use mc_types::{Key, ServerId};
-use memory_fleet::{Loss, Manner};
+use memory_fleet::Loss;
 use route_json::Config;
+use script_servers::Manner;
 
 /// One event of a script.
 #[derive(Drop)]
 pub enum Event {
-    /// These bytes come from a client, 0 to 63. All that is complete is served, and the new output is handed out.
+    /// These bytes come from a client, 0 to 63. All that is complete is done, each call that is out has its result, that of the
+    /// least server first, and the new output is handed out (`>`).
     Piece(u8, Vec<u8>),
+    /// These bytes come from a client, 0 to 63. All that can be done without a result is done, and the new output is handed out
+    /// (`+`).
+    Add(u8, Vec<u8>),
+    /// The call that is out at the server has its result, where there is one; then all that can be done without another is done,
+    /// and the new output is handed out (`result`).
+    Result(ServerId),
     /// The server holds these data under the key before the run: flags 0, no expiry, stamp 0.
     Hold(ServerId, Key, Vec<u8>),
-    /// The call of this turn, counted from here and from 1, fails. Of two that name one call, the later counts.
+    /// The call of this turn, counted from here and from 1 as calls have their results, fails. Of two that name one call, the later
+    /// counts.
     Fail(u32, Manner),
-    /// Something is lost just before the call of this turn, counted from here and from 1. Several losses at one call happen in
-    /// the order of the script; where that call never comes, nothing is lost.
+    /// Something is lost just before the call of this turn, counted in the same way. Several losses at one call happen in the order
+    /// of the script; where that call never comes, nothing is lost.
     At(u32, Loss),
     /// Something is lost now.
     Now(Loss),
@@ -43,7 +52,7 @@ pub struct Output {
     pub bytes: Vec<u8>,
 }
 
-/// What was handed out: after each piece, the client's new output, where there is any.
+/// What was handed out: after each piece, and each result by hand, the new output of each client that has any, in rising number.
 #[derive(Drop)]
 pub struct Transcript {
     pub shown: Vec<Output>,

@@ -11,13 +11,10 @@ use mc_types::{Answer, Ask};
 use memory_fleet::laws::calls_are_named;
 use memory_fleet::{FleetFault, MemoryFleet};
 use route_job::{Done, execute};
-use route_tree::Tree;
 use route_tree::laws::{calls_are_asked, calls_stay, replies_show_what_was_found, servers_stay};
+use route_tree::{ROUTE_LIMIT, Tree};
 use std::alloc::{AllocError, Global};
 use text_codec::{Asks, Read, Request};
-
-/// The most calls of a command.
-const MOST_CALLS: u64 = 4_096;
 
 // A drop that is a call keeps the proof of a caller short.
 fn drop_answer(_answer: Answer) {}
@@ -69,7 +66,7 @@ fn command(
     ensures spent { IfErr result (λ fault. SpentBy fault fleet.new) }
     ensures broken { OnErr result (IsWithinOne (begun_of fleet.old) (turn_of fleet.old) fleet.new) }
 {
-    if fleet.calls() > u64::MAX - MOST_CALLS {
+    if fleet.calls() > u64::MAX - ROUTE_LIMIT as u64 {
         return Err(FleetFault::Spent);
     }
     servers_stay();

@@ -22,8 +22,8 @@ use Rattle.proxy_core.specs.declared.limits.Limits.{Limits}
 use Rattle.proxy_core.specs.declared.proxy.Core.{Core}
 use Rattle.proxy_core.specs.declared.fault.CoreFault.{CoreFault}
 use Rattle.proxy_core.specs.declared.fault.CoreFault.TheVariants as faults
-use Rattle.proxy_core.specs.declared.limits.Sharing.{Sharing}
-use Rattle.proxy_core.specs.declared.limits.Sharing.TheVariants as sharings
+use Rattle.commands_under_way.specs.declared.sharing.Sharing.{Sharing}
+use Rattle.commands_under_way.specs.declared.sharing.Sharing.TheVariants as sharings
 use Rattle.proxy_core.specs.Claims.{is_delete, clears_by, copies_by, bars_by}
 use Rattle.proxy_core.specs.Faults.{CanOpen, OpenFault}
 use Rattle.proxy_core.specs.CoreState as core_state

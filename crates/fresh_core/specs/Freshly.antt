@@ -12,8 +12,8 @@ use Rattle.route_tree.specs.Word.{tree_words}
 use Rattle.route_json.specs.Configuration.{Configuration}
 use Rattle.fresh_gate.specs.Sound.{AreLoaded, IsLast, trees_of}
 use Rattle.proxy_core.specs.declared.limits.Limits.{Limits}
-use Rattle.proxy_core.specs.declared.limits.Sharing.{Sharing}
-use Rattle.proxy_core.specs.declared.limits.Sharing.TheVariants.{Alone}
+use Rattle.commands_under_way.specs.declared.sharing.Sharing.{Sharing}
+use Rattle.commands_under_way.specs.declared.sharing.Sharing.TheVariants.{Alone}
 use Rattle.proxy_core.specs.CoreState as core_state
 use Rattle.proxy_core.specs.CoreState.{dialect, bars_of, Beside, Fits, IsBeside, state_of}
 use Rattle.fresh_core.specs.declared.fresh.FreshCore.{FreshCore}

@@ -6,7 +6,7 @@ ghost use Rattle.proxy_core.specs.Faults.{IsClosed, CanOpen, CanFeed, CanClose, 
 ghost use Rattle.fresh_gate.specs.Reload.{KeepsNumbers};
 ghost use Rattle.fresh_gate.specs.Sound.{IsLast};
 ghost use Rattle.proxy_core.specs.CoreState.{IsOut, Opens, Feeds, Gives, Closes, LeavesLine, Reloads, client_at, dropped_by, output_by};
-ghost use Rattle.proxy_core.specs.Lines.{is_standing};
+ghost use Rattle.commands_under_way.specs.Lines.{is_standing};
 ghost use Rattle.proxy_core.specs.Polls.{Polls, PollFault, Then, Perhaps, BeginsOne, IsPolled};
 ghost use Rattle.proxy_core.specs.Settles.{FitsCall, asked, SettleFault};
 ghost use Rattle.fresh_core.specs.Freshly.{IsNew, GoesFreshly, fed};

@@ -13,7 +13,7 @@ use Rattle.certificates.specs.declared.table.Certificate.{Certificate}
 use Rattle.coverage.specs.Pools.{has, servers_at, taken_pools}
 use Rattle.certificates.specs.Rows.{with_number, IsRowOf}
 use Rattle.certificates.specs.Tables.{IsTable}
-use Rattle.certificates.specs.Valid.{EachClass, IsClass, IsShaped, IsRising, IsValidRow, AreBehind, AreRuns, AreValidRows, run_at}
+use Rattle.certificates.specs.Valid.{EachClass, IsClass, IsShaped, IsRising, IsValidRow, AreAfter, AreRuns, AreValidRows, run_at}
 use Rattle.certificates.proofs.Proposals.{by_place, stay_rising, has_with, valid_if_covered}
 use Rattle.certificates.proofs.Tabling.{table_twice}
 use Rattle.certificates.proofs.Validity.{looks_are_enough}
@@ -114,13 +114,13 @@ module _ (tree : Route) (is : IsTree tree) (table : PlaceTable) where
   own_first : (text : List ℕ) (n r : ℕ) → r < n → run_at [] (runs text 0 n) r ≡ row text r
   own_first text n r lt = let e : 0 + r ≡ r = omega arith in subst (λ (q : ℕ). run_at [] (runs text 0 n) q ≡ row text q) e (own_run text n 0 r [] lt)
 
-  behind : (text : List ℕ) (n k last m : ℕ) → last < k → k + n ≤ m → AreBehind last m (runs text k n)
-  behind text zero k last m lt le = tt
-  behind text (suc n) k last m lt le = (lt, omega (arith, le), behind text n (suc k) k m (omega arith) (omega (arith, le)))
+  after : (text : List ℕ) (n k last m : ℕ) → last < k → k + n ≤ m → AreAfter last m (runs text k n)
+  after text zero k last m lt le = tt
+  after text (suc n) k last m lt le = (lt, omega (arith, le), after text n (suc k) k m (omega arith) (omega (arith, le)))
 
   are_runs : (text : List ℕ) (m : ℕ) → 0 < m → AreRuns m (runs text 0 m)
   are_runs text zero some = absurd (omega (arith, some))
-  are_runs text (suc n) some = (refl, behind text n 1 0 (suc n) (omega arith) (omega arith))
+  are_runs text (suc n) some = (refl, after text n 1 0 (suc n) (omega arith) (omega arith))
 
   -- ---- a class
 

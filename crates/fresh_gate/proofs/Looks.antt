@@ -11,7 +11,7 @@ use Rattle.std.proofs.lemmas.Bool.{leb-true, cases_lt}
 use Rattle.fresh_gate.specs.declared.finding.Found.{Found}
 use Rattle.coverage.specs.declared.deleting.Deleting.{Deleting}
 use Rattle.coverage.specs.declared.deleting.Deleting.TheVariants as kinds
-use Rattle.coverage.specs.Taking.{IsTaking, Takes, Clears}
+use Rattle.coverage.specs.Cover.{IsTaking, Takes, Clears}
 use Rattle.fresh_gate.specs.Gate.{op_order, kind_order, IsFirstAt}
 use Rattle.fresh_gate.specs.Rows.{HoldsTaken}
 use Rattle.fresh_gate.specs.Looking.{IsFirstUncleared, IsFirstAtServer, CoversServer, IsFirstAmong, IfFound, IfGap, lesser}
@@ -106,13 +106,13 @@ module _ (earlier later : Plan) where
         (λ (lt : f.server < t). inl lt)
         (λ (ge : t ≤ f.server).
         let same : f.server ≡ t = omega arith in
-        inr (same, behind p e (h.first.taken.first p g.taking (subst (Takes later p) (sym same) g.taken)) (h.first.uncleared.first e (subst (λ s. Clears earlier e s → ⊥) (sym same) g.uncleared))))
+        inr (same, after p e (h.first.taken.first p g.taking (subst (Takes later p) (sym same) g.taken)) (h.first.uncleared.first e (subst (λ s. Clears earlier e s → ⊥) (sym same) g.uncleared))))
         (cases_lt f.server t))
         (cases_lt t f.server);
   }
     where
-      behind : (p : Op) (e : Deleting) → op_order f.op ≤ op_order p → kind_order f.deleting ≤ kind_order e → (op_order f.op < op_order p) ⊎ ((op_order f.op ≡ op_order p) × (kind_order f.deleting ≤ kind_order e))
-      behind p e a b = ⊎_elim (λ (lt : op_order f.op < op_order p). inl lt) (λ (ge : op_order p ≤ op_order f.op). inr (omega arith, b)) (cases_lt (op_order f.op) (op_order p))
+      after : (p : Op) (e : Deleting) → op_order f.op ≤ op_order p → kind_order f.deleting ≤ kind_order e → (op_order f.op < op_order p) ⊎ ((op_order f.op ≡ op_order p) × (kind_order f.deleting ≤ kind_order e))
+      after p e a b = ⊎_elim (λ (lt : op_order f.op < op_order p). inl lt) (λ (ge : op_order p ≤ op_order f.op). inr (omega arith, b)) (cases_lt (op_order f.op) (op_order p))
 
   pub found_is_first : (among : List ℕ) → HoldsTaken later among → (found : Option Found) → IfFound earlier later among found → IfGap earlier later found
   found_is_first among all None h = λ op taking s t kind. each_in (CoversServer earlier later) among s h (all op taking s t) op taking t kind

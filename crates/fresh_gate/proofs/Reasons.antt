@@ -12,7 +12,7 @@ use Rattle.certificates.specs.declared.table.Class.{Class}
 use Rattle.certificates.specs.declared.table.ClassRows.{ClassRows}
 use Rattle.certificates.specs.declared.table.PlaceTable.{PlaceTable}
 use Rattle.certificates.specs.declared.table.Certificate.{Certificate}
-use Rattle.coverage.specs.Taking.{Covers}
+use Rattle.coverage.specs.Cover.{Covers}
 use Rattle.certificates.specs.Resolved.{resolved}
 use Rattle.certificates.specs.Places.{place_at}
 use Rattle.certificates.specs.Tables.{row_count}

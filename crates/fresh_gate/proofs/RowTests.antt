@@ -13,7 +13,7 @@ use Rattle.coverage.specs.Computed.{cleared, is_taken}
 use Rattle.coverage.specs.Pools.{has, server_at, servers_at, taken_pools}
 use Rattle.coverage.specs.Doubted.{doubts, doubted_pools}
 use Rattle.certificates.specs.Rows.{IsRowOf}
-use Rattle.coverage.specs.Taking.{Clears, Covers}
+use Rattle.coverage.specs.Cover.{Clears, Covers}
 use Rattle.certificates.specs.Valid.{IsValidRow, IsRising}
 use Rattle.coverage.proofs.Choices.{both, both_split, either_left, either_right, either_split}
 use Rattle.coverage.proofs.Keeping.{cleared_is_exact}

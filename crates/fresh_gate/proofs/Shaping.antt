@@ -5,18 +5,18 @@ use Rattle.certificates.specs.declared.table.Class.{Class}
 use Rattle.certificates.specs.declared.table.Run.{Run}
 use Rattle.certificates.specs.declared.table.ClassRows.{ClassRows}
 use Rattle.certificates.specs.Texts.{one_more}
-use Rattle.certificates.specs.Valid.{AreBehind, AreRuns, IsShaped}
+use Rattle.certificates.specs.Valid.{AreAfter, AreRuns, IsShaped}
 use Rattle.coverage.proofs.Choices.{both, both_split}
 use Rattle.fresh_gate.specs.Shapes.{is_rising, has_runs, is_shaped, first_misshaped, IfMisshaped}
 
-rising_is : (last m : ℕ) (runs : List Run) → is_rising last m runs ≡ true → AreBehind last m runs
+rising_is : (last m : ℕ) (runs : List Run) → is_rising last m runs ≡ true → AreAfter last m runs
 rising_is last m [] h = tt
 rising_is last m (run ∷ runs) h =
     let p = both_split (nat_lt last run.first && nat_lt run.first m) (is_rising run.first m runs) h in
     let q = both_split (nat_lt last run.first) (nat_lt run.first m) p.0 in
     (leb-true _ _ q.0, leb-true _ _ q.1, rising_is run.first m runs p.1)
 
-is_so_rising : (last m : ℕ) (runs : List Run) → AreBehind last m runs → is_rising last m runs ≡ true
+is_so_rising : (last m : ℕ) (runs : List Run) → AreAfter last m runs → is_rising last m runs ≡ true
 is_so_rising last m [] h = refl
 is_so_rising last m (run ∷ runs) h = both (nat_lt last run.first && nat_lt run.first m) _ (both (nat_lt last run.first) _ (le-leb _ _ h.0) (le-leb _ _ h.1)) (is_so_rising run.first m runs h.2)
 

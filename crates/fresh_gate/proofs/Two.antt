@@ -10,7 +10,7 @@ use Rattle.route_tree.proofs.Parts.{each_at}
 use Rattle.route_tree.proofs.Places.{each_left, each_right}
 use Rattle.certificates.specs.declared.table.Class.{Class}
 use Rattle.certificates.specs.declared.table.PlaceTable.{PlaceTable}
-use Rattle.coverage.specs.Taking.{Covers}
+use Rattle.coverage.specs.Cover.{Covers}
 use Rattle.certificates.specs.Resolved.{resolved}
 use Rattle.certificates.specs.Places.{IsClassOf, place_at, CoversAt}
 use Rattle.certificates.specs.Valid.{IsClass, IsTableOf}

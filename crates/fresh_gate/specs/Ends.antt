@@ -7,7 +7,7 @@ use Rattle.certificates.specs.declared.table.ClassRows.{ClassRows}
 use Rattle.certificates.specs.declared.table.Class.{Class}
 use Rattle.fresh_gate.specs.declared.classes.TableEnd.{TableEnd}
 use Rattle.fresh_gate.specs.declared.classes.TableEnd.TheVariants as tables
-use Rattle.coverage.specs.Taking.{Covers}
+use Rattle.coverage.specs.Cover.{Covers}
 use Rattle.certificates.specs.Places.{place_at}
 use Rattle.certificates.specs.Valid.{IsValidRow, run_at, IsTableOf, EachClass, IsShaped, IsValid}
 use Rattle.certificates.specs.declared.table.PlaceTable.{PlaceTable}

@@ -10,7 +10,7 @@ use Rattle.coverage.specs.declared.deleting.Deleting.TheVariants as kinds
 use Rattle.certificates.specs.declared.table.Class.{Class}
 use Rattle.certificates.specs.declared.table.PlaceTable.{PlaceTable}
 use Rattle.certificates.specs.declared.table.Certificate.{Certificate}
-use Rattle.coverage.specs.Taking.{IsTaking, Takes, Clears, Covers}
+use Rattle.coverage.specs.Cover.{IsTaking, Takes, Clears, Covers}
 use Rattle.certificates.specs.Places.{place_at, CoversAt}
 use Rattle.certificates.specs.Valid.{IsTableOf, IsValid, IsValidRow, EachClass, IsShaped, row_at}
 use Rattle.mc_runs.specs.Freshness.{RunsAreFresh}

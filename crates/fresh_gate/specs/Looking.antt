@@ -4,7 +4,7 @@ use Rattle.mc_types.specs.declared.ask.Op.{Op}
 use Rattle.route_tree.specs.Each.{Each, IsIn}
 use Rattle.route_tree.specs.Plan.{Plan}
 use Rattle.coverage.specs.declared.deleting.Deleting.{Deleting}
-use Rattle.coverage.specs.Taking.{IsTaking, Takes, Clears, Covers}
+use Rattle.coverage.specs.Cover.{IsTaking, Takes, Clears, Covers}
 use Rattle.fresh_gate.specs.Gate.{op_order, kind_order, IsFirstAt}
 use Rattle.fresh_gate.specs.declared.finding.Found.{Found}
 

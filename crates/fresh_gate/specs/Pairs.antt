@@ -4,7 +4,7 @@ use Rattle.route_tree.specs.Route.{Route}
 use Rattle.route_tree.specs.Place.{tree_at_place}
 use Rattle.certificates.specs.declared.table.Class.{Class}
 use Rattle.certificates.specs.declared.table.PlaceTable.{PlaceTable}
-use Rattle.coverage.specs.Taking.{Covers}
+use Rattle.coverage.specs.Cover.{Covers}
 use Rattle.certificates.specs.Places.{place_at}
 use Rattle.certificates.specs.Tables.{most_rows, row_count}
 use Rattle.certificates.specs.Valid.{IsTableOf}

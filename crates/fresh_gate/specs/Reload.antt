@@ -1,4 +1,5 @@
 -- When a tree becomes the next generation. Source: mcgate's own.
+use Rattle.fresh_gate.specs.declared.reloading.TheConstants.{MOST_GENERATIONS}
 use Rattle.std.specs.Prelude.{◌≡◌, ℕ, ◌+◌, ◌<◌, ◌≤◌, List, [], ◌∷◌, ◌++◌, Some, length, slice_get}
 use Rattle.route_json.specs.Configuration.{Configuration}
 use Rattle.route_json.specs.Servers.{Addresses}
@@ -22,7 +23,7 @@ FailsAt trees tree generation fault =
 
 -- the generations with the tree as the last one
 abbrev pub IsReloadFault : List Route → Route → ReloadFault → Type 0
-IsReloadFault trees tree faults.TooManyGenerations = 16 ≤ length trees
+IsReloadFault trees tree faults.TooManyGenerations = MOST_GENERATIONS ≤ length trees
 IsReloadFault trees tree (faults.TooManyPlaces generation) = FailsAt (trees ++ tree ∷ []) tree generation pairs.TooManyPlaces
 IsReloadFault trees tree (faults.Uncovered generation gap) = FailsAt (trees ++ tree ∷ []) tree generation (pairs.Uncovered gap)
 IsReloadFault trees tree faults.NoMemory = Unit {0}

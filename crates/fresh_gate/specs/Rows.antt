@@ -5,7 +5,7 @@ use Rattle.route_tree.specs.Each.{IsIn}
 use Rattle.route_tree.specs.Plan.{Plan}
 use Rattle.coverage.specs.Computed.{cleared, is_taken}
 use Rattle.coverage.specs.Pools.{has}
-use Rattle.coverage.specs.Taking.{IsTaking, Takes}
+use Rattle.coverage.specs.Cover.{IsTaking, Takes}
 use Rattle.certificates.specs.Valid.{IsRising}
 
 -- each is greater than the one before

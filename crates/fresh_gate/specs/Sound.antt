@@ -1,4 +1,5 @@
 -- Generations of trees. Source: mcgate's own.
+use Rattle.fresh_gate.specs.declared.reloading.TheConstants.{MOST_GENERATIONS}
 use Rattle.std.specs.Prelude.{◌≡◌, ℕ, ◌-◌, ◌<◌, ◌≤◌, List, [], ◌∷◌, Some, length, slice_get}
 use Rattle.mc_runs.specs.Cover.{IsCovered}
 use Rattle.mc_runs.specs.Freshness.{RunsAreFresh}
@@ -16,7 +17,7 @@ AreSound trees = (i j : ℕ) (a b : Route) → i ≤ j → slice_get trees i ≡
 -- the trees of an accepted configuration, the oldest first, and at most sixteen
 pub record AreGenerations (trees : List Route) : Type 0 where
   pub some : 0 < length trees
-  pub few : length trees ≤ 16
+  pub few : length trees ≤ MOST_GENERATIONS
   pub trees_are : Each IsTree trees
   pub sound : AreSound trees
 

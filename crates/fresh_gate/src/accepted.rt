@@ -10,7 +10,7 @@ use crate::gap::{Reason, Refused};
 use crate::laws::generations_are_fresh;
 use crate::numbers::are_kept;
 use crate::pairs::covers;
-use crate::reloading::{ReloadFault, all_cover, numbered};
+use crate::reloading::{MOST_GENERATIONS, ReloadFault, all_cover, numbered};
 use route_json::Config;
 use route_tree::Tree;
 use std::alloc::{AllocError, AllocFailed, Global};
@@ -132,7 +132,7 @@ fn next_number(alloc: Global, configs: &[Config], tree: &Tree) -> Result<u32, Re
 {
     let _form = tree.form();
     let held = configs.len();
-    if held >= 16 {
+    if held >= MOST_GENERATIONS {
         return Err(ReloadFault::TooManyGenerations);
     }
     match all_cover(alloc, configs, tree) {

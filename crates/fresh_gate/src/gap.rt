@@ -22,7 +22,7 @@ pub struct Gap {
 /// Source: mcgate's own.
 #[derive(Clone, Copy)]
 pub enum Reason {
-    /// The tree has more than 262,144 places.
+    /// The tree has more than [`certificates::PLACE_LIMIT`] places.
     TooManyPlaces,
     /// The certificate has a wrong number of classes (then the row is that of the smaller number), a class of a wrong
     /// modulus or with wrong runs (its first row), or a row that isn't valid: it isn't rising, lacks a server that is

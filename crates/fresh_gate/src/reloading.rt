@@ -12,15 +12,18 @@ use route_json::Config;
 use route_tree::Tree;
 use std::alloc::Global;
 
+/// How many generations are held at most. mcgate's own.
+pub const MOST_GENERATIONS: usize = 16;
+
 /// Why a configuration isn't loaded: the first of these that holds, for each generation from the first on, the new
 /// configuration's own last. Generations are counted from 1.
 ///
 /// Source: mcgate's own.
 #[derive(Clone, Copy)]
 pub enum ReloadFault {
-    /// 16 generations are held.
+    /// [`MOST_GENERATIONS`] generations are held.
     TooManyGenerations,
-    /// This generation's tree and the new one together have more than 262,144 places.
+    /// This generation's tree and the new one together have more than [`certificates::PLACE_LIMIT`] places.
     TooManyPlaces(u32),
     /// The first gap: the new tree takes the server, and the tree of this generation doesn't clear it.
     Uncovered(u32, Gap),
@@ -41,7 +44,7 @@ pub fn numbered(generation: u32, fault: PairFault) -> ReloadFault
 
 /// Whether the tree of each of the configurations covers the tree.
 pub fn all_cover(alloc: Global, configs: &[Config], tree: &Tree) -> Result<(), ReloadFault>
-    requires { length configs.now < 16 }
+    requires { length configs.now < MOST_GENERATIONS }
     ensures { MatchResult result (λ _. AreCovering (trees_of configs.now) tree.now (length configs.now)) (IsFaultAmong (trees_of configs.now) tree.now) }
 {
     for index in 0..configs.len() {

@@ -11,9 +11,9 @@ use Rattle.mc_types.specs.declared.ask.Op.TheVariants.{Get, Gat, Set, Add, Repla
 use Rattle.route_tree.specs.Plan.{Plan}
 use Rattle.route_tree.specs.Servers.{servers}
 use Rattle.coverage.specs.Computed.{taken, is_taken}
-use Rattle.coverage.specs.Taking.{IsTaking, Takes}
+use Rattle.coverage.specs.Cover.{IsTaking, Takes}
 use Rattle.coverage.proofs.Choices.{either_left, either_right, either_split}
-use Rattle.gate_words.specs.Standings.{AreServersOf, IsRead}
+use Rattle.gate_words.specs.ServerUses.{AreServersOf, IsRead}
 
 pub servers_once : (plain : Plan) (old sorted new : List ℕ) → old ≡ servers plain → IsPermutation old sorted → IsSorted nat_cmp sorted → new ≡ dedup eqb sorted → AreServersOf plain new
 servers_once plain old sorted new is moved up kept = record {

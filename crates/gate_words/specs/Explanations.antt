@@ -4,10 +4,10 @@ use Rattle.mc_types.specs.declared.ask.Op.{Op}
 use Rattle.route_tree.specs.Plan.{Plan}
 use Rattle.coverage.specs.declared.deleting.Deleting.{Deleting}
 use Rattle.gate_words.specs.Ways.{LeadsTo}
-use Rattle.gate_words.specs.Standings.{AreStandings}
+use Rattle.gate_words.specs.ServerUses.{AreServerUses}
 use Rattle.gate_words.specs.declared.explanation.Explanation.{Explanation}
 
 -- the way leads the operation to the server, and what is said of each server is so
 pub record Explains (plain : Plan) (op : Op) (server : ℕ) (kind : Deleting) (explanation : Explanation) : Type 0 where
   pub way : LeadsTo op server explanation.way.items plain
-  pub standings : AreStandings plain kind explanation.standings.items
+  pub server_uses : AreServerUses plain kind explanation.server_uses.items

@@ -1,5 +1,5 @@
 pub mod Ways
-pub mod Standings
+pub mod ServerUses
 pub mod Explanations
 pub mod Names
 pub mod Phrases

@@ -8,7 +8,7 @@ use Rattle.gate_words.specs.Phrases.{text_of}
 use Rattle.gate_words.specs.declared.phrases.Phrase.{Phrase}
 use Rattle.gate_words.specs.declared.phrases.Phrase.TheVariants as phrases
 use Rattle.gate_words.specs.declared.explanation.Explanation.{Explanation}
-use Rattle.gate_words.specs.declared.standings.Standing.{Standing}
+use Rattle.gate_words.specs.declared.server_uses.ServerUse.{ServerUse}
 use Rattle.gate_words.specs.declared.ways.Listed.{Listed}
 use Rattle.gate_words.specs.declared.ways.Listed.TheVariants as lists
 use Rattle.gate_words.specs.declared.ways.Step.{Step}
@@ -42,37 +42,37 @@ way_end address = codes " " ++ escaped address ++ codes "\n"
 abbrev pub way_line : (address : List ℕ) → Op → List Step → List ℕ
 way_line address op way = way_front address op ++ steps_text way ++ way_end address
 
-abbrev pub is_of : Which → Standing → Bool
-is_of which.Read standing = standing.is_read
-is_of which.Cleared standing = standing.is_cleared
-is_of which.Left standing = not standing.is_cleared
+abbrev pub is_of : Which → ServerUse → Bool
+is_of which.Read server_use = server_use.is_read
+is_of which.Cleared server_use = server_use.is_cleared
+is_of which.Left server_use = not server_use.is_cleared
 
 -- the address, if this server is one of those that are named
 abbrev pub member_text : List (List ℕ) → Bool → ℕ → List ℕ
 member_text servers is_named server = if is_named then codes " " ++ escaped (address_of servers server) else []
 
-abbrev pub members_text : List (List ℕ) → Which → List Standing → List ℕ
-members_text servers w standings = flat_map (λ (x : Standing). member_text servers (is_of w x) x.server) standings
+abbrev pub members_text : List (List ℕ) → Which → List ServerUse → List ℕ
+members_text servers w server_uses = flat_map (λ (x : ServerUse). member_text servers (is_of w x) x.server) server_uses
 
-abbrev pub has_some : Which → List Standing → Bool
+abbrev pub has_some : Which → List ServerUse → Bool
 has_some w [] = false
 has_some w (x ∷ xs) = is_of w x || has_some w xs
 
 -- these servers, or that there is none
-abbrev pub row_text : List (List ℕ) → Which → List Standing → List ℕ
-row_text servers w standings = if has_some w standings then members_text servers w standings ++ codes "\n" else codes " none\n"
+abbrev pub row_text : List (List ℕ) → Which → List ServerUse → List ℕ
+row_text servers w server_uses = if has_some w server_uses then members_text servers w server_uses ++ codes "\n" else codes " none\n"
 
-abbrev pub reads_line : List (List ℕ) → List Standing → List ℕ
-reads_line servers standings = text_of phrases.Reads ++ row_text servers which.Read standings
+abbrev pub reads_line : List (List ℕ) → List ServerUse → List ℕ
+reads_line servers server_uses = text_of phrases.Reads ++ row_text servers which.Read server_uses
 
-abbrev pub cleared_line : List (List ℕ) → Deleting → List Standing → List ℕ
-cleared_line servers kind standings = codes "# a " ++ delete_name kind ++ codes " " ++ text_of phrases.HasCleared ++ row_text servers which.Cleared standings
+abbrev pub cleared_line : List (List ℕ) → Deleting → List ServerUse → List ℕ
+cleared_line servers kind server_uses = codes "# a " ++ delete_name kind ++ codes " " ++ text_of phrases.HasCleared ++ row_text servers which.Cleared server_uses
 
-abbrev pub left_line : List (List ℕ) → List Standing → List ℕ
-left_line servers standings = text_of phrases.Left ++ row_text servers which.Left standings
+abbrev pub left_line : List (List ℕ) → List ServerUse → List ℕ
+left_line servers server_uses = text_of phrases.Left ++ row_text servers which.Left server_uses
 
 -- how many servers reads take
-abbrev pub reader_count : List Standing → ℕ
+abbrev pub reader_count : List ServerUse → ℕ
 reader_count [] = 0
 reader_count (x ∷ xs) = if x.is_read then reader_count xs + 1 else reader_count xs
 
@@ -83,12 +83,12 @@ change_phrase (suc zero) = phrases.OneRoute
 change_phrase (suc (suc zero)) = phrases.Both
 change_phrase (suc (suc (suc n))) = phrases.All
 
-abbrev pub change_line : List Standing → List ℕ
-change_line standings = text_of (change_phrase (reader_count standings)) ++ codes "\n"
+abbrev pub change_line : List ServerUse → List ℕ
+change_line server_uses = text_of (change_phrase (reader_count server_uses)) ++ codes "\n"
 
-abbrev pub standing_lines : List (List ℕ) → Deleting → List Standing → List ℕ
-standing_lines servers kind standings = reads_line servers standings ++ cleared_line servers kind standings ++ left_line servers standings ++ change_line standings
+abbrev pub server_use_lines : List (List ℕ) → Deleting → List ServerUse → List ℕ
+server_use_lines servers kind server_uses = reads_line servers server_uses ++ cleared_line servers kind server_uses ++ left_line servers server_uses ++ change_line server_uses
 
 -- the lines of an explanation
 abbrev pub explanation_lines : List (List ℕ) → Op → ℕ → Deleting → Explanation → List ℕ
-explanation_lines servers op server kind e = way_line (address_of servers server) op e.way.items ++ standing_lines servers kind e.standings.items
+explanation_lines servers op server kind e = way_line (address_of servers server) op e.way.items ++ server_use_lines servers kind e.server_uses.items

@@ -1,9 +1,9 @@
 //! Why a server is a gap of a plain tree.
 ghost use Rattle.std.specs.Prelude.{IfOk};
-ghost use Rattle.coverage.specs.Taking.{Takes};
+ghost use Rattle.coverage.specs.Cover.{Takes};
 ghost use Rattle.gate_words.specs.Explanations.{Explains};
 
-use crate::standings::{Standing, standings};
+use crate::server_uses::{ServerUse, server_uses};
 use crate::ways::{Step, add_way};
 use coverage::Deleting;
 use coverage::laws::taken_is_exact;
@@ -15,7 +15,7 @@ use std::alloc::{AllocError, Global};
 #[derive(Drop)]
 pub struct Explanation {
     pub way: Vec<Step>,
-    pub standings: Vec<Standing>,
+    pub server_uses: Vec<ServerUse>,
 }
 
 /// How the operation takes the server, and what the deletes of the kind clear and leave. The only error is running out of memory.
@@ -35,6 +35,6 @@ pub fn explain(
     let _form = plain.form();
     let mut way = Vec::new(alloc);
     add_way(plain, op, server, &mut way)?;
-    let standings = standings(alloc, plain, deleting)?;
-    Ok(Explanation { way, standings })
+    let server_uses = server_uses(alloc, plain, deleting)?;
+    Ok(Explanation { way, server_uses })
 }

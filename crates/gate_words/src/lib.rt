@@ -4,11 +4,11 @@
 pub mod explanation;
 pub mod names;
 pub mod phrases;
-pub mod standings;
+pub mod server_uses;
 pub mod ways;
 pub mod writing;
 
 pub use explanation::{Explanation, explain};
-pub use standings::Standing;
+pub use server_uses::ServerUse;
 pub use ways::{Listed, Step};
 pub use writing::write_explanation;

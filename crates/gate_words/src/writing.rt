@@ -2,12 +2,12 @@
 
 ghost use Rattle.std.specs.Prelude.{◌≡◌, ◌≤◌, OnOk, length};
 ghost use Rattle.std.specs.Io.KnownBytes.{Appends};
-ghost use Rattle.gate_words.specs.Lines.{list_phrase, step_text, steps_text, is_of, member_text, members_text, has_some, row_text, way_front, way_end, way_line, reads_line, cleared_line, left_line, reader_count, change_phrase, change_line, standing_lines, explanation_lines};
+ghost use Rattle.gate_words.specs.Lines.{list_phrase, step_text, steps_text, is_of, member_text, members_text, has_some, row_text, way_front, way_end, way_line, reads_line, cleared_line, left_line, reader_count, change_phrase, change_line, server_use_lines, explanation_lines};
 
 use crate::explanation::Explanation;
 use crate::names::{address_of, delete_name, op_name};
 use crate::phrases::{Phrase, text_of};
-use crate::standings::Standing;
+use crate::server_uses::ServerUse;
 use crate::ways::{Listed, Step};
 use byte_escapes::Escaped;
 use coverage::Deleting;
@@ -90,13 +90,13 @@ fn write_way<W: Write>(address: &[u8], op: Op, way: &[Step], out: &mut W) -> io:
     Ok(())
 }
 
-fn is_of(which: Which, standing: &Standing) -> bool
-    ensures { result ≡ is_of which standing.now }
+fn is_of(which: Which, server_use: &ServerUse) -> bool
+    ensures { result ≡ is_of which server_use.now }
 {
     match which {
-        Which::Read => standing.is_read,
-        Which::Cleared => standing.is_cleared,
-        Which::Left => !standing.is_cleared,
+        Which::Read => server_use.is_read,
+        Which::Cleared => server_use.is_cleared,
+        Which::Left => !server_use.is_cleared,
     }
 }
 
@@ -120,21 +120,21 @@ fn write_member<W: Write>(
 fn write_members<W: Write>(
     servers: &Servers,
     which: Which,
-    standings: &[Standing],
+    server_uses: &[ServerUse],
     out: &mut W,
 ) -> io::Result<()>
-    ensures { OnOk result (Appends (W.contents out.old) (W.contents out.new) (members_text servers.now which standings.now)) }
+    ensures { OnOk result (Appends (W.contents out.old) (W.contents out.new) (members_text servers.now which server_uses.now)) }
 {
-    for standing in standings {
-        write_member(servers, is_of(which, standing), standing.server, out)?;
+    for server_use in server_uses {
+        write_member(servers, is_of(which, server_use), server_use.server, out)?;
     }
     Ok(())
 }
 
-fn has_some(which: Which, standings: &[Standing]) -> bool
-    ensures { result ≡ has_some which standings.now }
+fn has_some(which: Which, server_uses: &[ServerUse]) -> bool
+    ensures { result ≡ has_some which server_uses.now }
 {
-    match standings {
+    match server_uses {
         [] => false,
         [first, rest @ ..] => is_of(which, first) || has_some(which, rest),
     }
@@ -144,34 +144,38 @@ fn has_some(which: Which, standings: &[Standing]) -> bool
 fn write_row<W: Write>(
     servers: &Servers,
     which: Which,
-    standings: &[Standing],
+    server_uses: &[ServerUse],
     out: &mut W,
 ) -> io::Result<()>
-    ensures { OnOk result (Appends (W.contents out.old) (W.contents out.new) (row_text servers.now which standings.now)) }
+    ensures { OnOk result (Appends (W.contents out.old) (W.contents out.new) (row_text servers.now which server_uses.now)) }
 {
-    if has_some(which, standings) {
-        write_members(servers, which, standings, out)?;
+    if has_some(which, server_uses) {
+        write_members(servers, which, server_uses, out)?;
         writeln!(out)
     } else {
         writeln!(out, " none")
     }
 }
 
-fn write_reads<W: Write>(servers: &Servers, standings: &[Standing], out: &mut W) -> io::Result<()>
-    ensures { OnOk result (Appends (W.contents out.old) (W.contents out.new) (reads_line servers.now standings.now)) }
+fn write_reads<W: Write>(
+    servers: &Servers,
+    server_uses: &[ServerUse],
+    out: &mut W,
+) -> io::Result<()>
+    ensures { OnOk result (Appends (W.contents out.old) (W.contents out.new) (reads_line servers.now server_uses.now)) }
 {
     write!(out, "{}", text_of(Phrase::Reads))?;
-    write_row(servers, Which::Read, standings, out)?;
+    write_row(servers, Which::Read, server_uses, out)?;
     Ok(())
 }
 
 fn write_cleared<W: Write>(
     servers: &Servers,
     deleting: Deleting,
-    standings: &[Standing],
+    server_uses: &[ServerUse],
     out: &mut W,
 ) -> io::Result<()>
-    ensures { OnOk result (Appends (W.contents out.old) (W.contents out.new) (cleared_line servers.now deleting standings.now)) }
+    ensures { OnOk result (Appends (W.contents out.old) (W.contents out.new) (cleared_line servers.now deleting server_uses.now)) }
 {
     write!(
         out,
@@ -179,24 +183,24 @@ fn write_cleared<W: Write>(
         delete_name(deleting),
         text_of(Phrase::HasCleared)
     )?;
-    write_row(servers, Which::Cleared, standings, out)?;
+    write_row(servers, Which::Cleared, server_uses, out)?;
     Ok(())
 }
 
-fn write_left<W: Write>(servers: &Servers, standings: &[Standing], out: &mut W) -> io::Result<()>
-    ensures { OnOk result (Appends (W.contents out.old) (W.contents out.new) (left_line servers.now standings.now)) }
+fn write_left<W: Write>(servers: &Servers, server_uses: &[ServerUse], out: &mut W) -> io::Result<()>
+    ensures { OnOk result (Appends (W.contents out.old) (W.contents out.new) (left_line servers.now server_uses.now)) }
 {
     write!(out, "{}", text_of(Phrase::Left))?;
-    write_row(servers, Which::Left, standings, out)?;
+    write_row(servers, Which::Left, server_uses, out)?;
     Ok(())
 }
 
 // How many of the servers reads take.
-fn reader_count(standings: &[Standing]) -> usize
-    ensures count { result ≡ reader_count standings.now }
-    ensures few { result ≤ length standings.now }
+fn reader_count(server_uses: &[ServerUse]) -> usize
+    ensures count { result ≡ reader_count server_uses.now }
+    ensures few { result ≤ length server_uses.now }
 {
-    match standings {
+    match server_uses {
         [] => 0,
         [first, rest @ ..] => {
             let others = reader_count(rest);
@@ -216,26 +220,26 @@ fn change_phrase(readers: usize) -> Phrase
     }
 }
 
-fn write_change<W: Write>(standings: &[Standing], out: &mut W) -> io::Result<()>
-    ensures { OnOk result (Appends (W.contents out.old) (W.contents out.new) (change_line standings.now)) }
+fn write_change<W: Write>(server_uses: &[ServerUse], out: &mut W) -> io::Result<()>
+    ensures { OnOk result (Appends (W.contents out.old) (W.contents out.new) (change_line server_uses.now)) }
 {
-    let text = text_of(change_phrase(reader_count(standings)));
+    let text = text_of(change_phrase(reader_count(server_uses)));
     writeln!(out, "{text}")
 }
 
 // What becomes of each server.
-fn write_standings<W: Write>(
+fn write_server_uses<W: Write>(
     servers: &Servers,
     deleting: Deleting,
-    standings: &[Standing],
+    server_uses: &[ServerUse],
     out: &mut W,
 ) -> io::Result<()>
-    ensures { OnOk result (Appends (W.contents out.old) (W.contents out.new) (standing_lines servers.now deleting standings.now)) }
+    ensures { OnOk result (Appends (W.contents out.old) (W.contents out.new) (server_use_lines servers.now deleting server_uses.now)) }
 {
-    write_reads(servers, standings, out)?;
-    write_cleared(servers, deleting, standings, out)?;
-    write_left(servers, standings, out)?;
-    write_change(standings, out)?;
+    write_reads(servers, server_uses, out)?;
+    write_cleared(servers, deleting, server_uses, out)?;
+    write_left(servers, server_uses, out)?;
+    write_change(server_uses, out)?;
     Ok(())
 }
 
@@ -254,6 +258,6 @@ pub fn write_explanation<W: Write>(
 {
     let address = address_of(servers, server).as_bytes();
     write_way(address, op, &explanation.way, out)?;
-    write_standings(servers, deleting, &explanation.standings, out)?;
+    write_server_uses(servers, deleting, &explanation.server_uses, out)?;
     Ok(())
 }

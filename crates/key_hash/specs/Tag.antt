@@ -16,8 +16,8 @@ tag_of key = before_first is_close (after_first is_open key)
 -- there are such a pair and something between
 abbrev pub has_tag : List ℕ → Bool
 has_tag key =
-    let behind = after_first is_open key in
-    nat_lt 0 (position_or_len is_close behind) && nat_lt (position_or_len is_close behind) (length behind)
+    let after = after_first is_open key in
+    nat_lt 0 (position_or_len is_close after) && nat_lt (position_or_len is_close after) (length after)
 
 -- the tag, or the whole key where there is none
 abbrev pub hash_part : List ℕ → List ℕ

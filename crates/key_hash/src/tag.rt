@@ -13,9 +13,9 @@ fn tag(key: &[u8]) -> Option<&[u8]>
     ensures none { IfNone result (has_tag key.now ≡ false) }
 {
     let open = first_byte(b'{', key)?;
-    let behind = &key[open + 1..];
-    match first_byte(b'}', behind) {
-        Some(close) if close > 0 => Some(&behind[..close]),
+    let after = &key[open + 1..];
+    match first_byte(b'}', after) {
+        Some(close) if close > 0 => Some(&after[..close]),
         _ => None,
     }
 }

@@ -1,3 +1,4 @@
 pub mod Either
 pub mod Meanings
 pub mod Found
+pub mod Bytes

@@ -6,7 +6,7 @@ use Rattle.mc_types.specs.Fault.{read_key}
 use Rattle.mc_types.specs.declared.key.KeyFault.{KeyFault}
 use Rattle.script_text.specs.Escapes.{unescaped}
 use Rattle.script_text.specs.Lines.{cut, Parts}
-use Rattle.script_text.specs.Events.{client_said, server_said, turn_said, manner_said}
+use Rattle.script_text.specs.Events.{client_said, server_said, turn_said, count_said}
 use Rattle.line_faults.specs.declared.trouble.Form.{Form}
 use Rattle.line_faults.specs.declared.trouble.Form.TheVariants as forms
 use Rattle.line_faults.specs.declared.trouble.Number.{Number}
@@ -21,13 +21,15 @@ pub data Trouble : Type 0 where
   NoEvent NoManner NoLoss : List ℕ → Trouble
   Wants : Form → Trouble
   NoNumber : Number → List ℕ → Trouble
-  NoEscape NoConfiguration : Trouble
+  WantsCount NoEscape NoConfiguration : Trouble
   NoKey : KeyFault → Trouble
 
 -- the words of the events, and of a reload
 abbrev pub form_of : List ℕ → Option Form
 form_of word =
     if bytes_eq word (codes ">") then Some forms.Piece
+    else if bytes_eq word (codes "+") then Some forms.Add
+    else if bytes_eq word (codes "result") then Some forms.Result
     else if bytes_eq word (codes "hold") then Some forms.Hold
     else if bytes_eq word (codes "fail") then Some forms.Fail
     else if bytes_eq word (codes "lose") then Some forms.Lose
@@ -57,6 +59,7 @@ abbrev pub number_said : Number → List ℕ → Option ℕ
 number_said numbers.Client word = client_said word
 number_said numbers.Server word = server_said word
 number_said numbers.Turn word = turn_said word
+number_said numbers.Count word = count_said word
 number_said numbers.Moment word = number_below (2 ^ 63) word
 
 abbrev pub number_trouble : Number → List ℕ → Option Trouble
@@ -76,12 +79,21 @@ spelled_key_trouble (Some bytes) = key_bytes_trouble (read_key bytes)
 abbrev pub key_trouble : List ℕ → Option Trouble
 key_trouble text = spelled_key_trouble (unescaped text)
 
-abbrev pub manner_trouble : List ℕ → Option Trouble
-manner_trouble word = unless (manner_said word) (NoManner word)
+-- these words are the manner of a failure: of one word, or `cut B`
+abbrev pub cut_trouble : List ℕ → Option Parts → Option Trouble
+cut_trouble text None = if bytes_eq text (codes "cut") then Some WantsCount else Some (NoManner text)
+cut_trouble text (Some parts) = if bytes_eq parts.word (codes "cut") then number_trouble numbers.Count parts.rest else Some (NoManner text)
 
--- after `> `: C TEXT
-abbrev pub piece_trouble : List ℕ → Option Trouble
-piece_trouble text = in_parts forms.Piece (λ p. or_else (number_trouble numbers.Client p.word) (text_trouble p.rest)) (cut text)
+abbrev pub manner_trouble : List ℕ → Option Trouble
+manner_trouble text =
+    if bytes_eq text (codes "before") then None
+    else if bytes_eq text (codes "after") then None
+    else if bytes_eq text (codes "junk") then None
+    else cut_trouble text (cut text)
+
+-- after `> ` and `+ `: C TEXT
+abbrev pub sent_trouble : Form → List ℕ → Option Trouble
+sent_trouble form text = in_parts form (λ p. or_else (number_trouble numbers.Client p.word) (text_trouble p.rest)) (cut text)
 
 -- after `hold `: S KEY TEXT
 abbrev pub held_trouble : List ℕ → Option Trouble
@@ -90,7 +102,7 @@ held_trouble text = in_parts forms.Hold (λ p. or_else (key_trouble p.word) (tex
 abbrev pub hold_trouble : List ℕ → Option Trouble
 hold_trouble text = in_parts forms.Hold (λ p. or_else (number_trouble numbers.Server p.word) (held_trouble p.rest)) (cut text)
 
--- after `fail `: K before, K after
+-- after `fail `: K before, K after, K cut B, K junk
 abbrev pub fail_trouble : List ℕ → Option Trouble
 fail_trouble text = in_parts forms.Fail (λ p. or_else (number_trouble numbers.Turn p.word) (manner_trouble p.rest)) (cut text)
 
@@ -114,7 +126,9 @@ at_trouble text = in_parts forms.At (λ p. or_else (number_trouble numbers.Turn 
 
 -- after the word of a line; what `reload JSON` loads is no event, so its trouble counts only where the JSON is no configuration
 abbrev pub form_trouble : Form → List ℕ → Option Trouble
-form_trouble forms.Piece text = piece_trouble text
+form_trouble forms.Piece text = sent_trouble forms.Piece text
+form_trouble forms.Add text = sent_trouble forms.Add text
+form_trouble forms.Result text = number_trouble numbers.Server text
 form_trouble forms.Hold text = hold_trouble text
 form_trouble forms.Fail text = fail_trouble text
 form_trouble forms.Lose text = item_loss_trouble text
@@ -145,6 +159,7 @@ abbrev pub trouble_of : told.Trouble → Trouble
 trouble_of (t.NoEvent word) = NoEvent word.now
 trouble_of (t.Wants form) = Wants form
 trouble_of (t.NoNumber kind word) = NoNumber kind word.now
+trouble_of t.WantsCount = WantsCount
 trouble_of t.NoEscape = NoEscape
 trouble_of (t.NoKey fault) = NoKey fault
 trouble_of (t.NoManner word) = NoManner word.now

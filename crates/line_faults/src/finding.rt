@@ -1,15 +1,16 @@
 //! The first bad line of a script, and what is wrong with it.
 
-ghost use Rattle.std.specs.Prelude.{◌≡◌, ◌+◌, ◌<◌, ◌^◌, IfOk, length, map};
-ghost use Rattle.script_text.specs.Behind.{lines_behind};
+ghost use Rattle.std.specs.Prelude.{◌≡◌, ◌+◌, ◌<◌, ◌^◌, IfOk, IfSome, length, map, option_map};
+ghost use Rattle.script_text.specs.LinesAfter.{lines_after};
 ghost use Rattle.fleet_run.specs.Scripted.{scripted_of};
 ghost use Rattle.script_text.specs.Script.{either, bad_event_line};
 ghost use Rattle.script_text.specs.Lines.{lines_of};
 ghost use Rattle.line_faults.specs.Finding.{IsWrongLine, IsWrong, FindsIn};
 ghost use Rattle.line_faults.specs.Lines.{line_numbered};
+ghost use Rattle.line_faults.specs.Misfits.{bytes_before_bad};
 
 use crate::lines::line_numbered;
-use crate::misfit::{Misfit, misfit_of};
+use crate::misfit::{Misfit, bytes_before_bad, misfit_of};
 use crate::trouble::{Halt, Trouble, check_line};
 use fleet_run::{Script, first_bad_event};
 use route_json::Config;
@@ -40,23 +41,36 @@ pub struct BadLine<'a> {
     pub wrong: Wrong<'a>,
 }
 
-// What is wrong with a line of events over so many servers.
-fn wrong_line(alloc: Global, servers: u32, line: &[u8]) -> Result<Wrong<'_>, AllocError>
-    ensures { IfOk result (IsWrongLine servers line.now) }
+// What is wrong with a line of events over so many servers, with so many bytes in the pieces before it.
+fn wrong_line(
+    alloc: Global,
+    servers: u32,
+    before: usize,
+    line: &[u8],
+) -> Result<Wrong<'_>, AllocError>
+    ensures { IfOk result (IsWrongLine servers before line.now) }
 {
     match check_line(alloc, line) {
         Err(Halt::Trouble(trouble)) => Ok(Wrong::Unread(trouble)),
         Err(Halt::NoMemory) => Err(AllocError),
         Ok(()) => match read_event(alloc, line) {
-            Ok(event) => Ok(Wrong::Unfit(misfit_of(servers, &event))),
+            Ok(event) => Ok(Wrong::Unfit(misfit_of(servers, before, &event))),
             Err(_) => Err(AllocError),
         },
     }
 }
 
-// The number of the first bad line of what was read, over so many servers.
-fn bad_number(servers: u32, reading: Reading) -> Option<usize>
-    ensures { result ≡ either (bad_event_line servers (map scripted_of reading.events.items) reading.lines.items) reading.unreadable }
+// The place of a bad line: its number, and how many bytes the pieces have before the first event that can't be.
+#[derive(Clone, Copy)]
+struct Place {
+    number: usize,
+    before: usize,
+}
+
+// The first bad line of what was read, over so many servers.
+fn bad_place(servers: u32, reading: Reading) -> Option<Place>
+    ensures number { option_map (λ place. place.number) result ≡ either (bad_event_line servers (map scripted_of reading.events.items) reading.lines.items) reading.unreadable }
+    ensures before { IfSome result (λ place. place.before ≡ bytes_before_bad servers (map scripted_of reading.events.items)) }
 {
     let Reading {
         events,
@@ -65,29 +79,35 @@ fn bad_number(servers: u32, reading: Reading) -> Option<usize>
         unreadable,
     } = reading;
     let script = Script { events };
-    match first_bad_event(servers, &script) {
+    let before = bytes_before_bad(servers, &script);
+    let number = match first_bad_event(servers, &script) {
         Some(event) => lines.get(event).copied().or(unreadable),
         None => unreadable,
+    };
+    match number {
+        Some(number) => Some(Place { number, before }),
+        None => None,
     }
 }
 
 // The first bad line over a configuration, after so many other lines, and what is wrong with it.
-fn bad_line_behind<'a>(
+fn bad_line_after<'a>(
     alloc: Global,
     config: Config,
     above: usize,
     further: Option<&'a str>,
 ) -> Result<Option<BadLine<'a>>, AllocError>
-    requires { above + length (lines_behind further) < 2 ^ 64 }
-    ensures { IfOk result (IsWrong (above + 1) (lines_behind further.entry) config) }
+    requires { above + length (lines_after further) < 2 ^ 64 }
+    ensures { IfOk result (IsWrong (above + 1) (lines_after further.entry) config) }
 {
     let reading = read_further(alloc, config.servers(), above, further)?;
     let servers = servers_known(config.servers(), &reading.reloads).len() as u32;
-    let Some(number) = bad_number(servers, reading) else {
+    let Some(place) = bad_place(servers, reading) else {
         return Ok(None);
     };
+    let number = place.number;
     let line = line_numbered(above, further, number);
-    let wrong = wrong_line(alloc, servers, line.as_bytes())?;
+    let wrong = wrong_line(alloc, servers, place.before, line.as_bytes())?;
     Ok(Some(BadLine { number, wrong }))
 }
 
@@ -100,7 +120,7 @@ pub fn bad_line_in_script(alloc: Global, text: &str) -> Result<Option<BadLine<'_
 {
     let front = front_of(text);
     match read_first(alloc, front.line) {
-        Ok(config) => bad_line_behind(alloc, config, 1, front.rest),
+        Ok(config) => bad_line_after(alloc, config, 1, front.rest),
         Err(ScriptFault::BadLine(number)) => Ok(Some(BadLine {
             number,
             wrong: Wrong::Pool,
@@ -120,5 +140,5 @@ pub fn bad_line_in_events<'a>(
 ) -> Result<Option<BadLine<'a>>, AllocError>
     ensures { IfOk result (IsWrong 1 (lines_of text.now) config) }
 {
-    bad_line_behind(alloc, config, 0, Some(text))
+    bad_line_after(alloc, config, 0, Some(text))
 }

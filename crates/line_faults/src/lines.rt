@@ -1,15 +1,15 @@
 //! The line of a text that has a number.
 
 ghost use Rattle.std.specs.Prelude.{◌≡◌, ◌+◌, ◌<◌, ◌^◌, length};
-ghost use Rattle.script_text.specs.Behind.{lines_behind};
+ghost use Rattle.script_text.specs.LinesAfter.{lines_after};
 ghost use Rattle.line_faults.specs.Lines.{line_numbered};
 
 use script_text::front::front_of;
 
 /// The line of this number among lines after so many others; an empty one where there is none.
 pub fn line_numbered(above: usize, further: Option<&str>, number: usize) -> &str
-    requires { above + length (lines_behind further) < 2 ^ 64 }
-    ensures { result.now ≡ line_numbered (above + 1) (lines_behind further.entry) number }
+    requires { above + length (lines_after further) < 2 ^ 64 }
+    ensures { result.now ≡ line_numbered (above + 1) (lines_after further.entry) number }
 {
     let mut rest = further;
     let mut at = above;

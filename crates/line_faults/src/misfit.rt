@@ -1,12 +1,14 @@
 //! Why an event that a line says can't be.
 
-ghost use Rattle.std.specs.Prelude.{◌≡◌};
+ghost use Rattle.std.specs.Prelude.{◌≡◌, ◌≤◌, map, sum_by};
 ghost use Rattle.memory_fleet.specs.Fleets.{server_of};
 ghost use Rattle.fleet_run.specs.Scripted.{scripted_of};
-ghost use Rattle.line_faults.specs.Misfits.{misfit_of};
+ghost use Rattle.fleet_run.specs.Bad.{len_of};
+ghost use Rattle.line_faults.specs.Misfits.{misfit_of, bytes_before_bad};
 
-use fleet_run::{Event, Loss};
-use mc_types::DATA_LIMIT;
+use fleet_run::bad::PIECE_LIMIT;
+use fleet_run::{Event, Loss, Script, first_bad_event};
+use mc_types::{DATA_LIMIT, SCRIPT_CLIENTS};
 
 /// Why an event can't be, of those for which a script's run refuses it.
 #[derive(Clone, Copy)]
@@ -21,6 +23,8 @@ pub enum Misfit {
     BeforeZero,
     /// With this piece all pieces together exceed 16,777,216 bytes.
     TooMuch,
+    /// With this piece the client added more than 524,288 bytes since the last `>`.
+    AddsTooMuch,
     /// The data held are longer than 1,048,576 bytes.
     TooLong,
     /// Data are held before the first piece and the first loss alone.
@@ -36,13 +40,18 @@ fn server_of(loss: &Loss) -> u32
     }
 }
 
-/// Why an event can't be over so many servers, of one that can't.
-pub fn misfit_of(servers: u32, event: &Event) -> Misfit
-    ensures { result ≡ misfit_of servers (scripted_of event.now) }
+/// Why an event can't be over so many servers, with so many bytes in the pieces before it, of one that can't.
+pub fn misfit_of(servers: u32, before: usize, event: &Event) -> Misfit
+    ensures { result ≡ misfit_of servers before (scripted_of event.now) }
 {
     match event {
-        Event::Piece(client, _) if *client > 63 => Misfit::NoClient(*client),
+        Event::Piece(client, _) | Event::Add(client, _) if *client as usize >= SCRIPT_CLIENTS => {
+            Misfit::NoClient(*client)
+        }
         Event::Piece(_, _) => Misfit::TooMuch,
+        Event::Add(_, bytes) if before.saturating_add(bytes.len()) > PIECE_LIMIT => Misfit::TooMuch,
+        Event::Add(_, _) => Misfit::AddsTooMuch,
+        Event::Result(server) => Misfit::NoServer(server.number()),
         Event::Hold(server, _, _) if server.number() >= servers => {
             Misfit::NoServer(server.number())
         }
@@ -53,5 +62,37 @@ pub fn misfit_of(servers: u32, event: &Event) -> Misfit
         Event::At(_, loss) => Misfit::NoServer(server_of(loss)),
         Event::Now(loss) => Misfit::NoServer(server_of(loss)),
         Event::Moment(_) => Misfit::BeforeZero,
+    }
+}
+
+// How many bytes of a piece the event brings.
+fn piece_len(event: &Event) -> usize
+    ensures { result ≡ len_of (scripted_of event.now) }
+{
+    match event {
+        Event::Piece(_, bytes) | Event::Add(_, bytes) => bytes.len(),
+        _ => 0,
+    }
+}
+
+// How many bytes the pieces of these events have, which are few.
+fn bytes_of(events: &[Event]) -> usize
+    requires { sum_by len_of (map scripted_of events.now) ≤ PIECE_LIMIT }
+    ensures { result ≡ sum_by len_of (map scripted_of events.now) }
+{
+    let mut bytes = 0;
+    for event in events {
+        bytes += piece_len(event);
+    }
+    bytes
+}
+
+/// How many bytes the pieces have before the first event that can't be over so many servers; 0 where each can be. It takes no memory.
+pub fn bytes_before_bad(servers: u32, script: &Script) -> usize
+    ensures { result ≡ bytes_before_bad servers (map scripted_of script.now.events.items) }
+{
+    match first_bad_event(servers, script) {
+        Some(at) => bytes_of(&script.events[..at]),
+        None => 0,
     }
 }

@@ -2,10 +2,10 @@
 
 ghost use Rattle.std.specs.Prelude.{◌≡◌};
 ghost use Rattle.mc_types.specs.Fault.{read_key};
-ghost use Rattle.line_faults.specs.Troubles.{number_said, number_trouble, text_trouble, key_bytes_trouble, key_trouble, piece_trouble, hold_trouble, manner_trouble, fail_trouble, item_loss_trouble, loss_trouble, at_trouble, form_trouble, trouble_in, Finds};
+ghost use Rattle.script_text.specs.Lines.{cut};
+ghost use Rattle.line_faults.specs.Troubles.{number_said, number_trouble, text_trouble, key_bytes_trouble, key_trouble, sent_trouble, hold_trouble, cut_trouble, manner_trouble, fail_trouble, item_loss_trouble, loss_trouble, at_trouble, form_trouble, trouble_in, Finds};
 
-use fleet_run::Manner;
-use mc_types::{Key, KeyFault};
+use mc_types::{Key, KeyFault, SCRIPT_CLIENTS};
 use script_text::escapes::unescape;
 use script_text::fault::LineFault;
 use script_text::words::{cut, number_under};
@@ -15,6 +15,8 @@ use std::alloc::Global;
 #[derive(Clone, Copy)]
 pub enum Form {
     Piece,
+    Add,
+    Result,
     Hold,
     Fail,
     Lose,
@@ -33,6 +35,8 @@ pub enum Number {
     Server,
     /// A call from here on, 1 to 4294967295.
     Turn,
+    /// A count of bytes, 0 to 4294967295.
+    Count,
     /// A time in seconds, 0 to 9223372036854775807.
     Moment,
 }
@@ -50,8 +54,10 @@ pub enum Trouble<'a> {
     NoEscape,
     /// What is to be a key is none.
     NoKey(KeyFault),
-    /// This is neither `before` nor `after`.
+    /// This is neither `before`, `after`, `cut B` nor `junk`.
     NoManner(&'a [u8]),
+    /// After `cut` the count of bytes is missing.
+    WantsCount,
     /// This is neither `lose` nor `restart`.
     NoLoss(&'a [u8]),
     /// The JSON after `reload` is no configuration.
@@ -76,6 +82,10 @@ impl Form {
     {
         if word == b">".as_slice() {
             Some(Form::Piece)
+        } else if word == b"+".as_slice() {
+            Some(Form::Add)
+        } else if word == b"result".as_slice() {
+            Some(Form::Result)
         } else if word == b"hold".as_slice() {
             Some(Form::Hold)
         } else if word == b"fail".as_slice() {
@@ -101,12 +111,13 @@ fn read_number(kind: Number, word: &[u8]) -> Option<u64>
     ensures { result ≡ number_said kind word.now }
 {
     match kind {
-        Number::Client => number_under(64, word),
+        Number::Client => number_under(SCRIPT_CLIENTS as u64, word),
         Number::Server => number_under(1 << 32, word),
         Number::Turn => match number_under(1 << 32, word) {
             Some(0) | None => None,
             Some(turn) => Some(turn),
         },
+        Number::Count => number_under(1 << 32, word),
         Number::Moment => number_under(1 << 63, word),
     }
 }
@@ -149,21 +160,33 @@ fn check_key(alloc: Global, text: &[u8]) -> Result<(), Halt<'_>>
     }
 }
 
-fn check_manner(word: &[u8]) -> Result<(), Halt<'_>>
-    ensures { Finds (manner_trouble word.now) result }
+fn check_cut(text: &[u8]) -> Result<(), Halt<'_>>
+    ensures { Finds (cut_trouble text.now (cut text.now)) result }
 {
-    if word == b"before".as_slice() || word == b"after".as_slice() {
-        Ok(())
-    } else {
-        Err(Halt::Trouble(Trouble::NoManner(word)))
+    match cut(text) {
+        Some(parts) if parts.word == b"cut".as_slice() => {
+            check_number(Number::Count, parts.rest)
+        }
+        None if text == b"cut".as_slice() => Err(Halt::Trouble(Trouble::WantsCount)),
+        _ => Err(Halt::Trouble(Trouble::NoManner(text))),
     }
 }
 
-fn check_piece(alloc: Global, text: &[u8]) -> Result<(), Halt<'_>>
-    ensures { Finds (piece_trouble text.now) result }
+fn check_manner(text: &[u8]) -> Result<(), Halt<'_>>
+    ensures { Finds (manner_trouble text.now) result }
+{
+    if text == b"before".as_slice() || text == b"after".as_slice() || text == b"junk".as_slice() {
+        Ok(())
+    } else {
+        check_cut(text)
+    }
+}
+
+fn check_sent(alloc: Global, form: Form, text: &[u8]) -> Result<(), Halt<'_>>
+    ensures { Finds (sent_trouble form text.now) result }
 {
     let Some(parts) = cut(text) else {
-        return Err(Halt::Trouble(Trouble::Wants(Form::Piece)));
+        return Err(Halt::Trouble(Trouble::Wants(form)));
     };
     check_number(Number::Client, parts.word)?;
     check_text(alloc, parts.rest)
@@ -230,7 +253,8 @@ fn check_form(alloc: Global, form: Form, text: &[u8]) -> Result<(), Halt<'_>>
     ensures { Finds (form_trouble form text.now) result }
 {
     match form {
-        Form::Piece => check_piece(alloc, text),
+        Form::Piece | Form::Add => check_sent(alloc, form, text),
+        Form::Result => check_number(Number::Server, text),
         Form::Hold => check_hold(alloc, text),
         Form::Fail => check_fail(text),
         Form::Lose => check_item_loss(alloc, text),

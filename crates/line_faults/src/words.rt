@@ -17,8 +17,10 @@ fn form_words(form: Form) -> &'static str
 {
     match form {
         Form::Piece => "wanted: > C TEXT",
+        Form::Add => "wanted: + C TEXT",
+        Form::Result => "wanted: result S",
         Form::Hold => "wanted: hold S KEY TEXT",
-        Form::Fail => "wanted: fail K before, or fail K after",
+        Form::Fail => "wanted: fail K before, after, cut B or junk",
         Form::Lose => "wanted: lose S KEY",
         Form::Restart => "wanted: restart S",
         Form::At => "wanted: at K lose S KEY, or at K restart S",
@@ -35,6 +37,7 @@ fn number_words(number: Number) -> &'static str
         Number::Client => "no client, 0 to 63: ",
         Number::Server => "no number of a server: ",
         Number::Turn => "no number of a call, 1 to 4294967295: ",
+        Number::Count => "no count of bytes, 0 to 4294967295: ",
         Number::Moment => "no time, 0 to 9223372036854775807: ",
     }
 }
@@ -64,7 +67,14 @@ impl Display for Trouble<'_> {
                 "a backslash that begins none of \\r, \\n, \\\\ and \\xHH",
             ),
             Trouble::NoKey(fault) => f.write_str(key_words(*fault)),
-            Trouble::NoManner(word) => write!(f, "neither before nor after: {}", Escaped(word)),
+            Trouble::NoManner(word) => {
+                write!(
+                    f,
+                    "neither before, after, cut B nor junk: {}",
+                    Escaped(word)
+                )
+            }
+            Trouble::WantsCount => f.write_str("wanted: fail K cut B"),
             Trouble::NoLoss(word) => write!(f, "neither lose nor restart: {}", Escaped(word)),
             Trouble::NoConfiguration => f.write_str(
                 "reload wants a configuration: mcgate check says what is wrong with it",
@@ -84,6 +94,9 @@ impl Display for Misfit {
             Misfit::TurnZero => f.write_str("calls are counted from 1"),
             Misfit::BeforeZero => f.write_str("a time before 0"),
             Misfit::TooMuch => f.write_str("all pieces together exceed 16777216 bytes"),
+            Misfit::AddsTooMuch => {
+                f.write_str("a client added more than 524288 bytes since the last >")
+            }
             Misfit::TooLong => f.write_str("more than 1048576 bytes are held"),
             Misfit::TooLate => f.write_str("hold after a piece, a lose or a restart"),
         }

@@ -14,7 +14,7 @@ use Rattle.text_answers.specs.declared.reader.AnswerRead.{AnswerRead}
 use Rattle.text_answers.specs.declared.reader.AnswerRead.TheVariants as reads
 use Rattle.meta_asks.specs.Reading.{ReadsInMeta}
 use Rattle.route_job.specs.Rest.{ask_under}
-use Rattle.proxy_core.specs.declared.command.Command.{Command}
+use Rattle.commands_under_way.specs.declared.command.Command.{Command}
 use Rattle.proxy_core.specs.declared.proxy.Core.{Core}
 use Rattle.proxy_core.specs.CoreState.{has_call_out}
 use Rattle.proxy_core.specs.Settles.{FitsCall, asked, asked_by}

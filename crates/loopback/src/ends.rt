@@ -134,6 +134,8 @@ impl Ends {
     ) -> io::Result<Option<Output>> {
         match event {
             Event::Piece(client, bytes) => return self.serve(rt, *client, bytes.as_slice()),
+            // A script with these isn't run here.
+            Event::Add(_, _) | Event::Result(_) => {}
             Event::Hold(server, key, data) => self.servers.hold(*server, key, data.as_slice())?,
             Event::Fail(turn, manner) => self.servers.fail(*turn, *manner)?,
             Event::At(turn, loss) => self.servers.lose_at(*turn, *loss)?,

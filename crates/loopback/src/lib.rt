@@ -8,6 +8,7 @@ mod calls;
 mod clients;
 mod ends;
 mod entries;
+mod left_out;
 mod printing;
 mod running;
 mod servers;

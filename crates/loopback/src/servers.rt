@@ -1,11 +1,13 @@
 //! The servers' ends: their caches, the script's clock, and what becomes of each call.
 
 use crate::calls::Calls;
+use bytes::BytesMut;
 use cache_connection::Cache;
 use mc_types::{DATA_LIMIT, Key, ServerId};
+use memory_fleet::Loss;
 use memory_fleet::losses::lose_all;
-use memory_fleet::{Loss, Manner};
 use mio::net::{TcpListener, TcpStream};
+use script_servers::Manner;
 use std::alloc::{AllocError, Global};
 use std::io;
 use std::net::{Net, SocketAddr};
@@ -39,6 +41,28 @@ struct ServerEnd {
     failing: Option<Manner>,
     // The call has failed whose answer is to be sent: it comes late, before that to the next ask over this connection.
     is_late: bool,
+    // The connection is closed as soon as what is to be sent was sent.
+    is_last: bool,
+}
+
+// What comes in an answer's place.
+const JUNK: &[u8] = b"JUNK\r\n";
+
+// Of the answer only the front comes, or junk in its place, where the call is to fail so. Whether it does: then nothing more comes over
+// the connection.
+fn break_answer(answer: &mut BytesMut, failing: Option<Manner>) -> Result<bool, AllocError> {
+    match failing {
+        Some(Manner::Cut(count)) if (count as usize) < answer.len() => {
+            answer.truncate(count as usize);
+            Ok(true)
+        }
+        Some(Manner::Junk) => {
+            answer.clear();
+            answer.extend_from_slice(JUNK)?;
+            Ok(true)
+        }
+        _ => Ok(false),
+    }
 }
 
 impl ServerEnd {
@@ -49,6 +73,7 @@ impl ServerEnd {
             is_asked: false,
             failing: None,
             is_late: false,
+            is_last: false,
         })
     }
 
@@ -58,6 +83,7 @@ impl ServerEnd {
         self.is_asked = false;
         self.failing = None;
         self.is_late = false;
+        self.is_last = false;
     }
 
     // A connection that waits is taken where there is none.
@@ -108,8 +134,9 @@ impl ServerEnd {
             return Ok(());
         };
         link.serve(cache, moment)?;
-        if !link.conn.unsent.is_empty() {
+        if self.is_asked && !link.conn.unsent.is_empty() {
             self.is_asked = false;
+            self.is_last = break_answer(&mut link.conn.unsent, self.failing)?;
         }
         Ok(())
     }
@@ -131,6 +158,17 @@ impl ServerEnd {
             }
         }
         before.saturating_sub(link.conn.unsent.len())
+    }
+
+    // The connection is closed where nothing more is to come over it.
+    fn close_last(&mut self) {
+        let is_sent = match &self.link {
+            Some(link) => link.conn.unsent.is_empty(),
+            None => true,
+        };
+        if self.is_last && is_sent {
+            self.close();
+        }
     }
 
     // Whether the call under way fails now: it isn't applied, or it was.
@@ -283,6 +321,7 @@ impl Servers {
         let has_failed = self.take_failure(at);
         let sent = self.send(at);
         self.note_moved(sent);
+        self.close_last(at);
         Ok(has_failed)
     }
 
@@ -311,6 +350,12 @@ impl Servers {
         match self.ends.get_mut(at) {
             Some(end) => end.send(),
             None => 0,
+        }
+    }
+
+    fn close_last(&mut self, at: usize) {
+        if let Some(end) = self.ends.get_mut(at) {
+            end.close_last();
         }
     }
 

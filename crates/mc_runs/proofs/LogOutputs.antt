@@ -6,7 +6,7 @@ use Rattle.mc_types.specs.declared.answer.Answer.{Answer}
 use Rattle.mc_types.specs.Items.{Item}
 use Rattle.mc_runs.specs.Run.{Words}
 use Rattle.mc_runs.specs.Protocol.{Protocol, IsReader, IsStuck}
-use Rattle.mc_runs.specs.Log.{Piece, Fail, Hold, At, Now, Moment, Part, Point, Entry, Takes, Starts, Happens, Ends, Passes, Gives, after_reply, fed_point, point_of, output_of, given_of, IsNext, IsSettled, Follows}
+use Rattle.mc_runs.specs.Log.{Piece, Add, Result, Fail, Hold, At, Now, Moment, Part, Point, Entry, Takes, Starts, Happens, Ends, Passes, Gives, after_reply, fed_point, point_of, output_of, given_of, IsNext, IsSettled, Follows}
 use Rattle.mc_runs.specs.Stream.{ended_by, messages_of, Done, replies_after, done_after, replies_of, done_of, written_from, written, written_all, NoneEnds, LastEnds, IsWhole, AreWhole}
 
 no_ask : (asks : List Ask) (i : ℕ) (ask : Ask) → slice_get asks i ≡ Some ask → asks ≡ [] → ⊥
@@ -140,6 +140,12 @@ module _ (P : Protocol) (reader : IsReader P) where
           | true ↦ fed_written (point_of log c) (replies_of log c) (done_of log c) (output_of log c) bytes (writes log f.1 c)
           | false ↦ writes log f.1 c
         ]
+    writes (Takes (Add client bytes) ∷ log) f c =
+        elim (nat_eq client c) as (λ b. Written (cond b (fed_point (point_of log c) bytes) (point_of log c)) (replies_of log c) (done_of log c) (output_of log c)) [
+          | true ↦ fed_written (point_of log c) (replies_of log c) (done_of log c) (output_of log c) bytes (writes log f.1 c)
+          | false ↦ writes log f.1 c
+        ]
+    writes (Takes (Result server) ∷ log) f c = writes log f.1 c
     writes (Takes (Fail turn manner) ∷ log) f c = writes log f.1 c
     writes (Takes (Hold server key content) ∷ log) f c = writes log f.1 c
     writes (Takes (At turn loss) ∷ log) f c = writes log f.1 c

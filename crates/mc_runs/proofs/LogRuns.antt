@@ -5,7 +5,7 @@ use Rattle.mc_types.specs.declared.answer.Answer.{Answer}
 use Rattle.mc_types.specs.Items.{Item}
 use Rattle.mc_runs.specs.Run.{Words, Begins, Calls, Replies, Loses, Restarts, Run}
 use Rattle.mc_runs.specs.Protocol.{Protocol, IsReader, Goes, Splits}
-use Rattle.mc_runs.specs.Log.{Piece, Fail, Hold, At, Now, Moment, Part, Point, Entry, Takes, Starts, Happens, Ends, Passes, Gives, after_reply, fed_point, run_of, point_of, Follows, IsSettled}
+use Rattle.mc_runs.specs.Log.{Piece, Add, Result, Fail, Hold, At, Now, Moment, Part, Point, Entry, Takes, Starts, Happens, Ends, Passes, Gives, after_reply, fed_point, run_of, point_of, Follows, IsSettled}
 use Rattle.mc_runs.specs.Stream.{stream_of, ended_by, messages_of}
 
 module _ (P : Protocol) (words : Words) (opening : ℕ → List ℕ → Option Item) where
@@ -50,6 +50,8 @@ module _ (P : Protocol) where
     pub streams : (log : List (Entry P)) → Follows words opening log → (c : ℕ) → Goes P (P.fed P.start (stream_of log c)) (messages_of log c) (point_of log c).place
     streams [] f c = reader.fed_nothing
     streams (Takes (Piece client bytes) ∷ log) f c = fed_on (nat_eq client c) (stream_of log c) bytes (messages_of log c) (point_of log c) (streams log f.1 c)
+    streams (Takes (Add client bytes) ∷ log) f c = fed_on (nat_eq client c) (stream_of log c) bytes (messages_of log c) (point_of log c) (streams log f.1 c)
+    streams (Takes (Result server) ∷ log) f c = same_stream (stream_of log c) (messages_of log c) (point_of log c).place (streams log f.1 c)
     streams (Takes (Fail turn manner) ∷ log) f c = same_stream (stream_of log c) (messages_of log c) (point_of log c).place (streams log f.1 c)
     streams (Takes (Hold server key content) ∷ log) f c = same_stream (stream_of log c) (messages_of log c) (point_of log c).place (streams log f.1 c)
     streams (Takes (At turn loss) ∷ log) f c = same_stream (stream_of log c) (messages_of log c) (point_of log c).place (streams log f.1 c)

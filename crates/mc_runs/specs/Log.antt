@@ -6,9 +6,10 @@ use Rattle.mc_types.specs.Items.{Item}
 use Rattle.mc_runs.specs.Run.{Words, End, Read, Unread, Never, Event, Begins, Calls, Replies, Loses, Restarts, under_way, MayCome}
 use Rattle.mc_runs.specs.Protocol.{Protocol, IsStuck}
 
--- how a call fails: not applied, or applied with its answer lost
+-- how a call fails: not applied; applied, with its answer lost; with so many bytes of its answer; with bytes that are no answer
 pub data Manner : Type 0 where
-  Before After : Manner
+  Before After Junk : Manner
+  Cut : (count : ℕ) → Manner
 
 -- what a server may lose: one key, or all
 pub data Loss : Type 0 where
@@ -17,8 +18,12 @@ pub data Loss : Type 0 where
 
 -- an event of a script; a turn counts the calls from there on, from 1
 pub data Scripted : Type 0 where
-  -- these bytes come from a client
+  -- these bytes come from a client, and all calls have their results
   Piece : (client : ℕ) (bytes : List ℕ) → Scripted
+  -- these bytes come from a client, and calls stay out; in this log none is ever out between two events, so it is a piece
+  Add : (client : ℕ) (bytes : List ℕ) → Scripted
+  -- the first call that is out at a server has its result; in this log there is none
+  Result : (server : ℕ) → Scripted
   -- the call of this turn fails
   Fail : (turn : ℕ) (manner : Manner) → Scripted
   -- a server holds this before the run
@@ -48,7 +53,7 @@ commands_in (Replies number key reply from ∷ past) = commands_in past
 commands_in (Loses server key ∷ past) = commands_in past
 commands_in (Restarts server ∷ past) = commands_in past
 
--- a call ends as it was named, and is answered where it wasn't
+-- a call ends as it was named, and is answered where it wasn't; in this log no call is named to be cut or to be junk
 abbrev pub EndsAs : Option Manner → End → Type 0
 EndsAs None (Read stamp answer spaces) = Unit {0}
 EndsAs (Some Before) Never = Unit {0}
@@ -56,11 +61,15 @@ EndsAs (Some After) (Unread stamp answer spaces) = Unit {0}
 EndsAs None _ = ⊥
 EndsAs (Some Before) _ = ⊥
 EndsAs (Some After) _ = ⊥
+EndsAs (Some Junk) end = ⊥
+EndsAs (Some (Cut count)) end = ⊥
 
 -- how the call of this turn is to fail after an event of the script, at which so many calls were made
 abbrev pub named_by : Scripted → ℕ → ℕ → Option Manner → Option Manner
 named_by (Fail turn manner) made t before = if nat_eq (made + turn) t then Some manner else before
 named_by (Piece client bytes) made t before = before
+named_by (Add client bytes) made t before = before
+named_by (Result server) made t before = before
 named_by (Hold server key content) made t before = before
 named_by (At turn loss) made t before = before
 named_by (Now loss) made t before = before
@@ -114,6 +123,8 @@ module _ {P : Protocol} where
   -- where a client is after an event of the script
   abbrev pub after_scripted : Scripted → ℕ → Point P → Point P
   after_scripted (Piece client bytes) c point = if nat_eq client c then fed_point point bytes else point
+  after_scripted (Add client bytes) c point = if nat_eq client c then fed_point point bytes else point
+  after_scripted (Result server) c point = point
   after_scripted (Fail turn manner) c point = point
   after_scripted (Hold server key content) c point = point
   after_scripted (At turn loss) c point = point

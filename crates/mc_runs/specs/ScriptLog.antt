@@ -6,14 +6,10 @@ use Rattle.mc_types.specs.declared.call.Origin.{Origin}
 use Rattle.mc_types.specs.Items.{Item}
 use Rattle.mc_runs.specs.Run.{Words, Call, End, Read, Unread, Never}
 use Rattle.mc_runs.specs.Sharing.{Event, Calls, Loses, Restarts, calls_so_far, commands_in, IsApart}
+pub use Rattle.mc_runs.specs.Log.{Manner, Before, After, Junk, Cut}
 use Rattle.mc_runs.specs.Log.{Loss, Lose, Restart, Part}
 use Rattle.mc_runs.specs.Protocol.{Protocol}
 use Rattle.mc_runs.specs.Overlap.{Slot, Owner, Ticket, ticket_in, Entry, Feeds, Starts, Sends, Happens, Ends, Shows, Passes, Gives, Drops, Frees, Resets, run_of, front_of, queue_of, output_of, given_of, owner_of, out_of, IsNext, IsFirst, MayFollow}
-
--- how a call fails: not applied; applied, with its answer lost; with so many bytes of its answer; with bytes that are no answer
-pub data Manner : Type 0 where
-  Before After Junk : Manner
-  Cut : (count : ℕ) → Manner
 
 -- an event of a script; a turn counts the calls from there on, from 1
 pub data Scripted (T : Type 0) : Type 0 where

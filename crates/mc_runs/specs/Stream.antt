@@ -2,11 +2,13 @@
 use Rattle.std.specs.Prelude.{◌≡◌, ℕ, ◌+◌, true, false, List, [], ◌∷◌, ◌++◌, if◌then◌else◌, nat_eq}
 use Rattle.mc_types.specs.declared.answer.Answer.{Answer}
 use Rattle.mc_runs.specs.Protocol.{Protocol}
-use Rattle.mc_runs.specs.Log.{Scripted, Piece, Fail, Hold, At, Now, Moment, Part, Entry, Takes, Starts, Happens, Ends, Passes, Gives}
+use Rattle.mc_runs.specs.Log.{Scripted, Piece, Add, Result, Fail, Hold, At, Now, Moment, Part, Entry, Takes, Starts, Happens, Ends, Passes, Gives}
 
 -- the bytes that an event of the script brings from a client
 abbrev pub came_by : Scripted → ℕ → List ℕ
 came_by (Piece client bytes) c = if nat_eq client c then bytes else []
+came_by (Add client bytes) c = if nat_eq client c then bytes else []
+came_by (Result server) c = []
 came_by (Fail turn manner) c = []
 came_by (Hold server key content) c = []
 came_by (At turn loss) c = []

@@ -15,7 +15,7 @@ pub words_are_read_back : WordsAreReadBack
 words_are_read_back = words-spaced
 
 pub lines_are_read_back : LinesAreReadBack
-lines_are_read_back ws more h short = (is_line ws more h short, without_cr-text _)
+lines_are_read_back ws more h short = (is_line ws more h (omega (arith, short)), without_cr-text _)
 
 pub numbers_are_read_back : NumbersAreReadBack
 numbers_are_read_back = number_below-decimal

@@ -1,6 +1,7 @@
 -- Lines of a stream. A line is ended by LF (memcached's protocol.txt, "Protocol", writes CR LF; that LF alone ends one too,
--- and the limit of 65536 bytes, are mcgate's own).
+-- and the limit of 65,536 bytes, are mcgate's own).
 use Rattle.std.specs.Prelude.{◌≡◌, ◌≢◌, ℕ, ◌+◌, ◌-◌, ◌<◌, ◌≤◌, List, ◌∷◌, ◌++◌, length, take, drop, slice_index, All, ◌==◌, if◌then◌else◌}
+use Rattle.mc_text.specs.declared.reading.TheConstants.{LINE_LIMIT}
 use Rattle.mc_text.specs.declared.ends.Line.{Line}
 use Rattle.mc_text.specs.declared.ends.Line.TheVariants.{More, TooLong, At}
 
@@ -20,20 +21,20 @@ IsOneLine text = All (λ b. b ≢ LF) text
 pub record IsLine (bytes text rest : List ℕ) : Type 0 where
   pub whole : bytes ≡ text ++ LF ∷ rest
   pub one : IsOneLine text
-  pub short : length text < 65536
+  pub short : length text < LINE_LIMIT
 
 -- a text without one carriage return at its end
 abbrev pub without_cr : List ℕ → List ℕ
 without_cr text = if slice_index text (length text - 1) == CR then take (length text - 1) text else text
 
--- the first 65536 bytes are there, and hold no line end
+-- so many first bytes are there, and hold no line end
 pub record IsTooLong (bytes : List ℕ) : Type 0 where
-  pub long : 65536 ≤ length bytes
-  pub one : IsOneLine (take 65536 bytes)
+  pub long : LINE_LIMIT ≤ length bytes
+  pub one : IsOneLine (take LINE_LIMIT bytes)
 
 -- there may yet be a line, once more bytes have come
 pub record IsOpen (bytes : List ℕ) : Type 0 where
-  pub short : length bytes < 65536
+  pub short : length bytes < LINE_LIMIT
   pub one : IsOneLine bytes
 
 -- the line's end stands at this place

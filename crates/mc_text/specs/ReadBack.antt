@@ -1,7 +1,8 @@
 -- What is spelled is read as what it spells.
-use Rattle.std.specs.Prelude.{◌≡◌, ℕ, ◌<◌, ◌≤◌, ◌^◌, ℤ, FitsSigned, List, [], ◌∷◌, ◌++◌, length, Some, decimal}
+use Rattle.std.specs.Prelude.{◌≡◌, ℕ, ◌+◌, ◌<◌, ◌≤◌, ◌^◌, ℤ, FitsSigned, List, [], ◌∷◌, ◌++◌, length, Some, decimal}
 use Rattle.std.specs.Fmt.{signed_decimal}
 use mir.Syntax.{w64}
+use Rattle.mc_text.specs.declared.reading.TheConstants.{LINE_LIMIT}
 use Rattle.mc_text.specs.Line.{IsLine, CR, without_cr}
 use Rattle.mc_text.specs.Word.{words}
 use Rattle.mc_text.specs.Number.{number_below, signed_number}
@@ -13,7 +14,7 @@ WordsAreReadBack = (ws : List (List ℕ)) → AreWords ws → words (spaced ws) 
 
 -- bytes that begin with a line of words begin with the line of these words' text
 abbrev pub LinesAreReadBack : Type 0
-LinesAreReadBack = (ws : List (List ℕ)) (more : List ℕ) → AreOneLine ws → length (spaced ws) < 65535
+LinesAreReadBack = (ws : List (List ℕ)) (more : List ℕ) → AreOneLine ws → length (spaced ws) + 1 < LINE_LIMIT
     → IsLine (line_of ws ++ more) (spaced ws ++ CR ∷ []) more × (without_cr (spaced ws ++ CR ∷ []) ≡ spaced ws)
 
 -- a number below a limit, in decimal, is read as that number below the limit

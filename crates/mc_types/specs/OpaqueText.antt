@@ -2,6 +2,7 @@
 use Rattle.std.specs.Prelude.{◌≡◌, ℕ, ◌<◌, ◌≤◌, ◌&&◌, Bool, true, List, length, take, nat_le}
 use Rattle.std.specs.List.{list_all}
 use Rattle.mc_types.specs.Padded.{LiesIn}
+use Rattle.mc_types.specs.declared.limits.TheConstants.{OPAQUE_LIMIT}
 
 abbrev pub is_opaque_byte : ℕ → Bool
 is_opaque_byte b = nat_le 33 b && nat_le b 126
@@ -9,10 +10,10 @@ is_opaque_byte b = nat_le 33 b && nat_le b 126
 -- 1 to 32 bytes, each 33..=126
 pub record IsOpaque (text : List ℕ) : Type 0 where
   pub some : 0 < length text
-  pub short : length text ≤ 32
+  pub short : length text ≤ OPAQUE_LIMIT
   pub bytes : list_all is_opaque_byte text ≡ true
 
 -- how it lies in its array
 pub record HoldsOpaque (len : ℕ) (bytes : List ℕ) : Type 0 where
-  pub lies : LiesIn 32 len bytes
+  pub lies : LiesIn OPAQUE_LIMIT len bytes
   pub text : IsOpaque (take len bytes)

@@ -1,6 +1,7 @@
 //! What is asked of a server, in both dialects.
 
-ghost use Rattle.std.specs.Prelude.{◌≡◌, IfOk};
+ghost use Rattle.std.specs.Prelude.{◌≡◌, ◌≤◌, ◌<◌, ◌^◌, [], None, false, IfOk, IfSome, length};
+ghost use Rattle.mc_types.specs.Asks.{AreInRange, IsExptime, data_limit};
 
 use crate::body::Body;
 use crate::key::Key;
@@ -57,7 +58,48 @@ pub struct Ask {
     pub tokens: Tokens,
 }
 
+fn exptime_in_range(exptime: Option<i64>)
+    ensures { IfSome exptime IsExptime }
+{
+    if let Some(_exptime) = exptime {}
+}
+
+fn cas_in_range(cas: Option<u64>)
+    ensures { IfSome cas (λ cas. cas < 2 ^ 64) }
+{
+    if let Some(_cas) = cas {}
+}
+
 impl Ask {
+    /// An operation on a key, with what it wants back, and nothing else. It takes no memory.
+    pub fn bare(dialect: Dialect, op: Op, key: Key, tokens: Tokens) -> Ask
+        ensures { result ≡ record { key = key; op = op; dialect = dialect; with_cas = false; flags = 0; exptime = None; body = []; cas = None; delta = 0; tokens = tokens } }
+    {
+        Ask {
+            key,
+            op,
+            dialect,
+            with_cas: false,
+            flags: 0,
+            exptime: None,
+            body: Body::empty(),
+            cas: None,
+            delta: 0,
+            tokens,
+        }
+    }
+
+    /// Its numbers are in the ranges of their types. It does nothing.
+    pub fn numbers_in_range(&self)
+        requires { length self.now.body ≤ data_limit }
+        ensures { AreInRange self.now }
+    {
+        let _flags = self.flags;
+        let _delta = self.delta;
+        exptime_in_range(self.exptime);
+        cas_in_range(self.cas);
+    }
+
     /// The same ask once more, with its data shared. The only error is running out of memory.
     pub fn copy(&self) -> Result<Ask, AllocError>
         ensures { IfOk result (λ ask. ask ≡ self.now) }

@@ -54,10 +54,19 @@ pub enum KeyFault {
     BadByte(usize),
 }
 
-fn first_bad_byte(text: &[u8]) -> Option<usize>
+/// Whether the byte stands in no key: a control character, a space or 127.
+#[inline]
+pub fn is_bad_byte(byte: u8) -> bool
+    ensures { result ≡ is_bad_byte byte }
+{
+    byte < 33 || byte == 127
+}
+
+/// Where the first byte stands that no key has.
+pub fn first_bad_byte(text: &[u8]) -> Option<usize>
     ensures { result ≡ position is_bad_byte text.now }
 {
-    text.iter().position(|b| *b < 33 || *b == 127)
+    text.iter().position(|byte| is_bad_byte(*byte))
 }
 
 fn key_of(text: &[u8]) -> Key

@@ -16,5 +16,5 @@ pub use body::Body;
 pub use call::{Origin, Outcome, ServerId};
 pub use error_text::{ErrorText, OwnText};
 pub use key::{Key, KeyFault};
-pub use limits::{DATA_LIMIT, ERROR_TEXT_LIMIT, KEY_LIMIT};
+pub use limits::{DATA_LIMIT, ERROR_TEXT_LIMIT, KEY_LIMIT, OPAQUE_LIMIT, SCRIPT_CLIENTS};
 pub use token::{Opaque, Token, Tokens};

@@ -4,22 +4,24 @@ ghost use Rattle.std.specs.Prelude.{◌≡◌, [], ◌∷◌, ◌++◌, IsTrue, 
 ghost use Rattle.std.specs.List.{list_all};
 ghost use Rattle.mc_types.specs.OpaqueText.{IsOpaque, is_opaque_byte};
 
+use crate::limits::OPAQUE_LIMIT;
 use std::alloc::{AllocError, Global};
 use std::marker::Model;
 
-/// The text of an opaque token: 1 to 32 bytes, each 33..=126, kept inside.
+/// The text of an opaque token: 1 to [`OPAQUE_LIMIT`] bytes, each 33..=126, kept inside.
 ///
 /// Source: memcached's protocol.txt, "Meta Commands", the flag `O`.
 #[derive(Clone, Copy)]
 pub struct Opaque {
     len: u8,
-    bytes: [u8; 32],
+    bytes: [u8; OPAQUE_LIMIT],
 }
 
 impl Model for Opaque {
     ghost use Rattle.std.specs.Prelude.{List, ℕ, length, take};
     ghost use Rattle.mc_types.specs.OpaqueText.{HoldsOpaque};
     ghost use Rattle.mc_types.specs.Padded.{padded};
+    ghost use Rattle.mc_types.specs.declared.limits.TheConstants.{OPAQUE_LIMIT};
 
     ghost Value = { List ℕ };
 
@@ -27,7 +29,7 @@ impl Model for Opaque {
 
     ghost invariant = { λ o. HoldsOpaque o.len o.bytes };
 
-    ghost inverse = { λ text. record { len = length text; bytes = padded 32 text } };
+    ghost inverse = { λ text. record { len = length text; bytes = padded OPAQUE_LIMIT text } };
 
     ghost use Rattle.mc_types.specs.OpaqueInverse.{opaque_inverse_is};
 
@@ -44,7 +46,7 @@ fn opaque_of(text: &[u8]) -> Opaque
     requires { IsOpaque text.now }
     ensures { result ≡ text.now }
 {
-    let mut bytes = [0; 32];
+    let mut bytes = [0; OPAQUE_LIMIT];
     bytes[..text.len()].copy_from_slice(text);
     Opaque {
         len: text.len() as u8,
@@ -53,12 +55,12 @@ fn opaque_of(text: &[u8]) -> Opaque
 }
 
 impl Opaque {
-    /// The opaque text, where it is one: 1 to 32 bytes, each 33..=126. It takes no memory.
+    /// The opaque text, where it is one: 1 to [`OPAQUE_LIMIT`] bytes, each 33..=126. It takes no memory.
     pub fn read(text: &[u8]) -> Option<Opaque>
         ensures valid { IsSome result ↔ IsOpaque text.now }
         ensures value { IfSome result (λ o. o ≡ text.now) }
     {
-        if text.is_empty() || text.len() > 32 || !are_opaque_bytes(text) {
+        if text.is_empty() || text.len() > OPAQUE_LIMIT || !are_opaque_bytes(text) {
             return None;
         }
         Some(opaque_of(text))

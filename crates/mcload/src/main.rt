@@ -2,21 +2,21 @@
 //! how many commands were answered and how soon, or how many gets showed deleted data.
 #![tactic(auto)]
 
+mod arguments;
 mod commands;
 mod freshness;
 mod latency;
 mod plan;
 mod run;
 mod tally;
-mod words;
 
+use arguments::{Settings, USAGE, settings_of};
 use run::run_job;
 use std::alloc::AllocError;
 use std::io;
 use std::net::Net;
 use std::process::ExitCode;
 use std::rt::{Clock, Env};
-use words::{Settings, USAGE, settings_of};
 
 /// Why the program ends with a line on standard error.
 #[derive(Clone, Copy)]
@@ -42,18 +42,18 @@ impl From<AllocError> for Stop {
     }
 }
 
-fn run_words<R: AllocGlobal + Env + Net + Clock + Print>(rt: &R) -> Result<(), Stop> {
-    let Ok(words) = std::env::args(rt)?.collect::<Vec<String>>(rt.alloc()) else {
+fn run_with_arguments<R: AllocGlobal + Env + Net + Clock + Print>(rt: &R) -> Result<(), Stop> {
+    let Ok(arguments) = std::env::args(rt)?.collect::<Vec<String>>(rt.alloc()) else {
         return Err(Stop::Failed);
     };
-    match settings_of(words.as_slice()) {
+    match settings_of(arguments.as_slice()) {
         Some(settings) => run_job(rt, settings),
         None => Err(Stop::Usage),
     }
 }
 
 fn main(rt: HostRuntime) -> ExitCode {
-    let (status, line) = match run_words(&rt) {
+    let (status, line) = match run_with_arguments(&rt) {
         Ok(()) => return ExitCode::SUCCESS,
         Err(Stop::WrongAnswer) => (1, "mcload: an answer with wrong bytes"),
         Err(Stop::Usage) => (2, USAGE),

@@ -1,7 +1,7 @@
 //! Which command comes next.
 
+use crate::arguments::{Job, Settings};
 use crate::commands::{Command, Kind};
-use crate::words::{Job, Settings};
 
 /// The choice of commands. A value carries a number, which with what there are of keys as the modulus is its key's.
 #[derive(Clone, Copy)]

@@ -1,10 +1,10 @@
 //! The clients' sockets, in turns: who is ready is read and answered commands are counted, and then each sends new ones.
 
 use crate::Stop;
+use crate::arguments::Settings;
 use crate::commands::Wire;
 use crate::plan::Plan;
 use crate::tally::{Asked, Tally};
-use crate::words::Settings;
 use mio::net::TcpStream;
 use mio::{Events, Poll, Token};
 use std::alloc::Global;

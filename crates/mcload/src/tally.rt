@@ -1,10 +1,10 @@
 //! What came of the commands.
 
 use crate::Stop;
+use crate::arguments::{Job, Settings};
 use crate::commands::{Answer, Command, Kind};
 use crate::freshness::{Begun, Freshness};
 use crate::latency::Latencies;
-use crate::words::{Job, Settings};
 use std::alloc::{AllocError, Global};
 
 /// A command under way.

@@ -269,6 +269,8 @@ made_so None number old server ask made mid new is m =
 made_so (Some log.Before) number old server ask made mid new is m = (m.0, ap (λ v. v.items) is ∙ m.1)
 made_so (Some log.After) number old server ask made mid new is m =
     (m.0, m.1, m.2, record { cache = m.3.cache; after = m.3.after; is_there = m.3.is_there; applies = m.3.applies; caches_are = ap (λ v. v.items) is ∙ m.3.caches_are })
+made_so (Some log.Junk) number old server ask made mid new is m = m
+made_so (Some (log.Cut count)) number old server ask made mid new is m = m
 
 pub makes : (named : Option log.Manner) (number : ℕ) (old first : MemoryFleet) (server : ℕ) (ask : Ask) (made : Made) (mid new : MemoryFleet) → named ≡ named_of old (turn_of old + 1) → LosesNamed old first → Attempts named number first server ask made mid → new.caches ≡ mid.caches → IsMadeAfter number old server ask made new
 makes named number old first server ask made mid new is n a caches =

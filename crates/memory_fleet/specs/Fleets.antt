@@ -1,4 +1,5 @@
 -- What servers in memory hold, and what a call, a failure and a loss change. Source: mcgate's own.
+use Rattle.memory_fleet.specs.declared.fleet.TheConstants.{CAPACITY}
 use Rattle.std.specs.Prelude.{◌≡◌, ℕ, zero, suc, ◌+◌, ◌-◌, ◌^◌, ℤ, pos, List, [], ◌∷◌, ◌++◌, length, map, slice_get, replicate, nat_abs, Option, Some, None, option_map, if◌then◌else◌, nat_eq, bytes_eq}
 use Rattle.std.specs.Ordering.{nat_cmp}
 use Rattle.std.specs.BTreeMap.{get}
@@ -69,7 +70,7 @@ last_turn = 2 ^ 64 - 1
 
 -- how many items each server holds at most
 abbrev pub capacity : ℕ
-capacity = 1024
+capacity = CAPACITY
 
 -- no call was made or named, and nothing is held
 pub record IsNewFleet (servers : ℕ) (fleet : MemoryFleet) : Type 0 where

@@ -4,7 +4,7 @@ use Rattle.mc_types.specs.declared.ask.Ask.{Ask}
 use Rattle.mc_types.specs.declared.answer.Answer.{Answer}
 use Rattle.mc_types.specs.declared.call.Outcome.TheVariants.{Answered, Failed}
 use Rattle.mc_types.specs.Items.{Item}
-use Rattle.mc_runs.specs.Log.{Manner, Before, After, EndsAs}
+use Rattle.mc_runs.specs.Log.{Manner, Before, After, Junk, Cut, EndsAs}
 use Rattle.mc_runs.specs.Fleet.{MakesCall}
 use Rattle.mc_types.specs.declared.call.Origin.TheVariants.{Client}
 use Rattle.mc_runs.specs.Single.{FitsOutcome}
@@ -28,11 +28,13 @@ pub record HasFailed (made : Made) : Type 0 where
   pub outcome_is : made.outcome ≡ Failed
   pub stamp_is : made.stamp ≡ None
 
--- a call is answered by its cache, or isn't applied, or is applied and its answer dropped, as it is named
+-- a call is answered by its cache, or isn't applied, or is applied and its answer dropped, as it is named; no call of these servers is named to be cut or to be junk
 abbrev pub IsMade : Option Manner → ℕ → MemoryFleet → ℕ → Ask → Made → MemoryFleet → Type 0
 IsMade None number old server ask made new = (answer : Answer) × (made.outcome ≡ Answered answer) × AppliesAt number old server ask answer made.stamp new
 IsMade (Some Before) number old server ask made new = HasFailed made × (new.caches.items ≡ old.caches.items)
 IsMade (Some After) number old server ask made new = HasFailed made × (answer : Answer) × (found : Option ℕ) × AppliesAt number old server ask answer found new
+IsMade (Some Junk) number old server ask made new = ⊥
+IsMade (Some (Cut count)) number old server ask made new = ⊥
 
 -- the same, after what was named to be lost just before the call
 abbrev pub IsMadeAfter : ℕ → MemoryFleet → ℕ → Ask → Made → MemoryFleet → Type 0

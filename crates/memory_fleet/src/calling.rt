@@ -1,35 +1,11 @@
 //! Servers in memory as a fleet: what a call stores has its command's number as its stamp, and a copy that of its item.
-ghost use Rattle.std.specs.Prelude.{◌≡◌, ◌≤◌, ◌<◌, ◌^◌, length, IfSome};
-ghost use Rattle.mc_types.specs.Asks.{AreInRange, IsExptime, data_limit};
+ghost use Rattle.std.specs.Prelude.{◌≡◌, ◌<◌};
 ghost use Rattle.memory_fleet.specs.Law.{stamp_given};
 
 use crate::event::FleetFault;
 use crate::fleet::MemoryFleet;
 use mc_types::{Ask, Origin, Outcome, ServerId};
 use route_job::Fleet;
-
-fn exptime_in_range(exptime: Option<i64>)
-    ensures { IfSome exptime IsExptime }
-{
-    if let Some(_exptime) = exptime {}
-}
-
-fn cas_in_range(cas: Option<u64>)
-    ensures { IfSome cas (λ cas. cas < 2 ^ 64) }
-{
-    if let Some(_cas) = cas {}
-}
-
-// The numbers of an ask are in the ranges of their types.
-fn numbers_in_range(ask: &Ask)
-    requires { length ask.now.body ≤ data_limit }
-    ensures { AreInRange ask.now }
-{
-    let _flags = ask.flags;
-    let _delta = ask.delta;
-    exptime_in_range(ask.exptime);
-    cas_in_range(ask.cas);
-}
 
 impl MemoryFleet {
     // The stamp of what a call of this origin stores: the command's number, or that of the item that it copies, and 0 where no
@@ -70,7 +46,7 @@ impl Fleet for MemoryFleet {
         origin: Origin,
     ) -> Result<Outcome, FleetFault> {
         let stamp = self.stamp_of(number, origin);
-        numbers_in_range(ask);
+        ask.numbers_in_range();
         self.found.reserve(1)?;
         let made = self.call_as(stamp, server, ask)?;
         match self.found.push(made.stamp) {

@@ -10,8 +10,8 @@ use mc_types::{Answer, Ask, Key, Outcome, ServerId};
 use std::alloc::{AllocError, Global};
 use std::collections::BTreeMap;
 
-/// The most items that a server holds.
-const CAPACITY: usize = 1_024;
+/// The most items that a server of a script holds. mcgate's own.
+pub const CAPACITY: usize = 1_024;
 
 /// Servers in memory: their caches, by their places, and one clock.
 #[derive(Drop)]

@@ -8,4 +8,4 @@ pub mod laws;
 pub mod losses;
 
 pub use event::{FleetFault, Loss, Made, Manner};
-pub use fleet::MemoryFleet;
+pub use fleet::{CAPACITY, MemoryFleet};

@@ -1,5 +1,5 @@
 //! Losses that are named for calls to come, and what they leave of the caches.
-ghost use Rattle.std.specs.Prelude.{◌≡◌, ℕ, ◌++◌, ◌∷◌, [], List, if◌then◌else◌, nat_eq, map, OnOk, OnErr};
+ghost use Rattle.std.specs.Prelude.{◌≡◌, ℕ, ◌++◌, ◌∷◌, [], List, if◌then◌else◌, nat_eq, map, length, OnOk, OnErr};
 ghost use Rattle.mc_runs.specs.Fleet.{after_event, after_losses};
 ghost use Rattle.memory_fleet.specs.Fleets.{loss_of, held_at};
 ghost use Rattle.memory_fleet.specs.Losing.{after_loss, lost_in, listed, AreLost};
@@ -9,10 +9,11 @@ use cache_server::Cache;
 use std::alloc::{AllocError, Global};
 use std::collections::BTreeMap;
 
-// One loss; a server that isn't there has nothing to lose.
-fn lose_one(caches: &mut Vec<Cache>, loss: &Loss)
+/// One loss; a server that isn't there has nothing to lose. It takes no memory.
+pub fn lose_one(caches: &mut Vec<Cache>, loss: &Loss)
     ensures contents { caches.new.items ≡ after_loss (loss_of loss.now) caches.old.items }
     ensures held { (s : ℕ) (k : List ℕ) → held_at caches.new.items s k ≡ after_event (loss_of loss.now) (held_at caches.old.items) s k }
+    ensures count { length caches.new.items ≡ length caches.old.items }
 {
     match loss {
         Loss::Item(server, key) => {

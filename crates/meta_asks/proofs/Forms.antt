@@ -1,6 +1,7 @@
 -- The meta form of an ask that a client can write is one too, and is read as it was meant.
-use Rattle.std.proofs.Common.{◌≡◌, true, false, Bool, List, [], ◌∷◌, ◌++◌, length, None, refl, sym, ap, ◌∙◌, subst, arith}
+use Rattle.std.proofs.Common.{◌≡◌, true, false, Bool, List, [], ◌∷◌, ◌++◌, length, None, refl, sym, ap, ◌∙◌, subst, append_assoc, append-nil, ℕ, arith}
 use Rattle.std.specs.Prelude.{codes}
+use Rattle.mc_text.specs.Spelling.{spaced, line_of}
 use Rattle.mc_types.specs.Tokens.{are_served}
 use Rattle.mc_types.specs.Asks.{AreInRange, IsAsk, HasShapeOf, shape_of, of_get}
 use Rattle.mc_types.specs.declared.ask.Op.{Op}
@@ -13,14 +14,14 @@ use Rattle.request_parts.specs.Message.{Served}
 use Rattle.request_parts.specs.Tests.{Word}
 use Rattle.meta_requests.specs.declared.command.Kind.TheVariants as kinds
 use Rattle.meta_requests.specs.Order.{Asking}
-use Rattle.meta_requests.specs.Spelling.{kind_of, token_words, exptime_words, order_for}
+use Rattle.meta_requests.specs.Spelling.{kind_of, token_words, exptime_words, order_for, line_words, block_by}
 use Rattle.client_requests.specs.Both as both
 use Rattle.client_requests.specs.Message.{Message, Begins}
 use Rattle.client_requests.specs.Asks.{asks_of, IsClientAsk}
 use Rattle.client_requests.specs.Spelling.{spelling_of, message_of}
 use Rattle.client_requests.proofs.RequestLaws.{asks_are_read_back, messages_are_one_ask}
 use Rattle.text_codec.specs.Replies.{shows_values}
-use Rattle.meta_asks.specs.Form.{is_retrieval, wanted, meta_form, in_meta}
+use Rattle.meta_asks.specs.Form.{is_retrieval, wanted, meta_form, in_meta, get_end}
 use Rattle.meta_asks.specs.Laws.{cas_flag, get_line, FormsAreRead}
 
 are_wanted : (with_cas : Bool) → are_served of_get (wanted with_cas) ≡ true
@@ -81,6 +82,28 @@ line_is : (ask : Ask) → is_retrieval ask ≡ true → message_of (meta_form as
 line_is ask e =
     let kind : message_of (meta_form ask) ≡ Served (both.Meta (order_for kinds.Get (meta_form ask))) [] = ap (λ k. Served (both.Meta (order_for k (meta_form ask))) []) (kind_is ask.dialect ask.op e) in
     kind ∙ ap (λ (words : List Word). Served (both.Meta (Asking kinds.Get ask.key None (words ++ exptime_words ask.exptime))) []) (words_are ask.with_cas)
+
+-- after the key
+abbrev end_words : Bool → List ℕ
+end_words true = codes " k f v c"
+end_words false = codes " k f v"
+
+spaced_is : (key : List ℕ) (with_cas : Bool) → spaced (codes "mg" ∷ key ∷ token_words (wanted with_cas) ++ []) ≡ codes "mg " ++ key ++ end_words with_cas
+spaced_is key true = refl
+spaced_is key false = refl
+
+end_is : (with_cas : Bool) → end_words with_cas ++ codes "\r\n" ≡ get_end with_cas
+end_is true = refl
+end_is false = refl
+
+-- the line of a get that sets no expiry, as it is written
+pub get_text : (ask : Ask) → is_retrieval ask ≡ true → ask.exptime ≡ None → spelling_of (meta_form ask) ≡ codes "mg " ++ ask.key ++ get_end ask.with_cas
+get_text ask e none =
+    let kind : spelling_of (meta_form ask) ≡ line_of (line_words kinds.Get (meta_form ask)) ++ block_by kinds.Get [] = ap (λ k. line_of (line_words k (meta_form ask)) ++ block_by k []) (kind_is ask.dialect ask.op e) in
+    let plain : line_of (line_words kinds.Get (meta_form ask)) ++ [] ≡ spaced (codes "mg" ∷ ask.key ∷ token_words (wanted ask.with_cas) ++ []) ++ codes "\r\n" = append-nil (line_of (line_words kinds.Get (meta_form ask))) ∙ ap (λ x. line_of (codes "mg" ∷ ask.key ∷ token_words (wanted ask.with_cas) ++ exptime_words x)) none in
+    let spaces : spaced (codes "mg" ∷ ask.key ∷ token_words (wanted ask.with_cas) ++ []) ++ codes "\r\n" ≡ (codes "mg " ++ ask.key ++ end_words ask.with_cas) ++ codes "\r\n" = ap (λ xs. xs ++ codes "\r\n") (spaced_is ask.key ask.with_cas) in
+    let ends : (codes "mg " ++ ask.key ++ end_words ask.with_cas) ++ codes "\r\n" ≡ codes "mg " ++ ask.key ++ (end_words ask.with_cas ++ codes "\r\n") = ap (λ xs. codes "mg " ++ xs) (append_assoc ask.key (end_words ask.with_cas) (codes "\r\n")) in
+    kind ∙ plain ∙ spaces ∙ ends ∙ ap (λ xs. codes "mg " ++ ask.key ++ xs) (end_is ask.with_cas)
 
 client_ask : (ask : Ask) → IsAsk ask → is_retrieval ask ≡ true → IsClientAsk (meta_form ask)
 client_ask ask is e = record { well_formed = form_is_ask ask is e; texts = texts_are ask.with_cas }

@@ -1,5 +1,5 @@
 -- Classic gets in the meta dialect. Source: memcached's protocol.txt, "Retrieval command", "Get And Touch" and "Meta Get".
-use Rattle.std.specs.Prelude.{Bool, true, false, List, [], ◌∷◌, if◌then◌else◌}
+use Rattle.std.specs.Prelude.{ℕ, Bool, true, false, List, [], ◌∷◌, codes, if◌then◌else◌}
 use Rattle.mc_types.specs.declared.token.Token.{Token}
 use Rattle.mc_types.specs.declared.token.Token.TheVariants.{Key, Flags, Value, Cas}
 use Rattle.mc_types.specs.declared.ask.Ask.{Ask}
@@ -22,3 +22,8 @@ meta_form ask = record (bare_ask ask.op ask.key (wanted ask.with_cas)) { exptime
 -- what a server is asked that speaks the meta dialect
 abbrev pub in_meta : Ask → Ask
 in_meta ask = if is_retrieval ask then meta_form ask else ask
+
+-- what its line has after the key, where it sets no expiry
+abbrev pub get_end : Bool → List ℕ
+get_end true = codes " k f v c\r\n"
+get_end false = codes " k f v\r\n"

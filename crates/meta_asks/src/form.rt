@@ -1,9 +1,9 @@
 //! The meta form of an ask.
 
-ghost use Rattle.std.specs.Prelude.{◌≡◌, ◌++◌, IfOk, OnOk, OnErr};
+ghost use Rattle.std.specs.Prelude.{◌≡◌, ◌++◌, true, None, length, take, IfOk, OnOk, OnErr};
 ghost use Rattle.mc_types.specs.Asks.{IsAsk};
 ghost use Rattle.client_requests.specs.Spelling.{spelling_of};
-ghost use Rattle.meta_asks.specs.Form.{is_retrieval, wanted, meta_form, in_meta};
+ghost use Rattle.meta_asks.specs.Form.{is_retrieval, wanted, meta_form, in_meta, get_end};
 
 use bytes::BytesMut;
 use mc_types::{Ask, Body, Dialect, Op, Token, Tokens};
@@ -52,6 +52,43 @@ pub fn meta_form(alloc: Global, ask: &Ask) -> Result<Ask, AllocError>
     })
 }
 
+fn get_end(with_cas: bool) -> &'static [u8]
+    ensures { result.now ≡ get_end with_cas }
+{
+    if with_cas {
+        b" k f v c\r\n".as_slice()
+    } else {
+        b" k f v\r\n".as_slice()
+    }
+}
+
+// A get that sets no expiry, which is most of what is asked, is written without its form.
+#[tactic(auto, using(crate::proofs::Forms::get_text))]
+fn put_get(ask: &Ask, out: &mut BytesMut) -> Result<(), AllocError>
+    requires get { is_retrieval ask.now ≡ true }
+    requires no_expiry { ask.now.exptime ≡ None }
+    ensures ok { OnOk result (out.new.items ≡ out.old.items ++ spelling_of (meta_form ask.now)) }
+    ensures err { OnErr result (take (length out.old.items) out.new.items ≡ out.old.items) }
+{
+    out.extend_from_slice(b"mg ")?;
+    out.extend_from_slice(ask.key.as_bytes())?;
+    out.extend_from_slice(get_end(ask.with_cas))
+}
+
+fn write_get(ask: &Ask, out: &mut BytesMut) -> Result<(), AllocError>
+    requires get { is_retrieval ask.now ≡ true }
+    requires no_expiry { ask.now.exptime ≡ None }
+    ensures ok { OnOk result (out.new.items ≡ out.old.items ++ spelling_of (meta_form ask.now)) }
+    ensures err { OnErr result (out.new.items ≡ out.old.items) }
+{
+    let len = out.len();
+    let written = put_get(ask, out);
+    if written.is_err() {
+        out.truncate(len);
+    }
+    written
+}
+
 // The form is written and dropped.
 fn write_form(form: Ask, out: &mut BytesMut) -> Result<(), AllocError>
     requires { IsAsk form }
@@ -75,6 +112,9 @@ pub fn write_in_meta(alloc: Global, ask: &Ask, out: &mut BytesMut) -> Result<(),
 {
     if !is_retrieval(ask) {
         return write_ask(ask, out);
+    }
+    if ask.exptime.is_none() {
+        return write_get(ask, out);
     }
     let form = meta_form(alloc, ask)?;
     write_form(form, out)

@@ -59,18 +59,18 @@ new_more before w (v ∷ ws) h e =
 passes : (kind : Kind) (before : List Word) (w : Word) → is_served kind (letter_of w) ≡ true → stands_in (letter_of w) before ≡ false → has_value kind (letter_of w) (text_of w) ≡ true → flag_of kind before w ≡ Ok w
 passes kind before w a b c = rw (a, b, c) refl
 
-pass_behind : (kind : Kind) (before ws : List Word) → AreNew before ws → Fits kind ws → distinct ws ≡ true → flags_of kind before ws ≡ Ok (before ++ ws)
-pass_behind kind before [] n f d = ap (λ (t : List Word). Ok t) (sym (append-nil before))
-pass_behind kind before (w ∷ ws) n f d =
+pass_after : (kind : Kind) (before ws : List Word) → AreNew before ws → Fits kind ws → distinct ws ≡ true → flags_of kind before ws ≡ Ok (before ++ ws)
+pass_after kind before [] n f d = ap (λ (t : List Word). Ok t) (sym (append-nil before))
+pass_after kind before (w ∷ ws) n f d =
     let parts = and_parts (not (stands_in (letter_of w) ws)) (distinct ws) d in
     let once : stands_in (letter_of w) ws ≡ false = not_true (stands_in (letter_of w) ws) parts.0 in
     let first = passes kind before w f.0 n.0 f.1 in
     let goes : flags_of kind before (w ∷ ws) ≡ flags_of kind (before ++ w ∷ []) ws = rw first refl in
-    goes ∙ pass_behind kind (before ++ w ∷ []) ws (new_more before w ws n.1 once) f.2 parts.1 ∙ ap (λ (t : List Word). Ok t) (append_assoc before (w ∷ []) ws)
+    goes ∙ pass_after kind (before ++ w ∷ []) ws (new_more before w ws n.1 once) f.2 parts.1 ∙ ap (λ (t : List Word). Ok t) (append_assoc before (w ∷ []) ws)
 
 -- flags that stand once each, with a value, are let through
 pub pass : (kind : Kind) (ws : List Word) → Fits kind ws → distinct ws ≡ true → flags_of kind [] ws ≡ Ok ws
-pass kind ws f d = pass_behind kind [] ws (are_new ws) f d
+pass kind ws f d = pass_after kind [] ws (are_new ws) f d
 
 -- the letters of flags with a value
 abbrev pub is_valued : ℕ → Bool

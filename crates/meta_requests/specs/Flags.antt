@@ -2,6 +2,7 @@
 use Rattle.std.specs.Prelude.{◌≡◌, ℕ, ◌^◌, ◌&&◌, ◌||◌, ℤ, Bool, true, false, not, List, [], ◌∷◌, ◌++◌, length, drop, Option, Some, None, Result, Ok, Err, nat_le, ◌==◌, if◌then◌else◌, slice_index, codes}
 use Rattle.std.specs.List.{list_all, list_any, filter_map}
 use Rattle.mc_text.specs.Number.{number_below, signed_number}
+use Rattle.mc_types.specs.declared.limits.TheConstants.{OPAQUE_LIMIT}
 use Rattle.mc_types.specs.OpaqueText.{is_opaque_byte}
 use Rattle.mc_types.specs.declared.ask.Op.{Op}
 use Rattle.mc_types.specs.declared.ask.Op.TheVariants as ops
@@ -69,7 +70,7 @@ mode_of kind (b ∷ c ∷ text) = None
 
 -- 1 to 32 bytes, each 33..=126
 abbrev pub is_opaque : Word → Bool
-is_opaque text = nat_le 1 (length text) && nat_le (length text) 32 && list_all is_opaque_byte text
+is_opaque text = nat_le 1 (length text) && nat_le (length text) OPAQUE_LIMIT && list_all is_opaque_byte text
 
 abbrev pub is_some : {A : Type 0} → Option A → Bool
 is_some None = false

@@ -1,17 +1,17 @@
 //! The meta requests of memcached's text protocol: how they are read from a client's bytes, and written to a server.
 #![tactic(auto)]
 
+pub mod asking;
 pub mod command;
 pub mod command_line;
 pub mod flags;
 pub mod laws;
 pub mod reader;
-pub mod request;
 pub mod values;
 pub mod verbs;
 pub mod writer;
 
 pub use command::{Command, Kind, Read, Request, Verb};
-pub use reader::{read_behind, read_request};
+pub use reader::{read_after, read_request};
 pub use request_parts::{ProxyCommand, RefusalReason, Skip};
 pub use writer::write_ask;

@@ -1,10 +1,12 @@
 //! Bad lines and their words. In examples `⏎` is a line end.
 
 use crate::tables::{same, sides, unfolded};
+use fleet_run::Event;
 use line_faults::laws::each_line_is_either;
+use line_faults::misfit::misfit_of;
 use line_faults::{BadLine, bad_line_in_events, bad_line_in_script};
 use route_json::Config;
-use std::alloc::Global;
+use std::alloc::{AllocError, Global};
 use std::process::Abort;
 use std::test::Fail;
 
@@ -21,10 +23,28 @@ pool 1⏎moment -1 => line 2: no time, 0 to 9223372036854775807: -1
 pool 1⏎> 0 \q => line 2: a backslash that begins none of \r, \n, \\ and \xHH
 pool 1⏎hold 0  x => line 2: a key is empty
 pool 1⏎lose 0 a b => line 2: a key has a space or a control character
-pool 1⏎fail 1 befor => line 2: neither before nor after: befor
 pool 1⏎at 1 hold 0 => line 2: neither lose nor restart: hold
 pool 1⏎reload => line 2: wanted: reload JSON
 pool 1⏎reload {} => line 2: reload wants a configuration: mcgate check says what is wrong with it"
+}
+
+// Lines of the events that leave calls out, and how calls fail.
+fn unreadable_steps() -> &'static str {
+    r"pool 1⏎+ 0 => line 2: wanted: + C TEXT
+pool 1⏎+ => line 2: wanted: + C TEXT
+pool 1⏎+ 64 x => line 2: no client, 0 to 63: 64
+pool 1⏎+ 0 \q => line 2: a backslash that begins none of \r, \n, \\ and \xHH
+pool 1⏎result => line 2: wanted: result S
+pool 1⏎result a => line 2: no number of a server: a
+pool 1⏎result 0  => line 2: no number of a server: 0 
+pool 1⏎fail 1 => line 2: wanted: fail K before, after, cut B or junk
+pool 1⏎fail 1 befor => line 2: neither before, after, cut B nor junk: befor
+pool 1⏎fail 1 junk 2 => line 2: neither before, after, cut B nor junk: junk 2
+pool 1⏎fail 1 cuts 2 => line 2: neither before, after, cut B nor junk: cuts 2
+pool 1⏎fail 1 cut => line 2: wanted: fail K cut B
+pool 1⏎fail 1 cut  => line 2: no count of bytes, 0 to 4294967295: 
+pool 1⏎fail 1 cut -1 => line 2: no count of bytes, 0 to 4294967295: -1
+pool 1⏎fail 1 cut 4294967296 => line 2: no count of bytes, 0 to 4294967295: 4294967296"
 }
 
 // Events that can't be; nothing is said of a script without one, and of none.
@@ -33,7 +53,19 @@ fn misfits() -> &'static str {
 {}⏎x => 
 pool 1⏎restart 1⏎x => line 2: no such server: 1
 pool 2⏎#⏎at 1 lose 2 a => line 3: no such server: 2
-pool 1⏎restart 0⏎hold 0 a 1 => line 3: hold after a piece, a lose or a restart"
+pool 1⏎restart 0⏎hold 0 a 1 => line 3: hold after a piece, a lose or a restart
+pool 1⏎+ 0 ⏎hold 0 a 1 => line 3: hold after a piece, a lose or a restart
+pool 1⏎result 0⏎hold 0 a 1⏎result 1 => line 4: no such server: 1"
+}
+
+// What comes after 524,288 bytes that client 0 added: as many as it may add before the next `>`.
+fn after_full() -> &'static str {
+    r"+ 1 a⏎ => 
+> 0 ⏎+ 0 a⏎ => 
+> 1 ⏎+ 0 a⏎ => 
+> 0 a⏎ => 
++ 0 a⏎ => line 3: a client added more than 524288 bytes since the last >
+result 0⏎+ 0 a⏎ => line 4: a client added more than 524288 bytes since the last >"
 }
 
 // The reload lines load a pool of the server s0:1 and another one. In the last example that is too late.
@@ -68,6 +100,30 @@ fn words_in_folded(alloc: Global, text: &str) -> Result<String, Fail> {
     words_in_script(alloc, text.as_str())
 }
 
+// A line on which client 0 adds 524,288 bytes.
+fn push_full(text: &mut String) -> Result<(), AllocError> {
+    text.push_str("+ 0 ")?;
+    for _ in 0..8192 {
+        text.push_str("abcdefghijklmnopqrstuvwxyzabcdefghijklmnopqrstuvwxyzabcdefghijkl")?;
+    }
+    text.push('\n')
+}
+
+fn words_after_full(alloc: Global, after: &str) -> Result<String, Fail> {
+    let mut text = String::from_str(alloc, "pool 1\n")?;
+    push_full(&mut text)?;
+    let after = unfolded(alloc, after)?;
+    text.push_str(after.as_str())?;
+    words_in_script(alloc, text.as_str())
+}
+
+// What is wrong with one more byte that client 0 adds, after so many bytes in all pieces.
+fn words_after(alloc: Global, before: usize) -> Result<String, Fail> {
+    let event = Event::Add(0, Vec::from_slice(alloc, b"a".as_slice())?);
+    let misfit = misfit_of(1, before, &event);
+    Ok(format!(in alloc; "{misfit}")?)
+}
+
 fn words_in_events(alloc: Global, text: &str) -> Result<String, Fail> {
     let text = unfolded(alloc, text)?;
     let config = Config::of_pool(alloc, 2)?;
@@ -87,6 +143,7 @@ fn all_hold<R: Abort + AllocGlobal>(rt: &R, examples: &str) -> Result<(), Fail> 
 fn lines_that_cannot_be_read(rt: HostRuntime) -> Result<(), Fail> {
     each_line_is_either();
     all_hold(&rt, unreadable())?;
+    all_hold(&rt, unreadable_steps())?;
     let words = words_in_script(rt.alloc(), "pool 1\n\\\t ")?;
     assert_eq!(rt; words.as_str(), "line 2: no event has this word: \\\\\\x09");
     Ok(())
@@ -95,6 +152,28 @@ fn lines_that_cannot_be_read(rt: HostRuntime) -> Result<(), Fail> {
 #[test]
 fn lines_of_events_that_cannot_be(rt: HostRuntime) -> Result<(), Fail> {
     all_hold(&rt, misfits())
+}
+
+#[test]
+fn clients_that_added_all_they_may(rt: HostRuntime) -> Result<(), Fail> {
+    for example in after_full().lines() {
+        let (after, want) = sides(example);
+        let words = words_after_full(rt.alloc(), after)?;
+        same(&rt, after, words.as_str(), want);
+    }
+    Ok(())
+}
+
+#[test]
+fn pieces_that_are_too_much(rt: HostRuntime) -> Result<(), Fail> {
+    let words = words_after(rt.alloc(), 16_777_216)?;
+    assert_eq!(rt; words.as_str(), "all pieces together exceed 16777216 bytes");
+    let words = words_after(rt.alloc(), 16_777_215)?;
+    assert_eq!(rt;
+        words.as_str(),
+        "a client added more than 524288 bytes since the last >"
+    );
+    Ok(())
 }
 
 #[test]

@@ -1,8 +1,10 @@
 //! Scripts as events: which can't be, and what the others hand out.
 
-use fleet_run::{DriveFault, Event, Report, Script, Transcript, drive_any, first_bad_event};
+use fleet_run::{
+    DriveFault, Event, Manner, Report, Script, Transcript, drive_any, first_bad_event,
+};
 use mc_types::{Key, ServerId};
-use memory_fleet::{Loss, Manner, MemoryFleet};
+use memory_fleet::{Loss, MemoryFleet};
 use route_json::Config;
 use script_text::printer::{write_outputs, write_report};
 use std::alloc::{AllocError, Global};

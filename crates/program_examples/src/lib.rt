@@ -30,6 +30,10 @@ mod script_texts;
 #[cfg(test)]
 mod scripts;
 #[cfg(test)]
+mod stepped_scripts;
+#[cfg(test)]
 mod tables;
 #[cfg(test)]
 mod verdicts;
+#[cfg(test)]
+mod written_scripts;

@@ -103,6 +103,13 @@ fn events() -> &'static str {
     r"> 63 get a\r\n => client 63 sends get a\r\n
 hold 1 \x61  => server 1 holds a: 
 fail 4294967295 after => call 4294967295 fails after
++ 63 get a\r\n => client 63 adds get a\r\n
++ 0  => client 0 adds 
+result 4294967295 => result at server 4294967295
+fail 1 junk => call 1 fails junk
+fail 1 before => call 1 fails before
+fail 7 cut 0 => call 7 fails cut 0
+fail 7 cut 04294967295 => call 7 fails cut 4294967295
 lose 0 a => now: server 0 loses a
 restart 2 => now: server 2 restarts
 at 4294967295 lose 0 a => at call 4294967295: server 0 loses a
@@ -120,10 +127,12 @@ fn loss_words(alloc: Global, loss: &Loss) -> Result<String, Fail> {
     }
 }
 
-fn manner_word(manner: Manner) -> &'static str {
+fn manner_words(alloc: Global, manner: Manner) -> Result<String, Fail> {
     match manner {
-        Manner::Before => "before",
-        Manner::After => "after",
+        Manner::Before => Ok(String::from_str(alloc, "before")?),
+        Manner::After => Ok(String::from_str(alloc, "after")?),
+        Manner::Junk => Ok(String::from_str(alloc, "junk")?),
+        Manner::Cut(count) => Ok(format!(in alloc; "cut {count}")?),
     }
 }
 
@@ -140,9 +149,14 @@ fn event_words(alloc: Global, event: &Event) -> Result<String, Fail> {
             let bytes = Escaped(bytes.as_slice());
             Ok(format!(in alloc; "client {client} sends {bytes}")?)
         }
+        Event::Add(client, bytes) => {
+            let bytes = Escaped(bytes.as_slice());
+            Ok(format!(in alloc; "client {client} adds {bytes}")?)
+        }
+        Event::Result(server) => Ok(format!(in alloc; "result at server {}", server.number())?),
         Event::Hold(server, key, content) => hold_words(alloc, *server, key, content.as_slice()),
         Event::Fail(turn, manner) => {
-            let manner = manner_word(*manner);
+            let manner = manner_words(alloc, *manner)?;
             Ok(format!(in alloc; "call {turn} fails {manner}")?)
         }
         Event::At(turn, loss) => {
@@ -188,6 +202,23 @@ fail 0 before
 fail 4294967296 before
 fail 1
 fail 1 after 
+fail 1 cut
+fail 1 cut 
+fail 1 cut 4294967296
+fail 1 cut 1 
+fail 1 cut1
+fail 1 junk 
+fail 0 junk
++
++ 0
++ 64 a
++0 a
++ 0 \q
+result
+result 
+result 0 
+result 4294967296
+Result 0
 lose 0
 lose 0 a b
 restart

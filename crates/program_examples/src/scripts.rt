@@ -448,8 +448,8 @@ set a 5 0 3\r\nxyz|\r\n
 set a 5 0 3\r\nxyz\r|\n"#
 }
 
-// What is printed of a script, with the status; with `any` whatever the gate says of its trees.
-fn printed(alloc: Global, any: bool, script: &str) -> Result<String, Fail> {
+/// What is printed of a script, with the status; with `any` whatever the gate says of its trees.
+pub fn printed(alloc: Global, any: bool, script: &str) -> Result<String, Fail> {
     let mut out = Vec::new(alloc);
     let status = run_replay(alloc, any, script, &mut out);
     told(alloc, status, out.as_slice())
@@ -473,7 +473,8 @@ fn holds<R: Abort + AllocGlobal>(rt: &R, any: bool, part: &str) -> Result<(), Fa
     Ok(())
 }
 
-fn all_hold<R: Abort + AllocGlobal>(rt: &R, any: bool, examples: &str) -> Result<(), Fail> {
+/// Each of these examples holds.
+pub fn all_hold<R: Abort + AllocGlobal>(rt: &R, any: bool, examples: &str) -> Result<(), Fail> {
     for part in examples.split("== ").skip(1) {
         holds(rt, any, part)?;
     }

@@ -11,7 +11,7 @@ use Rattle.mc_runs.proofs.OverlapSteps.{walks_lead, leads_on}
 use Rattle.route_tree.specs.At.{tree_at}
 use Rattle.route_tree.specs.Word.{tree_words}
 use Rattle.proxy_core.specs.declared.client.Client.{Client}
-use Rattle.proxy_core.specs.declared.command.Command.{Command}
+use Rattle.commands_under_way.specs.declared.command.Command.{Command}
 use Rattle.proxy_core.specs.declared.proxy.Core.{Core}
 use Rattle.proxy_core.specs.CoreState.{dialect, bars_of, client_at, command_at, Beside, front_by, output_by, dropped_by, owner_by, MayComeOf, state_of, AreSlots, IsWaitedFor, IsQueue, IsHeld, IsOnItsWay, ticket_by, Fits, GoesBy}
 use Rattle.proxy_core.specs.Steps.{event_of, settled, Resolves}
@@ -20,7 +20,8 @@ use Rattle.proxy_core.specs.Settles.{SettlesBy, DropsBy, TakesOut}
 use Rattle.proxy_core.proofs.Came.{Came, none_then, other_then, single_then, below, unseen_then, has_result}
 use Rattle.proxy_core.proofs.Chains.{Then, beside_on, leads_there}
 use Rattle.proxy_core.proofs.Clients.{on_its_way_kept, by_client}
-use Rattle.proxy_core.proofs.Commands.{no_command, by_number}
+use Rattle.commands_under_way.proofs.Commands.{no_command}
+use Rattle.proxy_core.proofs.Commands.{by_number}
 use Rattle.proxy_core.proofs.Ending.{front_same, none_owned}
 use Rattle.proxy_core.proofs.Settling.{settles}
 use Rattle.proxy_core.proofs.Slots.{held_then}

@@ -13,10 +13,11 @@ use Rattle.mc_runs.specs.Overlap.{ticket_in, without, out_after}
 use Rattle.mc_runs.specs.OverlapState.{HasResult, found_after}
 use Rattle.route_job.specs.Rest.{ask_under, origin_under}
 use Rattle.route_job.specs.Jobs.{server_in, call_of, IsCalling}
-use Rattle.proxy_core.specs.declared.command.Command.{Command}
+use Rattle.commands_under_way.specs.declared.command.Command.{Command}
 use Rattle.proxy_core.specs.declared.proxy.Core.{Core}
 use Rattle.proxy_core.specs.CoreState.{command_at, Beside, owner_by, MayComeOf, state_of, is_call, ticket_by, Fits}
-use Rattle.proxy_core.proofs.Commands.{is_call_true, call_key, goes_on}
+use Rattle.commands_under_way.proofs.Commands.{is_call_true}
+use Rattle.proxy_core.proofs.Commands.{call_key, goes_on}
 use Rattle.proxy_core.proofs.Tickets.{some_none, less_other, less_single, none_without}
 
 -- a call of this number is out, and this outcome of it came

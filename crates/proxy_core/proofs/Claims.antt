@@ -6,10 +6,10 @@ use Rattle.std.specs.Map.{lookup}
 use Rattle.mc_types.specs.declared.ask.Ask.{Ask}
 use Rattle.mc_runs.specs.Overlap.{Slot, slot_in}
 use Rattle.proxy_core.specs.declared.client.Pending.{Pending}
-use Rattle.proxy_core.specs.declared.command.Command.{Command}
+use Rattle.commands_under_way.specs.declared.command.Command.{Command}
 use Rattle.proxy_core.specs.Claims.{waits_on, has_own}
 use Rattle.proxy_core.specs.CoreState.{dialect, AreSlots}
-use Rattle.proxy_core.proofs.Commands.{some_command}
+use Rattle.commands_under_way.proofs.Commands.{some_command}
 use Rattle.proxy_core.proofs.Slots.{some_slot, no_slot}
 
 first : (b r : Bool) → (b || r) ≡ false → b ≡ false

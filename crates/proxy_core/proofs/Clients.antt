@@ -14,13 +14,13 @@ use Rattle.route_tree.specs.At.{tree_at}
 use Rattle.route_tree.specs.Word.{tree_words}
 use Rattle.text_codec.proofs.ReaderLaws.{reader_is}
 use Rattle.proxy_core.specs.declared.client.Client.{Client}
-use Rattle.proxy_core.specs.declared.command.Command.{Command}
+use Rattle.commands_under_way.specs.declared.command.Command.{Command}
 use Rattle.proxy_core.specs.declared.proxy.Core.{Core}
 use Rattle.proxy_core.specs.Clients.{IsNew, Takes, TakesPiece, LosesOutput}
 use Rattle.route_tree.specs.Plan.{Plan}
 use Rattle.proxy_core.specs.declared.limits.Limits.{Limits}
 use Rattle.proxy_core.specs.Faults.{has_commands}
-use Rattle.proxy_core.specs.Lines.{others}
+use Rattle.commands_under_way.specs.Lines.{others}
 use Rattle.proxy_core.specs.Steps.{Turns}
 use Rattle.proxy_core.proofs.Slots.{held_then, same_held}
 use Rattle.proxy_core.proofs.Tickets.{contrary}

@@ -1,5 +1,5 @@
 -- Commands by number, and what may still come of them.
-use Rattle.std.proofs.Common.{◌≡◌, ◌↔◌, ℕ, true, false, cond, List, [], ◌∷◌, ◌++◌, Option, Some, None, refl, sym, ap, ◌∙◌, subst, append_assoc, nat_eq}
+use Rattle.std.proofs.Common.{◌≡◌, ◌↔◌, ℕ, true, false, cond, List, [], ◌∷◌, ◌++◌, Option, Some, refl, sym, ap, ◌∙◌, subst, append_assoc, nat_eq}
 use Rattle.std.proofs.lemmas.Bool.{eqb-true}
 use Rattle.mc_types.specs.declared.call.Origin.TheVariants.{Client as OfClient}
 use Rattle.mc_types.specs.declared.call.Outcome.{Outcome}
@@ -16,18 +16,12 @@ use Rattle.route_job.specs.declared.frame.Pending.{Pending as NextStep}
 use Rattle.route_job.specs.declared.frame.Pending.TheVariants.{Enter, Call as Calling, Back}
 use Rattle.route_job.specs.declared.job.Job.{Job}
 use Rattle.route_job.proofs.Jobs.{next_call}
-use Rattle.proxy_core.specs.declared.command.Command.{Command}
+use Rattle.commands_under_way.specs.declared.command.Command.{Command}
 use Rattle.proxy_core.specs.declared.proxy.Core.{Core}
 use Rattle.mc_types.specs.declared.ask.Ask.{Ask}
-use Rattle.proxy_core.specs.declared.limits.Sharing.{Sharing}
+use Rattle.commands_under_way.specs.declared.sharing.Sharing.{Sharing}
 use Rattle.proxy_core.specs.Claims.{claim_by}
-use Rattle.proxy_core.specs.CoreState.{command_at, is_call, IsOnItsWay}
-
-pub some_command : {x y : Command} → ◌≡◌ {A = Option Command} (Some x) (Some y) → x ≡ y
-some_command e = cc
-
-pub no_command : {A : Type 0} {x : Command} → ◌≡◌ {A = Option Command} None (Some x) → A
-no_command e = absurd cc
+use Rattle.proxy_core.specs.CoreState.{command_at, IsOnItsWay}
 
 -- a fact of each command, where that of one number changed
 pub by_number :
@@ -45,16 +39,6 @@ call_is : (p : NextStep) → IsCall p → (s : ℕ) × (p ≡ Calling s)
 call_is (Enter tree) is = absurd is
 call_is (Calling s) is = (s, refl)
 call_is (Back done) is = absurd is
-
-pub is_call_true : (p : NextStep) → IsCall p → is_call p ≡ true
-is_call_true (Enter tree) is = absurd is
-is_call_true (Calling s) is = refl
-is_call_true (Back done) is = absurd is
-
-pub call_is_true : (p : NextStep) → is_call p ≡ true → IsCall p
-call_is_true (Enter tree) e = absurd cc
-call_is_true (Calling s) e = tt
-call_is_true (Back done) e = absurd cc
 
 -- what may still come begins with the call that is next
 begins : (job : Job) → IsCalling job → (calls : List Call) (given : Given) → Comes job calls given → (outcome : Outcome) × (rest : List Call) × (calls ≡ call_of job outcome ∷ rest)

@@ -13,13 +13,14 @@ use Rattle.route_tree.specs.At.{tree_at}
 use Rattle.route_tree.specs.Word.{tree_words}
 use Rattle.proxy_core.specs.declared.client.Pending.{Pending}
 use Rattle.proxy_core.specs.declared.client.Client.{Client}
-use Rattle.proxy_core.specs.declared.command.Command.{Command}
+use Rattle.commands_under_way.specs.declared.command.Command.{Command}
 use Rattle.proxy_core.specs.declared.proxy.Core.{Core}
 use Rattle.proxy_core.specs.CoreState.{dialect, bars_of, client_at, command_at, Beside, front_by, output_by, dropped_by, owner_by, MayComeOf, state_of, is_call, has_call_out, AreSlots, IsAtFront, IsWaitedFor, IsQueue, IsHeld, IsOnItsWay, ticket_by, Fits, GoesBy, GoesByOne}
 use Rattle.proxy_core.specs.Steps.{Turns}
 use Rattle.proxy_core.specs.Ending.{pending_in, replied_in, GoesOn, Ends, Drops, Frees}
 use Rattle.proxy_core.proofs.Clients.{on_its_way_kept, changed, stays, command_stays, still_fits, owners, by_client}
-use Rattle.proxy_core.proofs.Commands.{no_command, by_number}
+use Rattle.commands_under_way.proofs.Commands.{no_command}
+use Rattle.proxy_core.proofs.Commands.{by_number}
 use Rattle.proxy_core.proofs.Slots.{some_slot, no_slot, no_reply, answered_other, held_then}
 use Rattle.proxy_core.proofs.Tickets.{contrary}
 

@@ -8,16 +8,16 @@ use Rattle.indexmap.specs.IndexMap as map
 use Rattle.mc_runs.specs.Overlap as log
 use Rattle.mc_runs.specs.Overlap.{Entry}
 use Rattle.proxy_core.specs.declared.client.Client.{Client}
-use Rattle.proxy_core.specs.declared.command.Command.{Command}
+use Rattle.commands_under_way.specs.declared.command.Command.{Command}
 use Rattle.proxy_core.specs.declared.proxy.Core.{Core}
 use Rattle.proxy_core.specs.CoreState.{client_at, command_at, dropped_by}
 use Rattle.proxy_core.specs.Settles.{is_idle, HasIdle, freed, FreesSome, DropsBy, TakesOut}
 use Rattle.proxy_core.specs.Ending.{Drops}
-use Rattle.proxy_core.specs.declared.key_lines.Standing.{Standing}
-use Rattle.proxy_core.specs.Lines as line
+use Rattle.commands_under_way.specs.declared.key_lines.Standing.{Standing}
+use Rattle.commands_under_way.specs.Lines as line
 use Rattle.proxy_core.proofs.Chains.{Then, goes_then, goes_as, goes_nowhere}
 use Rattle.proxy_core.proofs.Clients.{others_by}
-use Rattle.proxy_core.proofs.Commands.{no_command}
+use Rattle.commands_under_way.proofs.Commands.{no_command}
 use Rattle.proxy_core.proofs.Ending.{frees}
 
 -- an idle command is its client's, and no call of it is out

@@ -8,7 +8,7 @@ use Rattle.request_parts.specs.declared.refusal.RefusalReason.{RefusalReason}
 use Rattle.request_parts.specs.declared.skip.Skip.{Skip}
 use Rattle.request_parts.specs.declared.skip.Skip.TheVariants.{Nothing}
 use Rattle.request_parts.specs.Message.{Refusal}
-use Rattle.request_parts.specs.Stream.{Place, Stands, Closed, skipped, behind_own}
+use Rattle.request_parts.specs.Stream.{Place, Stands, Closed, skipped, after_own}
 use Rattle.request_parts.proofs.Streams.{used_within}
 use Rattle.client_requests.specs.declared.reader.Read.TheVariants as reads
 use Rattle.client_requests.specs.declared.request.Request.{Request}
@@ -16,12 +16,12 @@ use Rattle.client_requests.specs.declared.request.Request.TheVariants.{Classic, 
 use Rattle.client_requests.specs.Both.{both_grammar}
 use Rattle.client_requests.specs.Message.{Message, IsReadFrom, message_in, used_of}
 use Rattle.client_requests.specs.Asks.{asks_of, own_of, quiet_of}
-use Rattle.client_requests.specs.Stream.{behind}
+use Rattle.client_requests.specs.Stream.{after_message}
 use Rattle.text_codec.specs.Held.{held_at, IsReadAt}
 use Rattle.text_codec.specs.Replies.{refusal_text, long_line_text}
 use Rattle.text_codec.specs.TextProtocol.{Said, Whole, LongLine, ReadsNext, own_passed, asks_in, passed_text}
 use Rattle.connections.proofs.Fronts.{read_front, request_is_some, refused_is_some, long_is_some}
-use Rattle.connections.proofs.Requests.{own_next, own_text, request_behind}
+use Rattle.connections.proofs.Requests.{own_next, own_text, request_after}
 use Rattle.proxy_core.specs.declared.client.Client.{Client}
 use Rattle.proxy_core.specs.declared.answering.Passed.TheVariants.{Own as AsOwn, Refused}
 use Rattle.proxy_core.specs.CoreState.{dialect}
@@ -41,11 +41,11 @@ front_is place request is =
       read = subst (λ (l : List ℕ). IsReadFrom l request) held f.2;
     }
 
-pub reads_front : (place : Place) (request : Request) → IsFront place request → ReadsNext place (Whole (message_in (held_at place) request)) (behind (message_in (held_at place) request) (drop (used_of request) (held_at place)))
+pub reads_front : (place : Place) (request : Request) → IsFront place request → ReadsNext place (Whole (message_in (held_at place) request)) (after_message (message_in (held_at place) request) (drop (used_of request) (held_at place)))
 reads_front place request front =
     let held = held_at place in
     let m : Message = message_in held request in
-    subst (λ (p : Place). ReadsNext p (Whole m) (behind m (drop (used_of request) held))) (sym front.stands) (used_of request, front.read.begins, refl)
+    subst (λ (p : Place). ReadsNext p (Whole m) (after_message m (drop (used_of request) held))) (sym front.stands) (used_of request, front.read.begins, refl)
 
 pub used_held : (place : Place) (request : Request) → IsFront place request → used_of request ≤ length (held_at place)
 used_held place request front = used_within both_grammar (held_at place) (message_in (held_at place) request) (used_of request) front.read.begins
@@ -97,17 +97,17 @@ told_own held (Meta r) = refl
 -- what mcgate itself was asked
 pub own_passed_by : (x y : Client) (request : Request) (own : Option ProxyCommand) (used : ℕ) → IsReadAt x.stream (reads.Request request) → asks_of (message_in (held_at x.stream) request) ≡ [] → x.dropped ≡ false → x.queue.items ≡ []
     → used ≡ used_of request → own ≡ own_of (message_in (held_at x.stream) request)
-    → ((held : List ℕ) → x.stream ≡ Stands Nothing held → GoesTo x (behind_own own (drop used held)) (own_passed own) y) → PassesFront x AsOwn y
+    → ((held : List ℕ) → x.stream ≡ Stands Nothing held → GoesTo x (after_own own (drop used held)) (own_passed own) y) → PassesFront x AsOwn y
 own_passed_by x y request own used is asks served none used_is own_is goes =
     let front = front_is x.stream request is in
     let held = held_at x.stream in
     let m : Message = message_in held request in
     let rest : List ℕ = drop (used_of request) held in
-    let next : behind_own own (drop used held) ≡ behind m rest = ap (λ n. behind_own own (drop n held)) used_is ∙ ap (λ (o : Option ProxyCommand). behind_own o rest) own_is ∙ own_next held request rest in
+    let next : after_own own (drop used held) ≡ after_message m rest = ap (λ n. after_own own (drop n held)) used_is ∙ ap (λ (o : Option ProxyCommand). after_own o rest) own_is ∙ own_next held request rest in
     let text : own_passed own ≡ passed_text (Whole m) = ap own_passed own_is ∙ own_text held request in
     subst (λ p. PassesFront x p y) (told_own held request)
-    (passes x y (Whole m) (behind m rest) (reads_front x.stream request front) asks served none
-    (subst (λ (p : Place). GoesTo x p (passed_text (Whole m)) y) next (subst (λ (l : List ℕ). GoesTo x (behind_own own (drop used held)) l y) text (goes held front.stands))))
+    (passes x y (Whole m) (after_message m rest) (reads_front x.stream request front) asks served none
+    (subst (λ (p : Place). GoesTo x p (passed_text (Whole m)) y) next (subst (λ (l : List ℕ). GoesTo x (after_own own (drop used held)) l y) text (goes held front.stands))))
 
 -- the next key of the message at the front began, and the client moved on
 pub begins_key : (x z y : Client) (request : Request) (ask : Ask) (number count used : ℕ) (quiet : Bool) → IsAskAt x request ask → x.waits ≡ false
@@ -123,8 +123,8 @@ begins_key x z y request ask number count used quiet at ready count_is used_is q
     let last : Bool = nat_eq (x.index + 1) (length (asks_of m)) in
     let last_is : nat_eq (x.index + 1) count ≡ last = ap (λ n. nat_eq (x.index + 1) n) count_is in
     let goes : MovesOn last z rest y = subst (λ b. MovesOn b z rest y) last_is (subst (λ n. MovesOn (nat_eq (x.index + 1) count) z (drop n held) y) used_is (moves held (stream ∙ at.place))) in
-    let behind_is : Stands Nothing rest ≡ behind m rest = sym (request_behind held request rest x.index ask at.at) in
-    let part : Part dialect = record { message = Whole m; next = behind m rest; index = x.index; ask = ask } in
+    let after_is : Stands Nothing rest ≡ after_message m rest = sym (request_after held request rest x.index ask at.at) in
+    let part : Part dialect = record { message = Whole m; next = after_message m rest; index = x.index; ask = ask } in
     record {
       part = part;
       pending = record { ask = ask; reply = None; number = number; quiet = quiet; last = nat_eq (x.index + 1) count };
@@ -136,7 +136,7 @@ begins_key x z y request ask number count used quiet at ready count_is used_is q
         asks = at.at;
         ready = ready;
       };
-      front = goes.front ∙ moved last (Stands Nothing rest) (behind m rest) z.stream x.stream z.index x.index behind_is stream index;
+      front = goes.front ∙ moved last (Stands Nothing rest) (after_message m rest) z.stream x.stream z.index x.index after_is stream index;
       queue = goes.queue ∙ queue;
       output = goes.output ∙ output;
       dropped = goes.dropped ∙ dropped;

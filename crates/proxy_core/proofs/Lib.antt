@@ -1,10 +1,7 @@
 pub mod Tickets
 pub mod Slots
 pub mod Claims
-pub mod Lines
-pub mod Idle
 pub mod Commands
-pub mod Counting
 pub mod Clients
 pub mod Fronts
 pub mod Polls

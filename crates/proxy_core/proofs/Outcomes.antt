@@ -5,16 +5,16 @@ use Rattle.mc_types.specs.declared.call.Outcome.{Outcome}
 use Rattle.mc_runs.specs.Overlap as log
 use Rattle.mc_runs.specs.Overlap.{Entry, Slot, Owner}
 use Rattle.proxy_core.specs.declared.client.Client.{Client}
-use Rattle.proxy_core.specs.declared.command.Command.{Command}
+use Rattle.commands_under_way.specs.declared.command.Command.{Command}
 use Rattle.proxy_core.specs.declared.proxy.Core.{Core}
 use Rattle.proxy_core.specs.CoreState.{dialect, client_at, command_at, output_by, dropped_by, is_call, has_call_out, IsHeld}
 use Rattle.proxy_core.specs.Steps.{Resolves}
-use Rattle.proxy_core.specs.Lines as line
+use Rattle.commands_under_way.specs.Lines as line
 use Rattle.proxy_core.specs.Settles.{TakesOutcome, FitsCall, SettlesBy, Settles, AreIdle, freed, FreesSome, FreesIdle, DropsBy, TakesOut, Breaks}
 use Rattle.proxy_core.proofs.Broken.{settles_alone, settles_then, settles_as, breaks}
 use Rattle.proxy_core.proofs.Came.{Came}
 use Rattle.proxy_core.proofs.Chains.{Then}
-use Rattle.proxy_core.proofs.Commands.{some_command, no_command, call_is_true}
+use Rattle.commands_under_way.proofs.Commands.{some_command, no_command, call_is_true}
 use Rattle.proxy_core.proofs.Ending.{frees}
 use Rattle.proxy_core.proofs.Freed.{dropped_is}
 

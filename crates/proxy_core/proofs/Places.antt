@@ -13,11 +13,11 @@ use Rattle.request_parts.specs.Stream.{Stands}
 use Rattle.client_requests.specs.declared.request.Request.{Request}
 use Rattle.client_requests.specs.Message.{Message, message_in, used_of}
 use Rattle.client_requests.specs.Asks.{asks_of}
-use Rattle.client_requests.specs.Stream.{behind}
+use Rattle.client_requests.specs.Stream.{after_message}
 use Rattle.text_codec.specs.Held.{held_at}
 use Rattle.text_codec.specs.Replies.{is_failure}
 use Rattle.text_codec.specs.TextProtocol.{Whole}
-use Rattle.connections.proofs.Requests.{request_behind}
+use Rattle.connections.proofs.Requests.{request_after}
 use Rattle.proxy_core.specs.declared.client.Client.{Client}
 use Rattle.proxy_core.specs.CoreState.{dialect, front_by}
 use Rattle.proxy_core.specs.declared.client.Pending.{Pending}
@@ -40,11 +40,11 @@ went_on x y request reply b a ends front =
     let m : Message = message_in held request in
     let rest : List ℕ = drop (used_of request) held in
     let key = some_ask (asks_of m) x.index a.there in
-    let behind_is : Stands Nothing rest ≡ behind m rest = sym (request_behind held request rest x.index key.0 key.1) in (
+    let after_is : Stands Nothing rest ≡ after_message m rest = sym (request_after held request rest x.index key.0 key.1) in (
       Whole m,
-      behind m rest,
+      after_message m rest,
       reads_front x.stream request (record { stands = a.stands; read = a.read }),
-      front ∙ (λ i. if sym ends i then record { place = behind_is i; index = 0; waits = false } else record { place = x.stream; index = x.index + 1; waits = false }),
+      front ∙ (λ i. if sym ends i then record { place = after_is i; index = 0; waits = false } else record { place = x.stream; index = x.index + 1; waits = false }),
     )
 
 -- where the first of a number stands

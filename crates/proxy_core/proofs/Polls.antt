@@ -18,7 +18,7 @@ use Rattle.route_tree.specs.Word.{Given, Word, tree_words}
 use Rattle.route_job.specs.Jobs.{Comes, IsDone}
 use Rattle.proxy_core.specs.declared.answering.Passed.{Passed}
 use Rattle.proxy_core.specs.declared.client.Client.{Client}
-use Rattle.proxy_core.specs.declared.command.Command.{Command}
+use Rattle.commands_under_way.specs.declared.command.Command.{Command}
 use Rattle.proxy_core.specs.declared.proxy.Core.{Core}
 use Rattle.proxy_core.specs.declared.client.Pending.{Pending}
 use Rattle.proxy_core.specs.declared.fault.CoreFault.{CoreFault}
@@ -27,15 +27,15 @@ use Rattle.proxy_core.specs.declared.note.Note.{Note}
 use Rattle.proxy_core.specs.declared.note.Poll.{Poll}
 use Rattle.proxy_core.specs.declared.note.Poll.TheVariants as polls
 use Rattle.proxy_core.specs.declared.replying.Place.{Place}
-use Rattle.proxy_core.specs.declared.ticket.Ticket.{Ticket}
+use Rattle.commands_under_way.specs.declared.ticket.Ticket.{Ticket}
 use Rattle.proxy_core.specs.Steps.{Turns}
 use Rattle.proxy_core.specs.Fronts.{Stays, PassesFront, BeginsKey}
-use Rattle.proxy_core.specs.Ready.{IsIdle}
-use Rattle.proxy_core.specs.Begun.{IsBegun, ticket_of}
+use Rattle.commands_under_way.specs.Ready.{IsIdle}
+use Rattle.commands_under_way.specs.Begun.{IsBegun, ticket_of}
 use Rattle.proxy_core.specs.Polls.{ForClient, IsPassed, IsNothing, HasBegun, BeginsAt, CanSend, IsSent, IsEnded, IsServed, AreShown, IsShown, queue_len, ShowsNext, StopsFirst, StopsAfter, IsBelowDepth, BeginsBelow, MayAsk, NoneGoesOn, IsNextAsk, bars, stands_before, StandsStill, StandsInLine, Acts, Polls, IsPolled, IsActed, IsWhy, SoEnded, SoFar, ReadFault, Perhaps, BeginsOne, DropsAll, StopsAt}
 use Rattle.proxy_core.specs.Settles.{freed}
-use Rattle.proxy_core.specs.Lines as line
-use Rattle.proxy_core.proofs.Lines.{others_again}
+use Rattle.commands_under_way.specs.Lines as line
+use Rattle.commands_under_way.proofs.Lines.{others_again}
 use Rattle.proxy_core.specs.Heads.{HasNoReply, ShowsOne}
 use Rattle.proxy_core.specs.Resting.{HasCommand}
 use Rattle.proxy_core.specs.Replying.{IsPlace, Answers}
@@ -44,7 +44,7 @@ use Rattle.proxy_core.specs.CoreState.{dialect, bars_of, client_at, command_at, 
 use Rattle.proxy_core.specs.Claims.{claim_by, is_barred, has_own}
 use Rattle.proxy_core.proofs.Clients.{on_its_way_kept, stays, command_stays, still_fits, owners}
 use Rattle.proxy_core.proofs.Slots.{same_held}
-use Rattle.proxy_core.proofs.Commands.{some_command}
+use Rattle.commands_under_way.proofs.Commands.{some_command}
 use Rattle.proxy_core.proofs.Passing.{passes}
 use Rattle.proxy_core.proofs.Beginning.{begins}
 use Rattle.proxy_core.proofs.Sending.{sends}

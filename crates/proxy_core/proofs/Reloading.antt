@@ -7,11 +7,11 @@ use Rattle.mc_runs.proofs.OverlapReload.{reloads}
 use Rattle.route_tree.specs.Route.{Route}
 use Rattle.route_tree.specs.Plan.{Plan}
 use Rattle.route_tree.specs.Word.{Word, tree_words}
-use Rattle.proxy_core.specs.declared.command.Command.{Command}
+use Rattle.commands_under_way.specs.declared.command.Command.{Command}
 use Rattle.proxy_core.specs.declared.proxy.Core.{Core}
 use Rattle.proxy_core.specs.Claims.{copies_by, bars_by}
 use Rattle.proxy_core.specs.CoreState.{bars_of, command_at, Beside, state_of, IsOnItsWay, Fits, IsTakenOver, Reloads}
-use Rattle.proxy_core.proofs.Commands.{no_command}
+use Rattle.commands_under_way.proofs.Commands.{no_command}
 
 -- the words of commands that have begun stay
 words_stay : (old : Core) (tree : Route) (beside : Beside) (at : ℕ → List ℕ → Plan) → IsTakenOver old tree beside at → AreKept (old.number + 1) (tree_words beside.at) (tree_words at)

@@ -13,28 +13,26 @@ use Rattle.client_requests.specs.declared.reader.Read.TheVariants as reads
 use Rattle.client_requests.specs.declared.request.Request.{Request}
 use Rattle.client_requests.specs.Message.{message_in}
 use Rattle.client_requests.specs.Asks.{asks_of}
-use Rattle.client_requests.specs.Stream.{behind}
+use Rattle.client_requests.specs.Stream.{after_message}
 use Rattle.text_codec.specs.Held.{held_at, IsReadAt}
 use Rattle.text_codec.specs.TextProtocol.{Said, Whole, LongLine, ReadsNext, asks_in}
 use Rattle.text_codec.proofs.ReaderLaws.{reader_is}
 use Rattle.connections.proofs.Fronts.{read_front, refused_is_some, long_is_some, more_stuck}
-use Rattle.route_job.specs.Jobs.{IsReply, IsCalling, IsDone}
-use Rattle.route_job.specs.declared.frame.Pending.{Pending as NextStep}
-use Rattle.route_job.specs.declared.frame.Pending.TheVariants.{Enter, Call as Calling, Back}
+use Rattle.route_job.specs.Jobs.{IsCalling}
 use Rattle.proxy_core.specs.declared.client.Client.{Client}
 use Rattle.proxy_core.specs.declared.client.Pending.{Pending}
-use Rattle.proxy_core.specs.declared.command.Command.{Command}
-use Rattle.proxy_core.specs.declared.looking.Turn.{Turn}
-use Rattle.proxy_core.specs.declared.looking.Turn.TheVariants as turns
+use Rattle.commands_under_way.specs.declared.command.Command.{Command}
+use Rattle.commands_under_way.specs.declared.turns.Turn.{Turn}
+use Rattle.commands_under_way.specs.declared.turns.Turn.TheVariants as turns
 use Rattle.proxy_core.specs.declared.proxy.Core.{Core}
 use Rattle.proxy_core.specs.Ending.{pending_in}
 use Rattle.proxy_core.specs.Fronts.{AsksNone}
-use Rattle.proxy_core.specs.Out.{is_call, has_call_out}
-use Rattle.proxy_core.specs.Ready.{IsIdle, IsTurn}
+use Rattle.commands_under_way.specs.Out.{is_call, has_call_out}
+use Rattle.commands_under_way.specs.Ready.{IsIdle, IsTurn}
 use Rattle.proxy_core.specs.Replying.{HasPlace}
 use Rattle.proxy_core.specs.Resting.{goes_on, IsHeldUp, IsLater}
 use Rattle.proxy_core.specs.CoreState.{dialect, Beside, client_at, command_at, front_by, IsSlot, AreSlots, IsAtFront, IsWaitedFor, IsQueue, IsHeld, Fits}
-use Rattle.proxy_core.proofs.Commands.{is_call_true}
+use Rattle.commands_under_way.proofs.Commands.{is_call_true}
 use Rattle.proxy_core.proofs.Ending.{waited_for}
 use Rattle.proxy_core.proofs.Fronts.{front_is, reads_front}
 use Rattle.proxy_core.proofs.Slots.{some_slot, no_slot}
@@ -54,7 +52,7 @@ is_read place reads.TooLong is message next here =
     (reader_is.one_message place message LongLine next Closed here (subst (λ (p : Place). ReadsNext p LongLine Closed) (sym f.1) (f.2, refl))).0
 is_read place (reads.Refused why used skip) is message next here =
     let f = read_front place (reads.Refused why used skip) is (refused_is_some why used skip) in
-    let after : Place = behind (Refusal why skip) (drop used f.0) in
+    let after : Place = after_message (Refusal why skip) (drop used f.0) in
     (reader_is.one_message place message (Whole (Refusal why skip)) next after here (subst (λ (p : Place). ReadsNext p (Whole (Refusal why skip)) after) (sym f.1) (used, f.2, refl))).0
 is_read place (reads.Request request) is message next here = (reader_is.one_message place message (Whole (message_in (held_at place) request)) next _ here (reads_front place request (front_is place request is))).0
 
@@ -103,16 +101,6 @@ later_key x request depth is some why =
     by part n (inl waits) = absurd (let e = n.ready in cc)
     by part n (inr (inl full)) = full
     by part n (inr (inr few)) = no_more_keys x request is few part.message part.next part.ask n.reads (ap (λ i. slice_get (asks_in part.message) i) (sym n.index) ∙ n.asks)
-
--- where a job is done, no call is out
-pub done_is_in : (a : Command) → IsDone a.job → has_call_out a ≡ false
-done_is_in a done = by a.is_out a.job.pending done
-  where
-    by : (b : Bool) (p : NextStep) → IsReply p → cond b (is_call p) false ≡ false
-    by true (Enter tree) done = absurd done
-    by true (Calling server) done = absurd done
-    by true (Back reply) done = refl
-    by false p done = refl
 
 -- where a call is next and none is out, the command is idle
 pub calling_is_idle : (a : Command) → IsCalling a.job → has_call_out a ≡ false → a.is_out ≡ false

@@ -12,11 +12,12 @@ use Rattle.route_tree.specs.At.{tree_at}
 use Rattle.route_tree.specs.Word.{tree_words}
 use Rattle.route_job.specs.Rest.{ask_under, origin_under}
 use Rattle.route_job.specs.Jobs.{server_in}
-use Rattle.proxy_core.specs.declared.command.Command.{Command}
+use Rattle.commands_under_way.specs.declared.command.Command.{Command}
 use Rattle.proxy_core.specs.declared.proxy.Core.{Core}
 use Rattle.proxy_core.specs.Steps.{SendsOut}
 use Rattle.proxy_core.specs.CoreState.{bars_of, client_at, command_at, Beside, front_by, output_by, dropped_by, owner_by, MayComeOf, state_of, is_call, IsQueue, IsHeld, IsOnItsWay, ticket_by, Fits, GoesByOne}
-use Rattle.proxy_core.proofs.Commands.{some_command, by_number, is_call_true, call_key}
+use Rattle.commands_under_way.proofs.Commands.{some_command, is_call_true}
+use Rattle.proxy_core.proofs.Commands.{by_number, call_key}
 use Rattle.proxy_core.proofs.Clients.{on_its_way_kept}
 use Rattle.proxy_core.proofs.Slots.{held_alike}
 use Rattle.proxy_core.proofs.Tickets.{some_none, more_other, more_own, more_single}

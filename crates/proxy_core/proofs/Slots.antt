@@ -4,7 +4,7 @@ use Rattle.std.proofs.lemmas.Bool.{eqb-true}
 use Rattle.mc_types.specs.declared.answer.Answer.{Answer}
 use Rattle.mc_runs.specs.Overlap.{Slot, slot_in, answered_in, is_last_slot}
 use Rattle.proxy_core.specs.declared.client.Client.{Client}
-use Rattle.proxy_core.specs.declared.command.Command.{Command}
+use Rattle.commands_under_way.specs.declared.command.Command.{Command}
 use Rattle.proxy_core.specs.CoreState.{dialect, IsWaitedFor, IsHeld}
 use Rattle.proxy_core.proofs.Tickets.{contrary}
 

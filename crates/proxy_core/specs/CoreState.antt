@@ -9,7 +9,7 @@ use Rattle.mc_types.specs.Items.{Item}
 use Rattle.mc_runs.specs.Run.{Call}
 use Rattle.mc_runs.specs.Protocol.{Protocol}
 use Rattle.mc_runs.specs.Overlap as log
-use Rattle.mc_runs.specs.Overlap.{Front, Slot, Owner, Ticket, Entry, Resets, ticket_in, without, slot_in, is_last_slot, start_front}
+use Rattle.mc_runs.specs.Overlap.{Front, Slot, Ticket, Entry, Resets, ticket_in, without, slot_in, is_last_slot, start_front}
 use Rattle.mc_runs.specs.OverlapState.{OverlapState, LeadsTo, Leads}
 use Rattle.request_parts.specs.Stream.{Place}
 use Rattle.client_requests.specs.Asks.{quiet_of}
@@ -23,13 +23,14 @@ use Rattle.route_job.specs.Rest.{ask_under, origin_under}
 use Rattle.route_job.specs.Jobs.{server_in}
 use Rattle.proxy_core.specs.declared.client.Pending.{Pending}
 use Rattle.proxy_core.specs.declared.client.Client.{Client}
-use Rattle.proxy_core.specs.declared.command.Command.{Command}
+use Rattle.commands_under_way.specs.declared.command.Command.{Command}
 use Rattle.proxy_core.specs.declared.limits.Limits.{Limits}
-use Rattle.proxy_core.specs.declared.limits.Sharing.{Sharing}
+use Rattle.commands_under_way.specs.declared.sharing.Sharing.{Sharing}
 use Rattle.proxy_core.specs.Claims.{claim_by, bars_by}
-use Rattle.proxy_core.specs.Lines.{others}
+use Rattle.commands_under_way.specs.Lines.{others}
 use Rattle.proxy_core.specs.declared.proxy.Core.{Core}
-pub use Rattle.proxy_core.specs.Out.{is_call, has_call_out}
+pub use Rattle.commands_under_way.specs.Begun.{owner_by}
+pub use Rattle.commands_under_way.specs.Out.{is_call, has_call_out}
 
 -- what clients say, and what they are shown for it
 abbrev pub dialect : Protocol
@@ -74,9 +75,6 @@ output_by (Some x) = x.output.items
 abbrev pub dropped_by : Option Client → Bool
 dropped_by None = false
 dropped_by (Some x) = x.dropped
-
-abbrev pub owner_by : Command → Owner
-owner_by command = record { client = command.client; ask = command.ask }
 
 -- what may still come of a command
 abbrev pub MayComeOf : Option Command → List Call → Answer → Option ℕ → Type 0

@@ -8,7 +8,7 @@ use Rattle.request_parts.specs.Stream.{Place}
 use Rattle.route_job.specs.Jobs.{Comes}
 use Rattle.proxy_core.specs.declared.client.Pending.{Pending}
 use Rattle.proxy_core.specs.declared.client.Client.{Client}
-use Rattle.proxy_core.specs.declared.command.Command.{Command}
+use Rattle.commands_under_way.specs.declared.command.Command.{Command}
 use Rattle.proxy_core.specs.declared.proxy.Core.{Core}
 use Rattle.proxy_core.specs.CoreState.{dialect, Message, client_at, command_at, front_by, has_call_out, GoesBy, GoesByOne}
 use Rattle.proxy_core.specs.Steps.{Turns}

@@ -1,23 +1,17 @@
 -- When a call of the core does nothing, and why. Source: mcgate's own.
-use Rattle.std.specs.Prelude.{◌≡◌, ℕ, ◌<◌, ◌≤◌, Bool, true, false, List, None, MatchOption, nat_eq, IsSome}
-use Rattle.std.specs.List.{list_any}
-use Rattle.indexmap.specs.IndexMap as map
+use Rattle.std.specs.Prelude.{◌≡◌, ℕ, ◌<◌, ◌≤◌, true, false, List, None, MatchOption, IsSome}
 use Rattle.slab.specs.Slab.{slab_len}
 use Rattle.proxy_core.specs.declared.fault.CoreFault.{CoreFault}
 use Rattle.proxy_core.specs.declared.fault.CoreFault.TheVariants as faults
 use Rattle.proxy_core.specs.declared.limits.Limits.{Limits}
-use Rattle.proxy_core.specs.declared.limits.Sharing.TheVariants.{Alone}
-use Rattle.proxy_core.specs.declared.command.Command.{Command}
+use Rattle.commands_under_way.specs.declared.sharing.Sharing.TheVariants.{Alone}
 use Rattle.proxy_core.specs.declared.proxy.Core.{Core}
 use Rattle.proxy_core.specs.Clients.{IsEnded, HasRoom, RoomFault}
 use Rattle.proxy_core.specs.CoreState.{client_at}
+pub use Rattle.commands_under_way.specs.Owned.{has_commands}
 
 abbrev pub script_limits : Limits
 script_limits = record { clients = 64; held = 2097152; depth = 1; window = 1; sharing = Alone }
-
--- one of the commands is this client's
-abbrev pub has_commands : ℕ → {S : Type 0} → map.IndexMap ℕ Command S → Bool
-has_commands client commands = list_any (λ (x : Command). nat_eq x.client client) (map.values commands)
 
 -- nothing is read of the client any more, or there is none
 abbrev pub IsClosed : Core → ℕ → Type 0

@@ -5,10 +5,10 @@ use Rattle.mc_types.specs.declared.ask.Ask.{Ask}
 use Rattle.mc_types.specs.declared.answer.Answer.{Answer}
 use Rattle.route_tree.specs.Word.{Given}
 use Rattle.route_job.specs.Jobs.{IsDone}
-use Rattle.proxy_core.specs.declared.command.Command.{Command}
+use Rattle.commands_under_way.specs.declared.command.Command.{Command}
 use Rattle.proxy_core.specs.declared.note.Note.{Note}
 use Rattle.proxy_core.specs.declared.proxy.Core.{Core}
-use Rattle.proxy_core.specs.Ready.{IsIdle}
+use Rattle.commands_under_way.specs.Ready.{IsIdle}
 
 -- a command of the client whose job is done, and of which no call is out
 pub record CanEnd (core : Core) (client number : ℕ) : Type 0 where

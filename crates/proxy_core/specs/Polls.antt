@@ -19,22 +19,22 @@ use Rattle.proxy_core.specs.declared.fault.CoreFault.{CoreFault}
 use Rattle.proxy_core.specs.declared.fault.CoreFault.TheVariants as faults
 use Rattle.proxy_core.specs.declared.proxy.Core.{Core}
 use Rattle.route_job.specs.Jobs.{IsCalling}
-use Rattle.proxy_core.specs.declared.command.Command.{Command}
+use Rattle.commands_under_way.specs.declared.command.Command.{Command}
 use Rattle.proxy_core.specs.declared.answering.Passed.TheVariants.{Own, Refused}
-use Rattle.proxy_core.specs.declared.looking.Turn.TheVariants.{Full}
+use Rattle.commands_under_way.specs.declared.turns.Turn.TheVariants.{Full}
 use Rattle.proxy_core.specs.declared.note.Note.{Note}
 use Rattle.proxy_core.specs.declared.note.Poll.{Poll}
 use Rattle.proxy_core.specs.declared.note.Poll.TheVariants as polls
 use Rattle.proxy_core.specs.Settles.{freed, HasNoIdle}
-use Rattle.proxy_core.specs.declared.ticket.Ticket.{Ticket}
+use Rattle.commands_under_way.specs.declared.ticket.Ticket.{Ticket}
 use Rattle.proxy_core.specs.CoreState.{dialect, Message, client_at, command_at, output_by, dropped_by, GoesBy}
 use Rattle.proxy_core.specs.Fronts.{AsksNone, told_of, IsAskAt}
 use Rattle.route_tree.specs.At.{tree_at}
-use Rattle.proxy_core.specs.declared.claim.Claim.{Claim}
+use Rattle.commands_under_way.specs.declared.claim.Claim.{Claim}
 use Rattle.proxy_core.specs.Claims.{claim_by, is_barred, has_own}
-use Rattle.proxy_core.specs.Lines.{is_behind, others, joined}
+use Rattle.commands_under_way.specs.Lines.{is_behind, others, joined}
 use Rattle.proxy_core.specs.Heads.{HasNoReply}
-use Rattle.proxy_core.specs.Ready.{IsIdle, IsTurn}
+use Rattle.commands_under_way.specs.Ready.{IsIdle, IsTurn}
 use Rattle.proxy_core.specs.Resting.{AreHeldUp, HasCommand, IsLater}
 
 -- this holds of the client, which is there

@@ -1,24 +1,17 @@
 -- When nothing can be done for a client. Source: mcgate's own.
-use Rattle.std.specs.Prelude.{◌≡◌, ℕ, ◌<◌, ◌≤◌, ◌⊎◌, Bool, true, false, List, [], ◌∷◌, length, Some, None}
+use Rattle.std.specs.Prelude.{◌≡◌, ℕ, ◌<◌, ◌≤◌, ◌⊎◌, true, List, [], ◌∷◌, length, Some, None}
 use Rattle.indexmap.specs.IndexMap as map
 use Rattle.mc_runs.specs.Log.{Part}
 use Rattle.mc_runs.specs.Overlap.{IsNext}
 use Rattle.request_parts.specs.Stream.{Place}
 use Rattle.proxy_core.specs.declared.client.Client.{Client}
 use Rattle.proxy_core.specs.declared.client.Pending.{Pending}
-use Rattle.proxy_core.specs.declared.command.Command.{Command}
+use Rattle.commands_under_way.specs.declared.command.Command.{Command}
 use Rattle.proxy_core.specs.declared.looking.Ready.{Ready}
-use Rattle.proxy_core.specs.declared.looking.Turn.{Turn}
-use Rattle.proxy_core.specs.declared.looking.Turn.TheVariants as turns
-use Rattle.proxy_core.specs.Ready.{IsTurn}
+use Rattle.commands_under_way.specs.declared.turns.Turn.TheVariants as turns
+use Rattle.commands_under_way.specs.Ready.{IsTurn}
+pub use Rattle.commands_under_way.specs.Ready.{goes_on}
 use Rattle.proxy_core.specs.CoreState.{dialect, Message, front_by}
-
--- whether a command goes on at its turn: its next call goes out, or it ends
-abbrev pub goes_on : Turn → Bool
-goes_on turns.Sends = true
-goes_on turns.Ends = true
-goes_on turns.Full = false
-goes_on turns.Rests = false
 
 -- the command goes on so
 abbrev pub IsReady : ℕ → ℕ → {S : Type 0} → map.IndexMap ℕ Command S → Ready → Type 0

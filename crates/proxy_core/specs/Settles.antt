@@ -1,55 +1,37 @@
 -- What changes in the core when the result of a call comes. Source: mcgate's own.
-use Rattle.std.specs.Prelude.{◌≡◌, ◌↔◌, ℕ, Bool, true, false, List, [], ◌∷◌, ◌++◌, map as each, not, Option, Some, None, if◌then◌else◌, nat_eq}
-use Rattle.indexmap.specs.IndexMap as map
+use Rattle.std.specs.Prelude.{◌≡◌, ℕ, true, false, List, [], ◌∷◌, ◌++◌, map as each, Option, Some, None, if◌then◌else◌, nat_eq}
 use Rattle.mc_types.specs.declared.ask.Ask.{Ask}
 use Rattle.mc_types.specs.declared.call.Outcome.{Outcome}
 use Rattle.mc_types.specs.declared.call.Origin.{Origin}
 use Rattle.mc_types.specs.declared.call.Origin.TheVariants.{Client as OfClient}
-use Rattle.mc_runs.specs.Run.{Call, End, outcome_of}
+use Rattle.mc_runs.specs.Run.{End, outcome_of}
 use Rattle.mc_runs.specs.Fleet.{EndsIn}
 use Rattle.mc_runs.specs.Single.{FitsOutcome}
 use Rattle.mc_runs.specs.Overlap as log
 use Rattle.mc_runs.specs.Overlap.{Entry, Happens}
 use Rattle.mc_runs.specs.OverlapState.{Leads}
-use Rattle.route_tree.specs.Word.{Given, tree_words}
+use Rattle.route_tree.specs.Word.{tree_words}
 use Rattle.route_job.specs.Rest.{ask_under, origin_under}
-use Rattle.route_job.specs.Jobs.{server_in, call_of, Comes}
+use Rattle.route_job.specs.Jobs.{server_in}
 use Rattle.proxy_core.specs.declared.client.Client.{Client}
-use Rattle.proxy_core.specs.declared.command.Command.{Command}
+use Rattle.commands_under_way.specs.declared.command.Command.{Command}
 use Rattle.proxy_core.specs.declared.fault.CoreFault.{CoreFault}
 use Rattle.proxy_core.specs.declared.fault.CoreFault.TheVariants as faults
 use Rattle.proxy_core.specs.declared.proxy.Core.{Core}
-use Rattle.proxy_core.specs.CoreState.{dialect, bars_of, client_at, command_at, Beside, output_by, dropped_by, owner_by, state_of, has_call_out, Fits, IsBeside, GoesBy}
+use Rattle.proxy_core.specs.CoreState.{dialect, bars_of, client_at, command_at, Beside, output_by, dropped_by, state_of, has_call_out, Fits, IsBeside, GoesBy}
 use Rattle.proxy_core.specs.Steps.{event_of, settled}
 use Rattle.proxy_core.specs.Ending.{Drops}
-use Rattle.proxy_core.specs.Lines as line
-
--- a command took the outcome of its call, which is out no more
-pub record TakesOutcome (a : Command) (outcome : Outcome) (b : Command) : Type 0 where
-  pub owner : owner_by b ≡ owner_by a
-  pub claim : b.claim ≡ a.claim
-  pub idle : b.is_out ≡ false
-  pub rest : (calls : List Call) (given : Given) → Comes b.job calls given ↔ Comes a.job (call_of a.job outcome ∷ calls) given
+use Rattle.commands_under_way.specs.Lines as line
+pub use Rattle.commands_under_way.specs.Outcomes.{TakesOutcome, asked_by, IsOutAs}
+pub use Rattle.commands_under_way.specs.Owned.{is_idle, HasIdle, IsAllOut}
 
 -- the outcome fits the ask of this core's call of this number, if one is out
 abbrev pub FitsCall : Core → ℕ → Outcome → Type 0
 FitsCall core number outcome = (a : Command) → command_at core number ≡ Some a → has_call_out a ≡ true → FitsOutcome (ask_under a.job.frames.items a.job.ask) outcome
 
--- what the command's call that is out asks
-abbrev pub asked_by : Option Command → Option Ask
-asked_by None = None
-asked_by (Some a) = if has_call_out a then Some (ask_under a.job.frames.items a.job.ask) else None
-
 -- what this core's call of this number asks, if one is out
 abbrev pub asked : Core → ℕ → Option Ask
 asked core number = asked_by (command_at core number)
-
--- the call of a command that is out
-pub record IsOutAs (command : Command) (server : ℕ) (ask : Ask) (origin : Origin) : Type 0 where
-  pub out : has_call_out command ≡ true
-  pub server_is : server ≡ server_in command.job.pending
-  pub ask_is : ask ≡ ask_under command.job.frames.items command.job.ask
-  pub origin_is : origin ≡ origin_under command.job.frames.items OfClient
 
 -- this call of the core is out
 pub record IsCalled (core : Core) (number server : ℕ) (ask : Ask) (origin : Origin) : Type 0 where
@@ -79,18 +61,6 @@ pub record Settles (old : Core) (number : ℕ) (outcome : Outcome) (new : Core) 
   pub others : (n : ℕ) → nat_eq number n ≡ false → command_at new n ≡ command_at old n
   pub clients : (c : ℕ) → client_at new c ≡ client_at old c
   pub lines : new.lines ≡ old.lines
-
--- it is this client's, and no call of it is out
-abbrev pub is_idle : ℕ → Command → Bool
-is_idle client command = if nat_eq command.client client then not command.is_out else false
-
--- that of this number is
-abbrev pub HasIdle : ℕ → {S : Type 0} → map.IndexMap ℕ Command S → ℕ → Type 0
-HasIdle client commands n = (command : Command) × (map.get nat_eq commands n ≡ Some command) × (is_idle client command ≡ true)
-
--- there is none
-abbrev pub IsAllOut : ℕ → {S : Type 0} → map.IndexMap ℕ Command S → Type 0
-IsAllOut client commands = (n : ℕ) (command : Command) → map.get nat_eq commands n ≡ Some command → is_idle client command ≡ false
 
 -- these are numbers of commands of this client of which no call is out
 abbrev pub AreIdle : Core → ℕ → List ℕ → Type 0

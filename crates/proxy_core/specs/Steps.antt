@@ -20,7 +20,7 @@ use Rattle.route_job.specs.Rest.{ask_under, origin_under}
 use Rattle.route_job.specs.Jobs.{server_in, call_of, Comes, IsCalling}
 use Rattle.proxy_core.specs.declared.client.Pending.{Pending}
 use Rattle.proxy_core.specs.declared.client.Client.{Client}
-use Rattle.proxy_core.specs.declared.command.Command.{Command}
+use Rattle.commands_under_way.specs.declared.command.Command.{Command}
 use Rattle.proxy_core.specs.declared.proxy.Core.{Core}
 use Rattle.proxy_core.specs.Claims.{claim_by, is_barred, has_own}
 use Rattle.proxy_core.specs.CoreState.{dialect, Message, bars_of, client_at, command_at, Beside, front_by, owner_by, state_of, IsSlot, Fits, GoesBy, GoesByOne}

@@ -2,7 +2,7 @@
 
 ghost use Rattle.std.specs.Prelude.{◌≡◌, ◌≤◌, ℕ, List, [], false, drop, length, OnOk, OnErr, IfOk};
 ghost use Rattle.request_parts.specs.declared.skip.Skip.TheVariants.{Nothing};
-ghost use Rattle.request_parts.specs.Stream.{Stands, Closed, skipped, behind_own};
+ghost use Rattle.request_parts.specs.Stream.{Stands, Closed, skipped, after_own};
 ghost use Rattle.text_codec.specs.Held.{held_at, IsReadAt};
 ghost use Rattle.text_codec.specs.Replies.{refusal_text, long_line_text};
 ghost use Rattle.text_codec.specs.TextProtocol.{own_passed};
@@ -52,7 +52,7 @@ impl Client {
     // A message that asks mcgate itself, or nothing, is answered and done.
     fn answer_own(&mut self, own: Option<ProxyCommand>, used: usize) -> Result<(), AllocError>
         requires { used ≤ length (held_at self.old.stream) }
-        ensures ok { OnOk result ((held : List ℕ) → self.old.stream ≡ Stands Nothing held → GoesTo self.old (behind_own own (drop used held)) (own_passed own) self.new) }
+        ensures ok { OnOk result ((held : List ℕ) → self.old.stream ≡ Stands Nothing held → GoesTo self.old (after_own own (drop used held)) (own_passed own) self.new) }
         ensures err { OnErr result (Stays self.old self.new) }
     {
         if let Some(own) = own {

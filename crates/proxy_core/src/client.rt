@@ -5,8 +5,8 @@ ghost use Rattle.proxy_core.specs.Claims.{has_own};
 ghost use Rattle.proxy_core.specs.Clients.{IsNew, IsEnded, TakesPiece, Takes, HasRoom, RoomFault, LosesOutput};
 
 use crate::fault::CoreFault;
-use crate::shared::SharedAsk;
 use bytes::BytesMut;
+use commands_under_way::SharedAsk;
 use mc_types::{Answer, Key};
 use std::alloc::{AllocError, Global};
 use std::collections::VecDeque;

@@ -7,11 +7,10 @@ ghost use Rattle.proxy_core.specs.CoreState.{GoesBy};
 ghost use Rattle.proxy_core.specs.Polls.{ForClient, IsServed, IsEnded, AreShown, IsShown, ShowsNext, StandsStill, StopsFirst, StopsAfter};
 ghost use Rattle.proxy_core.specs.Finishing.{CanEnd, IsNote};
 
-use crate::command::Command;
 use crate::fault::CoreFault;
 use crate::note::Note;
 use crate::proxy::Core;
-use crate::shared::SharedAsk;
+use commands_under_way::{Command, SharedAsk};
 use mc_types::Answer;
 use route_job::Done;
 

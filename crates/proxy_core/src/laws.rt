@@ -1,8 +1,7 @@
 //! Laws of the core's steps: what a change of the core has to keep so that each log that led to it goes on. Each is a function without
-//! a body, whose contract is the law. And that nobody in the line of a key is passed.
+//! a body, whose contract is the law.
 
 ghost use Rattle.proxy_core.specs.Ending.{EndingIsAStep, DroppingIsAStep, FreeingIsAStep};
-ghost use Rattle.proxy_core.specs.Lines.{NobodyIsPassed};
 ghost use Rattle.proxy_core.specs.Steps.{PassingIsAStep, BeginningIsAStep, SendingIsAStep, SettlingIsAStep, ShowingIsAStep};
 
 /// A message that asks no server is passed: a step of the core.
@@ -43,9 +42,4 @@ pub fn dropping_is_a_step()
 /// A command of such a client is broken off where no call of it is out.
 pub fn freeing_is_a_step()
     ensures { FreeingIsAStep }
-{}
-
-/// Who stands in the line of a key is passed by nobody who comes after it.
-pub fn nobody_is_passed()
-    ensures { NobodyIsPassed }
 {}

@@ -2,18 +2,11 @@
 #![tactic(auto)]
 
 pub mod answering;
-pub mod begun;
-pub mod claim;
 pub mod client;
-pub mod command;
-pub mod command_table;
-pub mod counts;
 pub mod fault;
 pub mod finishing;
 pub mod freeing;
 pub mod heads;
-pub mod held_job;
-pub mod key_lines;
 pub mod laws;
 pub mod limits;
 pub mod looking;
@@ -23,17 +16,12 @@ pub mod polling;
 pub mod proxy;
 pub mod replying;
 pub mod results;
-pub mod shared;
 pub mod starting;
-pub mod ticket;
 
 pub use answering::Passed;
-pub use claim::Claim;
 pub use client::Client;
-pub use command::Command;
+pub use commands_under_way::{Claim, Command, OutCall, SharedAsk, Sharing, Ticket};
 pub use fault::{CoreFault, ReloadFault};
-pub use limits::{Limits, Sharing};
+pub use limits::Limits;
 pub use note::{Note, Poll};
 pub use proxy::Core;
-pub use shared::SharedAsk;
-pub use ticket::{OutCall, Ticket};

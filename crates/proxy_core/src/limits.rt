@@ -3,15 +3,7 @@
 ghost use Rattle.std.specs.Prelude.{◌≡◌};
 ghost use Rattle.proxy_core.specs.Faults.{script_limits};
 
-/// Which commands of different clients may be under way together on one key. A client's own commands on one key come one after
-/// another by either rule.
-#[derive(Clone, Copy)]
-pub enum Sharing {
-    /// None: each command has its key alone.
-    Alone,
-    /// All but a delete and a command that may copy an item from one server to another.
-    Shared,
-}
+use commands_under_way::Sharing;
 
 /// How much a core takes at once, and what may be under way together.
 #[derive(Clone, Copy)]

@@ -1,80 +1,13 @@
-//! What commands that are under way can do next.
+//! Which of a client's commands can go on.
 
 ghost use Rattle.std.specs.Prelude.{◌≡◌, None, IfSome, IfNone};
-ghost use Rattle.proxy_core.specs.Faults.{has_commands};
-ghost use Rattle.proxy_core.specs.Ready.{IsTurn};
-ghost use Rattle.proxy_core.specs.Resting.{goes_on, IsReady, IsHeldUp, AreHeldUp};
-ghost use Rattle.proxy_core.specs.declared.looking.Turn.TheVariants.{Full};
+ghost use Rattle.commands_under_way.specs.Ready.{IsTurn};
+ghost use Rattle.commands_under_way.specs.declared.turns.Turn.TheVariants.{Full};
+ghost use Rattle.proxy_core.specs.Resting.{IsReady, IsHeldUp, AreHeldUp};
 
 use crate::client::Pending;
-use crate::command::Command;
-use crate::command_table::CommandTable;
-use indexmap::IndexMap;
-use route_job::Step;
+use commands_under_way::{CommandTable, Turn, turn_of};
 use std::collections::VecDeque;
-
-/// What a command can do next.
-#[derive(Clone, Copy)]
-pub enum Turn {
-    /// Its next call can go out.
-    Sends,
-    /// Its next call waits, as its server has as many as it may have.
-    Full,
-    /// It can end.
-    Ends,
-    /// Its call is out, or it isn't there.
-    Rests,
-}
-
-impl Turn {
-    /// Whether it can go on.
-    pub fn goes_on(self) -> bool
-        ensures { result ≡ goes_on self }
-    {
-        match self {
-            Turn::Sends | Turn::Ends => true,
-            Turn::Full | Turn::Rests => false,
-        }
-    }
-}
-
-// Whether one of the commands is this client's.
-fn any_of(client: usize, commands: &IndexMap<u64, Command>) -> bool
-    ensures { result ≡ has_commands client commands.now }
-{
-    commands.values().any(|command| command.client == client)
-}
-
-/// Whether one of the commands is this client's, by looking at all of them.
-pub fn has_commands(client: usize, commands: &CommandTable) -> bool
-    ensures { result ≡ has_commands client commands.now }
-{
-    any_of(client, commands.by_number())
-}
-
-/// What the command of this number can do, where it is this client's.
-pub fn turn_of(client: usize, window: usize, number: u64, commands: &CommandTable) -> Turn
-    ensures { IsTurn client window commands.now number result }
-{
-    let Some(command) = commands.get(number) else {
-        return Turn::Rests;
-    };
-    if command.client != client {
-        return Turn::Rests;
-    }
-    match command.job.next() {
-        Step::Done(_) => Turn::Ends,
-        Step::Call { server, .. } => {
-            if command.is_out {
-                Turn::Rests
-            } else if commands.calls_at(server) < window {
-                Turn::Sends
-            } else {
-                Turn::Full
-            }
-        }
-    }
-}
 
 /// A command, and what it can do.
 #[derive(Clone, Copy)]

@@ -11,7 +11,7 @@ ghost use Rattle.proxy_core.specs.Fronts.{AsksNone};
 ghost use Rattle.proxy_core.specs.Nexts.{IsNextOf};
 
 use crate::client::{Client, Pending};
-use crate::shared::SharedAsk;
+use commands_under_way::SharedAsk;
 use std::alloc::{AllocError, Global};
 use std::collections::VecDeque;
 use text_codec::{Read, Request};

@@ -1,7 +1,6 @@
 //! What is told of a command that ended, and of what was done for a client.
 
-use crate::shared::SharedAsk;
-use crate::ticket::Ticket;
+use commands_under_way::{SharedAsk, Ticket};
 
 /// A command that ended: its number, its ask, whether it was a delete that was acknowledged, and the number of the call whose item
 /// its reply shows, if it shows one.

@@ -3,16 +3,15 @@
 ghost use Rattle.slab.specs.Slab.{get};
 ghost use Rattle.std.specs.Prelude.{◌≡◌, ◌++◌, ◌↔◌, IsTrue, IfOk, IfErr, OnOk, OnErr};
 ghost use Rattle.proxy_core.specs.CoreState.{IsFresh, IsOut, Opens, Feeds, Gives, Closes, LeavesLine, Reloads, client_at, output_by};
-ghost use Rattle.proxy_core.specs.Lines.{is_standing};
+ghost use Rattle.commands_under_way.specs.Lines.{is_standing};
 ghost use Rattle.proxy_core.specs.Faults.{IsClosed, CanOpen, CanFeed, CanClose, OpenFault, FeedFault, OutputFault, CloseFault};
 
 use crate::client::Client;
-use crate::command_table::CommandTable;
 use crate::fault::{CoreFault, ReloadFault};
-use crate::key_lines::KeyLines;
 use crate::limits::Limits;
-use crate::looking::has_commands;
 use bytes::BytesMut;
+use commands_under_way::owned::has_commands;
+use commands_under_way::{CommandTable, KeyLines};
 use route_tree::Tree;
 use slab::Slab;
 use std::alloc::Global;

@@ -5,9 +5,9 @@ ghost use Rattle.proxy_core.specs.CoreState.{client_at, dropped_by};
 ghost use Rattle.proxy_core.specs.Settles.{FitsCall, asked, IsCalled, TakesOut, Settles, SettleFault};
 
 use crate::fault::CoreFault;
-use crate::freeing::remove;
 use crate::proxy::Core;
-use crate::ticket::{OutCall, Ticket};
+use commands_under_way::owned::remove;
+use commands_under_way::{OutCall, Ticket};
 use mc_types::{Ask, Outcome};
 
 fn forget(_outcome: Outcome) {}

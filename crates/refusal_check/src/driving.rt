@@ -1,5 +1,9 @@
 //! Refusal runs, driven.
 
+ghost use Rattle.std.specs.Prelude.{◌≡◌, false, map};
+ghost use Rattle.fleet_run.specs.Scripted.{scripted_of};
+ghost use Rattle.fleet_run.specs.Stepped.{is_stepped};
+
 use crate::growing::grown;
 use fleet_run::{MemoryFleet, Script, Transcript, drive_any};
 use fresh_gate::{Gap, Reason, judge};
@@ -48,7 +52,9 @@ fn counted(end: End, counts: Counts) -> Counts {
     counts
 }
 
-fn driven(alloc: Global, config: &Config, script: &Script) -> Result<End, AllocError> {
+fn driven(alloc: Global, config: &Config, script: &Script) -> Result<End, AllocError>
+    requires { is_stepped (map scripted_of script.now.events.items) ≡ false }
+{
     let mut fleet = MemoryFleet::new(alloc, config.servers().len() as u32)?;
     let mut transcript = Transcript {
         shown: Vec::new(alloc),

@@ -13,7 +13,7 @@ use Rattle.mc_types.specs.Shows.{shows}
 use Rattle.route_tree.specs.Word.{answer_of_nothing}
 use Rattle.coverage.specs.declared.deleting.Deleting.{Deleting}
 use Rattle.coverage.specs.declared.deleting.Deleting.TheVariants as kinds
-use Rattle.coverage.specs.Taking.{IsTaking, dialect_of}
+use Rattle.coverage.specs.Cover.{IsTaking, dialect_of}
 use Rattle.refusal_words.specs.Turns.{acks, finds}
 use Rattle.refusal_words.specs.Leaking.{IsBait}
 use Rattle.refusal_words.specs.Bait.{delete_of, read_of, bait, answer_of, IsBaited, NumbersLeak, GapsHaveLeaks, BaitIsTaken}

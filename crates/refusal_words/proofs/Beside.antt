@@ -23,7 +23,7 @@ use Rattle.coverage.proofs.Choices.{both_split, either_split, bool_is, cond_true
 use Rattle.coverage.proofs.Failing.{null_rank}
 use Rattle.coverage.proofs.Copying.{takes_is_taken}
 use Rattle.coverage.proofs.Keeping.{cleared_is_exact}
-use Rattle.refusal_words.specs.Turns.{or_else, behind, tries, acks, acks_first, acks_head, acks_policy, finds, finds_first, finds_some, finds_head, finds_policy}
+use Rattle.refusal_words.specs.Turns.{or_else, counted_after, tries, acks, acks_first, acks_head, acks_policy, finds, finds_first, finds_some, finds_head, finds_policy}
 use Rattle.refusal_words.specs.Beside.{IsTry, answered, IsElsewhere, IsDirect, AreDirect, IsPolicyDirect, KeptIsAcked, TakenIsFound, GapsHaveWords}
 use Rattle.refusal_words.proofs.Trying.{pick_true, pick_false, tried, lengths}
 
@@ -43,9 +43,9 @@ cond_split : (t : Bool) (x : Option ℕ) (n : ℕ) → cond t x None ≡ Some n 
 cond_split true x n e = (refl, e)
 cond_split false x n e = absurd (cc)
 
-behind_split : (m : ℕ) (x : Option ℕ) (n : ℕ) → behind m x ≡ Some n → (k : ℕ) × (x ≡ Some k) × (n ≡ m + k)
-behind_split m None n e = absurd (cc)
-behind_split m (Some k) n e = (k, refl, sym (some_is (m + k) n e))
+after_split : (m : ℕ) (x : Option ℕ) (n : ℕ) → counted_after m x ≡ Some n → (k : ℕ) × (x ≡ Some k) × (n ≡ m + k)
+after_split m None n e = absurd (cc)
+after_split m (Some k) n e = (k, refl, sym (some_is (m + k) n e))
 
 or_left : (x y : Option ℕ) → IsSome x → IsSome (or_else x y)
 or_left (Some m) y h = refl
@@ -59,9 +59,9 @@ cond_some : (t : Bool) (x : Option ℕ) → t ≡ true → IsSome x → IsSome (
 cond_some true x e h = h
 cond_some false x e h = absurd (cc)
 
-behind_some : (m : ℕ) (x : Option ℕ) → IsSome x → IsSome (behind m x)
-behind_some m None h = absurd (cc)
-behind_some m (Some k) h = refl
+after_some : (m : ℕ) (x : Option ℕ) → IsSome x → IsSome (counted_after m x)
+after_some m None h = absurd (cc)
+after_some m (Some k) h = refl
 
 -- ---- a delete that is acknowledged elsewhere
 
@@ -111,8 +111,8 @@ module _ (s : ℕ) (ask : Ask) (op : ask.op ≡ Delete) (fits : Fits ask (answer
         let f = acked p good.0 b n here in
         (f.0, f.1, inl (f.2, inl (let r = null_rank ask in omega arith)), f.3, f.4, f.5))
         (λ there.
-        let t = cond_split (fails Delete p) (behind (tries Delete p) (acks_first s ps)) n there in
-        let k = behind_split (tries Delete p) (acks_first s ps) n t.1 in
+        let t = cond_split (fails Delete p) (counted_after (tries Delete p) (acks_first s ps)) n there in
+        let k = after_split (tries Delete p) (acks_first s ps) n t.1 in
         let c = tried p good.0 ask Client b in
         let f = acked_first ps good.1 (b + length c.0) k.0 k.1 in
         (c.0 ++ f.0, f.1, inr (c.0, f.0 ++ f.1, append_assoc c.0 f.0 f.1, c.1, c.2, c.3.worst (subst (λ o. fails o p ≡ true) (sym op) t.0), f.2), each_append (IsTry ask.key) c.0 f.0 c.3.tried f.3, lengths c.0 f.0 (tries Delete p) k.0 (c.3.count_is ∙ ap (λ o. tries o p) op) f.4 ∙ sym k.2, f.5))
@@ -191,8 +191,8 @@ module _ (s : ℕ) (ask : Ask) (answer : Answer) (fits : Fits ask answer) (showi
         let f = found p good.0 b n here in
         (f.0, inl (f.1, inl (let r = done in omega arith)), f.2, f.3))
         (λ there.
-        let t = cond_split (fails ask.op p) (behind (tries ask.op p) (finds_first ask.op s ps)) n there in
-        let k = behind_split (tries ask.op p) (finds_first ask.op s ps) n t.1 in
+        let t = cond_split (fails ask.op p) (counted_after (tries ask.op p) (finds_first ask.op s ps)) n there in
+        let k = after_split (tries ask.op p) (finds_first ask.op s ps) n t.1 in
         let c = tried p good.0 ask Client b in
         let f = found_first ps good.1 (b + length c.0) k.0 k.1 in
         (c.0 ++ f.0, moved (WordOfFirst (More p ps) 4 ask Client) b n (length c.0) k.0 _ (k.2 ∙ ap (λ x. x + k.0) (sym c.3.count_is)) (inr (c.0, f.0 ++ answered s ask answer ∷ [], append_assoc c.0 f.0 (answered s ask answer ∷ []), c.1, c.2, c.3.worst t.0, f.1)), each_append (IsTry ask.key) c.0 f.0 c.3.tried f.2, lengths c.0 f.0 (tries ask.op p) k.0 c.3.count_is f.3 ∙ sym k.2))
@@ -206,7 +206,7 @@ module _ (s : ℕ) (ask : Ask) (answer : Answer) (fits : Fits ask answer) (showi
         let f = found p good.0 b n here in
         (f.0, inl (f.1, inl (let r = done in omega arith)), f.2, f.3))
         (λ there.
-        let k = behind_split (tries ask.op p) (finds_some ask.op s ps) n there in
+        let k = after_split (tries ask.op p) (finds_some ask.op s ps) n there in
         let c = tried p good.0 ask Client b in
         let f = found_some ps good.1 (b + length c.0) k.0 k.1 in
         (c.0 ++ f.0, moved (WordOfFirst (More p ps) 1 ask Client) b n (length c.0) k.0 _ (k.2 ∙ ap (λ x. x + k.0) (sym c.3.count_is)) (inr (c.0, f.0 ++ answered s ask answer ∷ [], append_assoc c.0 f.0 (answered s ask answer ∷ []), c.1, c.2, c.3.low, f.1)), each_append (IsTry ask.key) c.0 f.0 c.3.tried f.2, lengths c.0 f.0 (tries ask.op p) k.0 c.3.count_is f.3 ∙ sym k.2))
@@ -253,7 +253,7 @@ module _ (s : ℕ) where
         (λ here. or_left (acks s p) _ (kept_acked p d.0 here))
         (λ there.
         let t = both_split (fails Delete p) (kept_first s ps) there in
-        or_right (acks s p) _ (cond_some (fails Delete p) _ t.0 (behind_some (tries Delete p) _ (kept_first_acked ps d.1 t.1))))
+        or_right (acks s p) _ (cond_some (fails Delete p) _ t.0 (after_some (tries Delete p) _ (kept_first_acked ps d.1 t.1))))
         (either_split (kept s p) (fails Delete p && kept_first s ps) h)
 
     kept_head_acked : (ps : Plans) → AreDirect Delete ps → kept_head s ps ≡ true → IsSome (acks_head s ps)
@@ -295,7 +295,7 @@ module _ (op : Op) (s : ℕ) where
         (λ here. or_left (finds op s p) _ (shown_found p d.0 here))
         (λ there.
         let t = both_split (fails op p) (shown_first op s ps) there in
-        or_right (finds op s p) _ (cond_some (fails op p) _ t.0 (behind_some (tries op p) _ (shown_first_found ps d.1 t.1))))
+        or_right (finds op s p) _ (cond_some (fails op p) _ t.0 (after_some (tries op p) _ (shown_first_found ps d.1 t.1))))
         (either_split (shown op s p) (fails op p && shown_first op s ps) h)
 
     shown_some_found : (ps : Plans) → AreDirect op ps → shown_some op s ps ≡ true → IsSome (finds_some op s ps)
@@ -303,7 +303,7 @@ module _ (op : Op) (s : ℕ) where
     shown_some_found (More p ps) d h =
         ⊎_elim
         (λ here. or_left (finds op s p) _ (shown_found p d.0 here))
-        (λ there. or_right (finds op s p) _ (behind_some (tries op p) _ (shown_some_found ps d.1 there)))
+        (λ there. or_right (finds op s p) _ (after_some (tries op p) _ (shown_some_found ps d.1 there)))
         (either_split (shown op s p) (shown_some op s ps) h)
 
     shown_head_found : (ps : Plans) → AreDirect op ps → shown_head op s ps ≡ true → IsSome (finds_head op s ps)

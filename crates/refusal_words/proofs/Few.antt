@@ -6,7 +6,7 @@ use Rattle.route_tree.specs.Operation.{same_op}
 use Rattle.route_tree.specs.declared.limits.TheConstants.{ROUTE_LIMIT}
 use Rattle.route_tree.specs.Plan.{Plan, Plans, PlanPolicies, Server, Null, Failing, AllSync, Failover, MissFailover, WarmUp, ByOperation, End, More, Otherwise, Policy, count, count_of_all, count_of_policies}
 use Rattle.coverage.specs.Computed.{is_get, fails}
-use Rattle.refusal_words.specs.Turns.{or_else, behind, tries, tries_all, tries_first, tries_head, tries_policy, acks, acks_first, acks_head, acks_policy, finds, finds_first, finds_some, finds_head, finds_policy}
+use Rattle.refusal_words.specs.Turns.{or_else, counted_after, tries, tries_all, tries_first, tries_head, tries_policy, acks, acks_first, acks_head, acks_policy, finds, finds_first, finds_some, finds_head, finds_policy}
 
 abbrev pub IsWithin : ℕ → Option ℕ → Type 0
 IsWithin most number = IfSome number (λ (n : ℕ). n ≤ most)
@@ -23,9 +23,9 @@ within_or : (x y : Option ℕ) (most : ℕ) → IsWithin most x → IsWithin mos
 within_or (Some n) y most h k = h
 within_or None y most h k = k
 
-within_behind : (m : ℕ) (x : Option ℕ) (a b : ℕ) → m ≤ a → IsWithin b x → IsWithin (a + b) (behind m x)
-within_behind m None a b h k = tt
-within_behind m (Some n) a b h k = omega arith
+within_after : (m : ℕ) (x : Option ℕ) (a b : ℕ) → m ≤ a → IsWithin b x → IsWithin (a + b) (counted_after m x)
+within_after m None a b h k = tt
+within_after m (Some n) a b h k = omega arith
 
 within_more : (x : Option ℕ) (a b : ℕ) → a ≤ b → IsWithin a x → IsWithin b x
 within_more None a b h k = tt
@@ -75,7 +75,7 @@ module _ (s : ℕ) where
     acks_first_few End = tt
     acks_first_few (More p ps) =
         within_or (acks s p) _ _ (within_more (acks s p) (count p) _ (omega arith) (acks_few p))
-        (within_pick (fails Delete p) (behind (tries Delete p) (acks_first s ps)) None _ (within_behind (tries Delete p) (acks_first s ps) (count p) (count_of_all ps) (tries_few Delete p) (acks_first_few ps)) tt)
+        (within_pick (fails Delete p) (counted_after (tries Delete p) (acks_first s ps)) None _ (within_after (tries Delete p) (acks_first s ps) (count p) (count_of_all ps) (tries_few Delete p) (acks_first_few ps)) tt)
 
     pub acks_head_few : (ps : Plans) → IsWithin (count_of_all ps) (acks_head s ps)
     acks_head_few End = tt
@@ -102,13 +102,13 @@ module _ (op : Op) (s : ℕ) where
     finds_first_few End = tt
     finds_first_few (More p ps) =
         within_or (finds op s p) _ _ (within_more (finds op s p) (count p) _ (omega arith) (finds_few p))
-        (within_pick (fails op p) (behind (tries op p) (finds_first op s ps)) None _ (within_behind (tries op p) (finds_first op s ps) (count p) (count_of_all ps) (tries_few op p) (finds_first_few ps)) tt)
+        (within_pick (fails op p) (counted_after (tries op p) (finds_first op s ps)) None _ (within_after (tries op p) (finds_first op s ps) (count p) (count_of_all ps) (tries_few op p) (finds_first_few ps)) tt)
 
     pub finds_some_few : (ps : Plans) → IsWithin (count_of_all ps) (finds_some op s ps)
     finds_some_few End = tt
     finds_some_few (More p ps) =
         within_or (finds op s p) _ _ (within_more (finds op s p) (count p) _ (omega arith) (finds_few p))
-        (within_behind (tries op p) (finds_some op s ps) (count p) (count_of_all ps) (tries_few op p) (finds_some_few ps))
+        (within_after (tries op p) (finds_some op s ps) (count p) (count_of_all ps) (tries_few op p) (finds_some_few ps))
 
     pub finds_head_few : (ps : Plans) → IsWithin (count_of_all ps) (finds_head op s ps)
     finds_head_few End = tt

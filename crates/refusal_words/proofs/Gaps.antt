@@ -15,7 +15,7 @@ use Rattle.route_tree.specs.Each.{Each}
 use Rattle.route_tree.specs.Plan.{Plan, IsGood}
 use Rattle.route_tree.specs.Word.{answer_of_nothing, tree_words}
 use Rattle.coverage.specs.declared.deleting.Deleting.{Deleting}
-use Rattle.coverage.specs.Taking.{IsTaking, Takes, Clears, dialect_of}
+use Rattle.coverage.specs.Cover.{IsTaking, Takes, Clears, dialect_of}
 use Rattle.refusal_words.specs.Turns.{acks, finds}
 use Rattle.refusal_words.specs.Beside.{IsDirect, IsElsewhere, answered}
 use Rattle.refusal_words.specs.Bait.{delete_of, read_of, answer_of, IsBaited}

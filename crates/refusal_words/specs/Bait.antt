@@ -10,7 +10,7 @@ use Rattle.mc_types.specs.KeyText.{IsKey}
 use Rattle.mc_types.specs.Items.{Item}
 use Rattle.route_tree.specs.Plan.{Plan, IsGood}
 use Rattle.coverage.specs.declared.deleting.Deleting.{Deleting}
-use Rattle.coverage.specs.Taking.{IsTaking, Takes, Clears, dialect_of}
+use Rattle.coverage.specs.Cover.{IsTaking, Takes, Clears, dialect_of}
 use Rattle.refusal_words.specs.Turns.{acks, finds}
 use Rattle.refusal_words.specs.Beside.{IsDirect}
 use Rattle.refusal_words.specs.Leaking.{LeaksIn}

@@ -15,7 +15,7 @@ use Rattle.route_tree.specs.Operation.{same_op}
 use Rattle.route_tree.specs.Plan.{Plan, Plans, PlanPolicies, Server, Null, Failing, AllSync, Failover, MissFailover, WarmUp, ByOperation, End, More, Otherwise, Policy, IsGood}
 use Rattle.route_tree.specs.Word.{Word, answer_of_nothing, null_reply}
 use Rattle.coverage.specs.declared.deleting.Deleting.{Deleting}
-use Rattle.coverage.specs.Taking.{Takes, Clears}
+use Rattle.coverage.specs.Cover.{Takes, Clears}
 use Rattle.refusal_words.specs.Turns.{acks, finds}
 
 -- a call on the key that failed

@@ -10,7 +10,7 @@ use Rattle.mc_types.specs.Shows.{shows}
 use Rattle.route_tree.specs.Plan.{Plan}
 use Rattle.route_tree.specs.Word.{answer_of_nothing}
 use Rattle.coverage.specs.declared.deleting.Deleting.{Deleting}
-use Rattle.coverage.specs.Taking.{Takes, Clears}
+use Rattle.coverage.specs.Cover.{Takes, Clears}
 use Rattle.refusal_words.specs.Beside.{AckedAfter, ShownAfter, IsDirect}
 
 -- each delete has a word in which n calls fail, and then it is acknowledged with the server not cleared

@@ -189,9 +189,9 @@ fn or_else(first: Option<u32>, other: Option<u32>) -> Option<u32>
 }
 
 // After so many others.
-fn behind(before: u32, number: Option<u32>) -> Option<u32>
+fn counted_after(before: u32, number: Option<u32>) -> Option<u32>
     requires { IfSome number (λ (n : ℕ). before + n < 2 ^ 32) }
-    ensures { result ≡ turns.behind before number }
+    ensures { result ≡ turns.counted_after before number }
 {
     match number {
         Some(number) => Some(before + number),
@@ -236,7 +236,7 @@ fn acking_first(children: &[Plain], server: ServerId) -> Option<u32>
             let here = acknowledged_after(first, server);
             let tried = trying(first, Op::Delete);
             let there = acking_first(rest, server);
-            let later = behind(tried.calls, there);
+            let later = counted_after(tried.calls, there);
             or_else(here, if tried.fails { later } else { None })
         }
     }
@@ -320,7 +320,7 @@ fn finding_first(children: &[Plain], op: Op, server: ServerId) -> Option<u32>
             let here = found_after(first, op, server);
             let tried = trying(first, op);
             let there = finding_first(rest, op, server);
-            let later = behind(tried.calls, there);
+            let later = counted_after(tried.calls, there);
             or_else(here, if tried.fails { later } else { None })
         }
     }
@@ -339,7 +339,7 @@ fn finding_some(children: &[Plain], op: Op, server: ServerId) -> Option<u32>
             let here = found_after(first, op, server);
             let tried = trying(first, op);
             let there = finding_some(rest, op, server);
-            let later = behind(tried.calls, there);
+            let later = counted_after(tried.calls, there);
             or_else(here, later)
         }
     }

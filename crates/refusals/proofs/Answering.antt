@@ -17,7 +17,7 @@ use Rattle.route_tree.proofs.Places.{place_is_enough}
 use Rattle.route_json.specs.Configuration.{Configuration}
 use Rattle.route_json.specs.Fits.{IsBelow}
 use Rattle.coverage.specs.declared.deleting.Deleting.TheVariants as kinds
-use Rattle.coverage.specs.Taking.{IsTaking, dialect_of}
+use Rattle.coverage.specs.Cover.{IsTaking, dialect_of}
 use Rattle.coverage.proofs.Choices.{not_false}
 use Rattle.fresh_gate.specs.declared.gap.Gap.{Gap}
 use Rattle.fleet_run.specs.declared.script.Report.{Report}

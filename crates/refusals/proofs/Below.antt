@@ -12,7 +12,7 @@ use Rattle.route_tree.specs.At.{begins, is_longer, plain_for, plain_for_all, pla
 use Rattle.route_json.specs.Fits.{IsBelow, AreBelow, ArePoliciesBelow, ArePrefixesBelow}
 use Rattle.route_json.specs.Pools.{AllBelow}
 use Rattle.coverage.specs.Computed.{is_get, fails}
-use Rattle.refusal_words.specs.Turns.{or_else, behind, tries, finds, finds_first, finds_some, finds_head, finds_policy}
+use Rattle.refusal_words.specs.Turns.{or_else, counted_after, tries, finds, finds_first, finds_some, finds_head, finds_policy}
 
 slot_below : (bound : ℕ) (servers : List ℕ) (i : ℕ) → AllBelow bound servers → i < length servers → slice_index servers i < bound
 slot_below bound [] i h lt = absurd (omega (arith, lt))
@@ -78,13 +78,13 @@ module _ (bound hash : ℕ) (text : List ℕ) where
         prefixes_plain_below ps _ (best_below (begins p text && is_longer p best) (p, plain_for hash text r) best (plain_below r good.1 below.0) b) good.2 below.1
 
 -- what is found first is found here or after it
-or_else_some : (here behind' : Option ℕ) (n : ℕ) (A : Type 0) → or_else here behind' ≡ Some n → ((m : ℕ) → here ≡ Some m → A) → ((m : ℕ) → behind' ≡ Some m → A) → A
+or_else_some : (here later : Option ℕ) (n : ℕ) (A : Type 0) → or_else here later ≡ Some n → ((m : ℕ) → here ≡ Some m → A) → ((m : ℕ) → later ≡ Some m → A) → A
 or_else_some (Some m) o n A e f g = f m refl
 or_else_some None o n A e f g = g n e
 
-behind_some : (k : ℕ) (o : Option ℕ) (n : ℕ) (A : Type 0) → behind k o ≡ Some n → ((m : ℕ) → o ≡ Some m → A) → A
-behind_some k None n A e f = absurd (cc)
-behind_some k (Some m) n A e f = f m refl
+after_some : (k : ℕ) (o : Option ℕ) (n : ℕ) (A : Type 0) → counted_after k o ≡ Some n → ((m : ℕ) → o ≡ Some m → A) → A
+after_some k None n A e f = absurd (cc)
+after_some k (Some m) n A e f = f m refl
 
 cond_some : (b : Bool) (x y : Option ℕ) (n : ℕ) (A : Type 0) → cond b x y ≡ Some n → (x ≡ Some n → A) → (y ≡ Some n → A) → A
 cond_some true x y n A e f g = f e
@@ -116,18 +116,18 @@ module _ (bound : ℕ) (op : Op) (s : ℕ) where
     first_below : (ps : Plans) (n : ℕ) → finds_first op s ps ≡ Some n → ArePlansBelow bound ps → s < bound
     first_below plan.End n e below = none_some n (s < bound) e
     first_below (plan.More p ps) n e below =
-        or_else_some (finds op s p) (cond (fails op p) (behind (tries op p) (finds_first op s ps)) None) n (s < bound) e
+        or_else_some (finds op s p) (cond (fails op p) (counted_after (tries op p) (finds_first op s ps)) None) n (s < bound) e
         (λ m x. found_below p m x below.0)
-        (λ m x. cond_some (fails op p) (behind (tries op p) (finds_first op s ps)) None m (s < bound) x
-        (λ y. behind_some (tries op p) (finds_first op s ps) m (s < bound) y (λ k z. first_below ps k z below.1))
+        (λ m x. cond_some (fails op p) (counted_after (tries op p) (finds_first op s ps)) None m (s < bound) x
+        (λ y. after_some (tries op p) (finds_first op s ps) m (s < bound) y (λ k z. first_below ps k z below.1))
         (λ y. none_some m (s < bound) y))
 
     some_below : (ps : Plans) (n : ℕ) → finds_some op s ps ≡ Some n → ArePlansBelow bound ps → s < bound
     some_below plan.End n e below = none_some n (s < bound) e
     some_below (plan.More p ps) n e below =
-        or_else_some (finds op s p) (behind (tries op p) (finds_some op s ps)) n (s < bound) e
+        or_else_some (finds op s p) (counted_after (tries op p) (finds_some op s ps)) n (s < bound) e
         (λ m x. found_below p m x below.0)
-        (λ m x. behind_some (tries op p) (finds_some op s ps) m (s < bound) x (λ k z. some_below ps k z below.1))
+        (λ m x. after_some (tries op p) (finds_some op s ps) m (s < bound) x (λ k z. some_below ps k z below.1))
 
     head_below : (ps : Plans) (n : ℕ) → finds_head op s ps ≡ Some n → ArePlansBelow bound ps → s < bound
     head_below plan.End n e below = none_some n (s < bound) e

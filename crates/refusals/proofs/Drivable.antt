@@ -8,7 +8,7 @@ use Rattle.mc_types.specs.declared.ask.Op.{Op}
 use Rattle.mc_types.specs.declared.ask.Op.TheVariants.{Get, Gat, Set, Add, Replace, Append, Prepend, Cas, Delete, Incr, Decr, Touch}
 use Rattle.mc_types.specs.KeyText.{IsKey}
 use Rattle.mc_runs.specs.Log.{Scripted, Piece, Fail, Hold, Before}
-use Rattle.coverage.specs.Taking.{IsTaking}
+use Rattle.coverage.specs.Cover.{IsTaking}
 use Rattle.fleet_run.specs.Bad.{piece_limit, len_of, bad_in, first_from, first_bad}
 use Rattle.refusal_words.specs.Scripts.{fail_lines, leaking_script}
 use Rattle.refusals.specs.Commands.{script_for, delete_text, read_text}

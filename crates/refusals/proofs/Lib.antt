@@ -4,3 +4,4 @@ pub mod Placed
 pub mod Below
 pub mod Drivable
 pub mod Answering
+pub mod Whole

@@ -14,7 +14,7 @@ use Rattle.request_parts.specs.Stream.{Stands}
 use Rattle.request_parts.proofs.Streams.{used_within}
 use Rattle.client_requests.specs.Both.{both_grammar}
 use Rattle.client_requests.specs.Message.{Begins}
-use Rattle.client_requests.specs.Stream.{behind}
+use Rattle.client_requests.specs.Stream.{after_message}
 use Rattle.client_requests.specs.Asks.{asks_of, IsClientAsk}
 use Rattle.client_requests.specs.Spelling.{spelling_of, message_of}
 use Rattle.client_requests.proofs.RequestLaws.{asks_are_read_back, messages_are_one_ask}
@@ -22,7 +22,7 @@ use Rattle.text_codec.specs.Replies.{is_failure, is_last, ends_with}
 use Rattle.text_codec.specs.TextProtocol.{Whole, LongLine, memcached_text}
 use Rattle.connections.proofs.Shorter.{takes_some}
 use Rattle.coverage.specs.declared.deleting.Deleting.TheVariants as kinds
-use Rattle.coverage.specs.Taking.{IsTaking}
+use Rattle.coverage.specs.Cover.{IsTaking}
 use Rattle.coverage.proofs.Choices.{either_right}
 use Rattle.refusal_words.specs.Bait.{delete_of, read_of}
 use Rattle.refusal_words.specs.Scripts.{IsOneAsk}
@@ -33,13 +33,13 @@ pub quiet_start : IsStuck memcached_text (Stands Nothing [])
 quiet_start (Whole message) next r = let some = takes_some [] message r.0 r.1 in let all = used_within both_grammar [] message r.0 r.1 in absurd (omega (arith, some, all))
 quiet_start LongLine next r = absurd (omega (arith, r.0.long))
 
-module _ (ask : Ask) (text : List ℕ) (reply : Answer) (is : IsClientAsk ask) (spelled : spelling_of ask ≡ text) (stands : behind (message_of ask) [] ≡ Stands Nothing []) where
+module _ (ask : Ask) (text : List ℕ) (reply : Answer) (is : IsClientAsk ask) (spelled : spelling_of ask ≡ text) (stands : after_message (message_of ask) [] ≡ Stands Nothing []) where
   begins : Begins text (message_of ask) (length text)
   begins = subst (λ (t : List ℕ). Begins t (message_of ask) (length t)) spelled
       (subst (λ (t : List ℕ). Begins t (message_of ask) (length (spelling_of ask))) (append-nil (spelling_of ask)) (asks_are_read_back ask [] is))
 
-  left : Stands Nothing [] ≡ behind (message_of ask) (drop (length text) text)
-  left = sym (ap (behind (message_of ask)) (drop-length text) ∙ stands)
+  left : Stands Nothing [] ≡ after_message (message_of ask) (drop (length text) text)
+  left = sym (ap (after_message (message_of ask)) (drop-length text) ∙ stands)
 
   alone : asks_of (message_of ask) ≡ ask ∷ []
   alone = (messages_are_one_ask ask is).0
@@ -70,7 +70,7 @@ read_spelled Cas key t = absurd t
 read_spelled Delete key t = absurd t
 read_spelled Touch key t = absurd t
 
-stands_read : (op : Op) (key : List ℕ) → IsTaking op → behind (message_of (read_of op key)) [] ≡ Stands Nothing []
+stands_read : (op : Op) (key : List ℕ) → IsTaking op → after_message (message_of (read_of op key)) [] ≡ Stands Nothing []
 stands_read Get key t = refl
 stands_read Gat key t = refl
 stands_read Incr key t = refl

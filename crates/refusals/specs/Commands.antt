@@ -13,14 +13,14 @@ before_key Decr = codes "decr "
 before_key _ = codes "get "
 
 -- what stands after it
-abbrev pub behind_key : Op → List ℕ
-behind_key Incr = codes " 1\r\n"
-behind_key Decr = codes " 1\r\n"
-behind_key _ = codes "\r\n"
+abbrev pub after_key : Op → List ℕ
+after_key Incr = codes " 1\r\n"
+after_key Decr = codes " 1\r\n"
+after_key _ = codes "\r\n"
 
 -- `get K`, `gat 0 K`, `incr K 1` or `decr K 1`
 abbrev pub read_text : Op → List ℕ → List ℕ
-read_text op key = before_key op ++ key ++ behind_key op
+read_text op key = before_key op ++ key ++ after_key op
 
 -- `delete K`
 abbrev pub delete_text : List ℕ → List ℕ

@@ -1,4 +1,5 @@
 -- The keys that are tried for a place, and which of them is taken. Source: mcgate's own.
+use Rattle.refusals.specs.declared.keys.TheConstants.{TRIED}
 use Rattle.std.specs.Prelude.{◌≡◌, ℕ, ◌<◌, List, ◌∷◌, ◌++◌, Option, MatchOption, decimal}
 use Rattle.mc_types.specs.KeyText.{IsKey}
 use Rattle.route_tree.specs.declared.place.Place.{Place}
@@ -25,7 +26,7 @@ NoneBefore tree place n = (m : ℕ) → m < n → IsKeyAt tree place (tried_text
 
 -- how many texts are tried
 abbrev pub tried : ℕ
-tried = 65536
+tried = TRIED
 
 -- the key is the first that is tried and stands at the place
 pub record IsFirstKey (tree : Route) (place : Place) (key : List ℕ) : Type 0 where

@@ -19,8 +19,8 @@ fn before_key(op: Op) -> &'static [u8]
 }
 
 // What stands after it.
-fn behind_key(op: Op) -> &'static [u8]
-    ensures { result.now ≡ texts.behind_key op }
+fn after_key(op: Op) -> &'static [u8]
+    ensures { result.now ≡ texts.after_key op }
 {
     match op {
         Op::Incr | Op::Decr => b" 1\r\n".as_slice(),
@@ -48,5 +48,5 @@ pub fn delete_line(alloc: Global, key: &Key) -> Result<Vec<u8>, AllocError>
 pub fn read_line(alloc: Global, op: Op, key: &Key) -> Result<Vec<u8>, AllocError>
     ensures { IfOk result (λ text. text.items ≡ read_text op key.now) }
 {
-    joined(alloc, before_key(op), key.as_bytes(), behind_key(op))
+    joined(alloc, before_key(op), key.as_bytes(), after_key(op))
 }

@@ -1,11 +1,12 @@
 //! Scripts that leak, for gaps.
-ghost use Rattle.std.specs.Prelude.{◌≡◌, ◌↔◌, [], ◌∷◌, List, Some, None, true, map, MatchOption, IfOk, IfSome, IfNone, IsTrue, if◌then◌else◌};
+ghost use Rattle.std.specs.Prelude.{◌≡◌, ◌↔◌, [], ◌∷◌, List, Some, None, true, false, map, MatchOption, IfOk, IfSome, IfNone, IsTrue, if◌then◌else◌};
 ghost use Rattle.mc_runs.specs.Log.{Scripted};
 ghost use Rattle.route_tree.specs.Plan.{IsGood};
 ghost use Rattle.route_tree.specs.At.{tree_at};
-ghost use Rattle.coverage.specs.Taking.{IsTaking};
+ghost use Rattle.coverage.specs.Cover.{IsTaking};
 ghost use Rattle.certificates.specs.Tables.{IsTable};
 ghost use Rattle.fleet_run.specs.Scripted.{scripted_of};
+ghost use Rattle.fleet_run.specs.Stepped.{is_stepped};
 ghost use Rattle.refusals.specs.Tried.{IsFirstKey};
 ghost use Rattle.refusals.specs.Failing.{failures_of};
 ghost use Rattle.refusals.specs.Refusals.{MayLack, IsShowing, IsRefusalRun, IsRealGap, IsAnswer};
@@ -30,8 +31,9 @@ fn is_read(op: Op) -> bool
     }
 }
 
-// Whether the script can be driven, and then shows an item that is older than a delete.
+// Whether the script, which steps no calls, can be driven, and then shows an item that is older than a delete.
 fn is_stale(alloc: Global, config: &Config, script: &Script) -> Result<bool, AllocError>
+    requires whole { is_stepped (map scripted_of script.now.events.items) ≡ false }
     ensures { IfOk result (λ stale. stale ≡ true → IsShowing config.now (map scripted_of script.now.events.items)) }
 {
     let servers = config.servers().len();
@@ -126,9 +128,10 @@ fn run_by(
 
 /// For a gap of the configuration's tree, a script that shows it: the gap's server holds `1` under a key at the gap's place, the
 /// key is deleted, and a read of the gap's operation shows that item all the same. Some calls of the delete and of the read
-/// may fail, not applied. Over the configuration's servers each event of the script can be, so `drive_any` refuses none. The key is
-/// the first at the place among the gap's prefix followed by `k0`, `k1`, .. `k65535`; the delete is the classic one, which leaves the
-/// server whenever the delete of the meta dialect does.
+/// may fail, not applied. Over the configuration's servers each event of the script can be, and none steps calls
+/// ([`is_stepped`](fleet_run::is_stepped)), so `drive_any` may be asked for it and refuses none. The key is the first at the place
+/// among the gap's prefix followed by `k0`, `k1`, .. `k65535`; the delete is the classic one, which leaves the server whenever the
+/// delete of the meta dialect does.
 ///
 /// `None` comes for a gap of the tree only where no key that is tried is at its place, or an all-sync or a warm-up stands in the
 /// plain tree of the delete or of the read, children for other operations aside. The only error is running out of memory.
@@ -136,6 +139,7 @@ fn run_by(
 /// Source: mcgate's own.
 pub fn refusal_run(alloc: Global, config: &Config, gap: &Gap) -> Result<Option<Script>, AllocError>
     ensures some { IfOk result (λ found. IfSome found (λ script. IsRefusalRun config.now gap.now (map scripted_of script.events.items))) }
+    ensures whole { IfOk result (λ found. IfSome found (λ script. is_stepped (map scripted_of script.events.items) ≡ false)) }
     ensures none { IfOk result (λ found. IfNone found (IsRealGap config.now.tree gap.now → MayLack config.now.tree gap.now)) }
 {
     if !is_read(gap.op) {

@@ -35,7 +35,7 @@ use Rattle.accepted_run.specs.Reloads.{AreChained, AreJudged, Judges, ReloadsFre
 use Rattle.config_check.specs.Checking.{PrintsRefused, StopsUnwritten}
 use Rattle.config_check.specs.declared.status.RunFault.{RunFault}
 use Rattle.config_check.specs.declared.status.RunFault.TheVariants.{NoMemory, Writer}
-use Rattle.replay.specs.Replay.{ReplaysTold, RunsScript, RunsGood, RunsTree, BreaksTreeOff, BreaksScriptOff, BreaksOff, Wrote, BrokeOff, AreLoadings, HasReloads, events_of, reloads_of, servers_of, load_line, load_lines, with_loads, transcript_lines}
+use Rattle.replay.specs.Replay.{ReplaysTold, RunsScript, RunsGood, RunsTree, BreaksEventsOff, BreaksTreeOff, BreaksScriptOff, BreaksOff, Wrote, BrokeOff, AreLoadings, HasReloads, events_of, reloads_of, servers_of, load_line, load_lines, with_loads, transcript_lines}
 
 pub both_written : (old mid new : Option (List ℕ)) (a b : List ℕ) → Appends old mid a → Appends mid new b → Appends old new (a ++ b)
 both_written None mid new a b x y = tt
@@ -235,7 +235,7 @@ module _ (law : DirectIsOneServer) (config : Configuration) (reloads : List Relo
           alone = alone (transcript_of t) marks w.report d;
         }
 
-    pub breaks_any : loadings ≡ [] → (fleet : MemoryFleet) → IfErr driven (EndsBy config.tree (map is_refused loadings) rs events t marks fleet) → (fault : RunFault) → BrokeOff driven (transcript_lines true rs ls (transcript_of t) ms) old new fault → BreaksTreeOff true config reloads events old new fault
+    pub breaks_any : loadings ≡ [] → (fleet : MemoryFleet) → IfErr driven (EndsBy config.tree (map is_refused loadings) rs events t marks fleet) → (fault : RunFault) → BrokeOff driven (transcript_lines true rs ls (transcript_of t) ms) old new fault → BreaksEventsOff false true config reloads events old new fault
     breaks_any none fleet ends NoMemory b =
         let r = subst (λ (r : Result Report DriveFault). IfErr r (EndsBy config.tree (map is_refused loadings) rs events t marks fleet)) b.0 ends in
         let d = subst (λ (x : List Reload). DrivesPartBy config.tree (map is_refused loadings) x events (transcript_of t) marks fleet) rs_are r in
@@ -270,7 +270,7 @@ module _ (law : DirectIsOneServer) (config : Configuration) (reloads : List Relo
           alone = alone (transcript_of t) marks w.report freshly.drives;
         }
 
-    pub breaks_accepted : AreLoadings false config reloads loadings → (fleet : MemoryFleet) → IfErr driven (EndsReloads config.tree loadings rs events t marks fleet) → (fault : RunFault) → BrokeOff driven (transcript_lines false rs ls (transcript_of t) ms) old new fault → BreaksTreeOff false config reloads events old new fault
+    pub breaks_accepted : AreLoadings false config reloads loadings → (fleet : MemoryFleet) → IfErr driven (EndsReloads config.tree loadings rs events t marks fleet) → (fault : RunFault) → BrokeOff driven (transcript_lines false rs ls (transcript_of t) ms) old new fault → BreaksEventsOff false false config reloads events old new fault
     breaks_accepted judged fleet ends NoMemory b =
         let r = subst (λ (r : Result Report DriveFault). IfErr r (EndsReloads config.tree loadings rs events t marks fleet)) b.0 ends in
         let freshly = subst (λ (x : List Reload). ReloadsPartFreshly config.tree loadings x events (transcript_of t) marks fleet) rs_are r in

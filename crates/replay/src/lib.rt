@@ -2,5 +2,8 @@
 #![tactic(auto)]
 
 pub mod replaying;
+mod stepping;
+mod transcripts;
+mod whole;
 
 pub use replaying::{run_replay, run_replay_over};

@@ -6,6 +6,7 @@ use Rattle.std.proofs.Math.Seq.{get_or-append_seam}
 use Rattle.std.proofs.lemmas.List.Elements.{All-tail}
 use Rattle.mc_text.specs.Line.{IsOneLine, IsLine, IsOpen, IsTooLong, TakesLine, without_cr, LF}
 use Rattle.mc_text.specs.Word.{text_at}
+use Rattle.mc_text.proofs.Stays.{one_line, not_too_long}
 use Rattle.mc_text.specs.declared.word.Span.{Span}
 use Rattle.request_parts.specs.Places.{IsIn}
 use Rattle.request_parts.specs.Grammar.{Grammar}
@@ -42,24 +43,6 @@ pub line_text : (bytes : List ℕ) (end used : ℕ) → TakesLine bytes end used
 line_text bytes end used line =
     let at : used - 1 ≡ line.at = omega (arith, line.used_is) in
     (ap (λ (k : ℕ). without_cr (take k bytes)) at ∙ sym line.text, omega (arith, line.used_is, line.line.0, length-take (used - 1) bytes))
-
--- two readings of the first line are one
-pub one_line : (s t x y : List ℕ) → IsOneLine s → IsOneLine t → s ++ LF ∷ x ≡ t ++ LF ∷ y → (s ≡ t) × (x ≡ y)
-one_line [] [] x y p q e = (refl, cc)
-one_line [] (b ∷ t) x y p q e = absurd (q 0 0 (omega arith) (cc))
-one_line (a ∷ s) [] x y p q e = absurd (p 0 0 (omega arith) (cc))
-one_line (a ∷ s) (b ∷ t) x y p q e =
-    let heads : a ≡ b = cc in
-    let tails : s ++ LF ∷ x ≡ t ++ LF ∷ y = cc in
-    let both = one_line s t x y (All-tail (λ c. c ≢ LF) a s p) (All-tail (λ c. c ≢ LF) b t q) tails in
-    (cc, both.1)
-
-pub not_too_long : (bytes text rest : List ℕ) → IsLine bytes text rest → ¬ IsTooLong bytes
-not_too_long bytes text rest line long =
-    let k = length text in
-    let a = long.long in
-    let b = line.short in
-    long.one k 0 (omega (arith, length-take 65536 bytes)) (get_or-take 65536 bytes k 0 b ∙ ap (λ (t : List ℕ). get_or t k 0) line.whole ∙ get_or-append_seam text LF rest 0)
 
 -- no bytes, after the line
 pub no_span : (bytes : List ℕ) (end used : ℕ) → TakesLine bytes end used → IsIn (length bytes) (record { start = used; end = used })

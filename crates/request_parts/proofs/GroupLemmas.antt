@@ -26,13 +26,13 @@ pub group_more : (len n : ℕ) (text : List ℕ) → list_all is_key_byte (take 
 group_more len n text a b = ap (list_all is_key_byte) (take-add len n text) ∙ list_all-append is_key_byte (take len text) (take n (drop len text)) ∙ rw (a, b) refl
 
 -- the first other byte stands after them
-pub behind_good : (len : ℕ) (text : List ℕ) → len ≤ length text → list_all is_key_byte (take len text) ≡ true → len + position_or_len is_bad_byte (drop len text) ≡ position_or_len is_bad_byte text
-behind_good zero text le e = omega arith
-behind_good (suc len) [] le e = absurd (omega arith)
-behind_good (suc len) (b ∷ text) le e =
+pub after_good : (len : ℕ) (text : List ℕ) → len ≤ length text → list_all is_key_byte (take len text) ≡ true → len + position_or_len is_bad_byte (drop len text) ≡ position_or_len is_bad_byte text
+after_good zero text le e = omega arith
+after_good (suc len) [] le e = absurd (omega arith)
+after_good (suc len) (b ∷ text) le e =
     let parts = and_parts (is_key_byte b) (list_all is_key_byte (take len text)) e in
     let good : is_bad_byte b ≡ false = not_true (is_bad_byte b) parts.0 in
-    let rest = behind_good len text (omega arith) parts.1 in
+    let rest = after_good len text (omega arith) parts.1 in
     simp (good, one_plus) (omega (arith, rest))
 
 -- no other byte stands there exactly where all may stand in a key

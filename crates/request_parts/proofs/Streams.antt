@@ -15,9 +15,9 @@ use Rattle.request_parts.specs.declared.proxy_command.ProxyCommand.{ProxyCommand
 use Rattle.request_parts.specs.declared.proxy_command.ProxyCommand.TheVariants.{Version, Quit, Noop}
 use Rattle.request_parts.specs.Grammar.{Grammar}
 use Rattle.request_parts.specs.Message.{Message, Served, Refusal, Begins, meaning_of, with_rest, with_block, end_of}
-use Rattle.request_parts.specs.Stream.{Place, Stands, Closed, through_newline, skipped, extended, behind_own, behind, Goes, IsStuck}
+use Rattle.request_parts.specs.Stream.{Place, Stands, Closed, through_newline, skipped, extended, after_own, after_message, Goes, IsStuck}
 use Rattle.request_parts.specs.Laws.{BeginsStill, OneMessage, TooLongBeginsNothing, GoesOn, GoesFurther, OneSplitting}
-use Rattle.request_parts.proofs.Fronts.{one_line, not_too_long}
+use Rattle.mc_text.proofs.Stays.{one_line, not_too_long}
 
 some_is : {A : Type 0} (x y : A) → Some x ≡ Some y → x ≡ y
 some_is x y e = cc
@@ -103,7 +103,7 @@ skipped-append (Bytes n) bytes more =
       | inr ge ↦ rw (le-ltb (length bytes) n ge, le-ltb (length (bytes ++ more)) n (omega arith)) (ap (λ (l : List ℕ). Stands Nothing l) (drop-append-le n bytes more ge))
     ]
 
-own-append : (own : Option ProxyCommand) (rest more : List ℕ) → behind_own own (rest ++ more) ≡ extended (behind_own own rest) more
+own-append : (own : Option ProxyCommand) (rest more : List ℕ) → after_own own (rest ++ more) ≡ extended (after_own own rest) more
 own-append None rest more = refl
 own-append (Some Version) rest more = refl
 own-append (Some Noop) rest more = refl
@@ -145,17 +145,17 @@ module _ (G : Grammar) where
       let le = within (G.order_of (words (without_cr b.text))) (G.skip_of (words (without_cr b.text))) (length b.text + 1) b.rest (message, used) b.says in
       omega (arith, ap length b.line.whole, length-append b.text (LF ∷ b.rest))
 
-  pub behind-append : (message : Message G.Order) (rest more : List ℕ) → behind G message (rest ++ more) ≡ extended (behind G message rest) more
-  behind-append (Served order block) rest more = own-append (G.own_by order) rest more
-  behind-append (Refusal why skip) rest more = skipped-append skip rest more
+  pub after_message-append : (message : Message G.Order) (rest more : List ℕ) → after_message G message (rest ++ more) ≡ extended (after_message G message rest) more
+  after_message-append (Served order block) rest more = own-append (G.own_by order) rest more
+  after_message-append (Refusal why skip) rest more = skipped-append skip rest more
 
   pub goes_on : GoesOn G
   goes_on from to [] more g = ap (λ (p : Place). extended p more) g
   goes_on (Stands Nothing held) to (message ∷ messages) more g =
       let used = g.0 in
       let le = used_within held message used g.1.0 in
-      let next : behind G message (drop used (held ++ more)) ≡ extended (behind G message (drop used held)) more = ap (behind G message) (drop-append-le used held more le) ∙ behind-append message (drop used held) more in
-      let rest = goes_on (behind G message (drop used held)) to messages more g.1.1 in
+      let next : after_message G message (drop used (held ++ more)) ≡ extended (after_message G message (drop used held)) more = ap (after_message G message) (drop-append-le used held more le) ∙ after_message-append message (drop used held) more in
+      let rest = goes_on (after_message G message (drop used held)) to messages more g.1.1 in
       (used, (begins_still held more message used g.1.0, subst (λ (p : Place). Goes G p messages (extended to more)) (sym next) rest))
   goes_on (Stands (Bytes n) held) to (message ∷ messages) more g = absurd g
   goes_on (Stands ThroughNewline held) to (message ∷ messages) more g = absurd g
@@ -163,7 +163,7 @@ module _ (G : Grammar) where
 
   pub goes_further : GoesFurther G
   goes_further from through to [] others g h = subst (λ (p : Place). Goes G p others to) (sym g) h
-  goes_further (Stands Nothing held) through to (message ∷ messages) others g h = (g.0, (g.1.0, goes_further (behind G message (drop g.0 held)) through to messages others g.1.1 h))
+  goes_further (Stands Nothing held) through to (message ∷ messages) others g h = (g.0, (g.1.0, goes_further (after_message G message (drop g.0 held)) through to messages others g.1.1 h))
   goes_further (Stands (Bytes n) held) through to (message ∷ messages) others g h = absurd g
   goes_further (Stands ThroughNewline held) through to (message ∷ messages) others g h = absurd g
   goes_further Closed through to (message ∷ messages) others g h = absurd g
@@ -174,8 +174,8 @@ module _ (G : Grammar) where
   from_one_place (Stands Nothing held) (m ∷ ms) [] p q g h s t = absurd (subst (IsStuck G) (sym h) t m g.0 g.1.0)
   from_one_place (Stands Nothing held) (m ∷ ms) (n ∷ ns) p q g h s t =
       let same = one_message held m n g.0 h.0 g.1.0 h.1.0 in
-      let next : behind G n (drop h.0 held) ≡ behind G m (drop g.0 held) = rw (same.0, same.1) refl in
-      let both = from_one_place (behind G m (drop g.0 held)) ms ns p q g.1.1 (subst (λ (x : Place). Goes G x ns q) next h.1.1) s t in
+      let next : after_message G n (drop h.0 held) ≡ after_message G m (drop g.0 held) = rw (same.0, same.1) refl in
+      let both = from_one_place (after_message G m (drop g.0 held)) ms ns p q g.1.1 (subst (λ (x : Place). Goes G x ns q) next h.1.1) s t in
       (ap2_cons m n ms ns same.0 both.0, both.1)
   from_one_place (Stands (Bytes k) held) [] (n ∷ ns) p q g h s t = absurd h
   from_one_place (Stands (Bytes k) held) (m ∷ ms) ns p q g h s t = absurd g

@@ -30,22 +30,22 @@ extended (Stands skip held) more = skipped skip (held ++ more)
 extended Closed more = Closed
 
 -- after what mcgate itself was asked: `quit` is the last message of its stream
-abbrev pub behind_own : Option ProxyCommand → List ℕ → Place
-behind_own None rest = Stands Nothing rest
-behind_own (Some Version) rest = Stands Nothing rest
-behind_own (Some Noop) rest = Stands Nothing rest
-behind_own (Some Quit) rest = Closed
+abbrev pub after_own : Option ProxyCommand → List ℕ → Place
+after_own None rest = Stands Nothing rest
+after_own (Some Version) rest = Stands Nothing rest
+after_own (Some Noop) rest = Stands Nothing rest
+after_own (Some Quit) rest = Closed
 
 module _ (G : Grammar) where
   -- where a reader stands after a message, with these bytes after it
-  abbrev pub behind : Message G.Order → List ℕ → Place
-  behind (Served order block) rest = behind_own (G.own_by order) rest
-  behind (Refusal why skip) rest = skipped skip rest
+  abbrev pub after_message : Message G.Order → List ℕ → Place
+  after_message (Served order block) rest = after_own (G.own_by order) rest
+  after_message (Refusal why skip) rest = skipped skip rest
 
   -- from one place these messages come, one after another, and lead to the other
   abbrev pub Goes : Place → List (Message G.Order) → Place → Type 0
   Goes from [] to = from ≡ to
-  Goes (Stands Nothing held) (message ∷ messages) to = (used : ℕ) × (Begins G held message used × Goes (behind message (drop used held)) messages to)
+  Goes (Stands Nothing held) (message ∷ messages) to = (used : ℕ) × (Begins G held message used × Goes (after_message message (drop used held)) messages to)
   Goes (Stands (Bytes n) held) (message ∷ messages) to = ⊥
   Goes (Stands ThroughNewline held) (message ∷ messages) to = ⊥
   Goes Closed (message ∷ messages) to = ⊥

@@ -3,6 +3,8 @@ ghost use Rattle.std.specs.Prelude.{◌≡◌, ◌≤◌, ◌<◌, ◌&&◌, tru
 ghost use Rattle.std.specs.List.{position_or_len, list_all};
 ghost use Rattle.mc_types.specs.KeyText.{is_key_byte, is_bad_byte};
 
+use mc_types::key::{first_bad_byte, is_bad_byte};
+
 // Most bytes of a line are those of keys. So many are tested together, without a branch for each: a processor does that
 // in a few steps.
 const GROUP: usize = 16;
@@ -15,7 +17,7 @@ fn tested(group: &[u8]) -> bool
 {
     group
         .iter()
-        .fold(true, |good, b| good & !(*b < 33 || *b == 127))
+        .fold(true, |good, byte| good & !is_bad_byte(*byte))
 }
 
 fn are_good(group: &[u8]) -> bool
@@ -39,17 +41,11 @@ fn groups_end(text: &[u8], from: usize, size: usize) -> usize
     len
 }
 
-fn first_bad(text: &[u8]) -> Option<usize>
-    ensures { result ≡ position is_bad_byte text.now }
-{
-    text.iter().position(|b| *b < 33 || *b == 127)
-}
-
 fn rest_len(text: &[u8]) -> usize
     ensures value { result ≡ position_or_len is_bad_byte text.now }
     ensures within { result ≤ length text.now }
 {
-    first_bad(text).unwrap_or(text.len())
+    first_bad_byte(text).unwrap_or(text.len())
 }
 
 /// How many bytes at the front may stand in a key.

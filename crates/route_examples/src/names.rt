@@ -2,7 +2,7 @@
 
 use crate::tables::{Teller, halves, wrong};
 use mc_types::Op;
-use route_names::{Holder, Kind, Lists, behind, is_field, kind_of, op_of};
+use route_names::{Holder, Kind, Lists, is_field, kind_of, op_of, rest_after};
 use std::alloc::{AllocError, Global};
 use std::test::Fail;
 
@@ -29,10 +29,10 @@ configuration route => a field
 configuration routes => no field
 WarmUpRoute exptime => a field
 NullRoute pool => no field
-# What is behind `PoolRoute|`.
-behind PoolRoute|A => Some("A")
-behind PoolRoute| => Some("")
-behind PoolRoute => None"#
+# What comes after `PoolRoute|`.
+rest_after PoolRoute|A => Some("A")
+rest_after PoolRoute| => Some("")
+rest_after PoolRoute => None"#
 }
 
 struct OfNames;
@@ -44,7 +44,7 @@ impl Teller for OfNames {
             "operation" => op_word(op_of(name)).to_string(alloc),
             "kind" => kind_word(kind_of(name)).to_string(alloc),
             "configuration" => field_word(is_field(Holder::Config, name)).to_string(alloc),
-            "behind" => format!(in alloc; "{:?}", behind("PoolRoute|", name)),
+            "rest_after" => format!(in alloc; "{:?}", rest_after("PoolRoute|", name)),
             _ => route_field(front, name).to_string(alloc),
         }
     }

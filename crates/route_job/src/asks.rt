@@ -23,36 +23,18 @@ pub fn is_get(op: Op) -> bool
 pub fn plain_get_of(alloc: Global, ask: &Ask) -> Ask
     ensures { result ≡ plain_get ask.now }
 {
-    Ask {
-        key: ask.key,
-        op: Op::Get,
-        dialect: Dialect::Classic,
-        with_cas: false,
-        flags: 0,
-        exptime: None,
-        body: Body::empty(),
-        cas: None,
-        delta: 0,
-        tokens: Tokens::new(alloc),
-    }
+    Ask::bare(Dialect::Classic, Op::Get, ask.key, Tokens::new(alloc))
 }
 
 // An add of these data under the key of the ask. It takes no memory.
 fn add_of(alloc: Global, ask: &Ask, flags: u32, body: Body, exptime: u32) -> Ask
     ensures { result ≡ record { key = ask.now.key; op = Add; dialect = Classic; with_cas = false; flags = flags; exptime = Some (pos exptime); body = body; cas = None; delta = 0; tokens = [] } }
 {
-    Ask {
-        key: ask.key,
-        op: Op::Add,
-        dialect: Dialect::Classic,
-        with_cas: false,
-        flags,
-        exptime: Some(i64::from(exptime)),
-        body,
-        cas: None,
-        delta: 0,
-        tokens: Tokens::new(alloc),
-    }
+    let mut add = Ask::bare(Dialect::Classic, Op::Add, ask.key, Tokens::new(alloc));
+    add.flags = flags;
+    add.exptime = Some(i64::from(exptime));
+    add.body = body;
+    add
 }
 
 /// An add of the item that was answered.

@@ -40,16 +40,16 @@ different m n lt small = false_from_ne_true (bytes_eq (pool_address n) (pool_add
     let numbers : n ≡ m = decimal_injective n m (omega (arith, small)) (omega (arith, small, lt)) (append_cancel_right (decimal n) (decimal m) (codes ":1") ends) in
     absurd (omega (arith, numbers, lt)))
 
-new_behind : (n k : ℕ) → k ≤ n → n < 2 ^ 32 → list_any (bytes_eq (pool_address n)) (map pool_address (numbers_below k)) ≡ false
-new_behind n zero le small = refl
-new_behind n (suc k) le small =
+new_after : (n k : ℕ) → k ≤ n → n < 2 ^ 32 → list_any (bytes_eq (pool_address n)) (map pool_address (numbers_below k)) ≡ false
+new_after n zero le small = refl
+new_after n (suc k) le small =
     ap (list_any (bytes_eq (pool_address n))) (map-append pool_address (numbers_below k) (k ∷ []))
     ∙ list_any-append (bytes_eq (pool_address n)) (map pool_address (numbers_below k)) (pool_address k ∷ [])
-    ∙ ap₂ (λ a b. a || (b || false)) (new_behind n k (omega (arith, le)) small) (different k n (omega (arith, le)) small)
+    ∙ ap₂ (λ a b. a || (b || false)) (new_after n k (omega (arith, le)) small) (different k n (omega (arith, le)) small)
 
 pub is_new : (n : ℕ) (servers : List ℕ) (addresses : Addresses) (address : List ℕ) → PoolSoFar n servers addresses → n < 2 ^ 32 → address ≡ pool_address n → list_any (bytes_eq address) addresses ≡ false
 is_new n servers addresses address h small is =
-    ap₂ (λ (a : List ℕ) (l : Addresses). list_any (bytes_eq a) l) is h.addresses_are ∙ new_behind n n (omega arith) small
+    ap₂ (λ (a : List ℕ) (l : Addresses). list_any (bytes_eq a) l) is h.addresses_are ∙ new_after n n (omega arith) small
 
 -- ---- a step, and what there is at the end
 

@@ -1,4 +1,5 @@
 -- Which fields an object may have, and what stands in them. Source: mcgate's own, under mcrouter's names of routes.
+use Rattle.route_json.specs.declared.fields.TheConstants.{MAX_EXPTIME}
 use Rattle.std.specs.Prelude.{ℕ, List, [], ◌∷◌, codes, Option, Some, None, Result, Ok, Err, nat_le, if◌then◌else◌}
 use Rattle.std.specs.List.{list_any}
 use Rattle.std.specs.Str.{bytes_eq}
@@ -42,7 +43,7 @@ object_or name _ = Err (BadField name)
 -- an exptime, where it is left out 0
 abbrev pub exptime_or : Option Data → Result ℕ Fault
 exptime_or None = Ok 0
-exptime_or (Some (number (unsigned n))) = if nat_le n 2147483647 then Ok n else Err (BadField (codes "exptime"))
+exptime_or (Some (number (unsigned n))) = if nat_le n MAX_EXPTIME then Ok n else Err (BadField (codes "exptime"))
 exptime_or _ = Err (BadField (codes "exptime"))
 
 -- the operation of a policy

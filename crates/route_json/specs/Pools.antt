@@ -1,4 +1,5 @@
 -- Pools of servers. Source: mcgate's own.
+use Rattle.server_addresses.specs.declared.server_text.TheConstants.{MAX_WEIGHT}
 use Rattle.route_tree.specs.declared.limits.TheConstants.{SLOT_LIMIT, POOL_LIMIT}
 use Rattle.std.specs.Prelude.{ℕ, ◌<◌, ◌≤◌, ◌==◌, List, [], ◌∷◌, codes, length, replicate, nat_lt, Option, Some, None, Result, Ok, Err, if◌then◌else◌, string_bytes}
 use Rattle.std.specs.List.{flat_map}
@@ -31,10 +32,10 @@ abbrev pub AllBelow : ℕ → List ℕ → Type 0
 AllBelow bound [] = Unit {0}
 AllBelow bound (s ∷ ss) = (s < bound) × AllBelow bound ss
 
--- each server is one of so many, and has a weight in 1..=16
+-- each server is one of so many, and has a weight in 1..=MAX_WEIGHT
 abbrev pub AreWeighted : ℕ → List WeightedServer → Type 0
 AreWeighted bound [] = Unit {0}
-AreWeighted bound (s ∷ ss) = (s.server < bound) × (0 < s.weight) × (s.weight ≤ 16) × AreWeighted bound ss
+AreWeighted bound (s ∷ ss) = (s.server < bound) × (0 < s.weight) × (s.weight ≤ MAX_WEIGHT) × AreWeighted bound ss
 
 -- a pool isn't empty and doesn't have more than 2,048 slots, and its servers are some of so many
 abbrev pub IsPool : ℕ → List WeightedServer → Type 0

@@ -15,7 +15,7 @@ use Rattle.route_names.specs.declared.kinds.Lists.TheVariants as lists
 use Rattle.route_names.specs.declared.kinds.Kind.{Kind}
 use Rattle.route_names.specs.declared.kinds.Kind.TheVariants as kinds
 use Rattle.route_names.specs.declared.holders.Holder.TheVariants as holders
-use Rattle.route_names.specs.Names.{kind_of, op_of, behind}
+use Rattle.route_names.specs.Names.{kind_of, op_of, rest_after}
 use Rattle.route_json.specs.Fault.{Fault, BadField, TooDeep, TooManyNodes, UnknownType, NoPool, EmptyChildren, BadPrefix}
 use Rattle.route_json.specs.Fields.{only, value_or, text_or, object_or, exptime_or, op_or}
 use Rattle.route_json.specs.declared.pools.WeightedServer.{WeightedServer}
@@ -91,24 +91,24 @@ module _ (pools : Pools) where
   -- a text that is `FailoverRoute|Pool|` and a name, or another
   abbrev pub short_failover : ℕ → ℕ → List ℕ → Option (List ℕ) → Reading ℕ Route
   short_failover levels weight text (Some name) = short_list lists.Failover levels weight name
-  short_failover levels weight text None = short_miss levels weight text (behind (codes "MissFailoverRoute|Pool|") text)
+  short_failover levels weight text None = short_miss levels weight text (rest_after (codes "MissFailoverRoute|Pool|") text)
 
   -- a text that is `AllSyncRoute|Pool|` and a name, or another
   abbrev pub short_all : ℕ → ℕ → List ℕ → Option (List ℕ) → Reading ℕ Route
   short_all levels weight text (Some name) = short_list lists.AllSync levels weight name
-  short_all levels weight text None = short_failover levels weight text (behind (codes "FailoverRoute|Pool|") text)
+  short_all levels weight text None = short_failover levels weight text (rest_after (codes "FailoverRoute|Pool|") text)
 
   -- a text that is `PoolRoute|` and a name, or another
   abbrev pub short_pool : ℕ → ℕ → List ℕ → Option (List ℕ) → Reading ℕ Route
   short_pool levels weight text (Some name) = pool_route name
-  short_pool levels weight text None = short_all levels weight text (behind (codes "AllSyncRoute|Pool|") text)
+  short_pool levels weight text None = short_all levels weight text (rest_after (codes "AllSyncRoute|Pool|") text)
 
   -- the route of a text
   abbrev pub short : ℕ → ℕ → List ℕ → Reading ℕ Route
   short levels weight text =
       if bytes_eq text (codes "NullRoute") then give forms.Null
       else if bytes_eq text (codes "ErrorRoute") then give Failing
-      else short_pool levels weight text (behind (codes "PoolRoute|") text)
+      else short_pool levels weight text (rest_after (codes "PoolRoute|") text)
 
   -- the children that a text stands for, by what stands after `Pool|`
   abbrev pub text_children : ℕ → ℕ → Option (List ℕ) → Reading ℕ (List Route)
@@ -123,7 +123,7 @@ module _ (pools : Pools) where
     abbrev pub children_of : Option Data → Reading ℕ (List Route)
     children_of (Some (array no_items)) = fail EmptyChildren
     children_of (Some (array (item d ds))) = each (child weight (codes "children")) (values (item d ds))
-    children_of (Some (string text)) = text_children levels weight (behind (codes "Pool|") text)
+    children_of (Some (string text)) = text_children levels weight (rest_after (codes "Pool|") text)
     children_of _ = fail (BadField (codes "children"))
 
     -- the route of what stands there, or an error route of its own

@@ -1,4 +1,5 @@
 -- Servers by their first appearance. Source: mcgate's own.
+use Rattle.server_addresses.specs.declared.servers.TheConstants.{MAX_SERVERS}
 use Rattle.std.specs.Prelude.{ℕ, List, [], ◌∷◌, ◌++◌, length, nat_lt, Option, Some, None, Ok, Err, if◌then◌else◌, position}
 use Rattle.std.specs.Str.{bytes_eq}
 pub use Rattle.server_addresses.specs.Servers.{Addresses}
@@ -10,7 +11,7 @@ use Rattle.route_json.specs.Reading.{Reading, ◌>>=◌, give, fail}
 -- the number of an address that is known at this place or new
 abbrev pub numbered_at : Option ℕ → List ℕ → List ℕ → Reading Addresses ℕ
 numbered_at (Some n) pool a known = Ok (n, known)
-numbered_at None pool a known = if nat_lt (length known) 4294967295 then Ok (length known, known ++ a ∷ []) else Err (TooManyServers pool)
+numbered_at None pool a known = if nat_lt (length known) MAX_SERVERS then Ok (length known, known ++ a ∷ []) else Err (TooManyServers pool)
 
 -- the number of an address in the list of this pool
 abbrev pub numbered : List ℕ → List ℕ → Reading Addresses ℕ

@@ -13,7 +13,7 @@ use serde_json::{Map, Value};
 use std::alloc::Global;
 
 /// The greatest exptime of a route, as memcached's clients write it in 31 bits.
-const MAX_EXPTIME: u64 = 2147483647;
+pub const MAX_EXPTIME: u64 = 2_147_483_647;
 
 /// Each member of an object is a field of its kind; `BadField` names the first that isn't.
 pub fn only(alloc: Global, holder: Holder, value: &Value) -> Result<(), ConfigFault>
@@ -89,7 +89,7 @@ pub fn object_field<'a>(
     }
 }
 
-/// An exptime in 0..=2147483647, in its field; 0 where it is left out, and `BadField` for any other value.
+/// An exptime in 0..=[`MAX_EXPTIME`], in its field; 0 where it is left out, and `BadField` for any other value.
 pub fn exptime_field(alloc: Global, value: &Value) -> Result<u32, ConfigFault>
     ensures { Gives (λ n. n) result (exptime_or (get (codes "exptime") (view value.now))) }
 {

@@ -5,7 +5,7 @@ ghost use Rattle.mc_types.specs.KeyText.{IsKey};
 ghost use Rattle.route_tree.specs.Route.{Failing, Server};
 ghost use Rattle.route_tree.specs.Form.{route_of_form, routes_of};
 ghost use Rattle.route_json.specs.Fault.{Gives};
-ghost use Rattle.route_names.specs.Names.{kind_of, behind};
+ghost use Rattle.route_names.specs.Names.{kind_of, rest_after};
 ghost use Rattle.route_json.specs.Fits.{IsLeaf, Fits, AllFit, NodeFits};
 ghost use Rattle.route_json.specs.Pools.{AreWeighted, IsPool, servers_of};
 ghost use Rattle.route_json.specs.Reading.{each};
@@ -15,7 +15,7 @@ use crate::fault::ConfigFault;
 use crate::place::{Below, RouteCount};
 use crate::pools::{Pools, WeightedServer, slots_of};
 use mc_types::{Key, Op, ServerId};
-use route_names::{Kind, Lists, behind, kind_of, op_of};
+use route_names::{Kind, Lists, kind_of, op_of, rest_after};
 use route_tree::{Tree, TreeForm};
 use std::alloc::Global;
 
@@ -165,16 +165,16 @@ pub fn short(
     if text == "ErrorRoute" {
         return Ok(TreeForm::Error);
     }
-    if let Some(name) = behind("PoolRoute|", text) {
+    if let Some(name) = rest_after("PoolRoute|", text) {
         return pool_route(alloc, pools, name);
     }
-    if let Some(name) = behind("AllSyncRoute|Pool|", text) {
+    if let Some(name) = rest_after("AllSyncRoute|Pool|", text) {
         return short_list(alloc, pools, count, below, Lists::AllSync, name);
     }
-    if let Some(name) = behind("FailoverRoute|Pool|", text) {
+    if let Some(name) = rest_after("FailoverRoute|Pool|", text) {
         return short_list(alloc, pools, count, below, Lists::Failover, name);
     }
-    if let Some(name) = behind("MissFailoverRoute|Pool|", text) {
+    if let Some(name) = rest_after("MissFailoverRoute|Pool|", text) {
         return short_list(alloc, pools, count, below, Lists::MissFailover, name);
     }
     Err(ConfigFault::UnknownType(String::from_str(alloc, text)?))
@@ -203,11 +203,11 @@ pub fn text_children(
     below: Below,
     text: &str,
 ) -> Result<Vec<Tree>, ConfigFault>
-    ensures gives { Gives (λ v. (v.items, count.new.routes)) result (text_children pools.now.0 below.levels below.weight (behind (codes "Pool|") text.now) count.old.routes) }
+    ensures gives { Gives (λ v. (v.items, count.new.routes)) result (text_children pools.now.0 below.levels below.weight (rest_after (codes "Pool|") text.now) count.old.routes) }
     ensures fits { IfOk result (λ v. AllFit (length pools.now.1) below.levels below.weight count.old.routes v.items count.new.routes) }
     ensures some { IfOk result (λ v. 0 < length v.items) }
 {
-    match behind("Pool|", text) {
+    match rest_after("Pool|", text) {
         Some(name) => server_routes(alloc, pools, count, below, name),
         None => Err(ConfigFault::BadField(String::from_str(alloc, "children")?)),
     }

@@ -7,6 +7,7 @@ ghost use Rattle.route_json.specs.Servers.{numbered, server_of_text};
 use crate::fault::ConfigFault;
 use crate::pools::WeightedServer;
 use mc_types::ServerId;
+use server_addresses::server_text::MAX_WEIGHT;
 use server_addresses::servers::MAX_SERVERS;
 use server_addresses::{Servers, read_server};
 use std::alloc::Global;
@@ -21,7 +22,7 @@ pub fn server_of_text(
 ) -> Result<WeightedServer, ConfigFault>
     ensures gives { Gives (λ s. (s, servers.new)) result (server_of_text pool.now text.now servers.old) }
     ensures below { IfOk result (λ s. s.server < length servers.new) }
-    ensures weight { IfOk result (λ s. (0 < s.weight) × (s.weight ≤ 16)) }
+    ensures weight { IfOk result (λ s. (0 < s.weight) × (s.weight ≤ MAX_WEIGHT)) }
     ensures more { length servers.old ≤ length servers.new }
 {
     match read_server(text) {

@@ -14,6 +14,7 @@ use route_names::Holder;
 use route_tree::{POOL_LIMIT, SLOT_LIMIT};
 use serde_json::{Map, Value};
 use server_addresses::Servers;
+use server_addresses::server_text::MAX_WEIGHT;
 use std::alloc::{AllocError, Global};
 use std::marker::Model;
 
@@ -234,7 +235,7 @@ fn read_server(
 ) -> Result<WeightedServer, ConfigFault>
     ensures gives { Gives (λ s. (s, servers.new)) result (server_of name.now (view value.now) servers.old) }
     ensures below { IfOk result (λ s. s.server < length servers.new) }
-    ensures weight { IfOk result (λ s. (0 < s.weight) × (s.weight ≤ 16)) }
+    ensures weight { IfOk result (λ s. (0 < s.weight) × (s.weight ≤ MAX_WEIGHT)) }
     ensures more { length servers.old ≤ length servers.new }
 {
     match value {

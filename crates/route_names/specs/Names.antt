@@ -57,7 +57,7 @@ op_of text =
     else None
 
 -- what stands after this front
-abbrev pub behind : List ℕ → List ℕ → Option (List ℕ)
-behind [] text = Some text
-behind (x ∷ xs) [] = None
-behind (x ∷ xs) (y ∷ ys) = if nat_eq x y then behind xs ys else None
+abbrev pub rest_after : List ℕ → List ℕ → Option (List ℕ)
+rest_after [] text = Some text
+rest_after (x ∷ xs) [] = None
+rest_after (x ∷ xs) (y ∷ ys) = if nat_eq x y then rest_after xs ys else None

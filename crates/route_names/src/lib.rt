@@ -7,4 +7,4 @@ pub mod words;
 
 pub use holders::{Holder, is_field};
 pub use kinds::{Kind, Lists, kind_of};
-pub use words::{behind, op_of};
+pub use words::{op_of, rest_after};

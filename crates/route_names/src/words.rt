@@ -3,7 +3,7 @@
 // Names of operations, and the fronts of short texts.
 
 ghost use Rattle.std.specs.Prelude.{◌≡◌, option_map};
-ghost use Rattle.route_names.specs.Names.{op_of, behind};
+ghost use Rattle.route_names.specs.Names.{op_of, rest_after};
 
 use mc_types::Op;
 
@@ -29,8 +29,8 @@ pub fn op_of(text: &str) -> Option<Op>
 }
 
 /// What stands after this front; `None` where the text begins otherwise.
-pub fn behind<'a>(front: &str, text: &'a str) -> Option<&'a str>
-    ensures { option_map (λ s. s.now) result ≡ behind front.now text.now }
+pub fn rest_after<'a>(front: &str, text: &'a str) -> Option<&'a str>
+    ensures { option_map (λ s. s.now) result ≡ rest_after front.now text.now }
 {
     text.strip_prefix(front)
 }

@@ -13,7 +13,7 @@ use Rattle.route_tree.specs.Operation.{same_op}
 use Rattle.route_tree.specs.Plan.{Plan, Plans, PlanPolicies, Server, Null, Failing, AllSync, Failover, MissFailover, WarmUp, ByOperation, End, More, Otherwise, Policy, IsNotEmpty, IsGood, AreGood, ArePoliciesGood}
 use Rattle.route_tree.specs.Word.{Given, rank, given_by, null_reply, failing_reply, plain_get, refill, is_plain_get, Word, WordOfAll, WordOfFirst, WordOfHead, WordOfPolicy, Then, Gives, AfterRefill, Refilled, AfterWarm, AfterCold, WarmUpWord}
 use Rattle.route_tree.specs.WordLaws.{ended, EachAskHasAWord, EachOutcomeGoesOn}
-use Rattle.route_tree.proofs.Parts.{Replies, HasSome, Rest, GoesOn, split, behind, gives_on, gives_some, then_some, then_on, if_on, if_some, match_on, match_some}
+use Rattle.route_tree.proofs.Parts.{Replies, HasSome, Rest, GoesOn, split, goes_after, gives_on, gives_some, then_some, then_on, if_on, if_some, match_on, match_some}
 use Rattle.route_tree.proofs.Gets.{NamesHit, get_names_hit}
 
 -- ---- the worst of some replies
@@ -162,10 +162,10 @@ server_on s ask origin b calls (x ∷ front) call back given outcome e w fits = 
     none (x ∷ xs) h = cc
 
 -- where the call stands after the first child's, that child's calls stay
-pub behind_first : (p : Plan) (ps : Plans) (limit : ℕ) (ask : Ask) (origin : Origin) (b : ℕ) (front here more : List Call) (call : Call) (g : Given) → front ≡ here ++ more → Word p ask origin b here g → limit ≤ rank g → Rest (WordOfFirst ps limit ask origin) (b + length here) (more ++ call ∷ []) → Rest (WordOfFirst (More p ps) limit ask origin) b (front ++ call ∷ [])
-behind_first p ps limit ask origin b front here more call g e w le r =
+pub after_first : (p : Plan) (ps : Plans) (limit : ℕ) (ask : Ask) (origin : Origin) (b : ℕ) (front here more : List Call) (call : Call) (g : Given) → front ≡ here ++ more → Word p ask origin b here g → limit ≤ rank g → Rest (WordOfFirst ps limit ask origin) (b + length here) (more ++ call ∷ []) → Rest (WordOfFirst (More p ps) limit ask origin) b (front ++ call ∷ [])
+after_first p ps limit ask origin b front here more call g e w le r =
     let all : Rest (Then (Word p ask origin) (λ g n l x. (limit ≤ rank g) × WordOfFirst ps limit ask origin n l x)) b (front ++ call ∷ []) =
-    behind (Word p ask origin) (λ g n l x. (limit ≤ rank g) × WordOfFirst ps limit ask origin n l x) b front here more call g e w (r.0, r.1, (le, r.2)) in
+    goes_after (Word p ask origin) (λ g n l x. (limit ≤ rank g) × WordOfFirst ps limit ask origin n l x) b front here more call g e w (r.0, r.1, (le, r.2)) in
     (all.0, all.1, inr (all.2.0, all.2.1, all.2.2, all.2.3, all.2.4, all.2.5.0, all.2.5.1))
 
 -- the first child's calls, and then the other children's
@@ -175,7 +175,7 @@ first_on p ps limit ask origin some f rest b calls front call back given outcome
 first_on p ps limit ask origin some f rest b calls front call back given outcome e (inr w) fits =
     ⊎_elim
     (λ h. first_rest p ps limit ask origin some b (front ++ ended call outcome ∷ []) (f b w.0 front call h.0 w.3 outcome h.1 w.4 fits))
-    (λ h. behind_first p ps limit ask origin b front w.0 h.0 (ended call outcome) w.3 h.1 w.4 w.5 (rest (b + length w.0) w.1 h.0 call back given outcome h.2 w.6 fits))
+    (λ h. after_first p ps limit ask origin b front w.0 h.0 (ended call outcome) w.3 h.1 w.4 w.5 (rest (b + length w.0) w.1 h.0 call back given outcome h.2 w.6 fits))
     (split w.0 w.1 front call back (sym w.2 ∙ e))
 
 -- what the other children give stands after what the first gives

@@ -101,8 +101,8 @@ gives_on g b calls front call back given outcome e w fits = absurd (none front (
     none (x ∷ xs) h = cc
 
 -- where the call stands in the second part, the first one stays
-pub behind : {G H : Type 0} (first : ℕ → List Call → G → Type 0) (second : G → ℕ → List Call → H → Type 0) (b : ℕ) (front here more : List Call) (call : Call) (g : G) → front ≡ here ++ more → first b here g → Rest (second g) (b + length here) (more ++ call ∷ []) → Rest (Then first second) b (front ++ call ∷ [])
-behind first second b front here more call g e w r =
+pub goes_after : {G H : Type 0} (first : ℕ → List Call → G → Type 0) (second : G → ℕ → List Call → H → Type 0) (b : ℕ) (front here more : List Call) (call : Call) (g : G) → front ≡ here ++ more → first b here g → Rest (second g) (b + length here) (more ++ call ∷ []) → Rest (Then first second) b (front ++ call ∷ [])
+goes_after first second b front here more call g e w r =
     let same : (here ++ (more ++ call ∷ [])) ++ r.0 ≡ (front ++ call ∷ []) ++ r.0 = ap (λ l. l ++ r.0) (sym (append_assoc here more (call ∷ [])) ∙ ap (λ l. l ++ call ∷ []) (sym e)) in
     (r.0, r.1, (here, (more ++ call ∷ []) ++ r.0, sym same ∙ append_assoc here (more ++ call ∷ []) r.0, g, w, r.2))
 
@@ -124,7 +124,7 @@ module _ {G H : Type 0} (first : ℕ → List Call → G → Type 0) (second : G
   then_on f s b calls front call back given outcome e w fits =
       ⊎_elim
       (λ h. then_rest b (front ++ ended call outcome ∷ []) (f b w.0 front call h.0 w.3 outcome h.1 w.4 fits))
-      (λ h. behind first second b front w.0 h.0 (ended call outcome) w.3 h.1 w.4 (s w.3 (b + length w.0) w.1 h.0 call back given outcome h.2 w.5 fits))
+      (λ h. goes_after first second b front w.0 h.0 (ended call outcome) w.3 h.1 w.4 (s w.3 (b + length w.0) w.1 h.0 call back given outcome h.2 w.5 fits))
       (split w.0 w.1 front call back (sym w.2 ∙ e))
 
 -- ---- what a choice has

@@ -1,11 +1,10 @@
 //! Plain trees: what is left of a tree for one key.
 
-ghost use Rattle.std.specs.Prelude.{◌≡◌, IfOk};
+ghost use Rattle.std.specs.Prelude.{◌≡◌};
 ghost use Rattle.route_tree.specs.Plan.{Plan, IsPlan};
 ghost use Rattle.route_tree.specs.Form.{plan_of_form};
 
 use mc_types::{Op, ServerId};
-use std::alloc::{AllocError, Global};
 use std::marker::Model;
 
 /// What is left of a tree for one key: no choice by key is left in it.
@@ -87,62 +86,4 @@ impl Plain {
     {
         &self.form
     }
-
-    /// The same plain tree once more. The only error is running out of memory.
-    #[cycle(copies)]
-    pub fn copy(&self, alloc: Global) -> Result<Plain, AllocError>
-        ensures { IfOk result (λ plain. plain ≡ self.now) }
-    {
-        let form = match self.form() {
-            PlainForm::Server(server) => PlainForm::Server(*server),
-            PlainForm::Null => PlainForm::Null,
-            PlainForm::Error => PlainForm::Error,
-            PlainForm::AllSync(children) => PlainForm::AllSync(copy_all(alloc, children)?),
-            PlainForm::Failover(children) => PlainForm::Failover(copy_all(alloc, children)?),
-            PlainForm::MissFailover(children) => PlainForm::MissFailover(copy_all(
-                alloc, children,
-            )?),
-            PlainForm::WarmUp {
-                cold,
-                warm,
-                exptime,
-            } => {
-                let cold = Box::new(alloc, cold.copy(alloc)?)?;
-                let warm = Box::new(alloc, warm.copy(alloc)?)?;
-                PlainForm::WarmUp {
-                    cold,
-                    warm,
-                    exptime: *exptime,
-                }
-            }
-            PlainForm::ByOperation { policies, default } => {
-                let policies = copy_policies(alloc, policies)?;
-                let default = Box::new(alloc, default.copy(alloc)?)?;
-                PlainForm::ByOperation { policies, default }
-            }
-        };
-        Ok(Plain::new(form))
-    }
-}
-
-#[cycle(copies)]
-fn copy_all(alloc: Global, children: &[Plain]) -> Result<Vec<Plain>, AllocError>
-    ensures { IfOk result (λ copies. copies.items ≡ children.now) }
-{
-    let mut copies = Vec::new(alloc);
-    for child in children {
-        copies.push(child.copy(alloc)?)?;
-    }
-    Ok(copies)
-}
-
-#[cycle(copies)]
-fn copy_policies(alloc: Global, policies: &[(Op, Plain)]) -> Result<Vec<(Op, Plain)>, AllocError>
-    ensures { IfOk result (λ copies. copies.items ≡ policies.now) }
-{
-    let mut copies = Vec::new(alloc);
-    for (op, child) in policies {
-        copies.push((*op, child.copy(alloc)?))?;
-    }
-    Ok(copies)
 }

@@ -48,9 +48,9 @@ lacks_by byte (b ∷ text) h = let parts = and_parts (not (eqb b byte)) (lacks b
 abbrev parts : List ℕ → List ℕ → Parts
 parts word rest = record { word = word; rest = rest }
 
-behind_space : (word rest : List ℕ) → drop (length word + 1) (word ++ 32 ∷ rest) ≡ rest
-behind_space [] rest = refl
-behind_space (b ∷ word) rest = let e : suc (length word) + 1 ≡ suc (length word + 1) = omega arith in rw e (behind_space word rest)
+after_space : (word rest : List ℕ) → drop (length word + 1) (word ++ 32 ∷ rest) ≡ rest
+after_space [] rest = refl
+after_space (b ∷ word) rest = let e : suc (length word) + 1 ≡ suc (length word + 1) = omega arith in rw e (after_space word rest)
 
 pub cut_at : (word rest : List ℕ) → Lacks 32 word → cut (word ++ 32 ∷ rest) ≡ Some (record { word = word; rest = rest })
 cut_at word rest h =
@@ -58,7 +58,7 @@ cut_at word rest h =
     let len : length (word ++ 32 ∷ rest) ≡ length word + length (32 ∷ rest) = length-append word (32 ∷ rest) in
     let within : length word < length (word ++ 32 ∷ rest) = omega (arith, len) in
     rw (at, lt-ltb (length word) (length (word ++ 32 ∷ rest)) within)
-    (ap (λ (t : List ℕ). Some (parts t (drop (length word + 1) (word ++ 32 ∷ rest)))) (take_at word (32 ∷ rest) (length word) refl) ∙ ap (λ (t : List ℕ). Some (parts word t)) (behind_space word rest))
+    (ap (λ (t : List ℕ). Some (parts t (drop (length word + 1) (word ++ 32 ∷ rest)))) (take_at word (32 ∷ rest) (length word) refl) ∙ ap (λ (t : List ℕ). Some (parts word t)) (after_space word rest))
 
 -- digits
 digits_lack : (byte : ℕ) (ds : List ℕ) → byte < 48 → all_ascii_digits ds ≡ true → Lacks byte ds

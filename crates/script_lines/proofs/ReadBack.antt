@@ -10,17 +10,18 @@ use Rattle.mc_types.specs.declared.key.KeyFault.{KeyFault}
 use Rattle.mc_types.specs.Fault.{read_key}
 use Rattle.mc_types.specs.KeyText.{IsKey}
 use Rattle.request_parts.proofs.KeyTexts.{is_read}
-use Rattle.mc_runs.specs.Log.{Scripted, Piece, Fail, Hold, At, Now, Moment, Manner, Before, After, Loss, Lose, Restart}
+use Rattle.fleet_run.specs.Scripted.{Scripted, Piece, Add, Fail, Hold, At, Now, Moment, Manner, Before, After, Junk, Cut, Loss, Lose, Restart}
+use Rattle.fleet_run.specs.Scripted as scripted
 use Rattle.byte_escapes.specs.Escapes.{escaped}
 use Rattle.script_text.specs.Escapes.{unescaped}
 use Rattle.script_text.specs.Lines.{Parts, cut, lines_of, is_line_end}
-use Rattle.script_text.specs.Events.{nonzero, client_said, server_said, turn_said, key_said, manner_said, piece_said, hold_said, fail_said, item_loss_said, restart_loss_said, loss_said, at_said, said_behind, event_said}
+use Rattle.script_text.specs.Events.{nonzero, client_said, server_said, turn_said, key_said, count_said, manner_said, sent_said, hold_said, fail_said, item_loss_said, restart_loss_said, loss_said, at_said, said_after, event_said}
 use Rattle.route_json.specs.Configuration.{Configuration}
 use Rattle.route_json.specs.Servers.{Addresses}
 use Rattle.script_text.specs.FirstLine.{WhyNot, first_said}
-use Rattle.script_text.specs.Script.{Meaning, Says, line_means, said_or_not, reload_said, load_or_event, used_after, count_after, Numbered, and_then, numbered, or_behind, first_unreadable, load_then, loaded, told_from, told_behind, told_by, told}
-use Rattle.script_lines.specs.Lines.{manner_text, loss_line, event_line, script_lines}
-use Rattle.script_lines.specs.Laws.{AreBytes, CanBeLost, IsTurn, HasLine, HaveLines, SaysAll, ScriptsAreReadBack}
+use Rattle.script_text.specs.Script.{Meaning, Says, line_means, said_or_not, reload_said, load_or_event, used_after, count_after, Numbered, and_then, numbered, or_after, first_unreadable, load_then, loaded, told_from, told_after, told_by, told}
+use Rattle.script_lines.specs.Lines.{manner_text, manner_line, loss_line, event_line, script_lines}
+use Rattle.script_lines.specs.Laws.{AreBytes, CanBeLost, IsTurn, IsManner, HasLine, HaveLines, SaysAll, ScriptsAreReadBack}
 use Rattle.script_text.proofs.ReadBack.{escapes_are_read_back}
 use Rattle.script_lines.proofs.Cuts.{Lacks, lacks_both, lacks_all, lacks_by, cut_at, decimal_lacks, escaped_lacks, key_lacks}
 
@@ -37,29 +38,38 @@ key_back key is bytes =
     ap (option_and_then (λ (text : List ℕ). result_ok (read_key text))) (escapes_are_read_back key bytes)
     ∙ ap (λ (r : Result (List ℕ) KeyFault). result_ok r) (is_read key is)
 
-manner_back : (manner : Manner) → manner_said (manner_text manner) ≡ Some manner
-manner_back Before = refl
-manner_back After = refl
-
-manner_lacks : (manner : Manner) → Lacks 10 (manner_text manner)
-manner_lacks Before = lacks_by 10 (codes "before") refl
-manner_lacks After = lacks_by 10 (codes "after") refl
-
 number_lacks : (byte n : ℕ) → byte < 48 → n < 2 ^ 63 → Lacks byte (decimal n)
 number_lacks byte n lt small = decimal_lacks byte n lt (omega arith)
+
+cut_back : (count : ℕ) → count < 2 ^ 32 → manner_said (manner_text (Cut count)) ≡ Some (Cut count)
+cut_back count lt =
+    ap (option_and_then (λ (p : Parts). option_and_then (λ (n : ℕ). Some (Cut n)) (if bytes_eq p.word (codes "cut") then count_said p.rest else None))) (cut_at (codes "cut") (decimal count) (lacks_by 32 (codes "cut") refl))
+    ∙ ap (option_and_then (λ (n : ℕ). Some (Cut n))) (number_below-decimal (2 ^ 32) count lt (omega arith))
+
+manner_back : (manner : Manner) → IsManner manner → manner_said (manner_text manner) ≡ Some manner
+manner_back Before h = refl
+manner_back After h = refl
+manner_back Junk h = refl
+manner_back (Cut count) h = cut_back count h
+
+manner_lacks : (manner : Manner) → IsManner manner → Lacks 10 (manner_text manner)
+manner_lacks Before h = lacks_by 10 (codes "before") refl
+manner_lacks After h = lacks_by 10 (codes "after") refl
+manner_lacks Junk h = lacks_by 10 (codes "junk") refl
+manner_lacks (Cut count) h = let lt : count < 2 ^ 32 = h in lacks_both 10 (codes "cut ") (decimal count) (lacks_by 10 (codes "cut ") refl) (number_lacks 10 count (omega arith) (omega arith))
 
 -- ---- lines
 
 -- a first word, and what stands after it
-event_by : (word text : List ℕ) (event : Scripted) → Lacks 32 word → said_behind word text ≡ Some event → event_said (word ++ 32 ∷ text) ≡ Some event
-event_by word text event lacks said = ap (option_and_then (λ (p : Parts). said_behind p.word p.rest)) (cut_at word text lacks) ∙ said
+event_by : (word text : List ℕ) (event : Scripted) → Lacks 32 word → said_after word text ≡ Some event → event_said (word ++ 32 ∷ text) ≡ Some event
+event_by word text event lacks said = ap (option_and_then (λ (p : Parts). said_after p.word p.rest)) (cut_at word text lacks) ∙ said
 
 -- where the first word isn't `reload`, the line says that event, whatever servers are known
 no_reload : (word text : List ℕ) → Lacks 32 word → bytes_eq word (codes "reload") ≡ false → reload_said (word ++ 32 ∷ text) ≡ None
 no_reload word text lacks other =
     ap (option_and_then (λ (p : Parts). if bytes_eq p.word (codes "reload") then Some p.rest else None)) (cut_at word text lacks) ∙ rw other refl
 
-means_by : (word text : List ℕ) (event : Scripted) → Lacks 32 word → bytes_eq word (codes "reload") ≡ false → said_behind word text ≡ Some event → (used : Addresses)
+means_by : (word text : List ℕ) (event : Scripted) → Lacks 32 word → bytes_eq word (codes "reload") ≡ false → said_after word text ≡ Some event → (used : Addresses)
     → load_or_event used (reload_said (word ++ 32 ∷ text)) (word ++ 32 ∷ text) ≡ Says event
 means_by word text event lacks other said used =
     ap (λ (o : Option (List ℕ)). load_or_event used o (word ++ 32 ∷ text)) (no_reload word text lacks other) ∙ ap said_or_not (event_by word text event lacks said)
@@ -74,19 +84,44 @@ record LineOf (event : Scripted) : Type 0 where
   lacks : Lacks 10 line
   means : (used : Addresses) → line_means used line ≡ Says event
 
-piece_line : (client : ℕ) (bytes : List ℕ) → HasLine (Piece client bytes) → LineOf (Piece client bytes)
-piece_line client bytes h =
-    let lt = h.0 in
-    let d = decimal client in
-    let said : piece_said (d ++ 32 ∷ escaped bytes) ≡ Some (Piece client bytes) =
-    ap (option_and_then (λ (p : Parts). option_and_then (λ (c : ℕ). option_and_then (λ (b : List ℕ). Some (Piece c b)) (unescaped p.rest)) (client_said p.word))) (cut_at d (escaped bytes) (number_lacks 32 client (omega arith) (omega arith)))
-    ∙ ap (option_and_then (λ (c : ℕ). option_and_then (λ (b : List ℕ). Some (Piece c b)) (unescaped (escaped bytes)))) (number_below-decimal 64 client lt (omega arith))
-    ∙ ap (option_and_then (λ (b : List ℕ). Some (Piece client b))) (escapes_are_read_back bytes h.1) in
+-- a client and what it sends
+module _ (client : ℕ) (bytes : List ℕ) (lt : client < 64) (all : AreBytes bytes) where
+  abbrev sent : List ℕ
+  sent = decimal client ++ 32 ∷ escaped bytes
+
+  sent_back : sent_said sent ≡ Some (client, bytes)
+  sent_back =
+      ap (option_and_then (λ (p : Parts). option_and_then (λ (c : ℕ). option_and_then (λ (b : List ℕ). Some (c, b)) (unescaped p.rest)) (client_said p.word))) (cut_at (decimal client) (escaped bytes) (number_lacks 32 client (omega arith) (omega arith)))
+      ∙ ap (option_and_then (λ (c : ℕ). option_and_then (λ (b : List ℕ). Some (c, b)) (unescaped (escaped bytes)))) (number_below-decimal 64 client lt (omega arith))
+      ∙ ap (option_and_then (λ (b : List ℕ). Some (client, b))) (escapes_are_read_back bytes all)
+
+  sent_lacks : Lacks 10 sent
+  sent_lacks = lacks_both 10 (decimal client) (32 ∷ escaped bytes) (number_lacks 10 client (omega arith) (omega arith)) (refl, escaped_lacks bytes all)
+
+  piece_line : LineOf (Piece client bytes)
+  piece_line = record {
+    line = codes "> " ++ sent;
+    written = ap (λ (t : List ℕ). codes "> " ++ (t ++ 10 ∷ [])) (append_assoc (decimal client) (32 ∷ []) (escaped bytes));
+    lacks = lacks_both 10 (codes "> ") sent (lacks_by 10 (codes "> ") refl) sent_lacks;
+    means = means_by (codes ">") sent (Piece client bytes) (lacks_by 32 (codes ">") refl) refl (ap (option_and_then (λ (s : ℕ × List ℕ). Some (Piece s.0 s.1))) sent_back);
+  }
+
+  add_line : LineOf (Add client bytes)
+  add_line = record {
+    line = codes "+ " ++ sent;
+    written = ap (λ (t : List ℕ). codes "+ " ++ (t ++ 10 ∷ [])) (append_assoc (decimal client) (32 ∷ []) (escaped bytes));
+    lacks = lacks_both 10 (codes "+ ") sent (lacks_by 10 (codes "+ ") refl) sent_lacks;
+    means = means_by (codes "+") sent (Add client bytes) (lacks_by 32 (codes "+") refl) refl (ap (option_and_then (λ (s : ℕ × List ℕ). Some (Add s.0 s.1))) sent_back);
+  }
+
+result_line : (server : ℕ) → server < 2 ^ 32 → LineOf (scripted.Result server)
+result_line server lt =
+    let d = decimal server in
     record {
-      line = codes "> " ++ (d ++ 32 ∷ escaped bytes);
-      written = ap (λ (t : List ℕ). codes "> " ++ (t ++ 10 ∷ [])) (append_assoc d (32 ∷ []) (escaped bytes));
-      lacks = lacks_both 10 (codes "> ") (d ++ 32 ∷ escaped bytes) (lacks_by 10 (codes "> ") refl) (lacks_both 10 d (32 ∷ escaped bytes) (number_lacks 10 client (omega arith) (omega arith)) (refl, escaped_lacks bytes h.1));
-      means = means_by (codes ">") (d ++ 32 ∷ escaped bytes) (Piece client bytes) (lacks_by 32 (codes ">") refl) refl said;
+      line = codes "result " ++ d;
+      written = refl;
+      lacks = lacks_both 10 (codes "result ") d (lacks_by 10 (codes "result ") refl) (number_lacks 10 server (omega arith) (omega arith));
+      means = means_by (codes "result") d (scripted.Result server) (lacks_by 32 (codes "result") refl) refl (ap (option_and_then (λ (s : ℕ). Some (scripted.Result s))) (number_below-decimal (2 ^ 32) server lt (omega arith)));
     }
 
 hold_line : (server : ℕ) (key content : List ℕ) → HasLine (Hold server key content) → LineOf (Hold server key content)
@@ -108,19 +143,19 @@ hold_line server key content h =
       means = means_by (codes "hold") (d ++ 32 ∷ (k ++ 32 ∷ t)) (Hold server key content) (lacks_by 32 (codes "hold") refl) refl said;
     }
 
-fail_line : (turn : ℕ) (manner : Manner) → IsTurn turn → LineOf (Fail turn manner)
-fail_line turn manner h =
+fail_line : (turn : ℕ) (manner : Manner) → IsTurn turn → IsManner manner → LineOf (Fail turn manner)
+fail_line turn manner h is =
     let lt = h.1 in
     let d = decimal turn in
     let m = manner_text manner in
     let said : fail_said (d ++ 32 ∷ m) ≡ Some (Fail turn manner) =
     ap (option_and_then (λ (p : Parts). option_and_then (λ (n : ℕ). option_and_then (λ (x : Manner). Some (Fail n x)) (manner_said p.rest)) (turn_said p.word))) (cut_at d m (number_lacks 32 turn (omega arith) (omega arith)))
     ∙ ap (option_and_then (λ (n : ℕ). option_and_then (λ (x : Manner). Some (Fail n x)) (manner_said m))) (turn_back turn h)
-    ∙ ap (option_and_then (λ (x : Manner). Some (Fail turn x))) (manner_back manner) in
+    ∙ ap (option_and_then (λ (x : Manner). Some (Fail turn x))) (manner_back manner is) in
     record {
       line = codes "fail " ++ (d ++ 32 ∷ m);
-      written = ap (λ (t : List ℕ). codes "fail " ++ (t ++ 10 ∷ [])) (append_assoc d (32 ∷ []) m);
-      lacks = lacks_both 10 (codes "fail ") (d ++ 32 ∷ m) (lacks_by 10 (codes "fail ") refl) (lacks_both 10 d (32 ∷ m) (number_lacks 10 turn (omega arith) (omega arith)) (refl, manner_lacks manner));
+      written = ap (λ (t : List ℕ). codes "fail " ++ t) (append_assoc d (32 ∷ []) (manner_line manner) ∙ sym (append_assoc d (32 ∷ m) (10 ∷ [])));
+      lacks = lacks_both 10 (codes "fail ") (d ++ 32 ∷ m) (lacks_by 10 (codes "fail ") refl) (lacks_both 10 d (32 ∷ m) (number_lacks 10 turn (omega arith) (omega arith)) (refl, manner_lacks manner is));
       means = means_by (codes "fail") (d ++ 32 ∷ m) (Fail turn manner) (lacks_by 32 (codes "fail") refl) refl said;
     }
 
@@ -191,9 +226,11 @@ moment_line n lt = record {
 }
 
 line_of : (event : Scripted) → HasLine event → LineOf event
-line_of (Piece client bytes) h = piece_line client bytes h
+line_of (Piece client bytes) h = piece_line client bytes h.0 h.1
+line_of (Add client bytes) h = add_line client bytes h.0 h.1
+line_of (scripted.Result server) h = result_line server h
 line_of (Hold server key content) h = hold_line server key content h
-line_of (Fail turn manner) h = fail_line turn manner h
+line_of (Fail turn manner) h = fail_line turn manner h.0 h.1
 line_of (At turn loss) h = at_line turn loss h.0 (lost_line loss h.1)
 line_of (Now loss) h = let l = lost_line loss h in record { line = l.word ++ 32 ∷ l.text; written = l.written; lacks = l.lacks; means = l.means }
 line_of (Moment moment) h = subst (λ (z : ℤ). LineOf (Moment z)) (sym h.2) (moment_line h.0 h.1)
@@ -217,14 +254,14 @@ lines_back [] h used n at = record { said = refl; whole = refl; nothing_loaded =
 lines_back (event ∷ events) h used n at =
     let l = line_of event h.0 in
     let front = front_line event events l in
-    let behind = lines_of (script_lines events) in
+    let after = lines_of (script_lines events) in
     let rest = lines_back events h.1 used (n + 1) (at + 1) in
     record {
       said = ap (λ (ls : List (List ℕ)). map (λ (x : Numbered). x.event) (numbered used n ls)) front
-          ∙ ap (λ (m : Meaning). map (λ (x : Numbered). x.event) (and_then m n (numbered (used_after m used) (n + 1) behind))) (l.means used)
+          ∙ ap (λ (m : Meaning). map (λ (x : Numbered). x.event) (and_then m n (numbered (used_after m used) (n + 1) after))) (l.means used)
           ∙ ap (λ (es : List Scripted). event ∷ es) rest.said;
-      whole = ap (first_unreadable used n) front ∙ ap (λ (m : Meaning). or_behind m n (first_unreadable (used_after m used) (n + 1) behind)) (l.means used) ∙ rest.whole;
-      nothing_loaded = ap (loaded used at) front ∙ ap (λ (m : Meaning). load_then m at (loaded (used_after m used) (count_after m at) behind)) (l.means used) ∙ rest.nothing_loaded;
+      whole = ap (first_unreadable used n) front ∙ ap (λ (m : Meaning). or_after m n (first_unreadable (used_after m used) (n + 1) after)) (l.means used) ∙ rest.whole;
+      nothing_loaded = ap (loaded used at) front ∙ ap (λ (m : Meaning). load_then m at (loaded (used_after m used) (count_after m at) after)) (l.means used) ∙ rest.nothing_loaded;
     }
 
 said_again : (events : List Scripted) → HaveLines events → (n : ℕ) (config : Configuration) → SaysAll (told_from n config (lines_of (script_lines events))) config events
@@ -236,10 +273,10 @@ said_again events h n config =
 told_front : (line : List ℕ) (events : List Scripted) (config : Configuration) → All (λ b. is_line_end b ≡ false) line → first_said line ≡ Ok config → told (line ++ 10 ∷ script_lines events) ≡ Ok (told_from 2 config (lines_of (script_lines events)))
 told_front line events config one said =
     ap told_by (slice_split_at is_line_end line 10 (script_lines events) one refl)
-    ∙ ap (λ (r : Result Configuration WhyNot). told_behind r (lines_of (script_lines events))) said
+    ∙ ap (λ (r : Result Configuration WhyNot). told_after r (lines_of (script_lines events))) said
 
 pub scripts_are_read_back : ScriptsAreReadBack
 scripts_are_read_back events h = record {
   over = λ config. said_again events h 1 config;
-  behind = λ line config one said. (told_from 2 config (lines_of (script_lines events)), told_front line events config one said, said_again events h 2 config);
+  after = λ line config one said. (told_from 2 config (lines_of (script_lines events)), told_front line events config one said, said_again events h 2 config);
 }

@@ -1,7 +1,7 @@
 -- The law of scripts that were written: they are read back. Source: mcgate's own.
 use Rattle.std.specs.Prelude.{◌≡◌, ℕ, ◌<◌, ◌<ℤ◌, ◌^◌, pos, List, [], ◌∷◌, ◌++◌, All, false, None, Ok}
 use Rattle.mc_types.specs.KeyText.{IsKey}
-use Rattle.mc_runs.specs.Log.{Scripted, Piece, Hold, Fail, At, Now, Moment, Loss, Lose, Restart}
+use Rattle.fleet_run.specs.Scripted.{Scripted, Piece, Add, Result, Hold, Fail, At, Now, Moment, Manner, Before, After, Junk, Cut, Loss, Lose, Restart}
 use Rattle.route_json.specs.Configuration.{Configuration}
 use Rattle.script_text.specs.Lines.{is_line_end}
 use Rattle.script_text.specs.FirstLine.{first_said}
@@ -21,12 +21,21 @@ CanBeLost (Restart server) = server < 2 ^ 32
 abbrev pub IsTurn : ℕ → Type 0
 IsTurn turn = (0 < turn) × (turn < 2 ^ 32)
 
+-- a count of an answer's bytes has 32 bits
+abbrev pub IsManner : Manner → Type 0
+IsManner Before = Unit {0}
+IsManner After = Unit {0}
+IsManner Junk = Unit {0}
+IsManner (Cut count) = count < 2 ^ 32
+
 -- an event that a line can say: its client is below 64, its turn is counted from 1, its time isn't below 0, and its numbers have
 -- their widths
 abbrev pub HasLine : Scripted → Type 0
 HasLine (Piece client bytes) = (client < 64) × AreBytes bytes
+HasLine (Add client bytes) = (client < 64) × AreBytes bytes
+HasLine (Result server) = server < 2 ^ 32
 HasLine (Hold server key content) = (server < 2 ^ 32) × IsKey key × AreBytes key × AreBytes content
-HasLine (Fail turn manner) = IsTurn turn
+HasLine (Fail turn manner) = IsTurn turn × IsManner manner
 HasLine (At turn loss) = IsTurn turn × CanBeLost loss
 HasLine (Now loss) = CanBeLost loss
 HasLine (Moment moment) = (n : ℕ) × (n < 2 ^ 63) × (moment ≡ pos n)
@@ -43,8 +52,10 @@ LossHasWidths (Restart server) = server < 2 ^ 32
 
 abbrev pub HasWidths : Scripted → Type 0
 HasWidths (Piece client bytes) = AreBytes bytes
+HasWidths (Add client bytes) = AreBytes bytes
+HasWidths (Result server) = server < 2 ^ 32
 HasWidths (Hold server key content) = (server < 2 ^ 32) × AreBytes key × AreBytes content
-HasWidths (Fail turn manner) = turn < 2 ^ 32
+HasWidths (Fail turn manner) = (turn < 2 ^ 32) × IsManner manner
 HasWidths (At turn loss) = (turn < 2 ^ 32) × LossHasWidths loss
 HasWidths (Now loss) = LossHasWidths loss
 HasWidths (Moment moment) = moment <ℤ pos (2 ^ 63)
@@ -64,7 +75,7 @@ pub record SaysAll (t : Told) (config : Configuration) (events : List Scripted) 
 -- the lines of these events say them, over a configuration from elsewhere and after each first line that says one
 pub record AreReadBack (events : List Scripted) : Type 0 where
   pub over : (config : Configuration) → SaysAll (told_over config (script_lines events)) config events
-  pub behind : (line : List ℕ) (config : Configuration) → All (λ b. is_line_end b ≡ false) line → first_said line ≡ Ok config
+  pub after : (line : List ℕ) (config : Configuration) → All (λ b. is_line_end b ≡ false) line → first_said line ≡ Ok config
       → (t : Told) × (told (line ++ 10 ∷ script_lines events) ≡ Ok t) × SaysAll t config events
 
 -- what is written of a script is read as that script

@@ -2,20 +2,23 @@
 ghost use Rattle.std.specs.Prelude.{◌≡◌, OnOk, All, map};
 ghost use Rattle.std.specs.Io.KnownBytes.{Appends};
 ghost use Rattle.fleet_run.specs.Scripted.{loss_of, manner_of, scripted_of};
-ghost use Rattle.script_lines.specs.Lines.{event_line, loss_line, manner_text, script_lines};
-ghost use Rattle.script_lines.specs.Laws.{AreBytes, LossHasWidths, HasWidths};
+ghost use Rattle.script_lines.specs.Lines.{event_line, loss_line, manner_line, script_lines};
+ghost use Rattle.script_lines.specs.Laws.{AreBytes, IsManner, LossHasWidths, HasWidths};
 
 use byte_escapes::Escaped;
 use fleet_run::{Event, Loss, Manner, Script};
 use std::io;
 use std::io::Write;
 
-fn manner_text(manner: Manner) -> &'static str
-    ensures { result.now ≡ manner_text (manner_of manner) }
+fn write_manner<W: Write>(manner: Manner, out: &mut W) -> io::Result<()>
+    ensures line { OnOk result (Appends (W.contents out.old) (W.contents out.new) (manner_line (manner_of manner))) }
+    ensures widths { IsManner (manner_of manner) }
 {
     match manner {
-        Manner::Before => "before",
-        Manner::After => "after",
+        Manner::Before => writeln!(out, "before"),
+        Manner::After => writeln!(out, "after"),
+        Manner::Junk => writeln!(out, "junk"),
+        Manner::Cut(count) => writeln!(out, "cut {}", count),
     }
 }
 
@@ -49,6 +52,14 @@ fn write_event<W: Write>(event: &Event, out: &mut W) -> io::Result<()>
             let bytes = in_escapes(bytes.as_slice());
             writeln!(out, "> {} {}", client, bytes)
         }
+        Event::Add(client, bytes) => {
+            let bytes = in_escapes(bytes.as_slice());
+            writeln!(out, "+ {} {}", client, bytes)
+        }
+        Event::Result(server) => {
+            let server = server.number();
+            writeln!(out, "result {}", server)
+        }
         Event::Hold(server, key, content) => {
             let key = in_escapes(key.as_bytes());
             let content = in_escapes(content.as_slice());
@@ -56,7 +67,8 @@ fn write_event<W: Write>(event: &Event, out: &mut W) -> io::Result<()>
         }
         Event::Fail(turn, manner) => {
             let turn = *turn;
-            writeln!(out, "fail {} {}", turn, manner_text(*manner))
+            write!(out, "fail {} ", turn)?;
+            write_manner(*manner, out)
         }
         Event::At(turn, loss) => {
             let turn = *turn;

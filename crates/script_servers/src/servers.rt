@@ -9,18 +9,15 @@ ghost use Rattle.memory_fleet.specs.Losing.{loss_of, held_at, changed_at, after_
 ghost use Rattle.script_servers.specs.Losing.{AreLost};
 
 use crate::calling::make_call;
-use crate::losing::{lose_all, lose_one};
+use crate::losing::lose_all;
 use crate::manner::Manner;
 use crate::moment::Moment;
 use cache_server::Cache;
 use mc_types::{Ask, Key, ServerId};
-use memory_fleet::losses::add_loss;
-use memory_fleet::{FleetFault, Loss, Made};
+use memory_fleet::losses::{add_loss, lose_one};
+use memory_fleet::{CAPACITY, FleetFault, Loss, Made};
 use std::alloc::{AllocError, Global};
 use std::collections::BTreeMap;
-
-/// The most items that a server holds.
-const CAPACITY: usize = 1_024;
 
 /// Servers in memory: their caches, by their places, and one clock; and the failures and losses that are named for calls to come.
 /// A call is counted as it has its result.

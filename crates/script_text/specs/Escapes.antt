@@ -34,15 +34,15 @@ abbrev mutual
   -- the bytes that a text spells: a backslash begins \r, \n, \\ or \xHH, and any other byte stands for itself
   pub unescaped : List ℕ → Option (List ℕ)
   unescaped [] = Some []
-  unescaped (b ∷ text) = if b == 92 then behind_backslash text else onto (Some b) (unescaped text)
+  unescaped (b ∷ text) = if b == 92 then after_backslash text else onto (Some b) (unescaped text)
 
   -- the bytes that a text spells after a backslash
-  pub behind_backslash : List ℕ → Option (List ℕ)
-  behind_backslash [] = None
-  behind_backslash (c ∷ text) = if c == 120 then behind_x text else onto (letter_value c) (unescaped text)
+  pub after_backslash : List ℕ → Option (List ℕ)
+  after_backslash [] = None
+  after_backslash (c ∷ text) = if c == 120 then after_x text else onto (letter_value c) (unescaped text)
 
   -- the bytes that a text spells after \x
-  pub behind_x : List ℕ → Option (List ℕ)
-  behind_x [] = None
-  behind_x (high ∷ []) = None
-  behind_x (high ∷ low ∷ text) = onto (hex_byte (hex_value high) (hex_value low)) (unescaped text)
+  pub after_x : List ℕ → Option (List ℕ)
+  after_x [] = None
+  after_x (high ∷ []) = None
+  after_x (high ∷ low ∷ text) = onto (hex_byte (hex_value high) (hex_value low)) (unescaped text)

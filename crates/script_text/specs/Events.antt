@@ -1,10 +1,11 @@
 -- What a line of a script says. Source: mcgate's own.
+use Rattle.mc_types.specs.declared.limits.TheConstants.{SCRIPT_CLIENTS}
 use Rattle.std.specs.Prelude.{ℕ, ◌^◌, pos, List, codes, ◌==◌, if◌then◌else◌, Option, Some, None, option_and_then}
 use Rattle.std.specs.Result.{result_ok}
 use Rattle.std.specs.Str.{bytes_eq}
 use Rattle.mc_text.specs.Number.{number_below}
 use Rattle.mc_types.specs.Fault.{read_key}
-use Rattle.fleet_run.specs.Scripted.{Scripted, Piece, Fail, Hold, At, Now, Moment, Manner, Before, After, Loss, Lose, Restart}
+use Rattle.fleet_run.specs.Scripted.{Scripted, Piece, Add, Result, Fail, Hold, At, Now, Moment, Manner, Before, After, Junk, Cut, Loss, Lose, Restart}
 use Rattle.script_text.specs.Escapes.{unescaped}
 use Rattle.script_text.specs.Lines.{cut}
 
@@ -16,9 +17,9 @@ o >>= f = option_and_then f o
 abbrev pub nonzero : ℕ → Option ℕ
 nonzero n = if n == 0 then None else Some n
 
--- a client: 0..=63
+-- a client of a script
 abbrev pub client_said : List ℕ → Option ℕ
-client_said word = number_below 64 word
+client_said word = number_below SCRIPT_CLIENTS word
 
 -- a server
 abbrev pub server_said : List ℕ → Option ℕ
@@ -36,17 +37,50 @@ key_said text = do
   bytes ← unescaped text
   result_ok (read_key bytes)
 
--- the manner of a failure
+-- a count of bytes: 0..=4294967295
+abbrev pub count_said : List ℕ → Option ℕ
+count_said word = number_below (2 ^ 32) word
+
+-- an answer of which only the first bytes come: `cut B`
+abbrev pub cut_said : List ℕ → Option Manner
+cut_said text = do
+  parts ← cut text
+  count ← if bytes_eq parts.word (codes "cut") then count_said parts.rest else None
+  Some (Cut count)
+
+-- the manner of a failure: `before`, `after`, `junk`, `cut B`
 abbrev pub manner_said : List ℕ → Option Manner
-manner_said word = if bytes_eq word (codes "before") then Some Before else if bytes_eq word (codes "after") then Some After else None
+manner_said text =
+    if bytes_eq text (codes "before") then Some Before
+    else if bytes_eq text (codes "after") then Some After
+    else if bytes_eq text (codes "junk") then Some Junk
+    else cut_said text
+
+-- a client, and the bytes that it sends: C TEXT
+abbrev pub sent_said : List ℕ → Option (ℕ × List ℕ)
+sent_said text = do
+  parts ← cut text
+  client ← client_said parts.word
+  bytes ← unescaped parts.rest
+  Some (client, bytes)
 
 -- after `> `: C TEXT
 abbrev pub piece_said : List ℕ → Option Scripted
 piece_said text = do
-  parts ← cut text
-  client ← client_said parts.word
-  bytes ← unescaped parts.rest
-  Some (Piece client bytes)
+  sent ← sent_said text
+  Some (Piece sent.0 sent.1)
+
+-- after `+ `: C TEXT
+abbrev pub add_said : List ℕ → Option Scripted
+add_said text = do
+  sent ← sent_said text
+  Some (Add sent.0 sent.1)
+
+-- after `result `: S
+abbrev pub result_said : List ℕ → Option Scripted
+result_said text = do
+  server ← server_said text
+  Some (Result server)
 
 -- after `hold `: S KEY TEXT
 abbrev pub hold_said : List ℕ → Option Scripted
@@ -58,7 +92,7 @@ hold_said text = do
   content ← unescaped held.rest
   Some (Hold server key content)
 
--- after `fail `: K before, K after
+-- after `fail `: K before, K after, K cut B, K junk
 abbrev pub fail_said : List ℕ → Option Scripted
 fail_said text = do
   parts ← cut text
@@ -112,9 +146,11 @@ moment_said text = do
   Some (Moment (pos n))
 
 -- what a line of this first word says, by what stands after the word
-abbrev pub said_behind : List ℕ → List ℕ → Option Scripted
-said_behind word text =
+abbrev pub said_after : List ℕ → List ℕ → Option Scripted
+said_after word text =
     if bytes_eq word (codes ">") then piece_said text
+    else if bytes_eq word (codes "+") then add_said text
+    else if bytes_eq word (codes "result") then result_said text
     else if bytes_eq word (codes "hold") then hold_said text
     else if bytes_eq word (codes "fail") then fail_said text
     else if bytes_eq word (codes "lose") then lose_said text
@@ -127,4 +163,4 @@ said_behind word text =
 abbrev pub event_said : List ℕ → Option Scripted
 event_said line = do
   parts ← cut line
-  said_behind parts.word parts.rest
+  said_after parts.word parts.rest

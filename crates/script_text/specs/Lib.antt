@@ -3,7 +3,7 @@ pub mod Reads
 pub mod Lines
 pub mod Events
 pub mod Seen
-pub mod Behind
+pub mod LinesAfter
 pub mod FirstLine
 pub mod Script
 pub mod Read

@@ -67,10 +67,10 @@ pub record Numbered : Type 0 where
 
 -- the line of this number and meaning, and then the events of the lines after it
 abbrev pub and_then : Meaning → ℕ → List Numbered → List Numbered
-and_then Nothing n behind = behind
-and_then Unreadable n behind = []
-and_then (Says event) n behind = record { line = n; event = event } ∷ behind
-and_then (Loads c) n behind = behind
+and_then Nothing n after = after
+and_then Unreadable n after = []
+and_then (Says event) n after = record { line = n; event = event } ∷ after
+and_then (Loads c) n after = after
 
 -- the events of lines over the servers known, up to the first that can't be read; the first line has this number
 abbrev pub numbered : Addresses → ℕ → List (List ℕ) → List Numbered
@@ -78,23 +78,23 @@ numbered used n [] = []
 numbered used n (line ∷ lines) = and_then (line_means used line) n (numbered (used_after (line_means used line) used) (n + 1) lines)
 
 -- the line of this number where it can't be read, else what is found after it
-abbrev pub or_behind : Meaning → ℕ → Option ℕ → Option ℕ
-or_behind Nothing n behind = behind
-or_behind Unreadable n behind = Some n
-or_behind (Says event) n behind = behind
-or_behind (Loads c) n behind = behind
+abbrev pub or_after : Meaning → ℕ → Option ℕ → Option ℕ
+or_after Nothing n after = after
+or_after Unreadable n after = Some n
+or_after (Says event) n after = after
+or_after (Loads c) n after = after
 
 -- the number of the first line that can't be read
 abbrev pub first_unreadable : Addresses → ℕ → List (List ℕ) → Option ℕ
 first_unreadable used n [] = None
-first_unreadable used n (line ∷ lines) = or_behind (line_means used line) n (first_unreadable (used_after (line_means used line) used) (n + 1) lines)
+first_unreadable used n (line ∷ lines) = or_after (line_means used line) n (first_unreadable (used_after (line_means used line) used) (n + 1) lines)
 
 -- what a line loads after so many events, and then what the lines after it do
 abbrev pub load_then : Meaning → ℕ → List Reload → List Reload
-load_then Nothing at behind = behind
-load_then Unreadable at behind = []
-load_then (Says event) at behind = behind
-load_then (Loads c) at behind = record { at = at; config = c } ∷ behind
+load_then Nothing at after = after
+load_then Unreadable at after = []
+load_then (Says event) at after = after
+load_then (Loads c) at after = record { at = at; config = c } ∷ after
 
 -- what lines load, up to the first that can't be read, each after the events before it; so many events came before the lines
 abbrev pub loaded : Addresses → ℕ → List (List ℕ) → List Reload
@@ -123,14 +123,14 @@ abbrev pub told_from : ℕ → Configuration → List (List ℕ) → Told
 told_from first c lines = record { configuration = c; said = numbered c.servers first lines; loads = loaded c.servers 0 lines; unreadable = first_unreadable c.servers first lines }
 
 -- what a first line and further lines say
-abbrev pub told_behind : Result Configuration WhyNot → List (List ℕ) → Result Told WhyNot
-told_behind (Ok c) further = Ok (told_from 2 c further)
-told_behind (Err why) further = Err why
+abbrev pub told_after : Result Configuration WhyNot → List (List ℕ) → Result Told WhyNot
+told_after (Ok c) further = Ok (told_from 2 c further)
+told_after (Err why) further = Err why
 
 -- what lines say; or why the first says no configuration
 abbrev pub told_by : List (List ℕ) → Result Told WhyNot
 told_by [] = Err BadFirstLine
-told_by (first ∷ further) = told_behind (first_said first) further
+told_by (first ∷ further) = told_after (first_said first) further
 
 -- what a text says
 abbrev pub told : List ℕ → Result Told WhyNot

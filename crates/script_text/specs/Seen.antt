@@ -1,6 +1,7 @@
 -- What is seen of the program's own types.
 use Rattle.std.specs.Prelude.{ℕ, List}
 use denote.Ref.{Bor}
+use Rattle.script_text.specs.declared.event.Sent.{Sent}
 use Rattle.script_text.specs.declared.words.Parts as words
 use Rattle.script_text.specs.Lines.{Parts}
 
@@ -11,3 +12,7 @@ parts_seen p = record { word = p.word.now; rest = p.rest.now }
 -- the same as two texts
 abbrev pub texts_seen : Bor (List ℕ) × Bor (List ℕ) → Parts
 texts_seen p = record { word = p.0.now; rest = p.1.now }
+
+-- a client, and what it sends
+abbrev pub sent_seen : Sent → ℕ × List ℕ
+sent_seen s = (s.client, s.bytes.items)

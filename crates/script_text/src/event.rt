@@ -2,19 +2,20 @@
 ghost use Rattle.std.specs.Prelude.{◌≡◌, ◌^◌, Some};
 ghost use Rattle.fleet_run.specs.Scripted.{manner_of, loss_of, scripted_of};
 ghost use Rattle.script_text.specs.Reads.{Reads};
-ghost use Rattle.script_text.specs.Events.{client_said, server_said, turn_said, key_said, manner_said, piece_said, hold_said, fail_said, item_loss_said, restart_loss_said, loss_said, lose_said, restart_said, at_said, moment_said, said_behind, event_said};
+ghost use Rattle.script_text.specs.Seen.{sent_seen};
+ghost use Rattle.script_text.specs.Events.{client_said, server_said, turn_said, key_said, count_said, cut_said, manner_said, sent_said, piece_said, add_said, result_said, hold_said, fail_said, item_loss_said, restart_loss_said, loss_said, lose_said, restart_said, at_said, moment_said, said_after, event_said};
 
 use crate::escapes::unescape;
 use crate::fault::LineFault;
 use crate::words::{cut, number_under};
 use fleet_run::{Event, Loss, Manner};
-use mc_types::{Key, ServerId};
+use mc_types::{Key, SCRIPT_CLIENTS, ServerId};
 use std::alloc::Global;
 
 fn read_client(word: &[u8]) -> Result<u8, LineFault>
     ensures { Reads (λ c. c) (client_said word.now) result }
 {
-    match number_under(64, word) {
+    match number_under(SCRIPT_CLIENTS as u64, word) {
         Some(client) => Ok(client as u8),
         None => Err(LineFault::Unreadable),
     }
@@ -48,27 +49,78 @@ fn read_key(alloc: Global, text: &[u8]) -> Result<Key, LineFault>
     }
 }
 
-fn read_manner(word: &[u8]) -> Result<Manner, LineFault>
-    ensures { Reads manner_of (manner_said word.now) result }
+fn read_count(word: &[u8]) -> Result<u32, LineFault>
+    ensures { Reads (λ n. n) (count_said word.now) result }
 {
-    if word == b"before".as_slice() {
-        Ok(Manner::Before)
-    } else if word == b"after".as_slice() {
-        Ok(Manner::After)
-    } else {
-        Err(LineFault::Unreadable)
+    match number_under(1 << 32, word) {
+        Some(count) => Ok(count as u32),
+        None => Err(LineFault::Unreadable),
     }
 }
 
-fn read_piece(alloc: Global, text: &[u8]) -> Result<Event, LineFault>
-    ensures { Reads scripted_of (piece_said text.now) result }
+fn read_cut(text: &[u8]) -> Result<Manner, LineFault>
+    ensures { Reads manner_of (cut_said text.now) result }
+{
+    match cut(text) {
+        Some(parts) if parts.word == b"cut".as_slice() => {
+            let count = read_count(parts.rest)?;
+            Ok(Manner::Cut(count))
+        }
+        _ => Err(LineFault::Unreadable),
+    }
+}
+
+fn read_manner(text: &[u8]) -> Result<Manner, LineFault>
+    ensures { Reads manner_of (manner_said text.now) result }
+{
+    if text == b"before".as_slice() {
+        Ok(Manner::Before)
+    } else if text == b"after".as_slice() {
+        Ok(Manner::After)
+    } else if text == b"junk".as_slice() {
+        Ok(Manner::Junk)
+    } else {
+        read_cut(text)
+    }
+}
+
+// A client, and the bytes that it sends.
+#[derive(Drop)]
+struct Sent {
+    client: u8,
+    bytes: Vec<u8>,
+}
+
+fn read_sent(alloc: Global, text: &[u8]) -> Result<Sent, LineFault>
+    ensures { Reads sent_seen (sent_said text.now) result }
 {
     let Some(parts) = cut(text) else {
         return Err(LineFault::Unreadable);
     };
     let client = read_client(parts.word)?;
     let bytes = unescape(alloc, parts.rest)?;
+    Ok(Sent { client, bytes })
+}
+
+fn read_piece(alloc: Global, text: &[u8]) -> Result<Event, LineFault>
+    ensures { Reads scripted_of (piece_said text.now) result }
+{
+    let Sent { client, bytes } = read_sent(alloc, text)?;
     Ok(Event::Piece(client, bytes))
+}
+
+fn read_add(alloc: Global, text: &[u8]) -> Result<Event, LineFault>
+    ensures { Reads scripted_of (add_said text.now) result }
+{
+    let Sent { client, bytes } = read_sent(alloc, text)?;
+    Ok(Event::Add(client, bytes))
+}
+
+fn read_result(text: &[u8]) -> Result<Event, LineFault>
+    ensures { Reads scripted_of (result_said text.now) result }
+{
+    let server = read_server(text)?;
+    Ok(Event::Result(server))
 }
 
 fn read_hold(alloc: Global, text: &[u8]) -> Result<Event, LineFault>
@@ -164,11 +216,15 @@ fn read_moment(text: &[u8]) -> Result<Event, LineFault>
     }
 }
 
-fn read_behind(alloc: Global, word: &[u8], text: &[u8]) -> Result<Event, LineFault>
-    ensures { Reads scripted_of (said_behind word.now text.now) result }
+fn read_lines_after(alloc: Global, word: &[u8], text: &[u8]) -> Result<Event, LineFault>
+    ensures { Reads scripted_of (said_after word.now text.now) result }
 {
     if word == b">".as_slice() {
         read_piece(alloc, text)
+    } else if word == b"+".as_slice() {
+        read_add(alloc, text)
+    } else if word == b"result".as_slice() {
+        read_result(text)
     } else if word == b"hold".as_slice() {
         read_hold(alloc, text)
     } else if word == b"fail".as_slice() {
@@ -194,7 +250,7 @@ pub fn read_event(alloc: Global, line: &[u8]) -> Result<Event, LineFault>
     ensures { Reads scripted_of (event_said line.now) result }
 {
     match cut(line) {
-        Some(parts) => read_behind(alloc, parts.word, parts.rest),
+        Some(parts) => read_lines_after(alloc, parts.word, parts.rest),
         None => Err(LineFault::Unreadable),
     }
 }

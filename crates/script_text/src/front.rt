@@ -2,7 +2,7 @@
 
 ghost use Rattle.std.specs.Prelude.{◌≡◌, ◌≤◌, ◌+◌, ◌∷◌, length};
 ghost use Rattle.script_text.specs.Lines.{lines_of};
-ghost use Rattle.script_text.specs.Behind.{lines_behind};
+ghost use Rattle.script_text.specs.LinesAfter.{lines_after};
 
 /// The first line of a text, and what stands after its line end, where it has one.
 #[derive(Clone, Copy)]
@@ -13,8 +13,8 @@ pub struct Front<'a> {
 
 /// The front of a text. A line ends at `\n`; a carriage return is a byte like any other.
 pub fn front_of(text: &str) -> Front<'_>
-    ensures lines { lines_of text.now ≡ result.line.now ∷ lines_behind result.rest }
-    ensures few { length (lines_behind result.rest) + length result.line.now ≤ length text.now }
+    ensures lines { lines_of text.now ≡ result.line.now ∷ lines_after result.rest }
+    ensures few { length (lines_after result.rest) + length result.line.now ≤ length text.now }
 {
     match text.split_once('\n') {
         Some((line, rest)) => Front {

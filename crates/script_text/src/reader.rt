@@ -4,7 +4,7 @@ ghost use Rattle.serde_json.specs.Read.{read};
 ghost use Rattle.fleet_run.specs.Reloads.{AreInOrder};
 ghost use Rattle.fleet_run.specs.Scripted.{scripted_of};
 ghost use Rattle.route_json.specs.Configs.{read_or, read_after};
-ghost use Rattle.script_text.specs.Behind.{lines_behind};
+ghost use Rattle.script_text.specs.LinesAfter.{lines_after};
 ghost use Rattle.script_text.specs.FirstLine.{size_said, pool_said, pool_or_bad, read_or_fault, first_said, ReadsFirst};
 ghost use Rattle.script_text.specs.Events.{event_said};
 ghost use Rattle.script_text.specs.Script.{said_or_not, loads_or_not, line_means, servers_known, told_from, told, told_over, bad_event_line, AreChainedFrom, ReadsScript};
@@ -118,8 +118,8 @@ pub fn read_further(
     above: usize,
     further: Option<&str>,
 ) -> Result<Reading, AllocError>
-    requires { above + length (lines_behind further) < 2 ^ 64 }
-    ensures { IfOk result (ReadsLines servers.now (above + 1) (lines_behind further.entry)) }
+    requires { above + length (lines_after further) < 2 ^ 64 }
+    ensures { IfOk result (ReadsLines servers.now (above + 1) (lines_after further.entry)) }
 {
     let mut events = Vec::new(alloc);
     let mut reloads = Vec::new(alloc);
@@ -170,14 +170,14 @@ fn bad_event_line(script: &ConfiguredScript) -> Option<usize>
 /// The script that lines say over a configuration, after so many other lines, which are counted too.
 ///
 /// [`ScriptFault::BadLine`] comes as of [`read_script`]'s further lines, and otherwise running out of memory is the only error.
-pub fn read_behind(
+pub fn read_lines_after(
     alloc: Global,
     config: Config,
     above: usize,
     further: Option<&str>,
 ) -> Result<ConfiguredScript, ScriptFault>
-    requires { above + length (lines_behind further) < 2 ^ 64 }
-    ensures script { ReadsScript (Ok (told_from (above + 1) config (lines_behind further.entry))) result }
+    requires { above + length (lines_after further) < 2 ^ 64 }
+    ensures script { ReadsScript (Ok (told_from (above + 1) config (lines_after further.entry))) result }
     ensures order { IfOk result (λ s. AreInOrder (length s.script.events.items) (length (servers_known s.config.servers s.reloads.items)) 0 s.reloads.items) }
     ensures chained { IfOk result (λ s. AreChainedFrom s.config.servers s.reloads.items) }
 {
@@ -221,7 +221,7 @@ pub fn read_script(alloc: Global, text: &str) -> Result<ConfiguredScript, Script
 {
     let front = front_of(text);
     let config = read_first(alloc, front.line)?;
-    read_behind(alloc, config, 1, front.rest)
+    read_lines_after(alloc, config, 1, front.rest)
 }
 
 /// The script that a text says over a configuration from elsewhere: each line of the text is as [`read_script`]'s further ones, and
@@ -237,5 +237,5 @@ pub fn read_events(
     ensures order { IfOk result (λ s. AreInOrder (length s.script.events.items) (length (servers_known s.config.servers s.reloads.items)) 0 s.reloads.items) }
     ensures chained { IfOk result (λ s. AreChainedFrom s.config.servers s.reloads.items) }
 {
-    read_behind(alloc, config, 0, Some(text))
+    read_lines_after(alloc, config, 0, Some(text))
 }

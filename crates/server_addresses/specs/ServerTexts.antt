@@ -1,4 +1,5 @@
 -- Texts of servers: an address, and the weight that may follow it. Source: mcgate's own, in the form of twemproxy's `host:port:weight`.
+use Rattle.server_addresses.specs.declared.server_text.TheConstants.{MAX_WEIGHT}
 use Rattle.std.specs.Prelude.{ℕ, ◌^◌, ◌==◌, ◌&&◌, ◌||◌, List, length, nat_lt, nat_le, nat_eq, not, Bool, false, codes, Option, Some, None, if◌then◌else◌}
 use Rattle.std.specs.List.{list_any, starts_with, ends_with}
 use Rattle.mc_text.specs.Number.{number_below}
@@ -33,10 +34,10 @@ parts_or (Some p) = if begins_with_host (around_colon p.0) then Some p else None
 abbrev pub weighted_parts : List ℕ → Option (List ℕ × List ℕ)
 weighted_parts text = parts_or (around_colon text)
 
--- 1..=16
+-- 1 up to the greatest weight
 abbrev pub weight_within : Option ℕ → Option ℕ
 weight_within None = None
-weight_within (Some n) = if nat_lt 0 n && nat_le n 16 then Some n else None
+weight_within (Some n) = if nat_lt 0 n && nat_le n MAX_WEIGHT then Some n else None
 
 -- a weight of 1 or 2 digits
 abbrev pub weight_of : List ℕ → Option ℕ

@@ -1,4 +1,5 @@
 -- Servers by their addresses. Source: mcgate's own.
+use Rattle.server_addresses.specs.declared.servers.TheConstants.{MAX_SERVERS}
 use Rattle.std.specs.Prelude.{◌≡◌, ℕ, ◌≤◌, List, [], ◌∷◌, ◌++◌, length, false, String, string_bytes, map}
 use Rattle.std.specs.List.{list_any}
 use Rattle.std.specs.Str.{bytes_eq}
@@ -17,7 +18,7 @@ abbrev pub AreNew : Addresses → Addresses → Type 0
 AreNew known [] = Unit {0}
 AreNew known (a ∷ as_left) = (list_any (bytes_eq a) known ≡ false) × AreNew (known ++ a ∷ []) as_left
 
--- no address stands twice, and there are at most 4,294,967,295
+-- no address stands twice, and there are no more than a number of 32 bits tells apart
 pub record AreServers (known : Addresses) : Type 0 where
   pub distinct : AreNew [] known
-  pub few : length known ≤ 4294967295
+  pub few : length known ≤ MAX_SERVERS

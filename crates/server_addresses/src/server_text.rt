@@ -49,7 +49,7 @@ fn weighted_parts(text: &str) -> Option<(&str, &str)>
 
 fn weight_of(digits: &[u8]) -> Option<u32>
     ensures weight { result ≡ weight_of digits.now }
-    ensures within { IfSome result (λ w. (0 < w) × (w ≤ 16)) }
+    ensures within { IfSome result (λ w. (0 < w) × (w ≤ MAX_WEIGHT)) }
 {
     if digits.len() > 2 {
         return None;
@@ -58,9 +58,9 @@ fn weight_of(digits: &[u8]) -> Option<u32>
 }
 
 fn with_weight(address: &str, weight: Option<u32>) -> Option<(&str, u32)>
-    requires { IfSome weight (λ w. (0 < w) × (w ≤ 16)) }
+    requires { IfSome weight (λ w. (0 < w) × (w ≤ MAX_WEIGHT)) }
     ensures server { option_map (λ s. (s.0.now, s.1)) result ≡ with_weight address.now weight }
-    ensures within { IfSome result (λ s. (0 < s.1) × (s.1 ≤ 16)) }
+    ensures within { IfSome result (λ s. (0 < s.1) × (s.1 ≤ MAX_WEIGHT)) }
 {
     match weight {
         Some(weight) if is_address(address) => Some((address, weight)),
@@ -71,12 +71,12 @@ fn with_weight(address: &str, weight: Option<u32>) -> Option<(&str, u32)>
 /// The address and the weight that a server's text says, or none where it says no server.
 ///
 /// In a text `H:P:W`, where `P` and `W` have no `:`, and `H` isn't empty and has no `:` or begins with `[` and ends with
-/// `]`, the address is `H:P`, and `W` is a weight in 1..=16 of 1 or 2 digits. Every other text is an address of weight 1.
+/// `]`, the address is `H:P`, and `W` is a weight in 1..=[`MAX_WEIGHT`] of 1 or 2 digits. Every other text is an address of weight 1.
 ///
 /// Source: mcgate's own, in the form of twemproxy's `host:port:weight`.
 pub fn read_server(text: &str) -> Option<(&str, u32)>
     ensures server { option_map (λ s. (s.0.now, s.1)) result ≡ server_in text.now }
-    ensures within { IfSome result (λ s. (0 < s.1) × (s.1 ≤ 16)) }
+    ensures within { IfSome result (λ s. (0 < s.1) × (s.1 ≤ MAX_WEIGHT)) }
 {
     match weighted_parts(text) {
         Some((address, weight)) => with_weight(address, weight_of(weight.as_bytes())),

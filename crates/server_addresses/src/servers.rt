@@ -11,7 +11,7 @@ use std::alloc::{AllocError, Global};
 use std::marker::Model;
 
 /// The most servers that there may be, so that a `ServerId` has room for each.
-pub const MAX_SERVERS: usize = 4294967295;
+pub const MAX_SERVERS: usize = 4_294_967_295;
 
 /// The servers of a configuration: address texts, none of them twice, whose place is the `ServerId`.
 #[derive(Drop)]
@@ -79,7 +79,7 @@ impl Servers {
     /// has changed then.
     pub fn push(&mut self, alloc: Global, address: &str) -> Result<ServerId, AllocError>
         requires new { list_any (bytes_eq address.now) self.old ≡ false }
-        requires room { length self.old < 4294967295 }
+        requires room { length self.old < MAX_SERVERS }
         ensures number { IfOk result (λ n. n ≡ length self.old) }
         ensures last { IfOk result (λ n. self.new ≡ self.old ++ address.now ∷ []) }
         ensures err { OnErr result (self.new ≡ self.old) }

@@ -13,7 +13,7 @@ use text_codec::{AnswerRead, read_answer};
 // stored. `agrees` and `differs` say of another answer whether it agrees with what is held now, and `now` says what that is:
 // the data, the flags and the stamp.
 fn lives() -> &'static str {
-    r#"behind the greatest number comes 0
+    r#"after the greatest number comes 0
 (18446744073709551615)
 differs incr a 1| => 1|
 #1 incr a 1| => 0|
@@ -25,7 +25,7 @@ differs decr a 9| => 1|
 #1 decr a 9| => 0|
 now a => (0) 7 #0
 
-spaces behind a number are no part of it
+spaces after a number are no part of it
 (5  )
 differs incr a 1| => 7|
 #1 incr a 1| => 6|
@@ -42,7 +42,7 @@ a digit appended to a number
 #1 append a 7 0 1|5| => STORED|
 now a => (05) 7 #0
 
-spaces behind a number
+spaces after a number
 (10)
 #1 decr a 1| => 9| and 1 space
 now a => (9 ) 7 #0

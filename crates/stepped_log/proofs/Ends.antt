@@ -21,7 +21,7 @@ use Rattle.proxy_core.specs.Claims.{bars_by}
 use Rattle.proxy_core.specs.CoreState.{dialect, nothing_beside, state_of, IsTakenOver, Reloads}
 use Rattle.proxy_core.specs.Faults.{script_limits}
 use Rattle.proxy_core.specs.declared.limits.Limits.{Limits}
-use Rattle.proxy_core.specs.declared.limits.Sharing.TheVariants.{Alone}
+use Rattle.commands_under_way.specs.declared.sharing.Sharing.TheVariants.{Alone}
 use Rattle.stepped_log.specs.Standing.{Kept, tree_by, Stands, IsBesides}
 use Rattle.stepped_log.specs.Laws.{IsBegin, Says}
 

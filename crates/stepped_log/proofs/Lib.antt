@@ -4,3 +4,4 @@ pub mod PollsEntries
 pub mod ResultsLosses
 pub mod ResultsFound
 pub mod Results
+pub mod Counted

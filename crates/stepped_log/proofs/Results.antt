@@ -30,13 +30,14 @@ use Rattle.proxy_core.specs.Claims.{bars_by}
 use Rattle.proxy_core.specs.CoreState.{dialect, bars_of, client_at, command_at, dropped_by, owner_by, Beside, Fits, IsBeside, state_of}
 use Rattle.proxy_core.specs.Settles.{Settles}
 use Rattle.proxy_core.specs.Steps.{event_of, settled}
-use Rattle.proxy_core.specs.declared.command.Command.{Command}
+use Rattle.commands_under_way.specs.declared.command.Command.{Command}
 use Rattle.proxy_core.specs.declared.limits.Limits.{Limits}
 use Rattle.proxy_core.specs.declared.proxy.Core.{Core}
-use Rattle.proxy_core.proofs.Commands.{some_command, no_command}
+use Rattle.commands_under_way.proofs.Commands.{some_command, no_command}
 use Rattle.stepped_log.specs.Standing.{Kept, Stands, GoesOn, CountsAsMany}
+use Rattle.stepped_log.specs.Results.{NumberedCall, calls_of}
 use Rattle.stepped_log.specs.Laws.{ResultsGoOn}
-use Rattle.stepped_log.proofs.ResultsLosses.{bereft, happened, still_fits, losses_lead, IsAlike, alike_then, call_alike, losses_alike, calls_same}
+use Rattle.stepped_log.proofs.ResultsLosses.{bereft, happened, still_fits, losses_lead, IsAlike, alike_then, call_alike, losses_alike, calls_same, losses_of_none}
 use Rattle.stepped_log.proofs.ResultsFound.{stamp_in_turn, found_if, same_last}
 
 -- what a server drops by itself is lost
@@ -188,13 +189,35 @@ module _ (opening : ℕ → List ℕ → Option Item) (tree : ℕ → Route) (lo
               last = λ key. counts.last key ∙ stands.last key ∙ sym (alike.gone key);
             }
 
+    -- its result is that of the call, and losses are of none
+    abbrev entries : List (Entry dialect)
+    entries = Happens event ∷ (happened step.call.lost ++ happened spills)
+
+    called : calls_of (run_of (entries ++ log)) ≡ record { number = number; call = record { server = server; ask = ask; origin = origin; outcome = made.outcome } } ∷ calls_of (run_of log)
+    called =
+        ap (λ l. record { number = number; call = call } ∷ calls_of (run_of l)) (append_assoc (happened step.call.lost) (happened spills) log)
+        ∙ ap (λ (cs : List NumberedCall). record { number = number; call = call } ∷ cs) (losses_of_none (happened spills ++ log) step.call.lost step.call.losses ∙ losses_of_none log spills (are_spills server step.spilled))
+        ∙ ap (λ (o : Outcome). record { number = number; call = record { server = server; ask = ask; origin = origin; outcome = o } } ∷ calls_of (run_of log)) (sym step.call.outcome)
+
     -- the losses named for the call and what its server dropped, and then its result
-    goes : new.caches ≡ caches_of after → new.turn ≡ old.turn + 1 → ((n : ℕ) → new.stamps n ≡ cond (nat_eq number n) (old.stamps n ++ made.stamp ∷ []) (old.stamps n)) → CountsAsMany old new → GoesOn opening tree log new
+    goes : new.caches ≡ caches_of after → new.turn ≡ old.turn + 1 → ((n : ℕ) → new.stamps n ≡ cond (nat_eq number n) (old.stamps n ++ made.stamp ∷ []) (old.stamps n)) → CountsAsMany old new → (g : GoesOn opening tree log new) × (calls_of (run_of (g.more ++ log)) ≡ record { number = number; call = record { server = server; ask = ask; origin = origin; outcome = made.outcome } } ∷ calls_of (run_of log))
+    unfolding goes_on_as
     goes caches turn stamps counts =
         let t = settles.goes met end (still_fits old.core spilled step.call.lost (still_fits old.core stands.beside spills stands.fits)) step.call.outcome step.call.ends in
-        let none : t.1 ≡ [] = t.4 ∙ ap (λ z. cond z (Frees number ∷ []) []) served_is in
-        goes_on_as opening tree (Happens event ∷ (happened step.call.lost ++ happened spills)) log (Happens event ∷ past) new (ap (λ (l : List (Entry dialect)). Happens event ∷ l) (append_assoc (happened step.call.lost) (happened spills) log)) alike
-        (stands_then t.0 t.1 t.2 t.3 none (t.5 opening past past_leads) t.6 caches turn stamps counts)
+        let none : t.1 ≡ [] = t.4 ∙ ap (λ z. cond z (Frees number ∷ []) []) served_is in (
+          goes_on_as opening tree entries log (Happens event ∷ past) new (ap (λ (l : List (Entry dialect)). Happens event ∷ l) (append_assoc (happened step.call.lost) (happened spills) log)) alike
+              (stands_then t.0 t.1 t.2 t.3 none (t.5 opening past past_leads) t.6 caches turn stamps counts),
+          called,
+        )
+
+-- equal calls of a command
+same_call :
+    (number s t : ℕ) (x y : Ask) (o p : Origin) (outcome : Outcome) → s ≡ t → x ≡ y → o ≡ p
+    → ◌≡◌ {A = NumberedCall} (record { number = number; call = record { server = s; ask = x; origin = o; outcome = outcome } }) (record { number = number; call = record { server = t; ask = y; origin = p; outcome = outcome } })
+same_call number s t x y o p outcome a b c =
+    ap (λ (z : ℕ). record { number = number; call = record { server = z; ask = x; origin = o; outcome = outcome } }) a
+    ∙ ap (λ (z : Ask). record { number = number; call = record { server = t; ask = z; origin = o; outcome = outcome } }) b
+    ∙ ap (λ (z : Origin). record { number = number; call = record { server = t; ask = y; origin = z; outcome = outcome } }) c
 
 -- a call that is out has the result that the servers gave
 pub results_go_on : ResultsGoOn
@@ -211,4 +234,5 @@ results_go_on opening tree log number server ask origin made before after old ne
     let step =
     answers_are_steps number (stamp_given (old.stamps number) number (origin_under a.job.frames.items OfClient)) (origin_under a.job.frames.items OfClient) before (server_in a.job.pending) (ask_under a.job.frames.items a.job.ask) made after
     (record { holds = stands.beside.holds; found = stands.beside.found }) answers (λ s k. stands.holds s k ∙ ap (λ l. held_at l s k) h.caches_were) (given opening tree log number made before after old new stands h.settles) in
-    goes opening tree log number made before after old new stands h.settles step.0 step.1 h.caches_are (h.turn_is ∙ answers.turn_is ∙ ap (λ t. t + 1) (sym h.turn_was)) h.stamps h.counts
+    let g = goes opening tree log number made before after old new stands h.settles step.0 step.1 h.caches_are (h.turn_is ∙ answers.turn_is ∙ ap (λ t. t + 1) (sym h.turn_was)) h.stamps h.counts in
+    record { goes = g.0; calls = g.1 ∙ ap (λ (n : NumberedCall). n ∷ calls_of (run_of log)) (sym (same_call number server (server_in a.job.pending) ask (ask_under a.job.frames.items a.job.ask) origin (origin_under a.job.frames.items OfClient) made.outcome server_is ask_is origin_is)) }

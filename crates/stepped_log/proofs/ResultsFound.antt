@@ -19,10 +19,11 @@ use Rattle.route_tree.specs.Word.{tree_words}
 use Rattle.route_tree.proofs.Sources.{calls_are_asked}
 use Rattle.route_job.specs.Rest.{origin_under}
 use Rattle.route_job.specs.Jobs.{IsCalling, call_of}
-use Rattle.proxy_core.specs.declared.command.Command.{Command}
+use Rattle.commands_under_way.specs.declared.command.Command.{Command}
 use Rattle.proxy_core.specs.declared.proxy.Core.{Core}
 use Rattle.proxy_core.specs.CoreState.{dialect, bars_of, command_at, Beside, owner_by, MayComeOf, Fits, state_of, is_call, has_call_out}
-use Rattle.proxy_core.proofs.Commands.{call_is_true, goes_on}
+use Rattle.commands_under_way.proofs.Commands.{call_is_true}
+use Rattle.proxy_core.proofs.Commands.{goes_on}
 
 -- ---- whose data a call carries
 

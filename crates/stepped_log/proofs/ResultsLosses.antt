@@ -22,6 +22,7 @@ use Rattle.route_tree.specs.Word.{tree_words}
 use Rattle.proxy_core.specs.declared.proxy.Core.{Core}
 use Rattle.proxy_core.specs.CoreState.{dialect, bars_of, Beside, Fits, state_of}
 use Rattle.stepped_log.specs.Standing.{replied_in}
+use Rattle.stepped_log.specs.Results.{calls_of}
 use Rattle.stepped_log.specs.Laws.{LossesGoOn}
 
 -- what stands beside the core after losses
@@ -121,6 +122,16 @@ calls_same log (Begins number ask ∷ es) are n = absurd are
 calls_same log (Calls number server ask origin end ∷ es) are n = absurd are
 calls_same log (Replies number key reply from ∷ es) are n = absurd are
 calls_same log (Breaks number ∷ es) are n = absurd are
+
+-- and a run has no further call by them
+pub losses_of_none : (log : List (Entry dialect)) (lost : List Event) → AreLosses lost → calls_of (run_of (happened lost ++ log)) ≡ calls_of (run_of log)
+losses_of_none log [] are = refl
+losses_of_none log (Loses server key ∷ es) are = losses_of_none log es are
+losses_of_none log (Restarts server ∷ es) are = losses_of_none log es are
+losses_of_none log (Begins number ask ∷ es) are = absurd are
+losses_of_none log (Calls number server ask origin end ∷ es) are = absurd are
+losses_of_none log (Replies number key reply from ∷ es) are = absurd are
+losses_of_none log (Breaks number ∷ es) are = absurd are
 
 -- what is named to be lost is a loss
 one_loss : (loss : Loss) → AreLosses (lost_by (told_of loss) ∷ [])

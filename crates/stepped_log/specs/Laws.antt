@@ -22,11 +22,12 @@ use Rattle.proxy_core.specs.CoreState.{dialect, IsFresh as IsFreshCore, Opens, F
 use Rattle.proxy_core.specs.Faults.{script_limits}
 use Rattle.proxy_core.specs.Polls.{Polls}
 use Rattle.proxy_core.specs.Settles.{IsCalled, Settles}
-use Rattle.proxy_core.specs.declared.limits.Sharing.TheVariants.{Alone}
+use Rattle.commands_under_way.specs.declared.sharing.Sharing.TheVariants.{Alone}
 use Rattle.proxy_core.specs.declared.note.Note.{Note}
 use Rattle.proxy_core.specs.declared.note.Poll.{Poll}
 use Rattle.proxy_core.specs.declared.note.Poll.TheVariants as polls
 use Rattle.memory_fleet.specs.Losing.{held_at}
+use Rattle.stepped_log.specs.Results.{GoesOnBy}
 use Rattle.stepped_log.specs.Standing.{Kept, replied_in, tree_by, Stands, GoesOn, GoesOnFed, GoesOnGiven, CountsAsMany, HasServers, FoundAsMuch, IsBesides}
 
 -- ---- polls
@@ -82,7 +83,8 @@ pub record HasResult (number server : ℕ) (ask : Ask) (origin : Origin) (made :
 abbrev pub ResultsGoOn : Type 0
 ResultsGoOn =
     (opening : ℕ → List ℕ → Option Item) (tree : ℕ → Route) (log : List (Entry dialect)) (number server : ℕ) (ask : Ask) (origin : Origin) (made : Made) (before after : ScriptServers) (old new : Kept)
-    → Stands opening tree log old → HasResult number server ask origin made before after old new → GoesOn opening tree log new
+    → Stands opening tree log old → HasResult number server ask origin made before after old new
+    → GoesOnBy opening tree log (record { number = number; server = server; ask = ask; origin = origin; stamp = stamp_given (old.stamps number) number origin; made = made } ∷ []) new
 
 -- something is lost: of what servers held, nothing else goes
 pub record IsLost (loss : Loss) (old new : Kept) : Type 0 where

@@ -1,2 +1,3 @@
 pub mod Standing
+pub mod Results
 pub mod Laws

@@ -9,6 +9,7 @@ use Rattle.mc_runs.specs.OverlapStream.{stream_of}
 use Rattle.cache_server.specs.Contents.{Contents}
 use Rattle.memory_fleet.specs.Losing.{held_at}
 use Rattle.memory_fleet.specs.Law.{AreFound}
+use Rattle.script_servers.specs.declared.servers.ScriptServers.{ScriptServers}
 use Rattle.route_tree.specs.At.{tree_at}
 use Rattle.route_tree.specs.Route.{Route}
 use Rattle.route_tree.specs.Word.{tree_words}
@@ -16,10 +17,11 @@ use Rattle.proxy_core.specs.Faults.{script_limits}
 use Rattle.proxy_core.specs.CoreState.{dialect, bars_of, Beside, Fits, state_of}
 use Rattle.proxy_core.specs.declared.proxy.Core.{Core}
 
--- what is kept beside the log: the core, the caches of the servers, how many calls had their results, the stamps of what the calls of each command under way found, how many commands had their
+-- what is kept beside the log: the core, the servers of the script, their caches, how many calls had their results, the stamps of what the calls of each command under way found, how many commands had their
 -- replies and how many of these were stale, and the number of the last acknowledged delete of each key
 pub record Kept : Type 0 where
   pub core : Core
+  pub servers : ScriptServers
   pub caches : List Contents
   pub turn : ℕ
   pub stamps : ℕ → List (Option ℕ)

@@ -10,9 +10,9 @@ use Rattle.tcp_cache.specs.Serving.{Serves, Stays, ServesOn, StopsIn}
 pub stays : (moment : ℤ) (held unsent : List ℕ) (place : Place) (c : Contents) → ServesOn moment held unsent place c held unsent place c
 stays moment held unsent place c = inl (record { held_is = refl; unsent_is = refl; place_is = refl; cache_is = refl })
 
-behind_none : (moment : ℤ) (h u : List ℕ) (p : Place) (c : Contents) (h1 u1 : List ℕ) (p1 : Place) (c1 : Contents) (h2 u2 : List ℕ) (p2 : Place) (c2 : Contents)
+after_none : (moment : ℤ) (h u : List ℕ) (p : Place) (c : Contents) (h1 u1 : List ℕ) (p1 : Place) (c1 : Contents) (h2 u2 : List ℕ) (p2 : Place) (c2 : Contents)
     → Stays h u p c h1 u1 p1 c1 → Serves moment h1 u1 p1 c1 h2 u2 p2 c2 → Serves moment h u p c h2 u2 p2 c2
-behind_none moment h u p c h1 u1 p1 c1 h2 u2 p2 c2 a b =
+after_none moment h u p c h1 u1 p1 c1 h2 u2 p2 c2 a b =
     record {
       fed = b.fed;
       text = b.text;
@@ -21,9 +21,9 @@ behind_none moment h u p c h1 u1 p1 c1 h2 u2 p2 c2 a b =
       unsent_is = b.unsent_is ∙ ap (λ (l : List ℕ). l ++ b.text) a.unsent_is;
     }
 
-behind_some : PiecesAreOne → (moment : ℤ) (h u : List ℕ) (p : Place) (c : Contents) (h1 u1 : List ℕ) (p1 : Place) (c1 : Contents) (h2 u2 : List ℕ) (p2 : Place) (c2 : Contents)
+after_some : PiecesAreOne → (moment : ℤ) (h u : List ℕ) (p : Place) (c : Contents) (h1 u1 : List ℕ) (p1 : Place) (c1 : Contents) (h2 u2 : List ℕ) (p2 : Place) (c2 : Contents)
     → Serves moment h u p c h1 u1 p1 c1 → Serves moment h1 u1 p1 c1 h2 u2 p2 c2 → Serves moment h u p c h2 u2 p2 c2
-behind_some one moment h u p c h1 u1 p1 c1 h2 u2 p2 c2 a b =
+after_some one moment h u p c h1 u1 p1 c1 h2 u2 p2 c2 a b =
     record {
       fed = a.fed ++ b.fed;
       text = a.text ++ b.text;
@@ -33,15 +33,15 @@ behind_some one moment h u p c h1 u1 p1 c1 h2 u2 p2 c2 a b =
     }
 
 -- a piece that is served after what was served
-pub serves_behind : PiecesAreOne → (moment : ℤ) (h u : List ℕ) (p : Place) (c : Contents) (h1 u1 : List ℕ) (p1 : Place) (c1 : Contents) (h2 u2 : List ℕ) (p2 : Place) (c2 : Contents)
+pub serves_after : PiecesAreOne → (moment : ℤ) (h u : List ℕ) (p : Place) (c : Contents) (h1 u1 : List ℕ) (p1 : Place) (c1 : Contents) (h2 u2 : List ℕ) (p2 : Place) (c2 : Contents)
     → ServesOn moment h u p c h1 u1 p1 c1 → Serves moment h1 u1 p1 c1 h2 u2 p2 c2 → ServesOn moment h u p c h2 u2 p2 c2
-serves_behind one moment h u p c h1 u1 p1 c1 h2 u2 p2 c2 (inl a) b = inr (behind_none moment h u p c h1 u1 p1 c1 h2 u2 p2 c2 a b)
-serves_behind one moment h u p c h1 u1 p1 c1 h2 u2 p2 c2 (inr a) b = inr (behind_some one moment h u p c h1 u1 p1 c1 h2 u2 p2 c2 a b)
+serves_after one moment h u p c h1 u1 p1 c1 h2 u2 p2 c2 (inl a) b = inr (after_none moment h u p c h1 u1 p1 c1 h2 u2 p2 c2 a b)
+serves_after one moment h u p c h1 u1 p1 c1 h2 u2 p2 c2 (inr a) b = inr (after_some one moment h u p c h1 u1 p1 c1 h2 u2 p2 c2 a b)
 
 -- memory was refused while the front was fed
 pub stops_in : (moment : ℤ) (held slice : List ℕ) (count : ℕ) (place : Place) (old new : Contents) → slice ≡ held → Stops moment (extended place (take count slice)) old new → StopsIn moment held place old new
 stops_in moment held slice count place old new is s = record { fed = take count slice; rest = drop count slice; held_is = sym is ∙ sym (take-append-drop count slice); stops = s }
 
 -- or when it had been
-pub stops_behind : (moment : ℤ) (place next : Place) (bytes text : List ℕ) (old new : Contents) → Feeds moment place bytes old text next new → Stops moment (extended place bytes) old new
-stops_behind moment place next bytes text old new f = record { text = text; next = next; left = new; serves = f.serves; new_is = inl refl }
+pub stops_after : (moment : ℤ) (place next : Place) (bytes text : List ℕ) (old new : Contents) → Feeds moment place bytes old text next new → Stops moment (extended place bytes) old new
+stops_after moment place next bytes text old new f = record { text = text; next = next; left = new; serves = f.serves; new_is = inl refl }

@@ -26,23 +26,23 @@ is_false false P h e p = let f : false ≡ true = h.1 p in absurd (cc)
 front : (bytes more b : List ℕ) → 2 ≤ length bytes → bytes ++ more ≡ CR ∷ LF ∷ b → drop 2 bytes ++ more ≡ b
 front bytes more b le e = sym (drop-append-le 2 bytes more le) ∙ ap (drop 2) e
 
-all_behind : (bytes : List ℕ) → take (length bytes - 2) (drop 2 bytes) ≡ drop 2 bytes
-all_behind bytes = take_all _ _ (omega (arith, length-drop 2 bytes))
+all_after : (bytes : List ℕ) → take (length bytes - 2) (drop 2 bytes) ≡ drop 2 bytes
+all_after bytes = take_all _ _ (omega (arith, length-drop 2 bytes))
 
 pub bad_end : (bytes : List ℕ) → 2 ≤ length bytes → ((more : List ℕ) (used : ℕ) → ¬ IsEndLine (take (length bytes - 2) (drop 2 bytes) ++ more) used) → (more : List ℕ) (used : ℕ) → ¬ IsBlockEnd (bytes ++ more) used
-bad_end bytes le h more used e = h more e.len (subst (λ (b : List ℕ). IsEndLine b e.len) (sym (ap (λ (b : List ℕ). b ++ more) (all_behind bytes) ∙ front bytes more e.behind le e.whole)) e.line)
+bad_end bytes le h more used e = h more e.len (subst (λ (b : List ℕ). IsEndLine b e.len) (sym (ap (λ (b : List ℕ). b ++ more) (all_after bytes) ∙ front bytes more e.after le e.whole)) e.line)
 
 pub not_cut_end : (bytes : List ℕ) → 2 ≤ length bytes → (¬ IsOpen (take (length bytes - 2) (drop 2 bytes))) → ¬ IsCutEnd bytes
 not_cut_end bytes le not_open (inl none) = absurd (omega (arith, ap length none))
 not_cut_end bytes le not_open (inr (inl one)) = absurd (omega (arith, ap length one))
-not_cut_end bytes le not_open (inr (inr h)) = not_open (subst IsOpen (sym (all_behind bytes ∙ ap (drop 2) h.1)) h.2)
+not_cut_end bytes le not_open (inr (inr h)) = not_open (subst IsOpen (sym (all_after bytes ∙ ap (drop 2) h.1)) h.2)
 
 -- there is one end at most
 pub one_end : (bytes : List ℕ) (n m : ℕ) → IsBlockEnd bytes n → IsBlockEnd bytes m → n ≡ m
 one_end bytes n m a b =
-    let same : a.behind ≡ b.behind = ap (drop 2) (sym a.whole ∙ b.whole) in
-    let line : IsLine a.behind b.line.text b.line.rest = subst (λ (t : List ℕ). IsLine t b.line.text b.line.rest) (sym same) b.line.line in
-    let text = lines_are_determined a.behind a.line.text b.line.text a.line.rest b.line.rest a.line.line line in
+    let same : a.after ≡ b.after = ap (drop 2) (sym a.whole ∙ b.whole) in
+    let line : IsLine a.after b.line.text b.line.rest = subst (λ (t : List ℕ). IsLine t b.line.text b.line.rest) (sym same) b.line.line in
+    let text = lines_are_determined a.after a.line.text b.line.text a.line.rest b.line.rest a.line.line line in
     let long : length a.line.text ≡ length b.line.text = ap length text.0 in
     omega (arith, a.used_is, b.used_is, a.line.used_is, b.line.used_is)
 
@@ -53,9 +53,9 @@ cut_no_data_end bytes (inr one) e = let f : CR ∷ [] ≡ CR ∷ LF ∷ e.0 = sy
 
 -- what is cut isn't there
 pub cut_no_end : (bytes : List ℕ) → IsCutEnd bytes → (used : ℕ) → ¬ IsBlockEnd bytes used
-cut_no_end bytes (inl none) used e = let f : [] ≡ CR ∷ LF ∷ e.behind = sym none ∙ e.whole in cc
-cut_no_end bytes (inr (inl one)) used e = let f : CR ∷ [] ≡ CR ∷ LF ∷ e.behind = sym one ∙ e.whole in cc
+cut_no_end bytes (inl none) used e = let f : [] ≡ CR ∷ LF ∷ e.after = sym none ∙ e.whole in cc
+cut_no_end bytes (inr (inl one)) used e = let f : CR ∷ [] ≡ CR ∷ LF ∷ e.after = sym one ∙ e.whole in cc
 cut_no_end bytes (inr (inr h)) used e =
-    let same : h.0 ≡ e.behind = ap (drop 2) (sym h.1 ∙ e.whole) in
+    let same : h.0 ≡ e.after = ap (drop 2) (sym h.1 ∙ e.whole) in
     let line : IsLine h.0 e.line.text e.line.rest = subst (λ (t : List ℕ). IsLine t e.line.text e.line.rest) (sym same) e.line.line in
     open_no_line h.0 e.line.text e.line.rest h.2 line

@@ -21,7 +21,7 @@ use Rattle.text_answers.specs.declared.line_kinds.FirstLine.{FirstLine}
 use Rattle.text_answers.specs.declared.line_kinds.FirstLine.TheVariants.{Whole, Hit, Value, Foreign}
 use Rattle.text_answers.specs.declared.line_kinds.HitLine.{HitLine}
 use Rattle.text_answers.specs.Table.{looked_up, of_store, of_cas, of_fetch, of_delete, of_touch, of_count, number_or, word_answer}
-use Rattle.text_answers.specs.FirstLine.{said, words_said, error_said, error_text, is_error_text, behind_word, cas_said, hit_said, is_fetch, hit_or_foreign, whole_or_foreign, alone, in_dialect}
+use Rattle.text_answers.specs.FirstLine.{kind_of_line, words_said, error_said, error_text, is_error_text, after_word, cas_said, hit_said, is_fetch, hit_or_foreign, whole_or_foreign, alone, in_dialect}
 use Rattle.text_answers.specs.Reading.{Follows}
 
 both : (a b : Bool) → (a && b) ≡ true → (a ≡ true) × (b ≡ true)
@@ -118,8 +118,8 @@ hit_fits op wc None e h = tt
 
 -- error lines
 pub text_is : (line : List ℕ) → IfSome (error_text line) IsErrorText
-text_is line = cond_both (is_error_text (behind_word line)) (Some (behind_word line)) None (λ (o : Option (List ℕ)). IfSome o IsErrorText)
-    (λ yes. let parts = both (leb (length (behind_word line)) 1024) (list_all is_text_byte (behind_word line)) yes in record { short = leb-true _ _ parts.0; bytes = parts.1 })
+text_is line = cond_both (is_error_text (after_word line)) (Some (after_word line)) None (λ (o : Option (List ℕ)). IfSome o IsErrorText)
+    (λ yes. let parts = both (leb (length (after_word line)) 1024) (list_all is_text_byte (after_word line)) yes in record { short = leb-true _ _ parts.0; bytes = parts.1 })
     (λ no. tt)
 
 errors_taken : (op : Op) (wc : Bool) (text : List ℕ) → FitsClassic op wc (answers.ClientError text) × FitsClassic op wc (answers.ServerError text)
@@ -155,7 +155,7 @@ words_fit ask classic text (w ∷ more) h =
     (λ value. hit_fits ask.op ask.with_cas (hit_said ask.key ask.with_cas more) (both (bytes_eq w (codes "VALUE")) (is_fetch ask.op) value).1 (hit_taken ask.key ask.with_cas more))
     (λ no. alone_taken ask.op ask.with_cas w more))))
 
-said_fits : (ask : Ask) (line : List ℕ) → ask.dialect ≡ Classic → SaidFits ask.op ask.with_cas (said ask line)
+said_fits : (ask : Ask) (line : List ℕ) → ask.dialect ≡ Classic → SaidFits ask.op ask.with_cas (kind_of_line ask line)
 said_fits ask line classic = words_fit ask classic (error_text line) (words line) (text_is line)
 
 hit_listed : (op : Op) (wc : Bool) (flags : ℕ) (body : List ℕ) (cas : Option ℕ) → is_fetch op ≡ true → is_some cas ≡ wc → FitsClassic op wc (answers.Hit flags body cas)
@@ -170,5 +170,5 @@ follows_fit op wc (Hit hit) rest answer used h f =
 follows_fit op wc (Value line) rest answer used h f = absurd h
 follows_fit op wc Foreign rest answer used h f = absurd f
 
-pub classic_taken : (ask : Ask) → ask.dialect ≡ Classic → (line rest : List ℕ) (answer : Answer) (used : ℕ) → Follows (said ask line) rest answer used → Taken ask.op ask.with_cas answer
-classic_taken ask classic line rest answer used f = follows_fit ask.op ask.with_cas (said ask line) rest answer used (said_fits ask line classic) f
+pub classic_taken : (ask : Ask) → ask.dialect ≡ Classic → (line rest : List ℕ) (answer : Answer) (used : ℕ) → Follows (kind_of_line ask line) rest answer used → Taken ask.op ask.with_cas answer
+classic_taken ask classic line rest answer used f = follows_fit ask.op ask.with_cas (kind_of_line ask line) rest answer used (said_fits ask line classic) f

@@ -23,7 +23,7 @@ use Rattle.text_answers.specs.declared.line_kinds.FirstLine.{FirstLine}
 use Rattle.text_answers.specs.declared.line_kinds.FirstLine.TheVariants.{Hit}
 use Rattle.text_answers.specs.declared.line_kinds.HitLine.{HitLine}
 use Rattle.text_answers.specs.Spelling.{cas_words, end_text, spelling_of}
-use Rattle.text_answers.specs.FirstLine.{said, words_said, error_text, hit_said, is_fetch}
+use Rattle.text_answers.specs.FirstLine.{kind_of_line, words_said, error_text, hit_said, is_fetch}
 use Rattle.text_answers.specs.Reading.{IsBlockEnd, Follows, Spells}
 use Rattle.text_answers.proofs.WordBack.{spelled}
 
@@ -70,7 +70,7 @@ hit_short key flags n (Some cas) k f le c =
     let a = digits_short flags (omega arith) in let b = digits_short n (omega arith) in let d = digits_short cas c in let short = k.short in
     simp length-append (omega arith)
 
-value_said : (ask : Ask) (line : List ℕ) (ws : List (List ℕ)) (hit : HitLine) → ask.dialect ≡ Classic → words line ≡ codes "VALUE" ∷ ws → is_fetch ask.op ≡ true → hit_said ask.key ask.with_cas ws ≡ Some hit → said ask line ≡ Hit hit
+value_said : (ask : Ask) (line : List ℕ) (ws : List (List ℕ)) (hit : HitLine) → ask.dialect ≡ Classic → words line ≡ codes "VALUE" ∷ ws → is_fetch ask.op ≡ true → hit_said ask.key ask.with_cas ws ≡ Some hit → kind_of_line ask line ≡ Hit hit
 value_said ask line ws hit classic is fetch h = ap (words_said ask (error_text line)) is ∙ rw (classic, fetch, h) refl
 
 regroup : (l body c e more : List ℕ) → (((l ++ body) ++ c) ++ e) ++ more ≡ l ++ (body ++ (c ++ (e ++ more)))
@@ -83,7 +83,7 @@ end_read : (more : List ℕ) → IsBlockEnd (codes "\r\n" ++ (end_text ++ more))
 end_read more =
     let plain : ArePlain (codes "END" ∷ []) = (literal (codes "END") refl (omega arith), tt) in
     record {
-      behind = end_text ++ more;
+      after = end_text ++ more;
       len = 5;
       whole = refl;
       line = record {
@@ -106,10 +106,10 @@ hit_back ask flags body cas more classic k ranges fits =
     let one : IsOneLine line = spaced_line (hit_words ask.key flags n cas) (plain_lines (hit_words ask.key flags n cas) plain) in
     let are : words line ≡ hit_words ask.key flags n cas = words-spaced (hit_words ask.key flags n cas) (plain_words (hit_words ask.key flags n cas) plain) in
     let hit : HitLine = record { flags = flags; len = n; cas = cas } in
-    let says : said ask line ≡ Hit hit = value_said ask line (ask.key ∷ decimal flags ∷ decimal n ∷ cas_words cas) hit classic are only.0 (hit_read ask.key ask.with_cas flags n cas ranges.0 ranges.1 ranges.2 only.1) in
+    let says : kind_of_line ask line ≡ Hit hit = value_said ask line (ask.key ∷ decimal flags ∷ decimal n ∷ cas_words cas) hit classic are only.0 (hit_read ask.key ask.with_cas flags n cas ranges.0 ranges.1 ranges.2 only.1) in
     let rest = body ++ (codes "\r\n" ++ (end_text ++ more)) in
     let there : Follows (Hit hit) rest (answers.Hit flags body cas) (n + 7) = (body, codes "\r\n" ++ (end_text ++ more), 7, refl, refl, refl, end_read more, refl) in
-    let follows : Follows (said ask line) rest (answers.Hit flags body cas) (n + 7) = subst (λ (s : FirstLine). Follows s rest (answers.Hit flags body cas) (n + 7)) (sym says) there in
+    let follows : Follows (kind_of_line ask line) rest (answers.Hit flags body cas) (n + 7) = subst (λ (s : FirstLine). Follows s rest (answers.Hit flags body cas) (n + 7)) (sym says) there in
     let all = spelled ask line rest (answers.Hit flags body cas) (n + 7) one (hit_short ask.key flags n cas k ranges.0 ranges.1 ranges.2) follows in
     let whole : spelling_of ask (answers.Hit flags body cas) ++ more ≡ (line ++ codes "\r\n") ++ rest = regroup (line ++ codes "\r\n") body (codes "\r\n") end_text more in
     let long : length (spelling_of ask (answers.Hit flags body cas)) ≡ length line + 2 + (n + 7) =

@@ -6,8 +6,8 @@ use Rattle.std.proofs.lemmas.Bool.{cases_lt, lt-ltb, le-ltb}
 use Rattle.std.proofs.lemmas.List.{length-drop, take_all, drop_all}
 use Rattle.mc_text.specs.Word.{is_space}
 
-pub behind_found : (xs : List ℕ) (at : ℕ) → Some at ≡ position is_space xs → take (length xs - (at + 1)) (drop (at + 1) xs) ≡ after_first is_space xs
-behind_found xs at e =
+pub after_found : (xs : List ℕ) (at : ℕ) → Some at ≡ position is_space xs → take (length xs - (at + 1)) (drop (at + 1) xs) ≡ after_first is_space xs
+after_found xs at e =
     elim (cases_lt (position_or_len is_space xs) (length xs)) [
       | inl lt ↦
           let found : position is_space xs ≡ Some (position_or_len is_space xs) = rw (lt-ltb _ _ lt) refl in
@@ -16,8 +16,8 @@ behind_found xs at e =
       | inr le ↦ let none : position is_space xs ≡ None = rw (le-ltb _ _ le) refl in absurd cc
     ]
 
-pub behind_nothing : (xs : List ℕ) → None ≡ position is_space xs → [] ≡ after_first is_space xs
-behind_nothing xs e =
+pub after_nothing : (xs : List ℕ) → None ≡ position is_space xs → [] ≡ after_first is_space xs
+after_nothing xs e =
     elim (cases_lt (position_or_len is_space xs) (length xs)) [
       | inl lt ↦ let found : position is_space xs ≡ Some (position_or_len is_space xs) = rw (lt-ltb _ _ lt) refl in absurd cc
       | inr le ↦ sym (drop_all (position_or_len is_space xs + 1) xs (omega arith))

@@ -32,7 +32,7 @@ use Rattle.meta_answers.proofs.LineBack.{done_back, value_back, bare_back, is_da
 use Rattle.meta_answers.proofs.Plain.{words_plain, words_short}
 use Rattle.text_answers.specs.declared.line_kinds.FirstLine.{FirstLine}
 use Rattle.text_answers.specs.declared.line_kinds.FirstLine.TheVariants.{Whole, Value}
-use Rattle.text_answers.specs.FirstLine.{said, words_said, error_text, is_error_word, line_said}
+use Rattle.text_answers.specs.FirstLine.{kind_of_line, words_said, error_text, is_error_word, line_said}
 use Rattle.text_answers.specs.Reading.{Follows, Spells, is_data}
 use Rattle.text_answers.proofs.WordBack.{spelled}
 
@@ -65,17 +65,17 @@ code_said ask text Ex ws line is e = rw (is, no_error Ex ws, e) refl
 code_said ask text Nf ws line is e = rw (is, no_error Nf ws, e) refl
 
 line_says : (ask : Ask) (code : Code) (ws : List (List ℕ)) (line : MetaLine) → ArePlain (code_word code ∷ ws) → ask.dialect ≡ dialects.Meta → meta_said ask (code_word code) ws ≡ Some line
-    → said ask (spaced (code_word code ∷ ws)) ≡ line_said line
+    → kind_of_line ask (spaced (code_word code ∷ ws)) ≡ line_said line
 line_says ask code ws line plain is e =
     let all = code_word code ∷ ws in
     ap (words_said ask (error_text (spaced all))) (words-spaced all (plain_words all plain)) ∙ code_said ask (error_text (spaced all)) code ws line is e
 
 -- a line that is the whole answer
-whole_back : (ask : Ask) (ws : List (List ℕ)) (answer : Answer) (more : List ℕ) → ArePlain ws → length (spaced ws) < 65535 → said ask (spaced ws) ≡ Whole answer
+whole_back : (ask : Ask) (ws : List (List ℕ)) (answer : Answer) (more : List ℕ) → ArePlain ws → length (spaced ws) < 65535 → kind_of_line ask (spaced ws) ≡ Whole answer
     → Spells ask ((line_of ws ++ []) ++ more) answer (length (line_of ws ++ []))
 whole_back ask ws answer more plain short says =
     let line = spaced ws in
-    let follows : Follows (said ask line) more answer 0 = subst (λ (s : FirstLine). Follows s more answer 0) (sym says) (refl, refl) in
+    let follows : Follows (kind_of_line ask line) more answer 0 = subst (λ (s : FirstLine). Follows s more answer 0) (sym says) (refl, refl) in
     let all = spelled ask line more answer 0 (spaced_line ws (plain_lines ws plain)) short follows in
     let same : line_of ws ++ [] ≡ line ++ codes "\r\n" = append-nil (line_of ws) in
     let long : length (line_of ws ++ []) ≡ length line + 2 + 0 = omega (arith, ap length same, length-append line (codes "\r\n")) in
@@ -86,14 +86,14 @@ regroup : (l body c more : List ℕ) → (l ++ (body ++ c)) ++ more ≡ l ++ (bo
 regroup l body c more = simp append_assoc
 
 -- a line and its data
-data_back : (ask : Ask) (ws : List (List ℕ)) (line : ValueLine) (body more : List ℕ) → ArePlain ws → length (spaced ws) < 65535 → said ask (spaced ws) ≡ Value line → length body ≡ line.len → is_data line.is_number body ≡ true
+data_back : (ask : Ask) (ws : List (List ℕ)) (line : ValueLine) (body more : List ℕ) → ArePlain ws → length (spaced ws) < 65535 → kind_of_line ask (spaced ws) ≡ Value line → length body ≡ line.len → is_data line.is_number body ≡ true
     → Spells ask ((line_of ws ++ (body ++ codes "\r\n")) ++ more) (answers.Meta Va (fields_told line.told (Some body))) (length (line_of ws ++ (body ++ codes "\r\n")))
 data_back ask ws line body more plain short says len is =
     let text = spaced ws in
     let answer : Answer = answers.Meta Va (fields_told line.told (Some body)) in
     let rest = body ++ (codes "\r\n" ++ more) in
     let there : Follows (Value line) rest answer (line.len + 2) = (body, codes "\r\n" ++ more, refl, len, refl, (more, refl), is, refl) in
-    let follows : Follows (said ask text) rest answer (line.len + 2) = subst (λ (s : FirstLine). Follows s rest answer (line.len + 2)) (sym says) there in
+    let follows : Follows (kind_of_line ask text) rest answer (line.len + 2) = subst (λ (s : FirstLine). Follows s rest answer (line.len + 2)) (sym says) there in
     let all = spelled ask text rest answer (line.len + 2) (spaced_line ws (plain_lines ws plain)) short follows in
     let whole : (line_of ws ++ (body ++ codes "\r\n")) ++ more ≡ (text ++ codes "\r\n") ++ rest = regroup (line_of ws) body (codes "\r\n") more in
     let long : length (line_of ws ++ (body ++ codes "\r\n")) ≡ length text + 2 + (line.len + 2) =
@@ -167,6 +167,6 @@ pub meta_error_back : (ask : Ask) (more : List ℕ) → ask.dialect ≡ dialects
 meta_error_back ask more is =
     let word = codes "ERROR" in
     let plain : IsPlain word = literal word refl (omega arith) in
-    let says : said ask word ≡ Whole answers.Error = ap (words_said ask (error_text word)) (words-spaced (word ∷ []) (plain_words (word ∷ []) (plain, tt))) ∙ rw is refl in
-    let follows : Follows (said ask word) more answers.Error 0 = subst (λ (s : FirstLine). Follows s more answers.Error 0) (sym says) (refl, refl) in
+    let says : kind_of_line ask word ≡ Whole answers.Error = ap (words_said ask (error_text word)) (words-spaced (word ∷ []) (plain_words (word ∷ []) (plain, tt))) ∙ rw is refl in
+    let follows : Follows (kind_of_line ask word) more answers.Error 0 = subst (λ (s : FirstLine). Follows s more answers.Error 0) (sym says) (refl, refl) in
     spelled ask word more answers.Error 0 (plain_line word plain) (omega arith) follows

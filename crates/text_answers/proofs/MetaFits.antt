@@ -21,7 +21,7 @@ use Rattle.meta_answers.proofs.FitLemmas.{IsLineOf, said_is, told_stand, told_ra
 use Rattle.meta_answers.proofs.Fitting.{none_bare, none_range, hd_fits, bare_fits, va_fits}
 use Rattle.text_answers.specs.declared.line_kinds.FirstLine.{FirstLine}
 use Rattle.text_answers.specs.declared.line_kinds.FirstLine.TheVariants.{Whole, Hit, Value, Foreign}
-use Rattle.text_answers.specs.FirstLine.{said, words_said, error_said, error_text, is_error_word, line_or_foreign, meta_or_error, in_dialect}
+use Rattle.text_answers.specs.FirstLine.{kind_of_line, words_said, error_said, error_text, is_error_word, line_or_foreign, meta_or_error, in_dialect}
 use Rattle.text_answers.specs.Reading.{Follows, is_data}
 use Rattle.text_answers.proofs.FitLemmas.{text_is, classic_taken}
 use Rattle.text_answers.specs.Laws.{SpelledAnswersFit}
@@ -76,15 +76,15 @@ module _ (ask : Ask) (shape : HasShapeOf ask (meta_shape ask.op)) where
       )
   follows_fit Foreign rest answer used h f = absurd f
 
-  pub meta_taken : ask.dialect ≡ dialects.Meta → (line rest : List ℕ) (answer : Answer) (used : ℕ) → Follows (said ask line) rest answer used → Taken answer
-  meta_taken is line rest answer used f = follows_fit (said ask line) rest answer used (words_fit is (error_text line) (words line) (text_is line)) f
+  pub meta_taken : ask.dialect ≡ dialects.Meta → (line rest : List ℕ) (answer : Answer) (used : ℕ) → Follows (kind_of_line ask line) rest answer used → Taken answer
+  meta_taken is line rest answer used f = follows_fit (kind_of_line ask line) rest answer used (words_fit is (error_text line) (words line) (text_is line)) f
 
-fits_in : (ask : Ask) (dialect : Dialect) → ask.dialect ≡ dialect → HasShapeOf ask (shape_of dialect ask.op) → (line rest : List ℕ) (answer : Answer) (used : ℕ) → Follows (said ask line) rest answer used
+fits_in : (ask : Ask) (dialect : Dialect) → ask.dialect ≡ dialect → HasShapeOf ask (shape_of dialect ask.op) → (line rest : List ℕ) (answer : Answer) (used : ℕ) → Follows (kind_of_line ask line) rest answer used
     → IsAnswer answer × FitsIn dialect ask answer
 fits_in ask dialects.Classic is shape line rest answer used f = classic_taken ask is line rest answer used f
 fits_in ask dialects.Meta is shape line rest answer used f = meta_taken ask shape is line rest answer used f
 
 pub spelled_answers_fit : SpelledAnswersFit
 spelled_answers_fit ask bytes answer used is s =
-    let taken = fits_in ask ask.dialect refl is.shape (without_cr s.text) s.rest answer s.behind s.follows in
+    let taken = fits_in ask ask.dialect refl is.shape (without_cr s.text) s.rest answer s.after s.follows in
     record { ranges = taken.0; listed = taken.1 }

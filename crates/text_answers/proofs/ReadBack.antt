@@ -26,7 +26,7 @@ use Rattle.mc_types.specs.declared.answer.Answer.TheVariants.{Stored, NotStored,
 use Rattle.text_answers.specs.declared.line_kinds.FirstLine.{FirstLine}
 use Rattle.text_answers.specs.declared.line_kinds.FirstLine.TheVariants.{Whole}
 use Rattle.text_answers.specs.Spelling.{error_words, error_line, spelling_of}
-use Rattle.text_answers.specs.FirstLine.{said, is_error_text}
+use Rattle.text_answers.specs.FirstLine.{kind_of_line, is_error_text}
 use Rattle.text_answers.specs.Reading.{Follows, Spells}
 use Rattle.text_answers.specs.Laws.{AnswersAreReadBack}
 use Rattle.text_answers.proofs.WordBack.{spelled, alone_back}
@@ -49,7 +49,7 @@ text_line [] e = All-nil (λ b. b ≢ LF)
 text_line (b ∷ text) e = let parts = both (is_text_byte b) (list_all is_text_byte text) e in All-cons (λ b. b ≢ LF) b text (no_line_end b parts.0) (text_line text parts.1)
 
 error_back : (ask : Ask) (word text more : List ℕ) (error : List ℕ → Answer) → IsPlain word → length word ≤ 20 → IsErrorText text
-    → said ask (spaced (error_words word text)) ≡ Whole (error text) → Spells ask (error_line word text ++ more) (error text) (length (error_line word text))
+    → kind_of_line ask (spaced (error_words word text)) ≡ Whole (error text) → Spells ask (error_line word text ++ more) (error text) (length (error_line word text))
 error_back ask word [] more error plain len is says =
     let all = spelled ask word more (error []) 0 (plain_line word plain) (omega arith) (subst (λ (s : FirstLine). Follows s more (error []) 0) (sym says) (refl, refl)) in
     subst (λ (n : ℕ). Spells ask (error_line word [] ++ more) (error []) n) (omega (arith, length-append word (codes "\r\n"))) all
@@ -60,11 +60,11 @@ error_back ask word (b ∷ text) more error plain len is says =
     let all = spelled ask line more (error (b ∷ text)) 0 one (omega (arith, length-append word (32 ∷ (b ∷ text)))) (subst (λ (s : FirstLine). Follows s more (error (b ∷ text)) 0) (sym says) (refl, refl)) in
     subst (λ (n : ℕ). Spells ask (error_line word (b ∷ text) ++ more) (error (b ∷ text)) n) (omega (arith, length-append line (codes "\r\n"))) all
 
-client_said : (ask : Ask) (text : List ℕ) → IsErrorText text → said ask (spaced (error_words (codes "CLIENT_ERROR") text)) ≡ Whole (ClientError text)
+client_said : (ask : Ask) (text : List ℕ) → IsErrorText text → kind_of_line ask (spaced (error_words (codes "CLIENT_ERROR") text)) ≡ Whole (ClientError text)
 client_said ask [] h = refl
 client_said ask (b ∷ text) h = rw (text_read (b ∷ text) h) refl
 
-server_said : (ask : Ask) (text : List ℕ) → IsErrorText text → said ask (spaced (error_words (codes "SERVER_ERROR") text)) ≡ Whole (ServerError text)
+server_said : (ask : Ask) (text : List ℕ) → IsErrorText text → kind_of_line ask (spaced (error_words (codes "SERVER_ERROR") text)) ≡ Whole (ServerError text)
 server_said ask [] h = refl
 server_said ask (b ∷ text) h = rw (text_read (b ∷ text) h) refl
 

@@ -15,25 +15,25 @@ use Rattle.mc_types.specs.declared.answer.Fields.{Fields}
 use Rattle.mc_types.specs.declared.answer.Answer.TheVariants as answers
 use Rattle.meta_answers.specs.declared.line.ValueLine.{ValueLine}
 use Rattle.meta_answers.specs.Told.{fields_told}
-use Rattle.text_answers.specs.FirstLine.{said}
-use Rattle.text_answers.specs.Reading.{IsDataEnd, IsCutDataEnd, is_data, IsBlockEnd, IsCutEnd, IsCutBehind, IsCut, Follows, Spells, Reads, ReadsBehind, LiesWithin}
+use Rattle.text_answers.specs.FirstLine.{kind_of_line}
+use Rattle.text_answers.specs.Reading.{IsDataEnd, IsCutDataEnd, is_data, IsBlockEnd, IsCutEnd, IsCutAfter, IsCut, Follows, Spells, Reads, ReadsAfter, LiesWithin}
 use Rattle.text_answers.specs.declared.reader.AnswerRead.{AnswerRead}
 use Rattle.text_answers.specs.declared.reader.AnswerRead.TheVariants as reads
 use Rattle.text_answers.proofs.EndLemmas.{cut_no_end, cut_no_data_end, line_not_open}
 
 -- the bytes after a body of this length
-behind_body : (n : ℕ) (rest body behind : List ℕ) → length body ≡ n → rest ≡ body ++ behind → drop n rest ≡ behind
-behind_body n rest body behind len whole = ap (drop n) whole ∙ subst (λ (k : ℕ). drop k (body ++ behind) ≡ behind) len (drop-append_seam body behind)
+after_body : (n : ℕ) (rest body after : List ℕ) → length body ≡ n → rest ≡ body ++ after → drop n rest ≡ after
+after_body n rest body after len whole = ap (drop n) whole ∙ subst (λ (k : ℕ). drop k (body ++ after) ≡ after) len (drop-append_seam body after)
 
 pub short_is_cut : (n : ℕ) (rest : List ℕ) → length rest < n → IsCutEnd (drop n rest)
 short_is_cut n rest lt = inl (drop_all n rest (omega arith))
 
 -- after the data stands what is cut
-pub cut_no_follow : (said : FirstLine) (rest : List ℕ) → IsCutBehind said rest → (answer : Answer) (used : ℕ) → ¬ Follows said rest answer used
+pub cut_no_follow : (first : FirstLine) (rest : List ℕ) → IsCutAfter first rest → (answer : Answer) (used : ℕ) → ¬ Follows first rest answer used
 cut_no_follow (Hit hit) rest cut answer used f =
-    cut_no_end (drop hit.len rest) cut f.2 (subst (λ (t : List ℕ). IsBlockEnd t f.2) (sym (behind_body hit.len rest f.0 f.1 f.4 f.5)) f.6)
+    cut_no_end (drop hit.len rest) cut f.2 (subst (λ (t : List ℕ). IsBlockEnd t f.2) (sym (after_body hit.len rest f.0 f.1 f.4 f.5)) f.6)
 cut_no_follow (Value line) rest cut answer used f =
-    cut_no_data_end (drop line.len rest) cut (subst IsDataEnd (sym (behind_body line.len rest f.0 f.1 f.3 f.4)) f.5)
+    cut_no_data_end (drop line.len rest) cut (subst IsDataEnd (sym (after_body line.len rest f.0 f.1 f.3 f.4)) f.5)
 cut_no_follow (Whole a) rest cut answer used f = cut
 cut_no_follow Foreign rest cut answer used f = cut
 
@@ -41,17 +41,17 @@ pub cut_not_spelled : (ask : Ask) (bytes : List ℕ) → IsCut ask bytes → (an
 cut_not_spelled ask bytes (inl partial) answer used s = open_no_line bytes s.text s.rest partial s.line
 cut_not_spelled ask bytes (inr h) answer used s =
     let same = lines_are_determined bytes h.0 s.text h.1 s.rest h.2 s.line in
-    let follows : Follows (said ask (without_cr h.0)) h.1 answer s.behind =
-    subst (λ (t : List ℕ). Follows (said ask (without_cr t)) h.1 answer s.behind) (sym same.0)
-    (subst (λ (r : List ℕ). Follows (said ask (without_cr s.text)) r answer s.behind) (sym same.1) s.follows) in
-    cut_no_follow (said ask (without_cr h.0)) h.1 h.3 answer s.behind follows
+    let follows : Follows (kind_of_line ask (without_cr h.0)) h.1 answer s.after =
+    subst (λ (t : List ℕ). Follows (kind_of_line ask (without_cr t)) h.1 answer s.after) (sym same.0)
+    (subst (λ (r : List ℕ). Follows (kind_of_line ask (without_cr s.text)) r answer s.after) (sym same.1) s.follows) in
+    cut_no_follow (kind_of_line ask (without_cr h.0)) h.1 h.3 answer s.after follows
 
 -- where after the data the end never comes, no hit does
 pub bad_hit : (hit : HitLine) (rest : List ℕ) → hit.len ≤ length rest → ((more : List ℕ) (used : ℕ) → ¬ IsBlockEnd (take (length rest - hit.len) (drop hit.len rest) ++ more) used)
     → (more : List ℕ) (answer : Answer) (used : ℕ) → ¬ Follows (Hit hit) (rest ++ more) answer used
 bad_hit hit rest le never more answer used f =
     let here : f.1 ≡ take (length rest - hit.len) (drop hit.len rest) ++ more =
-    sym (behind_body hit.len (rest ++ more) f.0 f.1 f.4 f.5) ∙ drop-append-le hit.len rest more le ∙ ap (λ (t : List ℕ). t ++ more) (sym (rest_is rest hit.len)) in
+    sym (after_body hit.len (rest ++ more) f.0 f.1 f.4 f.5) ∙ drop-append-le hit.len rest more le ∙ ap (λ (t : List ℕ). t ++ more) (sym (rest_is rest hit.len)) in
     never more f.2 (subst (λ (t : List ℕ). IsBlockEnd t f.2) here f.6)
 
 -- the same of the data of a meta answer
@@ -59,7 +59,7 @@ pub bad_value : (line : ValueLine) (rest : List ℕ) → line.len ≤ length res
     → (more : List ℕ) (answer : Answer) (used : ℕ) → ¬ Follows (Value line) (rest ++ more) answer used
 bad_value line rest le never more answer used f =
     let here : f.1 ≡ take (length rest - line.len) (drop line.len rest) ++ more =
-    sym (behind_body line.len (rest ++ more) f.0 f.1 f.3 f.4) ∙ drop-append-le line.len rest more le ∙ ap (λ (t : List ℕ). t ++ more) (sym (rest_is rest line.len)) in
+    sym (after_body line.len (rest ++ more) f.0 f.1 f.3 f.4) ∙ drop-append-le line.len rest more le ∙ ap (λ (t : List ℕ). t ++ more) (sym (rest_is rest line.len)) in
     never more (subst IsDataEnd here f.5)
 
 -- and where they are no number
@@ -85,55 +85,55 @@ value_there line rest le end is fields used are two = (
   ap (λ (n : ℕ). line.len + n) two,
 )
 
-pub not_cut_value : (line : ValueLine) (rest : List ℕ) → (¬ IsCutDataEnd (take (length rest - line.len) (drop line.len rest))) → ¬ IsCutBehind (Value line) rest
+pub not_cut_value : (line : ValueLine) (rest : List ℕ) → (¬ IsCutDataEnd (take (length rest - line.len) (drop line.len rest))) → ¬ IsCutAfter (Value line) rest
 not_cut_value line rest not_cut cut = not_cut (subst IsCutDataEnd (sym (rest_is rest line.len)) cut)
 
 -- an end that is there isn't cut
-pub there_not_cut : (line : ValueLine) (rest : List ℕ) → IsDataEnd (take (length rest - line.len) (drop line.len rest)) → ¬ IsCutBehind (Value line) rest
+pub there_not_cut : (line : ValueLine) (rest : List ℕ) → IsDataEnd (take (length rest - line.len) (drop line.len rest)) → ¬ IsCutAfter (Value line) rest
 there_not_cut line rest end cut = cut_no_data_end (drop line.len rest) cut (subst IsDataEnd (rest_is rest line.len) end)
 
-pub not_cut_hit : (hit : HitLine) (rest : List ℕ) → (¬ IsCutEnd (take (length rest - hit.len) (drop hit.len rest))) → ¬ IsCutBehind (Hit hit) rest
+pub not_cut_hit : (hit : HitLine) (rest : List ℕ) → (¬ IsCutEnd (take (length rest - hit.len) (drop hit.len rest))) → ¬ IsCutAfter (Hit hit) rest
 not_cut_hit hit rest not_cut cut = not_cut (subst IsCutEnd (sym (rest_is rest hit.len)) cut)
 
 -- the line that the code found, and what follows it
-pub answer_is : (ask : Ask) (bytes : List ℕ) (end used : ℕ) → TakesLine bytes end used → (answer : Answer) (behind : ℕ) → Follows (said ask (take end bytes)) (take (length bytes - used) (drop used bytes)) answer behind
-    → Spells ask bytes answer (used + behind)
-answer_is ask bytes end used t answer behind f = record {
+pub answer_is : (ask : Ask) (bytes : List ℕ) (end used : ℕ) → TakesLine bytes end used → (answer : Answer) (after : ℕ) → Follows (kind_of_line ask (take end bytes)) (take (length bytes - used) (drop used bytes)) answer after
+    → Spells ask bytes answer (used + after)
+answer_is ask bytes end used t answer after f = record {
   text = take (used - 1) bytes;
   rest = drop used bytes;
-  behind = behind;
+  after = after;
   line = taken_line bytes end used t;
-  follows = subst (λ (l : List ℕ). Follows (said ask l) (drop used bytes) answer behind) (sym (taken_text bytes end used t))
-      (subst (λ (r : List ℕ). Follows (said ask (take end bytes)) r answer behind) (rest_is bytes used) f);
+  follows = subst (λ (l : List ℕ). Follows (kind_of_line ask l) (drop used bytes) answer after) (sym (taken_text bytes end used t))
+      (subst (λ (r : List ℕ). Follows (kind_of_line ask (take end bytes)) r answer after) (rest_is bytes used) f);
   used_is = omega (arith, taken_length bytes end used t);
 }
 
-pub cut_is : (ask : Ask) (bytes : List ℕ) (end used : ℕ) → TakesLine bytes end used → IsCutBehind (said ask (take end bytes)) (take (length bytes - used) (drop used bytes)) → IsCut ask bytes
+pub cut_is : (ask : Ask) (bytes : List ℕ) (end used : ℕ) → TakesLine bytes end used → IsCutAfter (kind_of_line ask (take end bytes)) (take (length bytes - used) (drop used bytes)) → IsCut ask bytes
 cut_is ask bytes end used t cut =
     inr (
       take (used - 1) bytes,
       drop used bytes,
       taken_line bytes end used t,
-      subst (λ (l : List ℕ). IsCutBehind (said ask l) (drop used bytes)) (sym (taken_text bytes end used t))
-          (subst (λ (r : List ℕ). IsCutBehind (said ask (take end bytes)) r) (rest_is bytes used) cut),
+      subst (λ (l : List ℕ). IsCutAfter (kind_of_line ask l) (drop used bytes)) (sym (taken_text bytes end used t))
+          (subst (λ (r : List ℕ). IsCutAfter (kind_of_line ask (take end bytes)) r) (rest_is bytes used) cut),
     )
 
 pub foreign_is : (ask : Ask) (bytes : List ℕ) (end used : ℕ) → TakesLine bytes end used
-    → ((more : List ℕ) (answer : Answer) (behind : ℕ) → ¬ Follows (said ask (take end bytes)) (take (length bytes - used) (drop used bytes) ++ more) answer behind)
+    → ((more : List ℕ) (answer : Answer) (after : ℕ) → ¬ Follows (kind_of_line ask (take end bytes)) (take (length bytes - used) (drop used bytes) ++ more) answer after)
     → (more : List ℕ) (answer : Answer) (u : ℕ) → ¬ Spells ask (bytes ++ more) answer u
 foreign_is ask bytes end used t never more answer u s =
     let only = taken_only bytes more s.text s.rest end used t s.line in
-    let behind : s.rest ≡ take (length bytes - used) (drop used bytes) ++ more = only.2 ∙ ap (λ (r : List ℕ). r ++ more) (sym (rest_is bytes used)) in
-    never more answer s.behind (subst (λ (l : List ℕ). Follows (said ask l) (take (length bytes - used) (drop used bytes) ++ more) answer s.behind) only.0
-    (subst (λ (r : List ℕ). Follows (said ask (without_cr s.text)) r answer s.behind) behind s.follows))
+    let after : s.rest ≡ take (length bytes - used) (drop used bytes) ++ more = only.2 ∙ ap (λ (r : List ℕ). r ++ more) (sym (rest_is bytes used)) in
+    never more answer s.after (subst (λ (l : List ℕ). Follows (kind_of_line ask l) (take (length bytes - used) (drop used bytes) ++ more) answer s.after) only.0
+    (subst (λ (r : List ℕ). Follows (kind_of_line ask (without_cr s.text)) r answer s.after) after s.follows))
 
-pub not_cut_is : (ask : Ask) (bytes : List ℕ) (end used : ℕ) → TakesLine bytes end used → (¬ IsCutBehind (said ask (take end bytes)) (take (length bytes - used) (drop used bytes))) → ¬ IsCut ask bytes
+pub not_cut_is : (ask : Ask) (bytes : List ℕ) (end used : ℕ) → TakesLine bytes end used → (¬ IsCutAfter (kind_of_line ask (take end bytes)) (take (length bytes - used) (drop used bytes))) → ¬ IsCut ask bytes
 not_cut_is ask bytes end used t not_cut (inl partial) = line_not_open bytes end used t partial
 not_cut_is ask bytes end used t not_cut (inr h) =
     let same = lines_are_determined bytes h.0 (take (used - 1) bytes) h.1 (drop used bytes) h.2 (taken_line bytes end used t) in
-    not_cut (subst (λ (r : List ℕ). IsCutBehind (said ask (take end bytes)) r) (sym (rest_is bytes used))
-    (subst (λ (l : List ℕ). IsCutBehind (said ask l) (drop used bytes)) (ap without_cr same.0 ∙ taken_text bytes end used t)
-    (subst (λ (r : List ℕ). IsCutBehind (said ask (without_cr h.0)) r) same.1 h.3)))
+    not_cut (subst (λ (r : List ℕ). IsCutAfter (kind_of_line ask (take end bytes)) r) (sym (rest_is bytes used))
+    (subst (λ (l : List ℕ). IsCutAfter (kind_of_line ask l) (drop used bytes)) (ap without_cr same.0 ∙ taken_text bytes end used t)
+    (subst (λ (r : List ℕ). IsCutAfter (kind_of_line ask (without_cr h.0)) r) same.1 h.3)))
 
 pub too_long_not_cut : (ask : Ask) (bytes : List ℕ) → IsTooLong bytes → ¬ IsCut ask bytes
 too_long_not_cut ask bytes long (inl partial) = open_not_too_long bytes partial long
@@ -144,24 +144,24 @@ too_long_is ask bytes long more answer used s = too_long_no_line bytes more s.te
 
 -- an answer that begins after the line takes the line's bytes too
 abbrev pub further : ℕ → AnswerRead → AnswerRead
-further used (reads.Answer answer behind) = reads.Answer answer (used + behind)
+further used (reads.Answer answer after) = reads.Answer answer (used + after)
 further used reads.More = reads.More
 further used reads.Foreign = reads.Foreign
 
 go : (ask : Ask) (bytes : List ℕ) (end used : ℕ) → TakesLine bytes end used → (r : AnswerRead)
-    → ReadsBehind (said ask (take end bytes)) (take (length bytes - used) (drop used bytes)) r → Reads ask bytes (further used r)
-go ask bytes end used t (reads.Answer answer behind) h = answer_is ask bytes end used t answer behind h
+    → ReadsAfter (kind_of_line ask (take end bytes)) (take (length bytes - used) (drop used bytes)) r → Reads ask bytes (further used r)
+go ask bytes end used t (reads.Answer answer after) h = answer_is ask bytes end used t answer after h
 go ask bytes end used t reads.More h = let cut = cut_is ask bytes end used t h in (cut, cut_not_spelled ask bytes cut)
 go ask bytes end used t reads.Foreign h = (not_cut_is ask bytes end used t h.0, foreign_is ask bytes end used t h.1)
 
-pub read_is : (ask : Ask) (bytes : List ℕ) (end used : ℕ) → TakesLine bytes end used → (s : FirstLine) → s ≡ said ask (take end bytes) → (r result : AnswerRead)
-    → ReadsBehind s (take (length bytes - used) (drop used bytes)) r → result ≡ further used r → Reads ask bytes result
+pub read_is : (ask : Ask) (bytes : List ℕ) (end used : ℕ) → TakesLine bytes end used → (s : FirstLine) → s ≡ kind_of_line ask (take end bytes) → (r result : AnswerRead)
+    → ReadsAfter s (take (length bytes - used) (drop used bytes)) r → result ≡ further used r → Reads ask bytes result
 read_is ask bytes end used t s s-is r result h e =
-    subst (Reads ask bytes) (sym e) (go ask bytes end used t r (subst (λ (x : FirstLine). ReadsBehind x (take (length bytes - used) (drop used bytes)) r) s-is h))
+    subst (Reads ask bytes) (sym e) (go ask bytes end used t r (subst (λ (x : FirstLine). ReadsAfter x (take (length bytes - used) (drop used bytes)) r) s-is h))
 
 -- an answer lies within the bytes that spell it
 end_within : (bytes : List ℕ) (used : ℕ) → IsBlockEnd bytes used → used ≤ length bytes
-end_within bytes used e = omega (arith, ap length e.whole, e.used_is, e.line.used_is, line_length e.behind e.line.text e.line.rest e.line.line)
+end_within bytes used e = omega (arith, ap length e.whole, e.used_is, e.line.used_is, line_length e.after e.line.text e.line.rest e.line.line)
 
 follows_within : (s : FirstLine) (rest : List ℕ) (answer : Answer) (used : ℕ) → Follows s rest answer used → used ≤ length rest
 follows_within (Whole x) rest answer used f = omega (arith, f.1)
@@ -171,7 +171,7 @@ follows_within Foreign rest answer used f = absurd f
 
 pub spelled_within : (ask : Ask) (bytes : List ℕ) (answer : Answer) (used : ℕ) → Spells ask bytes answer used → used ≤ length bytes
 spelled_within ask bytes answer used s =
-    omega (arith, s.used_is, line_length bytes s.text s.rest s.line, follows_within (said ask (without_cr s.text)) s.rest answer s.behind s.follows)
+    omega (arith, s.used_is, line_length bytes s.text s.rest s.line, follows_within (kind_of_line ask (without_cr s.text)) s.rest answer s.after s.follows)
 
 pub read_within : (ask : Ask) (bytes : List ℕ) (r : AnswerRead) → Reads ask bytes r → LiesWithin bytes r
 read_within ask bytes (reads.Answer answer used) h = spelled_within ask bytes answer used h

@@ -8,7 +8,7 @@ use Rattle.text_answers.specs.declared.line_kinds.FirstLine.{FirstLine}
 use Rattle.text_answers.specs.declared.line_kinds.FirstLine.TheVariants.{Whole, Hit, Value, Foreign}
 use Rattle.mc_types.specs.declared.answer.Code.TheVariants.{Va}
 use Rattle.meta_answers.specs.Told.{fields_told}
-use Rattle.text_answers.specs.FirstLine.{said}
+use Rattle.text_answers.specs.FirstLine.{kind_of_line}
 use Rattle.text_answers.specs.Spelling.{spelling_of}
 use Rattle.text_answers.specs.Reading.{IsBlockEnd, Follows, Spells}
 use Rattle.text_answers.specs.Laws.{OneAnswer, NoneBeginsAnother, AnswersStay}
@@ -40,22 +40,22 @@ one_follows Foreign rest a b m n f g = absurd f
 pub one_answer : OneAnswer
 one_answer ask bytes a b m n s t =
     let line = lines_are_determined bytes s.text t.text s.rest t.rest s.line t.line in
-    let follows : Follows (said ask (without_cr s.text)) s.rest b t.behind =
-    subst (λ (l : List ℕ). Follows (said ask (without_cr l)) s.rest b t.behind) (sym line.0)
-    (subst (λ (r : List ℕ). Follows (said ask (without_cr t.text)) r b t.behind) (sym line.1) t.follows) in
-    let same = one_follows (said ask (without_cr s.text)) s.rest a b s.behind t.behind s.follows follows in
+    let follows : Follows (kind_of_line ask (without_cr s.text)) s.rest b t.after =
+    subst (λ (l : List ℕ). Follows (kind_of_line ask (without_cr l)) s.rest b t.after) (sym line.0)
+    (subst (λ (r : List ℕ). Follows (kind_of_line ask (without_cr t.text)) r b t.after) (sym line.1) t.follows) in
+    let same = one_follows (kind_of_line ask (without_cr s.text)) s.rest a b s.after t.after s.follows follows in
     let long : length s.text ≡ length t.text = ap length line.0 in
     (same.0, omega (arith, s.used_is, t.used_is, same.1))
 
 end_stays : (bytes more : List ℕ) (used : ℕ) → IsBlockEnd bytes used → IsBlockEnd (bytes ++ more) used
 end_stays bytes more used e = record {
-  behind = e.behind ++ more;
+  after = e.after ++ more;
   len = e.len;
   whole = ap (λ (t : List ℕ). t ++ more) e.whole;
   line = record {
     text = e.line.text;
     rest = e.line.rest ++ more;
-    line = lines_stay e.behind e.line.text e.line.rest more e.line.line;
+    line = lines_stay e.after e.line.text e.line.rest more e.line.line;
     word = e.line.word;
     used_is = e.line.used_is;
   };
@@ -74,9 +74,9 @@ pub answers_stay : AnswersStay
 answers_stay ask bytes more answer used s = record {
   text = s.text;
   rest = s.rest ++ more;
-  behind = s.behind;
+  after = s.after;
   line = lines_stay bytes s.text s.rest more s.line;
-  follows = follows_stay (said ask (without_cr s.text)) s.rest more answer s.behind s.follows;
+  follows = follows_stay (kind_of_line ask (without_cr s.text)) s.rest more answer s.after s.follows;
   used_is = s.used_is;
 }
 

@@ -22,20 +22,20 @@ use Rattle.mc_types.specs.declared.answer.Answer.TheVariants.{Stored, NotStored,
 use Rattle.text_answers.specs.declared.line_kinds.FirstLine.{FirstLine}
 use Rattle.text_answers.specs.declared.line_kinds.FirstLine.TheVariants.{Whole}
 use Rattle.text_answers.specs.Table.{looked_up, of_store, of_cas, of_fetch, of_delete, of_touch, of_count, number_or, word_answer}
-use Rattle.text_answers.specs.FirstLine.{said, words_said, error_text}
+use Rattle.text_answers.specs.FirstLine.{kind_of_line, words_said, error_text}
 use Rattle.text_answers.specs.Reading.{Follows, Spells}
 
 -- the bytes that begin with a line begin with what it says
-pub spelled : (ask : Ask) (line rest : List ℕ) (answer : Answer) (behind : ℕ) → IsOneLine line → length line < 65535 → Follows (said ask line) rest answer behind
-    → Spells ask ((line ++ codes "\r\n") ++ rest) answer (length line + 2 + behind)
-spelled ask line rest answer behind one short f =
+pub spelled : (ask : Ask) (line rest : List ℕ) (answer : Answer) (after : ℕ) → IsOneLine line → length line < 65535 → Follows (kind_of_line ask line) rest answer after
+    → Spells ask ((line ++ codes "\r\n") ++ rest) answer (length line + 2 + after)
+spelled ask line rest answer after one short f =
     let is = is_line (line ∷ []) rest (one, tt) short in
     record {
       text = line ++ CR ∷ [];
       rest = rest;
-      behind = behind;
+      after = after;
       line = is;
-      follows = subst (λ (l : List ℕ). Follows (said ask l) rest answer behind) (sym (without_cr-text line)) f;
+      follows = subst (λ (l : List ℕ). Follows (kind_of_line ask l) rest answer after) (sym (without_cr-text line)) f;
       used_is = omega (arith, length-append line (CR ∷ []));
     }
 
@@ -167,7 +167,7 @@ back_word Touch wc a lt f h = back_touch a f h
 
 -- a line of one word
 alone_said : (ask : Ask) (w : List ℕ) (a : Answer) → ask.dialect ≡ Classic → IsPlain w → bytes_eq w (codes "CLIENT_ERROR") ≡ false → bytes_eq w (codes "SERVER_ERROR") ≡ false → bytes_eq w (codes "VALUE") ≡ false
-    → word_answer ask.op w ≡ Some a → said ask w ≡ Whole a
+    → word_answer ask.op w ≡ Some a → kind_of_line ask w ≡ Whole a
 alone_said ask w a classic plain client server value is =
     ap (words_said ask (error_text w)) (words-spaced (w ∷ []) (plain_words (w ∷ []) (plain, tt))) ∙ rw (client, server, classic, value, is) refl
 
@@ -177,7 +177,7 @@ alone_back ask a more classic lt f h =
     let w = word_of a in
     let plain = word_plain a lt h in
     let none = no_command a lt h in
-    let says : said ask w ≡ Whole a = alone_said ask w a classic plain.0 none.0 none.1 none.2 (back_word ask.op ask.with_cas a lt f h) in
-    let follows : Follows (said ask w) more a 0 = subst (λ (s : FirstLine). Follows s more a 0) (sym says) (refl, refl) in
+    let says : kind_of_line ask w ≡ Whole a = alone_said ask w a classic plain.0 none.0 none.1 none.2 (back_word ask.op ask.with_cas a lt f h) in
+    let follows : Follows (kind_of_line ask w) more a 0 = subst (λ (s : FirstLine). Follows s more a 0) (sym says) (refl, refl) in
     let all = spelled ask w more a 0 (plain_line w plain.0) (omega (arith, plain.1)) follows in
     subst (λ (n : ℕ). Spells ask (line_of (w ∷ []) ++ more) a n) (omega (arith, length-append w (codes "\r\n"))) all

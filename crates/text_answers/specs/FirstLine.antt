@@ -32,8 +32,8 @@ from_first_word [] = []
 from_first_word (b ∷ bytes) = if is_space b then from_first_word bytes else b ∷ bytes
 
 -- what stands after a line's first word and one space
-abbrev pub behind_word : List ℕ → List ℕ
-behind_word line = after_first is_space (from_first_word line)
+abbrev pub after_word : List ℕ → List ℕ
+after_word line = after_first is_space (from_first_word line)
 
 -- the text of an error line has at most 1,024 bytes, each 32..=126 or 128..=255
 abbrev pub is_error_text : List ℕ → Bool
@@ -41,7 +41,7 @@ is_error_text text = nat_le (length text) ERROR_TEXT_LIMIT && list_all is_text_b
 
 -- the text of an error line is all that stands after its word and one space
 abbrev pub error_text : List ℕ → Option (List ℕ)
-error_text line = if is_error_text (behind_word line) then Some (behind_word line) else None
+error_text line = if is_error_text (after_word line) then Some (after_word line) else None
 
 -- an error line with this text
 abbrev pub error_said : (List ℕ → Answer) → Option (List ℕ) → FirstLine
@@ -57,9 +57,9 @@ cas_said _ _ = None
 
 -- the words after VALUE: the key that was asked, the flags and the length of the data
 abbrev pub hit_said : List ℕ → Bool → List (List ℕ) → Option HitLine
-hit_said key with_cas (name ∷ flags ∷ len ∷ behind) =
+hit_said key with_cas (name ∷ flags ∷ len ∷ after) =
     if bytes_eq name key then
-    option_and_then (λ f. option_and_then (λ n. option_map (λ c. record { flags = f; len = n; cas = c }) (cas_said with_cas behind))
+    option_and_then (λ f. option_and_then (λ n. option_map (λ c. record { flags = f; len = n; cas = c }) (cas_said with_cas after))
     (number_below (data_limit + 1) len)) (number_below (2 ^ 32) flags)
     else None
 hit_said key with_cas _ = None
@@ -122,5 +122,5 @@ words_said ask text (word ∷ more) =
     else in_dialect ask.dialect ask word more
 
 -- what the line says to the ask
-abbrev pub said : Ask → List ℕ → FirstLine
-said ask line = words_said ask (error_text line) (words line)
+abbrev pub kind_of_line : Ask → List ℕ → FirstLine
+kind_of_line ask line = words_said ask (error_text line) (words line)

@@ -62,7 +62,7 @@ pub fn block_end(bytes: &[u8]) -> Ends
 {
     match bytes {
         [] | [b'\r'] => Ends::Open,
-        [b'\r', b'\n', behind @ ..] => match end_line(behind) {
+        [b'\r', b'\n', after @ ..] => match end_line(after) {
             Ends::Whole(used) => Ends::Whole(used + 2),
             Ends::Open => Ends::Open,
             Ends::Bad => Ends::Bad,

@@ -29,7 +29,7 @@ ghost use Rattle.text_answers.specs.FirstLine.{
   meta_or_error,
   classic_said,
   in_dialect,
-  said,
+  kind_of_line,
 };
 
 use crate::line_kinds::{FirstLine, HitLine};
@@ -145,7 +145,7 @@ fn data_len(word: &[u8]) -> Option<usize>
     }
 }
 
-fn cas_behind(with_cas: bool, line: &[u8], at: usize) -> Option<Option<u64>>
+fn cas_after(with_cas: bool, line: &[u8], at: usize) -> Option<Option<u64>>
     requires { at ≤ length line.now }
     ensures { result ≡ cas_said with_cas (words (drop at line.now)) }
 {
@@ -171,7 +171,7 @@ fn hit_line(ask: &Ask, line: &[u8], at: usize) -> Option<HitLine>
     let len_word = next_word(line, flags_word.end)?;
     let flags = u32_number(&line[flags_word.start..flags_word.end])?;
     let len = data_len(&line[len_word.start..len_word.end])?;
-    let cas = cas_behind(ask.with_cas, line, len_word.end)?;
+    let cas = cas_after(ask.with_cas, line, len_word.end)?;
     Some(HitLine { flags, len, cas })
 }
 
@@ -193,7 +193,7 @@ fn first_space(text: &[u8]) -> Option<usize>
 }
 
 // What stands after the first space.
-fn behind_space(text: &[u8]) -> &[u8]
+fn after_space(text: &[u8]) -> &[u8]
     ensures { result.now ≡ after_first is_space text.now }
 {
     match first_space(text) {
@@ -223,7 +223,7 @@ fn is_error_text(text: &[u8]) -> bool
 fn error_text(alloc: Global, line: &[u8]) -> Result<Option<ErrorText>, AllocError>
     ensures { IfOk result (λ text. text ≡ error_text line.now) }
 {
-    let text = behind_space(from_first_word(line));
+    let text = after_space(from_first_word(line));
     if !is_error_text(text) {
         return Ok(None);
     }
@@ -299,7 +299,7 @@ fn in_dialect(ask: &Ask, word: &[u8], line: &[u8], at: usize) -> FirstLine
 
 /// What the first line of an answer says to an ask. The only error is running out of memory, and only an error line takes any.
 pub fn read_first_line(alloc: Global, ask: &Ask, line: &[u8]) -> Result<FirstLine, AllocError>
-    ensures { IfOk result (λ s. s ≡ said ask.now line.now) }
+    ensures { IfOk result (λ s. s ≡ kind_of_line ask.now line.now) }
 {
     let Some(first) = next_word(line, 0) else {
         return Ok(FirstLine::Foreign);

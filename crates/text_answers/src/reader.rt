@@ -1,8 +1,8 @@
 //! An answer, read at the front of some bytes.
 
 ghost use Rattle.std.specs.Prelude.{◌≡◌, length, IfOk};
-ghost use Rattle.text_answers.specs.Reading.{Reads, ReadsBehind, LiesWithin, is_data};
-ghost use Rattle.text_answers.specs.FirstLine.{said};
+ghost use Rattle.text_answers.specs.Reading.{Reads, ReadsAfter, LiesWithin, is_data};
+ghost use Rattle.text_answers.specs.FirstLine.{kind_of_line};
 
 use crate::block_end::{Ends, block_end, data_end};
 use crate::first_line::read_first_line;
@@ -24,8 +24,8 @@ pub enum AnswerRead {
     Foreign,
 }
 
-fn hit_behind(alloc: Global, hit: HitLine, rest: &[u8]) -> Result<AnswerRead, AllocError>
-    ensures { IfOk result (ReadsBehind (FirstLine.Hit hit) rest.now) }
+fn hit_after(alloc: Global, hit: HitLine, rest: &[u8]) -> Result<AnswerRead, AllocError>
+    ensures { IfOk result (ReadsAfter (FirstLine.Hit hit) rest.now) }
 {
     if rest.len() < hit.len {
         return Ok(AnswerRead::More);
@@ -50,8 +50,8 @@ fn is_data(is_number: bool, body: &[u8]) -> bool
     !is_number || number(body).is_some()
 }
 
-fn value_behind(alloc: Global, line: ValueLine, rest: &[u8]) -> Result<AnswerRead, AllocError>
-    ensures { IfOk result (ReadsBehind (FirstLine.Value line) rest.now) }
+fn value_after(alloc: Global, line: ValueLine, rest: &[u8]) -> Result<AnswerRead, AllocError>
+    ensures { IfOk result (ReadsAfter (FirstLine.Value line) rest.now) }
 {
     if rest.len() < line.len {
         return Ok(AnswerRead::More);
@@ -71,13 +71,13 @@ fn value_behind(alloc: Global, line: ValueLine, rest: &[u8]) -> Result<AnswerRea
     }
 }
 
-fn behind(alloc: Global, said: FirstLine, rest: &[u8]) -> Result<AnswerRead, AllocError>
-    ensures { IfOk result (ReadsBehind said rest.now) }
+fn after_line(alloc: Global, first: FirstLine, rest: &[u8]) -> Result<AnswerRead, AllocError>
+    ensures { IfOk result (ReadsAfter first rest.now) }
 {
-    match said {
+    match first {
         FirstLine::Whole(answer) => Ok(AnswerRead::Answer(answer, 0)),
-        FirstLine::Hit(hit) => hit_behind(alloc, hit, rest),
-        FirstLine::Value(line) => value_behind(alloc, line, rest),
+        FirstLine::Hit(hit) => hit_after(alloc, hit, rest),
+        FirstLine::Value(line) => value_after(alloc, line, rest),
         FirstLine::Foreign => Ok(AnswerRead::Foreign),
     }
 }
@@ -104,8 +104,8 @@ pub fn read_answer(alloc: Global, ask: &Ask, bytes: &[u8]) -> Result<AnswerRead,
         Line::More => Ok(AnswerRead::More),
         Line::TooLong => Ok(AnswerRead::Foreign),
         Line::At { end, used } => {
-            let said = read_first_line(alloc, ask, &bytes[..end])?;
-            Ok(match behind(alloc, said, &bytes[used..])? {
+            let first = read_first_line(alloc, ask, &bytes[..end])?;
+            Ok(match after_line(alloc, first, &bytes[used..])? {
                 AnswerRead::Answer(answer, more) => AnswerRead::Answer(answer, used + more),
                 AnswerRead::More => AnswerRead::More,
                 AnswerRead::Foreign => AnswerRead::Foreign,

@@ -4,8 +4,8 @@ use Rattle.std.proofs.lemmas.List.{drop-append-le}
 use Rattle.mc_text.proofs.Stays.{too_long_stays}
 use Rattle.request_parts.specs.declared.skip.Skip.TheVariants.{Nothing, Bytes, ThroughNewline}
 use Rattle.request_parts.specs.Stream.{Place, Stands, Closed, extended, skipped}
-use Rattle.client_requests.specs.Stream.{behind}
-use Rattle.request_parts.proofs.Streams.{begins_still, one_message, used_within, behind-append, too_long_begins_nothing}
+use Rattle.client_requests.specs.Stream.{after_message}
+use Rattle.request_parts.proofs.Streams.{begins_still, one_message, used_within, after_message-append, too_long_begins_nothing}
 use Rattle.client_requests.specs.Both.{both_grammar}
 use Rattle.request_parts.proofs.Streams.{skipped-append}
 use Rattle.text_codec.specs.TextProtocol.{Said, Whole, LongLine, ReadsNext, TextIsReader}
@@ -14,7 +14,7 @@ use Rattle.text_codec.specs.TextProtocol.{Said, Whole, LongLine, ReadsNext, Text
 one_next : (place : Place) (m n : Said) (p q : Place) → ReadsNext place m p → ReadsNext place n q → (m ≡ n) × (p ≡ q)
 one_next (Stands Nothing held) (Whole m) (Whole n) p q a b =
     let same = one_message both_grammar held m n a.0 b.0 a.1 b.1 in
-    let next : behind m (drop a.0 held) ≡ behind n (drop b.0 held) = rw (same.0, same.1) refl in
+    let next : after_message m (drop a.0 held) ≡ after_message n (drop b.0 held) = rw (same.0, same.1) refl in
     (ap Whole same.0, a.2 ∙ next ∙ sym b.2)
 one_next (Stands Nothing held) (Whole m) LongLine p q a b = absurd (too_long_begins_nothing both_grammar held [] m a.0 b.0 (begins_still both_grammar held [] m a.0 a.1))
 one_next (Stands Nothing held) LongLine (Whole n) p q a b = absurd (too_long_begins_nothing both_grammar held [] n b.0 a.0 (begins_still both_grammar held [] n b.0 b.1))
@@ -27,7 +27,7 @@ one_next Closed m n p q a b = absurd a
 next_stays : (place : Place) (m : Said) (p : Place) (more : List ℕ) → ReadsNext place m p → ReadsNext (extended place more) m (extended p more)
 next_stays (Stands Nothing held) (Whole m) p more a =
     let within = used_within both_grammar held m a.0 a.1 in
-    let next : behind m (drop a.0 (held ++ more)) ≡ extended (behind m (drop a.0 held)) more = ap (behind m) (drop-append-le a.0 held more within) ∙ behind-append both_grammar m (drop a.0 held) more in
+    let next : after_message m (drop a.0 (held ++ more)) ≡ extended (after_message m (drop a.0 held)) more = ap (after_message m) (drop-append-le a.0 held more within) ∙ after_message-append both_grammar m (drop a.0 held) more in
     (a.0, begins_still both_grammar held more m a.0 a.1, ap (λ (q : Place). extended q more) a.2 ∙ sym next)
 next_stays (Stands Nothing held) LongLine p more a = (too_long_stays held more a.0, ap (λ (q : Place). extended q more) a.1)
 next_stays (Stands (Bytes k) held) m p more a = absurd a

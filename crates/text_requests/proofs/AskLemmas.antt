@@ -8,8 +8,6 @@ use Rattle.mc_types.specs.KeyText.{IsKey}
 use Rattle.mc_types.specs.Asks.{IsAsk, IsExptime, AreInRange, data_limit}
 use Rattle.mc_types.specs.declared.ask.Op.{Op}
 use Rattle.mc_types.specs.declared.ask.Op.TheVariants as ops
-use Rattle.text_requests.specs.declared.command.StoreKind.{StoreKind}
-use Rattle.text_requests.specs.declared.command.StoreKind.TheVariants as kinds
 use Rattle.text_requests.specs.declared.command.Command.{Command}
 use Rattle.text_requests.specs.declared.command.Keys.{Keys}
 use Rattle.text_requests.specs.declared.command.Request.{Request}
@@ -20,8 +18,8 @@ use Rattle.text_requests.specs.Order.{Order, Storing, Retrieval, Storage, Swappi
 use Rattle.text_requests.specs.Message.{Message, Begins, IsReadFrom, message_in}
 use Rattle.request_parts.specs.Message.{Served, Refusal}
 use Rattle.text_requests.specs.Grammar.{classic_grammar, block_len}
-use Rattle.text_requests.specs.Asks.{asks_by, asks_of, IsClassicAsk, retrieval_ask, store_ask, bare_ask, count_ask, kind_op}
-use Rattle.text_requests.proofs.Sound.{IsSound, IsSoundStoring, sound}
+use Rattle.text_requests.specs.Asks.{asks_by, asks_of, IsClassicAsk, retrieval_ask, store_ask, bare_ask, count_ask}
+use Rattle.text_requests.proofs.Sound.{IsPlainStore, IsCount, IsSound, IsSoundStoring, sound}
 use Rattle.request_parts.proofs.Sound.{IsServed, served_sound}
 
 bare_range : (op : Op) (key : Word) → AreInRange (bare_ask op key)
@@ -38,24 +36,41 @@ are_retrievals exptime with_cas (key ∷ keys) k h = (is_retrieval exptime with_
 store_range : (op : Op) (s : Storing) (block : List ℕ) (cas : Option ℕ) → IsSoundStoring s → length block ≤ data_limit → IfSome cas (λ c. c < 2 ^ 64) → AreInRange (store_ask op s cas block)
 store_range op s block cas h le c = record { flags = h.flags; exptime = h.exptime; body = le; cas = c; delta = omega arith }
 
-is_store : (kind : StoreKind) (s : Storing) (block : List ℕ) → IsSoundStoring s → length block ≤ data_limit → IsAsk (store_ask (kind_op kind) s None block)
-is_store kinds.Set s block h le = record { key = h.key; ranges = store_range ops.Set s block None h le tt; shape = record { with_cas = refl; flags = tt; exptime = refl; body = tt; cas = refl; delta = refl; tokens = refl } }
-is_store kinds.Add s block h le = record { key = h.key; ranges = store_range ops.Add s block None h le tt; shape = record { with_cas = refl; flags = tt; exptime = refl; body = tt; cas = refl; delta = refl; tokens = refl } }
-is_store kinds.Replace s block h le = record { key = h.key; ranges = store_range ops.Replace s block None h le tt; shape = record { with_cas = refl; flags = tt; exptime = refl; body = tt; cas = refl; delta = refl; tokens = refl } }
-is_store kinds.Append s block h le = record { key = h.key; ranges = store_range ops.Append s block None h le tt; shape = record { with_cas = refl; flags = tt; exptime = refl; body = tt; cas = refl; delta = refl; tokens = refl } }
-is_store kinds.Prepend s block h le = record { key = h.key; ranges = store_range ops.Prepend s block None h le tt; shape = record { with_cas = refl; flags = tt; exptime = refl; body = tt; cas = refl; delta = refl; tokens = refl } }
+is_store : (op : Op) → IsPlainStore op → (s : Storing) (block : List ℕ) → IsSoundStoring s → length block ≤ data_limit → IsAsk (store_ask op s None block)
+is_store ops.Set is s block h le = record { key = h.key; ranges = store_range ops.Set s block None h le tt; shape = record { with_cas = refl; flags = tt; exptime = refl; body = tt; cas = refl; delta = refl; tokens = refl } }
+is_store ops.Add is s block h le = record { key = h.key; ranges = store_range ops.Add s block None h le tt; shape = record { with_cas = refl; flags = tt; exptime = refl; body = tt; cas = refl; delta = refl; tokens = refl } }
+is_store ops.Replace is s block h le = record { key = h.key; ranges = store_range ops.Replace s block None h le tt; shape = record { with_cas = refl; flags = tt; exptime = refl; body = tt; cas = refl; delta = refl; tokens = refl } }
+is_store ops.Append is s block h le = record { key = h.key; ranges = store_range ops.Append s block None h le tt; shape = record { with_cas = refl; flags = tt; exptime = refl; body = tt; cas = refl; delta = refl; tokens = refl } }
+is_store ops.Prepend is s block h le = record { key = h.key; ranges = store_range ops.Prepend s block None h le tt; shape = record { with_cas = refl; flags = tt; exptime = refl; body = tt; cas = refl; delta = refl; tokens = refl } }
+is_store ops.Get is s block h le = absurd is
+is_store ops.Gat is s block h le = absurd is
+is_store ops.Cas is s block h le = absurd is
+is_store ops.Delete is s block h le = absurd is
+is_store ops.Incr is s block h le = absurd is
+is_store ops.Decr is s block h le = absurd is
+is_store ops.Touch is s block h le = absurd is
 
-is_count : (up : Bool) (key : Word) (delta : ℕ) → IsKey key → delta < 2 ^ 64 → IsAsk (count_ask up key delta)
-is_count true key delta k lt = record { key = k; ranges = record { flags = omega arith; exptime = tt; body = omega arith; cas = tt; delta = lt }; shape = record { with_cas = refl; flags = refl; exptime = refl; body = refl; cas = refl; delta = tt; tokens = refl } }
-is_count false key delta k lt = record { key = k; ranges = record { flags = omega arith; exptime = tt; body = omega arith; cas = tt; delta = lt }; shape = record { with_cas = refl; flags = refl; exptime = refl; body = refl; cas = refl; delta = tt; tokens = refl } }
+is_count : (op : Op) → IsCount op → (key : Word) (delta : ℕ) → IsKey key → delta < 2 ^ 64 → IsAsk (count_ask op key delta)
+is_count ops.Incr is key delta k lt = record { key = k; ranges = record { flags = omega arith; exptime = tt; body = omega arith; cas = tt; delta = lt }; shape = record { with_cas = refl; flags = refl; exptime = refl; body = refl; cas = refl; delta = tt; tokens = refl } }
+is_count ops.Decr is key delta k lt = record { key = k; ranges = record { flags = omega arith; exptime = tt; body = omega arith; cas = tt; delta = lt }; shape = record { with_cas = refl; flags = refl; exptime = refl; body = refl; cas = refl; delta = tt; tokens = refl } }
+is_count ops.Get is key delta k lt = absurd is
+is_count ops.Gat is key delta k lt = absurd is
+is_count ops.Set is key delta k lt = absurd is
+is_count ops.Add is key delta k lt = absurd is
+is_count ops.Replace is key delta k lt = absurd is
+is_count ops.Append is key delta k lt = absurd is
+is_count ops.Prepend is key delta k lt = absurd is
+is_count ops.Cas is key delta k lt = absurd is
+is_count ops.Delete is key delta k lt = absurd is
+is_count ops.Touch is key delta k lt = absurd is
 
 pub are_asks : (o : Order) (block : List ℕ) → IsSound o → length block ≤ data_limit → AllByRecursion IsAsk (asks_by o block)
 are_asks (Retrieval exptime with_cas keys) block h le = are_retrievals exptime with_cas keys h.0 h.1
-are_asks (Storage kind stored quiet) block h le = (is_store kind stored block h.0 le, tt)
+are_asks (Storage op stored quiet) block h le = (is_store op h.2 stored block h.0 le, tt)
 are_asks (Swapping stored cas quiet) block h le = (record { key = h.0.key; ranges = store_range ops.Cas stored block (Some cas) h.0 le h.2; shape = record { with_cas = refl; flags = tt; exptime = refl; body = tt; cas = refl; delta = refl; tokens = refl } }, tt)
 are_asks (Deletion key quiet) block h le = (record { key = h; ranges = bare_range ops.Delete key; shape = record { with_cas = refl; flags = refl; exptime = refl; body = refl; cas = refl; delta = refl; tokens = refl } }, tt)
 are_asks (Touching key exptime quiet) block h le = (record { key = h.0; ranges = record { flags = omega arith; exptime = h.1; body = omega arith; cas = tt; delta = omega arith }; shape = record { with_cas = refl; flags = refl; exptime = refl; body = refl; cas = refl; delta = refl; tokens = refl } }, tt)
-are_asks (Counting up key delta quiet) block h le = (is_count up key delta h.0 h.1, tt)
+are_asks (Counting op key delta quiet) block h le = (is_count op h.2 key delta h.0 h.1, tt)
 are_asks (OfItself own) block h le = tt
 
 some_is : {A : Type 0} (x y : A) → Some x ≡ Some y → x ≡ y
@@ -64,11 +79,11 @@ some_is x y e = cc
 -- the block of an order is no longer than its line says, and that is at most the limit
 block_short : (o : Order) (n : ℕ) → IsSound o → block_len o ≡ Some n → n ≤ data_limit
 block_short (Retrieval exptime with_cas keys) n h e = absurd cc
-block_short (Storage kind stored quiet) n h e = subst (λ (k : ℕ). k ≤ data_limit) (some_is stored.length n e) h.1
+block_short (Storage op stored quiet) n h e = subst (λ (k : ℕ). k ≤ data_limit) (some_is stored.length n e) h.1
 block_short (Swapping stored cas quiet) n h e = subst (λ (k : ℕ). k ≤ data_limit) (some_is stored.length n e) h.1
 block_short (Deletion key quiet) n h e = absurd cc
 block_short (Touching key exptime quiet) n h e = absurd cc
-block_short (Counting up key delta quiet) n h e = absurd cc
+block_short (Counting op key delta quiet) n h e = absurd cc
 block_short (OfItself own) n h e = absurd cc
 
 pub is_served : (bytes : List ℕ) (o : Order) (block : List ℕ) (used : ℕ) → Begins bytes (Served o block) used → IsServed classic_grammar IsSound o block
@@ -80,11 +95,11 @@ are_classic_retrievals exptime with_cas (key ∷ keys) h = (record { well_formed
 
 are_classic : (o : Order) (block : List ℕ) → AllByRecursion IsAsk (asks_by o block) → AllByRecursion IsClassicAsk (asks_by o block)
 are_classic (Retrieval exptime with_cas keys) block h = are_classic_retrievals exptime with_cas keys h
-are_classic (Storage kind stored quiet) block h = (record { well_formed = h.0; classic = refl }, tt)
+are_classic (Storage op stored quiet) block h = (record { well_formed = h.0; classic = refl }, tt)
 are_classic (Swapping stored cas quiet) block h = (record { well_formed = h.0; classic = refl }, tt)
 are_classic (Deletion key quiet) block h = (record { well_formed = h.0; classic = refl }, tt)
 are_classic (Touching key exptime quiet) block h = (record { well_formed = h.0; classic = refl }, tt)
-are_classic (Counting up key delta quiet) block h = (record { well_formed = h.0; classic = refl }, tt)
+are_classic (Counting op key delta quiet) block h = (record { well_formed = h.0; classic = refl }, tt)
 are_classic (OfItself own) block h = tt
 
 pub of_message : (bytes : List ℕ) (m : Message) (used : ℕ) → Begins bytes m used → AllByRecursion IsClassicAsk (asks_of m)

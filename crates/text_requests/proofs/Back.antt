@@ -14,7 +14,7 @@ use Rattle.request_parts.specs.Message.{Served}
 use Rattle.request_parts.proofs.Tokens.{IsToken, AreTokens, key_token, decimal_token, signed_token, begins_plain, begins_block}
 use Rattle.text_requests.specs.Message.{Begins}
 use Rattle.text_requests.specs.Grammar.{classic_grammar, block_len}
-use Rattle.text_requests.specs.Spelling.{command_word, words_behind, store_words, block_behind, order_for, exptime_in, cas_in}
+use Rattle.text_requests.specs.Spelling.{command_word, words_after, store_words, block_after, order_for, exptime_in, cas_in}
 use Rattle.text_requests.specs.ReadBack.{AsksAreReadBack}
 use Rattle.text_requests.proofs.OrderBack.{IsFit, is_fit, order_back}
 
@@ -40,49 +40,49 @@ store_tokens ask more f h =
     let body = f.body in
     (key_token ask.key f.key, (decimal_token ask.flags (omega arith), (signed_token (exptime_in ask) f.exptime, (decimal_token (length ask.body) (omega arith), h))))
 
-tokens_behind : (op : Op) (ask : Ask) → IsFit ask → AreTokens (words_behind op ask)
-tokens_behind Get ask f = (key_token ask.key f.key, tt)
-tokens_behind Gat ask f = (signed_token (exptime_in ask) f.exptime, (key_token ask.key f.key, tt))
-tokens_behind Set ask f = store_tokens ask [] f tt
-tokens_behind Add ask f = store_tokens ask [] f tt
-tokens_behind Replace ask f = store_tokens ask [] f tt
-tokens_behind Append ask f = store_tokens ask [] f tt
-tokens_behind Prepend ask f = store_tokens ask [] f tt
-tokens_behind Cas ask f = store_tokens ask (decimal (cas_in ask) ∷ []) f (decimal_token (cas_in ask) f.cas, tt)
-tokens_behind Delete ask f = (key_token ask.key f.key, tt)
-tokens_behind Incr ask f = (key_token ask.key f.key, (decimal_token ask.delta f.delta, tt))
-tokens_behind Decr ask f = (key_token ask.key f.key, (decimal_token ask.delta f.delta, tt))
-tokens_behind Touch ask f = (key_token ask.key f.key, (signed_token (exptime_in ask) f.exptime, tt))
+tokens_after : (op : Op) (ask : Ask) → IsFit ask → AreTokens (words_after op ask)
+tokens_after Get ask f = (key_token ask.key f.key, tt)
+tokens_after Gat ask f = (signed_token (exptime_in ask) f.exptime, (key_token ask.key f.key, tt))
+tokens_after Set ask f = store_tokens ask [] f tt
+tokens_after Add ask f = store_tokens ask [] f tt
+tokens_after Replace ask f = store_tokens ask [] f tt
+tokens_after Append ask f = store_tokens ask [] f tt
+tokens_after Prepend ask f = store_tokens ask [] f tt
+tokens_after Cas ask f = store_tokens ask (decimal (cas_in ask) ∷ []) f (decimal_token (cas_in ask) f.cas, tt)
+tokens_after Delete ask f = (key_token ask.key f.key, tt)
+tokens_after Incr ask f = (key_token ask.key f.key, (decimal_token ask.delta f.delta, tt))
+tokens_after Decr ask f = (key_token ask.key f.key, (decimal_token ask.delta f.delta, tt))
+tokens_after Touch ask f = (key_token ask.key f.key, (signed_token (exptime_in ask) f.exptime, tt))
 
-few_behind : (op : Op) (ask : Ask) → length (words_behind op ask) ≤ 5
-few_behind Get ask = omega arith
-few_behind Gat ask = omega arith
-few_behind Set ask = omega arith
-few_behind Add ask = omega arith
-few_behind Replace ask = omega arith
-few_behind Append ask = omega arith
-few_behind Prepend ask = omega arith
-few_behind Cas ask = omega arith
-few_behind Delete ask = omega arith
-few_behind Incr ask = omega arith
-few_behind Decr ask = omega arith
-few_behind Touch ask = omega arith
+few_after : (op : Op) (ask : Ask) → length (words_after op ask) ≤ 5
+few_after Get ask = omega arith
+few_after Gat ask = omega arith
+few_after Set ask = omega arith
+few_after Add ask = omega arith
+few_after Replace ask = omega arith
+few_after Append ask = omega arith
+few_after Prepend ask = omega arith
+few_after Cas ask = omega arith
+few_after Delete ask = omega arith
+few_after Incr ask = omega arith
+few_after Decr ask = omega arith
+few_after Touch ask = omega arith
 
 module _ (ask : Ask) (more : List ℕ) (f : IsFit ask) where
-  tokens : (op : Op) → AreTokens (command_word op ask.with_cas ∷ words_behind op ask)
-  tokens op = (word_token op ask.with_cas, tokens_behind op ask f)
+  tokens : (op : Op) → AreTokens (command_word op ask.with_cas ∷ words_after op ask)
+  tokens op = (word_token op ask.with_cas, tokens_after op ask f)
 
-  few : (op : Op) → length (command_word op ask.with_cas ∷ words_behind op ask) ≤ 20
-  few op = let n = few_behind op ask in omega arith
+  few : (op : Op) → length (command_word op ask.with_cas ∷ words_after op ask) ≤ 20
+  few op = let n = few_after op ask in omega arith
 
-  plain : (op : Op) → block_len (order_for op ask) ≡ None → Begins ((line_of (command_word op ask.with_cas ∷ words_behind op ask) ++ []) ++ more) (Served (order_for op ask) []) (length (line_of (command_word op ask.with_cas ∷ words_behind op ask) ++ []))
-  plain op none = begins_plain classic_grammar (command_word op ask.with_cas ∷ words_behind op ask) (order_for op ask) (tokens op) (few op) (order_back op ask f) more none
+  plain : (op : Op) → block_len (order_for op ask) ≡ None → Begins ((line_of (command_word op ask.with_cas ∷ words_after op ask) ++ []) ++ more) (Served (order_for op ask) []) (length (line_of (command_word op ask.with_cas ∷ words_after op ask) ++ []))
+  plain op none = begins_plain classic_grammar (command_word op ask.with_cas ∷ words_after op ask) (order_for op ask) (tokens op) (few op) (order_back op ask f) more none
 
-  blocked : (op : Op) → block_len (order_for op ask) ≡ Some (length ask.body) → Begins ((line_of (command_word op ask.with_cas ∷ words_behind op ask) ++ block_text ask.body) ++ more) (Served (order_for op ask) ask.body) (length (line_of (command_word op ask.with_cas ∷ words_behind op ask) ++ block_text ask.body))
-  blocked op long = begins_block classic_grammar (command_word op ask.with_cas ∷ words_behind op ask) (order_for op ask) (tokens op) (few op) (order_back op ask f) ask.body more long
+  blocked : (op : Op) → block_len (order_for op ask) ≡ Some (length ask.body) → Begins ((line_of (command_word op ask.with_cas ∷ words_after op ask) ++ block_text ask.body) ++ more) (Served (order_for op ask) ask.body) (length (line_of (command_word op ask.with_cas ∷ words_after op ask) ++ block_text ask.body))
+  blocked op long = begins_block classic_grammar (command_word op ask.with_cas ∷ words_after op ask) (order_for op ask) (tokens op) (few op) (order_back op ask f) ask.body more long
 
 -- by the operation: an ask without data has an empty body
-by_op : (ask : Ask) (more : List ℕ) (op : Op) → IsFit ask → HasShape ask (classic_shape op) → Begins ((line_of (command_word op ask.with_cas ∷ words_behind op ask) ++ block_behind op ask) ++ more) (Served (order_for op ask) ask.body) (length (line_of (command_word op ask.with_cas ∷ words_behind op ask) ++ block_behind op ask))
+by_op : (ask : Ask) (more : List ℕ) (op : Op) → IsFit ask → HasShape ask (classic_shape op) → Begins ((line_of (command_word op ask.with_cas ∷ words_after op ask) ++ block_after op ask) ++ more) (Served (order_for op ask) ask.body) (length (line_of (command_word op ask.with_cas ∷ words_after op ask) ++ block_after op ask))
 by_op ask more Get f h = rw (h.body) (plain ask more f Get refl)
 by_op ask more Gat f h = rw (h.body) (plain ask more f Gat refl)
 by_op ask more Set f h = blocked ask more f Set refl

@@ -27,29 +27,29 @@ keys_in-take n bytes keys h = let short = length-front n bytes in ap words (text
 -- the spans of a command in the front of the bytes
 pub order_in-take : (n : ℕ) (bytes : List ℕ) (command : Command) → LiesIn (take n bytes) command → order_in (take n bytes) command ≡ order_in bytes command
 order_in-take n bytes (commands.Retrieval with_cas exptime keys) h = ap (λ (t : List (List ℕ)). Retrieval exptime with_cas t) (keys_in-take n bytes keys h.span)
-order_in-take n bytes (commands.Storage kind quiet stored) h = ap (λ (s : Storing). Storage kind s quiet) (storing_in-take n bytes stored (IsIn-le _ n stored.key (length-front n bytes) h))
+order_in-take n bytes (commands.Storage op quiet stored) h = ap (λ (s : Storing). Storage op s quiet) (storing_in-take n bytes stored (IsIn-le _ n stored.key (length-front n bytes) h))
 order_in-take n bytes (commands.Swapping quiet stored cas) h = ap (λ (s : Storing). Swapping s cas quiet) (storing_in-take n bytes stored (IsIn-le _ n stored.key (length-front n bytes) h))
 order_in-take n bytes (commands.Deletion quiet key) h = ap (λ (t : List ℕ). Deletion t quiet) (text_at-take n bytes key (IsIn-le _ n key (length-front n bytes) h).within)
 order_in-take n bytes (commands.Touching quiet key exptime) h = ap (λ (t : List ℕ). Touching t exptime quiet) (text_at-take n bytes key (IsIn-le _ n key (length-front n bytes) h).within)
-order_in-take n bytes (commands.Counting up quiet key delta) h = ap (λ (t : List ℕ). Counting up t delta quiet) (text_at-take n bytes key (IsIn-le _ n key (length-front n bytes) h).within)
+order_in-take n bytes (commands.Counting op quiet key delta) h = ap (λ (t : List ℕ). Counting op t delta quiet) (text_at-take n bytes key (IsIn-le _ n key (length-front n bytes) h).within)
 order_in-take n bytes (commands.Own own) h = refl
 
 pub LiesIn-take : (n : ℕ) (bytes : List ℕ) (command : Command) → LiesIn (take n bytes) command → LiesIn bytes command
 LiesIn-take n bytes (commands.Retrieval with_cas exptime keys) h = record { span = IsIn-le _ _ keys.span (length-part n bytes) h.span; count = h.count ∙ ap length (keys_in-take n bytes keys h.span) }
-LiesIn-take n bytes (commands.Storage kind quiet stored) h = IsIn-le _ _ stored.key (length-part n bytes) h
+LiesIn-take n bytes (commands.Storage op quiet stored) h = IsIn-le _ _ stored.key (length-part n bytes) h
 LiesIn-take n bytes (commands.Swapping quiet stored cas) h = IsIn-le _ _ stored.key (length-part n bytes) h
 LiesIn-take n bytes (commands.Deletion quiet key) h = IsIn-le _ _ key (length-part n bytes) h
 LiesIn-take n bytes (commands.Touching quiet key exptime) h = IsIn-le _ _ key (length-part n bytes) h
-LiesIn-take n bytes (commands.Counting up quiet key delta) h = IsIn-le _ _ key (length-part n bytes) h
+LiesIn-take n bytes (commands.Counting op quiet key delta) h = IsIn-le _ _ key (length-part n bytes) h
 LiesIn-take n bytes (commands.Own own) h = tt
 
 block_len-order_in : (bytes : List ℕ) (command : Command) → block_len (order_in bytes command) ≡ command_block_len command
 block_len-order_in bytes (commands.Retrieval with_cas exptime keys) = refl
-block_len-order_in bytes (commands.Storage kind quiet stored) = refl
+block_len-order_in bytes (commands.Storage op quiet stored) = refl
 block_len-order_in bytes (commands.Swapping quiet stored cas) = refl
 block_len-order_in bytes (commands.Deletion quiet key) = refl
 block_len-order_in bytes (commands.Touching quiet key exptime) = refl
-block_len-order_in bytes (commands.Counting up quiet key delta) = refl
+block_len-order_in bytes (commands.Counting op quiet key delta) = refl
 block_len-order_in bytes (commands.Own own) = refl
 
 -- a line that asks something means that, with what follows it

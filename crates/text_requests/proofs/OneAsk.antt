@@ -50,8 +50,8 @@ message_by ask Append o d h = (one _ ask (store_same ask Append o d h), refl)
 message_by ask Prepend o d h = (one _ ask (store_same ask Prepend o d h), refl)
 message_by ask Cas o d h = (one _ ask (same_ask (store_ask Cas (storing ask) (Some (cas_in ask)) ask.body) ask refl (sym o) (sym d) (sym h.with_cas) refl (some_exptime ask.exptime h.exptime) refl (some_cas ask.cas h.cas) (sym h.delta) (sym (no_tokens ask.tokens h.tokens))), refl)
 message_by ask Delete o d h = (one _ ask (same_ask (bare_ask Delete ask.key) ask refl (sym o) (sym d) (sym h.with_cas) (sym h.flags) (sym h.exptime) (sym h.body) (sym h.cas) (sym h.delta) (sym (no_tokens ask.tokens h.tokens))), refl)
-message_by ask Incr o d h = (one _ ask (same_ask (count_ask true ask.key ask.delta) ask refl (sym o) (sym d) (sym h.with_cas) (sym h.flags) (sym h.exptime) (sym h.body) (sym h.cas) refl (sym (no_tokens ask.tokens h.tokens))), refl)
-message_by ask Decr o d h = (one _ ask (same_ask (count_ask false ask.key ask.delta) ask refl (sym o) (sym d) (sym h.with_cas) (sym h.flags) (sym h.exptime) (sym h.body) (sym h.cas) refl (sym (no_tokens ask.tokens h.tokens))), refl)
+message_by ask Incr o d h = (one _ ask (same_ask (count_ask Incr ask.key ask.delta) ask refl (sym o) (sym d) (sym h.with_cas) (sym h.flags) (sym h.exptime) (sym h.body) (sym h.cas) refl (sym (no_tokens ask.tokens h.tokens))), refl)
+message_by ask Decr o d h = (one _ ask (same_ask (count_ask Decr ask.key ask.delta) ask refl (sym o) (sym d) (sym h.with_cas) (sym h.flags) (sym h.exptime) (sym h.body) (sym h.cas) refl (sym (no_tokens ask.tokens h.tokens))), refl)
 message_by ask Touch o d h = (one _ ask (same_ask (touch_ask ask.key (exptime_in ask)) ask refl (sym o) (sym d) (sym h.with_cas) (sym h.flags) (some_exptime ask.exptime h.exptime) (sym h.body) (sym h.cas) (sym h.delta) (sym (no_tokens ask.tokens h.tokens))), refl)
 
 pub messages_are_one_ask : MessagesAreOneAsk

@@ -12,14 +12,12 @@ use Rattle.mc_types.specs.declared.ask.Op.TheVariants.{Get, Gat, Set, Add, Repla
 use Rattle.request_parts.specs.declared.refusal.RefusalReason.{RefusalReason}
 use Rattle.text_requests.specs.declared.command.Verb.{Verb}
 use Rattle.text_requests.specs.declared.command.Verb.TheVariants as verbs
-use Rattle.text_requests.specs.declared.command.StoreKind.{StoreKind}
-use Rattle.text_requests.specs.declared.command.StoreKind.TheVariants as kinds
 use Rattle.request_parts.specs.Tests.{Word}
 use Rattle.text_requests.specs.CommandWords.{verb_of}
 use Rattle.text_requests.specs.Order.{Order, Storing, Retrieval, Storage, Swapping, Deletion, Touching, Counting, keys_of, storing_of, order_of, ordered_by, storage, swapping, getting, getting_and_touching, counting, touching, deletion}
 use Rattle.request_parts.specs.Tests.{◌>>=◌, u64_of, exptime_of, fitting}
 use Rattle.request_parts.proofs.Tokens.{key_passes, key_back, small_back, wide_back, exptime_back}
-use Rattle.text_requests.specs.Spelling.{command_word, words_behind, store_words, storing, order_for, exptime_in, cas_in}
+use Rattle.text_requests.specs.Spelling.{command_word, words_after, store_words, storing, order_for, exptime_in, cas_in}
 
 keys_back : (key : Word) → IsKey key → keys_of (key ∷ []) ≡ Ok (key ∷ [])
 keys_back key k = rw (key_passes key k) refl
@@ -45,23 +43,23 @@ verb_gats : verb_of (codes "gats") ≡ Some (verbs.Retrieve true true)
 unfolding verb_of
 verb_gats = refl
 
-verb_set : verb_of (codes "set") ≡ Some (verbs.Store kinds.Set)
+verb_set : verb_of (codes "set") ≡ Some (verbs.Store Set)
 unfolding verb_of
 verb_set = refl
 
-verb_add : verb_of (codes "add") ≡ Some (verbs.Store kinds.Add)
+verb_add : verb_of (codes "add") ≡ Some (verbs.Store Add)
 unfolding verb_of
 verb_add = refl
 
-verb_replace : verb_of (codes "replace") ≡ Some (verbs.Store kinds.Replace)
+verb_replace : verb_of (codes "replace") ≡ Some (verbs.Store Replace)
 unfolding verb_of
 verb_replace = refl
 
-verb_append : verb_of (codes "append") ≡ Some (verbs.Store kinds.Append)
+verb_append : verb_of (codes "append") ≡ Some (verbs.Store Append)
 unfolding verb_of
 verb_append = refl
 
-verb_prepend : verb_of (codes "prepend") ≡ Some (verbs.Store kinds.Prepend)
+verb_prepend : verb_of (codes "prepend") ≡ Some (verbs.Store Prepend)
 unfolding verb_of
 verb_prepend = refl
 
@@ -73,11 +71,11 @@ verb_delete : verb_of (codes "delete") ≡ Some verbs.Delete
 unfolding verb_of
 verb_delete = refl
 
-verb_incr : verb_of (codes "incr") ≡ Some (verbs.Count true)
+verb_incr : verb_of (codes "incr") ≡ Some (verbs.Count Incr)
 unfolding verb_of
 verb_incr = refl
 
-verb_decr : verb_of (codes "decr") ≡ Some (verbs.Count false)
+verb_decr : verb_of (codes "decr") ≡ Some (verbs.Count Decr)
 unfolding verb_of
 verb_decr = refl
 
@@ -108,10 +106,10 @@ is_fit ask h = record { key = h.key; flags = h.ranges.flags; exptime = exptime_o
 fitting_back : (n : ℕ) (o : Order) → n ≤ data_limit → fitting n o ≡ Ok o
 fitting_back n o le = rw (le-leb n data_limit le) refl
 
-storage_back : (kind : StoreKind) (ask : Ask) → IsFit ask → storage kind (store_words ask []) ≡ Ok (Storage kind (storing ask) false)
-storage_back kind ask f =
-    ap (λ (r : Result Storing RefusalReason). r >>= (λ stored. fitting stored.length (Storage kind stored false))) (storing_back (storing ask) f.key f.flags f.exptime f.body)
-    ∙ fitting_back (length ask.body) (Storage kind (storing ask) false) f.body
+storage_back : (op : Op) (ask : Ask) → IsFit ask → storage op (store_words ask []) ≡ Ok (Storage op (storing ask) false)
+storage_back op ask f =
+    ap (λ (r : Result Storing RefusalReason). r >>= (λ stored. fitting stored.length (Storage op stored false))) (storing_back (storing ask) f.key f.flags f.exptime f.body)
+    ∙ fitting_back (length ask.body) (Storage op (storing ask) false) f.body
 
 swapping_back : (ask : Ask) → IsFit ask → swapping (store_words ask (decimal (cas_in ask) ∷ [])) ≡ Ok (Swapping (storing ask) (cas_in ask) false)
 swapping_back ask f =
@@ -127,10 +125,10 @@ gat_back with_cas key z k e =
     ap (λ (r : Result (List Word) RefusalReason). r >>= (λ keys. exptime_of (signed_decimal z) >>= (λ exptime. Ok (Retrieval (Some exptime) with_cas keys)))) (keys_back key k)
     ∙ ap (λ (r : Result ℤ RefusalReason). r >>= (λ exptime. Ok (Retrieval (Some exptime) with_cas (key ∷ [])))) (exptime_back z e)
 
-counting_back : (up : Bool) (key : Word) (delta : ℕ) → IsKey key → delta < 2 ^ 64 → counting up (key ∷ decimal delta ∷ []) ≡ Ok (Counting up key delta false)
-counting_back up key delta k lt =
-    ap (λ (r : Result Word RefusalReason). r >>= (λ key. u64_of (decimal delta) >>= (λ delta. Ok (Counting up key delta false)))) (key_back key k)
-    ∙ ap (λ (r : Result ℕ RefusalReason). r >>= (λ delta. Ok (Counting up key delta false))) (wide_back delta lt)
+counting_back : (op : Op) (key : Word) (delta : ℕ) → IsKey key → delta < 2 ^ 64 → counting op (key ∷ decimal delta ∷ []) ≡ Ok (Counting op key delta false)
+counting_back op key delta k lt =
+    ap (λ (r : Result Word RefusalReason). r >>= (λ key. u64_of (decimal delta) >>= (λ delta. Ok (Counting op key delta false)))) (key_back key k)
+    ∙ ap (λ (r : Result ℕ RefusalReason). r >>= (λ delta. Ok (Counting op key delta false))) (wide_back delta lt)
 
 touching_back : (key : Word) (z : ℤ) → IsKey key → IsExptime z → touching (key ∷ signed_decimal z ∷ []) ≡ Ok (Touching key z false)
 touching_back key z k e =
@@ -152,16 +150,16 @@ gat_order false key z k e = by_verb (codes "gat") (signed_decimal z ∷ key ∷ 
 gat_order true key z k e = by_verb (codes "gats") (signed_decimal z ∷ key ∷ []) _ _ verb_gats (gat_back true key z k e)
 
 -- the line of an ask asks this
-pub order_back : (op : Op) (ask : Ask) → IsFit ask → order_of (command_word op ask.with_cas ∷ words_behind op ask) ≡ Ok (order_for op ask)
+pub order_back : (op : Op) (ask : Ask) → IsFit ask → order_of (command_word op ask.with_cas ∷ words_after op ask) ≡ Ok (order_for op ask)
 order_back Get ask f = get_order ask.with_cas ask.key f.key
 order_back Gat ask f = gat_order ask.with_cas ask.key (exptime_in ask) f.key f.exptime
-order_back Set ask f = by_verb (codes "set") (store_words ask []) _ _ verb_set (storage_back kinds.Set ask f)
-order_back Add ask f = by_verb (codes "add") (store_words ask []) _ _ verb_add (storage_back kinds.Add ask f)
-order_back Replace ask f = by_verb (codes "replace") (store_words ask []) _ _ verb_replace (storage_back kinds.Replace ask f)
-order_back Append ask f = by_verb (codes "append") (store_words ask []) _ _ verb_append (storage_back kinds.Append ask f)
-order_back Prepend ask f = by_verb (codes "prepend") (store_words ask []) _ _ verb_prepend (storage_back kinds.Prepend ask f)
+order_back Set ask f = by_verb (codes "set") (store_words ask []) _ _ verb_set (storage_back Set ask f)
+order_back Add ask f = by_verb (codes "add") (store_words ask []) _ _ verb_add (storage_back Add ask f)
+order_back Replace ask f = by_verb (codes "replace") (store_words ask []) _ _ verb_replace (storage_back Replace ask f)
+order_back Append ask f = by_verb (codes "append") (store_words ask []) _ _ verb_append (storage_back Append ask f)
+order_back Prepend ask f = by_verb (codes "prepend") (store_words ask []) _ _ verb_prepend (storage_back Prepend ask f)
 order_back Cas ask f = by_verb (codes "cas") (store_words ask (decimal (cas_in ask) ∷ [])) _ _ verb_cas (swapping_back ask f)
 order_back Delete ask f = by_verb (codes "delete") (ask.key ∷ []) _ _ verb_delete (deletion_back ask.key f.key)
-order_back Incr ask f = by_verb (codes "incr") (ask.key ∷ decimal ask.delta ∷ []) _ _ verb_incr (counting_back true ask.key ask.delta f.key f.delta)
-order_back Decr ask f = by_verb (codes "decr") (ask.key ∷ decimal ask.delta ∷ []) _ _ verb_decr (counting_back false ask.key ask.delta f.key f.delta)
+order_back Incr ask f = by_verb (codes "incr") (ask.key ∷ decimal ask.delta ∷ []) _ _ verb_incr (counting_back Incr ask.key ask.delta f.key f.delta)
+order_back Decr ask f = by_verb (codes "decr") (ask.key ∷ decimal ask.delta ∷ []) _ _ verb_decr (counting_back Decr ask.key ask.delta f.key f.delta)
 order_back Touch ask f = by_verb (codes "touch") (ask.key ∷ signed_decimal (exptime_in ask) ∷ []) _ _ verb_touch (touching_back ask.key (exptime_in ask) f.key f.exptime)

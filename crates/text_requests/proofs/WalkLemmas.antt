@@ -47,11 +47,11 @@ first a i lt = rw (below_one i lt) refl
 -- a request of one key
 pub one_ask : (o : Order) (block : List ℕ) (a : Ask) → single_ask o block ≡ Some a → asks_by o block ≡ a ∷ []
 one_ask (Retrieval e w keys) block a is = absurd cc
-one_ask (Storage kind stored quiet) block a is = ap listed is
+one_ask (Storage op stored quiet) block a is = ap listed is
 one_ask (Swapping stored cas quiet) block a is = ap listed is
 one_ask (Deletion key quiet) block a is = ap listed is
 one_ask (Touching key exptime quiet) block a is = ap listed is
-one_ask (Counting up key delta quiet) block a is = ap listed is
+one_ask (Counting op key delta quiet) block a is = ap listed is
 one_ask (OfItself own) block a is = absurd cc
 
 pub only_ask : (o : Order) (block : List ℕ) (a : Ask) (i : ℕ) → single_ask o block ≡ Some a → i < length (asks_by o block) → slice_get (asks_by o block) i ≡ Some a
@@ -95,21 +95,21 @@ first_ask o block a i is e = rw (one_ask o block a is, e) refl
 -- a request of one key has no place
 pub single_at : (bytes block : List ℕ) (command : Command) (at taken : ℕ) (a : Ask) → single_ask (order_in bytes command) block ≡ Some a → IsAt bytes command at taken
 single_at bytes block (commands.Retrieval w e keys) at taken a is = absurd cc
-single_at bytes block (commands.Storage kind quiet stored) at taken a is = tt
+single_at bytes block (commands.Storage op quiet stored) at taken a is = tt
 single_at bytes block (commands.Swapping quiet stored cas) at taken a is = tt
 single_at bytes block (commands.Deletion quiet key) at taken a is = tt
 single_at bytes block (commands.Touching quiet key exptime) at taken a is = tt
-single_at bytes block (commands.Counting up quiet key delta) at taken a is = tt
+single_at bytes block (commands.Counting op quiet key delta) at taken a is = tt
 single_at bytes block (commands.Own own) at taken a is = tt
 
 -- a walk begins at the first ask
 pub at_start : (bytes : List ℕ) (command : Command) → LiesIn bytes command → IsAt bytes command (first_place command) 0
 at_start bytes (commands.Retrieval w e keys) lies = at_first bytes keys lies
-at_start bytes (commands.Storage kind quiet stored) lies = tt
+at_start bytes (commands.Storage op quiet stored) lies = tt
 at_start bytes (commands.Swapping quiet stored cas) lies = tt
 at_start bytes (commands.Deletion quiet key) lies = tt
 at_start bytes (commands.Touching quiet key exptime) lies = tt
-at_start bytes (commands.Counting up quiet key delta) lies = tt
+at_start bytes (commands.Counting op quiet key delta) lies = tt
 at_start bytes (commands.Own own) lies = tt
 
 pub starts : (bytes : List ℕ) (r : Request) (at : ℕ) → at ≡ first_place r.command → IsReadFrom bytes r → IsWalk bytes (record { request = r; at = at; taken = 0 })
@@ -124,11 +124,11 @@ still_at bytes more (commands.Retrieval w e keys) at taken a b h =
     let front = front_is bytes more keys.span.end a.span.within in
     let same : keys_in bytes keys ≡ keys_in (bytes ++ more) keys = sym (keys_line bytes keys a.span) ∙ ap (λ (t : List ℕ). words (drop keys.span.start t)) (sym front) ∙ keys_line (bytes ++ more) keys b.span in
     record { within = h.within; rest = ap (λ (t : List ℕ). words (drop at t)) front ∙ h.rest ∙ ap (drop taken) same }
-still_at bytes more (commands.Storage kind quiet stored) at taken a b h = tt
+still_at bytes more (commands.Storage op quiet stored) at taken a b h = tt
 still_at bytes more (commands.Swapping quiet stored cas) at taken a b h = tt
 still_at bytes more (commands.Deletion quiet key) at taken a b h = tt
 still_at bytes more (commands.Touching quiet key exptime) at taken a b h = tt
-still_at bytes more (commands.Counting up quiet key delta) at taken a b h = tt
+still_at bytes more (commands.Counting op quiet key delta) at taken a b h = tt
 still_at bytes more (commands.Own own) at taken a b h = tt
 
 pub walk_still : WalkStill

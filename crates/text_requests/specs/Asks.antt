@@ -8,12 +8,10 @@ use Rattle.mc_types.specs.declared.ask.Dialect.TheVariants.{Classic}
 use Rattle.mc_types.specs.declared.ask.Ask.{Ask}
 use Rattle.request_parts.specs.Tests.{Word}
 use Rattle.request_parts.specs.declared.proxy_command.ProxyCommand.{ProxyCommand}
-use Rattle.text_requests.specs.declared.command.StoreKind.{StoreKind}
-use Rattle.text_requests.specs.declared.command.StoreKind.TheVariants as kinds
 use Rattle.text_requests.specs.declared.command.Command.{Command}
 use Rattle.text_requests.specs.declared.command.Command.TheVariants as commands
 use Rattle.text_requests.specs.declared.command.Keys.{Keys}
-use Rattle.text_requests.specs.declared.request.Asks.{Asks}
+use Rattle.text_requests.specs.declared.asking.Asks.{Asks}
 use Rattle.text_requests.specs.Order.{Order, Storing, Retrieval, Storage, Swapping, Deletion, Touching, Counting, OfItself}
 use Rattle.text_requests.specs.Places.{keys_in}
 use Rattle.text_requests.specs.Grammar.{own_by}
@@ -33,14 +31,6 @@ retrieval_op (Some exptime) = ops.Gat
 abbrev pub retrieval_ask : Option ℤ → Bool → Word → Ask
 retrieval_ask exptime with_cas key = record (bare_ask (retrieval_op exptime) key) { with_cas = with_cas; exptime = exptime }
 
--- the operation of a store
-abbrev pub kind_op : StoreKind → Op
-kind_op kinds.Set = ops.Set
-kind_op kinds.Add = ops.Add
-kind_op kinds.Replace = ops.Replace
-kind_op kinds.Append = ops.Append
-kind_op kinds.Prepend = ops.Prepend
-
 -- a store of data, with a cas number or without
 abbrev pub store_ask : Op → Storing → Option ℕ → List ℕ → Ask
 store_ask op s cas block = record (bare_ask op s.key) { flags = s.flags; exptime = Some s.exptime; body = block; cas = cas }
@@ -49,22 +39,17 @@ store_ask op s cas block = record (bare_ask op s.key) { flags = s.flags; exptime
 abbrev pub touch_ask : Word → ℤ → Ask
 touch_ask key exptime = record (bare_ask ops.Touch key) { exptime = Some exptime }
 
--- up is incr, down is decr
-abbrev pub count_op : Bool → Op
-count_op true = ops.Incr
-count_op false = ops.Decr
-
 -- an incr or a decr
-abbrev pub count_ask : Bool → Word → ℕ → Ask
-count_ask up key delta = record (bare_ask (count_op up) key) { delta = delta }
+abbrev pub count_ask : Op → Word → ℕ → Ask
+count_ask op key delta = record (bare_ask op key) { delta = delta }
 
 -- the ask of a command that has one key
 abbrev pub single_ask : Order → List ℕ → Option Ask
-single_ask (Storage kind stored quiet) block = Some (store_ask (kind_op kind) stored None block)
+single_ask (Storage op stored quiet) block = Some (store_ask op stored None block)
 single_ask (Swapping stored cas quiet) block = Some (store_ask ops.Cas stored (Some cas) block)
 single_ask (Deletion key quiet) block = Some (bare_ask ops.Delete key)
 single_ask (Touching key exptime quiet) block = Some (touch_ask key exptime)
-single_ask (Counting up key delta quiet) block = Some (count_ask up key delta)
+single_ask (Counting op key delta quiet) block = Some (count_ask op key delta)
 single_ask (Retrieval exptime with_cas keys) block = None
 single_ask (OfItself own) block = None
 
@@ -86,11 +71,11 @@ asks_of (Refusal why skip) = []
 -- whether an order wants no answer
 abbrev pub is_quiet : Order → Bool
 is_quiet (Retrieval exptime with_cas keys) = false
-is_quiet (Storage kind stored quiet) = quiet
+is_quiet (Storage op stored quiet) = quiet
 is_quiet (Swapping stored cas quiet) = quiet
 is_quiet (Deletion key quiet) = quiet
 is_quiet (Touching key exptime quiet) = quiet
-is_quiet (Counting up key delta quiet) = quiet
+is_quiet (Counting op key delta quiet) = quiet
 is_quiet (OfItself own) = false
 
 -- whether a message wants no answer: a refused one is always answered

@@ -1,10 +1,10 @@
 -- The command words. Source: memcached's protocol.txt, "Commands"; that the words of the meta commands aren't among them is mcgate's own.
 use Rattle.std.specs.Prelude.{true, false, List, [], ◌∷◌, ◌++◌, Option, Some, None, codes, if◌then◌else◌}
 use Rattle.std.specs.Str.{bytes_eq}
+use Rattle.mc_types.specs.declared.ask.Op.TheVariants as ops
 use Rattle.request_parts.specs.Tests.{Word}
 use Rattle.text_requests.specs.declared.command.Verb.{Verb}
 use Rattle.text_requests.specs.declared.command.Verb.TheVariants as verbs
-use Rattle.text_requests.specs.declared.command.StoreKind.TheVariants as kinds
 use Rattle.request_parts.specs.declared.proxy_command.ProxyCommand.TheVariants as owns
 
 -- a command word, and what it means
@@ -15,8 +15,8 @@ Entry = Word × Verb
 abbrev pub of_three : List Entry
 of_three =
     (codes "get", verbs.Retrieve false false)
-    ∷ (codes "set", verbs.Store kinds.Set)
-    ∷ (codes "add", verbs.Store kinds.Add)
+    ∷ (codes "set", verbs.Store ops.Set)
+    ∷ (codes "add", verbs.Store ops.Add)
     ∷ (codes "cas", verbs.Cas)
     ∷ (codes "gat", verbs.Retrieve true false)
     ∷ []
@@ -26,8 +26,8 @@ abbrev pub of_four : List Entry
 of_four =
     (codes "gets", verbs.Retrieve false true)
     ∷ (codes "gats", verbs.Retrieve true true)
-    ∷ (codes "incr", verbs.Count true)
-    ∷ (codes "decr", verbs.Count false)
+    ∷ (codes "incr", verbs.Count ops.Incr)
+    ∷ (codes "decr", verbs.Count ops.Decr)
     ∷ (codes "quit", verbs.Own owns.Quit)
     ∷ []
 
@@ -39,14 +39,14 @@ of_five = (codes "touch", verbs.Touch) ∷ []
 abbrev pub of_six : List Entry
 of_six =
     (codes "delete", verbs.Delete)
-    ∷ (codes "append", verbs.Store kinds.Append)
+    ∷ (codes "append", verbs.Store ops.Append)
     ∷ []
 
 -- the command words of seven letters
 abbrev pub of_seven : List Entry
 of_seven =
-    (codes "replace", verbs.Store kinds.Replace)
-    ∷ (codes "prepend", verbs.Store kinds.Prepend)
+    (codes "replace", verbs.Store ops.Replace)
+    ∷ (codes "prepend", verbs.Store ops.Prepend)
     ∷ (codes "version", verbs.Own owns.Version)
     ∷ []
 

@@ -6,7 +6,7 @@ use Rattle.text_requests.specs.Order.{Order, Storage, Swapping, OfItself, order_
 
 -- the length of the data block after the line, where one follows
 abbrev pub block_len : Order → Option ℕ
-block_len (Storage kind stored quiet) = Some stored.length
+block_len (Storage op stored quiet) = Some stored.length
 block_len (Swapping stored cas quiet) = Some stored.length
 block_len _ = None
 

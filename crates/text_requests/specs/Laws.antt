@@ -5,7 +5,7 @@ use Rattle.request_parts.specs.Laws as laws
 use Rattle.text_requests.specs.Grammar.{classic_grammar}
 use Rattle.text_requests.specs.declared.command.Request.{Request}
 use Rattle.text_requests.specs.Message.{Message, Begins, IsReadFrom, message_in}
-use Rattle.text_requests.specs.declared.request.Asks.{Asks}
+use Rattle.text_requests.specs.declared.asking.Asks.{Asks}
 use Rattle.text_requests.specs.Asks.{asks_of, IsClassicAsk, IsWalk}
 
 -- what the bytes begin with stays, whatever follows

@@ -20,7 +20,7 @@ Message = parts.Message Order
 
 -- the length of the data block after a command, where one follows
 abbrev pub command_block_len : Command → Option ℕ
-command_block_len (commands.Storage kind quiet stored) = Some stored.length
+command_block_len (commands.Storage op quiet stored) = Some stored.length
 command_block_len (commands.Swapping quiet stored cas) = Some stored.length
 command_block_len _ = None
 

@@ -2,11 +2,11 @@
 use Rattle.std.specs.Prelude.{ℕ, ℤ, Bool, true, false, List, [], ◌∷◌, Option, Some, None, Result, Ok, Err, if◌then◌else◌, slice_get, codes}
 use Rattle.std.specs.List.{list_all}
 use Rattle.std.specs.Str.{bytes_eq}
+use Rattle.mc_types.specs.declared.ask.Op.{Op}
 use Rattle.request_parts.specs.Tests.{Word, ◌>>=◌, is_key, key_of, u32_of, u64_of, exptime_of, fitting, skip_by, length_in}
 use Rattle.text_requests.specs.CommandWords.{verb_of}
 use Rattle.text_requests.specs.declared.command.Verb.{Verb}
 use Rattle.text_requests.specs.declared.command.Verb.TheVariants as verbs
-use Rattle.text_requests.specs.declared.command.StoreKind.{StoreKind}
 use Rattle.request_parts.specs.declared.proxy_command.ProxyCommand.{ProxyCommand}
 use Rattle.request_parts.specs.declared.refusal.RefusalReason.{RefusalReason}
 use Rattle.request_parts.specs.declared.refusal.RefusalReason.TheVariants.{Unknown, BadKey}
@@ -23,11 +23,11 @@ pub record Storing : Type 0 where
 -- what a request line asks
 pub data Order : Type 0 where
   Retrieval : (exptime : Option ℤ) (with_cas : Bool) (keys : List Word) → Order
-  Storage : (kind : StoreKind) (stored : Storing) (quiet : Bool) → Order
+  Storage : (op : Op) (stored : Storing) (quiet : Bool) → Order
   Swapping : (stored : Storing) (cas : ℕ) (quiet : Bool) → Order
   Deletion : (key : Word) (quiet : Bool) → Order
   Touching : (key : Word) (exptime : ℤ) (quiet : Bool) → Order
-  Counting : (up : Bool) (key : Word) (delta : ℕ) (quiet : Bool) → Order
+  Counting : (op : Op) (key : Word) (delta : ℕ) (quiet : Bool) → Order
   OfItself : (own : ProxyCommand) → Order
 
 -- a key or more
@@ -75,12 +75,12 @@ storing_of key flags exptime length = do
   Ok (record { key = key; flags = flags; exptime = exptime; length = length })
 
 -- `set add replace append prepend`: key, flags, exptime, length, and `noreply` or not
-abbrev pub storage : StoreKind → List Word → Result Order RefusalReason
-storage kind (key ∷ flags ∷ exptime ∷ length ∷ more) = do
+abbrev pub storage : Op → List Word → Result Order RefusalReason
+storage op (key ∷ flags ∷ exptime ∷ length ∷ more) = do
   quiet ← noreply_of more
   stored ← storing_of key flags exptime length
-  fitting stored.length (Storage kind stored quiet)
-storage kind _ = Err Unknown
+  fitting stored.length (Storage op stored quiet)
+storage op _ = Err Unknown
 
 -- `cas`: the same with a cas number after the length
 abbrev pub swapping : List Word → Result Order RefusalReason
@@ -109,13 +109,13 @@ touching (key ∷ exptime ∷ more) = do
 touching _ = Err Unknown
 
 -- `incr` and `decr`: key, by how much, `noreply` or not
-abbrev pub counting : Bool → List Word → Result Order RefusalReason
-counting up (key ∷ delta ∷ more) = do
+abbrev pub counting : Op → List Word → Result Order RefusalReason
+counting op (key ∷ delta ∷ more) = do
   quiet ← noreply_of more
   key ← key_of key
   delta ← u64_of delta
-  Ok (Counting up key delta quiet)
-counting up _ = Err Unknown
+  Ok (Counting op key delta quiet)
+counting op _ = Err Unknown
 
 -- `version` and `quit`: nothing
 abbrev pub of_itself : ProxyCommand → List Word → Result Order RefusalReason
@@ -125,12 +125,12 @@ of_itself own (word ∷ more) = Err Unknown
 -- what the words after a command word ask
 abbrev pub ordered_by : Option Verb → List Word → Result Order RefusalReason
 ordered_by None words = Err Unknown
-ordered_by (Some (verbs.Store kind)) words = storage kind words
+ordered_by (Some (verbs.Store op)) words = storage op words
 ordered_by (Some verbs.Cas) words = swapping words
 ordered_by (Some (verbs.Retrieve touching with_cas)) words = retrieval touching with_cas words
 ordered_by (Some verbs.Delete) words = deletion words
 ordered_by (Some verbs.Touch) words = touching words
-ordered_by (Some (verbs.Count up)) words = counting up words
+ordered_by (Some (verbs.Count op)) words = counting op words
 ordered_by (Some (verbs.Own own)) words = of_itself own words
 
 -- what the words of a line ask, or the first test that they fail
@@ -140,7 +140,7 @@ order_of (word ∷ words) = ordered_by (verb_of word) words
 
 -- the commands with a data block
 abbrev pub is_store : Option Verb → Bool
-is_store (Some (verbs.Store kind)) = true
+is_store (Some (verbs.Store op)) = true
 is_store (Some verbs.Cas) = true
 is_store _ = false
 

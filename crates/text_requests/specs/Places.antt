@@ -20,11 +20,11 @@ storing_in text s = record { key = text_at text s.key; flags = s.flags; exptime 
 -- the order that a command with its spans is
 abbrev pub order_in : List ℕ → Command → Order
 order_in text (commands.Retrieval with_cas exptime keys) = Retrieval exptime with_cas (keys_in text keys)
-order_in text (commands.Storage kind quiet stored) = Storage kind (storing_in text stored) quiet
+order_in text (commands.Storage op quiet stored) = Storage op (storing_in text stored) quiet
 order_in text (commands.Swapping quiet stored cas) = Swapping (storing_in text stored) cas quiet
 order_in text (commands.Deletion quiet key) = Deletion (text_at text key) quiet
 order_in text (commands.Touching quiet key exptime) = Touching (text_at text key) exptime quiet
-order_in text (commands.Counting up quiet key delta) = Counting up (text_at text key) delta quiet
+order_in text (commands.Counting op quiet key delta) = Counting op (text_at text key) delta quiet
 order_in text (commands.Own own) = OfItself own
 
 -- the span lies in the text, and the count is that of its words
@@ -35,11 +35,11 @@ pub record AreIn (text : List ℕ) (keys : Keys) : Type 0 where
 -- each span of the command lies in the text
 abbrev pub LiesIn : List ℕ → Command → Type 0
 LiesIn text (commands.Retrieval with_cas exptime keys) = AreIn text keys
-LiesIn text (commands.Storage kind quiet stored) = IsIn (length text) stored.key
+LiesIn text (commands.Storage op quiet stored) = IsIn (length text) stored.key
 LiesIn text (commands.Swapping quiet stored cas) = IsIn (length text) stored.key
 LiesIn text (commands.Deletion quiet key) = IsIn (length text) key
 LiesIn text (commands.Touching quiet key exptime) = IsIn (length text) key
-LiesIn text (commands.Counting up quiet key delta) = IsIn (length text) key
+LiesIn text (commands.Counting op quiet key delta) = IsIn (length text) key
 LiesIn text (commands.Own own) = Unit {0}
 
 -- the four spans lie in so many bytes

@@ -5,7 +5,6 @@ use Rattle.mc_text.specs.Spelling.{line_of}
 use Rattle.mc_types.specs.declared.ask.Op.{Op}
 use Rattle.mc_types.specs.declared.ask.Op.TheVariants.{Get, Gat, Set, Add, Replace, Append, Prepend, Cas, Delete, Incr, Decr, Touch}
 use Rattle.mc_types.specs.declared.ask.Ask.{Ask}
-use Rattle.text_requests.specs.declared.command.StoreKind.TheVariants as kinds
 use Rattle.request_parts.specs.Tests.{Word, block_text}
 use Rattle.text_requests.specs.Order.{Order, Storing, Retrieval, Storage, Swapping, Deletion, Touching, Counting}
 use Rattle.text_requests.specs.Message.{Message}
@@ -44,37 +43,37 @@ abbrev pub store_words : Ask → List Word → List Word
 store_words ask more = ask.key ∷ decimal ask.flags ∷ signed_decimal (exptime_in ask) ∷ decimal (length ask.body) ∷ more
 
 -- the words after the command word
-abbrev pub words_behind : Op → Ask → List Word
-words_behind Get ask = ask.key ∷ []
-words_behind Gat ask = signed_decimal (exptime_in ask) ∷ ask.key ∷ []
-words_behind Set ask = store_words ask []
-words_behind Add ask = store_words ask []
-words_behind Replace ask = store_words ask []
-words_behind Append ask = store_words ask []
-words_behind Prepend ask = store_words ask []
-words_behind Cas ask = store_words ask (decimal (cas_in ask) ∷ [])
-words_behind Delete ask = ask.key ∷ []
-words_behind Incr ask = ask.key ∷ decimal ask.delta ∷ []
-words_behind Decr ask = ask.key ∷ decimal ask.delta ∷ []
-words_behind Touch ask = ask.key ∷ signed_decimal (exptime_in ask) ∷ []
+abbrev pub words_after : Op → Ask → List Word
+words_after Get ask = ask.key ∷ []
+words_after Gat ask = signed_decimal (exptime_in ask) ∷ ask.key ∷ []
+words_after Set ask = store_words ask []
+words_after Add ask = store_words ask []
+words_after Replace ask = store_words ask []
+words_after Append ask = store_words ask []
+words_after Prepend ask = store_words ask []
+words_after Cas ask = store_words ask (decimal (cas_in ask) ∷ [])
+words_after Delete ask = ask.key ∷ []
+words_after Incr ask = ask.key ∷ decimal ask.delta ∷ []
+words_after Decr ask = ask.key ∷ decimal ask.delta ∷ []
+words_after Touch ask = ask.key ∷ signed_decimal (exptime_in ask) ∷ []
 
 -- the data block after the line, where one follows
-abbrev pub block_behind : Op → Ask → List ℕ
-block_behind Set ask = block_text ask.body
-block_behind Add ask = block_text ask.body
-block_behind Replace ask = block_text ask.body
-block_behind Append ask = block_text ask.body
-block_behind Prepend ask = block_text ask.body
-block_behind Cas ask = block_text ask.body
-block_behind _ ask = []
+abbrev pub block_after : Op → Ask → List ℕ
+block_after Set ask = block_text ask.body
+block_after Add ask = block_text ask.body
+block_after Replace ask = block_text ask.body
+block_after Append ask = block_text ask.body
+block_after Prepend ask = block_text ask.body
+block_after Cas ask = block_text ask.body
+block_after _ ask = []
 
 -- the line of an ask
 abbrev pub ask_line : Ask → List ℕ
-ask_line ask = line_of (command_word ask.op ask.with_cas ∷ words_behind ask.op ask)
+ask_line ask = line_of (command_word ask.op ask.with_cas ∷ words_after ask.op ask)
 
 -- an ask, spelled
 abbrev pub spelling_of : Ask → List ℕ
-spelling_of ask = ask_line ask ++ block_behind ask.op ask
+spelling_of ask = ask_line ask ++ block_after ask.op ask
 
 -- the key and the numbers of a store
 abbrev pub storing : Ask → Storing
@@ -84,15 +83,15 @@ storing ask = record { key = ask.key; flags = ask.flags; exptime = exptime_in as
 abbrev pub order_for : Op → Ask → Order
 order_for Get ask = Retrieval None ask.with_cas (ask.key ∷ [])
 order_for Gat ask = Retrieval (Some (exptime_in ask)) ask.with_cas (ask.key ∷ [])
-order_for Set ask = Storage kinds.Set (storing ask) false
-order_for Add ask = Storage kinds.Add (storing ask) false
-order_for Replace ask = Storage kinds.Replace (storing ask) false
-order_for Append ask = Storage kinds.Append (storing ask) false
-order_for Prepend ask = Storage kinds.Prepend (storing ask) false
+order_for Set ask = Storage Set (storing ask) false
+order_for Add ask = Storage Add (storing ask) false
+order_for Replace ask = Storage Replace (storing ask) false
+order_for Append ask = Storage Append (storing ask) false
+order_for Prepend ask = Storage Prepend (storing ask) false
 order_for Cas ask = Swapping (storing ask) (cas_in ask) false
 order_for Delete ask = Deletion ask.key false
-order_for Incr ask = Counting true ask.key ask.delta false
-order_for Decr ask = Counting false ask.key ask.delta false
+order_for Incr ask = Counting Incr ask.key ask.delta false
+order_for Decr ask = Counting Decr ask.key ask.delta false
 order_for Touch ask = Touching ask.key (exptime_in ask) false
 
 -- the message that an ask is

@@ -1,18 +1,18 @@
 -- The messages of a classic stream, one after another.
 use Rattle.std.specs.Prelude.{ℕ, List}
 use Rattle.request_parts.specs.Stream as streams
-use Rattle.request_parts.specs.Stream.{Place, behind_own}
+use Rattle.request_parts.specs.Stream.{Place, after_own}
 use Rattle.text_requests.specs.Order.{Order}
 use Rattle.text_requests.specs.Grammar.{classic_grammar, own_by}
 use Rattle.text_requests.specs.Message.{Message}
 
 -- where a reader stands after a request
-abbrev pub behind_order : Order → List ℕ → Place
-behind_order order rest = behind_own (own_by order) rest
+abbrev pub after_order : Order → List ℕ → Place
+after_order order rest = after_own (own_by order) rest
 
 -- where a reader stands after a message, with these bytes after it
-abbrev pub behind : Message → List ℕ → Place
-behind = streams.behind classic_grammar
+abbrev pub after_message : Message → List ℕ → Place
+after_message = streams.after_message classic_grammar
 
 -- from one place these messages come, one after another, and lead to the other
 abbrev pub Goes : Place → List Message → Place → Type 0

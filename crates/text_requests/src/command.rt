@@ -1,30 +1,22 @@
 //! What a line asks, and what the bytes of a client begin with.
 use mc_text::word::Span;
+use mc_types::Op;
 use request_parts::{ProxyCommand, RefusalReason, Skip};
-
-/// The stores without a cas number, each named as its command word.
-#[derive(Clone, Copy)]
-pub enum StoreKind {
-    Set,
-    Add,
-    Replace,
-    Append,
-    Prepend,
-}
 
 /// What a command word means.
 ///
 /// Source: memcached's protocol.txt, "Commands".
 #[derive(Clone, Copy)]
 pub enum Verb {
-    Store(StoreKind),
+    /// `set`, `add`, `replace`, `append` and `prepend`.
+    Store(Op),
     Cas,
     /// `get`, with the cas number `gets`; touching `gat` and `gats`.
     Retrieve { touching: bool, with_cas: bool },
     Delete,
     Touch,
-    /// `incr` up, `decr` down.
-    Count { up: bool },
+    /// `incr` and `decr`.
+    Count(Op),
     Own(ProxyCommand),
 }
 
@@ -62,7 +54,7 @@ pub enum Command {
     },
     /// `set`, `add`, `replace`, `append` and `prepend`.
     Storage {
-        kind: StoreKind,
+        op: Op,
         quiet: bool,
         stored: Stored,
     },
@@ -85,7 +77,7 @@ pub enum Command {
     },
     /// `incr` and `decr`.
     Counting {
-        up: bool,
+        op: Op,
         quiet: bool,
         key: Span,
         delta: u64,

@@ -21,12 +21,12 @@ fn ordered(line: &[u8], at: usize, verb: Option<Verb>) -> Result<Command, Refusa
 {
     match verb {
         None => Err(RefusalReason::Unknown),
-        Some(Verb::Store(kind)) => storage(line, at, kind),
+        Some(Verb::Store(op)) => storage(line, at, op),
         Some(Verb::Cas) => swapping(line, at),
         Some(Verb::Retrieve { touching, with_cas }) => retrieval(line, at, touching, with_cas),
         Some(Verb::Delete) => deletion(line, at),
         Some(Verb::Touch) => touching(line, at),
-        Some(Verb::Count { up }) => counting(line, at, up),
+        Some(Verb::Count(op)) => counting(line, at, op),
         Some(Verb::Own(own)) => of_itself(line, at, own),
     }
 }

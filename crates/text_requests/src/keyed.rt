@@ -8,6 +8,7 @@ ghost use Rattle.text_requests.specs.Places.{LiesIn, order_in};
 use crate::command::Command;
 use crate::parts::{delete_tail, noreply};
 use mc_text::word::next_word;
+use mc_types::Op;
 use request_parts::parts::{exptime, key, u64_of, word};
 use request_parts::{ProxyCommand, RefusalReason};
 
@@ -42,9 +43,9 @@ pub fn touching(line: &[u8], at: usize) -> Result<Command, RefusalReason>
 }
 
 /// What `incr` and `decr` ask.
-pub fn counting(line: &[u8], at: usize, up: bool) -> Result<Command, RefusalReason>
+pub fn counting(line: &[u8], at: usize, op: Op) -> Result<Command, RefusalReason>
     requires { at ≤ length line.now }
-    ensures order { Gives (order_in line.now) result (counting up (words (drop at line.now))) }
+    ensures order { Gives (order_in line.now) result (counting op (words (drop at line.now))) }
     ensures within { IfOk result (LiesIn line.now) }
 {
     let first = word(line, at)?;
@@ -53,7 +54,7 @@ pub fn counting(line: &[u8], at: usize, up: bool) -> Result<Command, RefusalReas
     let key = key(line, first)?;
     let delta = u64_of(line, second)?;
     Ok(Command::Counting {
-        up,
+        op,
         key,
         delta,
         quiet,

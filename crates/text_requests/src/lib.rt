@@ -1,6 +1,7 @@
 //! The classic requests of memcached's text protocol: how they are read from a client's bytes, and written to a server.
 #![tactic(auto)]
 
+pub mod asking;
 pub mod command;
 pub mod command_line;
 pub mod keyed;
@@ -8,14 +9,13 @@ pub mod laws;
 pub mod next_key;
 pub mod parts;
 pub mod reader;
-pub mod request;
 pub mod retrieval;
 pub mod stores;
 pub mod verbs;
 pub mod writer;
 
+pub use asking::Asks;
 pub use command::{Read, Request};
-pub use reader::{read_behind, read_request};
-pub use request::Asks;
+pub use reader::{read_after, read_request};
 pub use request_parts::{ProxyCommand, RefusalReason, Skip};
 pub use writer::write_ask;

@@ -32,10 +32,10 @@ fn spaces_len(text: &[u8]) -> usize
 }
 
 // Whether so many bytes that a key may have are a whole word, by what stands after them.
-fn are_key(len: usize, behind: &[u8]) -> bool
-    ensures { result ≡ (nat_le len KEY_LIMIT && ends_word behind.now) }
+fn are_key(len: usize, after: &[u8]) -> bool
+    ensures { result ≡ (nat_le len KEY_LIMIT && ends_word after.now) }
 {
-    len <= KEY_LIMIT && matches!(behind, [] | [b' ', ..])
+    len <= KEY_LIMIT && matches!(after, [] | [b' ', ..])
 }
 
 /// The next key of a line from the place `at` on. Each byte of the key is looked at once, as a line may have many.

@@ -52,7 +52,7 @@ fn block_len(command: &Command) -> Option<usize>
 /// The message of the line that was found, whose first word is known, and of what follows the line. It takes no memory.
 ///
 /// A reader of several dialects finds the line and its first word once, and then calls this.
-pub fn read_behind(bytes: &[u8], end: usize, used: usize, first: Span) -> Read
+pub fn read_after(bytes: &[u8], end: usize, used: usize, first: Span) -> Read
     requires line { TakesLine bytes.now end used }
     requires first { IsNextWord (take end bytes.now) 0 first }
     ensures { IsMeant bytes.now result (meaning (take (used - 1) bytes.now) (drop used bytes.now)) }
@@ -95,7 +95,7 @@ pub fn read_request(bytes: &[u8]) -> Read
         Line::More => Read::More,
         Line::TooLong => Read::TooLong,
         Line::At { end, used } => match next_word(&bytes[..end], 0) {
-            Some(first) => read_behind(bytes, end, used, first),
+            Some(first) => read_after(bytes, end, used, first),
             None => Read::Refused {
                 why: RefusalReason::Unknown,
                 used,

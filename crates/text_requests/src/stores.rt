@@ -5,10 +5,10 @@ ghost use Rattle.text_requests.specs.Order.{storage, storing_of, swapping};
 ghost use Rattle.text_requests.specs.Places.{AreSpans, AreStoreWords, LiesIn, order_in, storing_in};
 ghost use Rattle.request_parts.specs.Places.{Gives};
 
-use crate::command::{Command, StoreKind, Stored};
+use crate::command::{Command, Stored};
 use crate::parts::noreply;
 use mc_text::word::Span;
-use mc_types::DATA_LIMIT;
+use mc_types::{DATA_LIMIT, Op};
 use request_parts::RefusalReason;
 use request_parts::parts::{exptime, key, u32_of, u64_of, word};
 
@@ -55,9 +55,9 @@ fn stored_in(line: &[u8], found: StoreWords) -> Result<Stored, RefusalReason>
 }
 
 /// What `set`, `add`, `replace`, `append` and `prepend` ask.
-pub fn storage(line: &[u8], at: usize, kind: StoreKind) -> Result<Command, RefusalReason>
+pub fn storage(line: &[u8], at: usize, op: Op) -> Result<Command, RefusalReason>
     requires { at ≤ length line.now }
-    ensures order { Gives (order_in line.now) result (storage kind (words (drop at line.now))) }
+    ensures order { Gives (order_in line.now) result (storage op (words (drop at line.now))) }
     ensures within { IfOk result (LiesIn line.now) }
 {
     let found = store_words(line, at)?;
@@ -66,11 +66,7 @@ pub fn storage(line: &[u8], at: usize, kind: StoreKind) -> Result<Command, Refus
     if stored.length > DATA_LIMIT {
         return Err(RefusalReason::TooLarge);
     }
-    Ok(Command::Storage {
-        kind,
-        stored,
-        quiet,
-    })
+    Ok(Command::Storage { op, stored, quiet })
 }
 
 /// What `cas` asks.

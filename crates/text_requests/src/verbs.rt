@@ -2,7 +2,8 @@
 ghost use Rattle.std.specs.Prelude.{◌≡◌};
 ghost use Rattle.text_requests.specs.CommandWords.{verb_of, found_in, of_three, of_four, of_five, of_six, of_seven};
 
-use crate::command::{StoreKind, Verb};
+use crate::command::Verb;
+use mc_types::Op;
 use request_parts::ProxyCommand;
 
 fn of_three_letters(word: &[u8]) -> Option<Verb>
@@ -14,9 +15,9 @@ fn of_three_letters(word: &[u8]) -> Option<Verb>
             with_cas: false,
         })
     } else if word == b"set".as_slice() {
-        Some(Verb::Store(StoreKind::Set))
+        Some(Verb::Store(Op::Set))
     } else if word == b"add".as_slice() {
-        Some(Verb::Store(StoreKind::Add))
+        Some(Verb::Store(Op::Add))
     } else if word == b"cas".as_slice() {
         Some(Verb::Cas)
     } else if word == b"gat".as_slice() {
@@ -43,9 +44,9 @@ fn of_four_letters(word: &[u8]) -> Option<Verb>
             with_cas: true,
         })
     } else if word == b"incr".as_slice() {
-        Some(Verb::Count { up: true })
+        Some(Verb::Count(Op::Incr))
     } else if word == b"decr".as_slice() {
-        Some(Verb::Count { up: false })
+        Some(Verb::Count(Op::Decr))
     } else if word == b"quit".as_slice() {
         Some(Verb::Own(ProxyCommand::Quit))
     } else {
@@ -69,7 +70,7 @@ fn of_six_letters(word: &[u8]) -> Option<Verb>
     if word == b"delete".as_slice() {
         Some(Verb::Delete)
     } else if word == b"append".as_slice() {
-        Some(Verb::Store(StoreKind::Append))
+        Some(Verb::Store(Op::Append))
     } else {
         None
     }
@@ -79,9 +80,9 @@ fn of_seven_letters(word: &[u8]) -> Option<Verb>
     ensures { result ≡ found_in of_seven word.now }
 {
     if word == b"replace".as_slice() {
-        Some(Verb::Store(StoreKind::Replace))
+        Some(Verb::Store(Op::Replace))
     } else if word == b"prepend".as_slice() {
-        Some(Verb::Store(StoreKind::Prepend))
+        Some(Verb::Store(Op::Prepend))
     } else if word == b"version".as_slice() {
         Some(Verb::Own(ProxyCommand::Version))
     } else {

@@ -44,8 +44,13 @@ fn put_keyed(out: &mut BytesMut, ask: &Ask) -> Result<(), AllocError>
     out.extend_from_slice(b"\r\n")
 }
 
-// The command's word and two more.
-fn put_three(out: &mut BytesMut, ask: &Ask, first: &[u8], second: &[u8]) -> Result<(), AllocError>
+// The command's word and two arguments.
+fn put_two_arguments(
+    out: &mut BytesMut,
+    ask: &Ask,
+    first: &[u8],
+    second: &[u8],
+) -> Result<(), AllocError>
     ensures ok { OnOk result (out.new.items ≡ out.old.items ++ line_of (command_word ask.now.op ask.now.with_cas ∷ first.now ∷ second.now ∷ [])) }
     ensures err { OnErr result (take (length out.old.items) out.new.items ≡ out.old.items) }
 {
@@ -121,7 +126,7 @@ fn put_gat(out: &mut BytesMut, ask: &Ask) -> Result<(), AllocError>
     ensures err { OnErr result (take (length out.old.items) out.new.items ≡ out.old.items) }
 {
     let mut buffer = Buffer::new();
-    put_three(out, ask, exptime_text(&mut buffer, ask), ask.key.as_bytes())
+    put_two_arguments(out, ask, exptime_text(&mut buffer, ask), ask.key.as_bytes())
 }
 
 fn put_touch(out: &mut BytesMut, ask: &Ask) -> Result<(), AllocError>
@@ -129,7 +134,7 @@ fn put_touch(out: &mut BytesMut, ask: &Ask) -> Result<(), AllocError>
     ensures err { OnErr result (take (length out.old.items) out.new.items ≡ out.old.items) }
 {
     let mut buffer = Buffer::new();
-    put_three(out, ask, ask.key.as_bytes(), exptime_text(&mut buffer, ask))
+    put_two_arguments(out, ask, ask.key.as_bytes(), exptime_text(&mut buffer, ask))
 }
 
 fn put_count(out: &mut BytesMut, ask: &Ask) -> Result<(), AllocError>
@@ -137,7 +142,7 @@ fn put_count(out: &mut BytesMut, ask: &Ask) -> Result<(), AllocError>
     ensures err { OnErr result (take (length out.old.items) out.new.items ≡ out.old.items) }
 {
     let mut buffer = Buffer::new();
-    put_three(
+    put_two_arguments(
         out,
         ask,
         ask.key.as_bytes(),

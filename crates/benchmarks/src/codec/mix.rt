@@ -125,11 +125,11 @@ fn put_keyed(
     out: &mut BytesMut,
     before: &[u8],
     number: u64,
-    behind: &[u8],
+    after: &[u8],
 ) -> Result<(), AllocError> {
     out.extend_from_slice(before)?;
     put_key(out, number)?;
-    out.extend_from_slice(behind)
+    out.extend_from_slice(after)
 }
 
 fn put_get_of_ten(out: &mut BytesMut, first: u64) -> Result<(), AllocError> {

@@ -16,7 +16,7 @@ use text_codec::{
 };
 
 // What stands after the first line, if it ends.
-fn behind_line(bytes: &[u8]) -> Option<&[u8]> {
+fn after_line(bytes: &[u8]) -> Option<&[u8]> {
     let end = first_byte(b'\n', bytes)?;
     Some(&bytes[end + 1..])
 }
@@ -26,8 +26,8 @@ pub fn split_lines(bytes: &[u8]) -> u64 {
     let mut rest = bytes;
     let mut lines = 0;
     for _ in 0..bytes.len() {
-        match behind_line(rest) {
-            Some(behind) => rest = behind,
+        match after_line(rest) {
+            Some(after) => rest = after,
             None => break,
         }
         lines = one_more(lines);
@@ -41,18 +41,18 @@ fn passed(rest: &[u8], skip: Skip) -> &[u8] {
         Skip::Nothing => rest,
         Skip::Bytes(n) if n < rest.len() as u64 => &rest[n as usize..],
         Skip::Bytes(_) => b"".as_slice(),
-        Skip::ThroughNewline => behind_line(rest).unwrap_or(b"".as_slice()),
+        Skip::ThroughNewline => after_line(rest).unwrap_or(b"".as_slice()),
     }
 }
 
-fn behind_refused(bytes: &[u8], why: RefusalReason, used: usize, skip: Skip) -> &[u8]
+fn after_refused(bytes: &[u8], why: RefusalReason, used: usize, skip: Skip) -> &[u8]
     requires { Begins bytes.now (Refusal why skip) used }
 {
     let _why = why;
     passed(&bytes[used..], skip)
 }
 
-fn behind_request<'a>(bytes: &'a [u8], request: &Request) -> &'a [u8]
+fn after_request<'a>(bytes: &'a [u8], request: &Request) -> &'a [u8]
     requires { IsReadFrom bytes.now request.now }
 {
     &bytes[request.used()..]
@@ -67,11 +67,11 @@ pub fn read_messages(bytes: &[u8]) -> Counts {
             Read::More | Read::TooLong => break,
             Read::Refused { why, used, skip } => {
                 counts.refuse();
-                rest = behind_refused(rest, why, used, skip);
+                rest = after_refused(rest, why, used, skip);
             }
             Read::Request(request) => {
                 counts.serve(&request);
-                rest = behind_request(rest, &request);
+                rest = after_request(rest, &request);
             }
         }
     }
@@ -106,13 +106,13 @@ pub fn read_asks(alloc: Global, bytes: &[u8]) -> Result<Counts, AllocError> {
             Read::More | Read::TooLong => break,
             Read::Refused { why, used, skip } => {
                 counts.refuse();
-                rest = behind_refused(rest, why, used, skip);
+                rest = after_refused(rest, why, used, skip);
             }
             Read::Request(request) => {
                 counts.serve(&request);
                 let made = make_asks(alloc, &request, rest)?;
                 counts.asks = counts.asks.saturating_add(made);
-                rest = behind_request(rest, &request);
+                rest = after_request(rest, &request);
             }
         }
     }
@@ -145,10 +145,10 @@ pub fn exchanges_of(alloc: Global, bytes: &[u8]) -> Result<Vec<Exchange>, AllocE
     for _ in 0..bytes.len() {
         match read_request(rest) {
             Read::More | Read::TooLong => break,
-            Read::Refused { why, used, skip } => rest = behind_refused(rest, why, used, skip),
+            Read::Refused { why, used, skip } => rest = after_refused(rest, why, used, skip),
             Read::Request(request) => {
                 add_exchanges(alloc, &request, rest, &mut exchanges)?;
-                rest = behind_request(rest, &request);
+                rest = after_request(rest, &request);
             }
         }
     }

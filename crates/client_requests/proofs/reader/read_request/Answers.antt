@@ -11,9 +11,9 @@ returns-in-More c = nothing_begins both_grammar c.args.bytes.now c.in-More.ensur
 pub returns-in-Classic : goal.returns-in-Classic
 returns-in-Classic c =
     let means = means_classic c.args.bytes.now c.in-At.end c.in-At.used c.in-At.ensures c.in-Some.first c.in-Some.ensures (c.in-Classic.ensures.classic refl) in
-    reads_meant c.args.bytes.now c.in-At.end c.in-At.used c.in-At.ensures c.of_classic.result (subst (IsMeant c.args.bytes.now c.of_classic.result) (sym means) (c.of_classic.ensures c.args.bytes.now _ c.read_behind.ensures))
+    reads_meant c.args.bytes.now c.in-At.end c.in-At.used c.in-At.ensures c.of_classic.result (subst (IsMeant c.args.bytes.now c.of_classic.result) (sym means) (c.of_classic.ensures c.args.bytes.now _ c.read_after.ensures))
 
 pub returns-in-Meta : goal.returns-in-Meta
 returns-in-Meta c =
     let means = means_meta c.args.bytes.now c.in-At.end c.in-At.used c.in-At.ensures c.in-Some.first c.in-Some.ensures (c.in-Meta.ensures.meta refl) in
-    reads_meant c.args.bytes.now c.in-At.end c.in-At.used c.in-At.ensures c.of_meta.result (subst (IsMeant c.args.bytes.now c.of_meta.result) (sym means) (c.of_meta.ensures c.args.bytes.now _ c.read_behind-in-Meta.ensures))
+    reads_meant c.args.bytes.now c.in-At.end c.in-At.used c.in-At.ensures c.of_meta.result (subst (IsMeant c.args.bytes.now c.of_meta.result) (sym means) (c.of_meta.ensures c.args.bytes.now _ c.read_after-in-Meta.ensures))

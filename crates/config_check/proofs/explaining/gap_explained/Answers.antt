@@ -1,6 +1,6 @@
 use Rattle.std.proofs.Common.{sym, subst}
 use Rattle.route_tree.specs.Plan.{Plan}
-use Rattle.coverage.specs.Taking.{Takes}
+use Rattle.coverage.specs.Cover.{Takes}
 use Rattle.config_check.proofs.explaining.gap_explained.Goals as goal
 
 pub explain-requires : goal.explain-requires

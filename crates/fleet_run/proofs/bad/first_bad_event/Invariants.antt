@@ -1,14 +1,11 @@
-use Rattle.std.proofs.Common.{◌≡◌, ◌≤◌, take, map}
-use Rattle.std.specs.Prelude.{sum_by}
+use Rattle.std.proofs.Common.{◌≡◌, take, map}
 use Rattle.fleet_run.specs.Scripted.{scripted_of}
-use Rattle.fleet_run.specs.Bad.{len_of, has_begun, first_bad}
+use Rattle.fleet_run.specs.Bad.{IsBefore, first_bad}
 use Rattle.fleet_run.proofs.BadEvents.{bad_from}
 use Rattle.fleet_run.proofs.bad.first_bad_event.Given as goal
 
 abbrev pub invariant-loop-index : goal.invariant-loop-index
 invariant-loop-index l = record {
-  total : l.before.bytes ≡ sum_by len_of (map scripted_of (take l.index l.script.events.items));
-  within : l.before.bytes ≤ 16777216;
-  begun : l.before.begun ≡ has_begun (map scripted_of (take l.index l.script.events.items));
+  before : IsBefore (map scripted_of (take l.index l.script.events.items)) l.before;
   ahead : bad_from l.servers l.script.events.items l.index ≡ first_bad l.servers (map scripted_of l.script.events.items);
 }

@@ -8,7 +8,9 @@ use Rattle.fleet_run.specs.Serving.{IsServed, words_by, tree_of}
 use Rattle.fleet_run.specs.Scripted.{scripted_of, transcript_of}
 use Rattle.fleet_run.specs.Bad.{bad_in, first_bad}
 use Rattle.fleet_run.specs.Reloads.{AreInOrder, DrivesBy, DrivesPartBy, one_more}
+use Rattle.fleet_run.specs.Stepped.{is_stepped}
 use Rattle.fleet_run.proofs.BadEvents.{good_here, not_here}
+use Rattle.fleet_run.proofs.Whole.{whole_at}
 use Rattle.fleet_run.proofs.Driven.{starts, on_err}
 use Rattle.fleet_run.proofs.Due.{order_on, order_at, due_at, event_left, none_left}
 use Rattle.fleet_run.proofs.Reloading.{begins, goes_on, loads, drives_by, cut_between, cut_within, nothing_driven}
@@ -75,6 +77,11 @@ take_up-requires-clause-good c =
     let x = c.index-events-next.result in
     let lt = event_left (length xs) (count_of c.args.fleet.now) c.loop-events.loaded i c.args.reloads.now c.is_due.result c.is_due.ensures.1 c.if-is_due.false v.order (c.is_left.ensures.0 c.loop-events-test.true) in
     (map scripted_of (take i xs), subst (λ (n : ℕ). bad_in n (map scripted_of (take i xs)) (scripted_of x) ≡ false) (sym v.count) (good_here (count_of c.args.fleet.now) xs i x lt c.index-events-next.is v.ahead))
+
+pub take_up-requires-clause-whole : goal.take_up-requires-clause-whole
+take_up-requires-clause-whole c =
+    let lt = event_left (length c.as_slice-events.result.now) (count_of c.args.fleet.now) c.loop-events.loaded c.loop-events.next c.args.reloads.now c.is_due.result c.is_due.ensures.1 c.if-is_due.false c.loop-events.invariant.order (c.is_left.ensures.0 c.loop-events-test.true) in
+    whole_at c.as_slice-events.result.now c.loop-events.next c.index-events-next.result lt c.index-events-next.is (ap (λ (l : List Event). is_stepped (map scripted_of l)) c.as_slice-events.ensures.value ∙ c.requires.whole)
 
 pub returns-in_err-take_up-clause-err : goal.returns-in_err-take_up-clause-err
 returns-in_err-take_up-clause-err c =

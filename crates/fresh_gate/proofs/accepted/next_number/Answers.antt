@@ -4,8 +4,8 @@ use Rattle.fresh_gate.specs.Sound.{trees_of}
 use Rattle.fresh_gate.proofs.Following.{among_is, last_is, length_trees, next_generation}
 use Rattle.fresh_gate.proofs.accepted.next_number.Goals as goal
 
-pub returns-then-held-ge16 : goal.returns-then-held-ge16
-returns-then-held-ge16 c = let len = length_trees c.args.configs.now in omega (arith, len)
+pub returns-then-held-ge-MOST_GENERATIONS : goal.returns-then-held-ge-MOST_GENERATIONS
+returns-then-held-ge-MOST_GENERATIONS c = let len = length_trees c.args.configs.now in omega (arith, len)
 
 pub returns-in-Err : goal.returns-in-Err
 returns-in-Err c = among_is (trees_of c.args.configs.now) c.args.tree.now c.in-Err.fault c.in-Err.ensures

@@ -1,7 +1,7 @@
 use Rattle.std.proofs.Common.{◌≡◌, List, ℕ, Option, true, sym, subst}
 use Rattle.route_tree.specs.At.{plain_for}
 use Rattle.route_tree.specs.Place.{prefix_text}
-use Rattle.coverage.specs.Taking.{Covers}
+use Rattle.coverage.specs.Cover.{Covers}
 use Rattle.fresh_gate.specs.declared.finding.Found.{Found}
 use Rattle.fresh_gate.specs.Looking.{IfGap}
 use Rattle.fresh_gate.specs.Rows.{all_cleared}

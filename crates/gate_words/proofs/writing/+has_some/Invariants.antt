@@ -2,4 +2,4 @@ use Rattle.std.proofs.Common.{length}
 use Rattle.gate_words.proofs.writing.+has_some.Given as goal
 
 abbrev pub decreases-has_some : goal.decreases-has_some
-decreases-has_some l = length l.standings.now
+decreases-has_some l = length l.server_uses.now

@@ -10,7 +10,7 @@ pub returns-in-More : goal.returns-in-More
 returns-in-More c = nothing_begins meta_grammar c.args.bytes.now c.in-More.ensures
 
 pub returns-in-Some : goal.returns-in-Some
-returns-in-Some c = reads-from_line c.args.bytes.now c.in-At.end c.in-At.used c.read_behind.result c.in-At.ensures c.read_behind.ensures
+returns-in-Some c = reads-from_line c.args.bytes.now c.in-At.end c.in-At.used c.read_after.result c.in-At.ensures c.read_after.ensures
 
 pub returns-in-None : goal.returns-in-None
 returns-in-None c = reads-from_line c.args.bytes.now c.in-At.end c.in-At.used (reads.Refused Unknown c.in-At.used Nothing) c.in-At.ensures (no_word c.args.bytes.now c.in-At.end c.in-At.used c.in-At.ensures c.in-None.ensures)

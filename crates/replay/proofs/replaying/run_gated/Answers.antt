@@ -2,6 +2,7 @@ use Rattle.std.proofs.Common.{sym, ◌∙◌, ap, subst, ◌∷◌, []}
 use Rattle.std.proofs.lemmas.Result.{IfOk-weaker, IfErr-weaker}
 use Rattle.route_json.specs.Configuration.{Configuration}
 use Rattle.fresh_gate.specs.Gate.{IsCertified, IsJudged}
+use Rattle.replay.specs.Replay.{reloads_of, events_of}
 use Rattle.replay.proofs.Printing.{refused_first, unwritten}
 use Rattle.replay.proofs.replaying.run_gated.Goals as goal
 
@@ -16,7 +17,7 @@ print_refused-requires g c = subst (λ (k : Configuration). IsJudged k.tree c.in
 
 pub returns-in-Err-clause-ok : goal.returns-in-Err-clause-ok
 returns-in-Err-clause-ok g c =
-    IfOk-weaker c.print_refused.result _ _ (λ status p. refused_first c.args.script.now.config c.in-Err.refused.config _ _ _ _ status (c.in-Err.ensures.refused.0 ∙ c.in_ok-first.ensures) p) c.print_refused.ensures.ok
+    IfOk-weaker c.print_refused.result _ _ (λ status p. refused_first c.args.script.now.config c.in-Err.refused.config (reloads_of c.args.script.now) (events_of c.args.script.now) _ _ status (c.in-Err.ensures.refused.0 ∙ c.in_ok-first.ensures) p) c.print_refused.ensures.ok
 
 pub returns-in-Err-clause-err : goal.returns-in-Err-clause-err
-returns-in-Err-clause-err g c = IfErr-weaker c.print_refused.result _ _ (λ fault kept. unwritten c.args.script.now.config _ _ _ _ fault kept) c.print_refused.ensures.err
+returns-in-Err-clause-err g c = IfErr-weaker c.print_refused.result _ _ (λ fault kept. unwritten c.args.script.now.config (reloads_of c.args.script.now) (events_of c.args.script.now) _ _ fault kept) c.print_refused.ensures.err

@@ -5,4 +5,4 @@ use Rattle.mc_text.proofs.WordLemmas.{position-or}
 use Rattle.request_parts.proofs.key_bytes.rest_len.Goals as goal
 
 pub returns-clause-value : goal.returns-clause-value
-returns-clause-value c = c.unwrap_or.ensures ∙ ap (λ o. unwrap_or o (length c.args.text.now)) c.first_bad.ensures ∙ position-or is_bad_byte c.args.text.now
+returns-clause-value c = c.unwrap_or.ensures ∙ ap (λ o. unwrap_or o (length c.args.text.now)) c.first_bad_byte.ensures ∙ position-or is_bad_byte c.args.text.now

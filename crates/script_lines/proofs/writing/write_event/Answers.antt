@@ -10,6 +10,11 @@ returns-in-Piece-clause-widths g c =
     let bytes = subst AreBytes c.as_slice.ensures.value c.in_escapes-bytes.ensures.widths in
     on_ok c.writeln.result _ (subst (λ (e : Event). HasWidths (scripted_of e)) (sym c.in-Piece.is) bytes)
 
+pub returns-in-Add-clause-widths : goal.returns-in-Add-clause-widths
+returns-in-Add-clause-widths g c =
+    let bytes = subst AreBytes c.as_slice-in-Add.ensures.value c.in_escapes-bytes-in-Add.ensures.widths in
+    on_ok c.writeln-in-Add.result _ (subst (λ (e : Event). HasWidths (scripted_of e)) (sym c.in-Add.is) bytes)
+
 pub returns-in-Hold-clause-widths : goal.returns-in-Hold-clause-widths
 returns-in-Hold-clause-widths g c =
     let number : c.in-Hold.server < 2 ^ 32 = omega (arith, c.number.ensures, c.number.type_inv) in

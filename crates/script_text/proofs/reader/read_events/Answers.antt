@@ -2,5 +2,5 @@ use Rattle.std.proofs.Common.{arith}
 use Rattle.script_text.proofs.LineLemmas.{few_lines}
 use Rattle.script_text.proofs.reader.read_events.Goals as goal
 
-pub read_behind-requires : goal.read_behind-requires
-read_behind-requires c = omega (arith, few_lines c.args.text.now)
+pub read_lines_after-requires : goal.read_lines_after-requires
+read_lines_after-requires c = omega (arith, few_lines c.args.text.now)

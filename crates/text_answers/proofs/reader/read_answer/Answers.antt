@@ -12,7 +12,7 @@ returns-in-TooLong-clause-reads c = (too_long_not_cut c.args.ask.now c.args.byte
 
 pub returns-after-branch-3 : goal.returns-after-branch-3
 returns-after-branch-3 c =
-    let read = read_is c.args.ask.now c.args.bytes.now c.in-At.end c.in-At.used c.in-At.ensures c.in_ok-said-in-At.said c.in_ok-said-in-At.ensures c.in_ok-answer-in-At.field-0 c.match-branch-3.result c.in_ok-answer-in-At.ensures in
+    let read = read_is c.args.ask.now c.args.bytes.now c.in-At.end c.in-At.used c.in-At.ensures c.in_ok-first-in-At.first c.in_ok-first-in-At.ensures c.in_ok-answer-in-At.field-0 c.match-branch-3.result c.in_ok-answer-in-At.ensures in
     let reads : Reads c.args.ask.now c.args.bytes.now c.match-branch-3.result =
     elim c.match-branch-3.branch [
       | in-Answer w ↦ read (w.result-is ∙ ap (further c.in-At.used) (sym w.in-Answer.is))

@@ -3,7 +3,7 @@ use Rattle.std.proofs.lemmas.Option.{slice_get_read}
 use Rattle.std.specs.Prelude.{Bool, None, Some}
 use Rattle.proxy_core.specs.declared.client.Pending.{Pending as PendingOf}
 use Rattle.proxy_core.specs.Replying.{IsOnward}
-use Rattle.proxy_core.proofs.Idle.{on_none}
+use Rattle.commands_under_way.proofs.Idle.{on_none}
 use Rattle.proxy_core.proofs.Places.{there_at, none_there, some_pending}
 use Rattle.proxy_core.proofs.client.Client.place_of.Goals as goal
 

@@ -1,6 +1,6 @@
 use Rattle.std.proofs.Common.{subst}
-use Rattle.proxy_core.specs.declared.looking.Turn.{Turn}
-use Rattle.proxy_core.specs.Ready.{IsTurn}
+use Rattle.commands_under_way.specs.declared.turns.Turn.{Turn}
+use Rattle.commands_under_way.specs.Ready.{IsTurn}
 use Rattle.proxy_core.proofs.Resting.{calling_is_idle}
 use Rattle.proxy_core.proofs.proxy.Core.act.Goals as goal
 

@@ -1,5 +1,5 @@
 use Rattle.std.proofs.Common.{ap}
-use Rattle.proxy_core.specs.Lines.{others}
+use Rattle.commands_under_way.specs.Lines.{others}
 use Rattle.proxy_core.specs.Polls.{Acts, Polls, StopsAfter, SoEnded, ReadFault}
 use Rattle.proxy_core.proofs.Polls.{acts_polls, ended_stops, if_err, if_ok}
 use Rattle.proxy_core.proofs.proxy.Core.act_ready.Goals as goal

@@ -8,7 +8,7 @@ use Rattle.proxy_core.specs.declared.note.Poll.TheVariants.{Busy}
 use Rattle.proxy_core.specs.Fronts.{IsAskAt}
 use Rattle.proxy_core.specs.declared.proxy.Core.{Core}
 use Rattle.proxy_core.specs.Claims.{is_barred, has_own}
-use Rattle.proxy_core.specs.Lines.{is_behind, others}
+use Rattle.commands_under_way.specs.Lines.{is_behind, others}
 use Rattle.proxy_core.specs.Polls.{CanAsk, CanAskBelow, IsBelowDepth, ForClient, IsServed, IsNextAsk, claim_of, bars, stands_before, CanBegin, Acts, Polls, StopsAfter, SoEnded, ReadFault}
 use Rattle.proxy_core.proofs.Chains.{goes_nowhere}
 use Rattle.proxy_core.proofs.Polls.{first_stops, begun_stops, begun_polls, nothing_polls, for_map, for_both, if_err, if_ok}

@@ -1,6 +1,6 @@
 use Rattle.std.proofs.Common.{◌≡◌, ℕ, Option, Some, None, IfSome, sym}
-use Rattle.proxy_core.specs.declared.command.Command.{Command}
-use Rattle.proxy_core.specs.declared.ticket.OutCall.{OutCall}
+use Rattle.commands_under_way.specs.declared.command.Command.{Command}
+use Rattle.commands_under_way.specs.declared.ticket.OutCall.{OutCall}
 use Rattle.proxy_core.specs.CoreState.{command_at}
 use Rattle.proxy_core.specs.Settles.{IsOutAs, IsCalled}
 use Rattle.proxy_core.specs.declared.proxy.Core.{Core}

@@ -1,5 +1,5 @@
 use Rattle.std.proofs.Common.{List, refl, ap}
-use Rattle.proxy_core.specs.declared.key_lines.Standing.{Standing}
+use Rattle.commands_under_way.specs.declared.key_lines.Standing.{Standing}
 use Rattle.proxy_core.proofs.Polls.{same_goes}
 use Rattle.proxy_core.proofs.proxy.Core.leave_line.Goals as goal
 

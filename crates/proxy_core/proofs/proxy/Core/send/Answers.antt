@@ -1,9 +1,9 @@
 use Rattle.std.proofs.Common.{◌≡◌, true, cond, nat_eq, Some, sym, refl, ap, ◌∙◌}
 use Rattle.indexmap.specs.IndexMap as map
-use Rattle.proxy_core.specs.declared.command.Command.{Command}
+use Rattle.commands_under_way.specs.declared.command.Command.{Command}
 use Rattle.proxy_core.specs.CoreState.{command_at}
-use Rattle.proxy_core.specs.Begun.{ticket_of}
-use Rattle.proxy_core.proofs.Commands.{some_command}
+use Rattle.commands_under_way.specs.Begun.{ticket_of}
+use Rattle.commands_under_way.proofs.Commands.{some_command}
 use Rattle.proxy_core.proofs.Polls.{sent_goes, same_goes}
 use Rattle.proxy_core.proofs.proxy.Core.send.Goals as goal
 

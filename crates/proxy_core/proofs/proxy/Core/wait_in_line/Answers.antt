@@ -1,9 +1,9 @@
 use Rattle.std.proofs.Common.{List, refl, ap, ◌∙◌}
-use Rattle.proxy_core.specs.declared.key_lines.Standing.{Standing}
+use Rattle.commands_under_way.specs.declared.key_lines.Standing.{Standing}
 use Rattle.proxy_core.specs.declared.proxy.Core.{Core}
 use Rattle.proxy_core.specs.declared.fault.CoreFault.TheVariants.{NoMemory}
-use Rattle.proxy_core.specs.Lines.{others, joined}
-use Rattle.proxy_core.proofs.Lines.{others_again}
+use Rattle.commands_under_way.specs.Lines.{others, joined}
+use Rattle.commands_under_way.proofs.Lines.{others_again}
 use Rattle.proxy_core.proofs.Polls.{same_goes, first_stops, line_polls}
 use Rattle.proxy_core.proofs.proxy.Core.wait_in_line.Goals as goal
 

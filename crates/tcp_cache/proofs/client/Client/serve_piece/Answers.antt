@@ -1,5 +1,5 @@
 use Rattle.cache_connection.proofs.Exits.{on_err}
-use Rattle.tcp_cache.proofs.Joined.{stops_in, stops_behind}
+use Rattle.tcp_cache.proofs.Joined.{stops_in, stops_after}
 use Rattle.tcp_cache.proofs.client.Client.serve_piece.Goals as goal
 
 pub returns-in_err-text-clause-err : goal.returns-in_err-text-clause-err
@@ -11,4 +11,4 @@ pub returns-clause-err : goal.returns-clause-err
 returns-clause-err g c =
     on_err c.extend_from_slice-added.result _
     (stops_in c.args.moment.seconds c.args.self.now.conn.held.items c.as_slice-2.result.now c.piece_len-count.result c.args.self.now.served c.args.cache.now c.feed_at.new.cache c.as_slice-2.ensures
-    (stops_behind c.args.moment.seconds c.args.self.now.served c.feed_at.new.served _ c.in_ok-text.text.items c.args.cache.now c.feed_at.new.cache c.in_ok-text.ensures.ok))
+    (stops_after c.args.moment.seconds c.args.self.now.served c.feed_at.new.served _ c.in_ok-text.text.items c.args.cache.now c.feed_at.new.cache c.in_ok-text.ensures.ok))

@@ -1,0 +1,33 @@
+-- What a script that steps its calls does through trees that the gate was asked for. Source: mcgate's own.
+use Rattle.std.specs.Prelude.{◌≡◌, ℕ, List, [], map}
+use Rattle.mc_runs.specs.Log.{Shown}
+use Rattle.mc_runs.specs.Overlap.{run_of}
+use Rattle.mc_runs.specs.Sharing.{IsFreshByNumber}
+use Rattle.route_tree.specs.Route.{Route}
+use Rattle.fleet_run.specs.declared.script.Reload.{Reload}
+use Rattle.fleet_run.specs.declared.script.Transcript.{Transcript}
+use Rattle.fleet_run.specs.declared.script.Report.{Report}
+use Rattle.fleet_run.specs.declared.script.DriveFault.{DriveFault}
+use Rattle.fleet_run.specs.declared.script.DriveFault.TheVariants.{BadEvent, NoMemory, Spent}
+use Rattle.fleet_run.specs.Scripted.{Scripted, transcript_of}
+use Rattle.fleet_run.specs.Opening.{opening_of}
+use Rattle.stepped_run.specs.Driving.{DrivesStepped, StepsPart}
+use Rattle.accepted_run.specs.declared.judging.Loading.{Loading}
+use Rattle.accepted_run.specs.Reloads.{is_refused}
+
+-- the script ran, its run is fresh over all loaded trees, and none of its replies is stale
+pub record StepsFreshly (first : Route) (loadings : List Loading) (reloads : List Reload) (events : List Scripted) (given : List Shown) (report : Report) : Type 0 where
+  pub drives : DrivesStepped first (map is_refused loadings) reloads events given report
+  pub fresh : IsFreshByNumber (opening_of events) (run_of drives.log)
+  pub none_stale : report.stale ≡ 0
+
+-- a part of it ran, and the run of all that was done is fresh
+pub record StepsPartFreshly (first : Route) (loadings : List Loading) (reloads : List Reload) (events : List Scripted) (given : List Shown) : Type 0 where
+  pub part : StepsPart first (map is_refused loadings) reloads events given
+  pub fresh : IsFreshByNumber (opening_of events) (run_of part.log)
+
+-- what a fault leaves: nothing was handed out where an event can't be
+abbrev pub EndsSteps : Route → List Loading → List Reload → List Scripted → Transcript → List ℕ → DriveFault → Type 0
+EndsSteps first loadings reloads events transcript marks (BadEvent index) = (transcript.shown.items ≡ []) × (marks ≡ [])
+EndsSteps first loadings reloads events transcript marks NoMemory = StepsPartFreshly first loadings reloads events (transcript_of transcript)
+EndsSteps first loadings reloads events transcript marks Spent = StepsPartFreshly first loadings reloads events (transcript_of transcript)

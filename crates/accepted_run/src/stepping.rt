@@ -1,0 +1,59 @@
+//! A script that steps its calls, run through configurations that the gate was asked for.
+
+ghost use Rattle.std.specs.Prelude.{◌≡◌, ◌≤◌, [], length, map, None, IfOk, IfErr, OnOk, MatchResult};
+ghost use Rattle.script_servers.specs.Servers.{IsNew, count_of};
+ghost use Rattle.fleet_run.specs.Scripted.{scripted_of, transcript_of};
+ghost use Rattle.fleet_run.specs.Bad.{first_bad, Refuses};
+ghost use Rattle.fleet_run.specs.Reloads.{AreInOrder};
+ghost use Rattle.stepped_run.specs.Driving.{AreMarks};
+ghost use Rattle.accepted_run.specs.Reloads.{AreJudged};
+ghost use Rattle.accepted_run.specs.Stepped.{StepsFreshly, EndsSteps};
+
+use crate::judging::Judged;
+use fleet_run::{DriveFault, Reload, Report, Script, Transcript};
+use fresh_gate::Accepted;
+use fresh_gate::laws::generations_are_fresh;
+use route_json::Config;
+use script_servers::ScriptServers;
+use std::alloc::Global;
+use stepped_run::drive_stepped;
+
+/// Runs a script that may step its calls, with reloads that the gate was asked for: each command through the tree that was accepted
+/// last before it began; commands of different clients overlap, each alone on its key. `first` was in use before the first reload.
+///
+/// All holds that [`drive_stepped`] says, its faults too; and **the run is fresh over all loaded trees**: where a delete of a key was
+/// acknowledged, no command that began later shows data that descend from a store of that key by a command before that delete,
+/// whichever trees the two ran by. So the report's `stale` is 0.
+///
+/// Source: mcgate's own.
+pub fn drive_stepped_judged(
+    alloc: Global,
+    accepted: &Accepted,
+    first: &Config,
+    reloads: &[Reload],
+    judged: &Judged,
+    servers: &mut ScriptServers,
+    script: &Script,
+    transcript: &mut Transcript,
+    marks: &mut Vec<usize>,
+) -> Result<Report, DriveFault>
+    requires judged { AreJudged first.now reloads.now judged.now.loadings.items judged.now.refused.items accepted.now }
+    requires servers { length first.now.servers ≤ count_of servers.old }
+    requires few { count_of servers.old ≤ 4294967295 }
+    requires order { AreInOrder (length script.now.events.items) (count_of servers.old) 0 reloads.now }
+    requires new { IsNew (count_of servers.old) servers.old }
+    requires transcript { transcript.old.shown.items ≡ [] }
+    requires marks { marks.old.items ≡ [] }
+    ensures refuses { MatchResult result (λ _. first_bad (count_of servers.old) (map scripted_of script.now.events.items) ≡ None) (Refuses (count_of servers.old) script.now) }
+    ensures ok { IfOk result (λ report. StepsFreshly first.now.tree judged.now.loadings.items reloads.now (map scripted_of script.now.events.items) (transcript_of transcript.new) report) }
+    ensures fault { IfErr result (λ fault. EndsSteps first.now.tree judged.now.loadings.items reloads.now (map scripted_of script.now.events.items) transcript.new marks.new.items fault) }
+    ensures marked { OnOk result (length marks.new.items ≡ length reloads.now) }
+    ensures marks { AreMarks (length transcript.new.shown.items) marks.new.items }
+{
+    generations_are_fresh();
+    let _in_use = accepted.config();
+    let refused = judged.refused.as_slice();
+    drive_stepped(
+        alloc, first, reloads, refused, servers, script, transcript, marks,
+    )
+}

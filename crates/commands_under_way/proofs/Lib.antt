@@ -1,0 +1,4 @@
+pub mod Lines
+pub mod Idle
+pub mod Commands
+pub mod Counting

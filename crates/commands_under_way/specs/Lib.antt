@@ -1,0 +1,9 @@
+pub mod Out
+pub mod Claims
+pub mod Lines
+pub mod Counts
+pub mod Ready
+pub mod Begun
+pub mod Outcomes
+pub mod Owned
+pub mod Tables

@@ -1,0 +1,113 @@
+//! A command as it begins, and its next call as it goes out.
+
+ghost use Rattle.std.specs.Prelude.{◌≡◌, ◌↔◌, ℕ, List, true, IfOk, OnErr};
+ghost use Rattle.mc_types.specs.declared.call.Origin.TheVariants.{Client as OfClient};
+ghost use Rattle.mc_runs.specs.Run.{Call};
+ghost use Rattle.route_tree.specs.At.{tree_at};
+ghost use Rattle.route_tree.specs.Route.{IsTree};
+ghost use Rattle.route_tree.specs.Word.{Given, Word};
+ghost use Rattle.route_job.specs.Jobs.{Comes, IsCalling};
+ghost use Rattle.commands_under_way.specs.Begun.{IsBegun, ticket_of};
+
+use crate::claim::Claim;
+use crate::command::Command;
+use crate::held_job::HeldJob;
+use crate::same::is_same;
+use crate::shared::SharedAsk;
+use crate::ticket::Ticket;
+use mc_types::Ask;
+use route_job::{Job, Step};
+use route_tree::Tree;
+use std::alloc::{AllocError, Global};
+
+/// A drop that is a call keeps the proof of a caller short.
+pub fn drop_ask(_ask: SharedAsk) {}
+
+/// The same of a command.
+pub fn drop_command(_command: Command) {}
+
+// A job of a copy of the ask.
+fn job_of(alloc: Global, tree: &Tree, ask: &Ask) -> Result<HeldJob, AllocError>
+    ensures { IfOk result (λ job. (calls : List Call) (given : Given) → Comes job calls given ↔ Word (tree_at tree.now ask.now.key) ask.now OfClient 0 calls given) }
+{
+    let ask = ask.copy()?;
+    let job = Job::new(alloc, tree, ask)?;
+    HeldJob::new(alloc, job)
+}
+
+/// A command of a client for this ask with this claim, as it begins on this tree. The only error is running out of memory.
+pub fn command_of(
+    alloc: Global,
+    tree: &Tree,
+    client: usize,
+    ask: &SharedAsk,
+    claim: Claim,
+) -> Result<Command, AllocError>
+    ensures begun { IfOk result (λ command. IsBegun tree.now client ask.now claim command) }
+    ensures tree { IsTree tree.now }
+{
+    let _form = tree.form();
+    let kept = ask.copy()?;
+    match job_of(alloc, tree, ask.get()) {
+        Ok(job) => Ok(Command {
+            job,
+            ask: kept,
+            client,
+            claim,
+            is_out: false,
+        }),
+        Err(error) => {
+            drop_ask(kept);
+            Err(error)
+        }
+    }
+}
+
+// This ask: the command's own, shared, where that says the same, as it mostly does. Else it is a copy.
+fn shared_as(alloc: Global, own: &SharedAsk, ask: &Ask) -> Result<SharedAsk, AllocError>
+    ensures { IfOk result (λ shared. shared ≡ ask.now) }
+{
+    if is_same(own.get(), ask) {
+        return own.copy();
+    }
+    SharedAsk::new(alloc, ask.copy()?)
+}
+
+// The call that the job shows, of a command that asks this.
+fn ticket_of(
+    alloc: Global,
+    number: u64,
+    own: &SharedAsk,
+    job: &HeldJob,
+) -> Result<Ticket, AllocError>
+    requires { IsCalling job.now }
+    ensures { IfOk result (λ ticket. ticket ≡ ticket_of number job.now) }
+{
+    match job.next() {
+        Step::Call {
+            server,
+            ask,
+            origin,
+        } => Ok(Ticket {
+            ask: shared_as(alloc, own, ask)?,
+            number,
+            origin,
+            server,
+        }),
+        Step::Done(_) => unreachable!(),
+    }
+}
+
+impl Command {
+    /// Its next call, which is out then. The only error is running out of memory, which leaves the command as it was.
+    pub fn send(&mut self, alloc: Global, number: u64) -> Result<Ticket, AllocError>
+        requires { IsCalling self.old.job }
+        ensures ticket { IfOk result (λ ticket. ticket ≡ ticket_of number self.old.job) }
+        ensures out { IfOk result (λ ticket. self.new ≡ record self.old { is_out = true }) }
+        ensures err { OnErr result (self.new ≡ self.old) }
+    {
+        let ticket = ticket_of(alloc, number, &self.ask, &self.job)?;
+        self.is_out = true;
+        Ok(ticket)
+    }
+}

@@ -1,0 +1,265 @@
+//! The commands that have begun and have not ended.
+
+ghost use Rattle.std.specs.Prelude.{◌≡◌, ◌+◌, ◌++◌, ◌∷◌, [], ℕ, true, false, Some, None, if◌then◌else◌, nat_eq, IfOk, OnOk, OnErr, IsSome, option_copied};
+ghost use Rattle.std.specs.List.{list_any};
+ghost use Rattle.indexmap.specs.IndexMap.{get, values, index_map_len, IsEmpty};
+ghost use Rattle.mc_runs.specs.Single.{FitsOutcome};
+ghost use Rattle.route_job.specs.Rest.{ask_under};
+ghost use Rattle.commands_under_way.specs.Begun.{HasRoom, Puts};
+ghost use Rattle.commands_under_way.specs.Claims.{clears_key, copies_key, is_barred};
+ghost use Rattle.commands_under_way.specs.Ready.{calls_at};
+ghost use Rattle.commands_under_way.specs.Out.{has_call_out};
+ghost use Rattle.commands_under_way.specs.Tables.{IsAtCall, CallsOut, IsCallerOf, TakesAt};
+
+use crate::begun::drop_command;
+use crate::claim::Claim;
+use crate::command::Command;
+use crate::counts::{count_of, count_one, count_where, uncount_kept, uncount_where};
+use crate::ticket::Ticket;
+use indexmap::IndexMap;
+use mc_types::{Key, Outcome, ServerId};
+use std::alloc::{AllocError, Global};
+use std::marker::Model;
+
+/// The commands that have begun and have not ended, by number.
+///
+/// How many of them clear each key, how many copy to it, and how many calls of them are out at each server, is counted beside
+/// them, so that none of it is asked of all of them. Where memory was refused for a count, it is, from then on.
+#[derive(Drop)]
+pub struct CommandTable {
+    by_number: IndexMap<u64, Command>,
+    clearing: IndexMap<Key, usize>,
+    copying: IndexMap<Key, usize>,
+    at_server: IndexMap<u32, usize>,
+    is_counted: bool,
+}
+
+impl Model for CommandTable {
+    ghost use Rattle.std.specs.Prelude.{◌≡◌, true};
+    ghost use Rattle.commands_under_way.specs.Counts.{ByNumber, AreCounted};
+
+    ghost Value = { ByNumber };
+
+    ghost use Rattle.std.specs.Coded.{codes};
+    ghost use Rattle.indexmap.specs.Layout.{hash_map_code};
+    ghost use Rattle.commands_under_way.specs.contracts.command.Command as commands;
+
+    ghost coded = { Prim.hlevel (codes, hash_map_code, commands.the_row.coded) };
+
+    ghost view = { λ t. t.by_number };
+
+    ghost invariant = { λ t. t.is_counted ≡ true → AreCounted t.by_number t.clearing t.copying t.at_server };
+}
+
+// Whether no command had the number. One that had is let go.
+fn is_none(old: Option<Command>) -> bool
+    ensures { result ≡ true → old ≡ None }
+{
+    match old {
+        None => true,
+        Some(command) => {
+            drop_command(command);
+            false
+        }
+    }
+}
+
+// One more command. Whether no other had its number.
+fn put_new(number: u64, command: Command, commands: &mut IndexMap<u64, Command>) -> bool
+    requires { HasRoom commands.old }
+    ensures puts { (n : ℕ) → Puts commands.old number command commands.new n }
+    ensures last { result ≡ true → commands.new.entries ≡ commands.old.entries ++ (number, command) ∷ [] }
+{
+    let Ok(old) = commands.insert(number, command) else {
+        unreachable!();
+    };
+    is_none(old)
+}
+
+// Whether both hold.
+fn both(a: bool, b: bool) -> bool
+    ensures { result ≡ true → (a ≡ true) × (b ≡ true) }
+{
+    a && b
+}
+
+// Whether one of the commands clears the key, by looking at each.
+fn any_clears(key: &Key, commands: &IndexMap<u64, Command>) -> bool
+    ensures { result ≡ list_any (clears_key key.now) (values commands.now) }
+{
+    commands.values().any(|command| command.claim.clears && *command.ask.key() == *key)
+}
+
+// Whether one of the commands copies to the key, by looking at each.
+fn any_copies(key: &Key, commands: &IndexMap<u64, Command>) -> bool
+    ensures { result ≡ list_any (copies_key key.now) (values commands.now) }
+{
+    commands.values().any(|command| command.claim.copies && *command.ask.key() == *key)
+}
+
+// How many calls are out at the server, by looking at each command.
+fn all_at(server: ServerId, commands: &IndexMap<u64, Command>) -> usize
+    ensures { result ≡ calls_at server commands.now }
+{
+    commands
+        .values()
+        .filter(|command| command.is_called(server))
+        .count()
+}
+
+impl CommandTable {
+    /// No command. It takes no memory.
+    pub fn new(alloc: Global) -> CommandTable
+        ensures { IsEmpty result }
+    {
+        CommandTable {
+            by_number: IndexMap::new(alloc),
+            clearing: IndexMap::new(alloc),
+            copying: IndexMap::new(alloc),
+            at_server: IndexMap::new(alloc),
+            is_counted: true,
+        }
+    }
+
+    /// How many there are. It takes no memory.
+    pub fn len(&self) -> usize
+        ensures { result ≡ index_map_len self.now }
+    {
+        self.by_number.len()
+    }
+
+    /// The command of this number. It takes no memory.
+    pub fn get(&self, number: u64) -> Option<&Command>
+        ensures value { option_copied result ≡ get nat_eq self.now number }
+    {
+        self.by_number.get(&number)
+    }
+
+    /// The commands, by number. It takes no memory.
+    pub fn by_number(&self) -> &IndexMap<u64, Command>
+        ensures { result.now ≡ self.now }
+    {
+        &self.by_number
+    }
+
+    /// Makes room for one more.
+    pub fn make_room(&mut self) -> Result<(), AllocError>
+        ensures entries { self.new.entries ≡ self.old.entries }
+        ensures ok { OnOk result (HasRoom self.new) }
+    {
+        self.by_number.reserve(1)
+    }
+
+    /// One more command, of which no call is out, in the room that was made for it.
+    pub fn put(&mut self, number: u64, command: Command)
+        requires room { HasRoom self.old }
+        requires idle { command.is_out ≡ false }
+        ensures { (n : ℕ) → Puts self.old number command self.new n }
+    {
+        let claim = command.claim;
+        let clears = count_where(claim.clears, command.ask.key(), &mut self.clearing);
+        let copies = count_where(claim.copies, command.ask.key(), &mut self.copying);
+        let is_new = put_new(number, command, &mut self.by_number);
+        self.is_counted = both(both(self.is_counted, is_new), both(clears, copies));
+    }
+
+    /// Takes the command of this number out. It takes no memory.
+    pub fn remove(&mut self, number: u64) -> Option<Command>
+        ensures value { result ≡ get nat_eq self.old number }
+        ensures gone { (n : ℕ) → get nat_eq self.new n ≡ (if nat_eq number n then None else get nat_eq self.old n) }
+        ensures less { IsSome (get nat_eq self.old number) → index_map_len self.new + 1 ≡ index_map_len self.old }
+    {
+        let command = self.by_number.swap_remove(&number)?;
+        let claim = command.claim;
+        let is_idle = !command.is_out;
+        let clears = uncount_where(claim.clears, command.ask.key(), &mut self.clearing);
+        let copies = uncount_where(claim.copies, command.ask.key(), &mut self.copying);
+        self.is_counted = both(both(self.is_counted, is_idle), both(clears, copies));
+        Some(command)
+    }
+
+    /// The next call of the command of this number, which is out then. The only error is running out of memory, which leaves
+    /// all commands as they were.
+    pub fn send(&mut self, alloc: Global, number: u64) -> Result<Ticket, AllocError>
+        requires { IsAtCall self.old number }
+        ensures ok { IfOk result (λ ticket. CallsOut self.old number ticket self.new) }
+        ensures err { OnErr result (self.new ≡ self.old) }
+    {
+        let Some(command) = self.by_number.get_mut(&number) else {
+            unreachable!();
+        };
+        let ticket = command.send(alloc, number)?;
+        let is_counted = count_one(ticket.server.number(), &mut self.at_server);
+        self.is_counted = both(self.is_counted, is_counted);
+        Ok(ticket)
+    }
+
+    /// Whose the command of this number is, if a call of it is out. It takes no memory.
+    pub fn caller(&self, number: u64) -> Option<usize>
+        ensures { IsCallerOf self.now number result }
+    {
+        let command = self.by_number.get(&number)?;
+        if command.has_call_out() {
+            Some(command.client)
+        } else {
+            None
+        }
+    }
+
+    /// The call of the command of this number had this outcome. The only error: memory was refused, and its job is broken then.
+    pub fn take(&mut self, alloc: Global, number: u64, outcome: Outcome) -> Result<(), AllocError>
+        requires out { (a : Command) × (get nat_eq self.old number ≡ Some a) × (has_call_out a ≡ true) }
+        requires fits { (a : Command) → get nat_eq self.old number ≡ Some a → has_call_out a ≡ true → FitsOutcome (ask_under a.job.frames.items a.job.ask) outcome }
+        ensures { TakesAt self.old number outcome (OnOk result) self.new }
+    {
+        let Some(command) = self.by_number.get_mut(&number) else {
+            unreachable!();
+        };
+        let server = command.server();
+        let taken = command.take(alloc, outcome);
+        let is_counted = uncount_kept(server.number(), &mut self.at_server);
+        self.is_counted = both(self.is_counted, is_counted);
+        taken
+    }
+
+    // Whether a command under way clears this key.
+    fn is_cleared(&self, key: &Key) -> bool
+        ensures { result ≡ list_any (clears_key key.now) (values self.now) }
+    {
+        if self.is_counted {
+            0 < count_of(key, &self.clearing)
+        } else {
+            any_clears(key, &self.by_number)
+        }
+    }
+
+    // Whether a command under way copies to this key.
+    fn is_copied(&self, key: &Key) -> bool
+        ensures { result ≡ list_any (copies_key key.now) (values self.now) }
+    {
+        if self.is_counted {
+            0 < count_of(key, &self.copying)
+        } else {
+            any_copies(key, &self.by_number)
+        }
+    }
+
+    /// Whether a command under way stands in the way of this claim on the key. It takes no memory, and looks nothing up for a
+    /// command that claims nothing.
+    pub fn is_barred(&self, key: &Key, claim: Claim) -> bool
+        ensures { result ≡ is_barred key.now claim self.now }
+    {
+        (claim.clears && self.is_copied(key)) || (claim.copies && self.is_cleared(key))
+    }
+
+    /// How many calls are out at a server. It takes no memory.
+    pub fn calls_at(&self, server: ServerId) -> usize
+        ensures { result ≡ calls_at server self.now }
+    {
+        if self.is_counted {
+            count_of(&server.number(), &self.at_server)
+        } else {
+            all_at(server, &self.by_number)
+        }
+    }
+}

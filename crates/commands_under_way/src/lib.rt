@@ -1,0 +1,27 @@
+//! Commands that have begun and have not ended, and who waits for their keys.
+#![tactic(auto)]
+
+pub mod begun;
+pub mod claim;
+pub mod command;
+pub mod command_table;
+pub mod counts;
+pub mod held_job;
+pub mod key_lines;
+pub mod laws;
+pub mod owned;
+pub mod same;
+pub mod shared;
+pub mod sharing;
+pub mod ticket;
+pub mod turns;
+
+pub use claim::Claim;
+pub use command::Command;
+pub use command_table::CommandTable;
+pub use held_job::HeldJob;
+pub use key_lines::KeyLines;
+pub use shared::SharedAsk;
+pub use sharing::Sharing;
+pub use ticket::{OutCall, Ticket};
+pub use turns::{Turn, turn_of};

@@ -1,0 +1,172 @@
+//! What a request asks.
+ghost use Rattle.std.specs.Prelude.{◌≡◌, ℕ, List, ◌<◌, ◌≤◌, IfOk, Some, length, slice_get};
+ghost use Rattle.mc_text.specs.Word.{words, text_at};
+ghost use Rattle.mc_types.specs.KeyText.{IsKey};
+ghost use Rattle.request_parts.specs.Places.{IsIn};
+ghost use Rattle.meta_requests.specs.Flags.{letter_of, text_of, wanted, tokens_in, wanted_by};
+ghost use Rattle.meta_requests.specs.Places.{order_in, flags_in};
+ghost use Rattle.meta_requests.specs.Message.{IsReadFrom, message_in};
+ghost use Rattle.meta_requests.specs.Asks.{asks_of, quiet_of, own_of, get_op, store_op, bare_ask, ask_by, IsMetaAsk};
+
+use crate::command::{Command, Flags, Kind, Request, Values};
+use mc_text::word::{Span, next_word};
+use mc_types::{Ask, Body, Dialect, Key, Op, Opaque, Token, Tokens};
+use request_parts::ProxyCommand;
+use request_parts::parts::key_at;
+use std::alloc::{AllocError, Global};
+
+fn wanted_by(letter: u8, text: &[u8]) -> Option<Token>
+    ensures { result ≡ wanted_by letter text.now }
+{
+    if letter == b'c' {
+        Some(Token::Cas)
+    } else if letter == b'f' {
+        Some(Token::Flags)
+    } else if letter == b'k' {
+        Some(Token::Key)
+    } else if letter == b's' {
+        Some(Token::Size)
+    } else if letter == b't' {
+        Some(Token::Ttl)
+    } else if letter == b'v' {
+        Some(Token::Value)
+    } else if letter == b'O' {
+        Some(Token::Opaque(Opaque::read(text)?))
+    } else {
+        None
+    }
+}
+
+// What a flag wants back.
+fn wanted(word: &[u8]) -> Option<Token>
+    requires { 0 < length word.now }
+    ensures { result ≡ wanted word.now }
+{
+    wanted_by(word[0], &word[1..])
+}
+
+// What the flags want back, in their order.
+fn tokens(alloc: Global, bytes: &[u8], flags: Span) -> Result<Tokens, AllocError>
+    requires { IsIn (length bytes.now) flags }
+    ensures { IfOk result (λ tokens. tokens ≡ tokens_in (words (text_at bytes.now flags))) }
+{
+    let text = &bytes[flags.start..flags.end];
+    let mut tokens = Tokens::new(alloc);
+    let mut from = 0;
+    while let Some(word) = next_word(text, from) {
+        if let Some(token) = wanted(&text[word.start..word.end]) {
+            tokens.push(token)?;
+        }
+        from = word.end;
+    }
+    Ok(tokens)
+}
+
+fn get_op(exptime: Option<i64>) -> Op
+    ensures { result ≡ get_op exptime }
+{
+    match exptime {
+        None => Op::Get,
+        Some(_) => Op::Gat,
+    }
+}
+
+fn store_op(cas: Option<u64>, mode: Option<Op>) -> Op
+    ensures { result ≡ store_op cas mode }
+{
+    match cas {
+        Some(_) => Op::Cas,
+        None => mode.unwrap_or(Op::Set),
+    }
+}
+
+fn bare(op: Op, key: Key, tokens: Tokens) -> Ask
+    ensures { result ≡ bare_ask op key tokens }
+{
+    Ask::bare(Dialect::Meta, op, key, tokens)
+}
+
+// The ask of a kind, by what its flags say.
+fn ask_by(kind: Kind, key: Key, values: Values, tokens: Tokens, body: Body) -> Ask
+    ensures { result ≡ ask_by kind key values tokens body }
+{
+    match kind {
+        Kind::Get => Ask {
+            exptime: values.exptime,
+            ..bare(get_op(values.exptime), key, tokens)
+        },
+        Kind::Store => Ask {
+            flags: values.flags.unwrap_or(0),
+            exptime: Some(values.exptime.unwrap_or(0)),
+            body,
+            cas: values.cas,
+            ..bare(store_op(values.cas, values.mode), key, tokens)
+        },
+        Kind::Delete => Ask {
+            cas: values.cas,
+            ..bare(Op::Delete, key, tokens)
+        },
+        Kind::Count => Ask {
+            exptime: values.exptime,
+            cas: values.cas,
+            delta: values.delta.unwrap_or(1),
+            ..bare(values.mode.unwrap_or(Op::Incr), key, tokens)
+        },
+    }
+}
+
+impl Request {
+    /// What it asks of mcgate itself, if it does. It takes no memory.
+    pub fn own(&self) -> Option<ProxyCommand>
+        ensures { (bytes : List ℕ) → result ≡ own_of (message_in bytes self.now) }
+    {
+        match self.command {
+            Command::Own(own) => Some(own),
+            Command::Keyed { .. } => None,
+        }
+    }
+
+    /// How many asks it is: one, none for a request of mcgate itself. It takes no memory.
+    pub fn asks(&self) -> usize
+        ensures { (bytes : List ℕ) → IsReadFrom bytes self.now → result ≡ length (asks_of (message_in bytes self.now)) }
+    {
+        match self.command {
+            Command::Own(_) => 0,
+            Command::Keyed { .. } => 1,
+        }
+    }
+
+    /// Whether `q` stands on its line, which hides what the client expects: `EN` of `mg`, `HD` of `ms`, `HD` and `NF` of
+    /// `md` and `ma`. It takes no memory.
+    pub fn quiet(&self) -> bool
+        ensures { (bytes : List ℕ) → IsReadFrom bytes self.now → result ≡ quiet_of (message_in bytes self.now) }
+    {
+        match self.command {
+            Command::Keyed { flags, .. } => flags.values.quiet,
+            Command::Own(_) => false,
+        }
+    }
+
+    /// The ask of this number, counted from 0: a copy. The only error is running out of memory.
+    pub fn ask(&self, alloc: Global, bytes: &[u8], i: usize) -> Result<Ask, AllocError>
+        requires read { IsReadFrom bytes.now self.now }
+        requires there { i < length (asks_of (message_in bytes.now self.now)) }
+        ensures value { IfOk result (λ ask. slice_get (asks_of (message_in bytes.now self.now)) i ≡ Some ask) }
+        ensures ask { IfOk result IsMetaAsk }
+    {
+        let _first = i;
+        match self.command {
+            Command::Keyed {
+                key,
+                flags,
+                kind,
+                ..
+            } => {
+                let body = Body::from_slice(alloc, &bytes[self.block.start..self.block.end])?;
+                let tokens = tokens(alloc, bytes, flags.span)?;
+                Ok(ask_by(kind, key_at(bytes, key), flags.values, tokens, body))
+            }
+            Command::Own(_) => unreachable!(),
+        }
+    }
+}

@@ -1,0 +1,132 @@
+-- From what a drive of a script that steps its calls did to what was printed of it.
+use Rattle.std.proofs.Common.{◌≡◌, ℕ, ◌≤◌, ◌++◌, arith, Bool, true, false, List, [], length, map, Option, Result, refl, sym, ap, ◌∙◌, subst, inr}
+use Rattle.std.specs.Prelude.{IfOk, IfErr, OnOk}
+use Rattle.std.specs.Io.KnownBytes.{Appends}
+use Rattle.std.proofs.lemmas.List.{length-map, length-replicate}
+use Rattle.route_json.specs.Configuration.{Configuration}
+use Rattle.script_text.specs.Printed.{report_line}
+use Rattle.script_text.specs.Script.{servers_known}
+use Rattle.script_text.specs.declared.configured.ConfiguredScript.{ConfiguredScript}
+use Rattle.cache_server.specs.Contents.{empty}
+use Rattle.memory_fleet.specs.Fleets.{capacity}
+use Rattle.script_servers.specs.Servers.{IsNew, count_of}
+use Rattle.script_servers.specs.declared.servers.ScriptServers.{ScriptServers}
+use Rattle.fleet_run.specs.declared.script.Reload.{Reload}
+use Rattle.fleet_run.specs.declared.script.Report.{Report}
+use Rattle.fleet_run.specs.declared.script.Transcript.{Transcript}
+use Rattle.fleet_run.specs.declared.script.DriveFault.{DriveFault}
+use Rattle.fleet_run.specs.Scripted.{Scripted, shown_by, transcript_of}
+use Rattle.fleet_run.specs.Reloads.{AreInOrder}
+use Rattle.stepped_run.specs.Driving.{DrivesStepped, StepsPart, EndsStepped, AreMarks}
+use Rattle.accepted_run.specs.declared.judging.Loading.{Loading}
+use Rattle.accepted_run.specs.Reloads.{is_refused}
+use Rattle.accepted_run.specs.Stepped.{StepsFreshly, StepsPartFreshly, EndsSteps}
+use Rattle.config_check.specs.declared.status.RunFault.{RunFault}
+use Rattle.config_check.specs.declared.status.RunFault.TheVariants.{NoMemory, Writer}
+use Rattle.replay.specs.Replay.{RunsSteps, BreaksEventsOff, Wrote, BrokeOff, AreLoadings, HasReloads, reloads_of, servers_of, transcript_lines}
+use Rattle.replay.proofs.Printing.{first_few}
+
+true_is_not_false : true ≡ false → ⊥
+true_is_not_false e = cc
+
+-- ---- servers
+
+pub counted : (servers : ℕ) (made : ScriptServers) → IsNew servers made → count_of made ≡ servers
+counted servers made new = ap length new.caches ∙ length-replicate servers (empty capacity)
+
+pub new_servers : (servers : ℕ) (made : ScriptServers) → IsNew servers made → IsNew (count_of made) made
+new_servers servers made new = subst (λ (n : ℕ). IsNew n made) (sym (counted servers made new)) new
+
+pub enough : (script : ConfiguredScript) (servers : ℕ) (made : ScriptServers) → servers ≡ servers_of script → IsNew servers made → HasReloads script → length script.config.servers ≤ count_of made
+enough script servers made is new has =
+    let few = first_few script.config.servers (reloads_of script) has.chained in
+    let count = counted servers made new in
+    omega (arith, few, is, count)
+
+pub in_order : (script : ConfiguredScript) (reloads : List Reload) (servers : ℕ) (made : ScriptServers) → reloads ≡ reloads_of script → servers ≡ servers_of script → IsNew servers made → HasReloads script → AreInOrder (length script.script.events.items) (count_of made) 0 reloads
+in_order script reloads servers made same is new has =
+    subst (λ (rs : List Reload). AreInOrder (length script.script.events.items) (count_of made) 0 rs) (sym same)
+    (subst (λ (n : ℕ). AreInOrder (length script.script.events.items) n 0 (reloads_of script)) (sym (counted servers made new ∙ is)) has.order)
+
+-- ---- what a drive did
+
+module _ (config : Configuration) (reloads : List Reload) (loadings : List Loading) (events : List Scripted) where
+  module _ (driven : Result Report DriveFault) (t : Transcript) (marks : List ℕ) (old new : Option (List ℕ)) (rs : List Reload) (ls : List Loading) (ms : List ℕ) (rs_are : rs ≡ reloads) (ls_are : ls ≡ loadings) (ms_are : ms ≡ marks) where
+    lines_are : (any : Bool) → transcript_lines any rs ls (transcript_of t) ms ≡ transcript_lines any reloads loadings (transcript_of t) marks
+    lines_are any =
+        ap (λ (r : List Reload). transcript_lines any r ls (transcript_of t) ms) rs_are
+        ∙ ap (λ (l : List Loading). transcript_lines any reloads l (transcript_of t) ms) ls_are
+        ∙ ap (λ (m : List ℕ). transcript_lines any reloads loadings (transcript_of t) m) ms_are
+
+    within_shown : AreMarks (length t.shown.items) marks → AreMarks (length (transcript_of t)) marks
+    within_shown within = subst (λ (n : ℕ). AreMarks n marks) (sym (length-map t.shown.items shown_by)) within
+
+    -- through trees that no gate has seen
+    pub steps_any : loadings ≡ [] → IfOk driven (DrivesStepped config.tree (map is_refused loadings) rs events (transcript_of t)) → OnOk driven (length marks ≡ length rs) → AreMarks (length t.shown.items) marks → Wrote driven (transcript_lines true rs ls (transcript_of t) ms) old new → RunsSteps true config reloads events old new
+    steps_any none ran marked within w =
+        let r = subst (λ (r : Result Report DriveFault). IfOk r (DrivesStepped config.tree (map is_refused loadings) rs events (transcript_of t))) w.driven_is ran in
+        let m = subst (λ (r : Result Report DriveFault). OnOk r (length marks ≡ length rs)) w.driven_is marked in
+        record {
+          loadings = loadings;
+          shown = transcript_of t;
+          marks = marks;
+          report = w.report;
+          drives = subst (λ (x : List Reload). DrivesStepped config.tree (map is_refused loadings) x events (transcript_of t) w.report) rs_are r;
+          marked = m ∙ ap length rs_are;
+          within = within_shown within;
+          printed = subst (λ (l : List ℕ). Appends old new (l ++ report_line w.report)) (lines_are true) w.printed;
+          are_loadings = none;
+          fresh = λ e. absurd (true_is_not_false e);
+          none_stale = λ e. absurd (true_is_not_false e);
+        }
+
+    pub part_any : loadings ≡ [] → IfErr driven (EndsStepped config.tree (map is_refused loadings) rs events t marks) → AreMarks (length t.shown.items) marks → (fault : RunFault) → BrokeOff driven (transcript_lines true rs ls (transcript_of t) ms) old new fault → BreaksEventsOff true true config reloads events old new fault
+    part_any none ends within NoMemory b =
+        let r = subst (λ (r : Result Report DriveFault). IfErr r (EndsStepped config.tree (map is_refused loadings) rs events t marks)) b.0 ends in
+        inr (record {
+          loadings = loadings;
+          shown = transcript_of t;
+          marks = marks;
+          part = subst (λ (x : List Reload). StepsPart config.tree (map is_refused loadings) x events (transcript_of t)) rs_are r;
+          within = within_shown within;
+          printed = subst (λ (l : List ℕ). Appends old new l) (lines_are true) b.1;
+          are_loadings = none;
+          fresh = λ e. absurd (true_is_not_false e);
+        })
+    part_any none ends within Writer b = tt
+
+    -- through trees that the gate accepted
+    pub steps_accepted : AreLoadings false config reloads loadings → IfOk driven (StepsFreshly config.tree loadings rs events (transcript_of t)) → OnOk driven (length marks ≡ length rs) → AreMarks (length t.shown.items) marks → Wrote driven (transcript_lines false rs ls (transcript_of t) ms) old new → RunsSteps false config reloads events old new
+    steps_accepted judged ran marked within w =
+        let r = subst (λ (r : Result Report DriveFault). IfOk r (StepsFreshly config.tree loadings rs events (transcript_of t))) w.driven_is ran in
+        let freshly = subst (λ (x : List Reload). StepsFreshly config.tree loadings x events (transcript_of t) w.report) rs_are r in
+        let m = subst (λ (r : Result Report DriveFault). OnOk r (length marks ≡ length rs)) w.driven_is marked in
+        record {
+          loadings = loadings;
+          shown = transcript_of t;
+          marks = marks;
+          report = w.report;
+          drives = freshly.drives;
+          marked = m ∙ ap length rs_are;
+          within = within_shown within;
+          printed = subst (λ (l : List ℕ). Appends old new (l ++ report_line w.report)) (lines_are false) w.printed;
+          are_loadings = judged;
+          fresh = λ e. freshly.fresh;
+          none_stale = λ e. freshly.none_stale;
+        }
+
+    pub part_accepted : AreLoadings false config reloads loadings → IfErr driven (EndsSteps config.tree loadings rs events t marks) → AreMarks (length t.shown.items) marks → (fault : RunFault) → BrokeOff driven (transcript_lines false rs ls (transcript_of t) ms) old new fault → BreaksEventsOff true false config reloads events old new fault
+    part_accepted judged ends within NoMemory b =
+        let r = subst (λ (r : Result Report DriveFault). IfErr r (EndsSteps config.tree loadings rs events t marks)) b.0 ends in
+        let freshly = subst (λ (x : List Reload). StepsPartFreshly config.tree loadings x events (transcript_of t)) rs_are r in
+        inr (record {
+          loadings = loadings;
+          shown = transcript_of t;
+          marks = marks;
+          part = freshly.part;
+          within = within_shown within;
+          printed = subst (λ (l : List ℕ). Appends old new l) (lines_are false) b.1;
+          are_loadings = judged;
+          fresh = λ e. freshly.fresh;
+        })
+    part_accepted judged ends within Writer b = tt

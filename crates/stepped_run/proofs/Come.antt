@@ -1,0 +1,413 @@
+-- How far a script has come, step by step, and what it did in the end.
+use Rattle.std.proofs.Common.{◌≡◌, ℕ, zero, suc, ◌+◌, ◌<◌, ◌≤◌, Bool, true, false, cond, nat_eq, List, [], ◌∷◌, ◌++◌, length, map, slice_get, take, drop, get_or, Option, Some, None, Result, Ok, Err, inl, inr, length-append, refl, sym, ap, ◌∙◌, subst, arith, append_assoc, append-nil}
+use Rattle.std.specs.Prelude.{replicate, IfSome, OnOk, OnErr}
+use Rattle.std.proofs.Math.Seq.{drop-cons, drop-length}
+use Rattle.std.proofs.lemmas.Bool.{cases_lt}
+use Rattle.std.proofs.lemmas.List.Elements.{All-weaker, All-same, All-push, All-nil}
+use Rattle.std.proofs.lemmas.List.{append_cancel_right, drop-map}
+use Rattle.std.proofs.lemmas.Option.{slice_get-get_or}
+use Rattle.mc_types.specs.Items.{Item}
+use Rattle.mc_runs.specs.Log.{Shown}
+use Rattle.mc_runs.specs.Overlap.{Entry, given_of, run_of}
+use Rattle.mc_runs.specs.OverlapStream.{stream_of}
+use Rattle.mc_runs.proofs.OverlapRuns.{runs}
+use Rattle.cache_server.specs.Contents.{Contents, empty}
+use Rattle.memory_fleet.specs.Fleets.{capacity}
+use Rattle.memory_fleet.specs.Losing.{held_at}
+use Rattle.memory_fleet.specs.declared.event.FleetFault.{FleetFault}
+use Rattle.memory_fleet.specs.declared.event.FleetFault.TheVariants as faults
+use Rattle.proxy_core.specs.Claims.{bars_by}
+use Rattle.proxy_core.specs.CoreState.{dialect}
+use Rattle.commands_under_way.specs.declared.sharing.Sharing.TheVariants.{Alone}
+use Rattle.route_tree.specs.At.{tree_at}
+use Rattle.route_tree.specs.Plan.{Plan}
+use Rattle.route_tree.specs.Route.{Route}
+use Rattle.route_tree.specs.Word.{tree_words}
+use Rattle.fleet_run.specs.declared.script.Event.{Event}
+use Rattle.fleet_run.specs.declared.script.Output.{Output}
+use Rattle.fleet_run.specs.declared.script.Reload.{Reload}
+use Rattle.fleet_run.specs.declared.script.Report.{Report}
+use Rattle.fleet_run.specs.declared.script.Transcript.{Transcript}
+use Rattle.fleet_run.specs.Bad.{first_bad}
+use Rattle.fleet_run.specs.Driving.{fault_of}
+use Rattle.fleet_run.specs.Opening.{opening_of}
+use Rattle.fleet_run.specs.Reloads.{is_refused, AreInOrder}
+use Rattle.fleet_run.specs.Scripted.{Scripted, scripted_of, shown_by, transcript_of}
+use Rattle.script_servers.specs.Servers.{caches_of, turn_of, moment_of, named_of, lost_of, IsNew}
+use Rattle.script_servers.specs.declared.servers.ScriptServers.{ScriptServers}
+use Rattle.stepped_log.specs.Standing.{Kept, Stands, tree_by}
+use Rattle.stepped_log.specs.Laws.{StandingSays, NothingStands, IsBegin}
+use Rattle.core_run.specs.Running.{kept_of, MovesByResults, IsLoadedBy}
+use Rattle.core_run.specs.declared.runner.Runner.{Runner}
+use Rattle.stepped_run.specs.Driving.{said_by, said_in, shown_to, one_loaded, trees_loaded, loaded_trees, IsReached, CameSo, CameInTurn, DrivesStepped, StepsPart, EndsStepped, AreMarks}
+use Rattle.stepped_run.specs.Holding.{put_all_on}
+use Rattle.stepped_run.specs.Stepping.{Befalls, HandsOut, HandsSome, HasCome, TakesUp, Loads, IsDue}
+use Rattle.stepped_log.proofs.Counted.{none_more}
+use Rattle.stepped_run.specs.World.{World}
+use Rattle.stepped_run.proofs.Held.{held_new, opened_new}
+use Rattle.stepped_run.proofs.Worlds.{world_next, world_ended, world_stays}
+use Rattle.stepped_run.proofs.Steps.{hands_nothing}
+
+-- ---- reloads
+
+said_split : (n : ℕ) (events : List Scripted) (c : ℕ) → said_in events c ≡ said_in (take n events) c ++ said_in (drop n events) c
+said_split zero events c = refl
+said_split (suc n) [] c = refl
+said_split (suc n) (event ∷ events) c = ap (λ xs. said_by event c ++ xs) (said_split n events c) ∙ sym (append_assoc (said_by event c) (said_in (take n events) c) (said_in (drop n events) c))
+
+-- what a longer log keeps
+reached_on : (more log : List (Entry dialect)) (events : List Scripted) (place begun : ℕ) → IsReached log events place begun → IsReached (more ++ log) events place begun
+reached_on more log events place begun r = record {
+  newer = more ++ r.newer;
+  older = r.older;
+  log_is = ap (λ l. more ++ l) r.log_is ∙ sym (append_assoc more r.newer r.older);
+  streams = r.streams;
+  begun_is = r.begun_is;
+}
+
+turn_on : (refused : List Bool) (reloads : List Reload) (events : List Scripted) (more log : List (Entry dialect)) (n : ℕ) (loads : List (ℕ × Route)) → CameInTurn refused reloads events log n loads → CameInTurn refused reloads events (more ++ log) n loads
+turn_on refused reloads events more log zero loads t = t
+turn_on refused reloads events more log (suc n) loads t = by (λ l x. turn_on refused reloads events more log n l x) (is_refused (slice_get refused n)) (slice_get reloads n) t
+  where
+    by :
+        ((l : List (ℕ × Route)) → CameInTurn refused reloads events log n l → CameInTurn refused reloads events (more ++ log) n l)
+        → (b : Bool) (o : Option Reload) → CameSo b o events log loads (CameInTurn refused reloads events log n) → CameSo b o events (more ++ log) loads (CameInTurn refused reloads events (more ++ log) n)
+    by before true o x = before loads x
+    by before false None x = before loads x
+    by before false (Some r) x = (x.0, x.1, x.2, reached_on more log events r.at x.0 x.3, before x.1 x.4)
+
+pub loads_stay : (refused : List Bool) (reloads : List Reload) (next n : ℕ) (a : Runner) → Loads refused reloads next n n a a
+loads_stay refused reloads next n a first events left given s here h = h
+
+pub loads_then : (refused : List Bool) (reloads : List Reload) (next x y z : ℕ) (a b d : Runner) → Loads refused reloads next x y a b → Loads refused reloads next y z b d → Loads refused reloads next x z a d
+loads_then refused reloads next x y z a b d m n first events left given s here h = n first events left given s here (m first events left given s here h)
+
+-- one more reload, which is refused, or not
+pub loads_one : StandingSays → (refused : List Bool) (reloads : List Reload) (next n : ℕ) (r : Reload) (is : Bool) (a b : Runner) → r.at ≡ next → slice_get reloads n ≡ Some r → is ≡ is_refused (slice_get refused n) → TakesUp is r.config.tree a b → Loads refused reloads next n (n + 1) a b
+loads_one law refused reloads next n r is a b place at same takes first events left given s here h = by is same takes
+  where
+    one : n + 1 ≡ suc n
+    one = omega arith
+
+    trees : (b : Bool) → b ≡ is_refused (slice_get refused n) → one_loaded b (Some r) (trees_loaded refused reloads n) ≡ trees_loaded refused reloads (n + 1)
+    trees b e =
+        ap (λ o. one_loaded b o (trees_loaded refused reloads n)) (sym at) ∙ ap (λ x. one_loaded x (slice_get reloads n) (trees_loaded refused reloads n)) e
+        ∙ ap (trees_loaded refused reloads) (sym one)
+
+    turn : (b : Bool) (loads : List (ℕ × Route)) → b ≡ is_refused (slice_get refused n) → CameSo b (Some r) events h.log loads (CameInTurn refused reloads events h.log n) → CameInTurn refused reloads events h.log (n + 1) loads
+    turn b loads e x =
+        subst (λ (m : ℕ). CameInTurn refused reloads events h.log m loads) (sym one)
+        (subst (λ (y : Bool). CameSo y (slice_get reloads n) events h.log loads (CameInTurn refused reloads events h.log n)) e
+        (subst (λ (o : Option Reload). CameSo b o events h.log loads (CameInTurn refused reloads events h.log n)) (sym at) x))
+
+    reached : IsReached h.log events r.at a.core.number
+    reached = record {
+      newer = [];
+      older = h.log;
+      log_is = refl;
+      streams = λ c.
+          append_cancel_right (stream_of h.log c) (said_in (take next events) c) (said_in left c)
+          (sym (h.streams c) ∙ said_split next events c ∙ ap (λ (l : List Scripted). said_in (take next events) c ++ said_in l c) (sym here))
+          ∙ ap (λ (m : ℕ). said_in (take m events) c) (sym place);
+      begun_is = (law (opening_of events) (tree_by first h.loads) h.log (kept_of a s) h.stands).begun;
+    }
+
+    by : (is : Bool) → is ≡ is_refused (slice_get refused n) → TakesUp is r.config.tree a b → HasCome first refused reloads events (n + 1) left given (kept_of b s)
+    by true e stays = record {
+      log = h.log;
+      loads = h.loads;
+      loads_are = h.loads_are ∙ trees true e;
+      in_turn = turn true h.loads e h.in_turn;
+      stands = subst (λ x. Stands (opening_of events) (tree_by first h.loads) h.log (kept_of x s)) (sym stays) h.stands;
+      streams = h.streams;
+      given_is = h.given_is;
+      done = h.done;
+      done_is = h.done_is;
+      world = h.world;
+    }
+    by false e loads = record {
+      log = h.log;
+      loads = (a.core.number, r.config.tree) ∷ h.loads;
+      loads_are = ap (λ l. r.config.tree ∷ l) h.loads_are ∙ trees false e;
+      in_turn = turn false ((a.core.number, r.config.tree) ∷ h.loads) e (a.core.number, h.loads, refl, reached, h.in_turn);
+      stands = loads s (opening_of events) first h.loads h.log h.stands;
+      streams = h.streams;
+      given_is = h.given_is;
+      done = h.done;
+      done_is = h.done_is;
+      world = h.world;
+    }
+
+module _ (first : Route) (refused : List Bool) (reloads : List Reload) (events : List Scripted) where
+  -- ---- one event
+
+  pub come_on :
+      (loaded : ℕ) (event : Scripted) (left : List Scripted) (given : List Shown) (a b : Runner) (s t : ScriptServers) → Befalls event a s b t
+      → HasCome first refused reloads events loaded (event ∷ left) given (kept_of a s) → HasCome first refused reloads events loaded left given (kept_of b t)
+  come_on loaded event left given a b s t m h =
+      let p = m.goes (opening_of events) (tree_by first h.loads) h.log h.stands in
+      let g = p.0 in
+      record {
+        log = g.more ++ h.log;
+        loads = h.loads;
+        loads_are = h.loads_are;
+        in_turn = turn_on refused reloads events g.more h.log loaded h.loads h.in_turn;
+        stands = g.stands;
+        streams = λ c. h.streams c ∙ sym (append_assoc (stream_of h.log c) (said_by event c) (said_in left c)) ∙ ap (λ xs. xs ++ said_in left c) (sym (g.streams c));
+        given_is = λ c. g.given c ∙ h.given_is c;
+        done = h.done ++ event ∷ [];
+        done_is = h.done_is ∙ sym (append_assoc h.done (event ∷ []) left);
+        world = world_next events h.done h.log g.more event m.results s m.mid t h.world m.changes m.given m.fit p.1;
+      }
+
+  -- the script is at its end, and what is still out has its results
+  pub come_ended :
+      (loaded : ℕ) (left : List Scripted) (given : List Shown) (a b : Runner) (s t : ScriptServers) → MovesByResults a s b t
+      → HasCome first refused reloads events loaded left given (kept_of a s) → HasCome first refused reloads events loaded left given (kept_of b t)
+  come_ended loaded left given a b s t m h =
+      let q = m.1.goes (opening_of events) (tree_by first h.loads) h.log h.stands in
+      let g = q.goes in
+      record {
+        log = g.more ++ h.log;
+        loads = h.loads;
+        loads_are = h.loads_are;
+        in_turn = turn_on refused reloads events g.more h.log loaded h.loads h.in_turn;
+        stands = g.stands;
+        streams = λ c. h.streams c ∙ ap (λ xs. xs ++ said_in left c) (sym (g.streams c));
+        given_is = λ c. g.given c ∙ h.given_is c;
+        done = h.done;
+        done_is = h.done_is;
+        world = world_ended events h.done h.log g.more m.0 s t h.world m.1.given q.calls;
+      }
+
+  -- what is new is handed out
+  pub come_out :
+      (loaded : ℕ) (left : List Scripted) (before after : List Shown) (a b : Runner) (s : ScriptServers) → HandsOut before after a b
+      → HasCome first refused reloads events loaded left before (kept_of a s) → HasCome first refused reloads events loaded left after (kept_of b s)
+  come_out loaded left before after a b s m h =
+      let g = m s (opening_of events) (tree_by first h.loads) h.log h.stands in
+      record {
+        log = g.more ++ h.log;
+        loads = h.loads;
+        loads_are = h.loads_are;
+        in_turn = turn_on refused reloads events g.more h.log loaded h.loads h.in_turn;
+        stands = g.stands;
+        streams = λ c. h.streams c ∙ ap (λ xs. xs ++ said_in left c) (sym (g.streams c));
+        given_is = g.given h.given_is;
+        done = h.done;
+        done_is = h.done_is;
+        world = world_stays events h.done h.log g.more s h.world (none_more (opening_of events) (tree_by first h.loads) h.log (kept_of a s) (kept_of b s) h.stands refl g.more g.stands);
+      }
+
+  -- or some of it
+  pub come_some :
+      (loaded : ℕ) (left : List Scripted) (before after : List Shown) (a : Runner) (s : ScriptServers) → HandsSome before after a
+      → HasCome first refused reloads events loaded left before (kept_of a s) → (k : Kept) × HasCome first refused reloads events loaded left after k
+  come_some loaded left before after a s m h =
+      let p = m s (opening_of events) (tree_by first h.loads) h.log h.stands in
+      let g = p.1 in (
+        kept_of p.0 s,
+        record {
+          log = g.more ++ h.log;
+          loads = h.loads;
+          loads_are = h.loads_are;
+          in_turn = turn_on refused reloads events g.more h.log loaded h.loads h.in_turn;
+          stands = g.stands;
+          streams = λ c. h.streams c ∙ ap (λ xs. xs ++ said_in left c) (sym (g.streams c));
+          given_is = g.given h.given_is;
+          done = h.done;
+          done_is = h.done_is;
+          world = world_stays events h.done h.log g.more s h.world (none_more (opening_of events) (tree_by first h.loads) h.log (kept_of a s) (kept_of p.0 s) h.stands refl g.more g.stands);
+        },
+      )
+
+  -- ---- the end
+
+  -- what was done so far
+  pub part_of : StandingSays → (loaded : ℕ) (left : List Scripted) (given : List Shown) (k : Kept) → loaded ≤ length reloads → HasCome first refused reloads events loaded left given k → StepsPart first refused reloads events given
+  part_of law loaded left given k within h =
+      let plans : ℕ → List ℕ → Plan = λ n key. tree_at (tree_by first h.loads n) key in
+      let says = law (opening_of events) (tree_by first h.loads) h.log k h.stands in
+      record {
+        log = h.log;
+        loads = h.loads;
+        loaded = loaded;
+        within = within;
+        loads_are = h.loads_are;
+        in_turn = h.in_turn;
+        follows = says.follows;
+        streams = λ c. (said_in left c, h.streams c);
+        given_is = h.given_is;
+        run = runs dialect (tree_words plans) (bars_by Alone plans) (opening_of events) h.log says.follows;
+        world = inr (record { done = h.done; later = left; events_are = h.done_is; servers = k.servers; world = h.world });
+      }
+
+  -- all was done
+  pub drives :
+      StandingSays → (given : List Shown) (k : Kept) (report : Report) → HasCome first refused reloads events (length reloads) [] given k
+      → report.commands ≡ k.commands → report.calls ≡ k.turn → report.stale ≡ k.stale → DrivesStepped first refused reloads events given report
+  drives law given k report h commands calls stale =
+      let plans : ℕ → List ℕ → Plan = λ n key. tree_at (tree_by first h.loads n) key in
+      let says = law (opening_of events) (tree_by first h.loads) h.log k h.stands in
+      record {
+        log = h.log;
+        loads = h.loads;
+        loads_are = h.loads_are;
+        in_turn = h.in_turn;
+        follows = says.follows;
+        streams = λ c. sym (h.streams c ∙ append-nil (stream_of h.log c));
+        given_is = h.given_is;
+        commands = commands ∙ says.ended;
+        calls = calls ∙ says.calls;
+        run = runs dialect (tree_words plans) (bars_by Alone plans) (opening_of events) h.log says.follows;
+        stale = stale ∙ says.stale;
+        servers = k.servers;
+        world = subst (λ (done : List Scripted). World events done h.log k.servers) (sym (h.done_is ∙ append-nil h.done)) h.world;
+      }
+
+-- ---- one event after another
+
+next_left : (xs : List Event) (i : ℕ) (x : Event) → i < length xs → x ≡ get_or xs i x → map scripted_of (drop i xs) ≡ scripted_of x ∷ map scripted_of (drop (i + 1) xs)
+next_left xs i x lt is =
+    let one : suc i ≡ i + 1 = omega arith in
+    ap (map scripted_of) (drop-cons xs i x lt) ∙ ap (λ (y : Event). scripted_of y ∷ map scripted_of (drop (suc i) xs)) (sym is) ∙ ap (λ (n : ℕ). scripted_of x ∷ map scripted_of (drop n xs)) one
+
+-- reloads that are due, an event, and what is handed out after it
+module _ (first : Route) (refused : List Bool) (reloads : List Reload) (xs : List Event) where
+  pub come_next :
+      (i before loaded : ℕ) (x : Event) (given more : List Shown) (a b d e : Runner) (s t : ScriptServers) → i < length xs → x ≡ get_or xs i x
+      → Loads refused reloads i before loaded a b → Befalls (scripted_of x) b s d t → HandsOut given more d e
+      → HasCome first refused reloads (map scripted_of xs) before (map scripted_of (drop i xs)) given (kept_of a s)
+      → HasCome first refused reloads (map scripted_of xs) loaded (map scripted_of (drop (i + 1) xs)) more (kept_of e t)
+  come_next i before loaded x given more a b d e s t lt is loads befalls hands h =
+      let events = map scripted_of xs in
+      let left = map scripted_of (drop (i + 1) xs) in
+      let due : HasCome first refused reloads events loaded (scripted_of x ∷ left) given (kept_of b s) =
+      subst (λ (l : List Scripted). HasCome first refused reloads events loaded l given (kept_of b s)) (next_left xs i x lt is) (loads first events (map scripted_of (drop i xs)) given s (sym (drop-map scripted_of i xs)) h) in
+      come_out first refused reloads events loaded left given more d e t hands (come_on first refused reloads events loaded (scripted_of x) left given b d s t befalls due)
+
+  -- the same, where not all could be handed out
+  pub come_broken :
+      StandingSays → (i before loaded : ℕ) (x : Event) (given more : List Shown) (a b d : Runner) (s t : ScriptServers) → i < length xs → x ≡ get_or xs i x → loaded ≤ length reloads
+      → Loads refused reloads i before loaded a b → Befalls (scripted_of x) b s d t → HandsSome given more d
+      → HasCome first refused reloads (map scripted_of xs) before (map scripted_of (drop i xs)) given (kept_of a s)
+      → StepsPart first refused reloads (map scripted_of xs) more
+  come_broken law i before loaded x given more a b d s t lt is within loads befalls hands h =
+      let events = map scripted_of xs in
+      let q = come_some first refused reloads events loaded (map scripted_of (drop (i + 1) xs)) given more d t hands (come_next i before loaded x given given a b d d s t lt is loads befalls (hands_nothing given d) h) in
+      part_of first refused reloads events law loaded (map scripted_of (drop (i + 1) xs)) more q.0 within q.1
+
+  -- the reloads after the last event
+  pub come_last :
+      (i before loaded : ℕ) (given : List Shown) (a b : Runner) (s : ScriptServers) → i ≡ length xs → loaded ≡ length reloads → Loads refused reloads (length xs) before loaded a b
+      → HasCome first refused reloads (map scripted_of xs) before (map scripted_of (drop i xs)) given (kept_of a s) → HasCome first refused reloads (map scripted_of xs) (length reloads) [] given (kept_of b s)
+  come_last i before loaded given a b s end all loads h =
+      let events = map scripted_of xs in
+      subst (λ (n : ℕ). HasCome first refused reloads events n [] given (kept_of b s)) all
+      (subst (λ (l : List Event). HasCome first refused reloads events loaded (map scripted_of l) given (kept_of b s)) (ap (λ (n : ℕ). drop n xs) end ∙ drop-length xs)
+      (loads first events (map scripted_of (drop i xs)) given s (ap (λ (n : ℕ). map scripted_of (drop n xs)) end ∙ sym (drop-map scripted_of (length xs) xs)) h))
+
+-- after the last place each reload has come
+order_get : (end servers place : ℕ) (rs : List Reload) (i : ℕ) → i < length rs → AreInOrder end servers place rs → IfSome (slice_get rs i) (λ r. r.at ≤ end)
+order_get end servers place [] i lt h = absurd (omega (arith, lt))
+order_get end servers place (r ∷ rs) zero lt h = h.1
+order_get end servers place (r ∷ rs) (suc i) lt h = order_get end servers r.at rs i (omega (arith, lt)) h.3
+
+pub all_came : (end servers place : ℕ) (reloads : List Reload) (loaded : ℕ) → AreInOrder end servers place reloads → loaded ≤ length reloads → (IsDue reloads loaded end → ⊥) → loaded ≡ length reloads
+all_came end servers place reloads loaded order within none = elim (cases_lt loaded (length reloads)) [
+  | inl lt ↦ absurd (none (lt, order_get end servers place reloads loaded lt order))
+  | inr le ↦ omega (arith, le, within)
+]
+
+-- ---- marks
+
+pub marks_on : (shown a b : ℕ) (old new : List ℕ) → shown ≡ a → a ≤ b → AreMarks a old → (AreMarks shown old → AreMarks shown new) → AreMarks b new
+marks_on shown a b old new is le h on =
+    All-weaker (λ (m : ℕ). m ≤ shown) (λ (m : ℕ). m ≤ b) (λ m at. omega (arith, at, is, le)) new (on (All-weaker (λ (m : ℕ). m ≤ a) (λ (m : ℕ). m ≤ shown) (λ m at. omega (arith, at, is)) old h))
+
+-- one more
+pub mark_more : (shown : ℕ) (old new : List ℕ) → new ≡ old ++ shown ∷ [] → AreMarks shown old → AreMarks shown new
+mark_more shown old new is h = All-same (λ (m : ℕ). m ≤ shown) new (old ++ shown ∷ []) is (All-push (λ (m : ℕ). m ≤ shown) old shown h (omega arith))
+
+pub marks_none : (shown : ℕ) (marks : List ℕ) → marks ≡ [] → AreMarks shown marks
+marks_none shown marks is = All-same (λ (m : ℕ). m ≤ shown) marks [] is (All-nil (λ (m : ℕ). m ≤ shown))
+
+pub mark_count : (n shown : ℕ) (old new : List ℕ) → new ≡ old ++ shown ∷ [] → length old ≡ n → length new ≡ n + 1
+mark_count n shown old new is len = ap length is ∙ length-append old (shown ∷ []) ∙ ap (λ (m : ℕ). m + 1) len
+
+-- ---- results
+
+pub on_err_as : {T E : Type 0} (r : Result T E) (P Q : Type 0) → (P → Q) → OnErr r P → OnErr r Q
+on_err_as (Ok x) P Q f p = tt
+on_err_as (Err e) P Q f p = f p
+
+pub on_ok_so : {T E : Type 0} (r : Result T E) (P : Type 0) → P → OnOk r P
+on_ok_so (Ok x) P p = p
+on_ok_so (Err e) P p = tt
+
+pub at_place : (reloads : List Reload) (i : ℕ) (r : Reload) → i < length reloads → r ≡ get_or reloads i r → slice_get reloads i ≡ Some r
+at_place reloads i r lt is = slice_get-get_or reloads i r lt ∙ ap (λ (x : Reload). Some x) (sym is)
+
+-- ---- the begin
+
+given_none : (t : Transcript) → t.shown.items ≡ [] → (c : ℕ) → [] ≡ shown_to (transcript_of t) c
+given_none t none c = ap (λ (l : List Output). shown_to (map shown_by l) c) (sym none)
+
+-- nothing was done
+pub nothing_done : (first : Route) (refused : List Bool) (reloads : List Reload) (events : List Scripted) (t : Transcript) → t.shown.items ≡ [] → StepsPart first refused reloads events (transcript_of t)
+nothing_done first refused reloads events t none = record {
+  log = [];
+  loads = [];
+  loaded = 0;
+  within = omega arith;
+  loads_are = refl;
+  in_turn = refl;
+  follows = tt;
+  streams = λ c. (said_in events c, refl);
+  given_is = given_none t none;
+  run = tt;
+  world = inl refl;
+}
+
+-- new servers, on which is what the script puts there
+pub begins :
+    NothingStands → (first : Route) (refused : List Bool) (reloads : List Reload) (events : List Event) (n : ℕ) (a : Runner) (s t : ScriptServers) (x : Transcript)
+    → ((u : ScriptServers) → turn_of u ≡ 0 → IsBegin first (kept_of a u)) → IsNew n s → caches_of t ≡ put_all_on events (caches_of s) → t ≡ record s { caches = t.caches } → first_bad n (map scripted_of events) ≡ None → x.shown.items ≡ []
+    → HasCome first refused reloads (map scripted_of events) 0 (map scripted_of events) (transcript_of x) (kept_of a t)
+begins law first refused reloads events n a s t x begin new put rest good none =
+    let puts : caches_of t ≡ put_all_on events (replicate n (empty capacity)) = put ∙ ap (put_all_on events) new.caches in
+    let each : (i : ℕ) (key : List ℕ) → held_at (caches_of t) i key ≡ opening_of (map scripted_of events) i key = λ i key. ap (λ l. held_at l i key) puts ∙ held_new n events good i key in
+    let held : held_at (caches_of t) ≡ opening_of (map scripted_of events) = both each in
+    record {
+      log = [];
+      loads = [];
+      loads_are = refl;
+      in_turn = refl;
+      stands = subst (λ o. Stands o (tree_by first []) [] (kept_of a t)) held (law first (kept_of a t) (begin t (ap turn_of rest ∙ new.turn)));
+      streams = λ c. refl;
+      given_is = given_none x none;
+      done = [];
+      done_is = refl;
+      world = record {
+        deeds = [];
+        script_is = refl;
+        lead = record {
+          caches = λ i cache at. opened_new n events i cache (ap (λ l. slice_get l i) (sym puts) ∙ at);
+          turn = ap turn_of rest ∙ new.turn;
+          moment = ap moment_of rest ∙ new.moment;
+          named = λ i. ap (λ y. named_of y i) rest ∙ new.named i;
+          lost = λ i. ap (λ y. lost_of y i) rest ∙ new.lost i;
+        };
+        in_turn = tt;
+        calls = refl;
+      };
+    }
+  where
+    both : ((i : ℕ) (key : List ℕ) → held_at (caches_of t) i key ≡ opening_of (map scripted_of events) i key) → held_at (caches_of t) ≡ opening_of (map scripted_of events)
+    both each i s key = each s key i
+
+-- ---- a fault
+
+pub ends_so : (fault : FleetFault) (first : Route) (refused : List Bool) (reloads : List Reload) (events : List Scripted) (t : Transcript) (marks : List ℕ) → StepsPart first refused reloads events (transcript_of t) → EndsStepped first refused reloads events t marks (fault_of fault)
+ends_so faults.NoMemory first refused reloads events t marks part = part
+ends_so faults.Spent first refused reloads events t marks part = part

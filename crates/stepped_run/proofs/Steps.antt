@@ -1,0 +1,313 @@
+-- What an event makes of a log, and what is handed out after it.
+use Rattle.std.specs.Prelude.{ℤ, Some, Option}
+use Rattle.std.proofs.Common.{◌≡◌, ℕ, ◌+◌, Bool, true, false, cond, nat_eq, List, [], ◌∷◌, ◌++◌, length, map, take, drop, refl, sym, ap, ◌∙◌, subst, append_assoc, append-nil}
+use Rattle.std.proofs.lemmas.List.{take-append-drop, map-append, nil_from_length}
+use Rattle.std.proofs.lemmas.Bool.{eqb-true}
+use Rattle.mc_types.specs.Items.{Item}
+use Rattle.mc_runs.specs.Log.{Shown}
+use Rattle.mc_runs.specs.Overlap.{Entry, given_of, run_of}
+use Rattle.mc_runs.specs.OverlapStream.{stream_of}
+use Rattle.proxy_core.specs.CoreState.{dialect}
+use Rattle.route_tree.specs.Route.{Route}
+use Rattle.memory_fleet.specs.Losing.{held_at, after_loss}
+use Rattle.memory_fleet.specs.Losing as losing
+use Rattle.memory_fleet.specs.declared.event.Loss.{Loss}
+use Rattle.mc_runs.specs.Fleet.{after_event}
+use Rattle.fleet_run.specs.declared.script.Output.{Output}
+use Rattle.fleet_run.specs.Scripted.{Scripted, Manner, Piece, Add, Result, Fail, Hold, At, Now, Moment, loss_of, shown_by}
+use Rattle.script_servers.specs.Servers.{caches_of, turn_of, moment_of, named_of, lost_of}
+use Rattle.stepped_log.specs.Laws.{LossesGoOn}
+use Rattle.script_servers.specs.declared.servers.ScriptServers.{ScriptServers}
+use Rattle.stepped_log.specs.Results.{CallResult, NumberedCall, call_of, calls_of}
+use Rattle.stepped_log.specs.Standing.{Kept, Stands, GoesOn, GoesOnFed}
+use Rattle.stepped_log.proofs.Counted.{none_more}
+use Rattle.core_run.specs.Running.{kept_of, Moves, MovesAt, MovesByResults, MovesFed, MovesGiven}
+use Rattle.core_run.proofs.Running.{given_then}
+use Rattle.core_run.specs.declared.runner.Runner.{Runner}
+use Rattle.stepped_run.specs.Driving.{said_by, shown_to}
+use Rattle.stepped_run.specs.World.{Changes}
+use Rattle.stepped_run.specs.Stepping.{HasCalls, FedBy, AreFit, GoesOnSaid, Befalls, GoesOnShown, HandsOut, HandsSome}
+
+-- ---- bytes that a client says
+
+same_twice : (b : Bool) (xs : List ℕ) → xs ≡ cond b (xs ++ []) xs
+same_twice true xs = sym (append-nil xs)
+same_twice false xs = refl
+
+one_then : (b : Bool) (xs first second : List ℕ) → cond b (cond b (xs ++ first) xs ++ second) (cond b (xs ++ first) xs) ≡ cond b (xs ++ (first ++ second)) xs
+one_then true xs first second = append_assoc xs first second
+one_then false xs first second = refl
+
+after_it : (b : Bool) (xs bytes : List ℕ) → cond b (xs ++ bytes) xs ≡ xs ++ cond b bytes []
+after_it true xs bytes = refl
+after_it false xs bytes = sym (append-nil xs)
+
+-- it said nothing
+fed_nothing : (client : ℕ) (a b : Runner) (s t : ScriptServers) → Moves a s b t → MovesFed client [] a s b t
+fed_nothing client a b s t m opening tree log stands =
+    let g = m opening tree log stands in
+    record { more = g.more; stands = g.stands; streams = λ c. g.streams c ∙ same_twice (nat_eq client c) (stream_of log c); given = g.given }
+
+-- and no call had its result
+pub fed_by_none : (client : ℕ) (bytes : List ℕ) (a b : Runner) (s : ScriptServers) → MovesFed client bytes a s b s → FedBy client bytes a s b s
+fed_by_none client bytes a b s m =
+    record {
+      results = [];
+      given = refl;
+      goes = λ opening tree log stands. let g = m opening tree log stands in (g, none_more opening tree log (kept_of a s) (kept_of b s) stands refl g.more g.stands);
+    }
+
+pub nothing_fed : (client : ℕ) (a b : Runner) (s : ScriptServers) → Moves a s b s → FedBy client [] a s b s
+nothing_fed client a b s m = fed_by_none client [] a b s (fed_nothing client a b s s m)
+
+-- results that came later, before those that came first
+calls_joined : (later first : List CallResult) (more front log : List (Entry dialect)) → HasCalls later more (front ++ log) → HasCalls first front log → HasCalls (later ++ first) (more ++ front) log
+calls_joined later first more front log h g =
+    ap (λ es. calls_of (run_of es)) (append_assoc more front log) ∙ h ∙ ap (λ (cs : List NumberedCall). map call_of later ++ cs) g
+    ∙ sym (append_assoc (map call_of later) (map call_of first) (calls_of (run_of log))) ∙ ap (λ (cs : List NumberedCall). cs ++ calls_of (run_of log)) (sym (map-append call_of later first))
+
+-- it said these bytes, and then those
+pub fed_more : (client : ℕ) (first second : List ℕ) (a b d : Runner) (s t u : ScriptServers) → FedBy client first a s b t → FedBy client second b t d u → FedBy client (first ++ second) a s d u
+fed_more client first second a b d s t u m n =
+    record {
+      results = n.results ++ m.results;
+      given = given_then n.results m.results s t u m.given n.given;
+      goes = λ opening tree log stands.
+          let p = m.goes opening tree log stands in
+          let g = p.0 in
+          let q = n.goes opening tree (g.more ++ log) g.stands in
+          let h = q.0 in
+          let joined = append_assoc h.more g.more log in (
+            record {
+              more = h.more ++ g.more;
+              stands = subst (λ l. Stands opening tree l (kept_of d u)) (sym joined) h.stands;
+              streams = λ c. ap (λ l. stream_of l c) joined ∙ h.streams c ∙ ap (λ xs. cond (nat_eq client c) (xs ++ second) xs) (g.streams c) ∙ one_then (nat_eq client c) (stream_of log c) first second;
+              given = λ c. ap (λ l. given_of l c) joined ∙ h.given c ∙ g.given c;
+            },
+            calls_joined n.results m.results h.more g.more log q.1 p.1,
+          );
+    }
+
+-- something else was done before
+pub fed_after : (client : ℕ) (bytes : List ℕ) (a b d : Runner) (s : ScriptServers) → Moves a s b s → MovesFed client bytes b s d s → MovesFed client bytes a s d s
+fed_after client bytes a b d s m n opening tree log stands =
+    let g = m opening tree log stands in
+    let h = n opening tree (g.more ++ log) g.stands in
+    let joined = append_assoc h.more g.more log in
+    record {
+      more = h.more ++ g.more;
+      stands = subst (λ l. Stands opening tree l (kept_of d s)) (sym joined) h.stands;
+      streams = λ c. ap (λ l. stream_of l c) joined ∙ h.streams c ∙ ap (λ xs. cond (nat_eq client c) (xs ++ bytes) xs) (g.streams c);
+      given = λ c. ap (λ l. given_of l c) joined ∙ h.given c ∙ g.given c;
+    }
+
+-- bytes, and then results
+pub fed_results : (client : ℕ) (bytes : List ℕ) (a b d : Runner) (s t : ScriptServers) → MovesFed client bytes a s b s → MovesByResults b s d t → FedBy client bytes a s d t
+fed_results client bytes a b d s t m n =
+    record {
+      results = n.0;
+      given = n.1.given;
+      goes = λ opening tree log stands.
+          let g = m opening tree log stands in
+          let q = n.1.goes opening tree (g.more ++ log) g.stands in
+          let h = q.goes in
+          let joined = append_assoc h.more g.more log in (
+            record {
+              more = h.more ++ g.more;
+              stands = subst (λ l. Stands opening tree l (kept_of d t)) (sym joined) h.stands;
+              streams = λ c. ap (λ l. stream_of l c) joined ∙ h.streams c ∙ g.streams c;
+              given = λ c. ap (λ l. given_of l c) joined ∙ h.given c ∙ g.given c;
+            },
+            ap (λ es. calls_of (run_of es)) joined ∙ q.calls ∙ ap (λ (cs : List NumberedCall). map call_of n.0 ++ cs) (none_more opening tree log (kept_of a s) (kept_of b s) stands refl g.more g.stands),
+          );
+    }
+
+-- a cut, and what is left
+pub cut_joins : (bytes before rest cut more : List ℕ) (n : ℕ) → bytes ≡ before ++ rest → cut ≡ take n rest → more ≡ drop n rest → bytes ≡ (before ++ cut) ++ more
+cut_joins bytes before rest cut more n is front back =
+    is ∙ ap (λ l. before ++ l) (sym (take-append-drop n rest)) ∙ ap (λ l. before ++ (l ++ drop n rest)) (sym front) ∙ ap (λ l. before ++ (cut ++ l)) (sym back) ∙ sym (append_assoc before cut more)
+
+-- ---- events
+
+said : (event : Scripted) (client : ℕ) (bytes : List ℕ) → ((c : ℕ) → said_by event c ≡ cond (nat_eq client c) bytes []) → (opening : ℕ → List ℕ → Option Item) (tree : ℕ → Route) (log : List (Entry dialect)) (k : Kept) → (g : GoesOnFed opening tree log client bytes k) → GoesOnSaid opening tree log event k
+said event client bytes says opening tree log k g =
+    record { more = g.more; stands = g.stands; streams = λ c. g.streams c ∙ after_it (nat_eq client c) (stream_of log c) bytes ∙ ap (λ xs. stream_of log c ++ xs) (sym (says c)); given = g.given }
+
+pub piece_said : (client : ℕ) (bytes : List ℕ) (a b : Runner) (s t : ScriptServers) → FedBy client bytes a s b t → Befalls (Piece client bytes) a s b t
+unfolding said
+piece_said client bytes a b s t m =
+    record {
+      mid = s;
+      changes = refl;
+      results = m.results;
+      given = m.given;
+      fit = tt;
+      goes = λ opening tree log stands. let p = m.goes opening tree log stands in (said (Piece client bytes) client bytes (λ c. refl) opening tree log (kept_of b t) p.0, p.1);
+    }
+
+pub add_said : (client : ℕ) (bytes : List ℕ) (a b : Runner) (s : ScriptServers) → MovesFed client bytes a s b s → Befalls (Add client bytes) a s b s
+unfolding said
+add_said client bytes a b s m =
+    record {
+      mid = s;
+      changes = refl;
+      results = [];
+      given = refl;
+      fit = refl;
+      goes = λ opening tree log stands.
+          let g = m opening tree log stands in (said (Add client bytes) client bytes (λ c. refl) opening tree log (kept_of b s) g, none_more opening tree log (kept_of a s) (kept_of b s) stands refl g.more g.stands);
+    }
+
+-- an event that says nothing
+quiet : (event : Scripted) → ((c : ℕ) → said_by event c ≡ []) → (opening : ℕ → List ℕ → Option Item) (tree : ℕ → Route) (log : List (Entry dialect)) (k : Kept) → (g : GoesOn opening tree log k) → GoesOnSaid opening tree log event k
+quiet event says opening tree log k g =
+    record { more = g.more; stands = g.stands; streams = λ c. g.streams c ∙ sym (append-nil (stream_of log c)) ∙ ap (λ xs. stream_of log c ++ xs) (sym (says c)); given = g.given }
+
+-- a result is asked for
+pub result_asked : (server : ℕ) (a b : Runner) (s t : ScriptServers) → MovesAt server a s b t → Befalls (Result server) a s b t
+unfolding quiet
+result_asked server a b s t m =
+    record {
+      mid = s;
+      changes = refl;
+      results = m.0;
+      given = m.2.given;
+      fit = m.1;
+      goes = λ opening tree log stands. let q = m.2.goes opening tree log stands in (quiet (Result server) (λ c. refl) opening tree log (kept_of b t) q.goes, q.calls);
+    }
+
+-- an event that changes the servers, and for which no call has a result
+pub changed : (event : Scripted) → ((c : ℕ) → said_by event c ≡ []) → AreFit event [] → (a : Runner) (s t : ScriptServers) → turn_of t ≡ turn_of s → Changes event s t → Moves a s a t → Befalls event a s a t
+unfolding quiet
+changed event says fit a s t turn changes m =
+    record {
+      mid = t;
+      changes = changes;
+      results = [];
+      given = refl;
+      fit = fit;
+      goes = λ opening tree log stands.
+          let g = m opening tree log stands in (quiet event says opening tree log (kept_of a t) g, none_more opening tree log (kept_of a s) (kept_of a t) stands turn g.more g.stands);
+    }
+
+-- a log stands whatever servers that hold the same are kept
+stands_as : (opening : ℕ → List ℕ → Option Item) (tree : ℕ → Route) (log : List (Entry dialect)) (k : Kept) (servers : ScriptServers) → Stands opening tree log k → Stands opening tree log (record k { servers = servers })
+stands_as opening tree log k servers st =
+    record {
+      beside = st.beside;
+      plain = st.plain;
+      fits = st.fits;
+      leads = st.leads;
+      limits = st.limits;
+      served = st.served;
+      holds = st.holds;
+      turn = st.turn;
+      known = st.known;
+      unknown = st.unknown;
+      commands = st.commands;
+      stale = st.stale;
+      last = st.last;
+    }
+
+stays_as : (a : Runner) (s t : ScriptServers) → kept_of a t ≡ record (kept_of a s) { servers = t } → Moves a s a t
+stays_as a s t same opening tree log stands =
+    record { more = []; stands = subst (λ k. Stands opening tree log k) (sym same) (stands_as opening tree log (kept_of a s) t stands); streams = λ c. refl; given = λ c. refl }
+
+-- nothing is put on servers any more
+pub held_before : (server : ℕ) (key content : List ℕ) (a : Runner) (s : ScriptServers) → Befalls (Hold server key content) a s a s
+held_before server key content a s =
+    changed (Hold server key content) (λ c. refl) refl a s s refl refl (λ opening tree log stands. record { more = []; stands = stands; streams = λ c. refl; given = λ c. refl })
+
+-- a failure is named
+pub named : (turn : ℕ) (manner : Manner) (a : Runner) (s t : ScriptServers) → ((n : ℕ) → named_of t n ≡ cond (nat_eq (turn_of s + turn) n) (Some manner) (named_of s n)) → t ≡ record s { failures = t.failures } → Befalls (Fail turn manner) a s a t
+named turn manner a s t names rest =
+    changed (Fail turn manner) (λ c. refl) refl a s t (ap turn_of rest) (names, rest) (stays_as a s t (ap (λ x. record (kept_of a x) { servers = t }) rest))
+
+map_if : (b : Bool) (xs : List Loss) (loss : Loss) → map loss_of (cond b (xs ++ loss ∷ []) xs) ≡ cond b (map loss_of xs ++ loss_of loss ∷ []) (map loss_of xs)
+map_if true xs loss = map-append loss_of xs (loss ∷ [])
+map_if false xs loss = refl
+
+-- a loss is named
+pub loss_named : (turn : ℕ) (loss : Loss) (a : Runner) (s t : ScriptServers) → ((n : ℕ) → lost_of t n ≡ cond (nat_eq (turn_of s + turn) n) (lost_of s n ++ loss ∷ []) (lost_of s n)) → t ≡ record s { losses = t.losses } → Befalls (At turn (loss_of loss)) a s a t
+loss_named turn loss a s t losses rest =
+    changed (At turn (loss_of loss)) (λ c. refl) refl a s t (ap turn_of rest) ((λ n. ap (map loss_of) (losses n) ∙ map_if (nat_eq (turn_of s + turn) n) (lost_of s n) loss), rest) (stays_as a s t (ap (λ x. record (kept_of a x) { servers = t }) rest))
+
+-- the time changes
+pub timed : (moment : ℤ) (a : Runner) (s t : ScriptServers) → moment_of t ≡ moment → t ≡ record s { moment = t.moment } → Befalls (Moment moment) a s a t
+timed moment a s t now rest = changed (Moment moment) (λ c. refl) refl a s t (ap turn_of rest) (now, rest) (stays_as a s t (ap (λ x. record (kept_of a x) { servers = t }) rest))
+
+-- something is lost
+pub lost :
+    LossesGoOn → (a : Runner) (s t : ScriptServers) (loss : Loss) → caches_of t ≡ after_loss (losing.loss_of loss) (caches_of s)
+    → ((i : ℕ) (key : List ℕ) → held_at (caches_of t) i key ≡ after_event (losing.loss_of loss) (held_at (caches_of s)) i key) → t ≡ record s { caches = t.caches } → Befalls (Now (loss_of loss)) a s a t
+lost law a s t loss caches held rest =
+    changed (Now (loss_of loss)) (λ c. refl) refl a s t (ap turn_of rest) ((loss, refl, caches), rest)
+    (λ opening tree log stands.
+    law opening tree log loss (kept_of a s) (kept_of a t) stands (
+    record {
+      core = refl;
+      caches = caches;
+      held = held;
+      turn = ap turn_of rest;
+      counts = record { commands = refl; stale = refl; last = λ key. refl };
+      found = λ n. refl;
+    }
+    ))
+
+-- ---- what is handed out
+
+pub shown_append : (before more : List Shown) (c : ℕ) → shown_to (before ++ more) c ≡ shown_to before c ++ shown_to more c
+shown_append [] more c = refl
+shown_append (x ∷ before) more c = ap (λ xs. cond (nat_eq x.client c) x.bytes [] ++ xs) (shown_append before more c) ∙ sym (append_assoc (cond (nat_eq x.client c) x.bytes []) (shown_to before c) (shown_to more c))
+
+-- nothing is handed out
+pub hands_nothing : (shown : List Shown) (a : Runner) → HandsOut shown shown a a
+hands_nothing shown a s opening tree log stands = record { more = []; stands = stands; streams = λ c. refl; given = λ h. h }
+
+-- first this, then that
+pub hands_then : (x y z : List Shown) (a b d : Runner) → HandsOut x y a b → HandsOut y z b d → HandsOut x z a d
+hands_then x y z a b d m n s opening tree log stands =
+    let g = m s opening tree log stands in
+    let h = n s opening tree (g.more ++ log) g.stands in
+    let joined = append_assoc h.more g.more log in
+    record {
+      more = h.more ++ g.more;
+      stands = subst (λ l. Stands opening tree l (kept_of d s)) (sym joined) h.stands;
+      streams = λ c. ap (λ l. stream_of l c) joined ∙ h.streams c ∙ g.streams c;
+      given = λ is c. ap (λ l. given_of l c) joined ∙ h.given (g.given is) c;
+    }
+
+-- a client is given its output, which is empty
+pub given_nothing : (client : ℕ) (bytes : List ℕ) (shown : List Shown) (a b : Runner) → bytes ≡ [] → ((s : ScriptServers) → MovesGiven client bytes a s b s) → HandsOut shown shown a b
+given_nothing client bytes shown a b none m s opening tree log stands =
+    let g = m s opening tree log stands in
+    record {
+      more = g.more;
+      stands = g.stands;
+      streams = g.streams;
+      given = λ is c. g.given c ∙ ap (λ xs. cond (nat_eq client c) (given_of log c ++ xs) (given_of log c)) none ∙ sym (same_twice (nat_eq client c) (given_of log c)) ∙ is c;
+    }
+
+-- and where it isn't, it is handed out
+pub given_more : (client : ℕ) (bytes : List ℕ) (before after : List Shown) (a b : Runner) → after ≡ before ++ record { client = client; bytes = bytes } ∷ [] → ((s : ScriptServers) → MovesGiven client bytes a s b s) → HandsOut before after a b
+given_more client bytes before after a b more m s opening tree log stands =
+    let g = m s opening tree log stands in
+    record {
+      more = g.more;
+      stands = g.stands;
+      streams = g.streams;
+      given = λ is c.
+          g.given c ∙ after_it (nat_eq client c) (given_of log c) bytes ∙ ap (λ xs. xs ++ cond (nat_eq client c) bytes []) (is c)
+          ∙ ap (λ xs. shown_to before c ++ xs) (sym (append-nil (cond (nat_eq client c) bytes [])))
+          ∙ sym (ap (λ l. shown_to l c) more ∙ shown_append before (record { client = client; bytes = bytes } ∷ []) c);
+    }
+
+-- so far
+pub hands_some : (before after : List Shown) (a b : Runner) → HandsOut before after a b → HandsSome before after a
+hands_some before after a b m s opening tree log stands = (b, m s opening tree log stands)
+
+pub one_more_shown : (xs ys : List Output) (client : ℕ) (o : Output) → ys ≡ xs ++ o ∷ [] → map shown_by ys ≡ map shown_by xs ++ shown_by o ∷ []
+one_more_shown xs ys client o is = ap (map shown_by) is ∙ map-append shown_by xs (o ∷ [])
+
+pub nothing_new : (xs bytes : List ℕ) (b : Bool) → xs ≡ bytes → b ≡ nat_eq (length xs) 0 → b ≡ true → bytes ≡ []
+nothing_new xs bytes b same is none = nil_from_length bytes (ap length (sym same) ∙ eqb-true (length xs) 0 (sym is ∙ none))

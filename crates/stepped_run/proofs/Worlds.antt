@@ -1,0 +1,94 @@
+-- The world of a log goes on by events and by results.
+use Rattle.std.proofs.Common.{◌≡◌, ℕ, List, [], ◌∷◌, ◌++◌, map, refl, sym, ap, ◌∙◌, subst}
+use Rattle.std.proofs.lemmas.List.{map-append}
+use Rattle.mc_runs.specs.Overlap.{Entry, run_of}
+use Rattle.proxy_core.specs.CoreState.{dialect}
+use Rattle.fleet_run.specs.Scripted.{Scripted, Piece, Add, Result, Fail, Hold, At, Now, Moment}
+use Rattle.script_servers.specs.declared.servers.ScriptServers.{ScriptServers}
+use Rattle.stepped_log.specs.Results.{CallResult, NumberedCall, AreGiven, call_of, calls_of}
+use Rattle.core_run.specs.Running.{AreOfOne}
+use Rattle.stepped_run.specs.World.{Deed, Takes, Ends, Gives, Changes, LeadTo, AreMany, IsAwaited, AreInTurn, World, script_of, results_of}
+use Rattle.stepped_run.specs.Stepping.{HasCalls, AreFit}
+
+-- results after deeds, the latest first
+abbrev then_given : List CallResult → List Deed → List Deed
+then_given [] deeds = deeds
+then_given (r ∷ rs) deeds = Gives r ∷ then_given rs deeds
+
+script_same : (rs : List CallResult) (deeds : List Deed) → script_of (then_given rs deeds) ≡ script_of deeds
+script_same [] deeds = refl
+script_same (r ∷ rs) deeds = script_same rs deeds
+
+results_more : (rs : List CallResult) (deeds : List Deed) → results_of (then_given rs deeds) ≡ rs ++ results_of deeds
+results_more [] deeds = refl
+results_more (r ∷ rs) deeds = ap (λ (l : List CallResult). r ∷ l) (results_more rs deeds)
+
+led_on : (events : List Scripted) (rs : List CallResult) (deeds : List Deed) (old new : ScriptServers) → LeadTo events deeds old → AreGiven rs old new → LeadTo events (then_given rs deeds) new
+led_on events [] deeds old new lead given = subst (LeadTo events deeds) (sym given) lead
+led_on events (r ∷ rs) deeds old new lead given = (given.0, led_on events rs deeds old given.0 lead given.1, given.2, given.3)
+
+-- after deeds of this kind come as many results as there are
+record AreOpen (deeds : List Deed) : Type 0 where
+  pub many : AreMany deeds
+  pub awaited : (r : CallResult) → IsAwaited r deeds
+
+still_many : (rs : List CallResult) (deeds : List Deed) → AreMany deeds → AreMany (then_given rs deeds)
+still_many [] deeds h = h
+still_many (r ∷ rs) deeds h = still_many rs deeds h
+
+awaited_then : (r : CallResult) (rs : List CallResult) (deeds : List Deed) → AreOpen deeds → IsAwaited r (then_given rs deeds)
+awaited_then r [] deeds h = h.awaited r
+awaited_then r (s ∷ rs) deeds h = still_many rs deeds h.many
+
+turns_on : (rs : List CallResult) (deeds : List Deed) → AreOpen deeds → AreInTurn deeds → AreInTurn (then_given rs deeds)
+turns_on [] deeds h turns = turns
+turns_on (r ∷ rs) deeds h turns = (awaited_then r rs deeds h, turns_on rs deeds h turns)
+
+-- the results that an event asks for
+turns_fit : (event : Scripted) (rs : List CallResult) (deeds : List Deed) → AreFit event rs → AreInTurn deeds → AreInTurn (then_given rs (Takes event ∷ deeds))
+turns_fit (Piece client bytes) rs deeds fit turns = turns_on rs (Takes (Piece client bytes) ∷ deeds) (record { many = tt; awaited = λ r. tt }) turns
+turns_fit (Result server) rs deeds fit turns = by rs fit
+  where
+    by : (rs : List CallResult) → AreOfOne server rs → AreInTurn (then_given rs (Takes (Result server) ∷ deeds))
+    by [] one = turns
+    by (r ∷ []) one = (one, turns)
+    by (r ∷ s ∷ more) one = absurd one
+turns_fit (Add client bytes) rs deeds fit turns = subst (λ (l : List CallResult). AreInTurn (then_given l (Takes (Add client bytes) ∷ deeds))) (sym fit) turns
+turns_fit (Fail turn manner) rs deeds fit turns = subst (λ (l : List CallResult). AreInTurn (then_given l (Takes (Fail turn manner) ∷ deeds))) (sym fit) turns
+turns_fit (Hold server key content) rs deeds fit turns = subst (λ (l : List CallResult). AreInTurn (then_given l (Takes (Hold server key content) ∷ deeds))) (sym fit) turns
+turns_fit (At turn loss) rs deeds fit turns = subst (λ (l : List CallResult). AreInTurn (then_given l (Takes (At turn loss) ∷ deeds))) (sym fit) turns
+turns_fit (Now loss) rs deeds fit turns = subst (λ (l : List CallResult). AreInTurn (then_given l (Takes (Now loss) ∷ deeds))) (sym fit) turns
+turns_fit (Moment moment) rs deeds fit turns = subst (λ (l : List CallResult). AreInTurn (then_given l (Takes (Moment moment) ∷ deeds))) (sym fit) turns
+
+calls_then : (rs : List CallResult) (deeds : List Deed) (more log : List (Entry dialect)) → map call_of (results_of deeds) ≡ calls_of (run_of log) → HasCalls rs more log → map call_of (results_of (then_given rs deeds)) ≡ calls_of (run_of (more ++ log))
+calls_then rs deeds more log same has =
+    ap (map call_of) (results_more rs deeds) ∙ map-append call_of rs (results_of deeds) ∙ ap (λ (cs : List NumberedCall). map call_of rs ++ cs) same ∙ sym has
+
+module _ (events done : List Scripted) (log more : List (Entry dialect)) where
+  -- the next event, and its results
+  pub world_next :
+      (event : Scripted) (rs : List CallResult) (old mid new : ScriptServers) → World events done log old → Changes event old mid → AreGiven rs mid new → AreFit event rs → HasCalls rs more log
+      → World events (done ++ event ∷ []) (more ++ log) new
+  world_next event rs old mid new w changes given fit has =
+      record {
+        deeds = then_given rs (Takes event ∷ w.deeds);
+        script_is = script_same rs (Takes event ∷ w.deeds) ∙ ap (λ (l : List Scripted). l ++ event ∷ []) w.script_is;
+        lead = led_on events rs (Takes event ∷ w.deeds) mid new (old, w.lead, changes) given;
+        in_turn = turns_fit event rs w.deeds fit w.in_turn;
+        calls = calls_then rs (Takes event ∷ w.deeds) more log w.calls has;
+      }
+
+  -- the script's end, and the results of what is still out
+  pub world_ended : (rs : List CallResult) (old new : ScriptServers) → World events done log old → AreGiven rs old new → HasCalls rs more log → World events done (more ++ log) new
+  world_ended rs old new w given has =
+      record {
+        deeds = then_given rs (Ends ∷ w.deeds);
+        script_is = script_same rs (Ends ∷ w.deeds) ∙ w.script_is;
+        lead = led_on events rs (Ends ∷ w.deeds) old new w.lead given;
+        in_turn = turns_on rs (Ends ∷ w.deeds) (record { many = tt; awaited = λ r. tt }) w.in_turn;
+        calls = calls_then rs (Ends ∷ w.deeds) more log w.calls has;
+      }
+
+  -- no call had its result
+  pub world_stays : (servers : ScriptServers) → World events done log servers → calls_of (run_of (more ++ log)) ≡ calls_of (run_of log) → World events done (more ++ log) servers
+  world_stays servers w same = record { deeds = w.deeds; script_is = w.script_is; lead = w.lead; in_turn = w.in_turn; calls = w.calls ∙ sym same }

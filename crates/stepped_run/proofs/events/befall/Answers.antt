@@ -1,0 +1,58 @@
+use Rattle.std.proofs.Common.{sym, subst, List, ℕ}
+use Rattle.fleet_run.specs.declared.script.Event.{Event}
+use Rattle.fleet_run.specs.Scripted.{manner_of, scripted_of}
+use Rattle.core_run.proofs.Running.{on_ok}
+use Rattle.core_run.specs.Running.{MovesFed}
+use Rattle.stepped_run.specs.Stepping.{FedBy, Befalls}
+use Rattle.stepped_run.proofs.Steps.{piece_said, add_said, result_asked, held_before, named, loss_named}
+use Rattle.stepped_run.proofs.events.befall.Goals as goal
+
+pub returns-in-Piece-clause-ok : goal.returns-in-Piece-clause-ok
+returns-in-Piece-clause-ok c =
+    on_ok c.piece.result _ _
+    (λ m. subst (λ (e : Event). Befalls (scripted_of e) c.args.runner.now c.args.servers.now c.piece.new.runner c.piece.new.servers) (sym c.in-Piece.is)
+    (piece_said c.in-Piece.client c.in-Piece.bytes.items c.args.runner.now c.piece.new.runner c.args.servers.now c.piece.new.servers
+    (subst (λ (l : List ℕ). FedBy c.in-Piece.client l c.args.runner.now c.args.servers.now c.piece.new.runner c.piece.new.servers) c.as_slice.ensures.value m)))
+    c.piece.ensures.ok
+
+pub returns-in-Add-clause-ok : goal.returns-in-Add-clause-ok
+returns-in-Add-clause-ok c =
+    on_ok c.add.result _ _
+    (λ m. subst (λ (e : Event). Befalls (scripted_of e) c.args.runner.now c.args.servers.now c.add.new.runner c.args.servers.now) (sym c.in-Add.is)
+    (add_said c.in-Add.client c.in-Add.bytes.items c.args.runner.now c.add.new.runner c.args.servers.now
+    (subst (λ (l : List ℕ). MovesFed c.in-Add.client l c.args.runner.now c.args.servers.now c.add.new.runner c.args.servers.now) c.as_slice-in-Add.ensures.value (m c.args.servers.now))))
+    c.add.ensures
+
+pub returns-in-Result-clause-ok : goal.returns-in-Result-clause-ok
+returns-in-Result-clause-ok c =
+    on_ok c.settle_first.result _ _
+    (λ m. subst (λ (e : Event). Befalls (scripted_of e) c.args.runner.now c.args.servers.now c.settle_first.new.self c.settle_first.new.servers) (sym c.in-Result.is)
+    (result_asked c.in-Result.server c.args.runner.now c.settle_first.new.self c.args.servers.now c.settle_first.new.servers m))
+    c.settle_first.ensures.ok
+
+pub returns-in-Hold-clause-ok : goal.returns-in-Hold-clause-ok
+returns-in-Hold-clause-ok c =
+    subst (λ (e : Event). Befalls (scripted_of e) c.args.runner.now c.args.servers.now c.args.runner.now c.args.servers.now) (sym c.in-Hold.is)
+    (held_before _ _ _ c.args.runner.now c.args.servers.now)
+
+pub returns-in-Fail-clause-ok : goal.returns-in-Fail-clause-ok
+returns-in-Fail-clause-ok c =
+    on_ok c.fail.result _ _
+    (λ m. subst (λ (e : Event). Befalls (scripted_of e) c.args.runner.now c.args.servers.now c.args.runner.now c.fail.new.self) (sym c.in-Fail.is)
+    (named c.in-Fail.turn (manner_of c.in-Fail.manner) c.args.runner.now c.args.servers.now c.fail.new.self m c.fail.ensures.rest))
+    c.fail.ensures.ok
+
+pub returns-in-At-clause-ok : goal.returns-in-At-clause-ok
+returns-in-At-clause-ok c =
+    on_ok c.lose_at.result _ _
+    (λ m. subst (λ (e : Event). Befalls (scripted_of e) c.args.runner.now c.args.servers.now c.args.runner.now c.lose_at.new.self) (sym c.in-At.is)
+    (loss_named c.in-At.turn c.in-At.loss c.args.runner.now c.args.servers.now c.lose_at.new.self m c.lose_at.ensures.rest))
+    c.lose_at.ensures.ok
+
+pub returns-in-Now-clause-ok : goal.returns-in-Now-clause-ok
+returns-in-Now-clause-ok c =
+    subst (λ (e : Event). Befalls (scripted_of e) c.args.runner.now c.args.servers.now c.lose.new.runner c.lose.new.servers) (sym c.in-Now.is) c.lose.ensures.lost
+
+pub returns-in-Moment-clause-ok : goal.returns-in-Moment-clause-ok
+returns-in-Moment-clause-ok c =
+    subst (λ (e : Event). Befalls (scripted_of e) c.args.runner.now c.args.servers.now c.args.runner.now c.set_clock.new.servers) (sym c.in-Moment.is) c.set_clock.ensures.timed

@@ -1,0 +1,32 @@
+use Rattle.std.proofs.Common.{◌≡◌, ◌++◌, ℕ, List, [], refl, sym, ap, ◌∙◌, subst, append_assoc}
+use Rattle.stepped_run.specs.Stepping.{FedBy}
+use Rattle.core_run.proofs.Running.{on_ok}
+use Rattle.stepped_run.proofs.Steps.{nothing_fed, fed_more, cut_joins}
+use Rattle.stepped_run.proofs.events.piece.Goals as goal
+
+pub loop-rest-init : goal.loop-rest-init
+loop-rest-init c = record {
+  fed = ([], refl, nothing_fed c.args.client c.args.runner.now c.open.new.self c.args.servers.now (c.in_ok-open.ensures c.args.servers.now));
+  count = refl;
+}
+
+pub loop-rest-preserved : goal.loop-rest-preserved
+loop-rest-preserved c =
+    let v = c.loop-rest.invariant in
+    let cut = c.split_at.result.0.now in
+    record {
+      fed = (
+        v.fed.0 ++ cut,
+        cut_joins c.args.bytes.now v.fed.0 c.loop-rest.rest.now cut c.split_at.result.1.now 65536 v.fed.1 c.split_at.ensures.front c.split_at.ensures.back,
+        fed_more c.args.client v.fed.0 cut c.args.runner.now c.loop-rest.runner c.serve.new.runner c.args.servers.now c.loop-rest.servers c.serve.new.servers v.fed.2 c.in_ok-serve.ensures.ok,
+      );
+      count = c.in_ok-serve.ensures.count ∙ v.count;
+    }
+
+pub returns-clause-ok : goal.returns-clause-ok
+returns-clause-ok c =
+    let v = c.loop-rest.invariant in
+    on_ok c.serve-2.result _ _
+    (λ m. subst (λ (bytes : List ℕ). FedBy c.args.client bytes c.args.runner.now c.args.servers.now c.serve-2.new.runner c.serve-2.new.servers) (sym v.fed.1)
+    (fed_more c.args.client v.fed.0 c.loop-rest.rest.now c.args.runner.now c.loop-rest.runner c.serve-2.new.runner c.args.servers.now c.loop-rest.servers c.serve-2.new.servers v.fed.2 m))
+    c.serve-2.ensures.ok

@@ -1,0 +1,139 @@
+-- What a script that steps its calls does. Source: mcgate's own.
+use Rattle.std.specs.Prelude.{◌⊎◌, ◌≡◌, ℕ, zero, suc, ◌≤◌, Bool, true, false, List, [], ◌∷◌, ◌++◌, length, map, take, Option, Some, None, slice_get, if◌then◌else◌, nat_eq}
+use Rattle.std.specs.List.{All}
+use Rattle.mc_runs.specs.Log.{Shown}
+use Rattle.mc_runs.specs.Overlap.{Entry, Follows, run_of, given_of}
+use Rattle.mc_runs.specs.OverlapStream.{stream_of}
+use Rattle.mc_runs.specs.Sharing.{Run, calls_in, commands_in}
+use Rattle.mc_runs.specs.SharingStale.{stale_in}
+use Rattle.route_tree.specs.At.{tree_at}
+use Rattle.route_tree.specs.Route.{Route}
+use Rattle.route_tree.specs.Word.{tree_words}
+use Rattle.proxy_core.specs.Claims.{bars_by}
+use Rattle.proxy_core.specs.CoreState.{dialect}
+use Rattle.commands_under_way.specs.declared.sharing.Sharing.TheVariants.{Alone}
+use Rattle.fleet_run.specs.declared.script.Reload.{Reload}
+use Rattle.fleet_run.specs.declared.script.Transcript.{Transcript}
+use Rattle.fleet_run.specs.declared.script.Report.{Report}
+use Rattle.fleet_run.specs.declared.script.DriveFault.{DriveFault}
+use Rattle.fleet_run.specs.declared.script.DriveFault.TheVariants.{BadEvent, NoMemory, Spent}
+use Rattle.fleet_run.specs.Scripted.{Scripted, Piece, Add, Result, Fail, Hold, At, Now, Moment, transcript_of}
+use Rattle.fleet_run.specs.Opening.{opening_of}
+use Rattle.fleet_run.specs.Reloads.{is_refused}
+use Rattle.script_servers.specs.declared.servers.ScriptServers.{ScriptServers}
+use Rattle.stepped_log.specs.Standing.{replied_in, tree_by}
+use Rattle.stepped_run.specs.World.{World, HasWorld}
+
+-- ---- what a script says
+
+-- the bytes that an event says for a client
+abbrev pub said_by : Scripted → ℕ → List ℕ
+said_by (Piece client bytes) c = if nat_eq client c then bytes else []
+said_by (Add client bytes) c = if nat_eq client c then bytes else []
+said_by (Result server) c = []
+said_by (Fail turn manner) c = []
+said_by (Hold server key content) c = []
+said_by (At turn loss) c = []
+said_by (Now loss) c = []
+said_by (Moment moment) c = []
+
+-- all bytes that events say for a client, in order
+abbrev pub said_in : List Scripted → ℕ → List ℕ
+said_in [] c = []
+said_in (event ∷ events) c = said_by event c ++ said_in events c
+
+-- all bytes that a client was given, in order
+abbrev pub shown_to : List Shown → ℕ → List ℕ
+shown_to [] c = []
+shown_to (shown ∷ more) c = (if nat_eq shown.client c then shown.bytes else []) ++ shown_to more c
+
+-- ---- the trees that are loaded
+
+-- the loaded trees after one more reload, the latest first: a refused one loads none
+abbrev pub one_loaded : Bool → Option Reload → List Route → List Route
+one_loaded true reload trees = trees
+one_loaded false None trees = trees
+one_loaded false (Some reload) trees = reload.config.tree ∷ trees
+
+-- the trees that so many reloads loaded, the latest first
+abbrev pub trees_loaded : List Bool → List Reload → ℕ → List Route
+trees_loaded refused reloads zero = []
+trees_loaded refused reloads (suc n) = one_loaded (is_refused (slice_get refused n)) (slice_get reloads n) (trees_loaded refused reloads n)
+
+-- of each tree that was loaded it is known how many commands had begun
+abbrev pub loaded_trees : List (ℕ × Route) → List Route
+loaded_trees loads = map (λ load. load.1) loads
+
+-- ---- logs by these trees
+
+-- the log follows, each command by the tree that was loaded last before it began, and each alone on its key, from what the script put on the servers
+abbrev pub FollowsBy : Route → List (ℕ × Route) → List Scripted → List (Entry dialect) → Type 0
+FollowsBy first loads events log =
+    Follows (tree_words (λ n key. tree_at (tree_by first loads n) key)) (bars_by Alone (λ n key. tree_at (tree_by first loads n) key)) (opening_of events) log
+
+-- its run is a run of these trees
+abbrev pub RunsBy : Route → List (ℕ × Route) → List Scripted → List (Entry dialect) → Type 0
+RunsBy first loads events log =
+    Run (tree_words (λ n key. tree_at (tree_by first loads n) key)) (bars_by Alone (λ n key. tree_at (tree_by first loads n) key)) (opening_of events) (run_of log)
+
+-- a part of the log, before a reload: its clients had said what the events before the reload's place say, and so many commands had begun
+pub record IsReached (log : List (Entry dialect)) (events : List Scripted) (place begun : ℕ) : Type 0 where
+  pub newer : List (Entry dialect)
+  pub older : List (Entry dialect)
+  pub log_is : log ≡ newer ++ older
+  pub streams : (c : ℕ) → stream_of older c ≡ said_in (take place events) c
+  pub begun_is : begun ≡ commands_in (run_of older)
+
+-- a reload that isn't refused came at its place, and its tree was loaded then
+abbrev pub CameSo : Bool → Option Reload → List Scripted → List (Entry dialect) → List (ℕ × Route) → (List (ℕ × Route) → Type 0) → Type 0
+CameSo true reload events log loads Before = Before loads
+CameSo false None events log loads Before = Before loads
+CameSo false (Some reload) events log loads Before =
+    (begun : ℕ) × (earlier : List (ℕ × Route)) × (loads ≡ (begun, reload.config.tree) ∷ earlier) × IsReached log events reload.at begun × Before earlier
+
+-- so did the first so many reloads, and these are the trees that they loaded
+abbrev pub CameInTurn : List Bool → List Reload → List Scripted → List (Entry dialect) → ℕ → List (ℕ × Route) → Type 0
+CameInTurn refused reloads events log zero loads = loads ≡ []
+CameInTurn refused reloads events log (suc n) loads = CameSo (is_refused (slice_get refused n)) (slice_get reloads n) events log loads (CameInTurn refused reloads events log n)
+
+-- there is one log of overlapping commands from what the script put on the servers, each by the tree that was loaded last before it began: its clients say what the script says and are given what was handed out, and the report counts what is in it
+pub record DrivesStepped (first : Route) (refused : List Bool) (reloads : List Reload) (events : List Scripted) (given : List Shown) (report : Report) : Type 0 where
+  pub log : List (Entry dialect)
+  -- each loaded tree with how many commands had begun, the latest first
+  pub loads : List (ℕ × Route)
+  pub loads_are : loaded_trees loads ≡ trees_loaded refused reloads (length reloads)
+  pub in_turn : CameInTurn refused reloads events log (length reloads) loads
+  pub follows : FollowsBy first loads events log
+  pub streams : (c : ℕ) → stream_of log c ≡ said_in events c
+  pub given_is : (c : ℕ) → given_of log c ≡ shown_to given c
+  pub commands : report.commands ≡ replied_in (run_of log)
+  pub calls : report.calls ≡ calls_in (run_of log)
+  pub run : RunsBy first loads events log
+  pub stale : report.stale ≡ stale_in (opening_of events) (run_of log)
+  -- failures, losses and the time are the script's, and each answer its server's by its table at that time
+  pub servers : ScriptServers
+  pub world : World events events log servers
+
+-- the same of what was done until a fault, where so many reloads had come: each client said a beginning of what the script says
+pub record StepsPart (first : Route) (refused : List Bool) (reloads : List Reload) (events : List Scripted) (given : List Shown) : Type 0 where
+  pub log : List (Entry dialect)
+  pub loads : List (ℕ × Route)
+  pub loaded : ℕ
+  pub within : loaded ≤ length reloads
+  pub loads_are : loaded_trees loads ≡ trees_loaded refused reloads loaded
+  pub in_turn : CameInTurn refused reloads events log loaded loads
+  pub follows : FollowsBy first loads events log
+  pub streams : (c : ℕ) → (rest : List ℕ) × (said_in events c ≡ stream_of log c ++ rest)
+  pub given_is : (c : ℕ) → given_of log c ≡ shown_to given c
+  pub run : RunsBy first loads events log
+  pub world : (log ≡ []) ⊎ HasWorld events log
+
+-- what a fault leaves: nothing was handed out where an event can't be
+abbrev pub EndsStepped : Route → List Bool → List Reload → List Scripted → Transcript → List ℕ → DriveFault → Type 0
+EndsStepped first refused reloads events transcript marks (BadEvent index) = (transcript.shown.items ≡ []) × (marks ≡ [])
+EndsStepped first refused reloads events transcript marks NoMemory = StepsPart first refused reloads events (transcript_of transcript)
+EndsStepped first refused reloads events transcript marks Spent = StepsPart first refused reloads events (transcript_of transcript)
+
+-- each mark tells how many of so many outputs came before its reload
+abbrev pub AreMarks : ℕ → List ℕ → Type 0
+AreMarks shown marks = All (λ mark. mark ≤ shown) marks

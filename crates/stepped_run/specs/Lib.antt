@@ -1,0 +1,4 @@
+pub mod World
+pub mod Driving
+pub mod Holding
+pub mod Stepping

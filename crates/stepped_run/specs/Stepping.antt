@@ -1,0 +1,100 @@
+-- How far a script that steps its calls has come, and what each step makes of its log. Source: mcgate's own.
+use Rattle.std.specs.Prelude.{◌≡◌, ℕ, ◌<◌, ◌≤◌, Bool, true, false, List, [], ◌++◌, length, map, drop, Option, IfSome, slice_get}
+use Rattle.mc_types.specs.Items.{Item}
+use Rattle.mc_runs.specs.Log.{Shown}
+use Rattle.mc_runs.specs.Overlap.{Entry, given_of, run_of}
+use Rattle.mc_runs.specs.OverlapStream.{stream_of}
+use Rattle.route_tree.specs.Route.{Route}
+use Rattle.proxy_core.specs.CoreState.{dialect}
+use Rattle.fleet_run.specs.declared.script.Reload.{Reload}
+use Rattle.fleet_run.specs.Scripted.{Scripted, Piece, Add, Result, Fail, Hold, At, Now, Moment}
+use Rattle.fleet_run.specs.Opening.{opening_of}
+use Rattle.script_servers.specs.declared.servers.ScriptServers.{ScriptServers}
+use Rattle.stepped_log.specs.Results.{CallResult, AreGiven, call_of, calls_of}
+use Rattle.stepped_log.specs.Standing.{Kept, Stands, GoesOnFed, tree_by}
+use Rattle.core_run.specs.Running.{kept_of, IsLoadedBy, AreOfOne}
+use Rattle.core_run.specs.declared.runner.Runner.{Runner}
+use Rattle.stepped_run.specs.World.{Changes, World}
+use Rattle.stepped_run.specs.Driving.{said_by, said_in, shown_to, trees_loaded, loaded_trees, CameInTurn}
+
+-- the log goes on, and clients said what the event says
+pub record GoesOnSaid (opening : ℕ → List ℕ → Option Item) (tree : ℕ → Route) (log : List (Entry dialect)) (event : Scripted) (k : Kept) : Type 0 where
+  pub more : List (Entry dialect)
+  pub stands : Stands opening tree (more ++ log) k
+  pub streams : (c : ℕ) → stream_of (more ++ log) c ≡ stream_of log c ++ said_by event c
+  pub given : (c : ℕ) → given_of (more ++ log) c ≡ given_of log c
+
+-- the calls of the run are those of these results, and then those of before
+abbrev pub HasCalls : List CallResult → List (Entry dialect) → List (Entry dialect) → Type 0
+HasCalls results more log = calls_of (run_of (more ++ log)) ≡ map call_of results ++ calls_of (run_of log)
+
+-- a client said these bytes, and the servers gave some results: each log that stood before goes on so
+pub record FedBy (client : ℕ) (bytes : List ℕ) (old : Runner) (before : ScriptServers) (new : Runner) (after : ScriptServers) : Type 0 where
+  pub results : List CallResult
+  pub given : AreGiven results before after
+  pub goes : (opening : ℕ → List ℕ → Option Item) (tree : ℕ → Route) (log : List (Entry dialect)) → Stands opening tree log (kept_of old before) → (g : GoesOnFed opening tree log client bytes (kept_of new after)) × HasCalls results g.more log
+
+-- which results an event asks for
+abbrev pub AreFit : Scripted → List CallResult → Type 0
+AreFit (Piece client bytes) results = Unit {0}
+AreFit (Result server) results = AreOfOne server results
+AreFit (Add client bytes) results = results ≡ []
+AreFit (Fail turn manner) results = results ≡ []
+AreFit (Hold server key content) results = results ≡ []
+AreFit (At turn loss) results = results ≡ []
+AreFit (Now loss) results = results ≡ []
+AreFit (Moment moment) results = results ≡ []
+
+-- the event changes the servers, and then they give the results that it asks for: each log that stood before goes on so
+pub record Befalls (event : Scripted) (old : Runner) (before : ScriptServers) (new : Runner) (after : ScriptServers) : Type 0 where
+  pub mid : ScriptServers
+  pub changes : Changes event before mid
+  pub results : List CallResult
+  pub given : AreGiven results mid after
+  pub fit : AreFit event results
+  pub goes : (opening : ℕ → List ℕ → Option Item) (tree : ℕ → Route) (log : List (Entry dialect)) → Stands opening tree log (kept_of old before) → (g : GoesOnSaid opening tree log event (kept_of new after)) × HasCalls results g.more log
+
+-- the log goes on, and where clients were given what was handed out before, they are given what is handed out after
+pub record GoesOnShown (opening : ℕ → List ℕ → Option Item) (tree : ℕ → Route) (log : List (Entry dialect)) (before after : List Shown) (k : Kept) : Type 0 where
+  pub more : List (Entry dialect)
+  pub stands : Stands opening tree (more ++ log) k
+  pub streams : (c : ℕ) → stream_of (more ++ log) c ≡ stream_of log c
+  pub given : ((c : ℕ) → given_of log c ≡ shown_to before c) → (c : ℕ) → given_of (more ++ log) c ≡ shown_to after c
+
+-- each log that stood before goes on so
+abbrev pub HandsOut : List Shown → List Shown → Runner → Runner → Type 0
+HandsOut before after old new =
+    (servers : ScriptServers) (opening : ℕ → List ℕ → Option Item) (tree : ℕ → Route) (log : List (Entry dialect)) → Stands opening tree log (kept_of old servers) → GoesOnShown opening tree log before after (kept_of new servers)
+
+-- so far, until a fault came
+abbrev pub HandsSome : List Shown → List Shown → Runner → Type 0
+HandsSome before after old =
+    (servers : ScriptServers) (opening : ℕ → List ℕ → Option Item) (tree : ℕ → Route) (log : List (Entry dialect)) → Stands opening tree log (kept_of old servers) → (new : Runner) × GoesOnShown opening tree log before after (kept_of new servers)
+
+-- so many reloads came, and these events are left: a log stands with the trees loaded, in which clients said what came before and were given what was handed out, and the servers are what those events and the results made of them
+pub record HasCome (first : Route) (refused : List Bool) (reloads : List Reload) (events : List Scripted) (loaded : ℕ) (left : List Scripted) (given : List Shown) (k : Kept) : Type 0 where
+  pub log : List (Entry dialect)
+  pub loads : List (ℕ × Route)
+  pub loads_are : loaded_trees loads ≡ trees_loaded refused reloads loaded
+  pub in_turn : CameInTurn refused reloads events log loaded loads
+  pub stands : Stands (opening_of events) (tree_by first loads) log k
+  pub streams : (c : ℕ) → said_in events c ≡ stream_of log c ++ said_in left c
+  pub given_is : (c : ℕ) → given_of log c ≡ shown_to given c
+  pub done : List Scripted
+  pub done_is : events ≡ done ++ left
+  pub world : World events done log k.servers
+
+-- a reload's tree is loaded, unless it is refused
+abbrev pub TakesUp : Bool → Route → Runner → Runner → Type 0
+TakesUp true tree old new = new ≡ old
+TakesUp false tree old new = (servers : ScriptServers) → IsLoadedBy tree old servers new servers
+
+-- a script has come from these reloads to those, before the event of this place
+abbrev pub Loads : List Bool → List Reload → ℕ → ℕ → ℕ → Runner → Runner → Type 0
+Loads refused reloads next before after old new =
+    (first : Route) (events left : List Scripted) (given : List Shown) (servers : ScriptServers) → left ≡ drop next events → HasCome first refused reloads events before left given (kept_of old servers)
+    → HasCome first refused reloads events after left given (kept_of new servers)
+
+-- the reload of this number comes before the event of this place
+abbrev pub IsDue : List Reload → ℕ → ℕ → Type 0
+IsDue reloads loaded next = (loaded < length reloads) × IfSome (slice_get reloads loaded) (λ r. r.at ≤ next)

@@ -1,0 +1,137 @@
+//! One event of a script.
+
+ghost use Rattle.std.specs.Prelude.{◌≡◌, ◌≤◌, pos, ◌≤ℤ◌, List, false, length, OnOk, OnErr};
+ghost use Rattle.fleet_run.specs.Bad.{bad_in};
+ghost use Rattle.fleet_run.specs.Scripted.{Scripted, Now, Moment, loss_of, scripted_of, transcript_of};
+ghost use Rattle.script_servers.specs.Servers.{count_of};
+ghost use Rattle.core_run.specs.Running.{MovesFed};
+ghost use Rattle.stepped_run.specs.Stepping.{FedBy, Befalls, HandsOut, HandsSome};
+
+use core_run::Runner;
+use fleet_run::{Event, Output, Transcript};
+use memory_fleet::{FleetFault, Loss};
+use script_servers::ScriptServers;
+use stepped_log::laws::losses_go_on;
+
+/// The most bytes of a piece that come at once.
+const CUT: usize = 65_536;
+
+// Bytes come, and each call that is out has its result.
+fn serve(
+    runner: &mut Runner,
+    servers: &mut ScriptServers,
+    client: usize,
+    bytes: &[u8],
+) -> Result<(), FleetFault>
+    ensures ok { OnOk result (FedBy client bytes.now runner.old servers.old runner.new servers.new) }
+    ensures count { count_of servers.new ≡ count_of servers.old }
+{
+    runner.add(client, bytes)?;
+    runner.settle_all(servers)
+}
+
+// A piece comes, in cuts: after each, all that is complete is done.
+fn piece(
+    runner: &mut Runner,
+    servers: &mut ScriptServers,
+    client: usize,
+    bytes: &[u8],
+) -> Result<(), FleetFault>
+    ensures ok { OnOk result (FedBy client bytes.now runner.old servers.old runner.new servers.new) }
+    ensures count { count_of servers.new ≡ count_of servers.old }
+{
+    runner.open(client)?;
+    let mut rest = bytes;
+    while rest.len() > CUT {
+        let (cut, more) = rest.split_at(CUT);
+        serve(runner, servers, client, cut)?;
+        rest = more;
+    }
+    serve(runner, servers, client, rest)
+}
+
+// Bytes come, and calls stay out.
+fn add(runner: &mut Runner, client: usize, bytes: &[u8]) -> Result<(), FleetFault>
+    ensures { OnOk result ((servers : ScriptServers) → MovesFed client bytes.now runner.old servers runner.new servers) }
+{
+    runner.open(client)?;
+    runner.add(client, bytes)
+}
+
+// Something is lost.
+fn lose(runner: &mut Runner, servers: &mut ScriptServers, loss: &Loss)
+    ensures lost { Befalls (Now (loss_of loss.now)) runner.old servers.old runner.new servers.new }
+    ensures count { count_of servers.new ≡ count_of servers.old }
+{
+    losses_go_on();
+    servers.lose(loss);
+}
+
+// The time changes.
+fn set_clock(runner: &Runner, servers: &mut ScriptServers, moment: &i64)
+    requires { pos 0 ≤ℤ moment.now }
+    ensures timed { Befalls (Moment moment.now) runner.now servers.old runner.now servers.new }
+    ensures count { count_of servers.new ≡ count_of servers.old }
+{
+    let _unchanged = runner;
+    servers.set_moment(*moment);
+}
+
+// A client is given its new output, if there is any.
+fn give(runner: &mut Runner, client: usize, transcript: &mut Transcript) -> Result<(), FleetFault>
+    ensures ok { OnOk result (HandsOut (transcript_of transcript.old) (transcript_of transcript.new) runner.old runner.new) }
+    ensures err { OnErr result (transcript.new.shown.items ≡ transcript.old.shown.items) }
+    ensures longer { length transcript.old.shown.items ≤ length transcript.new.shown.items }
+{
+    let bytes = runner.take_output(client)?;
+    let new = bytes.as_slice();
+    if new.is_empty() {
+        return Ok(());
+    }
+    let Ok(client) = u8::try_from(client) else {
+        return Err(FleetFault::Spent);
+    };
+    Ok(transcript.shown.push(Output { client, bytes })?)
+}
+
+/// Each client is given its new output, in rising number. The errors are running out of memory, and `Spent` where a client has no
+/// number of 8 bits; what was handed out before stands in the transcript.
+pub fn give_all(runner: &mut Runner, transcript: &mut Transcript) -> Result<(), FleetFault>
+    ensures ok { OnOk result (HandsOut (transcript_of transcript.old) (transcript_of transcript.new) runner.old runner.new) }
+    ensures err { OnErr result (HandsSome (transcript_of transcript.old) (transcript_of transcript.new) runner.old) }
+    ensures longer { length transcript.old.shown.items ≤ length transcript.new.shown.items }
+{
+    for client in 0..runner.clients() {
+        give(runner, client, transcript)?;
+    }
+    Ok(())
+}
+
+/// What an event is to the clients and the servers, before anything is handed out; what it puts on servers is there already. The
+/// errors are running out of memory, and `Spent` where numbers are.
+pub fn befall(
+    runner: &mut Runner,
+    servers: &mut ScriptServers,
+    event: &Event,
+) -> Result<(), FleetFault>
+    requires good { (before : List Scripted) × (bad_in (count_of servers.old) before (scripted_of event.now) ≡ false) }
+    ensures ok { OnOk result (Befalls (scripted_of event.now) runner.old servers.old runner.new servers.new) }
+    ensures count { count_of servers.new ≡ count_of servers.old }
+{
+    match event {
+        Event::Piece(client, bytes) => piece(runner, servers, *client as usize, bytes.as_slice()),
+        Event::Add(client, bytes) => add(runner, *client as usize, bytes.as_slice()),
+        Event::Result(server) => runner.settle_first(servers, *server),
+        Event::Hold(_, _, _) => Ok(()),
+        Event::Fail(turn, manner) => servers.fail(*turn, *manner),
+        Event::At(turn, loss) => servers.lose_at(*turn, *loss),
+        Event::Now(loss) => {
+            lose(runner, servers, loss);
+            Ok(())
+        }
+        Event::Moment(moment) => {
+            set_clock(runner, servers, moment);
+            Ok(())
+        }
+    }
+}

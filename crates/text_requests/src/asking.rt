@@ -1,0 +1,226 @@
+//! What a request asks: its asks, one for each key.
+ghost use Rattle.std.specs.Prelude.{◌≡◌, ℕ, List, ◌<◌, IfOk, IfSome, OnErr, Some, length, slice_get};
+ghost use Rattle.mc_text.specs.Word.{text_at};
+ghost use Rattle.mc_types.specs.KeyText.{IsKey};
+ghost use Rattle.request_parts.specs.Places.{IsIn};
+ghost use Rattle.text_requests.specs.Places.{order_in, storing_in};
+ghost use Rattle.text_requests.specs.Message.{IsReadFrom, message_in};
+ghost use Rattle.text_requests.specs.Asks.{asks_of, quiet_of, own_of, bare_ask, retrieval_ask, store_ask, single_ask, first_place, IsClassicAsk, IsWalk, counted};
+
+use crate::command::{Command, Request, Stored};
+use mc_text::word::{Span, next_word};
+use mc_types::{Ask, Body, Dialect, Key, Op, Tokens};
+use request_parts::ProxyCommand;
+use request_parts::parts::{key_at, nth_word};
+use std::alloc::{AllocError, Global};
+
+fn bare(alloc: Global, op: Op, key: Key) -> Ask
+    ensures { result ≡ bare_ask op key }
+{
+    Ask::bare(Dialect::Classic, op, key, Tokens::new(alloc))
+}
+
+fn retrieved(alloc: Global, key: Key, exptime: Option<i64>, with_cas: bool) -> Ask
+    ensures { result ≡ retrieval_ask exptime with_cas key }
+{
+    let op = match exptime {
+        None => Op::Get,
+        Some(_) => Op::Gat,
+    };
+    let mut ask = bare(alloc, op, key);
+    ask.with_cas = with_cas;
+    ask.exptime = exptime;
+    ask
+}
+
+fn stored(
+    alloc: Global,
+    bytes: &[u8],
+    op: Op,
+    stored: Stored,
+    cas: Option<u64>,
+    block: Span,
+) -> Result<Ask, AllocError>
+    requires placed { IsIn (length bytes.now) stored.key }
+    requires key { IsKey (text_at bytes.now stored.key) }
+    requires block { IsIn (length bytes.now) block }
+    ensures { IfOk result (λ ask. ask ≡ store_ask op (storing_in bytes.now stored) cas (text_at bytes.now block)) }
+{
+    let body = Body::from_slice(alloc, &bytes[block.start..block.end])?;
+    let mut ask = bare(alloc, op, key_at(bytes, stored.key));
+    ask.flags = stored.flags;
+    ask.exptime = Some(stored.exptime);
+    ask.body = body;
+    ask.cas = cas;
+    Ok(ask)
+}
+
+// The ask of a request that has a single key.
+fn single(alloc: Global, bytes: &[u8], request: &Request) -> Result<Option<Ask>, AllocError>
+    requires { IsReadFrom bytes.now request.now }
+    ensures { IfOk result (λ ask. ask ≡ single_ask (order_in bytes.now request.now.command) (text_at bytes.now request.now.block)) }
+{
+    match request.command {
+        Command::Storage {
+            op,
+            stored: head,
+            ..
+        } => Ok(Some(stored(alloc, bytes, op, head, None, request.block)?)),
+        Command::Swapping {
+            stored: head,
+            cas,
+            ..
+        } => Ok(Some(stored(alloc, bytes, Op::Cas, head, Some(cas), request.block)?)),
+        Command::Deletion { key, .. } => Ok(Some(bare(alloc, Op::Delete, key_at(bytes, key)))),
+        Command::Touching { key, exptime, .. } => {
+            let mut ask = bare(alloc, Op::Touch, key_at(bytes, key));
+            ask.exptime = Some(exptime);
+            Ok(Some(ask))
+        }
+        Command::Counting { op, key, delta, .. } => {
+            let mut ask = bare(alloc, op, key_at(bytes, key));
+            ask.delta = delta;
+            Ok(Some(ask))
+        }
+        Command::Retrieval { .. } | Command::Own(_) => Ok(None),
+    }
+}
+
+fn first_place(command: &Command) -> usize
+    ensures { result ≡ first_place command.now }
+{
+    match command {
+        Command::Retrieval { keys, .. } => keys.span.start,
+        _ => 0,
+    }
+}
+
+/// A walk over the asks of a request, in order. All of them together take time linear in the bytes of the request.
+#[derive(Clone, Copy)]
+pub struct Asks {
+    request: Request,
+    at: usize,
+    taken: usize,
+}
+
+impl Request {
+    /// What it asks of mcgate itself, if it does. It takes no memory.
+    pub fn own(&self) -> Option<ProxyCommand>
+        ensures { (bytes : List ℕ) → result ≡ own_of (message_in bytes self.now) }
+    {
+        match self.command {
+            Command::Own(own) => Some(own),
+            _ => None,
+        }
+    }
+
+    /// How many asks it is: one for each key, none for a request of mcgate itself. It takes no memory.
+    pub fn asks(&self) -> usize
+        ensures { (bytes : List ℕ) → IsReadFrom bytes self.now → result ≡ length (asks_of (message_in bytes self.now)) }
+    {
+        match self.command {
+            Command::Retrieval { keys, .. } => keys.count,
+            Command::Own(_) => 0,
+            _ => 1,
+        }
+    }
+
+    /// Whether it wants no answer: `noreply` stands on its line. It takes no memory.
+    pub fn quiet(&self) -> bool
+        ensures { (bytes : List ℕ) → result ≡ quiet_of (message_in bytes self.now) }
+    {
+        match self.command {
+            Command::Storage { quiet, .. } => quiet,
+            Command::Swapping { quiet, .. } => quiet,
+            Command::Deletion { quiet, .. } => quiet,
+            Command::Touching { quiet, .. } => quiet,
+            Command::Counting { quiet, .. } => quiet,
+            Command::Retrieval { .. } | Command::Own(_) => false,
+        }
+    }
+
+    /// A walk over its asks, at the first one. It takes no memory.
+    pub fn walk(&self) -> Asks
+        ensures request { result.request ≡ self.now }
+        ensures first { result.taken ≡ 0 }
+        ensures walk { (bytes : List ℕ) → IsReadFrom bytes self.now → IsWalk bytes result }
+    {
+        Asks {
+            request: *self,
+            at: first_place(&self.command),
+            taken: 0,
+        }
+    }
+
+    /// The ask of this number, counted from 0: a copy. It walks over the keys before it; a walk over all asks is
+    /// `walk`. The only error is running out of memory.
+    pub fn ask(&self, alloc: Global, bytes: &[u8], i: usize) -> Result<Ask, AllocError>
+        requires read { IsReadFrom bytes.now self.now }
+        requires there { i < length (asks_of (message_in bytes.now self.now)) }
+        ensures value { IfOk result (λ ask. slice_get (asks_of (message_in bytes.now self.now)) i ≡ Some ask) }
+        ensures ask { IfOk result IsClassicAsk }
+    {
+        match self.command {
+            Command::Retrieval {
+                exptime,
+                with_cas,
+                keys,
+            } => {
+                let line = &bytes[..keys.span.end];
+                match nth_word(line, keys.span.start, i) {
+                    Some(word) => Ok(retrieved(alloc, key_at(line, word), exptime, with_cas)),
+                    None => unreachable!(),
+                }
+            }
+            _ => match single(alloc, bytes, self)? {
+                Some(ask) => Ok(ask),
+                None => unreachable!(),
+            },
+        }
+    }
+}
+
+impl Asks {
+    /// The next ask, a copy, or `None` after the last one. The only error is running out of memory, after which the walk
+    /// stands where it stood.
+    pub fn next(&mut self, alloc: Global, bytes: &[u8]) -> Result<Option<Ask>, AllocError>
+        requires { IsWalk bytes.now self.old }
+        ensures value { IfOk result (λ next. next ≡ slice_get (asks_of (message_in bytes.now self.old.request)) self.old.taken) }
+        ensures ask { IfOk result (λ next. IfSome next IsClassicAsk) }
+        ensures taken { IfOk result (λ next. self.new.taken ≡ counted next self.old.taken) }
+        ensures request { self.new.request ≡ self.old.request }
+        ensures walk { IsWalk bytes.now self.new }
+        ensures err { OnErr result (self.new ≡ self.old) }
+    {
+        // Each arm returns by itself: the value of a match in a match is copied at each level.
+        match self.request.command {
+            Command::Retrieval {
+                exptime,
+                with_cas,
+                keys,
+            } => {
+                let line = &bytes[..keys.span.end];
+                match next_word(line, self.at) {
+                    None => return Ok(None),
+                    Some(word) => {
+                        self.at = word.end;
+                        self.taken += 1;
+                        return Ok(Some(retrieved(alloc, key_at(line, word), exptime, with_cas)));
+                    }
+                }
+            }
+            _ => {
+                if self.taken > 0 {
+                    return Ok(None);
+                }
+                match single(alloc, bytes, &self.request)? {
+                    None => return Ok(None),
+                    Some(ask) => {
+                        self.taken = 1;
+                        return Ok(Some(ask));
+                    }
+                }
+            }
+        }
+    }
+}
