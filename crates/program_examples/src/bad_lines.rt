@@ -109,19 +109,36 @@ fn push_full(text: &mut String) -> Result<(), AllocError> {
     text.push('\n')
 }
 
-fn words_after_full(alloc: Global, after: &str) -> Result<String, Fail> {
+fn full_text(alloc: Global) -> Result<String, AllocError> {
     let mut text = String::from_str(alloc, "pool 1\n")?;
     push_full(&mut text)?;
+    Ok(text)
+}
+
+fn push_unfolded(alloc: Global, text: &mut String, after: &str) -> Result<(), AllocError> {
     let after = unfolded(alloc, after)?;
-    text.push_str(after.as_str())?;
+    text.push_str(after.as_str())
+}
+
+fn words_after_full(alloc: Global, after: &str) -> Result<String, Fail> {
+    let mut text = full_text(alloc)?;
+    push_unfolded(alloc, &mut text, after)?;
     words_in_script(alloc, text.as_str())
 }
 
+fn added_byte(alloc: Global) -> Result<Event, AllocError> {
+    Ok(Event::Add(0, Vec::from_slice(alloc, b"a".as_slice())?))
+}
+
+fn misfit_words(alloc: Global, before: usize, event: &Event) -> Result<String, AllocError> {
+    let misfit = misfit_of(1, before, event);
+    format!(in alloc; "{misfit}")
+}
+
 // What is wrong with one more byte that client 0 adds, after so many bytes in all pieces.
-fn words_after(alloc: Global, before: usize) -> Result<String, Fail> {
-    let event = Event::Add(0, Vec::from_slice(alloc, b"a".as_slice())?);
-    let misfit = misfit_of(1, before, &event);
-    Ok(format!(in alloc; "{misfit}")?)
+fn words_after(alloc: Global, before: usize) -> Result<String, AllocError> {
+    let event = added_byte(alloc)?;
+    misfit_words(alloc, before, &event)
 }
 
 fn words_in_events(alloc: Global, text: &str) -> Result<String, Fail> {

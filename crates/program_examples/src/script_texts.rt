@@ -143,30 +143,35 @@ fn hold_words(alloc: Global, server: ServerId, key: &Key, content: &[u8]) -> Res
     Ok(words)
 }
 
+fn fail_words(alloc: Global, turn: u32, manner: Manner) -> Result<String, Fail> {
+    let manner = manner_words(alloc, manner)?;
+    Ok(format!(in alloc; "call {turn} fails {manner}")?)
+}
+
+fn at_words(alloc: Global, turn: u32, loss: &Loss) -> Result<String, Fail> {
+    let loss = loss_words(alloc, loss)?;
+    Ok(format!(in alloc; "at call {turn}: {loss}")?)
+}
+
+fn now_words(alloc: Global, loss: &Loss) -> Result<String, Fail> {
+    let loss = loss_words(alloc, loss)?;
+    Ok(format!(in alloc; "now: {loss}")?)
+}
+
+fn sent_words(alloc: Global, client: u8, does: &str, bytes: &[u8]) -> Result<String, Fail> {
+    let bytes = Escaped(bytes);
+    Ok(format!(in alloc; "client {client} {does} {bytes}")?)
+}
+
 fn event_words(alloc: Global, event: &Event) -> Result<String, Fail> {
     match event {
-        Event::Piece(client, bytes) => {
-            let bytes = Escaped(bytes.as_slice());
-            Ok(format!(in alloc; "client {client} sends {bytes}")?)
-        }
-        Event::Add(client, bytes) => {
-            let bytes = Escaped(bytes.as_slice());
-            Ok(format!(in alloc; "client {client} adds {bytes}")?)
-        }
+        Event::Piece(client, bytes) => sent_words(alloc, *client, "sends", bytes.as_slice()),
+        Event::Add(client, bytes) => sent_words(alloc, *client, "adds", bytes.as_slice()),
         Event::Result(server) => Ok(format!(in alloc; "result at server {}", server.number())?),
         Event::Hold(server, key, content) => hold_words(alloc, *server, key, content.as_slice()),
-        Event::Fail(turn, manner) => {
-            let manner = manner_words(alloc, *manner)?;
-            Ok(format!(in alloc; "call {turn} fails {manner}")?)
-        }
-        Event::At(turn, loss) => {
-            let loss = loss_words(alloc, loss)?;
-            Ok(format!(in alloc; "at call {turn}: {loss}")?)
-        }
-        Event::Now(loss) => {
-            let loss = loss_words(alloc, loss)?;
-            Ok(format!(in alloc; "now: {loss}")?)
-        }
+        Event::Fail(turn, manner) => fail_words(alloc, *turn, *manner),
+        Event::At(turn, loss) => at_words(alloc, *turn, loss),
+        Event::Now(loss) => now_words(alloc, loss),
         Event::Moment(moment) => Ok(format!(in alloc; "moment {moment}")?),
     }
 }
