@@ -6,6 +6,7 @@ use crate::servers::Servers;
 use fleet_run::{Event, Output, Reload, Script};
 use fresh_gate::{Accepted, ReloadFault};
 use link_calls::LoadFault;
+use mc_types::limits::SCRIPT_CLIENTS;
 use proxy_core::Sharing;
 use route_json::Config;
 use std::alloc::{AllocError, Global};
@@ -15,9 +16,6 @@ use std::net::{IpAddr, Ipv4Addr, Net, SocketAddr};
 use std::rt::Clock;
 use std::time::Duration;
 use tcp_proxy::{ProxyEnd, ServerDialect, Settings};
-
-// How many clients a script has.
-const CLIENTS: usize = 64;
 
 // How long one turn waits at most where nothing is ready, in milliseconds.
 const WAIT_MS: u64 = 1;
@@ -55,7 +53,7 @@ fn any_port() -> SocketAddr {
 // no server is held back.
 fn settings() -> Settings {
     Settings {
-        clients: CLIENTS,
+        clients: SCRIPT_CLIENTS,
         client_window: 1,
         link_window: 1,
         sharing: Sharing::Alone,
@@ -71,7 +69,7 @@ fn settings() -> Settings {
 // No client is connected.
 fn no_clients(alloc: Global) -> Result<Vec<Option<ClientEnd>>, AllocError> {
     let mut clients = Vec::new(alloc);
-    for _ in 0..CLIENTS {
+    for _ in 0..SCRIPT_CLIENTS {
         clients.push(None)?;
     }
     Ok(clients)

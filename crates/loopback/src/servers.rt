@@ -4,8 +4,8 @@ use crate::calls::Calls;
 use bytes::BytesMut;
 use cache_connection::Cache;
 use mc_types::{DATA_LIMIT, Key, ServerId};
-use memory_fleet::Loss;
 use memory_fleet::losses::lose_all;
+use memory_fleet::{CAPACITY, Loss};
 use mio::net::{TcpListener, TcpStream};
 use script_servers::Manner;
 use std::alloc::{AllocError, Global};
@@ -14,9 +14,6 @@ use std::net::{Net, SocketAddr};
 use tcp_cache::client::Client;
 use tcp_cache::clock::Moment;
 use tcp_socket::{Conn, Got, Limits, Sent};
-
-// The most items that a server holds.
-const CAPACITY: usize = 1_024;
 
 // More than one ask, or one answer, is never held.
 const LIMITS: Limits = Limits {
