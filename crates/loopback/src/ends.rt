@@ -112,7 +112,8 @@ impl Ends {
         let alloc = rt.alloc();
         let servers = Servers::listen(rt, alloc, servers, any_port())?;
         let addresses = servers.addresses()?;
-        let proxy = ProxyEnd::new(rt, any_port(), accepted, addresses.as_slice(), settings())?;
+        let mut proxy = ProxyEnd::new(rt, any_port(), accepted, addresses.as_slice(), settings())?;
+        proxy.poll_in_rounds();
         Ends::of(alloc, proxy, servers)
     }
 
@@ -194,7 +195,6 @@ impl Ends {
 
     // Bytes come from a client, and all that can be done without a result is done.
     fn add<R: Net + Clock>(&mut self, rt: &R, place: usize, bytes: &[u8]) -> io::Result<()> {
-        self.connect(rt, place)?;
         self.feed(place, bytes)?;
         self.turn_until_still(rt, Some(place))
     }
@@ -235,12 +235,18 @@ impl Ends {
         Ok(())
     }
 
-    // The client is connected, if it wasn't yet.
+    /// So many clients are connected, in the order of their numbers.
+    pub fn connect_all<N: Net>(&mut self, net: &N, clients: usize) -> io::Result<()> {
+        for place in 0..clients {
+            self.connect(net, place)?;
+        }
+        Ok(())
+    }
+
+    // The client is connected.
     fn connect<N: Net>(&mut self, net: &N, place: usize) -> io::Result<()> {
         if let Some(client) = self.clients.get_mut(place) {
-            if client.is_none() {
-                *client = Some(ClientEnd::connect(net, self.alloc, self.address)?);
-            }
+            *client = Some(ClientEnd::connect(net, self.alloc, self.address)?);
         }
         Ok(())
     }
@@ -366,6 +372,28 @@ fn take_reload(
     Ok(())
 }
 
+// How many clients there are up to the last one that speaks.
+fn clients_of(script: &Script) -> usize {
+    let mut clients = 0;
+    for event in script.events.as_slice() {
+        clients = clients.max(speakers(event));
+    }
+    clients
+}
+
+// How many clients there are up to the one that speaks by the event.
+fn speakers(event: &Event) -> usize {
+    match event {
+        Event::Piece(client, _) | Event::Add(client, _) => (*client as usize).saturating_add(1),
+        Event::Result(_)
+        | Event::Hold(_, _, _)
+        | Event::Fail(_, _)
+        | Event::At(_, _)
+        | Event::Now(_)
+        | Event::Moment(_) => 0,
+    }
+}
+
 /// Takes up the events and the reloads of a script, each reload before the event of its place.
 pub fn drive<R: Net + Clock + AllocGlobal>(
     rt: &R,
@@ -374,6 +402,7 @@ pub fn drive<R: Net + Clock + AllocGlobal>(
     reloads: &[Reload],
     shown: &mut Vec<Entry>,
 ) -> io::Result<()> {
+    ends.connect_all(rt, clients_of(script))?;
     let mut loaded = 0;
     for (place, event) in script.events.as_slice().iter().enumerate() {
         loaded = load_due(ends, reloads, loaded, place, shown)?;

@@ -161,8 +161,6 @@ fn run_text<R: Net + Clock + AllocGlobal, W: Write>(
 /// that the answer comes too late: the link is dropped before. Of one that is to be cut the first bytes come, and junk in an answer's
 /// place, and then the server ends the link. What servers hold, lose, and take for the time is set directly.
 ///
-/// Where several clients wait for one server, that goes first which waited first; in a replay the one of the least number.
-///
 /// The answer is the program's exit status, `DONE`, `REFUSED` or `BAD_INPUT`; or else `NO_MEMORY` where memory was refused: then
 /// nothing was printed, or some of what clients got; or `WRITER` where the output could not be written, or a socket failed.
 ///

@@ -217,6 +217,31 @@ impl Clients {
         Ok(())
     }
 
+    /// Those that wait for a key or a server, but for those that are ready too, go after these.
+    pub fn move_busy(&mut self, to: &mut Vec<usize>) -> Result<(), AllocError> {
+        for i in 0..self.busy.len() {
+            if let Some(id) = self.busy.get(i) {
+                let id = *id;
+                if self.end_busy(id) {
+                    to.push(id)?;
+                }
+            }
+        }
+        self.busy.clear();
+        Ok(())
+    }
+
+    // It stands no longer among those that wait: whether it is to be served for that, as it isn't ready.
+    fn end_busy(&mut self, id: usize) -> bool {
+        match self.get_mut(id) {
+            Some(client) => {
+                client.is_busy = false;
+                !client.is_ready
+            }
+            None => false,
+        }
+    }
+
     /// A call of it was settled.
     pub fn mark_settled(&mut self, id: usize) -> Result<(), AllocError> {
         if let Some(client) = self.get_mut(id) {

@@ -94,6 +94,8 @@ pub struct ProxyEnd {
     is_freed: bool,
     // Whether there may be something to tell of a link.
     has_news: bool,
+    // Whether clients are polled in rounds.
+    in_rounds: bool,
     tally: Tally,
 }
 
@@ -293,6 +295,7 @@ impl ProxyEnd {
             accepting: Accepting::Now,
             is_freed: false,
             has_news: false,
+            in_rounds: false,
             tally: Tally::new(),
         }
     }
@@ -330,6 +333,12 @@ impl ProxyEnd {
         }
         self.has_news = self.news_limit().is_some();
         None
+    }
+
+    /// From now on clients are polled in rounds, as those of a script are: each once, in the order in which they were accepted. Without it
+    /// a client is polled until it waits, and who waits for a server comes after who waited before it.
+    pub fn poll_in_rounds(&mut self) {
+        self.in_rounds = true;
     }
 
     /// What it has done so far.
@@ -382,8 +391,12 @@ impl ProxyEnd {
             self.accept_some();
         }
         self.serve_links()?;
-        self.serve_clients(rt)?;
-        self.serve_busy(rt)?;
+        if self.in_rounds {
+            self.serve_round(rt)?;
+        } else {
+            self.serve_clients(rt)?;
+            self.serve_busy(rt)?;
+        }
         self.send_links()?;
         self.send_clients()
     }
@@ -802,6 +815,30 @@ impl ProxyEnd {
         Ok(())
     }
 
+    // A round: all that are ready, and all that wait for a key or a server.
+    fn serve_round<N: Net>(&mut self, net: &N) -> io::Result<()> {
+        self.is_freed = false;
+        std::mem::swap(&mut self.work, &mut self.clients.ready);
+        self.clients.move_busy(&mut self.work)?;
+        self.work.sort_unstable();
+        for i in 0..self.work.len() {
+            if let Some(id) = self.work.get(i) {
+                let id = *id;
+                if let Some(client) = self.clients.get_mut(id) {
+                    client.is_ready = false;
+                }
+                self.serve_client(net, id)?;
+            }
+        }
+        self.work.clear();
+        Ok(())
+    }
+
+    // How often a client is polled before the next one's turn.
+    fn polls(&self) -> usize {
+        if self.in_rounds { 1 } else { POLLS }
+    }
+
     // One read of the client, and what it holds is given to the core.
     fn read_client(&mut self, id: usize) -> io::Result<()> {
         let Some(client) = self.clients.get_mut(id) else {
@@ -855,7 +892,7 @@ impl ProxyEnd {
 
     // What can be done for the client is done.
     fn poll_client<N: Net>(&mut self, net: &N, id: usize) -> io::Result<Rest> {
-        for _ in 0..POLLS {
+        for _ in 0..self.polls() {
             if !self.may_go_on(id) {
                 self.leave_line(id);
                 return Ok(Rest::Full);

@@ -28,5 +28,5 @@ pub returns-clause-value : goal.returns-clause-value
 returns-clause-value c =
     let walk = c.walk_before-walk.result in
     let same : asks_of (message_in (held_at c.args.self.now) c.args.request.now) ≡ asks_of (message_in (held_at c.self.inside.stream) c.go_to.new.self.request) =
-        same_asks c.args.self.now c.args.request.now walk.request c.requires.read c.walk_before-walk.ensures.at.read ∙ (λ k. asks_of (message_in (held_at (sym c.self.view_is k)) (sym c.go_to.ensures.request k))) in
+    same_asks c.args.self.now c.args.request.now walk.request c.requires.read c.walk_before-walk.ensures.at.read ∙ (λ k. asks_of (message_in (held_at (sym c.self.view_is k)) (sym c.go_to.ensures.request k))) in
     (λ k. slice_get (same k) (sym c.in_ok-go_to.ensures.taken k)) ∙ c.in_ok-ask.ensures.value
