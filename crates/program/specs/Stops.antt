@@ -1,5 +1,5 @@
 -- Why the program stops, what it prints of that on standard error, and its exit statuses. Source: mcgate's own.
-use Rattle.std.specs.Prelude.{◌≡◌, ℕ, List, codes, Option, Some, None, Result, Ok, Err}
+use Rattle.std.specs.Prelude.{◌≡◌, ℕ, ◌≤◌, List, codes, Option, Some, None, Result, Ok, Err}
 use Rattle.std.specs.declared.io.ErrorKind.{ErrorKind}
 use Rattle.std.specs.declared.io.ErrorKind.TheVariants as io_kinds
 use Rattle.clap.specs.declared.error.ErrorKind.{ErrorKind as RefusalKind}
@@ -27,6 +27,16 @@ stop_at _ = stops.Device
 abbrev pub stop_by : RunFault → Stop
 stop_by runs.NoMemory = stops.Memory
 stop_by runs.Writer = stops.Device
+stop_by runs.TooManyCalls = stops.Calls
+
+-- what the answer of a run means for the program: it is the exit status, or a stop of its own
+abbrev pub Ends : ℕ → Result ℕ Stop → Type 0
+Ends answer (Ok status) = (status ≡ answer) × (answer ≤ 2)
+Ends answer (Err stops.Usage) = ⊥
+Ends answer (Err (stops.Key fault)) = ⊥
+Ends answer (Err stops.Memory) = answer ≡ 3
+Ends answer (Err stops.Device) = answer ≡ 4
+Ends answer (Err stops.Calls) = answer ≡ 5
 
 -- what a fault of the arguments means for the program
 abbrev pub stop_of : ArgumentsFault → Stop
@@ -40,6 +50,7 @@ stop_status stops.Usage = 2
 stop_status (stops.Key fault) = 1
 stop_status stops.Memory = 3
 stop_status stops.Device = 3
+stop_status stops.Calls = 3
 
 -- why a text is no key
 abbrev pub key_line : KeyFault → List ℕ
@@ -53,6 +64,7 @@ stop_line stops.Usage = codes "usage: mcgate check, replay, serve, cache or loop
 stop_line (stops.Key fault) = key_line fault
 stop_line stops.Memory = codes "memory: refused"
 stop_line stops.Device = codes "device: failed"
+stop_line stops.Calls = codes "calls: more than 18446744073709551615"
 
 -- the exit status, and the line on standard error if there is one
 abbrev pub end_of : Result ℕ Stop → ℕ × Option (List ℕ)
