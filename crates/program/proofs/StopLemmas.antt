@@ -1,12 +1,13 @@
 -- What stops the program on the way.
-use Rattle.std.proofs.Common.{◌≡◌, ℕ, ◌≤◌, List, Option, Result, Ok, Err, sym, subst}
+use Rattle.std.proofs.Common.{◌≡◌, ℕ, ◌≤◌, List, codes, Option, Result, Ok, Err, refl, sym, subst}
+use Rattle.std.specs.Fmt.{digits}
 use Rattle.std.specs.declared.io.ErrorKind.{ErrorKind}
 use Rattle.std.specs.declared.io.ErrorKind.TheVariants.{OutOfMemory}
 use Rattle.config_check.specs.Checking.{StopsUnwritten}
 use Rattle.config_check.specs.declared.status.RunFault.{RunFault}
 use Rattle.config_check.specs.declared.status.RunFault.TheVariants.{NoMemory, Writer, TooManyCalls}
 use Rattle.program.specs.Program.{IsBrokenOff, RunsBy}
-use Rattle.program.specs.Stops.{stop_at, stop_by, Ends}
+use Rattle.program.specs.Stops.{stop_at, stop_by, calls_line, Ends}
 use Rattle.program.specs.declared.ends.Stop.{Stop}
 use Rattle.program.specs.declared.ends.Stop.TheVariants as stops
 
@@ -36,3 +37,8 @@ ran P O text old new answer (Err (stops.Key fault)) ends does too_many = absurd 
 ran P O text old new answer (Err stops.Memory) ends does too_many = tt
 ran P O text old new answer (Err stops.Device) ends does too_many = tt
 ran P O text old new answer (Err stops.Calls) ends does too_many = too_many ends
+
+-- the number in the line is the last of a call
+pub calls_line_is : codes "calls: more than 18446744073709551615" ≡ calls_line
+unfolding digits
+calls_line_is = refl

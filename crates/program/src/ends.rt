@@ -7,7 +7,7 @@ ghost use Rattle.program.specs.Program.{Answers, Runs, AnswersInput, RunsBy, Ans
 ghost use Rattle.replay.specs.Replay.{ReplaysOver, Overran};
 ghost use Rattle.key_places.specs.Finding.{FindsKeys};
 ghost use Rattle.loopback.specs.Running.{Runs as RunsOverTcp};
-ghost use Rattle.program.specs.Stops.{stop_at, stop_by, stop_of, key_line, Ends, end_of};
+ghost use Rattle.program.specs.Stops.{stop_at, stop_by, stop_of, key_line, calls_line, Ends, end_of};
 
 use crate::arguments::{ArgumentsFault, Task};
 use config_check::checking::print_fault;
@@ -86,6 +86,13 @@ fn key_line(fault: KeyFault) -> &'static str
     }
 }
 
+// How many calls a script can have.
+fn calls_line() -> &'static str
+    ensures { result.now ≡ calls_line }
+{
+    "calls: more than 18446744073709551615"
+}
+
 /// The exit status, and the line that is printed on standard error, if there is one.
 #[derive(Clone, Copy)]
 pub struct End {
@@ -120,10 +127,9 @@ pub fn end_of(ended: Result<u8, Stop>) -> End
             status: 3,
             complaint: Some("device: failed"),
         },
-        // The last number of a call is 2^64 - 1.
         Err(Stop::Calls) => End {
             status: 3,
-            complaint: Some("calls: more than 18446744073709551615"),
+            complaint: Some(calls_line()),
         },
     }
 }
