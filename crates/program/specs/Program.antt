@@ -26,11 +26,11 @@ IsBrokenOff stops.Calls = ⊥
 
 -- the same; or a script had too many calls, and then this is so
 abbrev pub BreaksRunOff : Type 0 → Stop → Type 0
-BreaksRunOff Overruns stops.Usage = ⊥
-BreaksRunOff Overruns (stops.Key fault) = ⊥
-BreaksRunOff Overruns stops.Memory = Unit {0}
-BreaksRunOff Overruns stops.Device = Unit {0}
-BreaksRunOff Overruns stops.Calls = Overruns
+BreaksRunOff Written stops.Usage = ⊥
+BreaksRunOff Written (stops.Key fault) = ⊥
+BreaksRunOff Written stops.Memory = Unit {0}
+BreaksRunOff Written stops.Device = Unit {0}
+BreaksRunOff Written stops.Calls = Written
 
 -- this line was written and the status is 2; or the line could not be written
 abbrev pub Tells : List ℕ → Option (List ℕ) → Option (List ℕ) → Result ℕ Stop → Type 0
