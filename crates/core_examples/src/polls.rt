@@ -14,6 +14,20 @@ poll 0 => did 2
 poll 0 => idle
 output 0 => END\r\n
 
+Between the keys of a get more comes, and then the next get is read.
+null: depth 1, alone
+open => 0
+feed 0 get a b c\r\nge => ok
+poll 0 => did 1
+feed 0 t d e\r\n => ok
+poll 0 => did 2
+poll 0 => did 3
+output 0 => END\r\n
+poll 0 => did 4
+poll 0 => did 5
+poll 0 => idle
+output 0 => END\r\n
+
 Messages that ask no server are answered at once.
 server: depth 1, alone
 open => 0

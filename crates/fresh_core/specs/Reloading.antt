@@ -8,6 +8,7 @@ use Rattle.fresh_gate.specs.Sound.{trees_of}
 use Rattle.fresh_gate.specs.Reload.{IsReloadFault}
 use Rattle.fresh_gate.specs.declared.reloading.ReloadFault.{ReloadFault}
 use Rattle.fresh_gate.specs.declared.reloading.ReloadFault.TheVariants.{TooManyGenerations}
+use Rattle.proxy_core.specs.declared.limits.TheConstants.{LAST_GENERATION}
 use Rattle.proxy_core.specs.CoreState as core_state
 use Rattle.proxy_core.specs.CoreState.{dialect}
 use Rattle.fresh_core.specs.declared.fresh.FreshCore.{FreshCore}
@@ -29,4 +30,4 @@ pub record LoadsFreshly (old : FreshCore) (config : Configuration) (number : ℕ
 
 -- the gate's fault, or the core has no number for one more tree
 abbrev pub IsRefused : FreshCore → Configuration → ReloadFault → Type 0
-IsRefused old config fault = IsReloadFault (trees_of old.accepted) config.tree fault ⊎ ((old.core.generation ≡ 4294967295) × (fault ≡ TooManyGenerations))
+IsRefused old config fault = IsReloadFault (trees_of old.accepted) config.tree fault ⊎ ((old.core.generation ≡ LAST_GENERATION) × (fault ≡ TooManyGenerations))

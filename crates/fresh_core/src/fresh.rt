@@ -16,6 +16,7 @@ ghost use Rattle.fresh_core.specs.Results.{PollStops, SettlesFreshly, SettleStop
 use bytes::BytesMut;
 use fresh_gate::{Accepted, ReloadFault};
 use mc_types::{Ask, Outcome};
+use proxy_core::limits::LAST_GENERATION;
 use proxy_core::{Core, CoreFault, Limits, Poll, Ticket};
 use route_json::Config;
 use route_tree::Tree;
@@ -164,7 +165,7 @@ impl FreshCore {
 
     // The core's commands to come run by this tree.
     fn take_tree(&mut self, tree: Tree)
-        requires { self.old.core.generation < 4294967295 }
+        requires { self.old.core.generation < LAST_GENERATION }
         ensures accepted { self.new.accepted ≡ self.old.accepted }
         ensures reloads { Reloads self.old.core tree self.new.core }
     {
@@ -177,13 +178,13 @@ impl FreshCore {
     /// that are under way end on the trees on which they began. It gives the number of the generation.
     ///
     /// After a fault all is as it was; it is that of `Accepted::reload`, or `TooManyGenerations` where the core's generation is
-    /// 4,294,967,295. The new list of servers begins with the one in use.
+    /// [`LAST_GENERATION`]. The new list of servers begins with the one in use.
     pub fn reload(&mut self, alloc: Global, config: Config) -> Result<u32, ReloadFault>
         requires { KeepsNumbers self.old.accepted config }
         ensures loaded { IfOk result (λ number. LoadsFreshly self.old config number self.new) }
         ensures refused { IfErr result (λ fault. IsRefused self.old config fault × (self.new ≡ self.old)) }
     {
-        if self.core.generation() == 4_294_967_295 {
+        if self.core.generation() == LAST_GENERATION {
             drop_config(config);
             return Err(ReloadFault::TooManyGenerations);
         }

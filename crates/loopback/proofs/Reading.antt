@@ -1,6 +1,6 @@
 -- From the script that was read to what its text says, and what was written of it.
 use Rattle.std.proofs.Common.{◌≡◌, ℕ, ◌≤◌, arith, ◌<◌, ◌++◌, List, length, Option, Some, None, Result, Ok, Err, refl, sym, ap, subst, ◌∙◌, inl, inr, append_assoc}
-use Rattle.std.specs.Prelude.{slice_get, IsSome, position}
+use Rattle.std.specs.Prelude.{slice_get, IsSome}
 use Rattle.std.specs.Io.KnownBytes.{Appends}
 use Rattle.std.proofs.lemmas.List.{length-map}
 use Rattle.std.proofs.lemmas.Option.{slice_get-get_or}
@@ -17,7 +17,6 @@ use Rattle.config_check.specs.declared.status.RunFault.{RunFault}
 use Rattle.config_check.specs.declared.status.RunFault.TheVariants.{NoMemory, Writer, TooManyCalls}
 use Rattle.fresh_gate.specs.Gate.{IsCertified}
 use Rattle.config_check.specs.Checking.{PrintsRefused, IsNoOverrun}
-use Rattle.loopback.specs.LeftOut.{leaves_out, left_out_line}
 use Rattle.loopback.specs.Running.{events_of, servers_of, WritesRun, BreaksOff, RunsGood, RunsScript, RunsTold}
 
 pub both_written : (old mid new : Option (List ℕ)) (a b : List ℕ) → Appends old mid a → Appends mid new b → Appends old new (a ++ b)
@@ -64,28 +63,9 @@ runs_said t script old new status h p = rw (← h.configuration, ← h.reloads) 
 pub runs : (t : Result Told WhyNot) (script : ConfiguredScript) (old new : Option (List ℕ)) (status : ℕ) → ReadsScript t (Ok script) → RunsScript script old new status → RunsTold t old new status
 runs (Err why) script old new status h r = absurd h
 runs (Ok t) script old new status h (inl r) =
-    inl (record {
-      script = t;
-      said = refl;
-      good = bad_is t script h ∙ rw (r.good) refl;
-      none_out = ap (λ (es : List Scripted). position leaves_out es) (sym h.events) ∙ r.none_out;
-      runs = runs_said t script old new status h r.runs;
-    })
-runs (Ok t) script old new status h (inr r) =
-    elim r.1 [
-      | inl b ↦ inr (r.0, inr (inl (record { line = b.line; bad = bad_is t script h ∙ b.bad; printed = b.printed })))
-      | inr l ↦ inr (
-        r.0,
-        inr (inr (record {
-          script = t;
-          said = refl;
-          good = bad_is t script h ∙ rw (l.good) refl;
-          line = l.line;
-          left_out = ap (λ (es : List Scripted). left_out_line es (lines_said t)) (sym h.events) ∙ ap (λ (ls : List ℕ). left_out_line (events_of script) ls) (sym h.lines) ∙ l.left_out;
-          printed = l.printed;
-        })),
-      )
-    ]
+    let none = r.0 in
+    inl (record { script = t; said = refl; good = bad_is t script h ∙ rw (none) refl; runs = runs_said t script old new status h r.1 })
+runs (Ok t) script old new status h (inr r) = inr (r.0, inr (record { line = r.1.line; bad = bad_is t script h ∙ r.1.bad; printed = r.1.printed }))
 
 good_status : (config : Configuration) (reloads : List Reload) (old new : Option (List ℕ)) (status : ℕ) → RunsGood config reloads old new status → status ≤ 1
 good_status config reloads old new status (inl ran) = let e = ran.0 in omega (arith, e)

@@ -1,6 +1,6 @@
 -- What is printed of a script that is run over TCP, by how that ends. No clause says what sockets carry: of a run it is said that the gate accepted its tree, and that
 -- lines of what clients got and of what became of reloads were written, with the last one after them. Source: mcgate's own.
-use Rattle.std.specs.Prelude.{◌≡◌, ℕ, ◌++◌, ◌⊎◌, List, length, map, Option, Some, None, Result, Ok, position}
+use Rattle.std.specs.Prelude.{◌≡◌, ℕ, ◌++◌, ◌⊎◌, List, length, map, Option, Some, None, Result, Ok}
 use Rattle.std.specs.Io.KnownBytes.{Appends}
 use Rattle.route_json.specs.Configuration.{Configuration}
 use Rattle.route_json.specs.declared.fault.ConfigFault.{ConfigFault}
@@ -9,7 +9,7 @@ use Rattle.fleet_run.specs.declared.script.Reload.{Reload}
 use Rattle.fleet_run.specs.Scripted.{Scripted, scripted_of}
 use Rattle.fleet_run.specs.Bad.{first_bad}
 use Rattle.script_text.specs.FirstLine.{WhyNot, TellsFault}
-use Rattle.script_text.specs.Script.{Told, told, bad_line, bad_event_line, events_said, lines_said, servers_known, ReadsScript}
+use Rattle.script_text.specs.Script.{Told, told, bad_line, bad_event_line, servers_known, ReadsScript}
 use Rattle.script_text.specs.declared.configured.ConfiguredScript.{ConfiguredScript}
 use Rattle.script_text.specs.declared.configured.ScriptFault.{ScriptFault}
 use Rattle.script_text.specs.Printed.{bad_line_line, config_fault_line}
@@ -18,7 +18,6 @@ use Rattle.config_check.specs.declared.status.RunFault.{RunFault}
 use Rattle.config_check.specs.declared.status.RunFault.TheVariants.{NoMemory, Writer, TooManyCalls}
 use Rattle.loopback.specs.declared.ends.Counts.{Counts}
 use Rattle.loopback.specs.declared.entries.Entry.{Entry}
-use Rattle.loopback.specs.LeftOut.{leaves_out, left_out_line}
 use Rattle.loopback.specs.Printed.{entry_lines, done_line}
 
 -- ---- a script of which no line is bad
@@ -61,30 +60,19 @@ pub record HasBadEvent (script : ConfiguredScript) (old new : Option (List ℕ))
   pub bad : bad_event_line (servers_of script) (events_of script) script.lines.items ≡ Some line
   pub printed : Appends old new (bad_line_line line)
 
--- each of its events can be, but one leaves a call out, and the line of the first such was written as bad
-pub record LeavesOut (script : ConfiguredScript) (old new : Option (List ℕ)) : Type 0 where
-  pub good : first_bad (servers_of script) (events_of script) ≡ None
-  pub line : ℕ
-  pub left_out : left_out_line (events_of script) script.lines.items ≡ Some line
-  pub printed : Appends old new (bad_line_line line)
-
--- each of its events can be and none leaves a call out, and it ran or was refused
-pub record RanScript (script : ConfiguredScript) (old new : Option (List ℕ)) (status : ℕ) : Type 0 where
-  pub good : first_bad (servers_of script) (events_of script) ≡ None
-  pub none_out : position leaves_out (events_of script) ≡ None
-  pub runs : RunsGood script.config script.reloads.items old new status
-
+-- each of its events can be, and it ran or was refused; or one can't, and the line of the first was written
 abbrev pub RunsScript : ConfiguredScript → Option (List ℕ) → Option (List ℕ) → ℕ → Type 0
-RunsScript script old new status = RanScript script old new status ⊎ ((status ≡ 2) × (HasBadEvent script old new ⊎ LeavesOut script old new))
+RunsScript script old new status =
+    ((first_bad (servers_of script) (events_of script) ≡ None) × RunsGood script.config script.reloads.items old new status)
+    ⊎ ((status ≡ 2) × HasBadEvent script old new)
 
 -- ---- what a text says
 
--- no line is bad and no event leaves a call out, and the script ran or was refused
+-- no line is bad, and the script ran or was refused
 pub record Ran (t : Result Told WhyNot) (old new : Option (List ℕ)) (status : ℕ) : Type 0 where
   pub script : Told
   pub said : t ≡ Ok script
   pub good : bad_line (Ok script) ≡ None
-  pub none_out : position leaves_out (events_said script) ≡ None
   pub runs : RunsGood script.configuration script.loads old new status
 
 -- a line is bad, and that was written
@@ -93,24 +81,15 @@ pub record HasBadLine (t : Result Told WhyNot) (old new : Option (List ℕ)) : T
   pub bad : bad_line t ≡ Some line
   pub printed : Appends old new (bad_line_line line)
 
--- no line is bad, but an event leaves a call out, and the line of the first such was written as bad
-pub record HasLeftOut (t : Result Told WhyNot) (old new : Option (List ℕ)) : Type 0 where
-  pub script : Told
-  pub said : t ≡ Ok script
-  pub good : bad_line (Ok script) ≡ None
-  pub line : ℕ
-  pub left_out : left_out_line (events_said script) (lines_said script) ≡ Some line
-  pub printed : Appends old new (bad_line_line line)
-
 -- the configuration has a fault, and that was written
 pub record HasFaultyConfig (t : Result Told WhyNot) (old new : Option (List ℕ)) : Type 0 where
   pub fault : ConfigFault
   pub tells : TellsFault t fault
   pub printed : Appends old new (config_fault_line fault)
 
--- status 0: it ran; status 1: the gate refused its tree; status 2: the configuration has a fault, or a line is bad, or it leaves calls out
+-- status 0: it ran; status 1: the gate refused its tree; status 2: the configuration has a fault, or a line is bad
 abbrev pub RunsTold : Result Told WhyNot → Option (List ℕ) → Option (List ℕ) → ℕ → Type 0
-RunsTold t old new status = Ran t old new status ⊎ ((status ≡ 2) × (HasFaultyConfig t old new ⊎ (HasBadLine t old new ⊎ HasLeftOut t old new)))
+RunsTold t old new status = Ran t old new status ⊎ ((status ≡ 2) × (HasFaultyConfig t old new ⊎ HasBadLine t old new))
 
 abbrev pub Runs : List ℕ → Option (List ℕ) → Option (List ℕ) → ℕ → Type 0
 Runs text = RunsTold (told text)

@@ -1,4 +1,4 @@
-//! All ends together, which are turned by turns until what a client sent is done with.
+//! All ends together, which are turned by turns until all is done that can be done without a further result of a call.
 
 use crate::clients::ClientEnd;
 use crate::entries::Entry;
@@ -6,6 +6,7 @@ use crate::servers::Servers;
 use fleet_run::{Event, Output, Reload, Script};
 use fresh_gate::{Accepted, ReloadFault};
 use link_calls::LoadFault;
+use mc_types::limits::SCRIPT_CLIENTS;
 use proxy_core::Sharing;
 use route_json::Config;
 use std::alloc::{AllocError, Global};
@@ -16,8 +17,8 @@ use std::rt::Clock;
 use std::time::Duration;
 use tcp_proxy::{ProxyEnd, ServerDialect, Settings};
 
-// How many clients a script has.
-const CLIENTS: usize = 64;
+// The most bytes of a piece that come at once.
+const CUT: usize = 65_536;
 
 // How long one turn waits at most where nothing is ready, in milliseconds.
 const WAIT_MS: u64 = 1;
@@ -55,7 +56,7 @@ fn any_port() -> SocketAddr {
 // no server is held back.
 fn settings() -> Settings {
     Settings {
-        clients: CLIENTS,
+        clients: SCRIPT_CLIENTS,
         client_window: 1,
         link_window: 1,
         sharing: Sharing::Alone,
@@ -71,7 +72,7 @@ fn settings() -> Settings {
 // No client is connected.
 fn no_clients(alloc: Global) -> Result<Vec<Option<ClientEnd>>, AllocError> {
     let mut clients = Vec::new(alloc);
-    for _ in 0..CLIENTS {
+    for _ in 0..SCRIPT_CLIENTS {
         clients.push(None)?;
     }
     Ok(clients)
@@ -88,6 +89,17 @@ fn still_turns(before: u32, is_still: bool) -> u32 {
 
 fn add(count: u64, more: usize) -> u64 {
     count.saturating_add(more as u64)
+}
+
+// New output of a client is shown, if there is any.
+fn push_output(place: usize, bytes: Vec<u8>, shown: &mut Vec<Entry>) -> Result<(), AllocError> {
+    match u8::try_from(place) {
+        Ok(client) if !bytes.is_empty() => {
+            shown.push(Entry::Shown(Output { client, bytes }))?;
+            Ok(())
+        }
+        _ => Ok(()),
+    }
 }
 
 impl Ends {
@@ -126,23 +138,30 @@ impl Ends {
         }
     }
 
-    /// One event of a script. Of a piece the answer is what the client got by it.
+    /// One event of a script. What clients get by it goes after what is shown.
     pub fn take_up<R: Net + Clock + AllocGlobal>(
         &mut self,
         rt: &R,
         event: &Event,
-    ) -> io::Result<Option<Output>> {
+        shown: &mut Vec<Entry>,
+    ) -> io::Result<()> {
         match event {
-            Event::Piece(client, bytes) => return self.serve(rt, *client, bytes.as_slice()),
-            // A script with these isn't run here.
-            Event::Add(_, _) | Event::Result(_) => {}
+            Event::Piece(client, bytes) => self.serve(rt, *client as usize, bytes.as_slice())?,
+            Event::Add(client, bytes) => self.add(rt, *client as usize, bytes.as_slice())?,
+            Event::Result(server) => self.give_result(rt, server.number() as usize)?,
             Event::Hold(server, key, data) => self.servers.hold(*server, key, data.as_slice())?,
             Event::Fail(turn, manner) => self.servers.fail(*turn, *manner)?,
             Event::At(turn, loss) => self.servers.lose_at(*turn, *loss)?,
             Event::Now(loss) => self.servers.lose(*loss),
             Event::Moment(seconds) => self.servers.set_moment(*seconds),
         }
-        Ok(None)
+        Ok(self.give_all(shown)?)
+    }
+
+    /// The script has ended: each call that is out has its result. What clients get by it goes after what is shown.
+    pub fn finish<R: Net + Clock>(&mut self, rt: &R, shown: &mut Vec<Entry>) -> io::Result<()> {
+        self.settle_all(rt)?;
+        Ok(self.give_all(shown)?)
     }
 
     /// A configuration is to be in use. The answer is the number of its generation, or why the gate refused it.
@@ -160,22 +179,60 @@ impl Ends {
         }
     }
 
-    // A piece comes from a client, and all that is complete is served.
-    fn serve<R: Net + Clock>(
-        &mut self,
-        rt: &R,
-        client: u8,
-        piece: &[u8],
-    ) -> io::Result<Option<Output>> {
-        let place = client as usize;
-        self.connect(rt, place)?;
-        self.feed(place, piece)?;
-        self.turn_until_served(rt, place)?;
-        let bytes = self.take_output(place)?;
-        if bytes.is_empty() {
-            return Ok(None);
+    // A piece comes from a client, in cuts as a replay makes them: after each, each call that is out has its result.
+    fn serve<R: Net + Clock>(&mut self, rt: &R, place: usize, piece: &[u8]) -> io::Result<()> {
+        let mut rest = piece;
+        while rest.len() > CUT {
+            let (cut, more) = rest.split_at(CUT);
+            self.add(rt, place, cut)?;
+            self.settle_all(rt)?;
+            rest = more;
         }
-        Ok(Some(Output { client, bytes }))
+        self.add(rt, place, rest)?;
+        self.settle_all(rt)
+    }
+
+    // Bytes come from a client, and all that can be done without a result is done.
+    fn add<R: Net + Clock>(&mut self, rt: &R, place: usize, bytes: &[u8]) -> io::Result<()> {
+        self.connect(rt, place)?;
+        self.feed(place, bytes)?;
+        self.turn_until_still(rt, Some(place))
+    }
+
+    // Each call that is out has its result, that of the least server first.
+    fn settle_all<R: Net + Clock>(&mut self, rt: &R) -> io::Result<()> {
+        for _ in 0..u64::MAX {
+            match self.servers.first_asked() {
+                Some(server) => self.make_call(rt, server)?,
+                None => return Ok(()),
+            }
+        }
+        Ok(())
+    }
+
+    // The call that is out at the server has its result, where there is one.
+    fn give_result<R: Net + Clock>(&mut self, rt: &R, server: usize) -> io::Result<()> {
+        if self.servers.is_asked(server) {
+            self.make_call(rt, server)?;
+        }
+        Ok(())
+    }
+
+    // The call that is out at the server has its result, and all that can be done without another is done.
+    fn make_call<R: Net + Clock>(&mut self, rt: &R, server: usize) -> io::Result<()> {
+        if self.servers.make_call(server)? {
+            self.proxy.drop_link(server)?;
+        }
+        self.turn_until_still(rt, None)
+    }
+
+    // Each client is given what it got, in rising number.
+    fn give_all(&mut self, shown: &mut Vec<Entry>) -> Result<(), AllocError> {
+        for place in 0..self.clients.len() {
+            let bytes = self.take_output(place)?;
+            push_output(place, bytes, shown)?;
+        }
+        Ok(())
     }
 
     // The client is connected, if it wasn't yet.
@@ -207,18 +264,29 @@ impl Ends {
         }
     }
 
-    // Whether all that the client sent is done with, and it has got all that there is for it.
-    fn is_served(&mut self, place: usize) -> bool {
-        let has_sent_all = match self.client(place) {
+    // Whether the proxy has read all that was sent, of which the last came from this client. It reads no more of a client whose
+    // connection has ended.
+    fn is_read(&mut self, fed: Option<usize>) -> bool {
+        let is_sent = match self.fed_client(fed) {
             Some(client) if client.is_ended() => return true,
             Some(client) => client.has_sent_all(),
             None => true,
         };
-        let tally = self.proxy.tally();
-        has_sent_all
-            && tally.read == self.sent
-            && tally.shown == self.received
-            && self.proxy.is_at_rest()
+        is_sent && self.proxy.tally().read == self.sent
+    }
+
+    fn fed_client(&mut self, fed: Option<usize>) -> Option<&mut ClientEnd> {
+        match fed {
+            Some(place) => self.client(place),
+            None => None,
+        }
+    }
+
+    // Whether all is done that can be done without a result, and the clients have got all that there is for them.
+    fn is_still(&mut self, fed: Option<usize>) -> bool {
+        self.is_read(fed)
+            && self.proxy.tally().shown == self.received
+            && self.proxy.is_still(self.servers.asked())
     }
 
     // How much was done so far: it grows with each step.
@@ -233,31 +301,31 @@ impl Ends {
             .saturating_add(self.servers.moved())
     }
 
-    // Turns until the client is served. Where nothing moves for long that is an error.
-    fn turn_until_served<R: Net + Clock>(&mut self, rt: &R, place: usize) -> io::Result<()> {
+    // Turns until all is still after this client, or none, has sent more. Where nothing moves for long that is an error.
+    fn turn_until_still<R: Net + Clock>(&mut self, rt: &R, fed: Option<usize>) -> io::Result<()> {
         let mut still = 0u32;
         for _ in 0..u64::MAX {
-            if self.is_served(place) {
+            if self.is_still(fed) {
                 break;
             }
             let before = self.moved();
-            self.turn(rt, place)?;
+            self.turn(rt)?;
             still = still_turns(still, self.moved() == before);
             if still == STILL_TURNS {
                 return Err(io::Error::from(ErrorKind::TimedOut));
             }
         }
-        self.note_end(place)
+        self.note_end(fed);
+        Ok(())
     }
 
     // One turn of each end.
-    fn turn<R: Net + Clock>(&mut self, rt: &R, place: usize) -> io::Result<()> {
-        self.turn_client(place)?;
-        self.proxy.turn_within(rt, Duration::from_millis(WAIT_MS))?;
-        if let Some(server) = self.servers.turn()? {
-            self.proxy.drop_link(server)?;
+    fn turn<R: Net + Clock>(&mut self, rt: &R) -> io::Result<()> {
+        for place in 0..self.clients.len() {
+            self.turn_client(place)?;
         }
-        Ok(())
+        self.proxy.turn_within(rt, Duration::from_millis(WAIT_MS))?;
+        Ok(self.servers.turn()?)
     }
 
     fn turn_client(&mut self, place: usize) -> Result<(), AllocError> {
@@ -271,35 +339,16 @@ impl Ends {
         Ok(())
     }
 
-    // Where the connection of a client has ended the proxy reads no more of what it sent. All that there was for it has come, or the
-    // connection has failed.
-    fn note_end(&mut self, place: usize) -> io::Result<()> {
-        let is_ended = match self.client(place) {
+    // Where the connection of the client that sent more has ended the proxy reads no more of that.
+    fn note_end(&mut self, fed: Option<usize>) {
+        let is_ended = match self.fed_client(fed) {
             Some(client) => client.is_ended(),
             None => false,
         };
         if is_ended {
-            let tally = self.proxy.tally();
-            if tally.shown != self.received {
-                return Err(io::Error::from(ErrorKind::ConnectionAborted));
-            }
-            self.sent = tally.read;
+            self.sent = self.proxy.tally().read;
         }
-        Ok(())
     }
-}
-
-// Takes up an event. What a client gets is shown.
-fn take_event<R: Net + Clock + AllocGlobal>(
-    rt: &R,
-    ends: &mut Ends,
-    event: &Event,
-    shown: &mut Vec<Entry>,
-) -> io::Result<()> {
-    if let Some(output) = ends.take_up(rt, event)? {
-        shown.push(Entry::Shown(output))?;
-    }
-    Ok(())
 }
 
 // Loads the configuration of a reload, of this number. What came of that is shown.
@@ -328,10 +377,10 @@ pub fn drive<R: Net + Clock + AllocGlobal>(
     let mut loaded = 0;
     for (place, event) in script.events.as_slice().iter().enumerate() {
         loaded = load_due(ends, reloads, loaded, place, shown)?;
-        take_event(rt, ends, event, shown)?;
+        ends.take_up(rt, event, shown)?;
     }
     load_due(ends, reloads, loaded, usize::MAX, shown)?;
-    Ok(())
+    ends.finish(rt, shown)
 }
 
 // Loads those reloads from this number on that come before the event of this place. The answer is the number of the first that is left.

@@ -8,7 +8,6 @@ mod calls;
 mod clients;
 mod ends;
 mod entries;
-mod left_out;
 mod printing;
 mod running;
 mod servers;

@@ -1,13 +1,11 @@
 //! Scripts that are run over TCP, and what is printed of them.
 
-ghost use Rattle.std.specs.Prelude.{◌≡◌, ◌≤◌, None, IfOk, IfErr, length};
+ghost use Rattle.std.specs.Prelude.{◌≡◌, ◌≤◌, IfOk, IfErr, length};
 ghost use Rattle.config_check.specs.Checking.{IsNoOverrun};
-ghost use Rattle.fleet_run.specs.Bad.{first_bad};
-ghost use Rattle.loopback.specs.Running.{IsReading, events_of, servers_of, WritesRun, BreaksOff, RunsGood, RunsScript, RunsRead, Runs};
+ghost use Rattle.loopback.specs.Running.{IsReading, WritesRun, BreaksOff, RunsGood, RunsScript, RunsRead, Runs};
 
 use crate::ends::{Counts, Ends, drive};
 use crate::entries::{Entry, write_entries};
-use crate::left_out::first_left_out;
 use crate::printing::write_done;
 use config_check::RunFault;
 use config_check::checking::print_refused;
@@ -102,27 +100,6 @@ fn run_good<R: Net + Clock + AllocGlobal, W: Write>(
     }
 }
 
-// Runs a script of which no event is bad, or writes the line of the first event that leaves a call out.
-fn run_whole<R: Net + Clock + AllocGlobal, W: Write>(
-    rt: &R,
-    configured: &ConfiguredScript,
-    out: &mut W,
-) -> Result<u8, RunFault>
-    requires lines { length configured.now.lines.items ≡ length configured.now.script.events.items }
-    requires good { first_bad (servers_of configured.now) (events_of configured.now) ≡ None }
-    ensures ok { IfOk result (RunsScript configured.now (W.contents out.old) (W.contents out.new)) }
-    ensures err { IfErr result (BreaksOff (W.contents out.old) (W.contents out.new)) }
-{
-    match first_left_out(&configured.script) {
-        Some(event) => {
-            let line = configured.line_of(event).unwrap();
-            write_bad_line(line, out)?;
-            Ok(BAD_INPUT)
-        }
-        None => run_good(rt, configured, out),
-    }
-}
-
 // Runs a script whose lines could be read, or writes the line of the first event that can't be.
 fn run_script<R: Net + Clock + AllocGlobal, W: Write>(
     rt: &R,
@@ -139,7 +116,7 @@ fn run_script<R: Net + Clock + AllocGlobal, W: Write>(
             write_bad_line(line, out)?;
             Ok(BAD_INPUT)
         }
-        None => run_whole(rt, configured, out),
+        None => run_good(rt, configured, out),
     }
 }
 
@@ -182,12 +159,12 @@ fn run_text<R: Net + Clock + AllocGlobal, W: Write>(
 /// client gets, what became of each reload, and how many commands and calls there were; or the fault of its configuration, or the line that is bad, or why the gate
 /// refuses its tree. Faults are looked for in this order, and before anything runs.
 ///
-/// Ports are those that the system picks, whatever the configuration's addresses say. Calls are made one at a time, in the order in
-/// which a replay makes them. One that is to fail before it is applied is cut off as its first byte comes; of one that is to fail after
+/// Ports are those that the system picks, whatever the configuration's addresses say. A server answers when the script says so: after a piece each that was
+/// asked, the least first, so that calls are made in the order in which a replay makes them. One that is to fail before it is applied is cut off; of one that is to fail after
 /// that the answer comes too late: the link is dropped before. Of one that is to be cut the first bytes come, and junk in an answer's
 /// place, and then the server ends the link. What servers hold, lose, and take for the time is set directly.
 ///
-/// Servers answer at once, so no call stays out: the first `+` or `result` of a script is a bad line here.
+/// Where several clients wait for one server, that goes first which waited first; in a replay the one of the least number.
 ///
 /// The answer is the program's exit status, `DONE`, `REFUSED` or `BAD_INPUT`; or else `NO_MEMORY` where memory was refused: then
 /// nothing was printed, or some of what clients got; or `WRITER` where the output could not be written, or a socket failed.

@@ -4,8 +4,8 @@ use crate::calls::Calls;
 use bytes::BytesMut;
 use cache_connection::Cache;
 use mc_types::{DATA_LIMIT, Key, ServerId};
-use memory_fleet::Loss;
 use memory_fleet::losses::lose_all;
+use memory_fleet::{CAPACITY, Loss};
 use mio::net::{TcpListener, TcpStream};
 use script_servers::Manner;
 use std::alloc::{AllocError, Global};
@@ -14,9 +14,7 @@ use std::net::{Net, SocketAddr};
 use tcp_cache::client::Client;
 use tcp_cache::clock::Moment;
 use tcp_socket::{Conn, Got, Limits, Sent};
-
-// The most items that a server holds.
-const CAPACITY: usize = 1_024;
+use text_codec::{Read, read_request};
 
 // More than one ask, or one answer, is never held.
 const LIMITS: Limits = Limits {
@@ -35,10 +33,6 @@ const WRITES: usize = 64;
 struct ServerEnd {
     listener: TcpListener,
     link: Option<Client<TcpStream>>,
-    // An ask has begun to come that isn't answered.
-    is_asked: bool,
-    // How that one is to fail, if it is.
-    failing: Option<Manner>,
     // The call has failed whose answer is to be sent: it comes late, before that to the next ask over this connection.
     is_late: bool,
     // The connection is closed as soon as what is to be sent was sent.
@@ -65,13 +59,19 @@ fn break_answer(answer: &mut BytesMut, failing: Option<Manner>) -> Result<bool, 
     }
 }
 
+// Whether a whole message stands in front.
+fn is_whole(bytes: &[u8]) -> bool {
+    match read_request(bytes) {
+        Read::More => false,
+        Read::Request(_) | Read::Refused { .. } | Read::TooLong => true,
+    }
+}
+
 impl ServerEnd {
     fn listen<N: Net>(net: &N, address: SocketAddr) -> io::Result<ServerEnd> {
         Ok(ServerEnd {
             listener: TcpListener::bind(net, address)?,
             link: None,
-            is_asked: false,
-            failing: None,
             is_late: false,
             is_last: false,
         })
@@ -80,8 +80,6 @@ impl ServerEnd {
     // The connection is closed.
     fn close(&mut self) {
         self.link = None;
-        self.is_asked = false;
-        self.failing = None;
         self.is_late = false;
         self.is_last = false;
     }
@@ -113,32 +111,36 @@ impl ServerEnd {
         }
     }
 
-    // Whether an ask begins with what came.
-    fn begins_ask(&self) -> bool {
+    // Whether a whole ask came that isn't answered.
+    fn is_asked(&self) -> bool {
         match &self.link {
-            Some(link) => !self.is_asked && !link.conn.held.is_empty(),
+            Some(link) => is_whole(link.conn.held.as_slice()),
             None => false,
         }
     }
 
-    // An ask begins to come, which is to fail so.
-    fn begin_ask(&mut self, failing: Option<Manner>) {
-        self.is_asked = true;
-        self.failing = failing;
+    // The call that came is made: it is answered, or it fails so. Whether it has failed already, before its answer or without one.
+    fn make_call(
+        &mut self,
+        failing: Option<Manner>,
+        cache: &mut Cache,
+        moment: Moment,
+    ) -> Result<bool, AllocError> {
         self.is_late = false;
-    }
-
-    // The ask that came is answered, if it is whole.
-    fn answer(&mut self, cache: &mut Cache, moment: Moment) -> Result<(), AllocError> {
+        if failing == Some(Manner::Before) {
+            self.close();
+            return Ok(true);
+        }
         let Some(link) = self.link.as_mut() else {
-            return Ok(());
+            return Ok(false);
         };
         link.serve(cache, moment)?;
-        if self.is_asked && !link.conn.unsent.is_empty() {
-            self.is_asked = false;
-            self.is_last = break_answer(&mut link.conn.unsent, self.failing)?;
+        if failing == Some(Manner::After) {
+            self.is_late = true;
+            return Ok(true);
         }
-        Ok(())
+        self.is_last = break_answer(&mut link.conn.unsent, failing)?;
+        Ok(false)
     }
 
     // Sends what the connection takes now. The answer is how many bytes that were.
@@ -168,22 +170,6 @@ impl ServerEnd {
         };
         if self.is_last && is_sent {
             self.close();
-        }
-    }
-
-    // Whether the call under way fails now: it isn't applied, or it was.
-    fn take_failure(&mut self) -> bool {
-        match self.failing {
-            Some(Manner::Before) => {
-                self.close();
-                true
-            }
-            Some(Manner::After) if !self.is_asked => {
-                self.failing = None;
-                self.is_late = true;
-                true
-            }
-            _ => false,
         }
     }
 }
@@ -298,31 +284,47 @@ impl Servers {
         self.moment = moment_of(seconds);
     }
 
-    /// One turn: what came is answered, where that is a whole ask. Where a call fails the answer is the number of its server,
-    /// to which the proxy's connection is to be dropped.
-    pub fn turn(&mut self) -> Result<Option<usize>, AllocError> {
-        for at in 0..self.ends.len() {
-            if self.serve(at)? {
-                return Ok(Some(at));
-            }
+    /// How many of them were asked and didn't answer yet.
+    pub fn asked(&self) -> usize {
+        self.ends.iter().filter(|end| end.is_asked()).count()
+    }
+
+    /// The least of them that was asked and didn't answer yet.
+    pub fn first_asked(&self) -> Option<usize> {
+        self.ends.iter().position(|end| end.is_asked())
+    }
+
+    /// Whether this one was asked and didn't answer yet.
+    pub fn is_asked(&self, at: usize) -> bool {
+        match self.ends.get(at) {
+            Some(end) => end.is_asked(),
+            None => false,
         }
-        Ok(None)
+    }
+
+    /// The call that this one was asked is made. Whether it has failed already, so that the proxy's connection is to be dropped.
+    pub fn make_call(&mut self, at: usize) -> Result<bool, AllocError> {
+        let failing = self.calls.begin(&mut self.caches);
+        match (self.ends.get_mut(at), self.caches.get_mut(at)) {
+            (Some(end), Some(cache)) => end.make_call(failing, cache, self.moment),
+            _ => Ok(false),
+        }
+    }
+
+    /// One turn: what came is read, and what is to be sent is sent.
+    pub fn turn(&mut self) -> Result<(), AllocError> {
+        for at in 0..self.ends.len() {
+            let read = self.read(at)?;
+            self.note_moved(read);
+            let sent = self.send(at);
+            self.note_moved(sent);
+            self.close_last(at);
+        }
+        Ok(())
     }
 
     fn note_moved(&mut self, count: usize) {
         self.moved = self.moved.saturating_add(count as u64);
-    }
-
-    // Whether the call that came to a server failed.
-    fn serve(&mut self, at: usize) -> Result<bool, AllocError> {
-        let read = self.read(at)?;
-        self.note_moved(read);
-        self.answer(at)?;
-        let has_failed = self.take_failure(at);
-        let sent = self.send(at);
-        self.note_moved(sent);
-        self.close_last(at);
-        Ok(has_failed)
     }
 
     fn read(&mut self, at: usize) -> Result<usize, AllocError> {
@@ -330,20 +332,7 @@ impl Servers {
             return Ok(0);
         };
         end.accept(self.alloc);
-        let read = end.read()?;
-        if end.begins_ask() {
-            end.begin_ask(self.calls.begin(&mut self.caches));
-        }
-        Ok(read)
-    }
-
-    fn answer(&mut self, at: usize) -> Result<(), AllocError> {
-        match (self.ends.get_mut(at), self.caches.get_mut(at)) {
-            (Some(end), Some(cache)) if end.failing != Some(Manner::Before) => {
-                end.answer(cache, self.moment)
-            }
-            _ => Ok(()),
-        }
+        end.read()
     }
 
     fn send(&mut self, at: usize) -> usize {
@@ -356,13 +345,6 @@ impl Servers {
     fn close_last(&mut self, at: usize) {
         if let Some(end) = self.ends.get_mut(at) {
             end.close_last();
-        }
-    }
-
-    fn take_failure(&mut self, at: usize) -> bool {
-        match self.ends.get_mut(at) {
-            Some(end) => end.take_failure(),
-            None => false,
         }
     }
 }

@@ -4,6 +4,7 @@ pub mod Claims
 pub mod Commands
 pub mod Clients
 pub mod Fronts
+pub mod ClientStreams
 pub mod Polls
 pub mod Places
 pub mod Chains

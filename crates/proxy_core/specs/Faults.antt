@@ -3,6 +3,8 @@ use Rattle.std.specs.Prelude.{◌≡◌, ℕ, ◌<◌, ◌≤◌, true, false, L
 use Rattle.slab.specs.Slab.{slab_len}
 use Rattle.proxy_core.specs.declared.fault.CoreFault.{CoreFault}
 use Rattle.proxy_core.specs.declared.fault.CoreFault.TheVariants as faults
+use Rattle.mc_types.specs.declared.limits.TheConstants.{SCRIPT_CLIENTS}
+use Rattle.proxy_core.specs.declared.limits.TheConstants.{SCRIPT_HELD}
 use Rattle.proxy_core.specs.declared.limits.Limits.{Limits}
 use Rattle.commands_under_way.specs.declared.sharing.Sharing.TheVariants.{Alone}
 use Rattle.proxy_core.specs.declared.proxy.Core.{Core}
@@ -11,7 +13,7 @@ use Rattle.proxy_core.specs.CoreState.{client_at}
 pub use Rattle.commands_under_way.specs.Owned.{has_commands}
 
 abbrev pub script_limits : Limits
-script_limits = record { clients = 64; held = 2097152; depth = 1; window = 1; sharing = Alone }
+script_limits = record { clients = SCRIPT_CLIENTS; held = SCRIPT_HELD; depth = 1; window = 1; sharing = Alone }
 
 -- nothing is read of the client any more, or there is none
 abbrev pub IsClosed : Core → ℕ → Type 0

@@ -1,5 +1,6 @@
 pub mod Claims
 pub mod Clients
+pub mod ClientStreams
 pub mod CoreState
 pub mod Faults
 pub mod Steps

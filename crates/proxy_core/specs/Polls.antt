@@ -17,6 +17,7 @@ use Rattle.proxy_core.specs.declared.answering.Passed.{Passed}
 use Rattle.proxy_core.specs.declared.client.Client.{Client}
 use Rattle.proxy_core.specs.declared.fault.CoreFault.{CoreFault}
 use Rattle.proxy_core.specs.declared.fault.CoreFault.TheVariants as faults
+use Rattle.proxy_core.specs.declared.limits.TheConstants.{LAST_COMMAND}
 use Rattle.proxy_core.specs.declared.proxy.Core.{Core}
 use Rattle.route_job.specs.Jobs.{IsCalling}
 use Rattle.commands_under_way.specs.declared.command.Command.{Command}
@@ -310,7 +311,7 @@ pub record StopsAt (old : Core) (client : ℕ) (new : Core) : Type 0 where
 
 abbrev pub PollFault : Core → ℕ → CoreFault → Core → Type 0
 PollFault old client faults.NoClient new = (client_at old client ≡ None) × (new ≡ old)
-PollFault old client faults.Spent new = (old.number ≡ 18446744073709551615) × (new ≡ old)
+PollFault old client faults.Spent new = (old.number ≡ LAST_COMMAND) × (new ≡ old)
 PollFault old client faults.NoMemory new = StopsAt old client new
 PollFault old client faults.TooManyClients new = ⊥
 PollFault old client faults.InputFull new = ⊥
@@ -320,7 +321,7 @@ PollFault old client faults.NoTicket new = ⊥
 -- the same before the client is dropped
 abbrev pub ReadFault : Core → ℕ → CoreFault → Core → Type 0
 ReadFault old client faults.NoMemory new = GoesBy old (SoFar client) new × ForClient new client IsServed × (others client new.lines ≡ others client old.lines)
-ReadFault old client faults.Spent new = (old.number ≡ 18446744073709551615) × (new ≡ old)
+ReadFault old client faults.Spent new = (old.number ≡ LAST_COMMAND) × (new ≡ old)
 ReadFault old client faults.NoClient new = ⊥
 ReadFault old client faults.TooManyClients new = ⊥
 ReadFault old client faults.InputFull new = ⊥

@@ -4,6 +4,7 @@ ghost use Rattle.std.specs.Prelude.{◌≡◌, ◌++◌, false, ◌↔◌, IsTru
 ghost use Rattle.proxy_core.specs.Claims.{has_own};
 ghost use Rattle.proxy_core.specs.Clients.{IsNew, IsEnded, TakesPiece, Takes, HasRoom, RoomFault, LosesOutput};
 
+use crate::client_stream::ClientStream;
 use crate::fault::CoreFault;
 use bytes::BytesMut;
 use commands_under_way::SharedAsk;
@@ -11,7 +12,6 @@ use mc_types::{Answer, Key};
 use std::alloc::{AllocError, Global};
 use std::collections::VecDeque;
 use std::mem;
-use text_codec::TextStream;
 
 /// A command of a client whose reply was not shown yet.
 #[derive(Drop)]
@@ -29,7 +29,7 @@ pub struct Pending {
 /// were not shown yet, in its own order.
 #[derive(Drop)]
 pub struct Client {
-    pub stream: TextStream,
+    pub stream: ClientStream,
     pub output: BytesMut,
     pub queue: VecDeque<Pending>,
     /// Which key of the message at the front is next.
@@ -59,7 +59,7 @@ impl Client {
         ensures { IsNew result }
     {
         Client {
-            stream: TextStream::new(alloc),
+            stream: ClientStream::new(alloc),
             output: BytesMut::new(alloc),
             queue: VecDeque::new(alloc),
             index: 0,
@@ -102,7 +102,7 @@ impl Client {
         if self.is_ended() {
             return Ok(());
         }
-        let held = self.stream.held().len();
+        let held = self.stream.held_len();
         if limit < held || limit - held < piece.len() {
             return Err(CoreFault::InputFull);
         }

@@ -3,6 +3,7 @@
 
 pub mod answering;
 pub mod client;
+pub mod client_stream;
 pub mod fault;
 pub mod finishing;
 pub mod freeing;

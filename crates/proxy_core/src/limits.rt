@@ -4,6 +4,16 @@ ghost use Rattle.std.specs.Prelude.{◌≡◌};
 ghost use Rattle.proxy_core.specs.Faults.{script_limits};
 
 use commands_under_way::Sharing;
+use mc_types::limits::SCRIPT_CLIENTS;
+
+/// How many bytes of a client a core of scripts holds: 2 MiB. mcgate's own.
+pub const SCRIPT_HELD: usize = 2_097_152;
+
+/// The last number that a command can have.
+pub const LAST_COMMAND: u64 = 18_446_744_073_709_551_615;
+
+/// The last generation that a tree can be.
+pub const LAST_GENERATION: u32 = 4_294_967_295;
 
 /// How much a core takes at once, and what may be under way together.
 #[derive(Clone, Copy)]
@@ -21,14 +31,14 @@ pub struct Limits {
 }
 
 impl Limits {
-    /// Those of scripts: 64 clients, 2,097,152 bytes held of each and one command, one call at each server, and each key for one
-    /// command alone.
+    /// Those of scripts: [`SCRIPT_CLIENTS`] clients, [`SCRIPT_HELD`] bytes held of each and one command, one call at each server, and
+    /// each key for one command alone.
     pub fn of_scripts() -> Limits
         ensures { result ≡ script_limits }
     {
         Limits {
-            clients: 64,
-            held: 2_097_152,
+            clients: SCRIPT_CLIENTS,
+            held: SCRIPT_HELD,
             depth: 1,
             window: 1,
             sharing: Sharing::Alone,

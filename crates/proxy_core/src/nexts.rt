@@ -95,12 +95,13 @@ impl Client {
     }
 
     /// The ask of the next key of the request at its front. The only error is running out of memory.
-    pub fn next_ask(&self, alloc: Global, request: &Request) -> Result<SharedAsk, AllocError>
-        requires { CanAsk request.now self.now }
-        ensures begins { IfOk result (λ ask. CanBegin request.now ask self.now) }
+    pub fn next_ask(&mut self, alloc: Global, request: &Request) -> Result<SharedAsk, AllocError>
+        requires { CanAsk request.now self.old }
+        ensures begins { IfOk result (λ ask. CanBegin request.now ask self.old) }
         ensures asks { IfOk result IsAsk }
+        ensures same { self.new ≡ self.old }
     {
-        let ask = request.ask(alloc, self.stream.held(), self.index)?;
+        let ask = self.stream.ask(alloc, request, self.index)?;
         SharedAsk::new(alloc, ask)
     }
 }

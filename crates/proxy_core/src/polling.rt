@@ -17,6 +17,7 @@ ghost use Rattle.commands_under_way.specs.declared.turns.Turn.TheVariants.{Full}
 
 use crate::answering::Passed;
 use crate::fault::CoreFault;
+use crate::limits::LAST_COMMAND;
 use crate::looking::{Ready, first_full, first_ready};
 use crate::nexts::Next;
 use crate::note::Poll;
@@ -56,7 +57,7 @@ impl Core {
         requires apart { is_barred ask.key command.claim self.old.commands ≡ false }
         requires claim { command.claim ≡ claim_by self.old.limits.sharing ask.op (tree_at self.old.tree ask.key) }
         requires well_formed { IsAsk ask }
-        requires number { self.old.number < 18446744073709551615 }
+        requires number { self.old.number < LAST_COMMAND }
         requires begun { IsBegun self.old.tree client ask command.claim command }
         requires tree { IsTree self.old.tree }
         ensures ok { OnOk result (BeginsAt self.old client ask self.new) }
@@ -96,7 +97,7 @@ impl Core {
         requires apart { is_barred ask.key claim self.old.commands ≡ false }
         requires claim_is { claim ≡ claim_by self.old.limits.sharing ask.op (tree_at self.old.tree ask.key) }
         requires well_formed { IsAsk ask }
-        requires number { self.old.number < 18446744073709551615 }
+        requires number { self.old.number < LAST_COMMAND }
         ensures ok { OnOk result (BeginsAt self.old client ask self.new) }
         ensures err { IfErr result (λ fault. StopsFirst client self.old fault self.new) }
         ensures kept { OnErr result (self.new.lines ≡ self.old.lines) }
@@ -199,13 +200,15 @@ impl Core {
         }
     }
 
-    fn next_ask(&self, client: usize, request: &Request) -> Result<SharedAsk, CoreFault>
-        requires { ForClient self.now client (CanAsk request.now) }
-        ensures begins { IfOk result (λ ask. ForClient self.now client (CanBegin request.now ask)) }
+    // The ask of the next key of the request at the client's front.
+    fn next_ask(&mut self, client: usize, request: &Request) -> Result<SharedAsk, CoreFault>
+        requires { ForClient self.old client (CanAsk request.now) }
+        ensures begins { IfOk result (λ ask. ForClient self.old client (CanBegin request.now ask)) }
         ensures asks { IfOk result IsAsk }
         ensures err { IfErr result (λ fault. fault ≡ NoMemory) }
+        ensures same { self.new ≡ self.old }
     {
-        match self.clients.get(client) {
+        match self.clients.get_mut(client) {
             None => unreachable!(),
             Some(x) => match x.next_ask(self.alloc, request) {
                 Ok(ask) => Ok(ask),
@@ -248,17 +251,20 @@ impl Core {
         }
     }
 
-    // The next key of the request at the client's front begins, and goes on as it can.
-    fn begin_next(&mut self, client: usize, request: &Request) -> Result<Poll, CoreFault>
+    // This ask, of the next key of the request at the client's front, begins, and goes on as it can.
+    fn begin_ask(
+        &mut self,
+        client: usize,
+        request: &Request,
+        ask: SharedAsk,
+    ) -> Result<Poll, CoreFault>
         requires asks { ForClient self.old client (CanAskBelow self.old.limits.depth request.now) }
+        requires next { ForClient self.old client (CanBegin request.now ask) }
+        requires well_formed { IsAsk ask }
         requires held { NoneGoesOn self.old client }
         ensures ok { IfOk result (λ poll. Polls self.old client poll self.new) }
         ensures err { IfErr result (λ fault. ReadFault self.old client fault self.new) }
     {
-        let ask = match self.next_ask(client, request) {
-            Ok(ask) => ask,
-            Err(fault) => return Err(fault),
-        };
         if self.has_own(client, ask.key()) {
             drop_ask(ask);
             return Ok(Poll::Busy);
@@ -270,12 +276,25 @@ impl Core {
         if self.lines.is_behind(client, ask.key(), claim) {
             return self.wait_in_line(client, ask, claim);
         }
-        if self.number == 18_446_744_073_709_551_615 {
+        if self.number == LAST_COMMAND {
             drop_ask(ask);
             return Err(CoreFault::Spent);
         }
         match self.begin_key(client, request, ask, claim) {
             Ok(()) => self.act_last(client),
+            Err(fault) => Err(fault),
+        }
+    }
+
+    // The next key of the request at the client's front begins, and goes on as it can.
+    fn begin_next(&mut self, client: usize, request: &Request) -> Result<Poll, CoreFault>
+        requires asks { ForClient self.old client (CanAskBelow self.old.limits.depth request.now) }
+        requires held { NoneGoesOn self.old client }
+        ensures ok { IfOk result (λ poll. Polls self.old client poll self.new) }
+        ensures err { IfErr result (λ fault. ReadFault self.old client fault self.new) }
+    {
+        match self.next_ask(client, request) {
+            Ok(ask) => self.begin_ask(client, request, ask),
             Err(fault) => Err(fault),
         }
     }

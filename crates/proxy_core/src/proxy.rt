@@ -8,7 +8,7 @@ ghost use Rattle.proxy_core.specs.Faults.{IsClosed, CanOpen, CanFeed, CanClose, 
 
 use crate::client::Client;
 use crate::fault::{CoreFault, ReloadFault};
-use crate::limits::Limits;
+use crate::limits::{LAST_GENERATION, Limits};
 use bytes::BytesMut;
 use commands_under_way::owned::has_commands;
 use commands_under_way::{CommandTable, KeyLines};
@@ -174,12 +174,12 @@ impl Core {
     /// Commands that begin from now on run by this tree, of which no gate is asked, and those that are under way end on
     /// the tree on which they began. It gives the number of the tree's generation; the first tree is generation 1.
     ///
-    /// `TooManyGenerations` where generation 4,294,967,295 is in use; then the core is as it was.
+    /// `TooManyGenerations` where generation [`LAST_GENERATION`] is in use; then the core is as it was.
     pub fn reload(&mut self, tree: Tree) -> Result<u32, ReloadFault>
         ensures ok { IfOk result (λ generation. (generation ≡ self.new.generation) × Reloads self.old tree self.new) }
-        ensures err { OnErr result ((self.old.generation ≡ 4294967295) × (self.new ≡ self.old)) }
+        ensures err { OnErr result ((self.old.generation ≡ LAST_GENERATION) × (self.new ≡ self.old)) }
     {
-        if self.generation == 4_294_967_295 {
+        if self.generation == LAST_GENERATION {
             return Err(ReloadFault::TooManyGenerations);
         }
         self.generation += 1;

@@ -39,14 +39,14 @@ use Rattle.stepped_log.specs.Standing.{Kept, Stands, tree_by}
 use Rattle.stepped_log.specs.Laws.{StandingSays, NothingStands, IsBegin}
 use Rattle.core_run.specs.Running.{kept_of, MovesByResults, IsLoadedBy}
 use Rattle.core_run.specs.declared.runner.Runner.{Runner}
-use Rattle.stepped_run.specs.Driving.{said_by, said_in, shown_to, one_loaded, trees_loaded, loaded_trees, IsReached, CameSo, CameInTurn, DrivesStepped, StepsPart, EndsStepped, AreMarks}
+use Rattle.stepped_run.specs.Driving.{said_by, said_in, shown_to, AreHandedInTurn, one_loaded, trees_loaded, loaded_trees, IsReached, CameSo, CameInTurn, DrivesStepped, StepsPart, EndsStepped, AreMarks}
 use Rattle.stepped_run.specs.Holding.{put_all_on}
 use Rattle.stepped_run.specs.Stepping.{Befalls, HandsOut, HandsSome, HasCome, TakesUp, Loads, IsDue}
 use Rattle.stepped_log.proofs.Counted.{none_more}
 use Rattle.stepped_run.specs.World.{World}
 use Rattle.stepped_run.proofs.Held.{held_new, opened_new}
 use Rattle.stepped_run.proofs.Worlds.{world_next, world_ended, world_stays}
-use Rattle.stepped_run.proofs.Steps.{hands_nothing}
+use Rattle.stepped_run.proofs.Steps.{handed_on, hands_nothing}
 
 -- ---- reloads
 
@@ -121,6 +121,7 @@ loads_one law refused reloads next n r is a b place at same takes first events l
       stands = subst (λ x. Stands (opening_of events) (tree_by first h.loads) h.log (kept_of x s)) (sym stays) h.stands;
       streams = h.streams;
       given_is = h.given_is;
+      order = h.order;
       done = h.done;
       done_is = h.done_is;
       world = h.world;
@@ -133,6 +134,7 @@ loads_one law refused reloads next n r is a b place at same takes first events l
       stands = loads s (opening_of events) first h.loads h.log h.stands;
       streams = h.streams;
       given_is = h.given_is;
+      order = h.order;
       done = h.done;
       done_is = h.done_is;
       world = h.world;
@@ -155,6 +157,7 @@ module _ (first : Route) (refused : List Bool) (reloads : List Reload) (events :
         stands = g.stands;
         streams = λ c. h.streams c ∙ sym (append_assoc (stream_of h.log c) (said_by event c) (said_in left c)) ∙ ap (λ xs. xs ++ said_in left c) (sym (g.streams c));
         given_is = λ c. g.given c ∙ h.given_is c;
+        order = handed_on given g.more h.log h.order;
         done = h.done ++ event ∷ [];
         done_is = h.done_is ∙ sym (append_assoc h.done (event ∷ []) left);
         world = world_next events h.done h.log g.more event m.results s m.mid t h.world m.changes m.given m.fit p.1;
@@ -175,6 +178,7 @@ module _ (first : Route) (refused : List Bool) (reloads : List Reload) (events :
         stands = g.stands;
         streams = λ c. h.streams c ∙ ap (λ xs. xs ++ said_in left c) (sym (g.streams c));
         given_is = λ c. g.given c ∙ h.given_is c;
+        order = handed_on given g.more h.log h.order;
         done = h.done;
         done_is = h.done_is;
         world = world_ended events h.done h.log g.more m.0 s t h.world m.1.given q.calls;
@@ -194,6 +198,7 @@ module _ (first : Route) (refused : List Bool) (reloads : List Reload) (events :
         stands = g.stands;
         streams = λ c. h.streams c ∙ ap (λ xs. xs ++ said_in left c) (sym (g.streams c));
         given_is = g.given h.given_is;
+        order = g.order h.given_is h.order;
         done = h.done;
         done_is = h.done_is;
         world = world_stays events h.done h.log g.more s h.world (none_more (opening_of events) (tree_by first h.loads) h.log (kept_of a s) (kept_of b s) h.stands refl g.more g.stands);
@@ -215,6 +220,7 @@ module _ (first : Route) (refused : List Bool) (reloads : List Reload) (events :
           stands = g.stands;
           streams = λ c. h.streams c ∙ ap (λ xs. xs ++ said_in left c) (sym (g.streams c));
           given_is = g.given h.given_is;
+          order = g.order h.given_is h.order;
           done = h.done;
           done_is = h.done_is;
           world = world_stays events h.done h.log g.more s h.world (none_more (opening_of events) (tree_by first h.loads) h.log (kept_of a s) (kept_of p.0 s) h.stands refl g.more g.stands);
@@ -238,6 +244,7 @@ module _ (first : Route) (refused : List Bool) (reloads : List Reload) (events :
         follows = says.follows;
         streams = λ c. (said_in left c, h.streams c);
         given_is = h.given_is;
+        order = h.order;
         run = runs dialect (tree_words plans) (bars_by Alone plans) (opening_of events) h.log says.follows;
         world = inr (record { done = h.done; later = left; events_are = h.done_is; servers = k.servers; world = h.world });
       }
@@ -257,6 +264,7 @@ module _ (first : Route) (refused : List Bool) (reloads : List Reload) (events :
         follows = says.follows;
         streams = λ c. sym (h.streams c ∙ append-nil (stream_of h.log c));
         given_is = h.given_is;
+        order = h.order;
         commands = commands ∙ says.ended;
         calls = calls ∙ says.calls;
         run = runs dialect (tree_words plans) (bars_by Alone plans) (opening_of events) h.log says.follows;
@@ -353,6 +361,13 @@ at_place reloads i r lt is = slice_get-get_or reloads i r lt ∙ ap (λ (x : Rel
 given_none : (t : Transcript) → t.shown.items ≡ [] → (c : ℕ) → [] ≡ shown_to (transcript_of t) c
 given_none t none c = ap (λ (l : List Output). shown_to (map shown_by l) c) (sym none)
 
+handed_none : (t : Transcript) → t.shown.items ≡ [] → AreHandedInTurn (transcript_of t) []
+handed_none t none = subst (λ (l : List Output). AreHandedInTurn (map shown_by l) []) (sym none) none_handed
+  where
+    none_handed : AreHandedInTurn [] []
+    none_handed zero le = record { newer = []; older = []; log_is = refl; given = λ c. refl }
+    none_handed (suc n) le = record { newer = []; older = []; log_is = refl; given = λ c. refl }
+
 -- nothing was done
 pub nothing_done : (first : Route) (refused : List Bool) (reloads : List Reload) (events : List Scripted) (t : Transcript) → t.shown.items ≡ [] → StepsPart first refused reloads events (transcript_of t)
 nothing_done first refused reloads events t none = record {
@@ -365,6 +380,7 @@ nothing_done first refused reloads events t none = record {
   follows = tt;
   streams = λ c. (said_in events c, refl);
   given_is = given_none t none;
+  order = handed_none t none;
   run = tt;
   world = inl refl;
 }
@@ -386,6 +402,7 @@ begins law first refused reloads events n a s t x begin new put rest good none =
       stands = subst (λ o. Stands o (tree_by first []) [] (kept_of a t)) held (law first (kept_of a t) (begin t (ap turn_of rest ∙ new.turn)));
       streams = λ c. refl;
       given_is = given_none x none;
+      order = handed_none x none;
       done = [];
       done_is = refl;
       world = record {

@@ -1,6 +1,6 @@
 -- What an event makes of a log, and what is handed out after it.
-use Rattle.std.specs.Prelude.{ℤ, Some, Option}
-use Rattle.std.proofs.Common.{◌≡◌, ℕ, ◌+◌, Bool, true, false, cond, nat_eq, List, [], ◌∷◌, ◌++◌, length, map, take, drop, refl, sym, ap, ◌∙◌, subst, append_assoc, append-nil}
+use Rattle.std.specs.Prelude.{ℤ, Some, Option, ◌⊎◌}
+use Rattle.std.proofs.Common.{◌≡◌, ℕ, zero, suc, ◌+◌, ◌≤◌, Bool, true, false, cond, nat_eq, List, [], ◌∷◌, ◌++◌, length, map, take, drop, inl, inr, arith, refl, sym, ap, ◌∙◌, subst, append_assoc, append-nil}
 use Rattle.std.proofs.lemmas.List.{take-append-drop, map-append, nil_from_length}
 use Rattle.std.proofs.lemmas.Bool.{eqb-true}
 use Rattle.mc_types.specs.Items.{Item}
@@ -24,7 +24,7 @@ use Rattle.stepped_log.proofs.Counted.{none_more}
 use Rattle.core_run.specs.Running.{kept_of, Moves, MovesAt, MovesByResults, MovesFed, MovesGiven}
 use Rattle.core_run.proofs.Running.{given_then}
 use Rattle.core_run.specs.declared.runner.Runner.{Runner}
-use Rattle.stepped_run.specs.Driving.{said_by, shown_to}
+use Rattle.stepped_run.specs.Driving.{said_by, shown_to, IsHanded, AreHandedInTurn}
 use Rattle.stepped_run.specs.World.{Changes}
 use Rattle.stepped_run.specs.Stepping.{HasCalls, FedBy, AreFit, GoesOnSaid, Befalls, GoesOnShown, HandsOut, HandsSome}
 
@@ -261,8 +261,32 @@ shown_append [] more c = refl
 shown_append (x ∷ before) more c = ap (λ xs. cond (nat_eq x.client c) x.bytes [] ++ xs) (shown_append before more c) ∙ sym (append_assoc (cond (nat_eq x.client c) x.bytes []) (shown_to before c) (shown_to more c))
 
 -- nothing is handed out
+-- what was handed out so was so also in a longer log
+pub handed_on : (given : List Shown) (more log : List (Entry dialect)) → AreHandedInTurn given log → AreHandedInTurn given (more ++ log)
+handed_on given more log o n le =
+    let h = o n le in
+    record { newer = more ++ h.newer; older = h.older; log_is = ap (λ l. more ++ l) h.log_is ∙ sym (append_assoc more h.newer h.older); given = h.given }
+
+-- the first so many of a list with one more are all, or of those before it
+firsts : (before : List Shown) (x : Shown) (n : ℕ) → (take n (before ++ x ∷ []) ≡ before ++ x ∷ []) ⊎ ((n ≤ length before) × (take n (before ++ x ∷ []) ≡ take n before))
+firsts [] x zero = inr (omega arith, refl)
+firsts [] x (suc zero) = inl refl
+firsts [] x (suc (suc n)) = inl refl
+firsts (y ∷ ys) x zero = inr (omega arith, refl)
+firsts (y ∷ ys) x (suc n) = elim (firsts ys x n) [
+  | inl all ↦ inl (ap (λ l. y ∷ l) all)
+  | inr some ↦ inr (omega (arith, some.0), ap (λ l. y ∷ l) some.1)
+]
+
+-- one more is handed out, and all of them are what clients were given
+handed_one : (before : List Shown) (x : Shown) (log : List (Entry dialect)) → AreHandedInTurn before log → ((c : ℕ) → given_of log c ≡ shown_to (before ++ x ∷ []) c) → AreHandedInTurn (before ++ x ∷ []) log
+handed_one before x log o given n le = elim (firsts before x n) [
+  | inl all ↦ record { newer = []; older = log; log_is = refl; given = λ c. given c ∙ ap (λ l. shown_to l c) (sym all) }
+  | inr some ↦ subst (IsHanded log) (sym some.1) (o n some.0)
+]
+
 pub hands_nothing : (shown : List Shown) (a : Runner) → HandsOut shown shown a a
-hands_nothing shown a s opening tree log stands = record { more = []; stands = stands; streams = λ c. refl; given = λ h. h }
+hands_nothing shown a s opening tree log stands = record { more = []; stands = stands; streams = λ c. refl; given = λ h. h; order = λ h o. o }
 
 -- first this, then that
 pub hands_then : (x y z : List Shown) (a b d : Runner) → HandsOut x y a b → HandsOut y z b d → HandsOut x z a d
@@ -275,6 +299,7 @@ hands_then x y z a b d m n s opening tree log stands =
       stands = subst (λ l. Stands opening tree l (kept_of d s)) (sym joined) h.stands;
       streams = λ c. ap (λ l. stream_of l c) joined ∙ h.streams c ∙ g.streams c;
       given = λ is c. ap (λ l. given_of l c) joined ∙ h.given (g.given is) c;
+      order = λ is o. subst (AreHandedInTurn z) (sym joined) (h.order (g.given is) (g.order is o));
     }
 
 -- a client is given its output, which is empty
@@ -286,20 +311,24 @@ given_nothing client bytes shown a b none m s opening tree log stands =
       stands = g.stands;
       streams = g.streams;
       given = λ is c. g.given c ∙ ap (λ xs. cond (nat_eq client c) (given_of log c ++ xs) (given_of log c)) none ∙ sym (same_twice (nat_eq client c) (given_of log c)) ∙ is c;
+      order = λ is o. handed_on shown g.more log o;
     }
 
 -- and where it isn't, it is handed out
 pub given_more : (client : ℕ) (bytes : List ℕ) (before after : List Shown) (a b : Runner) → after ≡ before ++ record { client = client; bytes = bytes } ∷ [] → ((s : ScriptServers) → MovesGiven client bytes a s b s) → HandsOut before after a b
 given_more client bytes before after a b more m s opening tree log stands =
     let g = m s opening tree log stands in
+    let one : Shown = record { client = client; bytes = bytes } in
+    let given : ((c : ℕ) → given_of log c ≡ shown_to before c) → (c : ℕ) → given_of (g.more ++ log) c ≡ shown_to (before ++ one ∷ []) c = λ is c.
+    g.given c ∙ after_it (nat_eq client c) (given_of log c) bytes ∙ ap (λ xs. xs ++ cond (nat_eq client c) bytes []) (is c)
+    ∙ ap (λ xs. shown_to before c ++ xs) (sym (append-nil (cond (nat_eq client c) bytes []))) ∙ sym (shown_append before (one ∷ []) c)
+    in
     record {
       more = g.more;
       stands = g.stands;
       streams = g.streams;
-      given = λ is c.
-          g.given c ∙ after_it (nat_eq client c) (given_of log c) bytes ∙ ap (λ xs. xs ++ cond (nat_eq client c) bytes []) (is c)
-          ∙ ap (λ xs. shown_to before c ++ xs) (sym (append-nil (cond (nat_eq client c) bytes [])))
-          ∙ sym (ap (λ l. shown_to l c) more ∙ shown_append before (record { client = client; bytes = bytes } ∷ []) c);
+      given = λ is c. given is c ∙ ap (λ l. shown_to l c) (sym more);
+      order = λ is o. subst (λ l. AreHandedInTurn l (g.more ++ log)) (sym more) (handed_one before one (g.more ++ log) (handed_on before g.more log o) (given is));
     }
 
 -- so far

@@ -47,6 +47,17 @@ abbrev pub shown_to : List Shown → ℕ → List ℕ
 shown_to [] c = []
 shown_to (shown ∷ more) c = (if nat_eq shown.client c then shown.bytes else []) ++ shown_to more c
 
+-- a part of the log had come, in which clients were given just these outputs
+pub record IsHanded (log : List (Entry dialect)) (outputs : List Shown) : Type 0 where
+  pub newer : List (Entry dialect)
+  pub older : List (Entry dialect)
+  pub log_is : log ≡ newer ++ older
+  pub given : (c : ℕ) → given_of older c ≡ shown_to outputs c
+
+-- outputs were handed out one after another, whichever clients they were for
+abbrev pub AreHandedInTurn : List Shown → List (Entry dialect) → Type 0
+AreHandedInTurn given log = (n : ℕ) → n ≤ length given → IsHanded log (take n given)
+
 -- ---- the trees that are loaded
 
 -- the loaded trees after one more reload, the latest first: a refused one loads none
@@ -96,7 +107,7 @@ abbrev pub CameInTurn : List Bool → List Reload → List Scripted → List (En
 CameInTurn refused reloads events log zero loads = loads ≡ []
 CameInTurn refused reloads events log (suc n) loads = CameSo (is_refused (slice_get refused n)) (slice_get reloads n) events log loads (CameInTurn refused reloads events log n)
 
--- there is one log of overlapping commands from what the script put on the servers, each by the tree that was loaded last before it began: its clients say what the script says and are given what was handed out, and the report counts what is in it
+-- there is one log of overlapping commands from what the script put on the servers, each by the tree that was loaded last before it began: its clients say what the script says and are given what was handed out, in its order, and the report counts what is in it
 pub record DrivesStepped (first : Route) (refused : List Bool) (reloads : List Reload) (events : List Scripted) (given : List Shown) (report : Report) : Type 0 where
   pub log : List (Entry dialect)
   -- each loaded tree with how many commands had begun, the latest first
@@ -106,6 +117,7 @@ pub record DrivesStepped (first : Route) (refused : List Bool) (reloads : List R
   pub follows : FollowsBy first loads events log
   pub streams : (c : ℕ) → stream_of log c ≡ said_in events c
   pub given_is : (c : ℕ) → given_of log c ≡ shown_to given c
+  pub order : AreHandedInTurn given log
   pub commands : report.commands ≡ replied_in (run_of log)
   pub calls : report.calls ≡ calls_in (run_of log)
   pub run : RunsBy first loads events log
@@ -125,6 +137,7 @@ pub record StepsPart (first : Route) (refused : List Bool) (reloads : List Reloa
   pub follows : FollowsBy first loads events log
   pub streams : (c : ℕ) → (rest : List ℕ) × (said_in events c ≡ stream_of log c ++ rest)
   pub given_is : (c : ℕ) → given_of log c ≡ shown_to given c
+  pub order : AreHandedInTurn given log
   pub run : RunsBy first loads events log
   pub world : (log ≡ []) ⊎ HasWorld events log
 

@@ -15,7 +15,7 @@ use Rattle.stepped_log.specs.Standing.{Kept, Stands, GoesOnFed, tree_by}
 use Rattle.core_run.specs.Running.{kept_of, IsLoadedBy, AreOfOne}
 use Rattle.core_run.specs.declared.runner.Runner.{Runner}
 use Rattle.stepped_run.specs.World.{Changes, World}
-use Rattle.stepped_run.specs.Driving.{said_by, said_in, shown_to, trees_loaded, loaded_trees, CameInTurn}
+use Rattle.stepped_run.specs.Driving.{said_by, said_in, shown_to, AreHandedInTurn, trees_loaded, loaded_trees, CameInTurn}
 
 -- the log goes on, and clients said what the event says
 pub record GoesOnSaid (opening : ℕ → List ℕ → Option Item) (tree : ℕ → Route) (log : List (Entry dialect)) (event : Scripted) (k : Kept) : Type 0 where
@@ -54,12 +54,13 @@ pub record Befalls (event : Scripted) (old : Runner) (before : ScriptServers) (n
   pub fit : AreFit event results
   pub goes : (opening : ℕ → List ℕ → Option Item) (tree : ℕ → Route) (log : List (Entry dialect)) → Stands opening tree log (kept_of old before) → (g : GoesOnSaid opening tree log event (kept_of new after)) × HasCalls results g.more log
 
--- the log goes on, and where clients were given what was handed out before, they are given what is handed out after
+-- the log goes on, and where clients were given what was handed out before, they are given what is handed out after, in its order
 pub record GoesOnShown (opening : ℕ → List ℕ → Option Item) (tree : ℕ → Route) (log : List (Entry dialect)) (before after : List Shown) (k : Kept) : Type 0 where
   pub more : List (Entry dialect)
   pub stands : Stands opening tree (more ++ log) k
   pub streams : (c : ℕ) → stream_of (more ++ log) c ≡ stream_of log c
   pub given : ((c : ℕ) → given_of log c ≡ shown_to before c) → (c : ℕ) → given_of (more ++ log) c ≡ shown_to after c
+  pub order : ((c : ℕ) → given_of log c ≡ shown_to before c) → AreHandedInTurn before log → AreHandedInTurn after (more ++ log)
 
 -- each log that stood before goes on so
 abbrev pub HandsOut : List Shown → List Shown → Runner → Runner → Type 0
@@ -80,6 +81,7 @@ pub record HasCome (first : Route) (refused : List Bool) (reloads : List Reload)
   pub stands : Stands (opening_of events) (tree_by first loads) log k
   pub streams : (c : ℕ) → said_in events c ≡ stream_of log c ++ said_in left c
   pub given_is : (c : ℕ) → given_of log c ≡ shown_to given c
+  pub order : AreHandedInTurn given log
   pub done : List Scripted
   pub done_is : events ≡ done ++ left
   pub world : World events done log k.servers

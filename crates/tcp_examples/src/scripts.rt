@@ -111,6 +111,89 @@ at 2 lose 0 a
 < 0 STORED\r\n
 done 5 commands 5 calls
 ----
+Results in any order: the third client waits for the key of the first.
+pool 2
++ 0 set a 0 0 1\r\n1\r\n
++ 1 set b 0 0 1\r\n2\r\n
++ 2 get a\r\n
+result 1
+result 0
+result 0
+=> 0
+< 1 STORED\r\n
+< 0 STORED\r\n
+< 2 VALUE a 0 1\r\n1\r\nEND\r\n
+done 3 commands 3 calls
+----
+Each part of a get comes as its key's command ends; where none is out nothing happens.
+pool 2
+> 0 set a 0 0 1\r\n1\r\nset b 0 0 1\r\n2\r\n
++ 0 get a b\r\n
+result 1
+result 0
+result 1
+=> 0
+< 0 STORED\r\nSTORED\r\n
+< 0 VALUE a 0 1\r\n1\r\n
+< 0 VALUE b 0 1\r\n2\r\nEND\r\n
+done 4 commands 4 calls
+----
+Calls count as they have results: the one that went out second has the first.
+pool 2
++ 0 set a 0 0 1\r\n1\r\n
++ 1 set b 0 0 1\r\n2\r\n
+fail 1 before
+result 1
+result 0
+=> 0
+< 1 SERVER_ERROR call failed\r\n
+< 0 STORED\r\n
+done 2 commands 2 calls
+----
+Results come with a piece, that of the least server first, and at the end; a client that ended takes no piece.
+pool 2
++ 1 set b 0 0 1\r\n2\r\n
+fail 2 after
+> 0 set a 0 0 1\r\n1\r\n
++ 0 quit\r\n
++ 0 get a\r\n
++ 1 get a\r\n
+=> 0
+< 0 STORED\r\n
+< 1 SERVER_ERROR call failed\r\n
+< 1 VALUE a 0 1\r\n1\r\nEND\r\n
+done 3 commands 3 calls
+----
+Seven of eight bytes of an answer come.
+pool 1
+fail 1 cut 7
+> 0 set a 0 0 1\r\n1\r\n
+> 0 get a\r\n
+=> 0
+< 0 SERVER_ERROR call failed\r\n
+< 0 VALUE a 0 1\r\n1\r\nEND\r\n
+done 2 commands 2 calls
+----
+All eight come.
+pool 1
+fail 1 cut 8
+> 0 set a 0 0 1\r\n1\r\n
+> 0 get a\r\n
+=> 0
+< 0 STORED\r\n
+< 0 VALUE a 0 1\r\n1\r\nEND\r\n
+done 2 commands 2 calls
+----
+Bytes come that are no answer.
+pool 1
+fail 1 junk
+> 0 set a 0 0 1\r\n1\r\n
+> 0 get a\r\n
+=> 0
+< 0 SERVER_ERROR call failed\r\n
+< 0 VALUE a 0 1\r\n1\r\nEND\r\n
+done 2 commands 2 calls
+----
 The second reload is refused, and a moved key is hidden: a delete by the first tree left what B holds.
 <A>
 hold 1 a 7

@@ -337,9 +337,19 @@ impl ProxyEnd {
         self.tally
     }
 
-    /// Whether nothing is left to do until something comes: no call is out, and no client is to be served.
-    pub fn is_at_rest(&self) -> bool {
-        !self.has_work() && self.links.iter().all(|link| link.calls.is_empty())
+    // How many calls are out: sent, or waiting to be sent.
+    fn calls_out(&self) -> usize {
+        let mut count = 0usize;
+        for link in self.links.iter() {
+            count = count.saturating_add(link.calls.len());
+            count = count.saturating_add(link.waiting());
+        }
+        count
+    }
+
+    /// Whether so many calls are out, and nothing is left to do until something comes.
+    pub fn is_still(&self, calls: usize) -> bool {
+        !self.has_work() && self.calls_out() == calls
     }
 
     /// The connection to a server is closed, and what came over it is never read: the calls that are out on it have failed.

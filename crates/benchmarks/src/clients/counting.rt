@@ -5,8 +5,8 @@ use crate::clients::saying::{Keys, Load};
 use std::alloc::Global;
 use std::io;
 
-/// What is measured: one client and many, with one command under way and with many, and many on one key.
-pub const LOADS: [Load; 5] = [
+/// What is measured: one client and many, with one command under way and with many, many on one key, and a get of many keys.
+pub const LOADS: [Load; 7] = [
     Load {
         clients: 1,
         depth: 1,
@@ -31,6 +31,16 @@ pub const LOADS: [Load; 5] = [
         clients: 64,
         depth: 16,
         keys: Keys::One,
+    },
+    Load {
+        clients: 1,
+        depth: 10,
+        keys: Keys::OneGet,
+    },
+    Load {
+        clients: 1,
+        depth: 1000,
+        keys: Keys::OneGet,
     },
 ];
 

@@ -10,6 +10,8 @@ pub enum Keys {
     Many,
     /// All have the same one.
     One,
+    /// Each command has one of its own, and those of a client are one get of many keys.
+    OneGet,
 }
 
 impl Keys {
@@ -18,6 +20,7 @@ impl Keys {
         match self {
             Keys::Many => "",
             Keys::One => " on one key",
+            Keys::OneGet => " in one get",
         }
     }
 }
@@ -32,7 +35,7 @@ pub struct Load {
 
 fn key_of(alloc: Global, keys: Keys, client: usize, index: usize) -> Result<String, AllocError> {
     match keys {
-        Keys::Many => format!(in alloc; "client-{client}-key-{index}"),
+        Keys::Many | Keys::OneGet => format!(in alloc; "client-{client}-key-{index}"),
         Keys::One => format!(in alloc; "hot-key"),
     }
 }
@@ -57,11 +60,50 @@ fn say_one(
     }
 }
 
+fn say_each(
+    alloc: Global,
+    load: Load,
+    client: usize,
+    piece: &mut BytesMut,
+) -> Result<(), AllocError> {
+    for index in 0..load.depth {
+        say_one(alloc, load.keys, client, index, piece)?;
+    }
+    Ok(())
+}
+
+// One more key of a get.
+fn say_key(
+    alloc: Global,
+    load: Load,
+    client: usize,
+    index: usize,
+    piece: &mut BytesMut,
+) -> Result<(), AllocError> {
+    let key = key_of(alloc, load.keys, client, index)?;
+    piece.extend_from_slice(b" ")?;
+    piece.extend_from_slice(key.as_bytes())
+}
+
+fn say_get(
+    alloc: Global,
+    load: Load,
+    client: usize,
+    piece: &mut BytesMut,
+) -> Result<(), AllocError> {
+    piece.extend_from_slice(b"get")?;
+    for index in 0..load.depth {
+        say_key(alloc, load, client, index, piece)?;
+    }
+    piece.extend_from_slice(b"\r\n")
+}
+
 // What a client says in a round.
 fn piece_of(alloc: Global, load: Load, client: usize) -> Result<BytesMut, AllocError> {
     let mut piece = BytesMut::new(alloc);
-    for index in 0..load.depth {
-        say_one(alloc, load.keys, client, index, &mut piece)?;
+    match load.keys {
+        Keys::OneGet => say_get(alloc, load, client, &mut piece)?,
+        Keys::Many | Keys::One => say_each(alloc, load, client, &mut piece)?,
     }
     Ok(piece)
 }

@@ -1,4 +1,4 @@
-use Rattle.std.proofs.Common.{inl, inr, refl}
+use Rattle.std.proofs.Common.{inr, refl}
 use Rattle.std.proofs.lemmas.Result.{IfOk-weaker}
 use Rattle.loopback.proofs.Reading.{paired, runs}
 use Rattle.loopback.proofs.running.run_read.Goals as goal
@@ -14,4 +14,4 @@ pub returns-in_ok-write_bad_line-in-Err-BadLine-clause-ok : goal.returns-in_ok-w
 returns-in_ok-write_bad_line-in-Err-BadLine-clause-ok g c = λ t h.
     let read-bad = rw c.in-Err-BadLine.is at h in
     let told-bad = rw c.in-Err-BadLine.field-0-is at read-bad in
-    inr (refl, inr (inl (record { line = c.in-Err-BadLine.line; bad = told-bad.1; printed = rw (← c.in-Err-BadLine.line-is) c.in_ok-write_bad_line-in-Err-BadLine.ensures })))
+    inr (refl, inr (record { line = c.in-Err-BadLine.line; bad = told-bad.1; printed = rw (← c.in-Err-BadLine.line-is) c.in_ok-write_bad_line-in-Err-BadLine.ensures }))

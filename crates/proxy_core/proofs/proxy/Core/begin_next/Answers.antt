@@ -1,92 +1,34 @@
-use Rattle.std.proofs.Common.{◌≡◌, ℕ, ◌<◌, Bool, true, false, List, length, sym, refl, ap, ◌∙◌, subst, inl, inr}
-use Rattle.mc_types.specs.declared.ask.Ask.{Ask}
-use Rattle.client_requests.specs.declared.request.Request.{Request}
-use Rattle.proxy_core.specs.declared.client.Client.{Client}
+use Rattle.std.proofs.Common.{◌≡◌, IfOk, IfErr, refl, sym, subst}
 use Rattle.proxy_core.specs.declared.fault.CoreFault.{CoreFault}
 use Rattle.proxy_core.specs.declared.fault.CoreFault.TheVariants.{NoMemory}
-use Rattle.proxy_core.specs.declared.note.Poll.TheVariants.{Busy}
-use Rattle.proxy_core.specs.Fronts.{IsAskAt}
 use Rattle.proxy_core.specs.declared.proxy.Core.{Core}
-use Rattle.proxy_core.specs.Claims.{is_barred, has_own}
-use Rattle.commands_under_way.specs.Lines.{is_behind, others}
-use Rattle.proxy_core.specs.Polls.{CanAsk, CanAskBelow, IsBelowDepth, ForClient, IsServed, IsNextAsk, claim_of, bars, stands_before, CanBegin, Acts, Polls, StopsAfter, SoEnded, ReadFault}
+use Rattle.proxy_core.specs.Polls.{CanAsk, CanAskBelow, CanBegin, ForClient, IsServed, NoneGoesOn, Polls, ReadFault}
 use Rattle.proxy_core.proofs.Chains.{goes_nowhere}
-use Rattle.proxy_core.proofs.Polls.{first_stops, begun_stops, begun_polls, nothing_polls, for_map, for_both, if_err, if_ok}
+use Rattle.proxy_core.proofs.Polls.{first_stops, for_map, if_err, if_ok}
 use Rattle.proxy_core.proofs.proxy.Core.begin_next.Goals as goal
-
--- the ask is the client's next, and it is known whether one of its own on the key has no reply
-is_next : (old : Core) (client : ℕ) (request : Request) (ask : Ask) (key : List ℕ) (own value : Bool) → ForClient old client (CanBegin request ask) → ForClient old client (λ x. own ≡ has_own key x.queue.items) → key ≡ ask.key → own ≡ value → IsNextAsk old client ask value
-is_next old client request ask key own value can is same e = (
-  request,
-  for_both old client (CanBegin request ask) (λ x. own ≡ has_own key x.queue.items) (λ x. IsAskAt x request ask × (has_own ask.key x.queue.items ≡ value)) (λ x can is. (can.at, ap (λ k. has_own k x.queue.items) (sym same) ∙ sym is ∙ e)) can is,
-)
 
 pub next_ask-requires : goal.next_ask-requires
 next_ask-requires c =
     let old = c.args.self.now in
     for_map old c.args.client (CanAskBelow old.limits.depth c.args.request.now) (CanAsk c.args.request.now) (λ x can. can.0) c.requires.asks
 
+pub begin_ask-requires-clause-asks : goal.begin_ask-requires-clause-asks
+begin_ask-requires-clause-asks c = subst (λ (core : Core). ForClient core c.args.client (CanAskBelow core.limits.depth c.args.request.now)) (sym c.in-Ok.ensures.same) c.requires.asks
+
+pub begin_ask-requires-clause-next : goal.begin_ask-requires-clause-next
+begin_ask-requires-clause-next c = subst (λ (core : Core). ForClient core c.args.client (CanBegin c.args.request.now c.in-Ok.ask)) (sym c.in-Ok.ensures.same) c.in-Ok.ensures.begins
+
+pub begin_ask-requires-clause-held : goal.begin_ask-requires-clause-held
+begin_ask-requires-clause-held c = subst (λ (core : Core). NoneGoesOn core c.args.client) (sym c.in-Ok.ensures.same) c.requires.held
+
+pub returns-in-Ok-clause-ok : goal.returns-in-Ok-clause-ok
+returns-in-Ok-clause-ok c = subst (λ (core : Core). IfOk c.begin_ask.result (λ poll. Polls core c.args.client poll c.begin_ask.new.self)) c.in-Ok.ensures.same c.begin_ask.ensures.ok
+
+pub returns-in-Ok-clause-err : goal.returns-in-Ok-clause-err
+returns-in-Ok-clause-err c = subst (λ (core : Core). IfErr c.begin_ask.result (λ fault. ReadFault core c.args.client fault c.begin_ask.new.self)) c.in-Ok.ensures.same c.begin_ask.ensures.err
+
 pub returns-in-Err-clause-err : goal.returns-in-Err-clause-err
 returns-in-Err-clause-err c =
     let old = c.args.self.now in
-    subst (λ (f : CoreFault). ReadFault old c.args.client f old) (sym c.in-Err.ensures.err) (first_stops old old c.args.client NoMemory (goes_nowhere old, for_map old c.args.client (CanAskBelow old.limits.depth c.args.request.now) IsServed (λ x can. can.0.served) c.requires.asks) refl)
-
-pub has_own-requires : goal.has_own-requires
-has_own-requires c =
-    let old = c.args.self.now in
-    for_map old c.args.client (CanBegin c.args.request.now c.in-Ok.ask) IsServed (λ x can. can.served) c.in-Ok.ensures.begins
-
-pub returns-then-has_own-clause-ok : goal.returns-then-has_own-clause-ok
-returns-then-has_own-clause-ok c =
-    let old = c.args.self.now in
-    let next = is_next old c.args.client c.args.request.now c.in-Ok.ask c.key.result.now c.has_own.result true c.in-Ok.ensures.begins c.has_own.ensures c.key.ensures c.if-has_own.true in
-    nothing_polls old c.args.client Busy (λ entries e. e) (c.requires.held, inr (inl (refl, (c.in-Ok.ask, next)), (c.args.request.now, c.requires.asks)))
-
-pub wait_in_line-requires-clause-next : goal.wait_in_line-requires-clause-next
-wait_in_line-requires-clause-next c = is_next c.args.self.now c.args.client c.args.request.now c.in-Ok.ask c.key.result.now c.has_own.result false c.in-Ok.ensures.begins c.has_own.ensures c.key.ensures c.if-has_own.false
-
-pub wait_in_line-requires-clause-claim_is : goal.wait_in_line-requires-clause-claim_is
-wait_in_line-requires-clause-claim_is c = c.of-claim.ensures ∙ ap (λ (a : Ask). claim_of c.args.self.now a) c.get.ensures
-
-pub wait_in_line-requires-clause-waits : goal.wait_in_line-requires-clause-waits
-wait_in_line-requires-clause-waits c =
-    let old = c.args.self.now in
-    inl ((λ i. is_barred (sym c.key-2.ensures i) (sym (c.of-claim.ensures ∙ ap (λ (a : Ask). claim_of old a) c.get.ensures) i) old.commands) ∙ sym c.is_barred.ensures ∙ c.if-is_barred.true)
-
-pub wait_in_line-requires-then-is_behind-clause-next : goal.wait_in_line-requires-then-is_behind-clause-next
-wait_in_line-requires-then-is_behind-clause-next c = is_next c.args.self.now c.args.client c.args.request.now c.in-Ok.ask c.key.result.now c.has_own.result false c.in-Ok.ensures.begins c.has_own.ensures c.key.ensures c.if-has_own.false
-
-pub wait_in_line-requires-then-is_behind-clause-claim_is : goal.wait_in_line-requires-then-is_behind-clause-claim_is
-wait_in_line-requires-then-is_behind-clause-claim_is c = c.of-claim.ensures ∙ ap (λ (a : Ask). claim_of c.args.self.now a) c.get.ensures
-
-pub wait_in_line-requires-then-is_behind-clause-waits : goal.wait_in_line-requires-then-is_behind-clause-waits
-wait_in_line-requires-then-is_behind-clause-waits c =
-    let old = c.args.self.now in
-    inr ((λ i. is_behind c.args.client (sym c.key-3.ensures i) (sym (c.of-claim.ensures ∙ ap (λ (a : Ask). claim_of old a) c.get.ensures) i) old.lines) ∙ sym c.is_behind.ensures ∙ c.if-is_behind.true)
-
-pub returns-in-Ok-begin_key-clause-ok : goal.returns-in-Ok-begin_key-clause-ok
-returns-in-Ok-begin_key-clause-ok c =
-    let old = c.args.self.now in
-    let mid = c.begin_key.new.self in
-    let new = c.act_last.new.self in
-    let ask = c.in-Ok.ask in
-    let below : IsBelowDepth old c.args.client = for_map old c.args.client (CanAskBelow old.limits.depth c.args.request.now) (λ (x : Client). length x.queue.items < old.limits.depth) (λ x can. can.1) c.requires.asks in
-    let next = is_next old c.args.client c.args.request.now ask c.key.result.now c.has_own.result false c.in-Ok.ensures.begins c.has_own.ensures c.key.ensures c.if-has_own.false in
-    let claim = c.of-claim.ensures ∙ ap (λ (a : Ask). claim_of old a) c.get.ensures in
-    let free : bars old ask ≡ false = (λ i. is_barred (sym c.key-2.ensures i) (sym claim i) old.commands) ∙ sym c.is_barred.ensures ∙ c.if-is_barred.false in
-    let first : stands_before old c.args.client ask ≡ false = (λ i. is_behind c.args.client (sym c.key-3.ensures i) (sym claim i) old.lines) ∙ sym c.is_behind.ensures ∙ c.if-is_behind.false in
-    if_ok c.act_last.result (λ poll. Acts mid c.args.client poll new) (λ poll. Polls old c.args.client poll new) (λ poll a. begun_polls old mid new c.args.client ask poll below next free first c.in-Ok-begin_key.ensures.ok a) c.act_last.ensures.ok
-
-pub returns-in-Ok-begin_key-clause-err : goal.returns-in-Ok-begin_key-clause-err
-returns-in-Ok-begin_key-clause-err c =
-    let old = c.args.self.now in
-    let mid = c.begin_key.new.self in
-    let new = c.act_last.new.self in
-    if_err c.act_last.result (λ fault. StopsAfter c.args.client (SoEnded c.args.client) mid fault new) (λ fault. ReadFault old c.args.client fault new) (λ fault a. begun_stops old mid new c.args.client c.in-Ok.ask fault c.in-Ok-begin_key.ensures.ok a c.act_last.ensures.still) c.act_last.ensures.err
-
-pub returns-in-Err-begin_key-clause-err : goal.returns-in-Err-begin_key-clause-err
-returns-in-Err-begin_key-clause-err c =
-    first_stops c.args.self.now c.begin_key.new.self c.args.client c.in-Err-begin_key.fault c.in-Err-begin_key.ensures.err (ap (others c.args.client) c.in-Err-begin_key.ensures.kept)
-
-pub act_last-requires : goal.act_last-requires
-act_last-requires c = c.in-Ok-begin_key.ensures.ok.last
+    subst (λ (core : Core). ReadFault old c.args.client c.in-Err.fault core) (sym c.in-Err.ensures.same)
+    (subst (λ (f : CoreFault). ReadFault old c.args.client f old) (sym c.in-Err.ensures.err) (first_stops old old c.args.client NoMemory (goes_nowhere old, for_map old c.args.client (CanAskBelow old.limits.depth c.args.request.now) IsServed (λ x can. can.0.served) c.requires.asks) refl))
