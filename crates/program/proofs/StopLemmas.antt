@@ -1,5 +1,5 @@
 -- What stops the program on the way.
-use Rattle.std.proofs.Common.{◌≡◌, ℕ, ◌≤◌, List, codes, Option, Result, Ok, Err, refl, sym, subst}
+use Rattle.std.proofs.Common.{◌≡◌, ℕ, ◌≤◌, List, codes, Option, Result, Ok, Err, arith, refl, sym, subst}
 use Rattle.std.specs.Fmt.{digits}
 use Rattle.std.specs.declared.io.ErrorKind.{ErrorKind}
 use Rattle.std.specs.declared.io.ErrorKind.TheVariants.{OutOfMemory}
@@ -37,6 +37,9 @@ ran P O text old new answer (Err (stops.Key fault)) ends does too_many = absurd 
 ran P O text old new answer (Err stops.Memory) ends does too_many = tt
 ran P O text old new answer (Err stops.Device) ends does too_many = tt
 ran P O text old new answer (Err stops.Calls) ends does too_many = too_many ends
+
+pub never : (answer : ℕ) → answer ≤ 4 → answer ≡ 5 → ⊥
+never answer few five = omega (arith, few, five)
 
 -- the number in the line is the last of a call
 pub calls_line_is : codes "calls: more than 18446744073709551615" ≡ calls_line
