@@ -4,8 +4,11 @@ use Rattle.route_json.specs.Configuration.{Configuration}
 use Rattle.route_tree.specs.Route.{Route}
 use Rattle.fresh_gate.specs.Gate.{IsCertified}
 use Rattle.fresh_gate.specs.Sound.{IsLast}
+use Rattle.config_check.specs.Checking.{StopsUnwritten, answer_of}
 use Rattle.config_check.specs.Reporting.{Checks, ReportsConfig}
 use Rattle.config_check.specs.declared.reporting.Form.{Form}
+use Rattle.config_check.specs.declared.status.RunFault.{RunFault}
+use Rattle.config_check.specs.declared.status.RunFault.TheVariants.{NoMemory, Writer, TooManyCalls}
 
 config_status : (form : Form) (config : Configuration) (old new : Option (List ℕ)) (status : ℕ) → ReportsConfig form config old new status → status ≤ 1
 config_status form config old new status (inl accepted) = let e = accepted.0 in omega (arith, e)
@@ -14,6 +17,12 @@ config_status form config old new status (inr refused) = let e = refused.0 in om
 pub checks_status : (form : Form) (text : List ℕ) (old new : Option (List ℕ)) (status : ℕ) → Checks form text old new status → status ≤ 2
 checks_status form text old new status (inl verdict) = let few = config_status form verdict.config old new status verdict.reports in omega (arith, few)
 checks_status form text old new status (inr faulty) = let e = faulty.0 in omega (arith, e)
+
+-- no calls are made
+pub stops_status : (old new : Option (List ℕ)) (fault : RunFault) → StopsUnwritten old new fault → answer_of fault ≤ 4
+stops_status old new NoMemory kept = omega arith
+stops_status old new Writer kept = omega arith
+stops_status old new TooManyCalls kept = absurd kept
 
 same : (a b : Configuration) → Some a ≡ Some b → a ≡ b
 same a b e = cc

@@ -21,7 +21,7 @@ use Rattle.script_lines.specs.Lines.{script_lines}
 use Rattle.script_lines.specs.Laws.{AreReadBack}
 use Rattle.config_check.specs.Verdict.{accepted_line, refusal_line}
 use Rattle.config_check.specs.declared.status.RunFault.{RunFault}
-use Rattle.config_check.specs.declared.status.RunFault.TheVariants.{NoMemory, Writer}
+use Rattle.config_check.specs.declared.status.RunFault.TheVariants.{NoMemory, Writer, TooManyCalls}
 
 -- the tree's table of places has so many
 abbrev pub HasPlaces : Route → ℕ → Type 0
@@ -92,8 +92,16 @@ pub record PrintsFault (text : List ℕ) (old new : Option (List ℕ)) : Type 0 
 abbrev pub answer_of : RunFault → ℕ
 answer_of NoMemory = 3
 answer_of Writer = 4
+answer_of TooManyCalls = 5
 
--- where memory was refused nothing was written; nothing is said of a writer that failed
+-- memory was refused, or a writer or a device failed; no script had too many calls
+abbrev pub IsNoOverrun : RunFault → Type 0
+IsNoOverrun NoMemory = Unit {0}
+IsNoOverrun Writer = Unit {0}
+IsNoOverrun TooManyCalls = ⊥
+
+-- where memory was refused nothing was written; nothing is said of a writer that failed. No calls are made
 abbrev pub StopsUnwritten : Option (List ℕ) → Option (List ℕ) → RunFault → Type 0
 StopsUnwritten old new NoMemory = new ≡ old
 StopsUnwritten old new Writer = Unit {0}
+StopsUnwritten old new TooManyCalls = ⊥

@@ -22,6 +22,9 @@ pub const NO_MEMORY: u8 = 3;
 /// The answer of a run whose output could not be written.
 pub const WRITER: u8 = 4;
 
+/// The answer of a script that had more calls than are counted.
+pub const TOO_MANY_CALLS: u8 = 5;
+
 /// What breaks a run off.
 #[derive(Clone, Copy)]
 pub enum RunFault {
@@ -29,6 +32,8 @@ pub enum RunFault {
     NoMemory,
     /// The output could not be written.
     Writer,
+    /// A script had more calls than are counted.
+    TooManyCalls,
 }
 
 impl From<AllocError> for RunFault {
@@ -56,5 +61,6 @@ pub fn answer_of(fault: RunFault) -> u8
     match fault {
         RunFault::NoMemory => NO_MEMORY,
         RunFault::Writer => WRITER,
+        RunFault::TooManyCalls => TOO_MANY_CALLS,
     }
 }

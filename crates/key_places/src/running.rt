@@ -1,6 +1,7 @@
 //! A configuration's text, and where keys live in its tree.
 
-ghost use Rattle.std.specs.Prelude.{◌≤◌, IfOk};
+ghost use Rattle.std.specs.Prelude.{◌≤◌, IfOk, IfErr};
+ghost use Rattle.config_check.specs.Checking.{IsNoOverrun};
 ghost use Rattle.key_places.specs.Finding.{FindsAt, FindsKeys};
 
 use crate::writing::write_keys;
@@ -21,7 +22,8 @@ fn find_keys<W: Write>(
     keys: &[Key],
     out: &mut W,
 ) -> Result<u8, RunFault>
-    ensures { IfOk result (FindsAt config.now keys.now (W.contents out.old) (W.contents out.new)) }
+    ensures ok { IfOk result (FindsAt config.now keys.now (W.contents out.old) (W.contents out.new)) }
+    ensures err { IfErr result IsNoOverrun }
 {
     match places(alloc, config.tree()) {
         Ok(table) => {
@@ -43,7 +45,8 @@ fn find_in_text<W: Write>(
     keys: &[Key],
     out: &mut W,
 ) -> Result<u8, RunFault>
-    ensures { IfOk result (FindsKeys text.now keys.now (W.contents out.old) (W.contents out.new)) }
+    ensures ok { IfOk result (FindsKeys text.now keys.now (W.contents out.old) (W.contents out.new)) }
+    ensures err { IfErr result IsNoOverrun }
 {
     match read_config(alloc, text) {
         Ok(config) => find_keys(alloc, &config, keys, out),

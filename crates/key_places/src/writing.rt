@@ -1,10 +1,11 @@
 //! A block of lines for each key.
 
-ghost use Rattle.std.specs.Prelude.{◌≡◌, [], ◌∷◌, IfOk, OnOk};
+ghost use Rattle.std.specs.Prelude.{◌≡◌, [], ◌∷◌, IfOk, IfErr, OnOk};
 ghost use Rattle.std.specs.Io.KnownBytes.{Appends};
 ghost use Rattle.route_tree.specs.At.{tree_at};
 ghost use Rattle.key_places.specs.Asking as spec;
 ghost use Rattle.certificates.specs.Tables.{IsTable};
+ghost use Rattle.config_check.specs.Checking.{IsNoOverrun};
 ghost use Rattle.key_places.specs.Blocks.{key_line, server_text, servers_text, op_front, op_line, op_lines, all_ops, WritesBlock, WritesBlocks};
 
 use crate::asking::add_asked;
@@ -78,7 +79,8 @@ fn write_op<W: Write>(
     op: Op,
     out: &mut W,
 ) -> Result<(), RunFault>
-    ensures { OnOk result (Appends (W.contents out.old) (W.contents out.new) (op_line servers.now op (spec.asked op plain.now))) }
+    ensures ok { OnOk result (Appends (W.contents out.old) (W.contents out.new) (op_line servers.now op (spec.asked op plain.now))) }
+    ensures err { IfErr result IsNoOverrun }
 {
     let list = asked(alloc, plain, op)?;
     write_row(servers, op, &list, out)?;
@@ -92,7 +94,8 @@ fn write_ops<W: Write>(
     ops: &[Op],
     out: &mut W,
 ) -> Result<(), RunFault>
-    ensures { OnOk result (Appends (W.contents out.old) (W.contents out.new) (op_lines servers.now plain.now ops.now)) }
+    ensures ok { OnOk result (Appends (W.contents out.old) (W.contents out.new) (op_lines servers.now plain.now ops.now)) }
+    ensures err { IfErr result IsNoOverrun }
 {
     for op in ops {
         write_op(alloc, servers, plain, *op, out)?;
@@ -126,7 +129,8 @@ fn write_all_ops<W: Write>(
     key: &Key,
     out: &mut W,
 ) -> Result<(), RunFault>
-    ensures { OnOk result (Appends (W.contents out.old) (W.contents out.new) (op_lines config.now.servers (tree_at config.now.tree key.now) all_ops)) }
+    ensures ok { OnOk result (Appends (W.contents out.old) (W.contents out.new) (op_lines config.now.servers (tree_at config.now.tree key.now) all_ops)) }
+    ensures err { IfErr result IsNoOverrun }
 {
     let plain = config.tree().at(alloc, key)?;
     let ops = all_ops();
@@ -142,7 +146,8 @@ fn write_block<W: Write>(
     out: &mut W,
 ) -> Result<(), RunFault>
     requires { IsTable (config.now.tree ∷ []) table.now }
-    ensures { OnOk result (WritesBlock config.now.servers config.now.tree key.now (W.contents out.old) (W.contents out.new)) }
+    ensures ok { OnOk result (WritesBlock config.now.servers config.now.tree key.now (W.contents out.old) (W.contents out.new)) }
+    ensures err { IfErr result IsNoOverrun }
 {
     let place = table.of(key);
     write_key_line(key, out)?;
@@ -161,7 +166,8 @@ pub fn write_keys<W: Write>(
     out: &mut W,
 ) -> Result<(), RunFault>
     requires { IsTable (config.now.tree ∷ []) table.now }
-    ensures { OnOk result (WritesBlocks config.now.servers config.now.tree keys.now (W.contents out.old) (W.contents out.new)) }
+    ensures ok { OnOk result (WritesBlocks config.now.servers config.now.tree keys.now (W.contents out.old) (W.contents out.new)) }
+    ensures err { IfErr result IsNoOverrun }
 {
     match keys {
         [] => Ok(()),

@@ -14,9 +14,9 @@ use Rattle.fleet_run.specs.Bad.{first_bad}
 use Rattle.loopback.specs.declared.entries.Entry.{Entry}
 use Rattle.loopback.specs.Printed.{entry_lines}
 use Rattle.config_check.specs.declared.status.RunFault.{RunFault}
-use Rattle.config_check.specs.declared.status.RunFault.TheVariants.{NoMemory, Writer}
+use Rattle.config_check.specs.declared.status.RunFault.TheVariants.{NoMemory, Writer, TooManyCalls}
 use Rattle.fresh_gate.specs.Gate.{IsCertified}
-use Rattle.config_check.specs.Checking.{PrintsRefused}
+use Rattle.config_check.specs.Checking.{PrintsRefused, IsNoOverrun}
 use Rattle.loopback.specs.Running.{events_of, servers_of, WritesRun, BreaksOff, RunsGood, RunsScript, RunsTold}
 
 pub both_written : (old mid new : Option (List ℕ)) (a b : List ℕ) → Appends old mid a → Appends mid new b → Appends old new (a ++ b)
@@ -26,9 +26,10 @@ both_written (Some xs) (Some ys) None a b x y = y
 both_written (Some xs) (Some ys) (Some zs) a b x y = y ∙ ap (λ (t : List ℕ). t ++ b) x ∙ append_assoc xs a b
 
 -- a run that was broken off, whose lines so far were written
-pub broke_off : (old new : Option (List ℕ)) (reloads : List Reload) (shown : List Entry) (fault : RunFault) → Appends old new (entry_lines reloads shown) → BreaksOff old new fault
-broke_off old new reloads shown NoMemory a = inr (record { reloads = reloads; shown = shown; printed = a })
-broke_off old new reloads shown Writer a = tt
+pub broke_off : (old new : Option (List ℕ)) (reloads : List Reload) (shown : List Entry) (fault : RunFault) → IsNoOverrun fault → Appends old new (entry_lines reloads shown) → BreaksOff old new fault
+broke_off old new reloads shown NoMemory no a = inr (record { reloads = reloads; shown = shown; printed = a })
+broke_off old new reloads shown Writer no a = tt
+broke_off old new reloads shown TooManyCalls no a = absurd no
 
 pub is_there : (lines : List ℕ) (at : ℕ) (o : Option ℕ) → o ≡ slice_get lines at → at < length lines → IsSome o
 is_there lines at o e lt = rw (e, slice_get-get_or lines at 0 lt)

@@ -15,7 +15,7 @@ use Rattle.script_text.specs.declared.configured.ScriptFault.{ScriptFault}
 use Rattle.script_text.specs.Printed.{bad_line_line, config_fault_line}
 use Rattle.config_check.specs.Checking.{PrintsRefused}
 use Rattle.config_check.specs.declared.status.RunFault.{RunFault}
-use Rattle.config_check.specs.declared.status.RunFault.TheVariants.{NoMemory, Writer}
+use Rattle.config_check.specs.declared.status.RunFault.TheVariants.{NoMemory, Writer, TooManyCalls}
 use Rattle.loopback.specs.declared.ends.Counts.{Counts}
 use Rattle.loopback.specs.declared.entries.Entry.{Entry}
 use Rattle.loopback.specs.Printed.{entry_lines, done_line}
@@ -34,10 +34,11 @@ pub record WritesPart (old new : Option (List ℕ)) : Type 0 where
   pub shown : List Entry
   pub printed : Appends old new (entry_lines reloads shown)
 
--- memory was refused: before the run, and nothing was written; or during it. Nothing is said of a writer or a device that failed
+-- memory was refused: before the run, and nothing was written; or during it. Nothing is said of a writer or a device that failed. It never is that there were too many calls
 abbrev pub BreaksOff : Option (List ℕ) → Option (List ℕ) → RunFault → Type 0
 BreaksOff old new NoMemory = (new ≡ old) ⊎ WritesPart old new
 BreaksOff old new Writer = Unit {0}
+BreaksOff old new TooManyCalls = ⊥
 
 -- status 0: the gate accepted the configuration, and the script ran; status 1: it refused it, and that was written
 abbrev pub RunsGood : Configuration → List Reload → Option (List ℕ) → Option (List ℕ) → ℕ → Type 0

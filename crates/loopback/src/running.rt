@@ -1,6 +1,7 @@
 //! Scripts that are run over TCP, and what is printed of them.
 
 ghost use Rattle.std.specs.Prelude.{◌≡◌, ◌≤◌, IfOk, IfErr, length};
+ghost use Rattle.config_check.specs.Checking.{IsNoOverrun};
 ghost use Rattle.loopback.specs.Running.{IsReading, WritesRun, BreaksOff, RunsGood, RunsScript, RunsRead, Runs};
 
 use crate::ends::{Counts, Ends, drive};
@@ -20,7 +21,9 @@ use std::net::Net;
 use std::rt::Clock;
 
 // What breaks a run off where an end has failed.
-fn fault_of(error: &io::Error) -> RunFault {
+fn fault_of(error: &io::Error) -> RunFault
+    ensures { IsNoOverrun result }
+{
     match error.kind() {
         ErrorKind::OutOfMemory => RunFault::NoMemory,
         _ => RunFault::Writer,

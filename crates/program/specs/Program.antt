@@ -7,7 +7,8 @@ use Rattle.route_json.specs.Configs.{read_or}
 use Rattle.route_json.specs.Configuration.{Configuration}
 use Rattle.config_check.specs.Checking.{PrintsFault}
 use Rattle.config_check.specs.Reporting.{Checks}
-use Rattle.replay.specs.Replay.{Replays}
+use Rattle.script_text.specs.Script.{told}
+use Rattle.replay.specs.Replay.{Replays, Overran}
 use Rattle.program.specs.declared.arguments.Task.{Task}
 use Rattle.program.specs.declared.arguments.Task.TheVariants as tasks
 use Rattle.text_input.specs.declared.reading.InputFault.{InputFault}
@@ -21,6 +22,15 @@ IsBrokenOff stops.Usage = ⊥
 IsBrokenOff (stops.Key fault) = ⊥
 IsBrokenOff stops.Memory = Unit {0}
 IsBrokenOff stops.Device = Unit {0}
+IsBrokenOff stops.Calls = ⊥
+
+-- the same; or a script had too many calls, and then this is so
+abbrev pub BreaksRunOff : Type 0 → Stop → Type 0
+BreaksRunOff Written stops.Usage = ⊥
+BreaksRunOff Written (stops.Key fault) = ⊥
+BreaksRunOff Written stops.Memory = Unit {0}
+BreaksRunOff Written stops.Device = Unit {0}
+BreaksRunOff Written stops.Calls = Written
 
 -- this line was written and the status is 2; or the line could not be written
 abbrev pub Tells : List ℕ → Option (List ℕ) → Option (List ℕ) → Result ℕ Stop → Type 0
@@ -36,15 +46,25 @@ abbrev pub Does : Task → List ℕ → Option (List ℕ) → Option (List ℕ) 
 Does (tasks.Check form) text old new status = Checks form text old new status
 Does (tasks.Replay any) text old new status = Replays any text old new status
 
--- what its call answers: a status, or that memory or the writer failed
-pub record Answers (task : Task) (text : List ℕ) (old new : Option (List ℕ)) (answer : ℕ) : Type 0 where
-  pub few : answer ≤ 4
-  pub does : answer ≤ 2 → Does task text old new answer
+-- what it wrote of a text where there were too many calls; a check makes none
+abbrev pub Overruns : Task → List ℕ → Option (List ℕ) → Option (List ℕ) → Type 0
+Overruns (tasks.Check form) text old new = ⊥
+Overruns (tasks.Replay any) text old new = Overran any (told text) old new
 
--- a text was dealt with so, and how that ended; or memory or the writer failed
-abbrev pub RunsBy : (List ℕ → Option (List ℕ) → Option (List ℕ) → ℕ → Type 0) → List ℕ → Option (List ℕ) → Option (List ℕ) → Result ℕ Stop → Type 0
-RunsBy P text old new (Ok status) = P text old new status
-RunsBy P text old new (Err stop) = IsBrokenOff stop
+-- a run over TCP and where keys live: there never are too many calls
+abbrev pub NeverOverruns : List ℕ → Option (List ℕ) → Option (List ℕ) → Type 0
+NeverOverruns text old new = ⊥
+
+-- what its call answers: a status, or that memory or the writer failed, or that there were too many calls
+pub record Answers (task : Task) (text : List ℕ) (old new : Option (List ℕ)) (answer : ℕ) : Type 0 where
+  pub few : answer ≤ 5
+  pub does : answer ≤ 2 → Does task text old new answer
+  pub too_many : answer ≡ 5 → Overruns task text old new
+
+-- a text was dealt with so, and how that ended; or memory or the writer failed; or there were too many calls, and then this was written
+abbrev pub RunsBy : (List ℕ → Option (List ℕ) → Option (List ℕ) → ℕ → Type 0) → (List ℕ → Option (List ℕ) → Option (List ℕ) → Type 0) → List ℕ → Option (List ℕ) → Option (List ℕ) → Result ℕ Stop → Type 0
+RunsBy P O text old new (Ok status) = P text old new status
+RunsBy P O text old new (Err stop) = BreaksRunOff (O text old new) stop
 
 -- what is written of an input that was not read, and how that ended
 abbrev pub Declines : InputFault → Option (List ℕ) → Option (List ℕ) → Result ℕ Stop → Type 0
@@ -54,16 +74,16 @@ Declines NoMemory old new ended = StopsBy stops.Memory old new ended
 Declines Device old new ended = StopsBy stops.Device old new ended
 
 -- an input that was read or not, what was written of it, and how that ended
-abbrev pub AnswersBy : (List ℕ → Option (List ℕ) → Option (List ℕ) → ℕ → Type 0) → Result (String Global) InputFault → Option (List ℕ) → Option (List ℕ) → Result ℕ Stop → Type 0
-AnswersBy P (Ok text) old new ended = RunsBy P (string_bytes text) old new ended
-AnswersBy P (Err fault) old new ended = Declines fault old new ended
+abbrev pub AnswersBy : (List ℕ → Option (List ℕ) → Option (List ℕ) → ℕ → Type 0) → (List ℕ → Option (List ℕ) → Option (List ℕ) → Type 0) → Result (String Global) InputFault → Option (List ℕ) → Option (List ℕ) → Result ℕ Stop → Type 0
+AnswersBy P O (Ok text) old new ended = RunsBy P O (string_bytes text) old new ended
+AnswersBy P O (Err fault) old new ended = Declines fault old new ended
 
--- the task was done with a text; or memory or the writer failed
+-- the task was done with a text; or memory or the writer failed; or it had too many calls
 abbrev pub Runs : Task → List ℕ → Option (List ℕ) → Option (List ℕ) → Result ℕ Stop → Type 0
-Runs task = RunsBy (Does task)
+Runs task = RunsBy (Does task) (Overruns task)
 
 abbrev pub AnswersInput : Task → Result (String Global) InputFault → Option (List ℕ) → Option (List ℕ) → Result ℕ Stop → Type 0
-AnswersInput task = AnswersBy (Does task)
+AnswersInput task = AnswersBy (Does task) (Overruns task)
 
 -- the configuration of a text, and nothing was written; or its first fault was; or memory or the writer failed
 abbrev pub GivesConfig : List ℕ → Option (List ℕ) → Option (List ℕ) → Result (Option Configuration) Stop → Type 0

@@ -1,9 +1,10 @@
 -- Why the program stops, what it prints of that on standard error, and its exit statuses. Source: mcgate's own.
-use Rattle.std.specs.Prelude.{◌≡◌, ℕ, List, codes, Option, Some, None, Result, Ok, Err}
+use Rattle.std.specs.Prelude.{◌≡◌, ℕ, ◌≤◌, ◌++◌, List, codes, decimal, Option, Some, None, Result, Ok, Err}
 use Rattle.std.specs.declared.io.ErrorKind.{ErrorKind}
 use Rattle.std.specs.declared.io.ErrorKind.TheVariants as io_kinds
 use Rattle.clap.specs.declared.error.ErrorKind.{ErrorKind as RefusalKind}
 use Rattle.clap.specs.declared.error.ErrorKind.TheVariants as refusal_kinds
+use Rattle.memory_fleet.specs.Fleets.{last_turn}
 use Rattle.mc_types.specs.declared.key.KeyFault.{KeyFault}
 use Rattle.mc_types.specs.declared.key.KeyFault.TheVariants as keys
 use Rattle.config_check.specs.declared.status.RunFault.{RunFault}
@@ -27,6 +28,16 @@ stop_at _ = stops.Device
 abbrev pub stop_by : RunFault → Stop
 stop_by runs.NoMemory = stops.Memory
 stop_by runs.Writer = stops.Device
+stop_by runs.TooManyCalls = stops.Calls
+
+-- what the answer of a run means for the program: it is the exit status, or a stop of its own
+abbrev pub Ends : ℕ → Result ℕ Stop → Type 0
+Ends answer (Ok status) = (status ≡ answer) × (answer ≤ 2)
+Ends answer (Err stops.Usage) = ⊥
+Ends answer (Err (stops.Key fault)) = ⊥
+Ends answer (Err stops.Memory) = answer ≡ 3
+Ends answer (Err stops.Device) = answer ≡ 4
+Ends answer (Err stops.Calls) = answer ≡ 5
 
 -- what a fault of the arguments means for the program
 abbrev pub stop_of : ArgumentsFault → Stop
@@ -40,6 +51,7 @@ stop_status stops.Usage = 2
 stop_status (stops.Key fault) = 1
 stop_status stops.Memory = 3
 stop_status stops.Device = 3
+stop_status stops.Calls = 3
 
 -- why a text is no key
 abbrev pub key_line : KeyFault → List ℕ
@@ -47,12 +59,17 @@ key_line keys.Empty = codes "key: empty"
 key_line keys.TooLong = codes "key: longer than 250 bytes"
 key_line (keys.BadByte at) = codes "key: a space or a control character"
 
+-- how many calls have a number, of which a script had more
+abbrev pub calls_line : List ℕ
+calls_line = codes "calls: more than " ++ decimal last_turn
+
 -- the line on standard error of a stop
 abbrev pub stop_line : Stop → List ℕ
 stop_line stops.Usage = codes "usage: mcgate check, replay, serve, cache or loopback"
 stop_line (stops.Key fault) = key_line fault
 stop_line stops.Memory = codes "memory: refused"
 stop_line stops.Device = codes "device: failed"
+stop_line stops.Calls = calls_line
 
 -- the exit status, and the line on standard error if there is one
 abbrev pub end_of : Result ℕ Stop → ℕ × Option (List ℕ)

@@ -98,7 +98,7 @@ usage: mcgate check [--explain | --dot] [FILE]
        mcgate --version              print the version
 
 Without FILE or SCRIPT the input is standard input. Without any arguments mcgate is mcgate replay.
-Exit status: 0 accepted or done, 1 refused by the gate, 2 bad arguments or input, 3 memory or a device failed.
+Exit status: 0 accepted or done, 1 refused by the gate, 2 bad arguments or input, 3 memory or a device failed, or too many calls.
 ";
 
 const CHECK_HELP: &str = "usage: mcgate check [--explain | --dot] [FILE]
@@ -132,7 +132,7 @@ Runs it over servers in memory, and prints what each client gets, what became of
                          K replies showed what had been deleted
 A first tree that the gate refuses isn't run, and its refused: line is printed; with --any every tree is run, and a reload is
 unchecked in place of accepted.
-Exit status: 0 done, 1 refused by the gate, 2 bad script, 3 memory or a device failed.
+Exit status: 0 done, 1 refused by the gate, 2 bad script, 3 memory or a device failed, or too many calls.
 ";
 
 const WHERE_HELP: &str = "usage: mcgate where --config FILE KEY..

@@ -1,16 +1,17 @@
 //! How the program ends: what it prints on which stream, and its exit statuses.
 
-ghost use Rattle.std.specs.Prelude.{◌≡◌, ◌≤◌, option_map};
+ghost use Rattle.std.specs.Prelude.{◌≡◌, ◌≤◌, Ok, option_map};
+ghost use Rattle.script_text.specs.Script.{told_over};
 ghost use Rattle.std.specs.IoError.{error_kind};
-ghost use Rattle.program.specs.Program.{Answers, Runs, AnswersInput, RunsBy, AnswersBy, Declines, GivesConfig, ReadsConfig};
-ghost use Rattle.replay.specs.Replay.{ReplaysOver};
+ghost use Rattle.program.specs.Program.{Answers, Runs, AnswersInput, RunsBy, AnswersBy, NeverOverruns, Declines, GivesConfig, ReadsConfig};
+ghost use Rattle.replay.specs.Replay.{ReplaysOver, Overran};
 ghost use Rattle.key_places.specs.Finding.{FindsKeys};
 ghost use Rattle.loopback.specs.Running.{Runs as RunsOverTcp};
-ghost use Rattle.program.specs.Stops.{stop_at, stop_by, stop_of, key_line, end_of};
+ghost use Rattle.program.specs.Stops.{stop_at, stop_by, stop_of, key_line, calls_line, Ends, end_of};
 
 use crate::arguments::{ArgumentsFault, Task};
 use config_check::checking::print_fault;
-use config_check::status::{BAD_INPUT, NO_MEMORY, WRITER};
+use config_check::status::{BAD_INPUT, NO_MEMORY, TOO_MANY_CALLS, WRITER};
 use config_check::{RunFault, run_check};
 use key_places::run_where;
 use loopback::run_loopback;
@@ -35,6 +36,8 @@ pub enum Stop {
     Memory,
     /// A device failed.
     Device,
+    /// A script had more calls than are counted.
+    Calls,
 }
 
 impl From<io::Error> for Stop {
@@ -55,6 +58,7 @@ impl From<RunFault> for Stop {
         match fault {
             RunFault::NoMemory => Stop::Memory,
             RunFault::Writer => Stop::Device,
+            RunFault::TooManyCalls => Stop::Calls,
         }
     }
 }
@@ -80,6 +84,13 @@ fn key_line(fault: KeyFault) -> &'static str
         KeyFault::TooLong => "key: longer than 250 bytes",
         KeyFault::BadByte(_) => "key: a space or a control character",
     }
+}
+
+// How many calls a script can have.
+fn calls_line() -> &'static str
+    ensures { result.now ≡ calls_line }
+{
+    "calls: more than 18446744073709551615"
 }
 
 /// The exit status, and the line that is printed on standard error, if there is one.
@@ -116,6 +127,23 @@ pub fn end_of(ended: Result<u8, Stop>) -> End
             status: 3,
             complaint: Some("device: failed"),
         },
+        Err(Stop::Calls) => End {
+            status: 3,
+            complaint: Some(calls_line()),
+        },
+    }
+}
+
+// What the answer of a run means for the program.
+fn ended(answer: u8) -> Result<u8, Stop>
+    requires { answer ≤ 5 }
+    ensures { Ends answer result }
+{
+    match answer {
+        NO_MEMORY => Err(Stop::Memory),
+        WRITER => Err(Stop::Device),
+        TOO_MANY_CALLS => Err(Stop::Calls),
+        status => Ok(status),
     }
 }
 
@@ -132,11 +160,7 @@ fn answer<W: Write>(alloc: Global, task: Task, text: &str, out: &mut W) -> u8
 fn run_text<W: Write>(alloc: Global, task: Task, text: &str, out: &mut W) -> Result<u8, Stop>
     ensures { Runs task text.now (W.contents out.old) (W.contents out.new) result }
 {
-    match answer(alloc, task, text, out) {
-        NO_MEMORY => Err(Stop::Memory),
-        WRITER => Err(Stop::Device),
-        status => Ok(status),
-    }
+    ended(answer(alloc, task, text, out))
 }
 
 /// Prints why an input was not taken, unless memory or a device failed.
@@ -160,7 +184,8 @@ pub fn decline<W: Write>(fault: InputFault, out: &mut W) -> Result<u8, Stop>
 /// Does the task with an input, or prints why it is none. The answer is the exit status where all that was to be printed was written.
 ///
 /// `Stop::Memory` and `Stop::Device` come where the input could not be read for that cause, and then nothing was written; also
-/// where the run was refused memory, or the output could not be written.
+/// where the run was refused memory, or the output could not be written. `Stop::Calls` comes where the run of a script had more calls
+/// than are counted, after its transcript so far.
 pub fn run_input<W: Write>(
     alloc: Global,
     task: Task,
@@ -176,13 +201,9 @@ pub fn run_input<W: Write>(
 }
 
 fn find_in_text<W: Write>(alloc: Global, keys: &[Key], text: &str, out: &mut W) -> Result<u8, Stop>
-    ensures { RunsBy (λ text old new status. FindsKeys text keys.now old new status) text.now (W.contents out.old) (W.contents out.new) result }
+    ensures { RunsBy (λ text old new status. FindsKeys text keys.now old new status) NeverOverruns text.now (W.contents out.old) (W.contents out.new) result }
 {
-    match run_where(alloc, text, keys, out) {
-        NO_MEMORY => Err(Stop::Memory),
-        WRITER => Err(Stop::Device),
-        status => Ok(status),
-    }
+    ended(run_where(alloc, text, keys, out))
 }
 
 /// Prints where the keys live in the tree of an input, or why it is no input. The answer and the faults are as those of
@@ -193,7 +214,7 @@ pub fn run_keys<W: Write>(
     input: Result<String, InputFault>,
     out: &mut W,
 ) -> Result<u8, Stop>
-    ensures { AnswersBy (λ text old new status. FindsKeys text keys.now old new status) input (W.contents out.old) (W.contents out.new) result }
+    ensures { AnswersBy (λ text old new status. FindsKeys text keys.now old new status) NeverOverruns input (W.contents out.old) (W.contents out.new) result }
 {
     match input {
         Ok(text) => find_in_text(alloc, keys, text.as_str(), out),
@@ -240,13 +261,9 @@ fn replay_events<W: Write>(
     text: &str,
     out: &mut W,
 ) -> Result<u8, Stop>
-    ensures { RunsBy (λ text old new status. ReplaysOver any config text old new status) text.now (W.contents out.old) (W.contents out.new) result }
+    ensures { RunsBy (λ text old new status. ReplaysOver any config text old new status) (λ text old new. Overran any (Ok (told_over config text)) old new) text.now (W.contents out.old) (W.contents out.new) result }
 {
-    match run_replay_over(alloc, any, config, text, out) {
-        NO_MEMORY => Err(Stop::Memory),
-        WRITER => Err(Stop::Device),
-        status => Ok(status),
-    }
+    ended(run_replay_over(alloc, any, config, text, out))
 }
 
 /// Runs the events of an input over a configuration, or prints why it is no input. The answer and the faults are as those of
@@ -258,7 +275,7 @@ pub fn run_events<W: Write>(
     input: &Result<String, InputFault>,
     out: &mut W,
 ) -> Result<u8, Stop>
-    ensures { AnswersBy (λ text old new status. ReplaysOver any config text old new status) input.now (W.contents out.old) (W.contents out.new) result }
+    ensures { AnswersBy (λ text old new status. ReplaysOver any config text old new status) (λ text old new. Overran any (Ok (told_over config text)) old new) input.now (W.contents out.old) (W.contents out.new) result }
 {
     match input {
         Ok(text) => replay_events(alloc, any, config, text.as_str(), out),
@@ -271,13 +288,9 @@ fn loop_text<R: Net + Clock + AllocGlobal, W: Write>(
     text: &str,
     out: &mut W,
 ) -> Result<u8, Stop>
-    ensures { RunsBy RunsOverTcp text.now (W.contents out.old) (W.contents out.new) result }
+    ensures { RunsBy RunsOverTcp NeverOverruns text.now (W.contents out.old) (W.contents out.new) result }
 {
-    match run_loopback(rt, text, out) {
-        NO_MEMORY => Err(Stop::Memory),
-        WRITER => Err(Stop::Device),
-        status => Ok(status),
-    }
+    ended(run_loopback(rt, text, out))
 }
 
 /// Runs the script of an input over TCP, or prints why it is no input. The answer and the faults are as those of [`run_input`]; a
@@ -287,7 +300,7 @@ pub fn run_over_tcp<R: Net + Clock + AllocGlobal, W: Write>(
     input: &Result<String, InputFault>,
     out: &mut W,
 ) -> Result<u8, Stop>
-    ensures { AnswersBy RunsOverTcp input.now (W.contents out.old) (W.contents out.new) result }
+    ensures { AnswersBy RunsOverTcp NeverOverruns input.now (W.contents out.old) (W.contents out.new) result }
 {
     match input {
         Ok(text) => loop_text(rt, text.as_str(), out),

@@ -1,6 +1,6 @@
 //! The program from its arguments to its exit status.
 
-use config_check::Form;
+use config_check::{Form, RunFault};
 use line_faults::BadLine;
 use program::arguments::{ArgumentsFault, Job, Task, read_arguments};
 use program::bad_lines::{bad_line_of_events, bad_line_of_task};
@@ -403,6 +403,23 @@ fn ends_by_a_fault(rt: HostRuntime) {
     ];
     for (kind, want) in kinds {
         let end = end_of(Err(Stop::from(io::Error::from(kind))));
+        assert_eq!(rt; end.status, 3);
+        assert_eq!(rt; end.complaint, want);
+    }
+}
+
+#[test]
+fn ends_of_runs_that_were_broken_off(rt: HostRuntime) {
+    let faults = [
+        (RunFault::NoMemory, Some("memory: refused")),
+        (RunFault::Writer, Some("device: failed")),
+        (
+            RunFault::TooManyCalls,
+            Some("calls: more than 18446744073709551615"),
+        ),
+    ];
+    for (fault, want) in faults {
+        let end = end_of(Err(Stop::from(fault)));
         assert_eq!(rt; end.status, 3);
         assert_eq!(rt; end.complaint, want);
     }

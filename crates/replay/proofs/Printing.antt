@@ -20,7 +20,7 @@ use Rattle.fleet_run.specs.declared.script.DriveFault.{DriveFault}
 use Rattle.fleet_run.specs.declared.script.DriveFault.TheVariants as faults
 use Rattle.fleet_run.specs.Scripted.{Scripted, Shown, shown_by, scripted_of, transcript_of}
 use Rattle.fleet_run.specs.Bad.{first_bad}
-use Rattle.fleet_run.specs.Driving.{Drives, DrivesPart}
+use Rattle.fleet_run.specs.Driving.{Drives, DrivesPart, IsSpent}
 use Rattle.fleet_run.specs.Reloads.{AreInOrder, DrivesBy, DrivesPartBy, EndsBy}
 use Rattle.fleet_run.proofs.Reloading.{drives, ends_as}
 use Rattle.fresh_gate.specs.Gate.{IsCertified}
@@ -34,8 +34,8 @@ use Rattle.accepted_run.specs.Freshly.{InUse}
 use Rattle.accepted_run.specs.Reloads.{AreChained, AreJudged, Judges, ReloadsFreshly, ReloadsPartFreshly, EndsReloads, is_refused}
 use Rattle.config_check.specs.Checking.{PrintsRefused, StopsUnwritten}
 use Rattle.config_check.specs.declared.status.RunFault.{RunFault}
-use Rattle.config_check.specs.declared.status.RunFault.TheVariants.{NoMemory, Writer}
-use Rattle.replay.specs.Replay.{ReplaysTold, RunsScript, RunsGood, RunsTree, BreaksEventsOff, BreaksTreeOff, BreaksScriptOff, BreaksOff, Wrote, BrokeOff, AreLoadings, HasReloads, events_of, reloads_of, servers_of, load_line, load_lines, with_loads, transcript_lines}
+use Rattle.config_check.specs.declared.status.RunFault.TheVariants.{NoMemory, Writer, TooManyCalls}
+use Rattle.replay.specs.Replay.{ReplaysTold, RunsScript, RunsGood, RunsTree, BreaksEventsOff, BreaksTreeOff, BreaksScriptOff, BreaksOff, PrintsPart, Wrote, BrokeOff, run_fault_of, AreLoadings, HasReloads, events_of, reloads_of, servers_of, load_line, load_lines, with_loads, transcript_lines}
 
 pub both_written : (old mid new : Option (List ℕ)) (a b : List ℕ) → Appends old mid a → Appends mid new b → Appends old new (a ++ b)
 both_written None mid new a b x y = tt
@@ -188,18 +188,28 @@ replays any (Err why) script old new status h r = absurd h
 replays any (Ok t) script old new status h (inl r) = inl (record { script = t; said = refl; good = bad_is t script h ∙ rw (r.good) refl; runs = runs_said any t script old new status h r.runs })
 replays any (Ok t) script old new status h (inr r) = inr (r.0, inr (record { line = r.1.line; bad = bad_is t script h ∙ r.1.bad; printed = r.1.printed }))
 
-broken_said : (any : Bool) (t : Told) (script : ConfiguredScript) (old new : Option (List ℕ)) → IsScriptOf t script → BreaksTreeOff any script.config (reloads_of script) (events_of script) old new NoMemory → BreaksTreeOff any t.configuration t.loads (events_said t) old new NoMemory
-broken_said any t script old new h p = rw (← h.configuration, ← h.events, ← h.reloads) p
+broken_said : (any : Bool) (t : Told) (script : ConfiguredScript) (old new : Option (List ℕ)) (fault : RunFault) → IsScriptOf t script → BreaksTreeOff any script.config (reloads_of script) (events_of script) old new fault → BreaksTreeOff any t.configuration t.loads (events_said t) old new fault
+broken_said any t script old new fault h p = rw (← h.configuration, ← h.events, ← h.reloads) p
 
 pub breaks_off : (any : Bool) (t : Result Told WhyNot) (script : ConfiguredScript) (old new : Option (List ℕ)) (fault : RunFault) → ReadsScript t (Ok script) → BreaksScriptOff any script old new fault → BreaksOff any t old new fault
 breaks_off any (Err why) script old new fault h b = absurd h
-breaks_off any (Ok t) script old new NoMemory h b = elim (broken_said any t script old new h b) [ inl kept ↦ inl kept | inr part ↦ inr (record { script = t; said = refl; prints = part }) ]
+breaks_off any (Ok t) script old new NoMemory h b = elim (broken_said any t script old new NoMemory h b) [ inl kept ↦ inl kept | inr part ↦ inr (record { script = t; said = refl; prints = part }) ]
+breaks_off any (Ok t) script old new TooManyCalls h b = record { script = t; said = refl; prints = broken_said any t script old new TooManyCalls h b }
 breaks_off any (Ok t) script old new Writer h b = tt
 
 true_is_not_false : true ≡ false → ⊥
 true_is_not_false e = cc
 
 -- ---- what a drive did
+
+-- a fault of the driver, after which these lines were written
+by_fault : (driven : Result Report DriveFault) (fault : DriveFault) (lines : List ℕ) (old new : Option (List ℕ)) → driven ≡ Err fault → Appends old new lines → BrokeOff driven lines old new (run_fault_of fault)
+by_fault driven (faults.BadEvent index) lines old new is wrote = tt
+by_fault driven faults.NoMemory lines old new is wrote = (is, wrote)
+by_fault driven faults.Spent lines old new is wrote = (is, wrote)
+
+pub broke_off : (driven : Result Report DriveFault) (fault : DriveFault) (lines : List ℕ) (old new : Option (List ℕ)) (told : RunFault) → driven ≡ Err fault → told ≡ run_fault_of fault → Appends old new lines → BrokeOff driven lines old new told
+broke_off driven fault lines old new told is told_is wrote = subst (BrokeOff driven lines old new) (sym told_is) (by_fault driven fault lines old new is wrote)
 
 module _ (law : DirectIsOneServer) (config : Configuration) (reloads : List Reload) (loadings : List Loading) (events : List Scripted) where
   alone : (shown : List Shown) (marks : List ℕ) (report : Report) → DrivesBy config.tree (map is_refused loadings) reloads events shown marks report → reloads ≡ [] → Drives config.tree events shown report
@@ -235,22 +245,29 @@ module _ (law : DirectIsOneServer) (config : Configuration) (reloads : List Relo
           alone = alone (transcript_of t) marks w.report d;
         }
 
-    pub breaks_any : loadings ≡ [] → (fleet : MemoryFleet) → IfErr driven (EndsBy config.tree (map is_refused loadings) rs events t marks fleet) → (fault : RunFault) → BrokeOff driven (transcript_lines true rs ls (transcript_of t) ms) old new fault → BreaksEventsOff false true config reloads events old new fault
-    breaks_any none fleet ends NoMemory b =
+    abbrev part_any : loadings ≡ [] → (fleet : MemoryFleet) → DrivesPartBy config.tree (map is_refused loadings) reloads events (transcript_of t) marks fleet → Appends old new (transcript_lines true rs ls (transcript_of t) ms) → PrintsPart true config reloads events old new
+    part_any none fleet d wrote = record {
+      loadings = loadings;
+      shown = transcript_of t;
+      marks = marks;
+      fleet = fleet;
+      part = d;
+      printed = subst (λ (l : List ℕ). Appends old new l) (lines_are true) wrote;
+      are_loadings = none;
+      fresh = λ e. absurd (true_is_not_false e);
+      alone = part_alone t marks fleet d;
+    }
+
+    pub breaks_any : loadings ≡ [] → (fleet : MemoryFleet) → IfErr driven (EndsBy config.tree (map is_refused loadings) rs events t marks fleet) → IfErr driven (λ fault. IsSpent fault fleet) → (fault : RunFault) → BrokeOff driven (transcript_lines true rs ls (transcript_of t) ms) old new fault → BreaksEventsOff false true config reloads events old new fault
+    breaks_any none fleet ends spent NoMemory b =
         let r = subst (λ (r : Result Report DriveFault). IfErr r (EndsBy config.tree (map is_refused loadings) rs events t marks fleet)) b.0 ends in
         let d = subst (λ (x : List Reload). DrivesPartBy config.tree (map is_refused loadings) x events (transcript_of t) marks fleet) rs_are r in
-        inr (record {
-          loadings = loadings;
-          shown = transcript_of t;
-          marks = marks;
-          fleet = fleet;
-          part = d;
-          printed = subst (λ (l : List ℕ). Appends old new l) (lines_are true) b.1;
-          are_loadings = none;
-          fresh = λ e. absurd (true_is_not_false e);
-          alone = part_alone t marks fleet d;
-        })
-    breaks_any none fleet ends Writer b = tt
+        inr (part_any none fleet d b.1)
+    breaks_any none fleet ends spent TooManyCalls b =
+        let r = subst (λ (r : Result Report DriveFault). IfErr r (EndsBy config.tree (map is_refused loadings) rs events t marks fleet)) b.0 ends in
+        let d = subst (λ (x : List Reload). DrivesPartBy config.tree (map is_refused loadings) x events (transcript_of t) marks fleet) rs_are r in
+        record { prints = part_any none fleet d b.1; spent = subst (λ (r : Result Report DriveFault). IfErr r (λ fault. IsSpent fault fleet)) b.0 spent }
+    breaks_any none fleet ends spent Writer b = tt
 
     -- through trees that the gate accepted
     pub runs_accepted : AreLoadings false config reloads loadings → IfOk driven (ReloadsFreshly config.tree loadings rs events (transcript_of t) marks) → Wrote driven (transcript_lines false rs ls (transcript_of t) ms) old new → RunsTree false config reloads events old new
@@ -270,22 +287,29 @@ module _ (law : DirectIsOneServer) (config : Configuration) (reloads : List Relo
           alone = alone (transcript_of t) marks w.report freshly.drives;
         }
 
-    pub breaks_accepted : AreLoadings false config reloads loadings → (fleet : MemoryFleet) → IfErr driven (EndsReloads config.tree loadings rs events t marks fleet) → (fault : RunFault) → BrokeOff driven (transcript_lines false rs ls (transcript_of t) ms) old new fault → BreaksEventsOff false false config reloads events old new fault
-    breaks_accepted judged fleet ends NoMemory b =
+    abbrev part_accepted : AreLoadings false config reloads loadings → (fleet : MemoryFleet) → ReloadsPartFreshly config.tree loadings reloads events (transcript_of t) marks fleet → Appends old new (transcript_lines false rs ls (transcript_of t) ms) → PrintsPart false config reloads events old new
+    part_accepted judged fleet freshly wrote = record {
+      loadings = loadings;
+      shown = transcript_of t;
+      marks = marks;
+      fleet = fleet;
+      part = freshly.part;
+      printed = subst (λ (l : List ℕ). Appends old new l) (lines_are false) wrote;
+      are_loadings = judged;
+      fresh = λ e. freshly.fresh;
+      alone = part_alone t marks fleet freshly.part;
+    }
+
+    pub breaks_accepted : AreLoadings false config reloads loadings → (fleet : MemoryFleet) → IfErr driven (EndsReloads config.tree loadings rs events t marks fleet) → IfErr driven (λ fault. IsSpent fault fleet) → (fault : RunFault) → BrokeOff driven (transcript_lines false rs ls (transcript_of t) ms) old new fault → BreaksEventsOff false false config reloads events old new fault
+    breaks_accepted judged fleet ends spent NoMemory b =
         let r = subst (λ (r : Result Report DriveFault). IfErr r (EndsReloads config.tree loadings rs events t marks fleet)) b.0 ends in
         let freshly = subst (λ (x : List Reload). ReloadsPartFreshly config.tree loadings x events (transcript_of t) marks fleet) rs_are r in
-        inr (record {
-          loadings = loadings;
-          shown = transcript_of t;
-          marks = marks;
-          fleet = fleet;
-          part = freshly.part;
-          printed = subst (λ (l : List ℕ). Appends old new l) (lines_are false) b.1;
-          are_loadings = judged;
-          fresh = λ e. freshly.fresh;
-          alone = part_alone t marks fleet freshly.part;
-        })
-    breaks_accepted judged fleet ends Writer b = tt
+        inr (part_accepted judged fleet freshly b.1)
+    breaks_accepted judged fleet ends spent TooManyCalls b =
+        let r = subst (λ (r : Result Report DriveFault). IfErr r (EndsReloads config.tree loadings rs events t marks fleet)) b.0 ends in
+        let freshly = subst (λ (x : List Reload). ReloadsPartFreshly config.tree loadings x events (transcript_of t) marks fleet) rs_are r in
+        record { prints = part_accepted judged fleet freshly b.1; spent = subst (λ (r : Result Report DriveFault). IfErr r (λ fault. IsSpent fault fleet)) b.0 spent }
+    breaks_accepted judged fleet ends spent Writer b = tt
 
 -- through a first tree that the gate refused
 pub refused_first : (config refused : Configuration) (reloads : List Reload) (events : List Scripted) (old new : Option (List ℕ)) (status : ℕ) → refused ≡ config → (status ≡ 1) × PrintsRefused refused old new → RunsGood false config reloads events old new status
@@ -293,6 +317,7 @@ refused_first config refused reloads events old new status is p = inr (p.0, refl
 
 pub unwritten : (config : Configuration) (reloads : List Reload) (events : List Scripted) (old new : Option (List ℕ)) (fault : RunFault) → StopsUnwritten old new fault → BreaksTreeOff false config reloads events old new fault
 unwritten config reloads events old new NoMemory kept = inl kept
+unwritten config reloads events old new TooManyCalls kept = absurd kept
 unwritten config reloads events old new Writer kept = tt
 
 good_status : (any : Bool) (config : Configuration) (reloads : List Reload) (events : List Scripted) (old new : Option (List ℕ)) (status : ℕ) → RunsGood any config reloads events old new status → status ≤ 1

@@ -22,8 +22,8 @@ use Rattle.accepted_run.specs.declared.judging.Loading.{Loading}
 use Rattle.accepted_run.specs.Reloads.{is_refused}
 use Rattle.accepted_run.specs.Stepped.{StepsFreshly, StepsPartFreshly, EndsSteps}
 use Rattle.config_check.specs.declared.status.RunFault.{RunFault}
-use Rattle.config_check.specs.declared.status.RunFault.TheVariants.{NoMemory, Writer}
-use Rattle.replay.specs.Replay.{RunsSteps, BreaksEventsOff, Wrote, BrokeOff, AreLoadings, HasReloads, reloads_of, servers_of, transcript_lines}
+use Rattle.config_check.specs.declared.status.RunFault.TheVariants.{NoMemory, Writer, TooManyCalls}
+use Rattle.replay.specs.Replay.{RunsSteps, PrintsSteps, BreaksEventsOff, Wrote, BrokeOff, AreLoadings, HasReloads, reloads_of, servers_of, transcript_lines}
 use Rattle.replay.proofs.Printing.{first_few}
 
 true_is_not_false : true ≡ false → ⊥
@@ -80,19 +80,25 @@ module _ (config : Configuration) (reloads : List Reload) (loadings : List Loadi
           none_stale = λ e. absurd (true_is_not_false e);
         }
 
+    some_any : loadings ≡ [] → StepsPart config.tree (map is_refused loadings) rs events (transcript_of t) → AreMarks (length t.shown.items) marks → Appends old new (transcript_lines true rs ls (transcript_of t) ms) → PrintsSteps true config reloads events old new
+    some_any none part within wrote = record {
+      loadings = loadings;
+      shown = transcript_of t;
+      marks = marks;
+      part = subst (λ (x : List Reload). StepsPart config.tree (map is_refused loadings) x events (transcript_of t)) rs_are part;
+      within = within_shown within;
+      printed = subst (λ (l : List ℕ). Appends old new l) (lines_are true) wrote;
+      are_loadings = none;
+      fresh = λ e. absurd (true_is_not_false e);
+    }
+
     pub part_any : loadings ≡ [] → IfErr driven (EndsStepped config.tree (map is_refused loadings) rs events t marks) → AreMarks (length t.shown.items) marks → (fault : RunFault) → BrokeOff driven (transcript_lines true rs ls (transcript_of t) ms) old new fault → BreaksEventsOff true true config reloads events old new fault
     part_any none ends within NoMemory b =
-        let r = subst (λ (r : Result Report DriveFault). IfErr r (EndsStepped config.tree (map is_refused loadings) rs events t marks)) b.0 ends in
-        inr (record {
-          loadings = loadings;
-          shown = transcript_of t;
-          marks = marks;
-          part = subst (λ (x : List Reload). StepsPart config.tree (map is_refused loadings) x events (transcript_of t)) rs_are r;
-          within = within_shown within;
-          printed = subst (λ (l : List ℕ). Appends old new l) (lines_are true) b.1;
-          are_loadings = none;
-          fresh = λ e. absurd (true_is_not_false e);
-        })
+        let part = subst (λ (r : Result Report DriveFault). IfErr r (EndsStepped config.tree (map is_refused loadings) rs events t marks)) b.0 ends in
+        inr (some_any none part within b.1)
+    part_any none ends within TooManyCalls b =
+        let part = subst (λ (r : Result Report DriveFault). IfErr r (EndsStepped config.tree (map is_refused loadings) rs events t marks)) b.0 ends in
+        some_any none part within b.1
     part_any none ends within Writer b = tt
 
     -- through trees that the gate accepted
@@ -115,18 +121,25 @@ module _ (config : Configuration) (reloads : List Reload) (loadings : List Loadi
           none_stale = λ e. freshly.none_stale;
         }
 
-    pub part_accepted : AreLoadings false config reloads loadings → IfErr driven (EndsSteps config.tree loadings rs events t marks) → AreMarks (length t.shown.items) marks → (fault : RunFault) → BrokeOff driven (transcript_lines false rs ls (transcript_of t) ms) old new fault → BreaksEventsOff true false config reloads events old new fault
-    part_accepted judged ends within NoMemory b =
-        let r = subst (λ (r : Result Report DriveFault). IfErr r (EndsSteps config.tree loadings rs events t marks)) b.0 ends in
-        let freshly = subst (λ (x : List Reload). StepsPartFreshly config.tree loadings x events (transcript_of t)) rs_are r in
-        inr (record {
+    some_accepted : AreLoadings false config reloads loadings → StepsPartFreshly config.tree loadings rs events (transcript_of t) → AreMarks (length t.shown.items) marks → Appends old new (transcript_lines false rs ls (transcript_of t) ms) → PrintsSteps false config reloads events old new
+    some_accepted judged part within wrote =
+        let freshly = subst (λ (x : List Reload). StepsPartFreshly config.tree loadings x events (transcript_of t)) rs_are part in
+        record {
           loadings = loadings;
           shown = transcript_of t;
           marks = marks;
           part = freshly.part;
           within = within_shown within;
-          printed = subst (λ (l : List ℕ). Appends old new l) (lines_are false) b.1;
+          printed = subst (λ (l : List ℕ). Appends old new l) (lines_are false) wrote;
           are_loadings = judged;
           fresh = λ e. freshly.fresh;
-        })
+        }
+
+    pub part_accepted : AreLoadings false config reloads loadings → IfErr driven (EndsSteps config.tree loadings rs events t marks) → AreMarks (length t.shown.items) marks → (fault : RunFault) → BrokeOff driven (transcript_lines false rs ls (transcript_of t) ms) old new fault → BreaksEventsOff true false config reloads events old new fault
+    part_accepted judged ends within NoMemory b =
+        let part = subst (λ (r : Result Report DriveFault). IfErr r (EndsSteps config.tree loadings rs events t marks)) b.0 ends in
+        inr (some_accepted judged part within b.1)
+    part_accepted judged ends within TooManyCalls b =
+        let part = subst (λ (r : Result Report DriveFault). IfErr r (EndsSteps config.tree loadings rs events t marks)) b.0 ends in
+        some_accepted judged part within b.1
     part_accepted judged ends within Writer b = tt

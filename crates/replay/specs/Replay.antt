@@ -17,7 +17,7 @@ use Rattle.fleet_run.specs.declared.script.DriveFault.TheVariants as drive_fault
 use Rattle.fleet_run.specs.Scripted.{Scripted, Shown, scripted_of}
 use Rattle.fleet_run.specs.Opening.{opening_of}
 use Rattle.fleet_run.specs.Stepped.{is_stepped}
-use Rattle.fleet_run.specs.Driving.{Drives, DrivesPart}
+use Rattle.fleet_run.specs.Driving.{Drives, DrivesPart, IsSpent}
 use Rattle.fleet_run.specs.Reloads.{AreInOrder, DrivesBy, DrivesPartBy}
 use Rattle.mc_runs.specs.Overlap.{run_of as stepped_run_of}
 use Rattle.mc_runs.specs.Sharing.{IsFreshByNumber}
@@ -34,7 +34,7 @@ use Rattle.fleet_run.specs.Bad.{first_bad}
 use Rattle.config_check.specs.Checking.{PrintsRefused}
 use Rattle.config_check.specs.Reloads.{loaded_line, unchecked_line, kept_line}
 use Rattle.config_check.specs.declared.status.RunFault.{RunFault}
-use Rattle.config_check.specs.declared.status.RunFault.TheVariants.{NoMemory, Writer}
+use Rattle.config_check.specs.declared.status.RunFault.TheVariants.{NoMemory, Writer, TooManyCalls}
 
 -- the events of a script
 abbrev pub scripted : Script → List Scripted
@@ -92,9 +92,16 @@ pub record Wrote (driven : Result Report DriveFault) (lines : List ℕ) (old new
   pub driven_is : driven ≡ Ok report
   pub printed : Appends old new (lines ++ report_line report)
 
--- memory was refused, and these lines were written; nothing is said of a writer that failed
+-- what a fault of the driver is to the run. That an event can't be is told before the run begins, so it is none of its faults
+abbrev pub run_fault_of : DriveFault → RunFault
+run_fault_of (drive_faults.BadEvent index) = Writer
+run_fault_of drive_faults.NoMemory = NoMemory
+run_fault_of drive_faults.Spent = TooManyCalls
+
+-- memory was refused, or calls had no more numbers, and these lines were written; nothing is said of a writer that failed
 abbrev pub BrokeOff : Result Report DriveFault → List ℕ → Option (List ℕ) → Option (List ℕ) → RunFault → Type 0
 BrokeOff driven lines old new NoMemory = (driven ≡ Err drive_faults.NoMemory) × Appends old new lines
+BrokeOff driven lines old new TooManyCalls = (driven ≡ Err drive_faults.Spent) × Appends old new lines
 BrokeOff driven lines old new Writer = Unit {0}
 
 -- ---- a script through a configuration's tree and those that it loads, which are gated unless they may be any
@@ -130,6 +137,11 @@ pub record PrintsPart (any : Bool) (config : Configuration) (reloads : List Relo
   pub fresh : any ≡ false → IsFresh (opening_of (take part.count events)) (run_of part.log)
   -- where nothing is loaded, all commands have the one tree
   pub alone : reloads ≡ [] → DrivesPart config.tree events shown fleet
+
+-- the same, until its servers had no more numbers for calls or commands
+pub record PrintsSpent (any : Bool) (config : Configuration) (reloads : List Reload) (events : List Scripted) (old new : Option (List ℕ)) : Type 0 where
+  pub prints : PrintsPart any config reloads events old new
+  pub spent : IsSpent drive_faults.Spent prints.fleet
 
 -- ---- the same of a script that steps its calls, whose commands overlap
 
@@ -168,10 +180,16 @@ abbrev pub PrintsEvents : Bool → Bool → Configuration → List Reload → Li
 PrintsEvents false any config reloads events old new = PrintsPart any config reloads events old new
 PrintsEvents true any config reloads events old new = PrintsSteps any config reloads events old new
 
--- memory was refused before the run, and nothing was written; or during it, and the transcript so far was. Nothing is said of a
--- writer that failed
+-- a part of the events ran, and there were more calls than are counted; of a script that steps its calls it isn't said how many there were
+abbrev pub PrintsOverrun : Bool → Bool → Configuration → List Reload → List Scripted → Option (List ℕ) → Option (List ℕ) → Type 0
+PrintsOverrun false any config reloads events old new = PrintsSpent any config reloads events old new
+PrintsOverrun true any config reloads events old new = PrintsSteps any config reloads events old new
+
+-- memory was refused before the run, and nothing was written; or during it, and the transcript so far was, as it was where there were too
+-- many calls. Nothing is said of a writer that failed
 abbrev pub BreaksEventsOff : Bool → Bool → Configuration → List Reload → List Scripted → Option (List ℕ) → Option (List ℕ) → RunFault → Type 0
 BreaksEventsOff steps any config reloads events old new NoMemory = (new ≡ old) ⊎ PrintsEvents steps any config reloads events old new
+BreaksEventsOff steps any config reloads events old new TooManyCalls = PrintsOverrun steps any config reloads events old new
 BreaksEventsOff steps any config reloads events old new Writer = Unit {0}
 
 abbrev pub BreaksTreeOff : Bool → Configuration → List Reload → List Scripted → Option (List ℕ) → Option (List ℕ) → RunFault → Type 0
@@ -237,12 +255,19 @@ pub record RanInPart (any : Bool) (t : Result Told WhyNot) (old new : Option (Li
   pub said : t ≡ Ok script
   pub prints : PrintsEvents (is_stepped (events_said script)) any script.configuration script.loads (events_said script) old new
 
+-- the script ran in part, and had more calls than are counted
+pub record Overran (any : Bool) (t : Result Told WhyNot) (old new : Option (List ℕ)) : Type 0 where
+  pub script : Told
+  pub said : t ≡ Ok script
+  pub prints : PrintsOverrun (is_stepped (events_said script)) any script.configuration script.loads (events_said script) old new
+
 -- memory was refused before the run, and nothing was written; or during it
 abbrev pub IsBrokenOff : Bool → Result Told WhyNot → Option (List ℕ) → Option (List ℕ) → Type 0
 IsBrokenOff any t old new = (new ≡ old) ⊎ RanInPart any t old new
 
 abbrev pub BreaksOff : Bool → Result Told WhyNot → Option (List ℕ) → Option (List ℕ) → RunFault → Type 0
 BreaksOff any t old new NoMemory = IsBrokenOff any t old new
+BreaksOff any t old new TooManyCalls = Overran any t old new
 BreaksOff any t old new Writer = Unit {0}
 
 -- ---- what was read of a text

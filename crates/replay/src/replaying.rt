@@ -3,7 +3,7 @@
 ghost use Rattle.std.specs.Prelude.{◌≡◌, ◌≤◌, ◌∷◌, [], false, true, Ok, IfOk, IfErr, length};
 ghost use Rattle.fresh_gate.specs.Gate.{IsCertified};
 ghost use Rattle.script_text.specs.Script.{told, told_over};
-ghost use Rattle.replay.specs.Replay.{Replays, ReplaysOver, IsReading, ReplaysRead, BreaksReadOff, RunsScript, RunsGood, RunsEvents, BreaksTreeOff, BreaksScriptOff, HasReloads, IsBrokenOff, BreaksOff, steps_of, events_of, reloads_of};
+ghost use Rattle.replay.specs.Replay.{Replays, ReplaysOver, IsReading, ReplaysRead, BreaksReadOff, RunsScript, RunsGood, RunsEvents, BreaksTreeOff, BreaksScriptOff, HasReloads, IsBrokenOff, Overran, BreaksOff, steps_of, events_of, reloads_of};
 
 use crate::stepping::{run_steps, run_steps_accepted};
 use crate::whole::{run_whole, run_whole_accepted};
@@ -165,14 +165,16 @@ fn replay_events<W: Write>(
 /// With `any` the gate isn't asked: every tree runs, and the report tells how many replies were stale. Without it the trees are those
 /// that the gate accepts, and none is.
 ///
-/// The answer is the program's exit status, `DONE`, `REFUSED` or `BAD_INPUT`; or else `NO_MEMORY` where memory was refused: then the
-/// transcript so far was printed; or `WRITER` where the output could not be written: then some of the lines may have been.
+/// The answer is the program's exit status, `DONE`, `REFUSED` or `BAD_INPUT`; or else `NO_MEMORY` where memory was refused, or
+/// `TOO_MANY_CALLS` where calls had no more numbers: then the transcript so far was printed; or `WRITER` where the output could not be
+/// written: then some of the lines may have been.
 ///
 /// Source: mcgate's own.
 pub fn run_replay<W: Write>(alloc: Global, any: bool, text: &str, out: &mut W) -> u8
-    ensures status { result ≤ 4 }
+    ensures status { result ≤ 5 }
     ensures wrote { result ≤ 2 → Replays any text.now (W.contents out.old) (W.contents out.new) result }
     ensures refused { result ≡ 3 → IsBrokenOff any (told text.now) (W.contents out.old) (W.contents out.new) }
+    ensures too_many { result ≡ 5 → Overran any (told text.now) (W.contents out.old) (W.contents out.new) }
 {
     match replay_text(alloc, any, text, out) {
         Ok(status) => status,
@@ -193,9 +195,10 @@ pub fn run_replay_over<W: Write>(
     text: &str,
     out: &mut W,
 ) -> u8
-    ensures status { result ≤ 4 }
+    ensures status { result ≤ 5 }
     ensures wrote { result ≤ 2 → ReplaysOver any config text.now (W.contents out.old) (W.contents out.new) result }
     ensures refused { result ≡ 3 → IsBrokenOff any (Ok (told_over config text.now)) (W.contents out.old) (W.contents out.new) }
+    ensures too_many { result ≡ 5 → Overran any (Ok (told_over config text.now)) (W.contents out.old) (W.contents out.new) }
 {
     match replay_events(alloc, any, config, text, out) {
         Ok(status) => status,

@@ -6,7 +6,7 @@ ghost use Rattle.config_check.specs.declared.status.RunFault.TheVariants.{Writer
 ghost use Rattle.config_check.specs.Reloads.{unchecked_line};
 ghost use Rattle.fleet_run.specs.Scripted.{shown_by, transcript_of};
 ghost use Rattle.script_text.specs.Printed.{shown_lines};
-ghost use Rattle.replay.specs.Replay.{loading_line, load_line, transcript_lines, Wrote, BrokeOff};
+ghost use Rattle.replay.specs.Replay.{loading_line, load_line, transcript_lines, run_fault_of, Wrote, BrokeOff};
 
 use accepted_run::Loading;
 use config_check::RunFault;
@@ -111,6 +111,17 @@ fn write_entries<W: Write>(
     Ok(write_outputs(rest, out)?)
 }
 
+// What a fault of the driver is to the run. No event is bad here.
+fn run_fault(fault: DriveFault) -> RunFault
+    ensures { result ≡ run_fault_of fault }
+{
+    match fault {
+        DriveFault::BadEvent(_) => RunFault::Writer,
+        DriveFault::NoMemory => RunFault::NoMemory,
+        DriveFault::Spent => RunFault::TooManyCalls,
+    }
+}
+
 /// Writes the transcript of a script, and its report where it ran to its end.
 pub fn write_driven<W: Write>(
     any: bool,
@@ -131,11 +142,9 @@ pub fn write_driven<W: Write>(
             write_report(report, out)?;
             Ok(DONE)
         }
-        Err(DriveFault::NoMemory) => {
+        Err(fault) => {
             write_entries(any, reloads, loadings, outputs, marks, out)?;
-            Err(RunFault::NoMemory)
+            Err(run_fault(*fault))
         }
-        // No event is bad, and no input of 16,777,216 bytes has so many commands or calls.
-        Err(_) => Err(RunFault::Writer),
     }
 }

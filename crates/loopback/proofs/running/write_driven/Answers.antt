@@ -15,4 +15,4 @@ returns-in_ok-write_done-in-Ok-clause-ok g c = (
 
 pub returns-in-Err-clause-err : goal.returns-in-Err-clause-err
 returns-in-Err-clause-err g c =
-    broke_off (g.W.Write.contents c.args.out.now) (g.W.Write.contents c.write_entries.new.out) c.args.reloads.now c.args.shown.now c.fault_of.result c.in_ok-write_entries.ensures
+    broke_off (g.W.Write.contents c.args.out.now) (g.W.Write.contents c.write_entries.new.out) c.args.reloads.now c.args.shown.now c.fault_of.result c.fault_of.ensures c.in_ok-write_entries.ensures

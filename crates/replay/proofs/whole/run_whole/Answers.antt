@@ -24,5 +24,5 @@ pub returns-clause-err : goal.returns-clause-err
 returns-clause-err g c =
     let s = c.args.script.now in
     IfErr-weaker c.write_driven.result _ _
-    (λ fault b. breaks_any c.direct_is_one_server.ensures s.config (reloads_of s) [] (events_of s) c.drive_by-driven.result c.drive_by-driven.new.transcript c.drive_by-driven.new.marks.items _ _ _ _ _ c.as_slice-reloads.ensures.value refl c.as_slice-marks.ensures.value refl c.drive_by-driven.new.fleet c.drive_by-driven.ensures.fault fault b)
+    (λ fault b. breaks_any c.direct_is_one_server.ensures s.config (reloads_of s) [] (events_of s) c.drive_by-driven.result c.drive_by-driven.new.transcript c.drive_by-driven.new.marks.items _ _ _ _ _ c.as_slice-reloads.ensures.value refl c.as_slice-marks.ensures.value refl c.drive_by-driven.new.fleet c.drive_by-driven.ensures.fault c.drive_by-driven.ensures.spent fault b)
     c.write_driven.ensures.err

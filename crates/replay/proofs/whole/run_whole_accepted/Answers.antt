@@ -31,5 +31,5 @@ returns-clause-err g c =
     let s = c.args.script.now in
     let judged = are_loadings s.config (reloads_of s) _ _ c.args.accepted.now _ c.as_slice-reloads.ensures.value c.requires.certified c.requires.accepted c.in_ok-judged.ensures.judged c.config-in_use.ensures.generations in
     IfErr-weaker c.write_driven.result _ _
-    (λ fault b. breaks_accepted c.direct_is_one_server.ensures s.config (reloads_of s) c.in_ok-judged.judged.loadings.items (events_of s) c.drive_judged-driven.result c.drive_judged-driven.new.transcript c.drive_judged-driven.new.marks.items _ _ _ _ _ c.as_slice-reloads.ensures.value c.as_slice-loadings.ensures.value c.as_slice-marks.ensures.value judged c.drive_judged-driven.new.fleet c.drive_judged-driven.ensures.fault fault b)
+    (λ fault b. breaks_accepted c.direct_is_one_server.ensures s.config (reloads_of s) c.in_ok-judged.judged.loadings.items (events_of s) c.drive_judged-driven.result c.drive_judged-driven.new.transcript c.drive_judged-driven.new.marks.items _ _ _ _ _ c.as_slice-reloads.ensures.value c.as_slice-loadings.ensures.value c.as_slice-marks.ensures.value judged c.drive_judged-driven.new.fleet c.drive_judged-driven.ensures.fault c.drive_judged-driven.ensures.spent fault b)
     c.write_driven.ensures.err

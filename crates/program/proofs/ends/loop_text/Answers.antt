@@ -1,0 +1,7 @@
+use Rattle.loopback.specs.Running.{Runs}
+use Rattle.program.specs.Program.{NeverOverruns}
+use Rattle.program.proofs.StopLemmas.{ran, never}
+use Rattle.program.proofs.ends.loop_text.Goals as goal
+
+pub returns : goal.returns
+returns g c = ran Runs NeverOverruns c.args.text.now _ _ c.run_loopback.result c.ended.result c.ended.ensures c.run_loopback.ensures.wrote (never c.run_loopback.result c.run_loopback.ensures.status)
