@@ -164,6 +164,22 @@ fail 2 after
 < 1 VALUE a 0 1\r\n1\r\nEND\r\n
 done 3 commands 3 calls
 ----
+Clients that wait for one server: that of the least number goes first, and each is polled once before the next one's turn.
+pool 1
++ 2 set a 0 0 1\r\n1\r\nget a\r\n
++ 1 get b\r\n
++ 0 get c\r\n
+result 0
+result 0
+result 0
+result 0
+=> 0
+< 2 STORED\r\n
+< 0 END\r\n
+< 1 END\r\n
+< 2 VALUE a 0 1\r\n1\r\nEND\r\n
+done 4 commands 4 calls
+----
 Seven of eight bytes of an answer come.
 pool 1
 fail 1 cut 7
