@@ -1,12 +1,11 @@
 //! Scripts that run, that are refused, and that can't be read. In examples of one line `⏎` is a line end.
 
-use crate::full_writer::Full;
-use crate::tables::{expanded, same, sides, told, unfolded};
 use config_check::status::WRITER;
+use example_tables::full_writer::Full;
+use example_tables::tables::{expanded, same, sides, told, unfolded};
 use replay::{run_replay, run_replay_over};
 use route_json::{Config, read_config};
-use std::alloc::Global;
-use std::process::Abort;
+use std::alloc::{AllocError, Global};
 use std::test::Fail;
 
 // Whatever is asked of the gate.
@@ -54,20 +53,24 @@ fn printed_of(alloc: Global, any: bool, front: &str, script: &str) -> Result<Str
     printed(alloc, any, script.as_str())
 }
 
+// The example of this line gave what is wanted, which is folded.
+fn same_unfolded(alloc: Global, line: &str, got: &str, want: &str) -> Result<(), Fail> {
+    let want = unfolded(alloc, want)?;
+    same(line, got, want.as_str())
+}
+
 // An example holds, with what stands before its script.
-fn holds<R: Abort + AllocGlobal>(rt: &R, any: bool, front: &str, line: &str) -> Result<(), Fail> {
+fn holds(alloc: Global, any: bool, front: &str, line: &str) -> Result<(), Fail> {
     let (script, want) = sides(line);
-    let got = printed_of(rt.alloc(), any, front, script)?;
-    let want = unfolded(rt.alloc(), want)?;
-    same(rt, line, got.as_str(), want.as_str());
-    Ok(())
+    let got = printed_of(alloc, any, front, script)?;
+    same_unfolded(alloc, line, got.as_str(), want)
 }
 
 #[test]
 fn scripts_that_are_run(rt: HostRuntime) -> Result<(), Fail> {
     for line in scripts().lines() {
-        holds(&rt, false, "", line)?;
-        holds(&rt, true, "", line)?;
+        holds(rt.alloc(), false, "", line)?;
+        holds(rt.alloc(), true, "", line)?;
     }
     Ok(())
 }
@@ -78,10 +81,10 @@ const LEAKING: &str =
 #[test]
 fn trees_that_are_refused(rt: HostRuntime) -> Result<(), Fail> {
     for line in refused().lines() {
-        holds(&rt, false, LEAKING, line)?;
+        holds(rt.alloc(), false, LEAKING, line)?;
     }
     for line in unasked().lines() {
-        holds(&rt, true, LEAKING, line)?;
+        holds(rt.alloc(), true, LEAKING, line)?;
     }
     Ok(())
 }
@@ -128,41 +131,38 @@ fn printed_of_folded(alloc: Global, any: bool, config: &str, events: &str) -> Re
 }
 
 // An example holds over a configuration.
-fn holds_over<R: Abort + AllocGlobal>(
-    rt: &R,
-    any: bool,
-    config: &str,
-    line: &str,
-) -> Result<(), Fail> {
+fn holds_over(alloc: Global, any: bool, config: &str, line: &str) -> Result<(), Fail> {
     let (events, want) = sides(line);
-    let got = printed_of_folded(rt.alloc(), any, config, events)?;
-    let want = unfolded(rt.alloc(), want)?;
-    same(rt, line, got.as_str(), want.as_str());
-    Ok(())
+    let got = printed_of_folded(alloc, any, config, events)?;
+    same_unfolded(alloc, line, got.as_str(), want)
 }
 
 #[test]
 fn events_over_a_configuration(rt: HostRuntime) -> Result<(), Fail> {
     for line in events().lines() {
-        holds_over(&rt, false, OVER_LINES, line)?;
+        holds_over(rt.alloc(), false, OVER_LINES, line)?;
     }
     holds_over(
-        &rt,
+        rt.alloc(),
         true,
         OVER_LINES,
         "#⏎restart 1⏎ => 2⏎script: bad line 2⏎",
     )
 }
 
+fn leaking(alloc: Global) -> Result<String, AllocError> {
+    let text = unfolded(alloc, LEAKING)?;
+    expanded(alloc, text.as_str())
+}
+
 #[test]
 fn events_over_a_refused_tree(rt: HostRuntime) -> Result<(), Fail> {
-    let leaking = unfolded(rt.alloc(), LEAKING)?;
-    let leaking = expanded(rt.alloc(), leaking.as_str())?;
+    let leaking = leaking(rt.alloc())?;
     for line in refused_events().lines() {
-        holds_over(&rt, false, leaking.as_str(), line)?;
+        holds_over(rt.alloc(), false, leaking.as_str(), line)?;
     }
     holds_over(
-        &rt,
+        rt.alloc(),
         true,
         leaking.as_str(),
         "restart 1⏎ => 0⏎done 0 commands 0 calls 0 stale⏎",

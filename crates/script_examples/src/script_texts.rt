@@ -1,7 +1,7 @@
 //! Tests: the lines of scripts. In examples of one line `⏎` is a line end.
 
-use crate::tables::{expanded, same, sides, unfolded};
 use byte_escapes::Escaped;
+use example_tables::tables::{expanded, same, sides, unfolded};
 use fleet_run::{Event, Loss, Manner, Output, Reload, Report};
 use mc_types::{Key, ServerId};
 use route_json::{Config, ConfigFault};
@@ -15,7 +15,6 @@ use script_text::printer::{write_bad_line, write_config_fault, write_outputs, wr
 use script_text::reader::{read_events, read_script};
 use script_text::words::{cut, number_under};
 use std::alloc::{AllocError, Global};
-use std::process::Abort;
 use std::test::Fail;
 
 // The bytes that escapes mean; none where they are unreadable.
@@ -184,12 +183,16 @@ fn words_of_line(alloc: Global, line: &[u8]) -> Result<String, Fail> {
     }
 }
 
+fn event_holds(alloc: Global, example: &str) -> Result<(), Fail> {
+    let (line, want) = sides(example);
+    let words = words_of_line(alloc, line.as_bytes())?;
+    same(line, words.as_str(), want)
+}
+
 #[test]
 fn events_that_are_read(rt: HostRuntime) -> Result<(), Fail> {
     for example in events().lines() {
-        let (line, want) = sides(example);
-        let words = words_of_line(rt.alloc(), line.as_bytes())?;
-        same(&rt, line, words.as_str(), want);
+        event_holds(rt.alloc(), example)?;
     }
     Ok(())
 }
@@ -341,23 +344,27 @@ fn words_of_folded(alloc: Global, text: &str) -> Result<String, Fail> {
     words_of_script(alloc, text.as_str())
 }
 
-fn all_are_read<R: Abort + AllocGlobal>(rt: &R, examples: &str) -> Result<(), Fail> {
+fn script_holds(alloc: Global, example: &str) -> Result<(), Fail> {
+    let (text, want) = sides(example);
+    let words = words_of_folded(alloc, text)?;
+    same(text, words.as_str(), want)
+}
+
+fn all_are_read(alloc: Global, examples: &str) -> Result<(), Fail> {
     for example in examples.lines() {
-        let (text, want) = sides(example);
-        let words = words_of_folded(rt.alloc(), text)?;
-        same(rt, text, words.as_str(), want);
+        script_holds(alloc, example)?;
     }
     Ok(())
 }
 
 #[test]
 fn scripts_that_are_read(rt: HostRuntime) -> Result<(), Fail> {
-    all_are_read(&rt, scripts())
+    all_are_read(rt.alloc(), scripts())
 }
 
 #[test]
 fn scripts_with_a_bad_line(rt: HostRuntime) -> Result<(), Fail> {
-    all_are_read(&rt, bad_scripts())?;
+    all_are_read(rt.alloc(), bad_scripts())?;
     let words = words_of_script(rt.alloc(), "pool 1\r\n")?;
     assert_eq!(rt; words.as_str(), "bad line 1");
     Ok(())
@@ -417,21 +424,33 @@ fn line_words(alloc: Global, read: &ConfiguredScript) -> Result<String, Fail> {
     Ok(words)
 }
 
-fn words_over_two(alloc: Global, text: &str) -> Result<String, Fail> {
-    let text = unfolded(alloc, text)?;
+fn read_over_two(alloc: Global, text: &str) -> Result<ConfiguredScript, ScriptFault> {
     let config = Config::of_pool(alloc, 2)?;
-    match read_events(alloc, config, text.as_str()) {
+    read_events(alloc, config, text)
+}
+
+fn words_over_two(alloc: Global, text: &str) -> Result<String, Fail> {
+    match read_over_two(alloc, text) {
         Ok(read) => line_words(alloc, &read),
         Err(fault) => fault_words(alloc, &fault),
     }
 }
 
+fn words_of_folded_events(alloc: Global, text: &str) -> Result<String, Fail> {
+    let text = unfolded(alloc, text)?;
+    words_over_two(alloc, text.as_str())
+}
+
+fn events_hold(alloc: Global, example: &str) -> Result<(), Fail> {
+    let (text, want) = sides(example);
+    let words = words_of_folded_events(alloc, text)?;
+    same(text, words.as_str(), want)
+}
+
 #[test]
 fn scripts_of_events_alone(rt: HostRuntime) -> Result<(), Fail> {
     for example in scripts_of_events().lines() {
-        let (text, want) = sides(example);
-        let words = words_over_two(rt.alloc(), text)?;
-        same(&rt, text, words.as_str(), want);
+        events_hold(rt.alloc(), example)?;
     }
     Ok(())
 }

@@ -2,13 +2,12 @@
 //!
 //! Of most examples the route alone is given: it stands over pool A of one server, 127.0.0.1:5001, and B of one, 127.0.0.1:5002.
 
-use crate::faults::faults;
-use crate::full_writer::Full;
-use crate::tables::{Example, example_of, expanded, same, sides, told};
 use config_check::status::WRITER;
 use config_check::{Form, run_check};
+use example_tables::faults::{faults, same_fault};
+use example_tables::full_writer::Full;
+use example_tables::tables::{Example, example_of, expanded, same, sides, told};
 use std::alloc::{AllocError, Global};
-use std::process::Abort;
 use std::test::Fail;
 
 fn routes() -> &'static str {
@@ -137,27 +136,31 @@ fn verdict_on_route(alloc: Global, form: Form, route: &str) -> Result<String, Fa
     verdict(alloc, form, text.as_str())
 }
 
-fn all_hold<R: Abort + AllocGlobal>(rt: &R, form: Form, examples: &str) -> Result<(), Fail> {
+fn holds(alloc: Global, form: Form, part: &str) -> Result<(), Fail> {
+    let Example {
+        name,
+        given,
+        wanted,
+    } = example_of(part);
+    let got = verdict_on_route(alloc, form, given)?;
+    same(name, got.as_str(), wanted)
+}
+
+fn all_hold(alloc: Global, form: Form, examples: &str) -> Result<(), Fail> {
     for part in examples.split("== ").skip(1) {
-        let Example {
-            name,
-            given,
-            wanted,
-        } = example_of(part);
-        let got = verdict_on_route(rt.alloc(), form, given)?;
-        same(rt, name, got.as_str(), wanted);
+        holds(alloc, form, part)?;
     }
     Ok(())
 }
 
 #[test]
 fn verdicts_on_routes(rt: HostRuntime) -> Result<(), Fail> {
-    all_hold(&rt, Form::Lines, routes())
+    all_hold(rt.alloc(), Form::Lines, routes())
 }
 
 #[test]
 fn pictures(rt: HostRuntime) -> Result<(), Fail> {
-    all_hold(&rt, Form::Picture, drawings())
+    all_hold(rt.alloc(), Form::Picture, drawings())
 }
 
 #[test]
@@ -176,27 +179,34 @@ fn verdicts_in_words(rt: HostRuntime) -> Result<(), Fail> {
     Ok(())
 }
 
+fn holds_on_pools(alloc: Global, part: &str) -> Result<(), Fail> {
+    let Example {
+        name,
+        given,
+        wanted,
+    } = example_of(part);
+    let got = verdict(alloc, Form::Lines, given)?;
+    same(name, got.as_str(), wanted)
+}
+
 #[test]
 fn verdicts_on_pools(rt: HostRuntime) -> Result<(), Fail> {
     for part in pools().split("== ").skip(1) {
-        let Example {
-            name,
-            given,
-            wanted,
-        } = example_of(part);
-        let got = verdict(rt.alloc(), Form::Lines, given)?;
-        same(&rt, name, got.as_str(), wanted);
+        holds_on_pools(rt.alloc(), part)?;
     }
     Ok(())
+}
+
+fn fault_holds(alloc: Global, line: &str) -> Result<(), Fail> {
+    let (text, fault) = sides(line);
+    let got = verdict(alloc, Form::Lines, text)?;
+    same_fault(alloc, text, got.as_str(), fault)
 }
 
 #[test]
 fn configuration_faults(rt: HostRuntime) -> Result<(), Fail> {
     for line in faults().lines() {
-        let (text, want) = sides(line);
-        let got = verdict(rt.alloc(), Form::Lines, text)?;
-        let want = format!(in rt.alloc(); "2\n{want}\n")?;
-        same(&rt, text, got.as_str(), want.as_str());
+        fault_holds(rt.alloc(), line)?;
     }
     Ok(())
 }

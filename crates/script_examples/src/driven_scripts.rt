@@ -1,7 +1,7 @@
 //! Scripts as events: which can't be, and what the others hand out.
 
 use fleet_run::{
-    DriveFault, Event, Manner, Report, Script, Transcript, drive_any, first_bad_event,
+    DriveFault, Event, Manner, Report, Script, Transcript, drive_any, first_bad_event, is_stepped,
 };
 use mc_types::{Key, ServerId};
 use memory_fleet::{Loss, MemoryFleet};
@@ -123,8 +123,11 @@ struct Outcome {
     calls: u64,
 }
 
-// A script is driven over one server.
+// A script that steps no calls is driven over one server.
 fn driven(alloc: Global, script: &Script) -> Result<Outcome, Fail> {
+    if is_stepped(script) {
+        return Err(Fail::from("it steps its calls"));
+    }
     let config = Config::of_pool(alloc, 1)?;
     let mut fleet = MemoryFleet::new(alloc, 1)?;
     let mut transcript = Transcript {

@@ -1,12 +1,14 @@
 //! Tables of examples: texts that are read line by line, or example by example.
 
 use std::alloc::{AllocError, Global};
-use std::process::Abort;
 use std::test::Fail;
 
-/// The example of this name has what is wanted.
-pub fn same<R: Abort>(rt: &R, name: &str, got: &str, wanted: &str) {
-    assert_eq!(rt; got, wanted, "at {name}");
+/// That the example of this name gave what is wanted.
+pub fn same(name: &str, got: &str, wanted: &str) -> Result<(), Fail> {
+    if got == wanted {
+        return Ok(());
+    }
+    Err(Fail::new(format_args!("{name}: {got}")))
 }
 
 /// An example of several lines: `== NAME`, what is given, `-- STATUS`, and what is printed.

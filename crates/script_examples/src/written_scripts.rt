@@ -1,6 +1,6 @@
 //! Scripts that are written as lines, and read back.
 
-use crate::tables::{same, sides};
+use example_tables::tables::{same, sides};
 use route_json::Config;
 use script_lines::laws::scripts_are_read_back;
 use script_lines::write_script;
@@ -48,14 +48,18 @@ fn written(alloc: Global, line: &str) -> Result<Vec<u8>, Fail> {
     }
 }
 
+fn holds(alloc: Global, example: &str) -> Result<(), Fail> {
+    let (line, want) = sides(example);
+    let out = written(alloc, line)?;
+    let text = str::from_utf8(out.as_slice()).unwrap_or("not UTF-8");
+    same(line, text.strip_suffix('\n').unwrap_or(text), want)
+}
+
 #[test]
 fn lines_that_are_written(rt: HostRuntime) -> Result<(), Fail> {
     scripts_are_read_back();
     for example in lines().lines() {
-        let (line, want) = sides(example);
-        let out = written(rt.alloc(), line)?;
-        let text = str::from_utf8(out.as_slice()).unwrap_or("not UTF-8");
-        same(&rt, line, text.strip_suffix('\n').unwrap_or(text), want);
+        holds(rt.alloc(), example)?;
     }
     Ok(())
 }

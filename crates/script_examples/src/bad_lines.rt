@@ -1,13 +1,12 @@
 //! Bad lines and their words. In examples `⏎` is a line end.
 
-use crate::tables::{same, sides, unfolded};
+use example_tables::tables::{same, sides, unfolded};
 use fleet_run::Event;
 use line_faults::laws::each_line_is_either;
 use line_faults::misfit::misfit_of;
 use line_faults::{BadLine, bad_line_in_events, bad_line_in_script};
 use route_json::Config;
 use std::alloc::{AllocError, Global};
-use std::process::Abort;
 use std::test::Fail;
 
 fn unreadable() -> &'static str {
@@ -142,25 +141,45 @@ fn words_after(alloc: Global, before: usize) -> Result<String, AllocError> {
 }
 
 fn words_in_events(alloc: Global, text: &str) -> Result<String, Fail> {
-    let text = unfolded(alloc, text)?;
     let config = Config::of_pool(alloc, 2)?;
-    words_of(alloc, bad_line_in_events(alloc, config, text.as_str())?)
+    words_of(alloc, bad_line_in_events(alloc, config, text)?)
 }
 
-fn all_hold<R: Abort + AllocGlobal>(rt: &R, examples: &str) -> Result<(), Fail> {
+fn words_in_folded_events(alloc: Global, text: &str) -> Result<String, Fail> {
+    let text = unfolded(alloc, text)?;
+    words_in_events(alloc, text.as_str())
+}
+
+fn holds(alloc: Global, example: &str) -> Result<(), Fail> {
+    let (text, want) = sides(example);
+    let words = words_in_folded(alloc, text)?;
+    same(text, words.as_str(), want)
+}
+
+fn all_hold(alloc: Global, examples: &str) -> Result<(), Fail> {
     for example in examples.lines() {
-        let (text, want) = sides(example);
-        let words = words_in_folded(rt.alloc(), text)?;
-        same(rt, text, words.as_str(), want);
+        holds(alloc, example)?;
     }
     Ok(())
+}
+
+fn holds_after_full(alloc: Global, example: &str) -> Result<(), Fail> {
+    let (after, want) = sides(example);
+    let words = words_after_full(alloc, after)?;
+    same(after, words.as_str(), want)
+}
+
+fn holds_of_events(alloc: Global, example: &str) -> Result<(), Fail> {
+    let (text, want) = sides(example);
+    let words = words_in_folded_events(alloc, text)?;
+    same(text, words.as_str(), want)
 }
 
 #[test]
 fn lines_that_cannot_be_read(rt: HostRuntime) -> Result<(), Fail> {
     each_line_is_either();
-    all_hold(&rt, unreadable())?;
-    all_hold(&rt, unreadable_steps())?;
+    all_hold(rt.alloc(), unreadable())?;
+    all_hold(rt.alloc(), unreadable_steps())?;
     let words = words_in_script(rt.alloc(), "pool 1\n\\\t ")?;
     assert_eq!(rt; words.as_str(), "line 2: no event has this word: \\\\\\x09");
     Ok(())
@@ -168,15 +187,13 @@ fn lines_that_cannot_be_read(rt: HostRuntime) -> Result<(), Fail> {
 
 #[test]
 fn lines_of_events_that_cannot_be(rt: HostRuntime) -> Result<(), Fail> {
-    all_hold(&rt, misfits())
+    all_hold(rt.alloc(), misfits())
 }
 
 #[test]
 fn clients_that_added_all_they_may(rt: HostRuntime) -> Result<(), Fail> {
     for example in after_full().lines() {
-        let (after, want) = sides(example);
-        let words = words_after_full(rt.alloc(), after)?;
-        same(&rt, after, words.as_str(), want);
+        holds_after_full(rt.alloc(), example)?;
     }
     Ok(())
 }
@@ -195,15 +212,13 @@ fn pieces_that_are_too_much(rt: HostRuntime) -> Result<(), Fail> {
 
 #[test]
 fn servers_that_are_loaded(rt: HostRuntime) -> Result<(), Fail> {
-    all_hold(&rt, loaded())
+    all_hold(rt.alloc(), loaded())
 }
 
 #[test]
 fn lines_of_events_alone(rt: HostRuntime) -> Result<(), Fail> {
     for example in events().lines() {
-        let (text, want) = sides(example);
-        let words = words_in_events(rt.alloc(), text)?;
-        same(&rt, text, words.as_str(), want);
+        holds_of_events(rt.alloc(), example)?;
     }
     Ok(())
 }

@@ -2,12 +2,11 @@
 //!
 //! `over A and B` and a route stand for the configuration of two servers and this route (`tables::expanded`).
 
-use crate::faults::faults;
-use crate::tables::{Example, example_of, expanded, same, sides, told};
 use config_check::{Form, run_check};
+use example_tables::faults::{faults, same_fault};
+use example_tables::tables::{Example, example_of, expanded, same, sides, told};
 use replay::run_replay;
 use std::alloc::{AllocError, Global};
-use std::process::Abort;
 use std::test::Fail;
 
 fn commands() -> &'static str {
@@ -462,81 +461,86 @@ fn printed_of(alloc: Global, any: bool, given: &str) -> Result<String, Fail> {
     printed(alloc, any, script.as_str())
 }
 
-fn holds<R: Abort + AllocGlobal>(rt: &R, any: bool, part: &str) -> Result<(), Fail> {
+fn holds(alloc: Global, any: bool, part: &str) -> Result<(), Fail> {
     let Example {
         name,
         given,
         wanted,
     } = example_of(part);
-    let got = printed_of(rt.alloc(), any, given)?;
-    same(rt, name, got.as_str(), wanted);
-    Ok(())
+    let got = printed_of(alloc, any, given)?;
+    same(name, got.as_str(), wanted)
 }
 
 /// Each of these examples holds.
-pub fn all_hold<R: Abort + AllocGlobal>(rt: &R, any: bool, examples: &str) -> Result<(), Fail> {
+pub fn all_hold(alloc: Global, any: bool, examples: &str) -> Result<(), Fail> {
     for part in examples.split("== ").skip(1) {
-        holds(rt, any, part)?;
+        holds(alloc, any, part)?;
     }
     Ok(())
 }
 
 #[test]
 fn scripts_of_commands(rt: HostRuntime) -> Result<(), Fail> {
-    all_hold(&rt, false, commands())
+    all_hold(rt.alloc(), false, commands())
 }
 
 #[test]
 fn scripts_of_meta_commands(rt: HostRuntime) -> Result<(), Fail> {
-    all_hold(&rt, false, meta_commands())
+    all_hold(rt.alloc(), false, meta_commands())
 }
 
 #[test]
 fn scripts_of_servers_and_slots(rt: HostRuntime) -> Result<(), Fail> {
-    all_hold(&rt, false, servers_and_slots())
+    all_hold(rt.alloc(), false, servers_and_slots())
 }
 
 #[test]
 fn scripts_of_time_and_losses(rt: HostRuntime) -> Result<(), Fail> {
-    all_hold(&rt, false, time_and_losses())
+    all_hold(rt.alloc(), false, time_and_losses())
 }
 
 #[test]
 fn scripts_of_failures(rt: HostRuntime) -> Result<(), Fail> {
-    all_hold(&rt, false, failures())
+    all_hold(rt.alloc(), false, failures())
 }
 
 #[test]
 fn scripts_of_all_sync_deletes(rt: HostRuntime) -> Result<(), Fail> {
-    all_hold(&rt, false, all_sync_deletes())
+    all_hold(rt.alloc(), false, all_sync_deletes())
 }
 
 #[test]
 fn scripts_of_reloads(rt: HostRuntime) -> Result<(), Fail> {
-    all_hold(&rt, false, reloads())
+    all_hold(rt.alloc(), false, reloads())
 }
 
 #[test]
 fn scripts_of_leaks(rt: HostRuntime) -> Result<(), Fail> {
-    all_hold(&rt, true, leaks())
+    all_hold(rt.alloc(), true, leaks())
+}
+
+fn fault_holds(alloc: Global, line: &str) -> Result<(), Fail> {
+    let (text, fault) = sides(line);
+    let got = printed(alloc, false, text)?;
+    same_fault(alloc, text, got.as_str(), fault)
 }
 
 #[test]
 fn configuration_faults(rt: HostRuntime) -> Result<(), Fail> {
     for line in faults().lines() {
-        let (text, want) = sides(line);
-        let got = printed(rt.alloc(), false, text)?;
-        let want = format!(in rt.alloc(); "2\n{want}\n")?;
-        same(&rt, text, got.as_str(), want.as_str());
+        fault_holds(rt.alloc(), line)?;
     }
     Ok(())
 }
 
-// The verdict on a configuration, and what is printed of a session over it.
-fn verdict_and_session(alloc: Global, config: &str) -> Result<String, Fail> {
+fn verdict(alloc: Global, config: &str) -> Result<String, Fail> {
     let mut out = Vec::new(alloc);
     let status = run_check(alloc, Form::Lines, config, &mut out);
-    let mut lines = told(alloc, status, out.as_slice())?;
+    told(alloc, status, out.as_slice())
+}
+
+// What is printed of a session over a configuration.
+fn session(alloc: Global, config: &str) -> Result<String, Fail> {
     let script = format!(in alloc;
         r#"{config}
 > 0 set session:a 0 0 1\r\n1\r\n
@@ -544,16 +548,36 @@ fn verdict_and_session(alloc: Global, config: &str) -> Result<String, Fail> {
 > 0 delete session:a\r\n
 "#
     )?;
-    lines.push_str(printed(alloc, false, script.as_str())?.as_str())?;
+    printed(alloc, false, script.as_str())
+}
+
+fn push_session(alloc: Global, lines: &mut String, config: &str) -> Result<(), Fail> {
+    let session = session(alloc, config)?;
+    lines.push_str(session.as_str())?;
+    Ok(())
+}
+
+// The verdict on a configuration, and what is printed of a session over it.
+fn verdict_and_session(alloc: Global, config: &str) -> Result<String, Fail> {
+    let mut lines = verdict(alloc, config)?;
+    push_session(alloc, &mut lines, config)?;
     Ok(lines)
+}
+
+fn set_up_holds(alloc: Global, part: &str) -> Result<(), Fail> {
+    let Example {
+        name,
+        given,
+        wanted,
+    } = example_of(part);
+    let got = verdict_and_session(alloc, given)?;
+    same(name, got.as_str(), wanted)
 }
 
 #[test]
 fn set_ups_of_the_readme(rt: HostRuntime) -> Result<(), Fail> {
     for part in usual_set_ups().split("== ").skip(1) {
-        let example = example_of(part);
-        let got = verdict_and_session(rt.alloc(), example.given)?;
-        same(&rt, example.name, got.as_str(), example.wanted);
+        set_up_holds(rt.alloc(), part)?;
     }
     Ok(())
 }
@@ -564,13 +588,17 @@ fn of_two_pieces(alloc: Global, first: &str, second: &str) -> Result<String, Fai
     printed(alloc, false, script.as_str())
 }
 
+fn cut_set_holds(alloc: Global, line: &str) -> Result<(), Fail> {
+    let (first, second) = line.split_once('|').unwrap_or((line, "no bar"));
+    let got = of_two_pieces(alloc, first, second)?;
+    let want = "0\n< 0 STORED\\r\\n\ndone 1 commands 1 calls 0 stale\n";
+    same(line, got.as_str(), want)
+}
+
 #[test]
 fn a_set_cut_anywhere(rt: HostRuntime) -> Result<(), Fail> {
-    let want = "0\n< 0 STORED\\r\\n\ndone 1 commands 1 calls 0 stale\n";
     for line in cut_sets().lines() {
-        let (first, second) = line.split_once('|').unwrap_or((line, "no bar"));
-        let got = of_two_pieces(rt.alloc(), first, second)?;
-        same(&rt, line, got.as_str(), want);
+        cut_set_holds(rt.alloc(), line)?;
     }
     Ok(())
 }

@@ -2,7 +2,7 @@
 //! nonsense.
 
 use crate::scripts::{all_hold, printed};
-use crate::tables::expanded;
+use example_tables::tables::expanded;
 use std::alloc::{AllocError, Global};
 use std::process::Abort;
 use std::test::Fail;
@@ -231,24 +231,24 @@ refused: server=127.0.0.1:5001 read=get delete=delete prefix= residue=0/1
 
 #[test]
 fn commands_that_overlap(rt: HostRuntime) -> Result<(), Fail> {
-    all_hold(&rt, false, overlaps())
+    all_hold(rt.alloc(), false, overlaps())
 }
 
 #[test]
 fn calls_that_are_named(rt: HostRuntime) -> Result<(), Fail> {
-    all_hold(&rt, false, counted_calls())
+    all_hold(rt.alloc(), false, counted_calls())
 }
 
 #[test]
 fn cut_and_junk_answers(rt: HostRuntime) -> Result<(), Fail> {
-    all_hold(&rt, false, broken_answers())
+    all_hold(rt.alloc(), false, broken_answers())
 }
 
 #[test]
 fn reloads_while_calls_are_out(rt: HostRuntime) -> Result<(), Fail> {
-    all_hold(&rt, false, reloads())?;
-    all_hold(&rt, true, unasked())?;
-    all_hold(&rt, false, refused())
+    all_hold(rt.alloc(), false, reloads())?;
+    all_hold(rt.alloc(), true, unasked())?;
+    all_hold(rt.alloc(), false, refused())
 }
 
 // So many letters, between two texts.
