@@ -6,8 +6,8 @@ use Rattle.replay.specs.Replay.{transcript_lines}
 use Rattle.replay.proofs.Printing.{broke_off}
 use Rattle.replay.proofs.transcripts.write_driven.Goals as goal
 
-pub returns-in-Err-clause-err : goal.returns-in-Err-clause-err
-returns-in-Err-clause-err g c =
+pub returns-in_ok-write_entries-in-Err-clause-err : goal.returns-in_ok-write_entries-in-Err-clause-err
+returns-in_ok-write_entries-in-Err-clause-err g c =
     let before = g.W.Write.contents c.args.out.now in
     let after = g.W.Write.contents c.write_entries-in-Err.new.out in
     let wrote =
