@@ -27,9 +27,9 @@ both_written (Some xs) (Some ys) (Some zs) a b x y = y ∙ ap (λ (t : List ℕ)
 
 -- a run that was broken off, whose lines so far were written
 pub broke_off : (old new : Option (List ℕ)) (reloads : List Reload) (shown : List Entry) (fault : RunFault) → IsNoOverrun fault → Appends old new (entry_lines reloads shown) → BreaksOff old new fault
-broke_off old new reloads shown NoMemory no a = inr (record { reloads = reloads; shown = shown; printed = a })
-broke_off old new reloads shown Writer no a = tt
-broke_off old new reloads shown TooManyCalls no a = absurd no
+broke_off old new reloads shown NoMemory within a = inr (record { reloads = reloads; shown = shown; printed = a })
+broke_off old new reloads shown Writer within a = tt
+broke_off old new reloads shown TooManyCalls within a = absurd within
 
 pub is_there : (lines : List ℕ) (at : ℕ) (o : Option ℕ) → o ≡ slice_get lines at → at < length lines → IsSome o
 is_there lines at o e lt = rw (e, slice_get-get_or lines at 0 lt)
