@@ -122,8 +122,8 @@ module _ (law : GenerationsAreFresh) (configs configs' : List Configuration) (rs
       let plans : ℕ → List ℕ → Plan = λ n key. tree_at (tree_by c.tree loads n) key in
       fresh_by_number (tree_words plans) (bars_by Alone plans) (steps_covered many loads is) (alone plans) (opening_of events) (run_of log) run
 
-  pub steps_freshly : (given : List Shown) (report : Report) → DrivesStepped c.tree (map is_refused ls) rs events given report → StepsFreshly c.tree ls rs events given report
-  steps_freshly given report d =
+  pub steps_freshly : (given : List Shown) (marks : List ℕ) (report : Report) → DrivesStepped c.tree (map is_refused ls) rs events given marks report → StepsFreshly c.tree ls rs events given marks report
+  steps_freshly given marks report d =
       let plans : ℕ → List ℕ → Plan = λ n key. tree_at (tree_by c.tree d.loads n) key in
       let by : IsFreshByNumber (opening_of events) (run_of d.log) = steps_fresh (length rs) d.loads d.log d.loads_are d.run in
       record { drives = d; fresh = by; none_stale = d.stale ∙ (counts_stale (tree_words plans) (bars_by Alone plans) (opening_of events) (alone plans)).none (run_of d.log) d.run by }

@@ -16,8 +16,8 @@ use Rattle.accepted_run.specs.declared.judging.Loading.{Loading}
 use Rattle.accepted_run.specs.Reloads.{is_refused}
 
 -- the script ran, its run is fresh over all loaded trees, and none of its replies is stale
-pub record StepsFreshly (first : Route) (loadings : List Loading) (reloads : List Reload) (events : List Scripted) (given : List Shown) (report : Report) : Type 0 where
-  pub drives : DrivesStepped first (map is_refused loadings) reloads events given report
+pub record StepsFreshly (first : Route) (loadings : List Loading) (reloads : List Reload) (events : List Scripted) (given : List Shown) (marks : List ℕ) (report : Report) : Type 0 where
+  pub drives : DrivesStepped first (map is_refused loadings) reloads events given marks report
   pub fresh : IsFreshByNumber (opening_of events) (run_of drives.log)
   pub none_stale : report.stale ≡ 0
 

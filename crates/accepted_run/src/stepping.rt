@@ -45,7 +45,7 @@ pub fn drive_stepped_judged(
     requires transcript { transcript.old.shown.items ≡ [] }
     requires marks { marks.old.items ≡ [] }
     ensures refuses { MatchResult result (λ _. first_bad (count_of servers.old) (map scripted_of script.now.events.items) ≡ None) (Refuses (count_of servers.old) script.now) }
-    ensures ok { IfOk result (λ report. StepsFreshly first.now.tree judged.now.loadings.items reloads.now (map scripted_of script.now.events.items) (transcript_of transcript.new) report) }
+    ensures ok { IfOk result (λ report. StepsFreshly first.now.tree judged.now.loadings.items reloads.now (map scripted_of script.now.events.items) (transcript_of transcript.new) marks.new.items report) }
     ensures fault { IfErr result (λ fault. EndsSteps first.now.tree judged.now.loadings.items reloads.now (map scripted_of script.now.events.items) transcript.new marks.new.items fault) }
     ensures marked { OnOk result (length marks.new.items ≡ length reloads.now) }
     ensures marks { AreMarks (length transcript.new.shown.items) marks.new.items }

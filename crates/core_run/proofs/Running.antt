@@ -1,5 +1,6 @@
 -- What calls of a runner make of a log, one after another.
-use Rattle.std.proofs.Common.{◌≡◌, ℕ, cond, nat_eq, List, [], ◌∷◌, ◌++◌, map, Option, Result, Ok, Err, refl, sym, ap, ◌∙◌, subst, append_assoc}
+use Rattle.std.proofs.Common.{◌≡◌, ℕ, ◌+◌, ◌<◌, inl, inr, arith, cond, nat_eq, List, [], ◌∷◌, ◌++◌, map, Option, Result, Ok, Err, refl, sym, ap, ◌∙◌, subst, append_assoc}
+use Rattle.std.proofs.lemmas.Bool.{cases_lt}
 use Rattle.std.proofs.lemmas.List.{map-append}
 use Rattle.std.specs.Prelude.{OnOk, ℤ}
 use Rattle.mc_types.specs.declared.ask.Ask.{Ask}
@@ -11,7 +12,7 @@ use Rattle.mc_runs.specs.Run.{End, Read, Unread, Never, outcome_of}
 use Rattle.mc_runs.specs.Single.{FitsOutcome}
 use Rattle.mc_types.specs.declared.call.Origin.{Origin}
 use Rattle.proxy_core.specs.CoreState.{dialect, Reloads}
-use Rattle.proxy_core.specs.Polls.{Polls}
+use Rattle.proxy_core.specs.Polls.{Polls, IsWhy}
 use Rattle.proxy_core.specs.Settles.{IsCalled, Settles}
 use Rattle.proxy_core.specs.declared.note.Poll.{Poll}
 use Rattle.proxy_core.specs.declared.note.Poll.TheVariants as polls
@@ -29,7 +30,7 @@ use Rattle.stepped_log.proofs.Counted.{goes_on_by_none}
 use Rattle.stepped_log.specs.Laws.{CountsPoll, PollsGoOn, ResultsGoOn, LoadsGoOn}
 use Rattle.core_run.specs.Counting.{last_of}
 use Rattle.core_run.specs.Finding.{found_of}
-use Rattle.core_run.specs.Running.{kept_of, Moves, MovesBy, MovesByOne, MovesByResults, MovesFed, IsLoadedBy}
+use Rattle.core_run.specs.Running.{kept_of, Moves, MovesBy, MovesByOne, MovesAt, MovesByResults, MovesFed, IsLoadedBy, IsIdle}
 use Rattle.core_run.specs.declared.found.Found.{Found}
 use Rattle.core_run.specs.declared.runner.Runner.{Runner}
 
@@ -115,16 +116,16 @@ by_then a b d s t u m n = (
   },
 )
 
--- one result, and then what is done without another
-pub one_then : (server : ℕ) (a b d : Runner) (s t : ScriptServers) → MovesByOne server a s b t → Moves b t d t → MovesByOne server a s d t
-one_then server a b d s t m n = (
+-- results at a server, and then what is done without another
+pub at_then : (server : ℕ) (a b d : Runner) (s t : ScriptServers) → MovesAt server a s b t → Moves b t d t → MovesAt server a s d t
+at_then server a b d s t m n = (
   m.0,
   m.1,
   record {
     given = m.2.given;
     goes = λ opening tree log stands.
         let g = m.2.goes opening tree log stands in
-        by_goes_then opening tree log [] (m.0 ∷ []) (kept_of b t) (kept_of d t) g
+        by_goes_then opening tree log [] m.0 (kept_of b t) (kept_of d t) g
         (goes_on_by_none opening tree (g.goes.more ++ log) (kept_of b t) (kept_of d t) g.goes.stands refl (n opening tree (g.goes.more ++ log) g.goes.stands));
   },
 )
@@ -222,3 +223,18 @@ resulted law number server ask origin made stamp a b room s t called same is ans
 -- which calls are out isn't kept
 pub out_only : (a b d : Runner) (s t : ScriptServers) → b ≡ record a { out = b.out } → (results : List CallResult) → MovesBy results b s d t → MovesBy results a s d t
 out_only a b d s t same results m = record { given = m.given; goes = λ opening tree log stands. m.goes opening tree log (subst (λ r. Stands opening tree log (kept_of r s)) (sym same) stands) }
+
+-- ---- where nothing is left to do
+
+-- a poll that found nothing to do changed nothing
+pub idle_poll : (client : ℕ) (poll : Poll) (a b : Runner) (x : Core) → Polls a.core client poll x → (poll ≡ polls.Idle) × (b ≡ record a { core = x }) → (b ≡ a) × IsIdle a.core client
+idle_poll client poll a b x step h =
+    let why = subst (λ p. IsWhy a.core client p x) h.0 step.why in
+    (h.1 ∙ ap (λ (y : Core). record a { core = y }) why.0, why.1)
+
+-- one more client has nothing left to do
+pub one_more_idle : (a : Runner) (client : ℕ) → ((c : ℕ) → c < client → IsIdle a.core c) → IsIdle a.core client → (c : ℕ) → c < client + 1 → IsIdle a.core c
+one_more_idle a client before now c lt = elim (cases_lt c client) [
+  | inl less ↦ before c less
+  | inr le ↦ subst (λ (n : ℕ). IsIdle a.core n) (omega (arith, le, lt)) now
+]

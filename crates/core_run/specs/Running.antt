@@ -1,9 +1,12 @@
 -- What a runner and its servers keep, and what its calls make of the log. Source: mcgate's own.
-use Rattle.std.specs.Prelude.{◌≡◌, ℕ, List, [], ◌∷◌, Option}
+use Rattle.std.specs.Prelude.{◌≡◌, ℕ, ◌<◌, List, [], ◌∷◌, Option}
 use Rattle.mc_types.specs.Items.{Item}
 use Rattle.mc_runs.specs.Overlap.{Entry}
 use Rattle.route_tree.specs.Route.{Route}
 use Rattle.proxy_core.specs.CoreState.{dialect}
+use Rattle.proxy_core.specs.CoreState.{IsOut}
+use Rattle.proxy_core.specs.Polls.{ForClient, IsDone}
+use Rattle.proxy_core.specs.declared.proxy.Core.{Core}
 use Rattle.script_servers.specs.Servers.{caches_of, turn_of}
 use Rattle.script_servers.specs.declared.servers.ScriptServers.{ScriptServers}
 use Rattle.stepped_log.specs.Standing.{Kept, Stands, GoesOn, GoesOnFed, GoesOnGiven, tree_by}
@@ -68,3 +71,18 @@ abbrev pub IsLoadedBy : Route → Runner → ScriptServers → Runner → Script
 IsLoadedBy tree old before new after =
     (opening : ℕ → List ℕ → Option Item) (first : Route) (loads : List (ℕ × Route)) (log : List (Entry dialect)) → Stands opening (tree_by first loads) log (kept_of old before)
     → Stands opening (tree_by first ((old.core.number, tree) ∷ loads)) log (kept_of new after)
+
+-- ---- where nothing is left to do
+
+-- nothing is left to do for the client, which is there
+abbrev pub IsIdle : Core → ℕ → Type 0
+IsIdle core client = ForClient core client IsDone
+
+-- nor for any that was opened
+abbrev pub AreIdle : Runner → Type 0
+AreIdle runner = (c : ℕ) → c < runner.clients → IsIdle runner.core c
+
+-- and no command is under way
+pub record IsAtRest (runner : Runner) : Type 0 where
+  pub idle : AreIdle runner
+  pub none : IsOut runner.core → ⊥

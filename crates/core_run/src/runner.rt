@@ -1,6 +1,6 @@
 //! The core, what it can't know, and its calls at the servers of a script.
 
-ghost use Rattle.std.specs.Prelude.{◌≡◌, ◌↔◌, [], IsTrue, IfOk, OnOk};
+ghost use Rattle.std.specs.Prelude.{◌≡◌, ◌<◌, ◌≤◌, ◌+◌, ◌↔◌, [], IsTrue, IfOk, OnOk};
 ghost use Rattle.proxy_core.specs.CoreState.{IsOut};
 ghost use Rattle.proxy_core.specs.Polls.{Polls};
 ghost use Rattle.script_servers.specs.Servers.{count_of, turn_of, Answers};
@@ -26,8 +26,8 @@ use stepped_log::laws::{
 /// calls found, and the counts.
 ///
 /// Each call keeps a log of all that happened: what stands beside it in `Stands` is what a runner and its servers keep. That the
-/// core numbers its clients from 0 is tested as they are opened; with the faults that can't come (a client that isn't there, more bytes
-/// than may be held, a ticket that isn't out) it ends as `Spent`.
+/// core numbers its clients from 0 is tested as they are opened, and that nothing is left to do where no call is out; with the faults that
+/// can't come (these, a client that isn't there, more bytes than may be held, a ticket that isn't out) it ends as `Spent`.
 #[derive(Drop)]
 pub struct Runner {
     core: Core,
@@ -35,6 +35,29 @@ pub struct Runner {
     out: Vec<Ticket>,
     found: Found,
     counts: Counts,
+}
+
+// What polls of clients gave.
+#[derive(Clone, Copy)]
+enum Progress {
+    // Nothing is left to do for them.
+    Idle,
+    // Something is waited for.
+    Waits,
+    // Something was done.
+    Moved,
+}
+
+// What both together gave.
+fn joined(one: Progress, other: Progress) -> Progress
+    ensures { result ≡ Progress.Idle → (one ≡ Progress.Idle) × (other ≡ Progress.Idle) }
+{
+    match (one, other) {
+        (Progress::Idle, other) => other,
+        (Progress::Waits, Progress::Moved) => Progress::Moved,
+        (Progress::Waits, _) => Progress::Waits,
+        (Progress::Moved, _) => Progress::Moved,
+    }
 }
 
 // What stops a run where the core has a fault.
@@ -91,11 +114,12 @@ fn lesser(one: Option<ServerId>, other: ServerId) -> ServerId
 }
 
 impl Runner {
-    ghost use Rattle.core_run.specs.Running.{kept_of, Moves, MovesByOne, MovesAt, MovesByResults, MovesFed, MovesGiven, IsLoadedBy};
+    ghost use Rattle.core_run.specs.Running.{kept_of, Moves, MovesByOne, MovesAt, MovesByResults, MovesFed, MovesGiven, IsLoadedBy, IsIdle, AreIdle, IsAtRest};
 
     /// No client was opened; commands begin on this tree.
     pub fn new(alloc: Global, tree: Tree) -> Runner
-        ensures { (servers : ScriptServers) → turn_of servers ≡ 0 → IsBegin tree (kept_of result servers) }
+        ensures begin { (servers : ScriptServers) → turn_of servers ≡ 0 → IsBegin tree (kept_of result servers) }
+        ensures clients { result.clients ≡ 0 }
     {
         Runner {
             core: Core::unchecked(alloc, tree, Limits::of_scripts()),
@@ -129,7 +153,8 @@ impl Runner {
 
     // One more client.
     fn open_next(&mut self) -> Result<(), FleetFault>
-        ensures { OnOk result ((servers : ScriptServers) → Moves self.old servers self.new servers) }
+        ensures moves { OnOk result ((servers : ScriptServers) → Moves self.old servers self.new servers) }
+        ensures clients { OnOk result (self.new.clients ≡ self.old.clients + 1) }
     {
         openings_go_on();
         match self.core.open_client() {
@@ -146,17 +171,20 @@ impl Runner {
 
     /// Clients are opened up to this one, counted from 0. The errors are running out of memory, and `Spent` where no more may be open.
     pub fn open(&mut self, client: usize) -> Result<(), FleetFault>
-        ensures { OnOk result ((servers : ScriptServers) → Moves self.old servers self.new servers) }
+        ensures moves { OnOk result ((servers : ScriptServers) → Moves self.old servers self.new servers) }
+        ensures opened { OnOk result ((client < self.new.clients) × (self.old.clients ≤ self.new.clients)) }
     {
-        for _number in self.clients..client.saturating_add(1) {
+        while self.clients <= client {
             self.open_next()?;
         }
         Ok(())
     }
 
-    // A client's bytes come.
-    fn feed(&mut self, client: usize, piece: &[u8]) -> Result<(), FleetFault>
-        ensures { OnOk result ((servers : ScriptServers) → MovesFed client piece.now self.old servers self.new servers) }
+    /// A client's bytes come, and nothing is done of them yet. The errors are running out of memory, and `Spent` where the client isn't
+    /// open, or more is held of it than may be.
+    pub fn feed(&mut self, client: usize, piece: &[u8]) -> Result<(), FleetFault>
+        ensures fed { OnOk result ((servers : ScriptServers) → MovesFed client piece.now self.old servers self.new servers) }
+        ensures clients { self.new.clients ≡ self.old.clients }
     {
         feeds_go_on();
         match self.core.feed(client, piece) {
@@ -177,7 +205,8 @@ impl Runner {
 
     // A command ended.
     fn count(&mut self, note: &Note) -> Result<(), FleetFault>
-        ensures { OnOk result ((self.new.core ≡ self.old.core) × ((servers : ScriptServers) → CountsOne note.now (kept_of self.old servers) (kept_of self.new servers))) }
+        ensures counts { OnOk result ((self.new.core ≡ self.old.core) × ((servers : ScriptServers) → CountsOne note.now (kept_of self.old servers) (kept_of self.new servers))) }
+        ensures clients { self.new.clients ≡ self.old.clients }
     {
         let shown = self.stamp_shown(note);
         self.counts
@@ -193,30 +222,32 @@ impl Runner {
         Ok(self.out.push(ticket)?)
     }
 
-    // What was done for a client: whether anything was.
-    fn take_poll(&mut self, poll: Poll) -> Result<bool, FleetFault>
-        ensures { OnOk result ((self.new.core ≡ self.old.core) × ((servers : ScriptServers) → CountsPoll poll (kept_of self.old servers) (kept_of self.new servers))) }
+    // What was done for a client.
+    fn take_poll(&mut self, poll: Poll) -> Result<Progress, FleetFault>
+        ensures counts { OnOk result ((self.new.core ≡ self.old.core) × ((servers : ScriptServers) → CountsPoll poll (kept_of self.old servers) (kept_of self.new servers))) }
+        ensures clients { self.new.clients ≡ self.old.clients }
+        ensures idle { IfOk result (λ progress. progress ≡ Progress.Idle → (poll ≡ Poll.Idle) × (self.new ≡ self.old)) }
     {
         match poll {
-            Poll::Idle => Ok(false),
-            Poll::Waiting => Ok(false),
-            Poll::Busy => Ok(false),
-            Poll::Own => Ok(true),
-            Poll::Refused => Ok(true),
+            Poll::Idle => Ok(Progress::Idle),
+            Poll::Waiting | Poll::Busy => Ok(Progress::Waits),
+            Poll::Own | Poll::Refused => Ok(Progress::Moved),
             Poll::Did(note) => {
                 self.count(&note)?;
-                Ok(true)
+                Ok(Progress::Moved)
             }
             Poll::Call(ticket) => {
                 self.put_out(ticket)?;
-                Ok(true)
+                Ok(Progress::Moved)
             }
         }
     }
 
-    // The next thing is done for a client: whether anything was.
-    fn poll(&mut self, client: usize) -> Result<bool, FleetFault>
-        ensures { OnOk result ((servers : ScriptServers) → Moves self.old servers self.new servers) }
+    // The next thing is done for a client.
+    fn poll(&mut self, client: usize) -> Result<Progress, FleetFault>
+        ensures moves { OnOk result ((servers : ScriptServers) → Moves self.old servers self.new servers) }
+        ensures clients { self.new.clients ≡ self.old.clients }
+        ensures idle { IfOk result (λ progress. progress ≡ Progress.Idle → (self.new ≡ self.old) × IsIdle self.old.core client) }
     {
         polls_go_on();
         match self.core.poll(client) {
@@ -225,38 +256,54 @@ impl Runner {
         }
     }
 
-    // Each client is polled once, in rising number: whether anything was done.
-    fn poll_round(&mut self) -> Result<bool, FleetFault>
-        ensures { OnOk result ((servers : ScriptServers) → Moves self.old servers self.new servers) }
+    // Each client is polled once, in rising number.
+    fn poll_round(&mut self) -> Result<Progress, FleetFault>
+        ensures moves { OnOk result ((servers : ScriptServers) → Moves self.old servers self.new servers) }
+        ensures clients { OnOk result (self.new.clients ≡ self.old.clients) }
+        ensures idle { IfOk result (λ progress. progress ≡ Progress.Idle → AreIdle self.new) }
     {
-        let mut is_moved = false;
+        let mut progress = Progress::Idle;
         for client in 0..self.clients {
-            if self.poll(client)? {
-                is_moved = true;
-            }
+            let one = self.poll(client)?;
+            progress = joined(progress, one);
         }
-        Ok(is_moved)
+        Ok(progress)
     }
 
-    // Clients are polled until a whole round gives nothing.
-    fn poll_all(&mut self) -> Result<(), FleetFault>
-        ensures { OnOk result ((servers : ScriptServers) → Moves self.old servers self.new servers) }
+    // Clients are polled until a whole round gives nothing: whether nothing is left to do for any of them.
+    fn poll_all(&mut self) -> Result<bool, FleetFault>
+        ensures moves { OnOk result ((servers : ScriptServers) → Moves self.old servers self.new servers) }
+        ensures clients { OnOk result (self.new.clients ≡ self.old.clients) }
+        ensures idle { IfOk result (λ idle. IsTrue idle → AreIdle self.new) }
     {
         for _round in 0..u64::MAX {
-            if !self.poll_round()? {
-                return Ok(());
+            let progress = self.poll_round()?;
+            match progress {
+                Progress::Idle => return Ok(true),
+                Progress::Waits => return Ok(false),
+                Progress::Moved => {}
             }
         }
         Err(FleetFault::Spent)
     }
 
+    // Clients are polled until a whole round gives nothing.
+    fn go_on(&mut self) -> Result<(), FleetFault>
+        ensures moves { OnOk result ((servers : ScriptServers) → Moves self.old servers self.new servers) }
+        ensures clients { OnOk result (self.new.clients ≡ self.old.clients) }
+    {
+        let _is_idle = self.poll_all()?;
+        Ok(())
+    }
+
     /// A client's bytes come, and all that can be done without a result is done. The errors are running out of memory, and `Spent`
     /// where the last number that there is was given to a command.
     pub fn add(&mut self, client: usize, bytes: &[u8]) -> Result<(), FleetFault>
-        ensures { OnOk result ((servers : ScriptServers) → MovesFed client bytes.now self.old servers self.new servers) }
+        ensures fed { OnOk result ((servers : ScriptServers) → MovesFed client bytes.now self.old servers self.new servers) }
+        ensures clients { OnOk result (self.new.clients ≡ self.old.clients) }
     {
         self.feed(client, bytes)?;
-        self.poll_all()
+        self.go_on()
     }
 
     // The place of the first call that is out at the server.
@@ -299,6 +346,7 @@ impl Runner {
     ) -> Result<(), FleetFault>
         ensures ok { OnOk result (MovesByOne server self.old servers.old self.new servers.new) }
         ensures count { count_of servers.new ≡ count_of servers.old }
+        ensures clients { self.new.clients ≡ self.old.clients }
     {
         results_go_on();
         let number = ticket.number;
@@ -318,6 +366,22 @@ impl Runner {
         }
     }
 
+    // The first call that is out at the server has its result, if there is one.
+    fn give_first(
+        &mut self,
+        servers: &mut ScriptServers,
+        server: ServerId,
+    ) -> Result<(), FleetFault>
+        ensures ok { OnOk result (MovesAt server self.old servers.old self.new servers.new) }
+        ensures count { count_of servers.new ≡ count_of servers.old }
+        ensures clients { OnOk result (self.new.clients ≡ self.old.clients) }
+    {
+        match self.take_first(server) {
+            None => Ok(()),
+            Some(ticket) => self.settle(servers, ticket, server),
+        }
+    }
+
     /// The first call that is out at the server has its result, if there is one, and then all that can be done without another is done.
     /// The errors are running out of memory, and `Spent` where calls or commands have no more numbers.
     pub fn settle_first(
@@ -327,27 +391,37 @@ impl Runner {
     ) -> Result<(), FleetFault>
         ensures ok { OnOk result (MovesAt server self.old servers.old self.new servers.new) }
         ensures count { count_of servers.new ≡ count_of servers.old }
+        ensures clients { OnOk result (self.new.clients ≡ self.old.clients) }
     {
-        match self.take_first(server) {
-            None => self.poll_all(),
-            Some(ticket) => {
-                self.settle(servers, ticket, server)?;
-                self.poll_all()
-            }
+        self.give_first(servers, server)?;
+        self.go_on()
+    }
+
+    // Where no call is out, nothing else is left to do.
+    fn rest(&self, is_idle: bool) -> Result<(), FleetFault>
+        ensures { OnOk result (IsTrue is_idle × (IsOut self.now.core → ⊥)) }
+    {
+        if is_idle && !self.core.is_out() {
+            Ok(())
+        } else {
+            Err(FleetFault::Spent)
         }
     }
 
-    /// Each call that is out has its result, that of the least server first, until none is out. The errors are those of
-    /// [`settle_first`](Runner::settle_first).
+    /// All that can be done is done, and each call that is out has its result, that of the least server first, until none is out: then
+    /// nothing is left to do for any client. The errors are those of [`settle_first`](Runner::settle_first).
     pub fn settle_all(&mut self, servers: &mut ScriptServers) -> Result<(), FleetFault>
         ensures ok { OnOk result (MovesByResults self.old servers.old self.new servers.new) }
         ensures count { count_of servers.new ≡ count_of servers.old }
         ensures none { OnOk result (self.new.out.items ≡ []) }
+        ensures clients { OnOk result (self.new.clients ≡ self.old.clients) }
+        ensures rest { OnOk result (IsAtRest self.new) }
     {
         for _round in 0..u64::MAX {
+            let is_idle = self.poll_all()?;
             match self.least() {
-                None => return Ok(()),
-                Some(server) => self.settle_first(servers, server)?,
+                None => return self.rest(is_idle),
+                Some(server) => self.give_first(servers, server)?,
             }
         }
         Err(FleetFault::Spent)
@@ -355,7 +429,8 @@ impl Runner {
 
     /// A client's new output, which is then empty. The errors are running out of memory, and `Spent` where there is no such client.
     pub fn take_output(&mut self, client: usize) -> Result<Vec<u8>, FleetFault>
-        ensures { IfOk result (λ bytes. (servers : ScriptServers) → MovesGiven client bytes.items self.old servers self.new servers) }
+        ensures given { IfOk result (λ bytes. (servers : ScriptServers) → MovesGiven client bytes.items self.old servers self.new servers) }
+        ensures clients { self.new.clients ≡ self.old.clients }
     {
         gives_go_on();
         match self.core.take_output(client) {
@@ -367,7 +442,8 @@ impl Runner {
     /// Commands that begin from now on run by this tree, of which no gate is asked. The errors are running out of memory, and `Spent`
     /// where as many trees were in use as can be numbered.
     pub fn load(&mut self, tree: &Tree) -> Result<(), FleetFault>
-        ensures { OnOk result ((servers : ScriptServers) → IsLoadedBy tree.now self.old servers self.new servers) }
+        ensures loaded { OnOk result ((servers : ScriptServers) → IsLoadedBy tree.now self.old servers self.new servers) }
+        ensures clients { self.new.clients ≡ self.old.clients }
     {
         loads_go_on();
         match self.core.reload(tree.copy()?) {

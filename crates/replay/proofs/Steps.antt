@@ -62,16 +62,16 @@ module _ (config : Configuration) (reloads : List Reload) (loadings : List Loadi
     within_shown within = subst (λ (n : ℕ). AreMarks n marks) (sym (length-map t.shown.items shown_by)) within
 
     -- through trees that no gate has seen
-    pub steps_any : loadings ≡ [] → IfOk driven (DrivesStepped config.tree (map is_refused loadings) rs events (transcript_of t)) → OnOk driven (length marks ≡ length rs) → AreMarks (length t.shown.items) marks → Wrote driven (transcript_lines true rs ls (transcript_of t) ms) old new → RunsSteps true config reloads events old new
+    pub steps_any : loadings ≡ [] → IfOk driven (DrivesStepped config.tree (map is_refused loadings) rs events (transcript_of t) marks) → OnOk driven (length marks ≡ length rs) → AreMarks (length t.shown.items) marks → Wrote driven (transcript_lines true rs ls (transcript_of t) ms) old new → RunsSteps true config reloads events old new
     steps_any none ran marked within w =
-        let r = subst (λ (r : Result Report DriveFault). IfOk r (DrivesStepped config.tree (map is_refused loadings) rs events (transcript_of t))) w.driven_is ran in
+        let r = subst (λ (r : Result Report DriveFault). IfOk r (DrivesStepped config.tree (map is_refused loadings) rs events (transcript_of t) marks)) w.driven_is ran in
         let m = subst (λ (r : Result Report DriveFault). OnOk r (length marks ≡ length rs)) w.driven_is marked in
         record {
           loadings = loadings;
           shown = transcript_of t;
           marks = marks;
           report = w.report;
-          drives = subst (λ (x : List Reload). DrivesStepped config.tree (map is_refused loadings) x events (transcript_of t) w.report) rs_are r;
+          drives = subst (λ (x : List Reload). DrivesStepped config.tree (map is_refused loadings) x events (transcript_of t) marks w.report) rs_are r;
           marked = m ∙ ap length rs_are;
           within = within_shown within;
           printed = subst (λ (l : List ℕ). Appends old new (l ++ report_line w.report)) (lines_are true) w.printed;
@@ -102,10 +102,10 @@ module _ (config : Configuration) (reloads : List Reload) (loadings : List Loadi
     part_any none ends within Writer b = tt
 
     -- through trees that the gate accepted
-    pub steps_accepted : AreLoadings false config reloads loadings → IfOk driven (StepsFreshly config.tree loadings rs events (transcript_of t)) → OnOk driven (length marks ≡ length rs) → AreMarks (length t.shown.items) marks → Wrote driven (transcript_lines false rs ls (transcript_of t) ms) old new → RunsSteps false config reloads events old new
+    pub steps_accepted : AreLoadings false config reloads loadings → IfOk driven (StepsFreshly config.tree loadings rs events (transcript_of t) marks) → OnOk driven (length marks ≡ length rs) → AreMarks (length t.shown.items) marks → Wrote driven (transcript_lines false rs ls (transcript_of t) ms) old new → RunsSteps false config reloads events old new
     steps_accepted judged ran marked within w =
-        let r = subst (λ (r : Result Report DriveFault). IfOk r (StepsFreshly config.tree loadings rs events (transcript_of t))) w.driven_is ran in
-        let freshly = subst (λ (x : List Reload). StepsFreshly config.tree loadings x events (transcript_of t) w.report) rs_are r in
+        let r = subst (λ (r : Result Report DriveFault). IfOk r (StepsFreshly config.tree loadings rs events (transcript_of t) marks)) w.driven_is ran in
+        let freshly = subst (λ (x : List Reload). StepsFreshly config.tree loadings x events (transcript_of t) marks w.report) rs_are r in
         let m = subst (λ (r : Result Report DriveFault). OnOk r (length marks ≡ length rs)) w.driven_is marked in
         record {
           loadings = loadings;

@@ -151,7 +151,7 @@ pub record RunsSteps (any : Bool) (config : Configuration) (reloads : List Reloa
   pub shown : List Shown
   pub marks : List ℕ
   pub report : Report
-  pub drives : DrivesStepped config.tree (map is_refused loadings) reloads events shown report
+  pub drives : DrivesStepped config.tree (map is_refused loadings) reloads events shown marks report
   pub marked : length marks ≡ length reloads
   pub within : AreMarks (length shown) marks
   pub printed : Appends old new (transcript_lines any reloads loadings shown marks ++ report_line report)

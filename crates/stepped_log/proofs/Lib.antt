@@ -5,3 +5,4 @@ pub mod ResultsLosses
 pub mod ResultsFound
 pub mod Results
 pub mod Counted
+pub mod Giving

@@ -98,7 +98,7 @@ module _ (at : ℕ → List ℕ → Plan) (Bars : ℕ → Ask → ℕ → Ask �
         (begins opening base found base client number part k may.0.0.0 (unseen number high) (unknown number high) t)
 
 -- with the same trees and limits a log leads where it led
-same_words : (at at' : ℕ → List ℕ → Plan) (limits limits' : Limits) (opening : ℕ → List ℕ → Option Item) (log : List (Entry dialect)) (core : Core) (beside : Beside) → at' ≡ at → limits' ≡ limits
+pub same_words : (at at' : ℕ → List ℕ → Plan) (limits limits' : Limits) (opening : ℕ → List ℕ → Option Item) (log : List (Entry dialect)) (core : Core) (beside : Beside) → at' ≡ at → limits' ≡ limits
     → LeadsTo (tree_words at) (bars_by limits.sharing at) opening log (state_of core beside) → LeadsTo (tree_words at') (bars_by limits'.sharing at') opening log (state_of core beside)
 same_words at at' limits limits' opening log core beside a l h =
     subst (λ x. LeadsTo (tree_words x) (bars_by limits'.sharing x) opening log (state_of core beside)) (sym a)

@@ -21,7 +21,7 @@ use Rattle.script_servers.proofs.Losses.{same_event, same_held}
 use Rattle.route_tree.specs.Word.{tree_words}
 use Rattle.proxy_core.specs.declared.proxy.Core.{Core}
 use Rattle.proxy_core.specs.CoreState.{dialect, bars_of, Beside, Fits, state_of}
-use Rattle.stepped_log.specs.Standing.{replied_in}
+use Rattle.stepped_log.specs.Standing.{replied_in, GoesOn}
 use Rattle.stepped_log.specs.Results.{calls_of}
 use Rattle.stepped_log.specs.Laws.{LossesGoOn}
 
@@ -145,7 +145,7 @@ losses_go_on opening tree log loss old new stands lost =
     let are : AreLosses (event ∷ []) = one_loss loss in
     let beside : Beside = bereft (event ∷ []) stands.beside in
     let alike : IsAlike opening (Happens event ∷ log) log = losses_alike opening log (event ∷ []) are in
-    record {
+    let goes : GoesOn opening tree log new = record {
       more = Happens event ∷ [];
       stands = record {
         beside = beside;
@@ -166,4 +166,5 @@ losses_go_on opening tree log loss old new stands lost =
       };
       streams = alike.stream;
       given = alike.given;
-    }
+    } in
+    (goes, record { front = λ c. refl; queue = λ c. refl; output = λ c. refl; owner = λ n. refl })

@@ -28,7 +28,7 @@ use Rattle.proxy_core.specs.declared.note.Poll.{Poll}
 use Rattle.proxy_core.specs.declared.note.Poll.TheVariants as polls
 use Rattle.memory_fleet.specs.Losing.{held_at}
 use Rattle.stepped_log.specs.Results.{GoesOnBy}
-use Rattle.stepped_log.specs.Standing.{Kept, replied_in, tree_by, Stands, GoesOn, GoesOnFed, GoesOnGiven, CountsAsMany, HasServers, FoundAsMuch, IsBesides}
+use Rattle.stepped_log.specs.Standing.{Kept, replied_in, tree_by, Stands, GoesOn, GoesOnFed, GoesOnGiven, LeavesAsMuch, CountsAsMany, HasServers, FoundAsMuch, IsBesides}
 
 -- ---- polls
 
@@ -97,7 +97,8 @@ pub record IsLost (loss : Loss) (old new : Kept) : Type 0 where
 
 abbrev pub LossesGoOn : Type 0
 LossesGoOn =
-    (opening : ℕ → List ℕ → Option Item) (tree : ℕ → Route) (log : List (Entry dialect)) (loss : Loss) (old new : Kept) → Stands opening tree log old → IsLost loss old new → GoesOn opening tree log new
+    (opening : ℕ → List ℕ → Option Item) (tree : ℕ → Route) (log : List (Entry dialect)) (loss : Loss) (old new : Kept) → Stands opening tree log old → IsLost loss old new
+    → (g : GoesOn opening tree log new) × LeavesAsMuch log (g.more ++ log)
 
 -- ---- clients
 

@@ -3,7 +3,7 @@ use Rattle.std.specs.Prelude.{◌≡◌, ℕ, ◌+◌, ◌<◌, false, List, [],
 use Rattle.mc_types.specs.Items.{Item}
 use Rattle.mc_runs.specs.Sharing.{Event, Begins, Calls, Replies, Breaks, Loses, Restarts, calls_so_far}
 use Rattle.mc_runs.specs.SharingStale.{tally_of, last_gone}
-use Rattle.mc_runs.specs.Overlap.{Owner, Entry, run_of, owner_of, given_of, is_dropped}
+use Rattle.mc_runs.specs.Overlap.{Owner, Entry, run_of, front_of, queue_of, output_of, owner_of, given_of, is_dropped}
 use Rattle.mc_runs.specs.OverlapState.{LeadsTo}
 use Rattle.mc_runs.specs.OverlapStream.{stream_of}
 use Rattle.cache_server.specs.Contents.{Contents}
@@ -60,6 +60,13 @@ pub record Stands (opening : ℕ → List ℕ → Option Item) (tree : ℕ → R
   pub stale : k.stale ≡ tally_of opening (run_of log)
   pub last : (key : List ℕ) → k.last key ≡ last_gone (run_of log) key
 
+-- what is left to do is as it was, and so is what clients are to be given in all
+pub record LeavesAsMuch (before after : List (Entry dialect)) : Type 0 where
+  pub front : (c : ℕ) → front_of after c ≡ front_of before c
+  pub queue : (c : ℕ) → queue_of after c ≡ queue_of before c
+  pub output : (c : ℕ) → output_of after c ≡ output_of before c
+  pub owner : (n : ℕ) → owner_of after n ≡ owner_of before n
+
 -- the log goes on, and leads there; its clients said nothing more, and were given nothing more
 pub record GoesOn (opening : ℕ → List ℕ → Option Item) (tree : ℕ → Route) (log : List (Entry dialect)) (k : Kept) : Type 0 where
   pub more : List (Entry dialect)
@@ -74,12 +81,14 @@ pub record GoesOnFed (opening : ℕ → List ℕ → Option Item) (tree : ℕ �
   pub streams : (c : ℕ) → stream_of (more ++ log) c ≡ (if nat_eq client c then stream_of log c ++ bytes else stream_of log c)
   pub given : (c : ℕ) → given_of (more ++ log) c ≡ given_of log c
 
--- the log goes on, and a client was given these bytes
+-- the log goes on, and a client was given these bytes, which were all that there was for it; nothing else was done
 pub record GoesOnGiven (opening : ℕ → List ℕ → Option Item) (tree : ℕ → Route) (log : List (Entry dialect)) (client : ℕ) (bytes : List ℕ) (k : Kept) : Type 0 where
   pub more : List (Entry dialect)
   pub stands : Stands opening tree (more ++ log) k
   pub streams : (c : ℕ) → stream_of (more ++ log) c ≡ stream_of log c
   pub given : (c : ℕ) → given_of (more ++ log) c ≡ (if nat_eq client c then given_of log c ++ bytes else given_of log c)
+  pub all : given_of (more ++ log) client ≡ output_of (more ++ log) client
+  pub left : LeavesAsMuch log (more ++ log)
 
 -- all is kept as it was but the core, the servers and what calls found
 pub record CountsAsMany (old new : Kept) : Type 0 where

@@ -39,9 +39,9 @@ use Rattle.stepped_log.specs.Standing.{Kept, Stands, tree_by}
 use Rattle.stepped_log.specs.Laws.{StandingSays, NothingStands, IsBegin}
 use Rattle.core_run.specs.Running.{kept_of, MovesByResults, IsLoadedBy}
 use Rattle.core_run.specs.declared.runner.Runner.{Runner}
-use Rattle.stepped_run.specs.Driving.{said_by, said_in, shown_to, AreHandedInTurn, one_loaded, trees_loaded, loaded_trees, IsReached, CameSo, CameInTurn, DrivesStepped, StepsPart, EndsStepped, AreMarks}
+use Rattle.stepped_run.specs.Driving.{said_by, said_in, shown_to, AreHandedInTurn, AreThrough, trees_loaded, loaded_trees, IsReached, CameSo, CameInTurn, StepsPart, EndsStepped, AreMarks}
 use Rattle.stepped_run.specs.Holding.{put_all_on}
-use Rattle.stepped_run.specs.Stepping.{Befalls, HandsOut, HandsSome, HasCome, TakesUp, Loads, IsDue}
+use Rattle.stepped_run.specs.Stepping.{Befalls, HandsOut, HandsSome, HasCome, IsDue}
 use Rattle.stepped_log.proofs.Counted.{none_more}
 use Rattle.stepped_run.specs.World.{World}
 use Rattle.stepped_run.proofs.Held.{held_new, opened_new}
@@ -50,13 +50,13 @@ use Rattle.stepped_run.proofs.Steps.{handed_on, hands_nothing}
 
 -- ---- reloads
 
-said_split : (n : ℕ) (events : List Scripted) (c : ℕ) → said_in events c ≡ said_in (take n events) c ++ said_in (drop n events) c
+pub said_split : (n : ℕ) (events : List Scripted) (c : ℕ) → said_in events c ≡ said_in (take n events) c ++ said_in (drop n events) c
 said_split zero events c = refl
 said_split (suc n) [] c = refl
 said_split (suc n) (event ∷ events) c = ap (λ xs. said_by event c ++ xs) (said_split n events c) ∙ sym (append_assoc (said_by event c) (said_in (take n events) c) (said_in (drop n events) c))
 
 -- what a longer log keeps
-reached_on : (more log : List (Entry dialect)) (events : List Scripted) (place begun : ℕ) → IsReached log events place begun → IsReached (more ++ log) events place begun
+pub reached_on : (more log : List (Entry dialect)) (events : List Scripted) (place begun : ℕ) → IsReached log events place begun → IsReached (more ++ log) events place begun
 reached_on more log events place begun r = record {
   newer = more ++ r.newer;
   older = r.older;
@@ -65,7 +65,7 @@ reached_on more log events place begun r = record {
   begun_is = r.begun_is;
 }
 
-turn_on : (refused : List Bool) (reloads : List Reload) (events : List Scripted) (more log : List (Entry dialect)) (n : ℕ) (loads : List (ℕ × Route)) → CameInTurn refused reloads events log n loads → CameInTurn refused reloads events (more ++ log) n loads
+pub turn_on : (refused : List Bool) (reloads : List Reload) (events : List Scripted) (more log : List (Entry dialect)) (n : ℕ) (loads : List (ℕ × Route)) → CameInTurn refused reloads events log n loads → CameInTurn refused reloads events (more ++ log) n loads
 turn_on refused reloads events more log zero loads t = t
 turn_on refused reloads events more log (suc n) loads t = by (λ l x. turn_on refused reloads events more log n l x) (is_refused (slice_get refused n)) (slice_get reloads n) t
   where
@@ -76,74 +76,10 @@ turn_on refused reloads events more log (suc n) loads t = by (λ l x. turn_on re
     by before false None x = before loads x
     by before false (Some r) x = (x.0, x.1, x.2, reached_on more log events r.at x.0 x.3, before x.1 x.4)
 
-pub loads_stay : (refused : List Bool) (reloads : List Reload) (next n : ℕ) (a : Runner) → Loads refused reloads next n n a a
-loads_stay refused reloads next n a first events left given s here h = h
-
-pub loads_then : (refused : List Bool) (reloads : List Reload) (next x y z : ℕ) (a b d : Runner) → Loads refused reloads next x y a b → Loads refused reloads next y z b d → Loads refused reloads next x z a d
-loads_then refused reloads next x y z a b d m n first events left given s here h = n first events left given s here (m first events left given s here h)
-
--- one more reload, which is refused, or not
-pub loads_one : StandingSays → (refused : List Bool) (reloads : List Reload) (next n : ℕ) (r : Reload) (is : Bool) (a b : Runner) → r.at ≡ next → slice_get reloads n ≡ Some r → is ≡ is_refused (slice_get refused n) → TakesUp is r.config.tree a b → Loads refused reloads next n (n + 1) a b
-loads_one law refused reloads next n r is a b place at same takes first events left given s here h = by is same takes
-  where
-    one : n + 1 ≡ suc n
-    one = omega arith
-
-    trees : (b : Bool) → b ≡ is_refused (slice_get refused n) → one_loaded b (Some r) (trees_loaded refused reloads n) ≡ trees_loaded refused reloads (n + 1)
-    trees b e =
-        ap (λ o. one_loaded b o (trees_loaded refused reloads n)) (sym at) ∙ ap (λ x. one_loaded x (slice_get reloads n) (trees_loaded refused reloads n)) e
-        ∙ ap (trees_loaded refused reloads) (sym one)
-
-    turn : (b : Bool) (loads : List (ℕ × Route)) → b ≡ is_refused (slice_get refused n) → CameSo b (Some r) events h.log loads (CameInTurn refused reloads events h.log n) → CameInTurn refused reloads events h.log (n + 1) loads
-    turn b loads e x =
-        subst (λ (m : ℕ). CameInTurn refused reloads events h.log m loads) (sym one)
-        (subst (λ (y : Bool). CameSo y (slice_get reloads n) events h.log loads (CameInTurn refused reloads events h.log n)) e
-        (subst (λ (o : Option Reload). CameSo b o events h.log loads (CameInTurn refused reloads events h.log n)) (sym at) x))
-
-    reached : IsReached h.log events r.at a.core.number
-    reached = record {
-      newer = [];
-      older = h.log;
-      log_is = refl;
-      streams = λ c.
-          append_cancel_right (stream_of h.log c) (said_in (take next events) c) (said_in left c)
-          (sym (h.streams c) ∙ said_split next events c ∙ ap (λ (l : List Scripted). said_in (take next events) c ++ said_in l c) (sym here))
-          ∙ ap (λ (m : ℕ). said_in (take m events) c) (sym place);
-      begun_is = (law (opening_of events) (tree_by first h.loads) h.log (kept_of a s) h.stands).begun;
-    }
-
-    by : (is : Bool) → is ≡ is_refused (slice_get refused n) → TakesUp is r.config.tree a b → HasCome first refused reloads events (n + 1) left given (kept_of b s)
-    by true e stays = record {
-      log = h.log;
-      loads = h.loads;
-      loads_are = h.loads_are ∙ trees true e;
-      in_turn = turn true h.loads e h.in_turn;
-      stands = subst (λ x. Stands (opening_of events) (tree_by first h.loads) h.log (kept_of x s)) (sym stays) h.stands;
-      streams = h.streams;
-      given_is = h.given_is;
-      order = h.order;
-      done = h.done;
-      done_is = h.done_is;
-      world = h.world;
-    }
-    by false e loads = record {
-      log = h.log;
-      loads = (a.core.number, r.config.tree) ∷ h.loads;
-      loads_are = ap (λ l. r.config.tree ∷ l) h.loads_are ∙ trees false e;
-      in_turn = turn false ((a.core.number, r.config.tree) ∷ h.loads) e (a.core.number, h.loads, refl, reached, h.in_turn);
-      stands = loads s (opening_of events) first h.loads h.log h.stands;
-      streams = h.streams;
-      given_is = h.given_is;
-      order = h.order;
-      done = h.done;
-      done_is = h.done_is;
-      world = h.world;
-    }
-
 module _ (first : Route) (refused : List Bool) (reloads : List Reload) (events : List Scripted) where
   -- ---- one event
 
-  pub come_on :
+  abbrev pub come_on :
       (loaded : ℕ) (event : Scripted) (left : List Scripted) (given : List Shown) (a b : Runner) (s t : ScriptServers) → Befalls event a s b t
       → HasCome first refused reloads events loaded (event ∷ left) given (kept_of a s) → HasCome first refused reloads events loaded left given (kept_of b t)
   come_on loaded event left given a b s t m h =
@@ -164,7 +100,7 @@ module _ (first : Route) (refused : List Bool) (reloads : List Reload) (events :
       }
 
   -- the script is at its end, and what is still out has its results
-  pub come_ended :
+  abbrev pub come_ended :
       (loaded : ℕ) (left : List Scripted) (given : List Shown) (a b : Runner) (s t : ScriptServers) → MovesByResults a s b t
       → HasCome first refused reloads events loaded left given (kept_of a s) → HasCome first refused reloads events loaded left given (kept_of b t)
   come_ended loaded left given a b s t m h =
@@ -185,10 +121,10 @@ module _ (first : Route) (refused : List Bool) (reloads : List Reload) (events :
       }
 
   -- what is new is handed out
-  pub come_out :
-      (loaded : ℕ) (left : List Scripted) (before after : List Shown) (a b : Runner) (s : ScriptServers) → HandsOut before after a b
+  abbrev pub come_out :
+      (AreGiven : ℕ → Type 0) (loaded : ℕ) (left : List Scripted) (before after : List Shown) (a b : Runner) (s : ScriptServers) → HandsOut AreGiven before after a b
       → HasCome first refused reloads events loaded left before (kept_of a s) → HasCome first refused reloads events loaded left after (kept_of b s)
-  come_out loaded left before after a b s m h =
+  come_out AreGiven loaded left before after a b s m h =
       let g = m s (opening_of events) (tree_by first h.loads) h.log h.stands in
       record {
         log = g.more ++ h.log;
@@ -205,7 +141,7 @@ module _ (first : Route) (refused : List Bool) (reloads : List Reload) (events :
       }
 
   -- or some of it
-  pub come_some :
+  abbrev pub come_some :
       (loaded : ℕ) (left : List Scripted) (before after : List Shown) (a : Runner) (s : ScriptServers) → HandsSome before after a
       → HasCome first refused reloads events loaded left before (kept_of a s) → (k : Kept) × HasCome first refused reloads events loaded left after k
   come_some loaded left before after a s m h =
@@ -230,8 +166,8 @@ module _ (first : Route) (refused : List Bool) (reloads : List Reload) (events :
   -- ---- the end
 
   -- what was done so far
-  pub part_of : StandingSays → (loaded : ℕ) (left : List Scripted) (given : List Shown) (k : Kept) → loaded ≤ length reloads → HasCome first refused reloads events loaded left given k → StepsPart first refused reloads events given
-  part_of law loaded left given k within h =
+  pub part_of : StandingSays → (loaded : ℕ) (left : List Scripted) (given : List Shown) (k : Kept) → loaded ≤ length reloads → (h : HasCome first refused reloads events loaded left given k) (count : ℕ) → AreThrough events count h.log given → StepsPart first refused reloads events given
+  part_of law loaded left given k within h count through =
       let plans : ℕ → List ℕ → Plan = λ n key. tree_at (tree_by first h.loads n) key in
       let says = law (opening_of events) (tree_by first h.loads) h.log k h.stands in
       record {
@@ -245,75 +181,18 @@ module _ (first : Route) (refused : List Bool) (reloads : List Reload) (events :
         streams = λ c. (said_in left c, h.streams c);
         given_is = h.given_is;
         order = h.order;
+        count = count;
+        through = inr through;
         run = runs dialect (tree_words plans) (bars_by Alone plans) (opening_of events) h.log says.follows;
         world = inr (record { done = h.done; later = left; events_are = h.done_is; servers = k.servers; world = h.world });
       }
 
-  -- all was done
-  pub drives :
-      StandingSays → (given : List Shown) (k : Kept) (report : Report) → HasCome first refused reloads events (length reloads) [] given k
-      → report.commands ≡ k.commands → report.calls ≡ k.turn → report.stale ≡ k.stale → DrivesStepped first refused reloads events given report
-  drives law given k report h commands calls stale =
-      let plans : ℕ → List ℕ → Plan = λ n key. tree_at (tree_by first h.loads n) key in
-      let says = law (opening_of events) (tree_by first h.loads) h.log k h.stands in
-      record {
-        log = h.log;
-        loads = h.loads;
-        loads_are = h.loads_are;
-        in_turn = h.in_turn;
-        follows = says.follows;
-        streams = λ c. sym (h.streams c ∙ append-nil (stream_of h.log c));
-        given_is = h.given_is;
-        order = h.order;
-        commands = commands ∙ says.ended;
-        calls = calls ∙ says.calls;
-        run = runs dialect (tree_words plans) (bars_by Alone plans) (opening_of events) h.log says.follows;
-        stale = stale ∙ says.stale;
-        servers = k.servers;
-        world = subst (λ (done : List Scripted). World events done h.log k.servers) (sym (h.done_is ∙ append-nil h.done)) h.world;
-      }
-
 -- ---- one event after another
 
-next_left : (xs : List Event) (i : ℕ) (x : Event) → i < length xs → x ≡ get_or xs i x → map scripted_of (drop i xs) ≡ scripted_of x ∷ map scripted_of (drop (i + 1) xs)
+pub next_left : (xs : List Event) (i : ℕ) (x : Event) → i < length xs → x ≡ get_or xs i x → map scripted_of (drop i xs) ≡ scripted_of x ∷ map scripted_of (drop (i + 1) xs)
 next_left xs i x lt is =
     let one : suc i ≡ i + 1 = omega arith in
     ap (map scripted_of) (drop-cons xs i x lt) ∙ ap (λ (y : Event). scripted_of y ∷ map scripted_of (drop (suc i) xs)) (sym is) ∙ ap (λ (n : ℕ). scripted_of x ∷ map scripted_of (drop n xs)) one
-
--- reloads that are due, an event, and what is handed out after it
-module _ (first : Route) (refused : List Bool) (reloads : List Reload) (xs : List Event) where
-  pub come_next :
-      (i before loaded : ℕ) (x : Event) (given more : List Shown) (a b d e : Runner) (s t : ScriptServers) → i < length xs → x ≡ get_or xs i x
-      → Loads refused reloads i before loaded a b → Befalls (scripted_of x) b s d t → HandsOut given more d e
-      → HasCome first refused reloads (map scripted_of xs) before (map scripted_of (drop i xs)) given (kept_of a s)
-      → HasCome first refused reloads (map scripted_of xs) loaded (map scripted_of (drop (i + 1) xs)) more (kept_of e t)
-  come_next i before loaded x given more a b d e s t lt is loads befalls hands h =
-      let events = map scripted_of xs in
-      let left = map scripted_of (drop (i + 1) xs) in
-      let due : HasCome first refused reloads events loaded (scripted_of x ∷ left) given (kept_of b s) =
-      subst (λ (l : List Scripted). HasCome first refused reloads events loaded l given (kept_of b s)) (next_left xs i x lt is) (loads first events (map scripted_of (drop i xs)) given s (sym (drop-map scripted_of i xs)) h) in
-      come_out first refused reloads events loaded left given more d e t hands (come_on first refused reloads events loaded (scripted_of x) left given b d s t befalls due)
-
-  -- the same, where not all could be handed out
-  pub come_broken :
-      StandingSays → (i before loaded : ℕ) (x : Event) (given more : List Shown) (a b d : Runner) (s t : ScriptServers) → i < length xs → x ≡ get_or xs i x → loaded ≤ length reloads
-      → Loads refused reloads i before loaded a b → Befalls (scripted_of x) b s d t → HandsSome given more d
-      → HasCome first refused reloads (map scripted_of xs) before (map scripted_of (drop i xs)) given (kept_of a s)
-      → StepsPart first refused reloads (map scripted_of xs) more
-  come_broken law i before loaded x given more a b d s t lt is within loads befalls hands h =
-      let events = map scripted_of xs in
-      let q = come_some first refused reloads events loaded (map scripted_of (drop (i + 1) xs)) given more d t hands (come_next i before loaded x given given a b d d s t lt is loads befalls (hands_nothing given d) h) in
-      part_of first refused reloads events law loaded (map scripted_of (drop (i + 1) xs)) more q.0 within q.1
-
-  -- the reloads after the last event
-  pub come_last :
-      (i before loaded : ℕ) (given : List Shown) (a b : Runner) (s : ScriptServers) → i ≡ length xs → loaded ≡ length reloads → Loads refused reloads (length xs) before loaded a b
-      → HasCome first refused reloads (map scripted_of xs) before (map scripted_of (drop i xs)) given (kept_of a s) → HasCome first refused reloads (map scripted_of xs) (length reloads) [] given (kept_of b s)
-  come_last i before loaded given a b s end all loads h =
-      let events = map scripted_of xs in
-      subst (λ (n : ℕ). HasCome first refused reloads events n [] given (kept_of b s)) all
-      (subst (λ (l : List Event). HasCome first refused reloads events loaded (map scripted_of l) given (kept_of b s)) (ap (λ (n : ℕ). drop n xs) end ∙ drop-length xs)
-      (loads first events (map scripted_of (drop i xs)) given s (ap (λ (n : ℕ). map scripted_of (drop n xs)) end ∙ sym (drop-map scripted_of (length xs) xs)) h))
 
 -- after the last place each reload has come
 order_get : (end servers place : ℕ) (rs : List Reload) (i : ℕ) → i < length rs → AreInOrder end servers place rs → IfSome (slice_get rs i) (λ r. r.at ≤ end)
@@ -358,10 +237,10 @@ at_place reloads i r lt is = slice_get-get_or reloads i r lt ∙ ap (λ (x : Rel
 
 -- ---- the begin
 
-given_none : (t : Transcript) → t.shown.items ≡ [] → (c : ℕ) → [] ≡ shown_to (transcript_of t) c
+pub given_none : (t : Transcript) → t.shown.items ≡ [] → (c : ℕ) → [] ≡ shown_to (transcript_of t) c
 given_none t none c = ap (λ (l : List Output). shown_to (map shown_by l) c) (sym none)
 
-handed_none : (t : Transcript) → t.shown.items ≡ [] → AreHandedInTurn (transcript_of t) []
+pub handed_none : (t : Transcript) → t.shown.items ≡ [] → AreHandedInTurn (transcript_of t) []
 handed_none t none = subst (λ (l : List Output). AreHandedInTurn (map shown_by l) []) (sym none) none_handed
   where
     none_handed : AreHandedInTurn [] []
@@ -381,12 +260,14 @@ nothing_done first refused reloads events t none = record {
   streams = λ c. (said_in events c, refl);
   given_is = given_none t none;
   order = handed_none t none;
+  count = 0;
+  through = inl refl;
   run = tt;
   world = inl refl;
 }
 
 -- new servers, on which is what the script puts there
-pub begins :
+abbrev pub begins :
     NothingStands → (first : Route) (refused : List Bool) (reloads : List Reload) (events : List Event) (n : ℕ) (a : Runner) (s t : ScriptServers) (x : Transcript)
     → ((u : ScriptServers) → turn_of u ≡ 0 → IsBegin first (kept_of a u)) → IsNew n s → caches_of t ≡ put_all_on events (caches_of s) → t ≡ record s { caches = t.caches } → first_bad n (map scripted_of events) ≡ None → x.shown.items ≡ []
     → HasCome first refused reloads (map scripted_of events) 0 (map scripted_of events) (transcript_of x) (kept_of a t)

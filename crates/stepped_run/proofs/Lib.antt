@@ -2,3 +2,4 @@ pub mod Steps
 pub mod Held
 pub mod Come
 pub mod Worlds
+pub mod Stood

@@ -1,11 +1,11 @@
 -- What an event makes of a log, and what is handed out after it.
 use Rattle.std.specs.Prelude.{ℤ, Some, Option, ◌⊎◌}
-use Rattle.std.proofs.Common.{◌≡◌, ℕ, zero, suc, ◌+◌, ◌≤◌, Bool, true, false, cond, nat_eq, List, [], ◌∷◌, ◌++◌, length, map, take, drop, inl, inr, arith, refl, sym, ap, ◌∙◌, subst, append_assoc, append-nil}
+use Rattle.std.proofs.Common.{◌≡◌, ℕ, zero, suc, ◌+◌, ◌<◌, ◌≤◌, Bool, true, false, cond, nat_eq, List, [], ◌∷◌, ◌++◌, length, map, take, drop, inl, inr, arith, refl, sym, ap, ◌∙◌, subst, append_assoc, append-nil}
 use Rattle.std.proofs.lemmas.List.{take-append-drop, map-append, nil_from_length}
-use Rattle.std.proofs.lemmas.Bool.{eqb-true}
+use Rattle.std.proofs.lemmas.Bool.{eqb-true, ne_eqb}
 use Rattle.mc_types.specs.Items.{Item}
 use Rattle.mc_runs.specs.Log.{Shown}
-use Rattle.mc_runs.specs.Overlap.{Entry, given_of, run_of}
+use Rattle.mc_runs.specs.Overlap.{Entry, given_of, output_of, run_of}
 use Rattle.mc_runs.specs.OverlapStream.{stream_of}
 use Rattle.proxy_core.specs.CoreState.{dialect}
 use Rattle.route_tree.specs.Route.{Route}
@@ -19,14 +19,14 @@ use Rattle.script_servers.specs.Servers.{caches_of, turn_of, moment_of, named_of
 use Rattle.stepped_log.specs.Laws.{LossesGoOn}
 use Rattle.script_servers.specs.declared.servers.ScriptServers.{ScriptServers}
 use Rattle.stepped_log.specs.Results.{CallResult, NumberedCall, call_of, calls_of}
-use Rattle.stepped_log.specs.Standing.{Kept, Stands, GoesOn, GoesOnFed}
+use Rattle.stepped_log.specs.Standing.{Kept, Stands, GoesOn, GoesOnFed, GoesOnGiven, LeavesAsMuch}
 use Rattle.stepped_log.proofs.Counted.{none_more}
 use Rattle.core_run.specs.Running.{kept_of, Moves, MovesAt, MovesByResults, MovesFed, MovesGiven}
 use Rattle.core_run.proofs.Running.{given_then}
 use Rattle.core_run.specs.declared.runner.Runner.{Runner}
 use Rattle.stepped_run.specs.Driving.{said_by, shown_to, IsHanded, AreHandedInTurn}
 use Rattle.stepped_run.specs.World.{Changes}
-use Rattle.stepped_run.specs.Stepping.{HasCalls, FedBy, AreFit, GoesOnSaid, Befalls, GoesOnShown, HandsOut, HandsSome}
+use Rattle.stepped_run.specs.Stepping.{HasCalls, FedBy, AreFit, IsHeard, LeavesBy, GoesOnSaid, Befalls, IsGivenAll, GoesOnShown, HandsOut, HandsSome}
 
 -- ---- bytes that a client says
 
@@ -129,9 +129,9 @@ cut_joins bytes before rest cut more n is front back =
 
 -- ---- events
 
-said : (event : Scripted) (client : ℕ) (bytes : List ℕ) → ((c : ℕ) → said_by event c ≡ cond (nat_eq client c) bytes []) → (opening : ℕ → List ℕ → Option Item) (tree : ℕ → Route) (log : List (Entry dialect)) (k : Kept) → (g : GoesOnFed opening tree log client bytes k) → GoesOnSaid opening tree log event k
-said event client bytes says opening tree log k g =
-    record { more = g.more; stands = g.stands; streams = λ c. g.streams c ∙ after_it (nat_eq client c) (stream_of log c) bytes ∙ ap (λ xs. stream_of log c ++ xs) (sym (says c)); given = g.given }
+said : (event : Scripted) (client : ℕ) (bytes : List ℕ) → ((c : ℕ) → said_by event c ≡ cond (nat_eq client c) bytes []) → (opening : ℕ → List ℕ → Option Item) (tree : ℕ → Route) (log : List (Entry dialect)) (k : Kept) → (g : GoesOnFed opening tree log client bytes k) → LeavesBy event log (g.more ++ log) → GoesOnSaid opening tree log event k
+said event client bytes says opening tree log k g left =
+    record { more = g.more; stands = g.stands; streams = λ c. g.streams c ∙ after_it (nat_eq client c) (stream_of log c) bytes ∙ ap (λ xs. stream_of log c ++ xs) (sym (says c)); given = g.given; left = left }
 
 pub piece_said : (client : ℕ) (bytes : List ℕ) (a b : Runner) (s t : ScriptServers) → FedBy client bytes a s b t → Befalls (Piece client bytes) a s b t
 unfolding said
@@ -142,7 +142,7 @@ piece_said client bytes a b s t m =
       results = m.results;
       given = m.given;
       fit = tt;
-      goes = λ opening tree log stands. let p = m.goes opening tree log stands in (said (Piece client bytes) client bytes (λ c. refl) opening tree log (kept_of b t) p.0, p.1);
+      goes = λ opening tree log stands. let p = m.goes opening tree log stands in (said (Piece client bytes) client bytes (λ c. refl) opening tree log (kept_of b t) p.0 tt, p.1);
     }
 
 pub add_said : (client : ℕ) (bytes : List ℕ) (a b : Runner) (s : ScriptServers) → MovesFed client bytes a s b s → Befalls (Add client bytes) a s b s
@@ -155,13 +155,13 @@ add_said client bytes a b s m =
       given = refl;
       fit = refl;
       goes = λ opening tree log stands.
-          let g = m opening tree log stands in (said (Add client bytes) client bytes (λ c. refl) opening tree log (kept_of b s) g, none_more opening tree log (kept_of a s) (kept_of b s) stands refl g.more g.stands);
+          let g = m opening tree log stands in (said (Add client bytes) client bytes (λ c. refl) opening tree log (kept_of b s) g tt, none_more opening tree log (kept_of a s) (kept_of b s) stands refl g.more g.stands);
     }
 
 -- an event that says nothing
-quiet : (event : Scripted) → ((c : ℕ) → said_by event c ≡ []) → (opening : ℕ → List ℕ → Option Item) (tree : ℕ → Route) (log : List (Entry dialect)) (k : Kept) → (g : GoesOn opening tree log k) → GoesOnSaid opening tree log event k
-quiet event says opening tree log k g =
-    record { more = g.more; stands = g.stands; streams = λ c. g.streams c ∙ sym (append-nil (stream_of log c)) ∙ ap (λ xs. stream_of log c ++ xs) (sym (says c)); given = g.given }
+quiet : (event : Scripted) → ((c : ℕ) → said_by event c ≡ []) → (opening : ℕ → List ℕ → Option Item) (tree : ℕ → Route) (log : List (Entry dialect)) (k : Kept) → (g : GoesOn opening tree log k) → LeavesBy event log (g.more ++ log) → GoesOnSaid opening tree log event k
+quiet event says opening tree log k g left =
+    record { more = g.more; stands = g.stands; streams = λ c. g.streams c ∙ sym (append-nil (stream_of log c)) ∙ ap (λ xs. stream_of log c ++ xs) (sym (says c)); given = g.given; left = left }
 
 -- a result is asked for
 pub result_asked : (server : ℕ) (a b : Runner) (s t : ScriptServers) → MovesAt server a s b t → Befalls (Result server) a s b t
@@ -173,11 +173,16 @@ result_asked server a b s t m =
       results = m.0;
       given = m.2.given;
       fit = m.1;
-      goes = λ opening tree log stands. let q = m.2.goes opening tree log stands in (quiet (Result server) (λ c. refl) opening tree log (kept_of b t) q.goes, q.calls);
+      goes = λ opening tree log stands. let q = m.2.goes opening tree log stands in (quiet (Result server) (λ c. refl) opening tree log (kept_of b t) q.goes tt, q.calls);
     }
 
+-- each log goes on, and clients have as much to do as the event leaves them
+abbrev MovesQuietly : Scripted → Runner → ScriptServers → ScriptServers → Type 0
+MovesQuietly event a s t =
+    (opening : ℕ → List ℕ → Option Item) (tree : ℕ → Route) (log : List (Entry dialect)) → Stands opening tree log (kept_of a s) → (g : GoesOn opening tree log (kept_of a t)) × LeavesBy event log (g.more ++ log)
+
 -- an event that changes the servers, and for which no call has a result
-pub changed : (event : Scripted) → ((c : ℕ) → said_by event c ≡ []) → AreFit event [] → (a : Runner) (s t : ScriptServers) → turn_of t ≡ turn_of s → Changes event s t → Moves a s a t → Befalls event a s a t
+pub changed : (event : Scripted) → ((c : ℕ) → said_by event c ≡ []) → AreFit event [] → (a : Runner) (s t : ScriptServers) → turn_of t ≡ turn_of s → Changes event s t → MovesQuietly event a s t → Befalls event a s a t
 unfolding quiet
 changed event says fit a s t turn changes m =
     record {
@@ -187,7 +192,9 @@ changed event says fit a s t turn changes m =
       given = refl;
       fit = fit;
       goes = λ opening tree log stands.
-          let g = m opening tree log stands in (quiet event says opening tree log (kept_of a t) g, none_more opening tree log (kept_of a s) (kept_of a t) stands turn g.more g.stands);
+          let p = m opening tree log stands in
+          let g = p.0 in
+          (quiet event says opening tree log (kept_of a t) g p.1, none_more opening tree log (kept_of a s) (kept_of a t) stands turn g.more g.stands);
     }
 
 -- a log stands whatever servers that hold the same are kept
@@ -209,19 +216,33 @@ stands_as opening tree log k servers st =
       last = st.last;
     }
 
-stays_as : (a : Runner) (s t : ScriptServers) → kept_of a t ≡ record (kept_of a s) { servers = t } → Moves a s a t
-stays_as a s t same opening tree log stands =
-    record { more = []; stands = subst (λ k. Stands opening tree log k) (sym same) (stands_as opening tree log (kept_of a s) t stands); streams = λ c. refl; given = λ c. refl }
+-- nothing more is to be done for clients
+leaves_same : (event : Scripted) (log : List (Entry dialect)) → LeavesBy event log log
+leaves_same (Piece client bytes) log = tt
+leaves_same (Add client bytes) log = tt
+leaves_same (Result server) log = tt
+leaves_same (Fail turn manner) log = record { front = λ c. refl; queue = λ c. refl; output = λ c. refl; owner = λ n. refl }
+leaves_same (Hold server key content) log = record { front = λ c. refl; queue = λ c. refl; output = λ c. refl; owner = λ n. refl }
+leaves_same (At turn loss) log = record { front = λ c. refl; queue = λ c. refl; output = λ c. refl; owner = λ n. refl }
+leaves_same (Now loss) log = record { front = λ c. refl; queue = λ c. refl; output = λ c. refl; owner = λ n. refl }
+leaves_same (Moment moment) log = record { front = λ c. refl; queue = λ c. refl; output = λ c. refl; owner = λ n. refl }
+
+stays_as : (event : Scripted) (a : Runner) (s t : ScriptServers) → kept_of a t ≡ record (kept_of a s) { servers = t } → MovesQuietly event a s t
+stays_as event a s t same opening tree log stands = (
+  record { more = []; stands = subst (λ k. Stands opening tree log k) (sym same) (stands_as opening tree log (kept_of a s) t stands); streams = λ c. refl; given = λ c. refl },
+  leaves_same event log,
+)
 
 -- nothing is put on servers any more
 pub held_before : (server : ℕ) (key content : List ℕ) (a : Runner) (s : ScriptServers) → Befalls (Hold server key content) a s a s
 held_before server key content a s =
-    changed (Hold server key content) (λ c. refl) refl a s s refl refl (λ opening tree log stands. record { more = []; stands = stands; streams = λ c. refl; given = λ c. refl })
+    changed (Hold server key content) (λ c. refl) refl a s s refl refl
+    (λ opening tree log stands. (record { more = []; stands = stands; streams = λ c. refl; given = λ c. refl }, leaves_same (Hold server key content) log))
 
 -- a failure is named
 pub named : (turn : ℕ) (manner : Manner) (a : Runner) (s t : ScriptServers) → ((n : ℕ) → named_of t n ≡ cond (nat_eq (turn_of s + turn) n) (Some manner) (named_of s n)) → t ≡ record s { failures = t.failures } → Befalls (Fail turn manner) a s a t
 named turn manner a s t names rest =
-    changed (Fail turn manner) (λ c. refl) refl a s t (ap turn_of rest) (names, rest) (stays_as a s t (ap (λ x. record (kept_of a x) { servers = t }) rest))
+    changed (Fail turn manner) (λ c. refl) refl a s t (ap turn_of rest) (names, rest) (stays_as (Fail turn manner) a s t (ap (λ x. record (kept_of a x) { servers = t }) rest))
 
 map_if : (b : Bool) (xs : List Loss) (loss : Loss) → map loss_of (cond b (xs ++ loss ∷ []) xs) ≡ cond b (map loss_of xs ++ loss_of loss ∷ []) (map loss_of xs)
 map_if true xs loss = map-append loss_of xs (loss ∷ [])
@@ -230,11 +251,11 @@ map_if false xs loss = refl
 -- a loss is named
 pub loss_named : (turn : ℕ) (loss : Loss) (a : Runner) (s t : ScriptServers) → ((n : ℕ) → lost_of t n ≡ cond (nat_eq (turn_of s + turn) n) (lost_of s n ++ loss ∷ []) (lost_of s n)) → t ≡ record s { losses = t.losses } → Befalls (At turn (loss_of loss)) a s a t
 loss_named turn loss a s t losses rest =
-    changed (At turn (loss_of loss)) (λ c. refl) refl a s t (ap turn_of rest) ((λ n. ap (map loss_of) (losses n) ∙ map_if (nat_eq (turn_of s + turn) n) (lost_of s n) loss), rest) (stays_as a s t (ap (λ x. record (kept_of a x) { servers = t }) rest))
+    changed (At turn (loss_of loss)) (λ c. refl) refl a s t (ap turn_of rest) ((λ n. ap (map loss_of) (losses n) ∙ map_if (nat_eq (turn_of s + turn) n) (lost_of s n) loss), rest) (stays_as (At turn (loss_of loss)) a s t (ap (λ x. record (kept_of a x) { servers = t }) rest))
 
 -- the time changes
 pub timed : (moment : ℤ) (a : Runner) (s t : ScriptServers) → moment_of t ≡ moment → t ≡ record s { moment = t.moment } → Befalls (Moment moment) a s a t
-timed moment a s t now rest = changed (Moment moment) (λ c. refl) refl a s t (ap turn_of rest) (now, rest) (stays_as a s t (ap (λ x. record (kept_of a x) { servers = t }) rest))
+timed moment a s t now rest = changed (Moment moment) (λ c. refl) refl a s t (ap turn_of rest) (now, rest) (stays_as (Moment moment) a s t (ap (λ x. record (kept_of a x) { servers = t }) rest))
 
 -- something is lost
 pub lost :
@@ -260,7 +281,6 @@ pub shown_append : (before more : List Shown) (c : ℕ) → shown_to (before ++ 
 shown_append [] more c = refl
 shown_append (x ∷ before) more c = ap (λ xs. cond (nat_eq x.client c) x.bytes [] ++ xs) (shown_append before more c) ∙ sym (append_assoc (cond (nat_eq x.client c) x.bytes []) (shown_to before c) (shown_to more c))
 
--- nothing is handed out
 -- what was handed out so was so also in a longer log
 pub handed_on : (given : List Shown) (more log : List (Entry dialect)) → AreHandedInTurn given log → AreHandedInTurn given (more ++ log)
 handed_on given more log o n le =
@@ -285,25 +305,54 @@ handed_one before x log o given n le = elim (firsts before x n) [
   | inr some ↦ subst (IsHanded log) (sym some.1) (o n some.0)
 ]
 
-pub hands_nothing : (shown : List Shown) (a : Runner) → HandsOut shown shown a a
-hands_nothing shown a s opening tree log stands = record { more = []; stands = stands; streams = λ c. refl; given = λ h. h; order = λ h o. o }
+pub hands_nothing : (AreGiven : ℕ → Type 0) → ((c : ℕ) → AreGiven c → ⊥) → (shown : List Shown) (a : Runner) → HandsOut AreGiven shown shown a a
+hands_nothing AreGiven none shown a s opening tree log stands =
+    record {
+      more = [];
+      stands = stands;
+      streams = λ c. refl;
+      given = λ h. h;
+      order = λ h o. o;
+      left = record { front = λ c. refl; queue = λ c. refl; output = λ c. refl; owner = λ n. refl };
+      kept = λ c h. h;
+      all = λ c h. absurd (none c h);
+      longer = ([], sym (append-nil shown));
+    }
 
 -- first this, then that
-pub hands_then : (x y z : List Shown) (a b d : Runner) → HandsOut x y a b → HandsOut y z b d → HandsOut x z a d
-hands_then x y z a b d m n s opening tree log stands =
+pub hands_then : (First Then All : ℕ → Type 0) → ((c : ℕ) → All c → First c ⊎ Then c) → (x y z : List Shown) (a b d : Runner) → HandsOut First x y a b → HandsOut Then y z b d → HandsOut All x z a d
+hands_then First Then All each x y z a b d m n s opening tree log stands =
     let g = m s opening tree log stands in
     let h = n s opening tree (g.more ++ log) g.stands in
     let joined = append_assoc h.more g.more log in
+    let all : (c : ℕ) → All c → IsGivenAll (h.more ++ (g.more ++ log)) c = λ c is. elim (each c is) [
+      | inl one ↦ h.kept c (g.all c one)
+      | inr other ↦ h.all c other
+    ]
+    in
     record {
       more = h.more ++ g.more;
       stands = subst (λ l. Stands opening tree l (kept_of d s)) (sym joined) h.stands;
       streams = λ c. ap (λ l. stream_of l c) joined ∙ h.streams c ∙ g.streams c;
       given = λ is c. ap (λ l. given_of l c) joined ∙ h.given (g.given is) c;
       order = λ is o. subst (AreHandedInTurn z) (sym joined) (h.order (g.given is) (g.order is o));
+      left = subst (LeavesAsMuch log) (sym joined)
+          (record { front = λ c. h.left.front c ∙ g.left.front c; queue = λ c. h.left.queue c ∙ g.left.queue c; output = λ c. h.left.output c ∙ g.left.output c; owner = λ n. h.left.owner n ∙ g.left.owner n });
+      kept = λ c is. subst (λ l. IsGivenAll l c) (sym joined) (h.kept c (g.kept c is));
+      all = λ c is. subst (λ l. IsGivenAll l c) (sym joined) (all c is);
+      longer = (g.longer.0 ++ h.longer.0, h.longer.1 ∙ ap (λ l. l ++ h.longer.0) g.longer.1 ∙ append_assoc x g.longer.0 h.longer.0);
     }
 
+-- who was given all stays so where a client is given its output
+kept_one : (client : ℕ) (bytes : List ℕ) (opening : ℕ → List ℕ → Option Item) (tree : ℕ → Route) (log : List (Entry dialect)) (k : Kept) (g : GoesOnGiven opening tree log client bytes k) (c : ℕ) → IsGivenAll log c → IsGivenAll (g.more ++ log) c
+kept_one client bytes opening tree log k g c is = by (nat_eq client c) refl
+  where
+    by : (b : Bool) → nat_eq client c ≡ b → given_of (g.more ++ log) c ≡ output_of (g.more ++ log) c
+    by true e = subst (λ d. given_of (g.more ++ log) d ≡ output_of (g.more ++ log) d) (eqb-true client c e) g.all
+    by false e = g.given c ∙ ap (λ b. cond b (given_of log c ++ bytes) (given_of log c)) e ∙ is ∙ sym (g.left.output c)
+
 -- a client is given its output, which is empty
-pub given_nothing : (client : ℕ) (bytes : List ℕ) (shown : List Shown) (a b : Runner) → bytes ≡ [] → ((s : ScriptServers) → MovesGiven client bytes a s b s) → HandsOut shown shown a b
+pub given_nothing : (client : ℕ) (bytes : List ℕ) (shown : List Shown) (a b : Runner) → bytes ≡ [] → ((s : ScriptServers) → MovesGiven client bytes a s b s) → HandsOut (λ c. client ≡ c) shown shown a b
 given_nothing client bytes shown a b none m s opening tree log stands =
     let g = m s opening tree log stands in
     record {
@@ -312,10 +361,15 @@ given_nothing client bytes shown a b none m s opening tree log stands =
       streams = g.streams;
       given = λ is c. g.given c ∙ ap (λ xs. cond (nat_eq client c) (given_of log c ++ xs) (given_of log c)) none ∙ sym (same_twice (nat_eq client c) (given_of log c)) ∙ is c;
       order = λ is o. handed_on shown g.more log o;
+      left = g.left;
+      kept = λ c is. kept_one client bytes opening tree log (kept_of b s) g c is;
+      all = λ c same. subst (IsGivenAll (g.more ++ log)) same g.all;
+      longer = ([], sym (append-nil shown));
     }
 
 -- and where it isn't, it is handed out
-pub given_more : (client : ℕ) (bytes : List ℕ) (before after : List Shown) (a b : Runner) → after ≡ before ++ record { client = client; bytes = bytes } ∷ [] → ((s : ScriptServers) → MovesGiven client bytes a s b s) → HandsOut before after a b
+pub given_more :
+    (client : ℕ) (bytes : List ℕ) (before after : List Shown) (a b : Runner) → after ≡ before ++ record { client = client; bytes = bytes } ∷ [] → ((s : ScriptServers) → MovesGiven client bytes a s b s) → HandsOut (λ c. client ≡ c) before after a b
 given_more client bytes before after a b more m s opening tree log stands =
     let g = m s opening tree log stands in
     let one : Shown = record { client = client; bytes = bytes } in
@@ -329,14 +383,36 @@ given_more client bytes before after a b more m s opening tree log stands =
       streams = g.streams;
       given = λ is c. given is c ∙ ap (λ l. shown_to l c) (sym more);
       order = λ is o. subst (λ l. AreHandedInTurn l (g.more ++ log)) (sym more) (handed_one before one (g.more ++ log) (handed_on before g.more log o) (given is));
+      left = g.left;
+      kept = λ c is. kept_one client bytes opening tree log (kept_of b s) g c is;
+      all = λ c same. subst (IsGivenAll (g.more ++ log)) same g.all;
+      longer = (one ∷ [], more);
     }
 
 -- so far
-pub hands_some : (before after : List Shown) (a b : Runner) → HandsOut before after a b → HandsSome before after a
-hands_some before after a b m s opening tree log stands = (b, m s opening tree log stands)
+pub hands_some : (AreGiven : ℕ → Type 0) (before after : List Shown) (a b : Runner) → HandsOut AreGiven before after a b → HandsSome before after a
+hands_some AreGiven before after a b m s opening tree log stands =
+    let g = m s opening tree log stands in
+    (b, record { more = g.more; stands = g.stands; streams = g.streams; given = g.given; order = g.order; left = g.left; kept = g.kept; all = λ c none. absurd none; longer = g.longer })
 
 pub one_more_shown : (xs ys : List Output) (client : ℕ) (o : Output) → ys ≡ xs ++ o ∷ [] → map shown_by ys ≡ map shown_by xs ++ shown_by o ∷ []
 one_more_shown xs ys client o is = ap (map shown_by) is ∙ map-append shown_by xs (o ∷ [])
 
 pub nothing_new : (xs bytes : List ℕ) (b : Bool) → xs ≡ bytes → b ≡ nat_eq (length xs) 0 → b ≡ true → bytes ≡ []
 nothing_new xs bytes b same is none = nil_from_length bytes (ap length (sym same) ∙ eqb-true (length xs) 0 (sym is ∙ none))
+
+-- ---- clients that are heard
+
+-- who was opened for an event said something in it, and nobody else
+pub heard_of : (event : Scripted) (client : ℕ) (bytes : List ℕ) (a b : Runner) → ((c : ℕ) → said_by event c ≡ cond (nat_eq client c) bytes []) → (client < b.clients) × (a.clients ≤ b.clients) → IsHeard event a b
+heard_of event client bytes a b says opened =
+    record {
+      unheard = λ c le.
+          let lt = opened.0 in
+          let more = opened.1 in
+          (omega (arith, more, le), says c ∙ ap (λ b. cond b bytes []) (ne_eqb client c (λ same. absurd (omega (arith, lt, le, same)))));
+    }
+
+-- in an event that says nothing nobody said anything
+pub heard_more : (event : Scripted) (a b : Runner) → ((c : ℕ) → said_by event c ≡ []) → b.clients ≡ a.clients → IsHeard event a b
+heard_more event a b says same = record { unheard = λ c le. (omega (arith, same, le), says c) }

@@ -2,7 +2,8 @@
 use Rattle.std.specs.Prelude.{◌⊎◌, ◌≡◌, ℕ, zero, suc, ◌≤◌, Bool, true, false, List, [], ◌∷◌, ◌++◌, length, map, take, Option, Some, None, slice_get, if◌then◌else◌, nat_eq}
 use Rattle.std.specs.List.{All}
 use Rattle.mc_runs.specs.Log.{Shown}
-use Rattle.mc_runs.specs.Overlap.{Entry, Follows, run_of, given_of}
+use Rattle.mc_runs.specs.Overlap.{Entry, Follows, run_of, front_of, queue_of, output_of, given_of, owner_of}
+use Rattle.mc_runs.specs.Protocol.{IsStuck}
 use Rattle.mc_runs.specs.OverlapStream.{stream_of}
 use Rattle.mc_runs.specs.Sharing.{Run, calls_in, commands_in}
 use Rattle.mc_runs.specs.SharingStale.{stale_in}
@@ -58,6 +59,69 @@ pub record IsHanded (log : List (Entry dialect)) (outputs : List Shown) : Type 0
 abbrev pub AreHandedInTurn : List Shown → List (Entry dialect) → Type 0
 AreHandedInTurn given log = (n : ℕ) → n ≤ length given → IsHanded log (take n given)
 
+-- ---- where nothing is left to do
+
+-- calls may be out after an event: what is added stays out, and so may what comes of a result by hand; after a piece none is
+abbrev pub may_be_out : Scripted → Bool → Bool
+may_be_out (Piece client bytes) before = false
+may_be_out (Add client bytes) before = true
+may_be_out (Result server) before = true
+may_be_out (Fail turn manner) before = before
+may_be_out (Hold server key content) before = before
+may_be_out (At turn loss) before = before
+may_be_out (Now loss) before = before
+may_be_out (Moment moment) before = before
+
+-- so may they after these events, one after another
+abbrev pub leaves_out : Bool → List Scripted → Bool
+leaves_out before [] = before
+leaves_out before (event ∷ events) = leaves_out (may_be_out event before) events
+
+-- nothing is left to do for a client: no whole message of it, no command without a reply, no output that it wasn't given
+pub record IsDoneFor (log : List (Entry dialect)) (c : ℕ) : Type 0 where
+  pub stuck : IsStuck dialect (front_of log c).place
+  pub shown : queue_of log c ≡ []
+  pub given : given_of log c ≡ output_of log c
+
+-- nor for any client that said something in these events, and no command is under way
+pub record IsSettled (events : List Scripted) (log : List (Entry dialect)) : Type 0 where
+  pub clients : (c : ℕ) → (said_in events c ≡ []) ⊎ IsDoneFor log c
+  pub free : (n : ℕ) → owner_of log n ≡ None
+
+-- a part of the log, after the first events of a script: clients had said what these say, and were given the first outputs; servers were what they and the results made of them; and unless calls may be out nothing was left to do
+pub record IsThrough (events done : List Scripted) (log : List (Entry dialect)) (given : List Shown) : Type 0 where
+  pub newer : List (Entry dialect)
+  pub older : List (Entry dialect)
+  pub log_is : log ≡ newer ++ older
+  pub shown : ℕ
+  pub within : shown ≤ length given
+  pub streams : (c : ℕ) → stream_of older c ≡ said_in done c
+  pub given_is : (c : ℕ) → given_of older c ≡ shown_to (take shown given) c
+  pub servers : ScriptServers
+  pub world : World events done older servers
+  pub settled : leaves_out false done ≡ false → IsSettled done older
+
+-- there is such a part after each of so many events
+abbrev pub AreThrough : List Scripted → ℕ → List (Entry dialect) → List Shown → Type 0
+AreThrough events count log given = (n : ℕ) → n ≤ count → IsThrough events (take n events) log given
+
+-- ---- reloads' marks
+
+-- a part of the log, before a reload: clients had said what the events before its place say, and were given so many outputs
+pub record IsMarked (events : List Scripted) (log : List (Entry dialect)) (given : List Shown) (place mark : ℕ) : Type 0 where
+  pub newer : List (Entry dialect)
+  pub older : List (Entry dialect)
+  pub log_is : log ≡ newer ++ older
+  pub within : mark ≤ length given
+  pub streams : (c : ℕ) → stream_of older c ≡ said_in (take place events) c
+  pub given_is : (c : ℕ) → given_of older c ≡ shown_to (take mark given) c
+
+-- so it is with each reload that has a mark
+abbrev pub AreMarked : List Scripted → List (Entry dialect) → List Shown → List Reload → List ℕ → Type 0
+AreMarked events log given [] marks = Unit {0}
+AreMarked events log given (r ∷ rs) [] = Unit {0}
+AreMarked events log given (r ∷ rs) (mark ∷ marks) = IsMarked events log given r.at mark × AreMarked events log given rs marks
+
 -- ---- the trees that are loaded
 
 -- the loaded trees after one more reload, the latest first: a refused one loads none
@@ -107,8 +171,8 @@ abbrev pub CameInTurn : List Bool → List Reload → List Scripted → List (En
 CameInTurn refused reloads events log zero loads = loads ≡ []
 CameInTurn refused reloads events log (suc n) loads = CameSo (is_refused (slice_get refused n)) (slice_get reloads n) events log loads (CameInTurn refused reloads events log n)
 
--- there is one log of overlapping commands from what the script put on the servers, each by the tree that was loaded last before it began: its clients say what the script says and are given what was handed out, in its order, and the report counts what is in it
-pub record DrivesStepped (first : Route) (refused : List Bool) (reloads : List Reload) (events : List Scripted) (given : List Shown) (report : Report) : Type 0 where
+-- there is one log of overlapping commands from what the script put on the servers, each by the tree that was loaded last before it began: its clients say what the script says, event after event, and are given what was handed out, in its order; reloads have their marks, nothing is left to do in the end, and the report counts what is in it
+pub record DrivesStepped (first : Route) (refused : List Bool) (reloads : List Reload) (events : List Scripted) (given : List Shown) (marks : List ℕ) (report : Report) : Type 0 where
   pub log : List (Entry dialect)
   -- each loaded tree with how many commands had begun, the latest first
   pub loads : List (ℕ × Route)
@@ -118,6 +182,9 @@ pub record DrivesStepped (first : Route) (refused : List Bool) (reloads : List R
   pub streams : (c : ℕ) → stream_of log c ≡ said_in events c
   pub given_is : (c : ℕ) → given_of log c ≡ shown_to given c
   pub order : AreHandedInTurn given log
+  pub through : AreThrough events (length events) log given
+  pub marked : AreMarked events log given reloads marks
+  pub settled : IsSettled events log
   pub commands : report.commands ≡ replied_in (run_of log)
   pub calls : report.calls ≡ calls_in (run_of log)
   pub run : RunsBy first loads events log
@@ -138,6 +205,9 @@ pub record StepsPart (first : Route) (refused : List Bool) (reloads : List Reloa
   pub streams : (c : ℕ) → (rest : List ℕ) × (said_in events c ≡ stream_of log c ++ rest)
   pub given_is : (c : ℕ) → given_of log c ≡ shown_to given c
   pub order : AreHandedInTurn given log
+  -- so many events came before it
+  pub count : ℕ
+  pub through : (log ≡ []) ⊎ AreThrough events count log given
   pub run : RunsBy first loads events log
   pub world : (log ≡ []) ⊎ HasWorld events log
 

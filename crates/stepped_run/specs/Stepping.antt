@@ -2,7 +2,7 @@
 use Rattle.std.specs.Prelude.{◌≡◌, ℕ, ◌<◌, ◌≤◌, Bool, true, false, List, [], ◌++◌, length, map, drop, Option, IfSome, slice_get}
 use Rattle.mc_types.specs.Items.{Item}
 use Rattle.mc_runs.specs.Log.{Shown}
-use Rattle.mc_runs.specs.Overlap.{Entry, given_of, run_of}
+use Rattle.mc_runs.specs.Overlap.{Entry, given_of, output_of, run_of}
 use Rattle.mc_runs.specs.OverlapStream.{stream_of}
 use Rattle.route_tree.specs.Route.{Route}
 use Rattle.proxy_core.specs.CoreState.{dialect}
@@ -11,11 +11,22 @@ use Rattle.fleet_run.specs.Scripted.{Scripted, Piece, Add, Result, Fail, Hold, A
 use Rattle.fleet_run.specs.Opening.{opening_of}
 use Rattle.script_servers.specs.declared.servers.ScriptServers.{ScriptServers}
 use Rattle.stepped_log.specs.Results.{CallResult, AreGiven, call_of, calls_of}
-use Rattle.stepped_log.specs.Standing.{Kept, Stands, GoesOnFed, tree_by}
-use Rattle.core_run.specs.Running.{kept_of, IsLoadedBy, AreOfOne}
+use Rattle.stepped_log.specs.Standing.{Kept, Stands, GoesOnFed, LeavesAsMuch, tree_by}
+use Rattle.core_run.specs.Running.{kept_of, IsLoadedBy, AreOfOne, IsAtRest}
 use Rattle.core_run.specs.declared.runner.Runner.{Runner}
 use Rattle.stepped_run.specs.World.{Changes, World}
-use Rattle.stepped_run.specs.Driving.{said_by, said_in, shown_to, AreHandedInTurn, trees_loaded, loaded_trees, CameInTurn}
+use Rattle.stepped_run.specs.Driving.{said_by, said_in, shown_to, AreHandedInTurn, trees_loaded, loaded_trees, CameInTurn, leaves_out, IsSettled, AreThrough, AreMarked}
+
+-- an event that asks clients nothing leaves as much to do as there was
+abbrev pub LeavesBy : Scripted → List (Entry dialect) → List (Entry dialect) → Type 0
+LeavesBy (Piece client bytes) before after = Unit {0}
+LeavesBy (Add client bytes) before after = Unit {0}
+LeavesBy (Result server) before after = Unit {0}
+LeavesBy (Fail turn manner) before after = LeavesAsMuch before after
+LeavesBy (Hold server key content) before after = LeavesAsMuch before after
+LeavesBy (At turn loss) before after = LeavesAsMuch before after
+LeavesBy (Now loss) before after = LeavesAsMuch before after
+LeavesBy (Moment moment) before after = LeavesAsMuch before after
 
 -- the log goes on, and clients said what the event says
 pub record GoesOnSaid (opening : ℕ → List ℕ → Option Item) (tree : ℕ → Route) (log : List (Entry dialect)) (event : Scripted) (k : Kept) : Type 0 where
@@ -23,6 +34,7 @@ pub record GoesOnSaid (opening : ℕ → List ℕ → Option Item) (tree : ℕ �
   pub stands : Stands opening tree (more ++ log) k
   pub streams : (c : ℕ) → stream_of (more ++ log) c ≡ stream_of log c ++ said_by event c
   pub given : (c : ℕ) → given_of (more ++ log) c ≡ given_of log c
+  pub left : LeavesBy event log (more ++ log)
 
 -- the calls of the run are those of these results, and then those of before
 abbrev pub HasCalls : List CallResult → List (Entry dialect) → List (Entry dialect) → Type 0
@@ -54,23 +66,51 @@ pub record Befalls (event : Scripted) (old : Runner) (before : ScriptServers) (n
   pub fit : AreFit event results
   pub goes : (opening : ℕ → List ℕ → Option Item) (tree : ℕ → Route) (log : List (Entry dialect)) → Stands opening tree log (kept_of old before) → (g : GoesOnSaid opening tree log event (kept_of new after)) × HasCalls results g.more log
 
--- the log goes on, and where clients were given what was handed out before, they are given what is handed out after, in its order
-pub record GoesOnShown (opening : ℕ → List ℕ → Option Item) (tree : ℕ → Route) (log : List (Entry dialect)) (before after : List Shown) (k : Kept) : Type 0 where
+-- clients that weren't opened said nothing in the event
+pub record IsHeard (event : Scripted) (old new : Runner) : Type 0 where
+  pub unheard : (c : ℕ) → new.clients ≤ c → (old.clients ≤ c) × (said_by event c ≡ [])
+
+-- after a piece nothing is left to do but to hand out
+abbrev pub RestsAfter : Scripted → Runner → Type 0
+RestsAfter (Piece client bytes) new = IsAtRest new
+RestsAfter (Add client bytes) new = Unit {0}
+RestsAfter (Result server) new = Unit {0}
+RestsAfter (Fail turn manner) new = Unit {0}
+RestsAfter (Hold server key content) new = Unit {0}
+RestsAfter (At turn loss) new = Unit {0}
+RestsAfter (Now loss) new = Unit {0}
+RestsAfter (Moment moment) new = Unit {0}
+
+-- the client was given all that there was for it
+abbrev pub IsGivenAll : List (Entry dialect) → ℕ → Type 0
+IsGivenAll log c = given_of log c ≡ output_of log c
+
+-- the log goes on, and where clients were given what was handed out before, they are given what is handed out after, in its order; these are given all that there is for them, and nothing else is done
+pub record GoesOnShown (AreGiven : ℕ → Type 0) (opening : ℕ → List ℕ → Option Item) (tree : ℕ → Route) (log : List (Entry dialect)) (before after : List Shown) (k : Kept) : Type 0 where
   pub more : List (Entry dialect)
   pub stands : Stands opening tree (more ++ log) k
   pub streams : (c : ℕ) → stream_of (more ++ log) c ≡ stream_of log c
   pub given : ((c : ℕ) → given_of log c ≡ shown_to before c) → (c : ℕ) → given_of (more ++ log) c ≡ shown_to after c
   pub order : ((c : ℕ) → given_of log c ≡ shown_to before c) → AreHandedInTurn before log → AreHandedInTurn after (more ++ log)
+  pub left : LeavesAsMuch log (more ++ log)
+  pub kept : (c : ℕ) → IsGivenAll log c → IsGivenAll (more ++ log) c
+  pub all : (c : ℕ) → AreGiven c → IsGivenAll (more ++ log) c
+  pub longer : (rest : List Shown) × (after ≡ before ++ rest)
 
 -- each log that stood before goes on so
-abbrev pub HandsOut : List Shown → List Shown → Runner → Runner → Type 0
-HandsOut before after old new =
-    (servers : ScriptServers) (opening : ℕ → List ℕ → Option Item) (tree : ℕ → Route) (log : List (Entry dialect)) → Stands opening tree log (kept_of old servers) → GoesOnShown opening tree log before after (kept_of new servers)
+abbrev pub HandsOut : (ℕ → Type 0) → List Shown → List Shown → Runner → Runner → Type 0
+HandsOut AreGiven before after old new =
+    (servers : ScriptServers) (opening : ℕ → List ℕ → Option Item) (tree : ℕ → Route) (log : List (Entry dialect)) → Stands opening tree log (kept_of old servers) → GoesOnShown AreGiven opening tree log before after (kept_of new servers)
+
+-- to all clients that were opened
+abbrev pub HandsOutAll : List Shown → List Shown → Runner → Runner → Type 0
+HandsOutAll before after old new = HandsOut (λ c. c < old.clients) before after old new
 
 -- so far, until a fault came
 abbrev pub HandsSome : List Shown → List Shown → Runner → Type 0
 HandsSome before after old =
-    (servers : ScriptServers) (opening : ℕ → List ℕ → Option Item) (tree : ℕ → Route) (log : List (Entry dialect)) → Stands opening tree log (kept_of old servers) → (new : Runner) × GoesOnShown opening tree log before after (kept_of new servers)
+    (servers : ScriptServers) (opening : ℕ → List ℕ → Option Item) (tree : ℕ → Route) (log : List (Entry dialect)) → Stands opening tree log (kept_of old servers)
+    → (new : Runner) × GoesOnShown (λ c. ⊥) opening tree log before after (kept_of new servers)
 
 -- so many reloads came, and these events are left: a log stands with the trees loaded, in which clients said what came before and were given what was handed out, and the servers are what those events and the results made of them
 pub record HasCome (first : Route) (refused : List Bool) (reloads : List Reload) (events : List Scripted) (loaded : ℕ) (left : List Scripted) (given : List Shown) (k : Kept) : Type 0 where
@@ -86,16 +126,26 @@ pub record HasCome (first : Route) (refused : List Bool) (reloads : List Reload)
   pub done_is : events ≡ done ++ left
   pub world : World events done log k.servers
 
+-- and so it stood after each event: clients that weren't opened said nothing yet, and unless calls may be out nothing is left to do
+pub record HasStood (first : Route) (refused : List Bool) (reloads : List Reload) (events : List Scripted) (loaded : ℕ) (left : List Scripted) (given : List Shown) (marks : List ℕ) (clients : ℕ) (k : Kept) : Type 0 where
+  pub come : HasCome first refused reloads events loaded left given k
+  pub through : AreThrough events (length come.done) come.log given
+  pub settled : leaves_out false come.done ≡ false → IsSettled come.done come.log
+  pub heard : (c : ℕ) → clients ≤ c → said_in come.done c ≡ []
+  pub marked : AreMarked events come.log given reloads marks
+  pub counted : length marks ≡ loaded
+
 -- a reload's tree is loaded, unless it is refused
 abbrev pub TakesUp : Bool → Route → Runner → Runner → Type 0
 TakesUp true tree old new = new ≡ old
 TakesUp false tree old new = (servers : ScriptServers) → IsLoadedBy tree old servers new servers
 
--- a script has come from these reloads to those, before the event of this place
-abbrev pub Loads : List Bool → List Reload → ℕ → ℕ → ℕ → Runner → Runner → Type 0
-Loads refused reloads next before after old new =
-    (first : Route) (events left : List Scripted) (given : List Shown) (servers : ScriptServers) → left ≡ drop next events → HasCome first refused reloads events before left given (kept_of old servers)
-    → HasCome first refused reloads events after left given (kept_of new servers)
+-- a script has come from these reloads to those, before the event of this place, where so many outputs were handed out
+abbrev pub Loads : List Bool → List Reload → ℕ → ℕ → ℕ → ℕ → List ℕ → List ℕ → Runner → Runner → Type 0
+Loads refused reloads next shown before after marks marks' old new =
+    (first : Route) (events left : List Scripted) (given : List Shown) (clients : ℕ) (servers : ScriptServers) → left ≡ drop next events → shown ≡ length given
+    → HasStood first refused reloads events before left given marks clients (kept_of old servers)
+    → HasStood first refused reloads events after left given marks' clients (kept_of new servers)
 
 -- the reload of this number comes before the event of this place
 abbrev pub IsDue : List Reload → ℕ → ℕ → Type 0

@@ -1,11 +1,11 @@
 //! One event of a script.
 
-ghost use Rattle.std.specs.Prelude.{◌≡◌, ◌≤◌, pos, ◌≤ℤ◌, List, false, length, OnOk, OnErr};
+ghost use Rattle.std.specs.Prelude.{◌≡◌, ◌<◌, ◌≤◌, pos, ◌≤ℤ◌, List, false, length, OnOk, OnErr};
 ghost use Rattle.fleet_run.specs.Bad.{bad_in};
 ghost use Rattle.fleet_run.specs.Scripted.{Scripted, Now, Moment, loss_of, scripted_of, transcript_of};
 ghost use Rattle.script_servers.specs.Servers.{count_of};
-ghost use Rattle.core_run.specs.Running.{MovesFed};
-ghost use Rattle.stepped_run.specs.Stepping.{FedBy, Befalls, HandsOut, HandsSome};
+ghost use Rattle.core_run.specs.Running.{MovesFed, IsAtRest};
+ghost use Rattle.stepped_run.specs.Stepping.{FedBy, Befalls, IsHeard, RestsAfter, HandsOut, HandsOutAll, HandsSome};
 
 use core_run::Runner;
 use fleet_run::{Event, Output, Transcript};
@@ -25,8 +25,10 @@ fn serve(
 ) -> Result<(), FleetFault>
     ensures ok { OnOk result (FedBy client bytes.now runner.old servers.old runner.new servers.new) }
     ensures count { count_of servers.new ≡ count_of servers.old }
+    ensures clients { OnOk result (runner.new.clients ≡ runner.old.clients) }
+    ensures rest { OnOk result (IsAtRest runner.new) }
 {
-    runner.add(client, bytes)?;
+    runner.feed(client, bytes)?;
     runner.settle_all(servers)
 }
 
@@ -39,6 +41,8 @@ fn piece(
 ) -> Result<(), FleetFault>
     ensures ok { OnOk result (FedBy client bytes.now runner.old servers.old runner.new servers.new) }
     ensures count { count_of servers.new ≡ count_of servers.old }
+    ensures opened { OnOk result ((client < runner.new.clients) × (runner.old.clients ≤ runner.new.clients)) }
+    ensures rest { OnOk result (IsAtRest runner.new) }
 {
     runner.open(client)?;
     let mut rest = bytes;
@@ -52,7 +56,8 @@ fn piece(
 
 // Bytes come, and calls stay out.
 fn add(runner: &mut Runner, client: usize, bytes: &[u8]) -> Result<(), FleetFault>
-    ensures { OnOk result ((servers : ScriptServers) → MovesFed client bytes.now runner.old servers runner.new servers) }
+    ensures fed { OnOk result ((servers : ScriptServers) → MovesFed client bytes.now runner.old servers runner.new servers) }
+    ensures opened { OnOk result ((client < runner.new.clients) × (runner.old.clients ≤ runner.new.clients)) }
 {
     runner.open(client)?;
     runner.add(client, bytes)
@@ -62,6 +67,7 @@ fn add(runner: &mut Runner, client: usize, bytes: &[u8]) -> Result<(), FleetFaul
 fn lose(runner: &mut Runner, servers: &mut ScriptServers, loss: &Loss)
     ensures lost { Befalls (Now (loss_of loss.now)) runner.old servers.old runner.new servers.new }
     ensures count { count_of servers.new ≡ count_of servers.old }
+    ensures same { runner.new ≡ runner.old }
 {
     losses_go_on();
     servers.lose(loss);
@@ -79,9 +85,10 @@ fn set_clock(runner: &Runner, servers: &mut ScriptServers, moment: &i64)
 
 // A client is given its new output, if there is any.
 fn give(runner: &mut Runner, client: usize, transcript: &mut Transcript) -> Result<(), FleetFault>
-    ensures ok { OnOk result (HandsOut (transcript_of transcript.old) (transcript_of transcript.new) runner.old runner.new) }
+    ensures ok { OnOk result (HandsOut (λ c. client ≡ c) (transcript_of transcript.old) (transcript_of transcript.new) runner.old runner.new) }
     ensures err { OnErr result (transcript.new.shown.items ≡ transcript.old.shown.items) }
     ensures longer { length transcript.old.shown.items ≤ length transcript.new.shown.items }
+    ensures clients { runner.new.clients ≡ runner.old.clients }
 {
     let bytes = runner.take_output(client)?;
     let new = bytes.as_slice();
@@ -97,7 +104,8 @@ fn give(runner: &mut Runner, client: usize, transcript: &mut Transcript) -> Resu
 /// Each client is given its new output, in rising number. The errors are running out of memory, and `Spent` where a client has no
 /// number of 8 bits; what was handed out before stands in the transcript.
 pub fn give_all(runner: &mut Runner, transcript: &mut Transcript) -> Result<(), FleetFault>
-    ensures ok { OnOk result (HandsOut (transcript_of transcript.old) (transcript_of transcript.new) runner.old runner.new) }
+    ensures ok { OnOk result (HandsOutAll (transcript_of transcript.old) (transcript_of transcript.new) runner.old runner.new) }
+    ensures clients { OnOk result (runner.new.clients ≡ runner.old.clients) }
     ensures err { OnErr result (HandsSome (transcript_of transcript.old) (transcript_of transcript.new) runner.old) }
     ensures longer { length transcript.old.shown.items ≤ length transcript.new.shown.items }
 {
@@ -117,6 +125,8 @@ pub fn befall(
     requires good { (before : List Scripted) × (bad_in (count_of servers.old) before (scripted_of event.now) ≡ false) }
     ensures ok { OnOk result (Befalls (scripted_of event.now) runner.old servers.old runner.new servers.new) }
     ensures count { count_of servers.new ≡ count_of servers.old }
+    ensures heard { OnOk result (IsHeard (scripted_of event.now) runner.old runner.new) }
+    ensures rest { OnOk result (RestsAfter (scripted_of event.now) runner.new) }
 {
     match event {
         Event::Piece(client, bytes) => piece(runner, servers, *client as usize, bytes.as_slice()),

@@ -10,7 +10,7 @@ ghost use Rattle.fleet_run.specs.Scripted.{Scripted, scripted_of, transcript_of}
 ghost use Rattle.script_servers.specs.Servers.{IsNew, count_of};
 ghost use Rattle.core_run.specs.Running.{kept_of};
 ghost use Rattle.stepped_run.specs.Driving.{DrivesStepped, StepsPart, EndsStepped, AreMarks};
-ghost use Rattle.stepped_run.specs.Stepping.{HasCome, TakesUp, Loads, IsDue};
+ghost use Rattle.stepped_run.specs.Stepping.{HasStood, TakesUp, Loads, IsDue};
 
 use crate::events::{befall, give_all};
 use crate::holding::hold_all;
@@ -53,7 +53,8 @@ fn mark(marks: &mut Vec<usize>, shown: usize) -> Result<(), FleetFault>
 
 // The reload's tree is loaded, unless it is refused.
 fn take_over(runner: &mut Runner, reload: &Reload, refused: bool) -> Result<(), FleetFault>
-    ensures { OnOk result (TakesUp refused reload.now.config.tree runner.old runner.new) }
+    ensures takes { OnOk result (TakesUp refused reload.now.config.tree runner.old runner.new) }
+    ensures clients { runner.new.clients ≡ runner.old.clients }
 {
     if refused {
         return Ok(());
@@ -74,7 +75,8 @@ fn load_due(
 ) -> Result<usize, FleetFault>
     requires within { before ≤ length reloads.now }
     requires order { (end servers : ℕ) × AreInOrder end servers next (drop before reloads.now) }
-    ensures ok { IfOk result (λ loaded. Loads refused.now reloads.now next before loaded runner.old runner.new) }
+    ensures ok { IfOk result (λ loaded. Loads refused.now reloads.now next shown before loaded marks.old.items marks.new.items runner.old runner.new) }
+    ensures clients { OnOk result (runner.new.clients ≡ runner.old.clients) }
     ensures order { IfOk result (λ loaded. (end servers : ℕ) → AreInOrder end servers next (drop before reloads.now) → AreInOrder end servers (next + 1) (drop loaded reloads.now)) }
     ensures within { IfOk result (λ loaded. loaded ≤ length reloads.now) }
     ensures due { IfOk result (λ loaded. IsDue reloads.now loaded next → ⊥) }
@@ -97,8 +99,8 @@ fn finish(
     servers: &mut ScriptServers,
     transcript: &mut Transcript,
 ) -> Result<Report, FleetFault>
-    ensures ok { IfOk result (λ report. (first : Route) (refused : List Bool) (reloads : List Reload) (events : List Scripted) → HasCome first refused reloads events (length reloads) [] (transcript_of transcript.old) (kept_of runner.old servers.old) → DrivesStepped first refused reloads events (transcript_of transcript.new) report) }
-    ensures err { OnErr result ((first : Route) (refused : List Bool) (reloads : List Reload) (events : List Scripted) → HasCome first refused reloads events (length reloads) [] (transcript_of transcript.old) (kept_of runner.old servers.old) → StepsPart first refused reloads events (transcript_of transcript.new)) }
+    ensures ok { IfOk result (λ report. (first : Route) (refused : List Bool) (reloads : List Reload) (events : List Scripted) (marks : List ℕ) → HasStood first refused reloads events (length reloads) [] (transcript_of transcript.old) marks runner.old.clients (kept_of runner.old servers.old) → DrivesStepped first refused reloads events (transcript_of transcript.new) marks report) }
+    ensures err { OnErr result ((first : Route) (refused : List Bool) (reloads : List Reload) (events : List Scripted) (marks : List ℕ) → HasStood first refused reloads events (length reloads) [] (transcript_of transcript.old) marks runner.old.clients (kept_of runner.old servers.old) → StepsPart first refused reloads events (transcript_of transcript.new)) }
     ensures longer { length transcript.old.shown.items ≤ length transcript.new.shown.items }
 {
     standing_says();
@@ -125,8 +127,8 @@ fn drive_over(
     requires good { first_bad (count_of servers.old) (map scripted_of events.now) ≡ None }
     requires order { AreInOrder (length events.now) (count_of servers.old) 0 reloads.now }
     requires marks { marks.old.items ≡ [] }
-    ensures ok { IfOk result (λ report. (first : Route) → HasCome first refused.now reloads.now (map scripted_of events.now) 0 (map scripted_of events.now) (transcript_of transcript.old) (kept_of runner.old servers.old) → DrivesStepped first refused.now reloads.now (map scripted_of events.now) (transcript_of transcript.new) report) }
-    ensures err { OnErr result ((first : Route) → HasCome first refused.now reloads.now (map scripted_of events.now) 0 (map scripted_of events.now) (transcript_of transcript.old) (kept_of runner.old servers.old) → StepsPart first refused.now reloads.now (map scripted_of events.now) (transcript_of transcript.new)) }
+    ensures ok { IfOk result (λ report. (first : Route) → HasStood first refused.now reloads.now (map scripted_of events.now) 0 (map scripted_of events.now) (transcript_of transcript.old) marks.old.items runner.old.clients (kept_of runner.old servers.old) → DrivesStepped first refused.now reloads.now (map scripted_of events.now) (transcript_of transcript.new) marks.new.items report) }
+    ensures err { OnErr result ((first : Route) → HasStood first refused.now reloads.now (map scripted_of events.now) 0 (map scripted_of events.now) (transcript_of transcript.old) marks.old.items runner.old.clients (kept_of runner.old servers.old) → StepsPart first refused.now reloads.now (map scripted_of events.now) (transcript_of transcript.new)) }
     ensures marked { OnOk result (length marks.new.items ≡ length reloads.now) }
     ensures marks { AreMarks (length transcript.new.shown.items) marks.new.items }
 {
@@ -169,7 +171,7 @@ fn drive_events(
     requires new { IsNew (count_of servers.old) servers.old }
     requires transcript { transcript.old.shown.items ≡ [] }
     requires marks { marks.old.items ≡ [] }
-    ensures ok { IfOk result (λ report. DrivesStepped config.now.tree refused.now reloads.now (map scripted_of script.now.events.items) (transcript_of transcript.new) report) }
+    ensures ok { IfOk result (λ report. DrivesStepped config.now.tree refused.now reloads.now (map scripted_of script.now.events.items) (transcript_of transcript.new) marks.new.items report) }
     ensures err { OnErr result (StepsPart config.now.tree refused.now reloads.now (map scripted_of script.now.events.items) (transcript_of transcript.new)) }
     ensures marked { OnOk result (length marks.new.items ≡ length reloads.now) }
     ensures marks { AreMarks (length transcript.new.shown.items) marks.new.items }
@@ -228,7 +230,7 @@ pub fn drive_stepped(
     requires transcript { transcript.old.shown.items ≡ [] }
     requires marks { marks.old.items ≡ [] }
     ensures refuses { MatchResult result (λ _. first_bad (count_of servers.old) (map scripted_of script.now.events.items) ≡ None) (Refuses (count_of servers.old) script.now) }
-    ensures ok { IfOk result (λ report. DrivesStepped config.now.tree refused.now reloads.now (map scripted_of script.now.events.items) (transcript_of transcript.new) report) }
+    ensures ok { IfOk result (λ report. DrivesStepped config.now.tree refused.now reloads.now (map scripted_of script.now.events.items) (transcript_of transcript.new) marks.new.items report) }
     ensures fault { IfErr result (λ fault. EndsStepped config.now.tree refused.now reloads.now (map scripted_of script.now.events.items) transcript.new marks.new.items fault) }
     ensures marked { OnOk result (length marks.new.items ≡ length reloads.now) }
     ensures marks { AreMarks (length transcript.new.shown.items) marks.new.items }

@@ -1,10 +1,11 @@
-use Rattle.std.proofs.Common.{sym, subst, List, ℕ}
+use Rattle.std.proofs.Common.{refl, sym, ap, subst, List, ℕ}
 use Rattle.fleet_run.specs.declared.script.Event.{Event}
 use Rattle.fleet_run.specs.Scripted.{manner_of, scripted_of}
 use Rattle.core_run.proofs.Running.{on_ok}
 use Rattle.core_run.specs.Running.{MovesFed}
-use Rattle.stepped_run.specs.Stepping.{FedBy, Befalls}
-use Rattle.stepped_run.proofs.Steps.{piece_said, add_said, result_asked, held_before, named, loss_named}
+use Rattle.core_run.specs.declared.runner.Runner.{Runner}
+use Rattle.stepped_run.specs.Stepping.{FedBy, Befalls, IsHeard, RestsAfter}
+use Rattle.stepped_run.proofs.Steps.{heard_of, heard_more, piece_said, add_said, result_asked, held_before, named, loss_named}
 use Rattle.stepped_run.proofs.events.befall.Goals as goal
 
 pub returns-in-Piece-clause-ok : goal.returns-in-Piece-clause-ok
@@ -21,7 +22,7 @@ returns-in-Add-clause-ok c =
     (λ m. subst (λ (e : Event). Befalls (scripted_of e) c.args.runner.now c.args.servers.now c.add.new.runner c.args.servers.now) (sym c.in-Add.is)
     (add_said c.in-Add.client c.in-Add.bytes.items c.args.runner.now c.add.new.runner c.args.servers.now
     (subst (λ (l : List ℕ). MovesFed c.in-Add.client l c.args.runner.now c.args.servers.now c.add.new.runner c.args.servers.now) c.as_slice-in-Add.ensures.value (m c.args.servers.now))))
-    c.add.ensures
+    c.add.ensures.fed
 
 pub returns-in-Result-clause-ok : goal.returns-in-Result-clause-ok
 returns-in-Result-clause-ok c =
@@ -56,3 +57,51 @@ returns-in-Now-clause-ok c =
 pub returns-in-Moment-clause-ok : goal.returns-in-Moment-clause-ok
 returns-in-Moment-clause-ok c =
     subst (λ (e : Event). Befalls (scripted_of e) c.args.runner.now c.args.servers.now c.args.runner.now c.set_clock.new.servers) (sym c.in-Moment.is) c.set_clock.ensures.timed
+
+pub returns-in-Piece-clause-heard : goal.returns-in-Piece-clause-heard
+returns-in-Piece-clause-heard c = on_ok c.piece.result _ _ (λ o. subst (λ (e : Event). IsHeard (scripted_of e) c.args.runner.now c.piece.new.runner) (sym c.in-Piece.is) (heard_of _ c.in-Piece.client c.in-Piece.bytes.items c.args.runner.now c.piece.new.runner (λ n. refl) o)) c.piece.ensures.opened
+
+pub returns-in-Add-clause-heard : goal.returns-in-Add-clause-heard
+returns-in-Add-clause-heard c = on_ok c.add.result _ _ (λ o. subst (λ (e : Event). IsHeard (scripted_of e) c.args.runner.now c.add.new.runner) (sym c.in-Add.is) (heard_of _ c.in-Add.client c.in-Add.bytes.items c.args.runner.now c.add.new.runner (λ n. refl) o)) c.add.ensures.opened
+
+pub returns-in-Result-clause-heard : goal.returns-in-Result-clause-heard
+returns-in-Result-clause-heard c = on_ok c.settle_first.result _ _ (λ e. subst (λ (e : Event). IsHeard (scripted_of e) c.args.runner.now c.settle_first.new.self) (sym c.in-Result.is) (heard_more _ c.args.runner.now c.settle_first.new.self (λ n. refl) e)) c.settle_first.ensures.clients
+
+pub returns-in-Hold-clause-heard : goal.returns-in-Hold-clause-heard
+returns-in-Hold-clause-heard c = subst (λ (e : Event). IsHeard (scripted_of e) c.args.runner.now c.args.runner.now) (sym c.in-Hold.is) (heard_more _ c.args.runner.now c.args.runner.now (λ n. refl) refl)
+
+pub returns-in-Fail-clause-heard : goal.returns-in-Fail-clause-heard
+returns-in-Fail-clause-heard c = on_ok c.fail.result _ _ (λ m. subst (λ (e : Event). IsHeard (scripted_of e) c.args.runner.now c.args.runner.now) (sym c.in-Fail.is) (heard_more _ c.args.runner.now c.args.runner.now (λ n. refl) refl)) c.fail.ensures.ok
+
+pub returns-in-At-clause-heard : goal.returns-in-At-clause-heard
+returns-in-At-clause-heard c = on_ok c.lose_at.result _ _ (λ m. subst (λ (e : Event). IsHeard (scripted_of e) c.args.runner.now c.args.runner.now) (sym c.in-At.is) (heard_more _ c.args.runner.now c.args.runner.now (λ n. refl) refl)) c.lose_at.ensures.ok
+
+pub returns-in-Now-clause-heard : goal.returns-in-Now-clause-heard
+returns-in-Now-clause-heard c = subst (λ (e : Event). IsHeard (scripted_of e) c.args.runner.now c.lose.new.runner) (sym c.in-Now.is) (heard_more _ c.args.runner.now c.lose.new.runner (λ n. refl) (ap (λ (r : Runner). r.clients) c.lose.ensures.same))
+
+pub returns-in-Moment-clause-heard : goal.returns-in-Moment-clause-heard
+returns-in-Moment-clause-heard c = subst (λ (e : Event). IsHeard (scripted_of e) c.args.runner.now c.args.runner.now) (sym c.in-Moment.is) (heard_more _ c.args.runner.now c.args.runner.now (λ n. refl) refl)
+
+pub returns-in-Piece-clause-rest : goal.returns-in-Piece-clause-rest
+returns-in-Piece-clause-rest c = on_ok c.piece.result _ _ (λ r. subst (λ (e : Event). RestsAfter (scripted_of e) c.piece.new.runner) (sym c.in-Piece.is) (r)) c.piece.ensures.rest
+
+pub returns-in-Add-clause-rest : goal.returns-in-Add-clause-rest
+returns-in-Add-clause-rest c = on_ok c.add.result _ _ (λ r. subst (λ (e : Event). RestsAfter (scripted_of e) c.add.new.runner) (sym c.in-Add.is) (tt)) c.add.ensures.fed
+
+pub returns-in-Result-clause-rest : goal.returns-in-Result-clause-rest
+returns-in-Result-clause-rest c = on_ok c.settle_first.result _ _ (λ r. subst (λ (e : Event). RestsAfter (scripted_of e) c.settle_first.new.self) (sym c.in-Result.is) (tt)) c.settle_first.ensures.ok
+
+pub returns-in-Hold-clause-rest : goal.returns-in-Hold-clause-rest
+returns-in-Hold-clause-rest c = subst (λ (e : Event). RestsAfter (scripted_of e) c.args.runner.now) (sym c.in-Hold.is) (tt)
+
+pub returns-in-Fail-clause-rest : goal.returns-in-Fail-clause-rest
+returns-in-Fail-clause-rest c = on_ok c.fail.result _ _ (λ r. subst (λ (e : Event). RestsAfter (scripted_of e) c.args.runner.now) (sym c.in-Fail.is) (tt)) c.fail.ensures.ok
+
+pub returns-in-At-clause-rest : goal.returns-in-At-clause-rest
+returns-in-At-clause-rest c = on_ok c.lose_at.result _ _ (λ r. subst (λ (e : Event). RestsAfter (scripted_of e) c.args.runner.now) (sym c.in-At.is) (tt)) c.lose_at.ensures.ok
+
+pub returns-in-Now-clause-rest : goal.returns-in-Now-clause-rest
+returns-in-Now-clause-rest c = subst (λ (e : Event). RestsAfter (scripted_of e) c.lose.new.runner) (sym c.in-Now.is) (tt)
+
+pub returns-in-Moment-clause-rest : goal.returns-in-Moment-clause-rest
+returns-in-Moment-clause-rest c = subst (λ (e : Event). RestsAfter (scripted_of e) c.args.runner.now) (sym c.in-Moment.is) (tt)

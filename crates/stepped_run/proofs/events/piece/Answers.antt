@@ -1,4 +1,4 @@
-use Rattle.std.proofs.Common.{◌≡◌, ◌++◌, ℕ, List, [], refl, sym, ap, ◌∙◌, subst, append_assoc}
+use Rattle.std.proofs.Common.{◌≡◌, ◌<◌, ◌≤◌, ◌++◌, ℕ, List, [], refl, sym, ap, ◌∙◌, subst, append_assoc}
 use Rattle.stepped_run.specs.Stepping.{FedBy}
 use Rattle.core_run.proofs.Running.{on_ok}
 use Rattle.stepped_run.proofs.Steps.{nothing_fed, fed_more, cut_joins}
@@ -6,8 +6,9 @@ use Rattle.stepped_run.proofs.events.piece.Goals as goal
 
 pub loop-rest-init : goal.loop-rest-init
 loop-rest-init c = record {
-  fed = ([], refl, nothing_fed c.args.client c.args.runner.now c.open.new.self c.args.servers.now (c.in_ok-open.ensures c.args.servers.now));
+  fed = ([], refl, nothing_fed c.args.client c.args.runner.now c.open.new.self c.args.servers.now (c.in_ok-open.ensures.moves c.args.servers.now));
   count = refl;
+  opened = c.in_ok-open.ensures.opened;
 }
 
 pub loop-rest-preserved : goal.loop-rest-preserved
@@ -21,6 +22,7 @@ loop-rest-preserved c =
         fed_more c.args.client v.fed.0 cut c.args.runner.now c.loop-rest.runner c.serve.new.runner c.args.servers.now c.loop-rest.servers c.serve.new.servers v.fed.2 c.in_ok-serve.ensures.ok,
       );
       count = c.in_ok-serve.ensures.count ∙ v.count;
+      opened = subst (λ (n : ℕ). (c.args.client < n) × (c.args.runner.now.clients ≤ n)) (sym c.in_ok-serve.ensures.clients) v.opened;
     }
 
 pub returns-clause-ok : goal.returns-clause-ok
@@ -30,3 +32,7 @@ returns-clause-ok c =
     (λ m. subst (λ (bytes : List ℕ). FedBy c.args.client bytes c.args.runner.now c.args.servers.now c.serve-2.new.runner c.serve-2.new.servers) (sym v.fed.1)
     (fed_more c.args.client v.fed.0 c.loop-rest.rest.now c.args.runner.now c.loop-rest.runner c.serve-2.new.runner c.args.servers.now c.loop-rest.servers c.serve-2.new.servers v.fed.2 m))
     c.serve-2.ensures.ok
+
+pub returns-clause-opened : goal.returns-clause-opened
+returns-clause-opened c =
+    on_ok c.serve-2.result _ _ (λ e. subst (λ (n : ℕ). (c.args.client < n) × (c.args.runner.now.clients ≤ n)) (sym e) c.loop-rest.invariant.opened) c.serve-2.ensures.clients

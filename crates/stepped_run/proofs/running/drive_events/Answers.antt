@@ -9,7 +9,8 @@ use Rattle.fleet_run.proofs.Driven.{on_err}
 use Rattle.stepped_log.specs.Laws.{IsBegin}
 use Rattle.core_run.specs.Running.{kept_of}
 use Rattle.stepped_run.specs.Driving.{DrivesStepped, StepsPart}
-use Rattle.stepped_run.proofs.Come.{nothing_done, begins, on_err_as}
+use Rattle.stepped_run.proofs.Come.{nothing_done, on_err_as}
+use Rattle.stepped_run.proofs.Stood.{begins_stood}
 use Rattle.stepped_run.proofs.running.drive_events.Goals as goal
 
 pub returns-in_err-hold_all-clause-err : goal.returns-in_err-hold_all-clause-err
@@ -25,11 +26,11 @@ returns-clause-ok c =
     let reloads = c.args.reloads.now in
     let xs = c.as_slice-events.result.now in
     let count = count_of c.args.servers.now in
-    let come = begins c.nothing_stands.ensures first refused reloads xs count c.new-runner.result c.args.servers.now c.hold_all.new.servers c.args.transcript.now
-    (λ u e. subst (λ (r : Route). IsBegin r (kept_of c.new-runner.result u)) (c.in_ok-copy.ensures ∙ c.tree.ensures.tree) (c.new-runner.ensures u e))
-    c.requires.new c.in_ok-hold_all.ensures.ok c.in_ok-hold_all.ensures.rest (ap (λ (l : List Event). first_bad count (map scripted_of l)) c.as_slice-events.ensures.value ∙ c.requires.good) c.requires.transcript in
+    let come = begins_stood c.nothing_stands.ensures first refused reloads xs count c.new-runner.result c.args.servers.now c.hold_all.new.servers c.args.transcript.now c.args.marks.now.items
+    (λ u e. subst (λ (r : Route). IsBegin r (kept_of c.new-runner.result u)) (c.in_ok-copy.ensures ∙ c.tree.ensures.tree) (c.new-runner.ensures.begin u e))
+    c.requires.new c.in_ok-hold_all.ensures.ok c.in_ok-hold_all.ensures.rest (ap (λ (l : List Event). first_bad count (map scripted_of l)) c.as_slice-events.ensures.value ∙ c.requires.good) c.requires.transcript c.requires.marks in
     IfOk-weaker c.drive_over-done.result _ _
-    (λ report d. subst (λ (l : List Event). DrivesStepped first refused reloads (map scripted_of l) (transcript_of c.drive_over-done.new.transcript) report) c.as_slice-events.ensures.value (d first come))
+    (λ report d. subst (λ (l : List Event). DrivesStepped first refused reloads (map scripted_of l) (transcript_of c.drive_over-done.new.transcript) c.drive_over-done.new.marks.items report) c.as_slice-events.ensures.value (d first come))
     c.drive_over-done.ensures.ok
 
 pub returns-clause-err : goal.returns-clause-err
@@ -39,9 +40,9 @@ returns-clause-err c =
     let reloads = c.args.reloads.now in
     let xs = c.as_slice-events.result.now in
     let count = count_of c.args.servers.now in
-    let come = begins c.nothing_stands.ensures first refused reloads xs count c.new-runner.result c.args.servers.now c.hold_all.new.servers c.args.transcript.now
-    (λ u e. subst (λ (r : Route). IsBegin r (kept_of c.new-runner.result u)) (c.in_ok-copy.ensures ∙ c.tree.ensures.tree) (c.new-runner.ensures u e))
-    c.requires.new c.in_ok-hold_all.ensures.ok c.in_ok-hold_all.ensures.rest (ap (λ (l : List Event). first_bad count (map scripted_of l)) c.as_slice-events.ensures.value ∙ c.requires.good) c.requires.transcript in
+    let come = begins_stood c.nothing_stands.ensures first refused reloads xs count c.new-runner.result c.args.servers.now c.hold_all.new.servers c.args.transcript.now c.args.marks.now.items
+    (λ u e. subst (λ (r : Route). IsBegin r (kept_of c.new-runner.result u)) (c.in_ok-copy.ensures ∙ c.tree.ensures.tree) (c.new-runner.ensures.begin u e))
+    c.requires.new c.in_ok-hold_all.ensures.ok c.in_ok-hold_all.ensures.rest (ap (λ (l : List Event). first_bad count (map scripted_of l)) c.as_slice-events.ensures.value ∙ c.requires.good) c.requires.transcript c.requires.marks in
     on_err_as c.drive_over-done.result _ _
     (λ d. subst (λ (l : List Event). StepsPart first refused reloads (map scripted_of l) (transcript_of c.drive_over-done.new.transcript)) c.as_slice-events.ensures.value (d first come))
     c.drive_over-done.ensures.err

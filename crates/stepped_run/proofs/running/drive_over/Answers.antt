@@ -3,13 +3,20 @@ use Rattle.std.proofs.lemmas.Result.{IfOk-weaker}
 use Rattle.fleet_run.specs.declared.script.Output.{Output}
 use Rattle.fleet_run.specs.Bad.{bad_in}
 use Rattle.fleet_run.specs.Reloads.{AreInOrder}
-use Rattle.fleet_run.specs.Scripted.{scripted_of, transcript_of}
+use Rattle.fleet_run.specs.Scripted.{scripted_of, shown_by, transcript_of}
 use Rattle.fleet_run.proofs.BadEvents.{good_here, not_here}
 use Rattle.fleet_run.proofs.Driven.{on_err}
 use Rattle.script_servers.specs.Servers.{count_of}
 use Rattle.core_run.specs.Running.{kept_of}
-use Rattle.stepped_run.proofs.Come.{come_next, come_broken, come_last, all_came, part_of, marks_on, marks_none, on_err_as, on_ok_so}
+use Rattle.fleet_run.specs.declared.script.Transcript.{Transcript}
+use Rattle.std.proofs.lemmas.List.{length-map}
+use Rattle.stepped_run.proofs.Come.{all_came, marks_on, marks_none, on_err_as, on_ok_so}
+use Rattle.stepped_run.proofs.Stood.{part_stood, event_next, event_broken, stood_last}
 use Rattle.stepped_run.proofs.running.drive_over.Goals as goal
+
+-- so many outputs are in the transcript
+shown_all : (t : Transcript) (items : List Output) → items ≡ t.shown.items → length items ≡ length (transcript_of t)
+shown_all t items is = ap (λ (l : List Output). length l) is ∙ sym (length-map t.shown.items shown_by)
 
 pub loop-next-init : goal.loop-next-init
 loop-next-init c = record {
@@ -17,7 +24,7 @@ loop-next-init c = record {
   within = omega arith;
   order = c.requires.order;
   ahead = c.requires.good;
-  come = λ first h. h;
+  stood = λ first h. h;
   marked = ap length c.requires.marks;
   marks = marks_none (length c.args.transcript.now.shown.items) c.args.marks.now.items c.requires.marks;
 }
@@ -30,7 +37,7 @@ returns-in_err-loaded-clause-err c =
     let v = c.loop-next.invariant in
     let xs = c.args.events.now in
     on_err c.from_residual.result
-    (λ first h. part_of first c.args.refused.now c.args.reloads.now (map scripted_of xs) c.standing_says.ensures c.loop-next.loaded (map scripted_of (drop c.loop-next.next xs)) (transcript_of c.loop-next.transcript) (kept_of c.loop-next.runner c.loop-next.servers) v.within (v.come first h))
+    (λ first h. part_stood first c.args.refused.now c.args.reloads.now (map scripted_of xs) c.standing_says.ensures c.loop-next.loaded (map scripted_of (drop c.loop-next.next xs)) (transcript_of c.loop-next.transcript) c.loop-next.marks.items c.loop-next.runner.clients (kept_of c.loop-next.runner c.loop-next.servers) v.within (v.stood first h))
 
 pub befall-requires : goal.befall-requires
 befall-requires c =
@@ -47,14 +54,15 @@ returns-in_err-befall-clause-err c =
     let v = c.loop-next.invariant in
     let xs = c.args.events.now in
     on_err c.from_residual-in_err-befall.result
-    (λ first h. part_of first c.args.refused.now c.args.reloads.now (map scripted_of xs) c.standing_says.ensures c.loop-next.loaded (map scripted_of (drop c.loop-next.next xs)) (transcript_of c.loop-next.transcript) (kept_of c.loop-next.runner c.loop-next.servers) v.within (v.come first h))
+    (λ first h. part_stood first c.args.refused.now c.args.reloads.now (map scripted_of xs) c.standing_says.ensures c.loop-next.loaded (map scripted_of (drop c.loop-next.next xs)) (transcript_of c.loop-next.transcript) c.loop-next.marks.items c.loop-next.runner.clients (kept_of c.loop-next.runner c.loop-next.servers) v.within (v.stood first h))
 
 pub returns-in_err-give_all-clause-err : goal.returns-in_err-give_all-clause-err
 returns-in_err-give_all-clause-err c =
     let v = c.loop-next.invariant in
     on_err c.from_residual-in_err-give_all.result
-    (λ first h. come_broken first c.args.refused.now c.args.reloads.now c.args.events.now c.standing_says.ensures c.loop-next.next c.loop-next.loaded c.in_ok-loaded.loaded c.index-events-next.result (transcript_of c.loop-next.transcript) (transcript_of c.give_all.new.transcript)
-    c.loop-next.runner c.load_due.new.runner c.befall.new.runner c.loop-next.servers c.befall.new.servers c.loop-next-test.true c.index-events-next.is c.in_ok-loaded.ensures.within c.in_ok-loaded.ensures.ok c.in_ok-befall.ensures.ok c.in_err-give_all.ensures.err (v.come first h))
+    (λ first h. event_broken first c.args.refused.now c.args.reloads.now c.args.events.now c.standing_says.ensures c.loop-next.next (length c.as_slice-shown.result.now) c.loop-next.loaded c.in_ok-loaded.loaded c.index-events-next.result
+    (transcript_of c.loop-next.transcript) (transcript_of c.give_all.new.transcript) c.loop-next.marks.items c.load_due.new.marks.items c.loop-next.runner c.load_due.new.runner c.befall.new.runner c.loop-next.servers c.befall.new.servers c.loop-next-test.true c.index-events-next.is
+    (shown_all c.loop-next.transcript c.as_slice-shown.result.now c.as_slice-shown.ensures.value) c.in_ok-loaded.ensures.clients c.in_ok-loaded.ensures.within c.in_ok-loaded.ensures.ok c.in_ok-befall.ensures.ok c.in_err-give_all.ensures.err (v.stood first h))
 
 pub loop-next-preserved : goal.loop-next-preserved
 loop-next-preserved c =
@@ -70,8 +78,10 @@ loop-next-preserved c =
       within = c.in_ok-loaded.ensures.within;
       order = c.in_ok-loaded.ensures.order (length xs) count v.order;
       ahead = sym (not_here count xs i x lt c.index-events-next.is good) ∙ v.ahead;
-      come = λ first h. come_next first c.args.refused.now c.args.reloads.now xs i c.loop-next.loaded c.in_ok-loaded.loaded x (transcript_of c.loop-next.transcript) (transcript_of c.give_all.new.transcript)
-          c.loop-next.runner c.load_due.new.runner c.befall.new.runner c.give_all.new.runner c.loop-next.servers c.befall.new.servers lt c.index-events-next.is c.in_ok-loaded.ensures.ok c.in_ok-befall.ensures.ok c.in_ok-give_all.ensures.ok (v.come first h);
+      stood = λ first h. event_next first c.args.refused.now c.args.reloads.now xs i (length c.as_slice-shown.result.now) c.loop-next.loaded c.in_ok-loaded.loaded x (transcript_of c.loop-next.transcript) (transcript_of c.give_all.new.transcript)
+          c.loop-next.marks.items c.load_due.new.marks.items c.loop-next.runner c.load_due.new.runner c.befall.new.runner c.give_all.new.runner c.loop-next.servers c.befall.new.servers lt c.index-events-next.is
+          (shown_all c.loop-next.transcript c.as_slice-shown.result.now c.as_slice-shown.ensures.value) c.in_ok-loaded.ensures.clients c.in_ok-loaded.ensures.ok c.in_ok-befall.ensures.ok c.in_ok-befall.ensures.heard c.in_ok-befall.ensures.rest
+          c.in_ok-give_all.ensures.ok c.in_ok-give_all.ensures.clients (v.stood first h);
       marked = c.in_ok-loaded.ensures.marked v.marked;
       marks = marks_on (length c.as_slice-shown.result.now) (length c.loop-next.transcript.shown.items) (length c.give_all.new.transcript.shown.items) c.loop-next.marks.items c.load_due.new.marks.items
           (ap (λ (l : List Output). length l) c.as_slice-shown.ensures.value) c.in_ok-give_all.ensures.longer v.marks c.in_ok-loaded.ensures.marks;
@@ -89,7 +99,7 @@ returns-in_err-_all-clause-err c =
     let v = c.loop-next.invariant in
     let xs = c.args.events.now in
     on_err c.from_residual-in_err-_all.result
-    (λ first h. part_of first c.args.refused.now c.args.reloads.now (map scripted_of xs) c.standing_says.ensures c.loop-next.loaded (map scripted_of (drop c.loop-next.next xs)) (transcript_of c.loop-next.transcript) (kept_of c.loop-next.runner c.loop-next.servers) v.within (v.come first h))
+    (λ first h. part_stood first c.args.refused.now c.args.reloads.now (map scripted_of xs) c.standing_says.ensures c.loop-next.loaded (map scripted_of (drop c.loop-next.next xs)) (transcript_of c.loop-next.transcript) c.loop-next.marks.items c.loop-next.runner.clients (kept_of c.loop-next.runner c.loop-next.servers) v.within (v.stood first h))
 
 pub returns-clause-ok : goal.returns-clause-ok
 returns-clause-ok c =
@@ -100,8 +110,9 @@ returns-clause-ok c =
     let end : c.loop-next.next ≡ length xs = omega arith in
     let all = all_came (length xs) (count_of c.args.servers.now) 0 reloads c.in_ok-_all._all c.requires.order e.within e.due in
     IfOk-weaker c.finish.result _ _
-    (λ report d first h. d first c.args.refused.now reloads (map scripted_of xs)
-    (come_last first c.args.refused.now reloads xs c.loop-next.next c.loop-next.loaded c.in_ok-_all._all (transcript_of c.loop-next.transcript) c.loop-next.runner c.load_due-2.new.runner c.loop-next.servers end all e.ok (v.come first h)))
+    (λ report d first h. d first c.args.refused.now reloads (map scripted_of xs) c.load_due-2.new.marks.items
+    (stood_last first c.args.refused.now reloads xs c.loop-next.next (length c.as_slice-shown-2.result.now) c.loop-next.loaded c.in_ok-_all._all (transcript_of c.loop-next.transcript) c.loop-next.marks.items c.load_due-2.new.marks.items c.loop-next.runner c.load_due-2.new.runner c.loop-next.servers end all
+    (shown_all c.loop-next.transcript c.as_slice-shown-2.result.now c.as_slice-shown-2.ensures.value) e.clients e.ok (v.stood first h)))
     c.finish.ensures.ok
 
 pub returns-clause-err : goal.returns-clause-err
@@ -113,8 +124,9 @@ returns-clause-err c =
     let end : c.loop-next.next ≡ length xs = omega arith in
     let all = all_came (length xs) (count_of c.args.servers.now) 0 reloads c.in_ok-_all._all c.requires.order e.within e.due in
     on_err_as c.finish.result _ _
-    (λ d first h. d first c.args.refused.now reloads (map scripted_of xs)
-    (come_last first c.args.refused.now reloads xs c.loop-next.next c.loop-next.loaded c.in_ok-_all._all (transcript_of c.loop-next.transcript) c.loop-next.runner c.load_due-2.new.runner c.loop-next.servers end all e.ok (v.come first h)))
+    (λ d first h. d first c.args.refused.now reloads (map scripted_of xs) c.load_due-2.new.marks.items
+    (stood_last first c.args.refused.now reloads xs c.loop-next.next (length c.as_slice-shown-2.result.now) c.loop-next.loaded c.in_ok-_all._all (transcript_of c.loop-next.transcript) c.loop-next.marks.items c.load_due-2.new.marks.items c.loop-next.runner c.load_due-2.new.runner c.loop-next.servers end all
+    (shown_all c.loop-next.transcript c.as_slice-shown-2.result.now c.as_slice-shown-2.ensures.value) e.clients e.ok (v.stood first h)))
     c.finish.ensures.err
 
 pub returns-clause-marked : goal.returns-clause-marked

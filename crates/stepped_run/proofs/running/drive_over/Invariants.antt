@@ -6,7 +6,7 @@ use Rattle.fleet_run.specs.Reloads.{AreInOrder}
 use Rattle.fleet_run.proofs.BadEvents.{bad_from}
 use Rattle.core_run.specs.Running.{kept_of}
 use Rattle.stepped_run.specs.Driving.{AreMarks}
-use Rattle.stepped_run.specs.Stepping.{HasCome}
+use Rattle.stepped_run.specs.Stepping.{HasStood}
 use Rattle.stepped_run.proofs.running.drive_over.Given as goal
 
 abbrev pub invariant-loop-next : goal.invariant-loop-next
@@ -15,8 +15,8 @@ invariant-loop-next l = record {
   within : l.loaded ≤ length l.fn.reloads;
   order : AreInOrder (length l.events) (count_of l.fn.servers) l.next (drop l.loaded l.fn.reloads);
   ahead : bad_from (count_of l.fn.servers) l.events l.next ≡ None;
-  come : (first : Route) → HasCome first l.fn.refused l.fn.reloads (map scripted_of l.events) 0 (map scripted_of l.events) (transcript_of l.fn.transcript) (kept_of l.fn.runner l.fn.servers)
-      → HasCome first l.fn.refused l.fn.reloads (map scripted_of l.events) l.loaded (map scripted_of (drop l.next l.events)) (transcript_of l.transcript) (kept_of l.runner l.servers);
+  stood : (first : Route) → HasStood first l.fn.refused l.fn.reloads (map scripted_of l.events) 0 (map scripted_of l.events) (transcript_of l.fn.transcript) l.fn.marks.items l.fn.runner.clients (kept_of l.fn.runner l.fn.servers)
+      → HasStood first l.fn.refused l.fn.reloads (map scripted_of l.events) l.loaded (map scripted_of (drop l.next l.events)) (transcript_of l.transcript) l.marks.items l.runner.clients (kept_of l.runner l.servers);
   marked : length l.marks.items ≡ l.loaded;
   marks : AreMarks (length l.transcript.shown.items) l.marks.items;
 }

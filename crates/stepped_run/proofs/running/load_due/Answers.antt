@@ -1,11 +1,12 @@
-use Rattle.std.proofs.Common.{◌≡◌, ℕ, ◌+◌, drop, refl, subst, arith}
+use Rattle.std.proofs.Common.{◌≡◌, ℕ, ◌+◌, drop, refl, ◌∙◌, subst, arith}
 use Rattle.fleet_run.specs.Reloads.{AreInOrder}
 use Rattle.fleet_run.proofs.Due.{due_at, order_at, order_on}
-use Rattle.stepped_run.proofs.Come.{loads_stay, loads_then, loads_one, at_place, mark_more, mark_count}
+use Rattle.stepped_run.proofs.Come.{at_place, mark_more, mark_count}
+use Rattle.stepped_run.proofs.Stood.{loads_stay, loads_then, loads_one}
 use Rattle.stepped_run.proofs.running.load_due.Goals as goal
 
 pub loop-marks-init : goal.loop-marks-init
-loop-marks-init c = record { loads = loads_stay c.args.refused.now c.args.reloads.now c.args.next c.args.before c.args.runner.now; order = λ end servers h. h; within = c.requires.within; marked = λ e. e; marks = λ h. h }
+loop-marks-init c = record { loads = loads_stay c.args.refused.now c.args.reloads.now c.args.next c.args.shown c.args.before c.args.marks.now.items c.args.runner.now; clients = refl; order = λ end servers h. h; within = c.requires.within; marked = λ e. e; marks = λ h. h }
 
 pub loop-marks-preserved : goal.loop-marks-preserved
 loop-marks-preserved c =
@@ -19,8 +20,9 @@ loop-marks-preserved c =
     let lt = due.0 in
     let place : r.at ≡ next = due_at c.requires.order.0 c.requires.order.1 n next reloads r due c.index-reloads-loaded.is (v.order c.requires.order.0 c.requires.order.1 c.requires.order.2) in
     record {
-      loads = loads_then refused reloads next c.args.before n (n + 1) c.args.runner.now c.loop-marks.runner c.take_over.new.runner v.loads
-          (loads_one c.standing_says.ensures refused reloads next n r c.is_refused.result c.loop-marks.runner c.take_over.new.runner place (at_place reloads n r lt c.index-reloads-loaded.is) c.is_refused.ensures c.in_ok-take_over.ensures);
+      loads = loads_then refused reloads next c.args.shown c.args.before n (n + 1) c.args.marks.now.items c.loop-marks.marks.items c.mark.new.marks.items c.args.runner.now c.loop-marks.runner c.take_over.new.runner v.loads
+          (loads_one c.standing_says.ensures refused reloads next c.args.shown n c.loop-marks.marks.items c.mark.new.marks.items r c.is_refused.result c.loop-marks.runner c.take_over.new.runner place (at_place reloads n r lt c.index-reloads-loaded.is) c.is_refused.ensures c.in_ok-mark.ensures.ok c.in_ok-take_over.ensures.takes);
+      clients = c.in_ok-take_over.ensures.clients ∙ v.clients;
       order = λ end servers h. subst (λ (p : ℕ). AreInOrder end servers p (drop (n + 1) reloads)) place (order_at end servers n next reloads r lt c.index-reloads-loaded.is (v.order end servers h)).3;
       within = omega (arith, lt);
       marked = λ e. mark_count n c.args.shown c.loop-marks.marks.items c.mark.new.marks.items c.in_ok-mark.ensures.ok (v.marked e);
@@ -30,3 +32,6 @@ loop-marks-preserved c =
 pub returns-clause-order : goal.returns-clause-order
 returns-clause-order c end servers h =
     order_on end servers c.loop-marks.loaded c.args.next c.args.reloads.now c.is_due.result c.is_due.ensures.1 c.loop-marks-test.false (c.loop-marks.invariant.order end servers h)
+
+pub returns-clause-clients : goal.returns-clause-clients
+returns-clause-clients c = c.loop-marks.invariant.clients

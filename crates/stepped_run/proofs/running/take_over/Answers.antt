@@ -5,8 +5,8 @@ use Rattle.core_run.proofs.Running.{on_ok}
 use Rattle.stepped_run.specs.Stepping.{TakesUp}
 use Rattle.stepped_run.proofs.running.take_over.Goals as goal
 
-pub returns : goal.returns
-returns c =
+pub returns-clause-takes : goal.returns-clause-takes
+returns-clause-takes c =
     on_ok c.load.result _ _
     (λ m. subst (λ (b : Bool). TakesUp b c.args.reload.now.config.tree c.args.runner.now c.load.new.self) (sym c.if-refused.false)
-    (λ s. subst (λ (t : Route). IsLoadedBy t c.args.runner.now s c.load.new.self s) c.tree.ensures.tree (m s))) c.load.ensures
+    (λ s. subst (λ (t : Route). IsLoadedBy t c.args.runner.now s c.load.new.self s) c.tree.ensures.tree (m s))) c.load.ensures.loaded

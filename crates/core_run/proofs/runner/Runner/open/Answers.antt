@@ -1,11 +1,15 @@
+use Rattle.std.proofs.Common.{arith}
 use Rattle.core_run.proofs.Running.{stays, then}
 use Rattle.core_run.proofs.runner.Runner.open.Goals as goal
 
-pub loop-number-init : goal.loop-number-init
-loop-number-init c = λ s. stays c.args.self.now s
+pub loop-self-init : goal.loop-self-init
+loop-self-init c = record { moves = λ s. stays c.args.self.now s; opened = omega arith }
 
-pub loop-number-preserved : goal.loop-number-preserved
-loop-number-preserved c = λ s. then c.args.self.now c.loop-number.self c.open_next.new.self s s s (c.loop-number.invariant s) (c.in_ok-open_next.ensures s)
+pub loop-self-preserved : goal.loop-self-preserved
+loop-self-preserved c = record {
+  moves = λ s. then c.args.self.now c.loop-self.self c.open_next.new.self s s s (c.loop-self.invariant.moves s) (c.in_ok-open_next.ensures.moves s);
+  opened = let one = c.in_ok-open_next.ensures.clients in let before = c.loop-self.invariant.opened in omega (arith, one, before);
+}
 
-pub returns : goal.returns
-returns c = c.loop-number.invariant
+pub returns-clause-moves : goal.returns-clause-moves
+returns-clause-moves c = c.loop-self.invariant.moves

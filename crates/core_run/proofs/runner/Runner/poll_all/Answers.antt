@@ -1,11 +1,24 @@
+use Rattle.std.proofs.Common.{refl, ◌∙◌}
 use Rattle.core_run.proofs.Running.{stays, then}
 use Rattle.core_run.proofs.runner.Runner.poll_all.Goals as goal
 
 pub loop-round-init : goal.loop-round-init
-loop-round-init c = λ s. stays c.args.self.now s
+loop-round-init c = record { moves = λ s. stays c.args.self.now s; clients = refl }
 
 pub loop-round-preserved : goal.loop-round-preserved
-loop-round-preserved c = λ s. then c.args.self.now c.loop-round.self c.poll_round.new.self s s s (c.loop-round.invariant s) (c.in_ok-poll_round.ensures s)
+loop-round-preserved c = record {
+  moves = λ s. then c.args.self.now c.loop-round.self c.poll_round.new.self s s s (c.loop-round.invariant.moves s) (c.in_ok-progress.ensures.moves s);
+  clients = c.in_ok-progress.ensures.clients ∙ c.loop-round.invariant.clients;
+}
 
-pub returns-then-not-branch : goal.returns-then-not-branch
-returns-then-not-branch c = λ s. then c.args.self.now c.loop-round.self c.poll_round.new.self s s s (c.loop-round.invariant s) (c.in_ok-poll_round.ensures s)
+pub returns-in-Idle-clause-moves : goal.returns-in-Idle-clause-moves
+returns-in-Idle-clause-moves c = λ s. then c.args.self.now c.loop-round.self c.poll_round.new.self s s s (c.loop-round.invariant.moves s) (c.in_ok-progress.ensures.moves s)
+
+pub returns-in-Idle-clause-clients : goal.returns-in-Idle-clause-clients
+returns-in-Idle-clause-clients c = c.in_ok-progress.ensures.clients ∙ c.loop-round.invariant.clients
+
+pub returns-in-Waits-clause-moves : goal.returns-in-Waits-clause-moves
+returns-in-Waits-clause-moves c = λ s. then c.args.self.now c.loop-round.self c.poll_round.new.self s s s (c.loop-round.invariant.moves s) (c.in_ok-progress.ensures.moves s)
+
+pub returns-in-Waits-clause-clients : goal.returns-in-Waits-clause-clients
+returns-in-Waits-clause-clients c = c.in_ok-progress.ensures.clients ∙ c.loop-round.invariant.clients

@@ -1,16 +1,34 @@
 use Rattle.std.proofs.Common.{ℕ, Option, refl, ◌∙◌, subst}
 use Rattle.core_run.specs.Turns.{IsLeast}
-use Rattle.core_run.proofs.Running.{stays, by_none, by_then}
+use Rattle.core_run.proofs.Running.{stays, by_none, by_then, on_ok}
 use Rattle.core_run.proofs.runner.Runner.settle_all.Goals as goal
 
 pub loop-round-init : goal.loop-round-init
-loop-round-init c = record { moves = by_none c.args.self.now c.args.self.now c.args.servers.now (stays c.args.self.now c.args.servers.now); count = refl }
+loop-round-init c = record { moves = by_none c.args.self.now c.args.self.now c.args.servers.now (stays c.args.self.now c.args.servers.now); count = refl; clients = refl }
 
 pub loop-round-preserved : goal.loop-round-preserved
-loop-round-preserved c = record {
-  moves = by_then c.args.self.now c.loop-round.self c.settle_first.new.self c.args.servers.now c.loop-round.servers c.settle_first.new.servers c.loop-round.invariant.moves (c.in_ok-settle_first-in-Some.ensures.ok.0, c.in_ok-settle_first-in-Some.ensures.ok.2);
-  count = c.in_ok-settle_first-in-Some.ensures.count ∙ c.loop-round.invariant.count;
-}
+loop-round-preserved c =
+    let v = c.loop-round.invariant in
+    let s = c.loop-round.servers in
+    let polled = by_then c.args.self.now c.loop-round.self c.poll_all.new.self c.args.servers.now s s v.moves (by_none c.loop-round.self c.poll_all.new.self s (c.in_ok-is_idle.ensures.moves s)) in
+    let e = c.in_ok-give_first-in-Some.ensures in
+    record {
+      moves = by_then c.args.self.now c.poll_all.new.self c.give_first.new.self c.args.servers.now s c.give_first.new.servers polled (e.ok.0, e.ok.2);
+      count = e.count ∙ v.count;
+      clients = e.clients ∙ c.in_ok-is_idle.ensures.clients ∙ v.clients;
+    }
+
+pub returns-in-None-clause-ok : goal.returns-in-None-clause-ok
+returns-in-None-clause-ok c =
+    let v = c.loop-round.invariant in
+    let s = c.loop-round.servers in
+    on_ok c.rest.result _ _ (λ r. by_then c.args.self.now c.loop-round.self c.poll_all.new.self c.args.servers.now s s v.moves (by_none c.loop-round.self c.poll_all.new.self s (c.in_ok-is_idle.ensures.moves s))) c.rest.ensures
 
 pub returns-in-None-clause-none : goal.returns-in-None-clause-none
-returns-in-None-clause-none c = subst (λ (o : Option ℕ). IsLeast o c.loop-round.self.out.items) c.in-None.is c.least.ensures
+returns-in-None-clause-none c = on_ok c.rest.result _ _ (λ r. subst (λ (o : Option ℕ). IsLeast o c.poll_all.new.self.out.items) c.in-None.is c.least.ensures) c.rest.ensures
+
+pub returns-in-None-clause-clients : goal.returns-in-None-clause-clients
+returns-in-None-clause-clients c = on_ok c.rest.result _ _ (λ r. c.in_ok-is_idle.ensures.clients ∙ c.loop-round.invariant.clients) c.rest.ensures
+
+pub returns-in-None-clause-rest : goal.returns-in-None-clause-rest
+returns-in-None-clause-rest c = on_ok c.rest.result _ _ (λ r. record { idle = c.in_ok-is_idle.ensures.idle r.0; none = r.1 }) c.rest.ensures

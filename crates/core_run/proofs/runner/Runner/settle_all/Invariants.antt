@@ -4,4 +4,4 @@ use Rattle.core_run.specs.Running.{MovesByResults}
 use Rattle.core_run.proofs.runner.Runner.settle_all.Given as goal
 
 abbrev pub invariant-loop-round : goal.invariant-loop-round
-invariant-loop-round l = record { moves : MovesByResults l.fn.self l.fn.servers l.self l.servers; count : count_of l.servers ≡ count_of l.fn.servers }
+invariant-loop-round l = record { moves : MovesByResults l.fn.self l.fn.servers l.self l.servers; count : count_of l.servers ≡ count_of l.fn.servers; clients : l.self.clients ≡ l.fn.self.clients }
