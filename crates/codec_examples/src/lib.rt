@@ -1,5 +1,5 @@
-//! Worked examples of the protocol: values and their copies, words and numbers of lines, requests and answers of both dialects,
-//! and streams of messages. They stand above the crates that they show, so that a change of an example proves the example alone.
+//! Worked examples of the codec: answers of both dialects, streams of messages in any pieces, and classic gets that a server is
+//! asked in the meta dialect. They stand above the crates that they show, so that a change of an example proves the example alone.
 #![tactic(auto)]
 
 #[cfg(test)]
@@ -9,16 +9,4 @@ mod answers_meta;
 #[cfg(test)]
 mod meta_forms;
 #[cfg(test)]
-mod parts;
-#[cfg(test)]
-mod requests_classic;
-#[cfg(test)]
-mod requests_meta;
-#[cfg(test)]
-mod requests_mixed;
-#[cfg(test)]
 mod streams;
-#[cfg(test)]
-mod texts;
-#[cfg(test)]
-mod values;

@@ -1,6 +1,7 @@
 //! A script, run through a tree of routes on servers in memory.
 
 ghost use Rattle.std.specs.Prelude.{◌≡◌, ◌<◌, ◌≤◌, ◌↔◌, ◌⊎◌, pos, ◌≤ℤ◌, List, [], ◌∷◌, ◌++◌, true, false, length, map, slice_get, Some, None, IsTrue, IfSome, IfOk, IfErr, OnOk, OnErr, MatchResult};
+ghost use Rattle.server_addresses.specs.declared.servers.TheConstants.{MAX_SERVERS};
 ghost use Rattle.route_tree.specs.Route.{IsTree};
 ghost use Rattle.memory_fleet.specs.Fleets.{IsNewFleet, IsMoment, count_of, begun_of};
 ghost use Rattle.memory_fleet.specs.declared.event.FleetFault.TheVariants.{NoMemory};
@@ -273,7 +274,7 @@ pub fn drive_by(
     marks: &mut Vec<usize>,
 ) -> Result<Report, DriveFault>
     requires servers { length config.now.servers ≤ count_of fleet.old }
-    requires few { count_of fleet.old ≤ 4294967295 }
+    requires few { count_of fleet.old ≤ MAX_SERVERS }
     requires order { AreInOrder (length script.now.events.items) (count_of fleet.old) 0 reloads.now }
     requires fleet { IsNewFleet (count_of fleet.old) fleet.old }
     requires transcript { transcript.old.shown.items ≡ [] }

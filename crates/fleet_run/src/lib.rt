@@ -12,6 +12,6 @@ pub mod stepped;
 pub use bad::first_bad_event;
 pub use drive::{drive_any, drive_by};
 pub use memory_fleet::{Loss, MemoryFleet};
-pub use script::{DriveFault, Event, Output, Reload, Report, Script, Transcript};
+pub use script::{DriveFault, Event, Output, PIECE_CUT, Reload, Report, Script, Transcript};
 pub use script_servers::Manner;
 pub use stepped::is_stepped;

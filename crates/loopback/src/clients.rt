@@ -12,8 +12,8 @@ const LIMITS: Limits = Limits {
     unsent: usize::MAX,
 };
 
-// The room of one read, in bytes.
-const READ_ROOM: usize = 65_536;
+/// The room of one read, in bytes.
+pub(crate) const READ_ROOM: usize = 65_536;
 
 // So many reads, and so many writes, are made in one turn at most.
 const STEPS: usize = 64;

@@ -3,7 +3,7 @@
 use crate::clients::ClientEnd;
 use crate::entries::Entry;
 use crate::servers::Servers;
-use fleet_run::{Event, Output, Reload, Script};
+use fleet_run::{Event, Output, PIECE_CUT, Reload, Script};
 use fresh_gate::{Accepted, ReloadFault};
 use link_calls::LoadFault;
 use mc_types::limits::SCRIPT_CLIENTS;
@@ -16,9 +16,6 @@ use std::net::{IpAddr, Ipv4Addr, Net, SocketAddr};
 use std::rt::Clock;
 use std::time::Duration;
 use tcp_proxy::{ProxyEnd, ServerDialect, Settings};
-
-// The most bytes of a piece that come at once.
-const CUT: usize = 65_536;
 
 // How long one turn waits at most where nothing is ready, in milliseconds.
 const WAIT_MS: u64 = 1;
@@ -183,8 +180,8 @@ impl Ends {
     // A piece comes from a client, in cuts as a replay makes them: after each, each call that is out has its result.
     fn serve<R: Net + Clock>(&mut self, rt: &R, place: usize, piece: &[u8]) -> io::Result<()> {
         let mut rest = piece;
-        while rest.len() > CUT {
-            let (cut, more) = rest.split_at(CUT);
+        while rest.len() > PIECE_CUT {
+            let (cut, more) = rest.split_at(PIECE_CUT);
             self.add(rt, place, cut)?;
             self.settle_all(rt)?;
             rest = more;

@@ -1,6 +1,7 @@
 //! The servers' ends: their caches, the script's clock, and what becomes of each call.
 
 use crate::calls::Calls;
+use crate::clients::READ_ROOM;
 use bytes::BytesMut;
 use cache_connection::Cache;
 use mc_types::{DATA_LIMIT, Key, ServerId};
@@ -21,9 +22,6 @@ const LIMITS: Limits = Limits {
     held: 4_194_304,
     unsent: 4_194_304,
 };
-
-// The room of one read, in bytes.
-const READ_ROOM: usize = 65_536;
 
 // So many writes are made in one turn at most.
 const WRITES: usize = 64;

@@ -1,8 +1,8 @@
 //! Worked verdicts of the gate, on configurations, certificates and reloads.
 
-use crate::tables::{Teller, between, halves, number_of, wrong};
 use certificates::{Certificate, ClassRows, Run, places};
 use coverage::Deleting;
+use example_tables::tellers::{Teller, between, halves, number_of, wrong};
 use fresh_gate::{Accepted, Gap, Reason, Refused, ReloadFault, check, judge};
 use mc_types::{Op, ServerId};
 use route_json::{Config, ConfigFault, read_config};

@@ -1,6 +1,6 @@
 //! Hashes, hash parts and slots that are known from outside.
 
-use crate::tables::{Teller, halves, wrong};
+use example_tables::tellers::{Teller, halves, wrong};
 use key_hash::{fnv1a_32, hash_part, slot};
 use mc_types::Key;
 use std::alloc::{AllocError, Global};

@@ -6,8 +6,8 @@ ghost use Rattle.std.specs.Prelude.{IfOk};
 ghost use Rattle.mc_types.specs.Fits.{Fits, IsAnswer, FitsFetch, FitsStore, FitsCas, FitsDelete};
 ghost use Rattle.mc_runs.specs.Single.{FitsOutcome};
 
-use crate::tables::{Teller, halves, push_number, push_word, wrong};
 use crate::trees::tree_of;
+use example_tables::tellers::{Teller, halves, push_number, push_word, wrong};
 use mc_types::{Answer, Ask, Body, Dialect, Key, Op, Origin, Outcome, ServerId, Tokens};
 use route_job::{Job, Step};
 use route_json::ConfigFault;

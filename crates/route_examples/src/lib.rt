@@ -1,12 +1,7 @@
-//! Worked examples of routes: hashes, names, addresses, plain trees, configurations and their faults, jobs of one command on
-//! small trees, the places of trees, and the gate's verdicts. They stand above the crates that they show, so that a change of an
-//! example proves the example alone.
+//! Worked examples of routes: hashes, plain trees, jobs of one command on small trees, the places of trees, and the gate's verdicts.
+//! They stand above the crates that they show, so that a change of an example proves the example alone.
 #![tactic(auto)]
 
-#[cfg(test)]
-mod addresses;
-#[cfg(test)]
-mod configurations;
 #[cfg(test)]
 mod gates;
 #[cfg(test)]
@@ -14,12 +9,8 @@ mod hashes;
 #[cfg(test)]
 mod jobs;
 #[cfg(test)]
-mod names;
-#[cfg(test)]
 mod places;
 #[cfg(test)]
 mod route_trees;
-#[cfg(test)]
-mod tables;
 #[cfg(test)]
 mod trees;

@@ -3,12 +3,14 @@
 ghost use Rattle.std.specs.Prelude.{◌<◌, ◌≤◌};
 ghost use Rattle.certificates.specs.Tables.{row_count, most_rows};
 
-use crate::tables::{Teller, halves, number_of, push_number, push_word, written_out, wrong};
 use crate::trees::{place_of, tree_of, tree_of_text};
 use certificates::{
     Certificate, ClassRows, PlaceFault, PlaceTable, Run, places, places_of_two, propose,
 };
 use coverage::{Deleting, cleared, taken};
+use example_tables::tellers::{
+    Teller, halves, number_of, push_number, push_word, written_out, wrong,
+};
 use mc_types::{Key, ServerId};
 use route_json::ConfigFault;
 use route_names::op_of;

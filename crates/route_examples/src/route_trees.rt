@@ -1,8 +1,8 @@
 //! Worked cases of plain trees. The hashes after them are FNV-1a's published values of `a` (e40c292c) and `b` (e70c2de5),
 //! and that of `k6` (993d8254), by a second program.
 
-use crate::tables::{Teller, halves, wrong};
 use crate::trees::{place_of, tree_of};
+use example_tables::tellers::{Teller, halves, wrong};
 use mc_types::{Key, ServerId};
 use route_json::ConfigFault;
 use route_tree::{Plain, PlainForm, Tree, TreeForm};

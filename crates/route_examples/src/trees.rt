@@ -1,6 +1,6 @@
 //! Trees of routes over servers 0 to 22, each of which has its number in its address.
 
-use crate::tables::{between, halves, number_of, written_out};
+use example_tables::tellers::{between, halves, number_of, written_out};
 use mc_types::Key;
 use route_json::{ConfigFault, read_config};
 use route_tree::{Place, Tree};

@@ -1,9 +1,11 @@
 //! Ends on 127.0.0.1 that are turned by turns: cache servers, a proxy, and the clients' ends of connections.
 
-use crate::configs::{read, read_after, with_configs};
-use crate::playing::{Stage, cut, first_line, numbered, plain, play_lines, shown, yes_or_no};
+use example_tables::configs::with_configs;
+use example_tables::playing::{
+    Stage, cut, first_line, numbered, plain, play_lines, shown, yes_or_no,
+};
 use fresh_gate::{Accepted, judge};
-use route_json::Config;
+use route_json::{Config, read_config, read_config_after};
 use std::alloc::{AllocError, Global};
 use std::io;
 use std::io::{ErrorKind, Read, Write};
@@ -50,6 +52,17 @@ fn drop_cache(_cache: Cache) {}
 // 127.0.0.1, at a port that the system picks.
 fn any_port() -> SocketAddr {
     SocketAddr::new(IpAddr::V4(Ipv4Addr::LOCALHOST), 0)
+}
+
+// The configuration that a text is.
+fn read(alloc: Global, text: &str) -> Result<Config, Fail> {
+    Ok(read_config(alloc, text)?)
+}
+
+// The same, over the servers of another one.
+fn read_after(alloc: Global, first: &Config, text: &str) -> Result<Config, Fail> {
+    let servers = first.servers().copy(alloc)?;
+    Ok(read_config_after(alloc, servers, text)?)
 }
 
 fn judged(alloc: Global, config: Config) -> Result<Accepted, Fail> {

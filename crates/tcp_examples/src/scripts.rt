@@ -1,7 +1,7 @@
 //! Scripts that are run with proxy, clients and servers as ends of TCP connections.
 
-use crate::configs::with_configs;
-use crate::playing::first_line;
+use example_tables::configs::with_configs;
+use example_tables::playing::first_line;
 use loopback::run_loopback;
 use std::test::Fail;
 

@@ -1,13 +1,14 @@
 //! Two gets of one client, whose calls are out at one server.
 
-use crate::configs::{read, with_configs};
-use crate::playing::{Stage, cut, first_line, plain, play_lines, shown};
 use bytes::BytesMut;
+use example_tables::configs::with_configs;
+use example_tables::playing::{Stage, cut, first_line, plain, play_lines, shown};
 use fresh_core::FreshCore;
 use fresh_gate::judge;
 use link_calls::{AnyCore, LinkCalls, Next, SentCall};
 use mc_types::Dialect;
 use proxy_core::{Limits, Poll, Sharing, Ticket};
+use route_json::read_config;
 use std::alloc::Global;
 use std::test::Fail;
 
@@ -50,7 +51,7 @@ const LIMITS: Limits = Limits {
 };
 
 fn core_by(alloc: Global, text: &str) -> Result<AnyCore, Fail> {
-    match judge(alloc, read(alloc, text)?) {
+    match judge(alloc, read_config(alloc, text)?) {
         Ok(accepted) => Ok(AnyCore::Fresh(FreshCore::new(alloc, accepted, LIMITS)?)),
         Err(_) => Err("a pool of one server is refused")?,
     }

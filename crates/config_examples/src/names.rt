@@ -1,6 +1,6 @@
 //! Names of routes, fields and operations.
 
-use crate::tables::{Teller, halves, wrong};
+use example_tables::tellers::{Teller, halves, wrong};
 use mc_types::Op;
 use route_names::{Holder, Kind, Lists, is_field, kind_of, op_of, rest_after};
 use std::alloc::{AllocError, Global};

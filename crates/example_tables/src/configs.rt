@@ -1,8 +1,6 @@
 //! The configurations of examples, by the names by which these call them.
 
-use route_json::{Config, read_config, read_config_after};
 use std::alloc::{AllocError, Global};
-use std::test::Fail;
 
 fn one_server() -> &'static str {
     r#"{"pools":{"A":{"servers":["127.0.0.1:5001"]}},"route":"PoolRoute|A"}"#
@@ -66,15 +64,4 @@ pub fn with_configs(alloc: Global, text: &str) -> Result<String, AllocError> {
         text = with_route(alloc, text.as_str(), name, route)?;
     }
     Ok(text)
-}
-
-/// The configuration that a text is.
-pub fn read(alloc: Global, text: &str) -> Result<Config, Fail> {
-    Ok(read_config(alloc, text)?)
-}
-
-/// The same, over the servers of another one.
-pub fn read_after(alloc: Global, first: &Config, text: &str) -> Result<Config, Fail> {
-    let servers = first.servers().copy(alloc)?;
-    Ok(read_config_after(alloc, servers, text)?)
 }

@@ -1,6 +1,6 @@
 //! Addresses, the texts of servers, and sets of addresses that number them.
 
-use crate::tables::{Teller, halves, wrong};
+use example_tables::tellers::{Teller, halves, wrong};
 use mc_types::ServerId;
 use server_addresses::{Servers, is_address, read_server};
 use std::alloc::{AllocError, Global};

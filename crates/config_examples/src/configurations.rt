@@ -2,7 +2,7 @@
 
 ghost use Rattle.std.specs.Prelude.{◌<◌, ◌≤◌};
 
-use crate::tables::{Teller, between, wrong};
+use example_tables::tellers::{Teller, between, wrong};
 use mc_types::{Key, Op, ServerId};
 use route_json::{Config, ConfigFault, read_config};
 use route_tree::{Tree, TreeForm};

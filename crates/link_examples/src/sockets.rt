@@ -4,7 +4,7 @@ ghost use Rattle.std.specs.Prelude.{◌≡◌, ◌≤◌};
 ghost use Rattle.std.specs.Io.{ReadsAtMost, WritesAtMost};
 ghost use Rattle.std.specs.Io.KnownBytes.{ReadConsumes, WriteAppends, Keeps};
 
-use crate::playing::{Stage, cut, first_line, plain, play_lines, shown, yes_or_no};
+use example_tables::playing::{Stage, cut, first_line, plain, play_lines, shown, yes_or_no};
 use std::alloc::Global;
 use std::io;
 use std::io::{ErrorKind, Read, Write};

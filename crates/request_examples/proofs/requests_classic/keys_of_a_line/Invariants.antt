@@ -1,5 +1,5 @@
 use Rattle.text_requests.specs.Asks.{IsWalk}
-use Rattle.codec_examples.proofs.requests_classic.keys_of_a_line.Given as goal
+use Rattle.request_examples.proofs.requests_classic.keys_of_a_line.Given as goal
 
 abbrev pub invariant-loop-key : goal.invariant-loop-key
 invariant-loop-key g l = IsWalk l.bytes l.walk
