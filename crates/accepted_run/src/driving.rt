@@ -4,6 +4,7 @@ ghost use Rattle.std.specs.Prelude.{◌≡◌, ◌≤◌, [], false, length, map
 ghost use Rattle.memory_fleet.specs.Fleets.{IsNewFleet, count_of};
 ghost use Rattle.fleet_run.specs.Scripted.{scripted_of, transcript_of};
 ghost use Rattle.fleet_run.specs.Stepped.{is_stepped};
+ghost use Rattle.server_addresses.specs.declared.servers.TheConstants.{MAX_SERVERS};
 ghost use Rattle.fleet_run.specs.Bad.{first_bad, Refuses};
 ghost use Rattle.fleet_run.specs.Driving.{IsSpent, IsKept};
 ghost use Rattle.fleet_run.specs.Reloads.{AreInOrder};
@@ -69,7 +70,7 @@ pub fn drive_judged(
 ) -> Result<Report, DriveFault>
     requires judged { AreJudged first.now reloads.now judged.now.loadings.items judged.now.refused.items accepted.now }
     requires servers { length first.now.servers ≤ count_of fleet.old }
-    requires few { count_of fleet.old ≤ 4294967295 }
+    requires few { count_of fleet.old ≤ MAX_SERVERS }
     requires order { AreInOrder (length script.now.events.items) (count_of fleet.old) 0 reloads.now }
     requires fleet { IsNewFleet (count_of fleet.old) fleet.old }
     requires transcript { transcript.old.shown.items ≡ [] }

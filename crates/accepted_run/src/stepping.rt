@@ -3,6 +3,7 @@
 ghost use Rattle.std.specs.Prelude.{◌≡◌, ◌≤◌, [], length, map, None, IfOk, IfErr, OnOk, MatchResult};
 ghost use Rattle.script_servers.specs.Servers.{IsNew, count_of};
 ghost use Rattle.fleet_run.specs.Scripted.{scripted_of, transcript_of};
+ghost use Rattle.server_addresses.specs.declared.servers.TheConstants.{MAX_SERVERS};
 ghost use Rattle.fleet_run.specs.Bad.{first_bad, Refuses};
 ghost use Rattle.fleet_run.specs.Reloads.{AreInOrder};
 ghost use Rattle.stepped_run.specs.Driving.{AreMarks};
@@ -39,7 +40,7 @@ pub fn drive_stepped_judged(
 ) -> Result<Report, DriveFault>
     requires judged { AreJudged first.now reloads.now judged.now.loadings.items judged.now.refused.items accepted.now }
     requires servers { length first.now.servers ≤ count_of servers.old }
-    requires few { count_of servers.old ≤ 4294967295 }
+    requires few { count_of servers.old ≤ MAX_SERVERS }
     requires order { AreInOrder (length script.now.events.items) (count_of servers.old) 0 reloads.now }
     requires new { IsNew (count_of servers.old) servers.old }
     requires transcript { transcript.old.shown.items ≡ [] }

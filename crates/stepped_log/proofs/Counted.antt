@@ -1,5 +1,5 @@
 -- Where a log goes on and no call had its result, its run has the same calls.
-use Rattle.std.proofs.Common.{◌≡◌, ℕ, zero, suc, ◌+◌, List, [], ◌∷◌, ◌++◌, length, Option, refl, sym, ap, ◌∙◌, arith}
+use Rattle.std.proofs.Common.{◌≡◌, ℕ, ◌+◌, List, [], ◌∷◌, ◌++◌, length, Option, refl, sym, ap, ◌∙◌, arith}
 use Rattle.mc_types.specs.Items.{Item}
 use Rattle.mc_runs.specs.Run.{outcome_of}
 use Rattle.mc_runs.specs.Sharing.{Event, Begins, Calls, Replies, Breaks, Loses, Restarts, calls_in}

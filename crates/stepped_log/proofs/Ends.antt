@@ -1,10 +1,8 @@
 -- Where a log begins to stand, how it stands over a tree that is loaded, and what it says in the end.
-use Rattle.std.proofs.Common.{◌≡◌, ℕ, zero, suc, ◌<◌, ◌≤◌, Bool, true, false, cond, List, [], ◌∷◌, nat_lt, Option, Some, None, refl, sym, ap, ◌∙◌, subst, arith}
+use Rattle.std.proofs.Common.{◌≡◌, ℕ, ◌<◌, ◌≤◌, Bool, true, false, cond, List, [], ◌∷◌, nat_lt, Option, refl, sym, ap, ◌∙◌, subst, arith}
 use Rattle.std.proofs.lemmas.Bool.{ltb-true, ltb-false}
-use Rattle.mc_types.specs.declared.ask.Ask.{Ask}
 use Rattle.mc_types.specs.Items.{Item}
-use Rattle.mc_runs.specs.Cover.{IsCovered}
-use Rattle.mc_runs.specs.Overlap.{Owner, Entry, run_of, owner_of, Follows}
+use Rattle.mc_runs.specs.Overlap.{Entry, run_of, Follows}
 use Rattle.mc_runs.specs.OverlapState.{LeadsTo}
 use Rattle.mc_runs.specs.Sharing.{AreAlone, calls_so_far, IsFreshByNumber}
 use Rattle.mc_runs.specs.SharingStale.{stale_in}

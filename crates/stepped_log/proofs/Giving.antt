@@ -1,8 +1,8 @@
 -- Output that a client is given goes on with the log: it was all that there was for it, and nothing else is done.
-use Rattle.std.proofs.Common.{◌≡◌, ℕ, ◌<◌, true, cond, nat_eq, List, [], ◌∷◌, ◌++◌, refl, sym, ap, ◌∙◌, subst, arith}
+use Rattle.std.proofs.Common.{cond, List, [], ◌∷◌, ◌++◌, refl, sym, ap, ◌∙◌, subst, arith}
 use Rattle.std.proofs.lemmas.Bool.{eq-eqb}
 use Rattle.mc_runs.specs.Sharing.{calls_so_far}
-use Rattle.mc_runs.specs.Overlap.{Entry, Gives, run_of, given_of, output_of}
+use Rattle.mc_runs.specs.Overlap.{Entry, Gives, run_of, given_of}
 use Rattle.mc_runs.specs.OverlapState.{LeadsTo}
 use Rattle.memory_fleet.specs.Law.{AreFound}
 use Rattle.memory_fleet.specs.Losing.{held_at}

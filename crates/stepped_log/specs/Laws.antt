@@ -1,11 +1,11 @@
 -- What each call of the core and of the servers makes of a log that stands. Source: mcgate's own.
-use Rattle.std.specs.Prelude.{◌≡◌, ℕ, ◌+◌, ◌<◌, Bool, true, false, List, [], ◌∷◌, ◌++◌, Option, Some, None, ◌&&◌, nat_le, bytes_eq, if◌then◌else◌, nat_eq}
+use Rattle.std.specs.Prelude.{◌≡◌, ℕ, ◌+◌, Bool, false, List, [], ◌∷◌, ◌++◌, Option, Some, None, ◌&&◌, nat_le, bytes_eq, if◌then◌else◌, nat_eq}
 use Rattle.mc_types.specs.declared.ask.Ask.{Ask}
 use Rattle.mc_types.specs.declared.call.Origin.{Origin}
 use Rattle.mc_types.specs.Items.{Item}
 use Rattle.mc_runs.specs.Fleet.{after_event}
 use Rattle.mc_runs.specs.Overlap.{Entry, Follows, run_of}
-use Rattle.mc_runs.specs.Sharing.{commands_in, calls_in, IsFresh, IsFreshByNumber}
+use Rattle.mc_runs.specs.Sharing.{commands_in, calls_in, IsFreshByNumber}
 use Rattle.mc_runs.specs.SharingStale.{stale_in}
 use Rattle.mc_runs.specs.Cover.{IsCovered}
 use Rattle.memory_fleet.specs.Law.{stamp_at, stamp_given}

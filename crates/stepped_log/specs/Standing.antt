@@ -1,5 +1,5 @@
 -- Where a script that steps its calls stands in the log of overlapping commands. Source: mcgate's own.
-use Rattle.std.specs.Prelude.{◌≡◌, ℕ, ◌+◌, ◌<◌, false, List, [], ◌∷◌, ◌++◌, Option, Some, None, if◌then◌else◌, nat_eq, nat_lt}
+use Rattle.std.specs.Prelude.{◌≡◌, ℕ, ◌+◌, ◌<◌, false, List, [], ◌∷◌, ◌++◌, Option, Some, if◌then◌else◌, nat_eq, nat_lt}
 use Rattle.mc_types.specs.Items.{Item}
 use Rattle.mc_runs.specs.Sharing.{Event, Begins, Calls, Replies, Breaks, Loses, Restarts, calls_so_far}
 use Rattle.mc_runs.specs.SharingStale.{tally_of, last_gone}

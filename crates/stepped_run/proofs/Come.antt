@@ -1,17 +1,15 @@
 -- How far a script has come, step by step, and what it did in the end.
-use Rattle.std.proofs.Common.{◌≡◌, ℕ, zero, suc, ◌+◌, ◌<◌, ◌≤◌, Bool, true, false, cond, nat_eq, List, [], ◌∷◌, ◌++◌, length, map, slice_get, take, drop, get_or, Option, Some, None, Result, Ok, Err, inl, inr, length-append, refl, sym, ap, ◌∙◌, subst, arith, append_assoc, append-nil}
+use Rattle.std.proofs.Common.{◌≡◌, ℕ, zero, suc, ◌+◌, ◌<◌, ◌≤◌, Bool, true, false, List, [], ◌∷◌, ◌++◌, length, map, slice_get, take, drop, get_or, Option, Some, None, Result, Ok, Err, inl, inr, length-append, refl, sym, ap, ◌∙◌, subst, arith, append_assoc}
 use Rattle.std.specs.Prelude.{replicate, IfSome, OnOk, OnErr}
-use Rattle.std.proofs.Math.Seq.{drop-cons, drop-length}
+use Rattle.std.proofs.Math.Seq.{drop-cons}
 use Rattle.std.proofs.lemmas.Bool.{cases_lt}
 use Rattle.std.proofs.lemmas.List.Elements.{All-weaker, All-same, All-push, All-nil}
-use Rattle.std.proofs.lemmas.List.{append_cancel_right, drop-map}
 use Rattle.std.proofs.lemmas.Option.{slice_get-get_or}
-use Rattle.mc_types.specs.Items.{Item}
 use Rattle.mc_runs.specs.Log.{Shown}
-use Rattle.mc_runs.specs.Overlap.{Entry, given_of, run_of}
+use Rattle.mc_runs.specs.Overlap.{Entry}
 use Rattle.mc_runs.specs.OverlapStream.{stream_of}
 use Rattle.mc_runs.proofs.OverlapRuns.{runs}
-use Rattle.cache_server.specs.Contents.{Contents, empty}
+use Rattle.cache_server.specs.Contents.{empty}
 use Rattle.memory_fleet.specs.Fleets.{capacity}
 use Rattle.memory_fleet.specs.Losing.{held_at}
 use Rattle.memory_fleet.specs.declared.event.FleetFault.{FleetFault}
@@ -26,7 +24,6 @@ use Rattle.route_tree.specs.Word.{tree_words}
 use Rattle.fleet_run.specs.declared.script.Event.{Event}
 use Rattle.fleet_run.specs.declared.script.Output.{Output}
 use Rattle.fleet_run.specs.declared.script.Reload.{Reload}
-use Rattle.fleet_run.specs.declared.script.Report.{Report}
 use Rattle.fleet_run.specs.declared.script.Transcript.{Transcript}
 use Rattle.fleet_run.specs.Bad.{first_bad}
 use Rattle.fleet_run.specs.Driving.{fault_of}
@@ -37,16 +34,15 @@ use Rattle.script_servers.specs.Servers.{caches_of, turn_of, moment_of, named_of
 use Rattle.script_servers.specs.declared.servers.ScriptServers.{ScriptServers}
 use Rattle.stepped_log.specs.Standing.{Kept, Stands, tree_by}
 use Rattle.stepped_log.specs.Laws.{StandingSays, NothingStands, IsBegin}
-use Rattle.core_run.specs.Running.{kept_of, MovesByResults, IsLoadedBy}
+use Rattle.core_run.specs.Running.{kept_of, MovesByResults}
 use Rattle.core_run.specs.declared.runner.Runner.{Runner}
-use Rattle.stepped_run.specs.Driving.{said_by, said_in, shown_to, AreHandedInTurn, AreThrough, trees_loaded, loaded_trees, IsReached, CameSo, CameInTurn, StepsPart, EndsStepped, AreMarks}
+use Rattle.stepped_run.specs.Driving.{said_by, said_in, shown_to, AreHandedInTurn, AreThrough, IsReached, CameSo, CameInTurn, StepsPart, EndsStepped, AreMarks}
 use Rattle.stepped_run.specs.Holding.{put_all_on}
 use Rattle.stepped_run.specs.Stepping.{Befalls, HandsOut, HandsSome, HasCome, IsDue}
 use Rattle.stepped_log.proofs.Counted.{none_more}
-use Rattle.stepped_run.specs.World.{World}
 use Rattle.stepped_run.proofs.Held.{held_new, opened_new}
 use Rattle.stepped_run.proofs.Worlds.{world_next, world_ended, world_stays}
-use Rattle.stepped_run.proofs.Steps.{handed_on, hands_nothing}
+use Rattle.stepped_run.proofs.Steps.{handed_on}
 
 -- ---- reloads
 

@@ -26,7 +26,7 @@ use Rattle.core_run.proofs.Running.{given_then}
 use Rattle.core_run.specs.declared.runner.Runner.{Runner}
 use Rattle.stepped_run.specs.Driving.{said_by, shown_to, IsHanded, AreHandedInTurn}
 use Rattle.stepped_run.specs.World.{Changes}
-use Rattle.stepped_run.specs.Stepping.{HasCalls, FedBy, AreFit, IsHeard, LeavesBy, GoesOnSaid, Befalls, IsGivenAll, GoesOnShown, HandsOut, HandsSome}
+use Rattle.stepped_run.specs.Stepping.{HasCalls, FedBy, AreFit, IsHeard, LeavesBy, GoesOnSaid, Befalls, IsGivenAll, HandsOut, HandsSome}
 
 -- ---- bytes that a client says
 

@@ -1,5 +1,5 @@
 -- How it stands after each event of a script, and what a script did in the end: clients heard, outputs and marks at their places, and nothing left to do.
-use Rattle.std.proofs.Common.{◌≡◌, ℕ, zero, suc, ◌+◌, ◌<◌, ◌≤◌, Bool, true, false, cond, List, [], ◌∷◌, ◌++◌, length, map, slice_get, take, drop, get_or, Option, Some, None, inl, inr, length-append, refl, sym, ap, ◌∙◌, subst, arith, append_assoc, append-nil}
+use Rattle.std.proofs.Common.{◌≡◌, ℕ, zero, suc, ◌+◌, ◌<◌, ◌≤◌, Bool, true, false, List, [], ◌∷◌, ◌++◌, length, map, slice_get, take, drop, get_or, Option, Some, None, inl, inr, length-append, refl, sym, ap, ◌∙◌, subst, arith, append_assoc, append-nil}
 use Rattle.std.specs.Prelude.{◌⊎◌, MatchOption, option_map, nat_eq}
 use Rattle.std.specs.Map.{lookup}
 use Rattle.std.proofs.Math.Seq.{drop-length, take-length, take-append_seam}
@@ -8,7 +8,7 @@ use Rattle.std.proofs.lemmas.List.{append_cancel_right, drop-map, take-append-le
 use Rattle.commands_under_way.specs.Begun.{owner_by}
 use Rattle.mc_types.specs.Items.{Item}
 use Rattle.mc_runs.specs.Log.{Shown}
-use Rattle.mc_runs.specs.Overlap.{Slot, Entry, run_of, front_of, queue_of, output_of, given_of, owner_of}
+use Rattle.mc_runs.specs.Overlap.{Slot, Entry, front_of, queue_of, given_of, owner_of}
 use Rattle.mc_runs.specs.OverlapStream.{stream_of}
 use Rattle.mc_runs.specs.Protocol.{IsStuck}
 use Rattle.mc_runs.proofs.OverlapRuns.{runs}
@@ -34,13 +34,13 @@ use Rattle.fleet_run.specs.Reloads.{is_refused}
 use Rattle.fleet_run.specs.Scripted.{Scripted, Piece, Add, Result, Fail, Hold, At, Now, Moment, scripted_of, transcript_of}
 use Rattle.script_servers.specs.Servers.{caches_of, turn_of, IsNew}
 use Rattle.script_servers.specs.declared.servers.ScriptServers.{ScriptServers}
-use Rattle.stepped_log.specs.Standing.{Kept, Stands, GoesOn, LeavesAsMuch, tree_by}
+use Rattle.stepped_log.specs.Standing.{Kept, Stands, LeavesAsMuch, tree_by}
 use Rattle.stepped_log.specs.Laws.{StandingSays, NothingStands, IsBegin}
-use Rattle.core_run.specs.Running.{kept_of, MovesByResults, IsIdle, AreIdle, IsAtRest}
+use Rattle.core_run.specs.Running.{kept_of, MovesByResults, IsIdle, IsAtRest}
 use Rattle.core_run.specs.declared.runner.Runner.{Runner}
-use Rattle.stepped_run.specs.Driving.{said_by, said_in, shown_to, may_be_out, leaves_out, IsDoneFor, IsSettled, IsThrough, AreThrough, IsMarked, AreMarked, one_loaded, trees_loaded, loaded_trees, IsReached, CameSo, CameInTurn, DrivesStepped, StepsPart}
+use Rattle.stepped_run.specs.Driving.{said_by, said_in, shown_to, may_be_out, leaves_out, IsDoneFor, IsSettled, IsThrough, AreThrough, IsMarked, AreMarked, one_loaded, trees_loaded, IsReached, CameSo, CameInTurn, DrivesStepped, StepsPart}
 use Rattle.stepped_run.specs.Holding.{put_all_on}
-use Rattle.stepped_run.specs.Stepping.{Befalls, LeavesBy, IsHeard, RestsAfter, IsGivenAll, HandsOut, HandsOutAll, HandsSome, HasCome, HasStood, TakesUp, Loads}
+use Rattle.stepped_run.specs.Stepping.{Befalls, LeavesBy, IsHeard, RestsAfter, IsGivenAll, HandsOutAll, HandsSome, HasCome, HasStood, TakesUp, Loads}
 use Rattle.stepped_run.specs.World.{World}
 use Rattle.stepped_run.proofs.Come.{said_split, mark_count, come_on, come_ended, come_out, come_some, part_of, begins, next_left}
 

@@ -1,5 +1,5 @@
 -- The world of a log goes on by events and by results.
-use Rattle.std.proofs.Common.{◌≡◌, ℕ, List, [], ◌∷◌, ◌++◌, map, refl, sym, ap, ◌∙◌, subst}
+use Rattle.std.proofs.Common.{◌≡◌, List, [], ◌∷◌, ◌++◌, map, refl, sym, ap, ◌∙◌, subst}
 use Rattle.std.proofs.lemmas.List.{map-append}
 use Rattle.mc_runs.specs.Overlap.{Entry, run_of}
 use Rattle.proxy_core.specs.CoreState.{dialect}

@@ -1,5 +1,5 @@
 -- What a script's events and the results of calls make of the servers, one after another. Source: mcgate's own.
-use Rattle.std.specs.Prelude.{◌≡◌, ℕ, ◌+◌, pos, List, [], ◌∷◌, ◌++◌, map, Option, Some, None, slice_get, if◌then◌else◌, nat_eq}
+use Rattle.std.specs.Prelude.{◌≡◌, ℕ, ◌+◌, pos, List, [], ◌∷◌, ◌++◌, map, Some, None, slice_get, if◌then◌else◌, nat_eq}
 use Rattle.mc_runs.specs.Overlap.{Entry, run_of}
 use Rattle.cache_server.specs.Contents.{Contents}
 use Rattle.memory_fleet.specs.Losing as losing

@@ -8,13 +8,10 @@ ghost use Rattle.core_run.specs.Running.{MovesFed, IsAtRest};
 ghost use Rattle.stepped_run.specs.Stepping.{FedBy, Befalls, IsHeard, RestsAfter, HandsOut, HandsOutAll, HandsSome};
 
 use core_run::Runner;
-use fleet_run::{Event, Output, Transcript};
+use fleet_run::{Event, Output, PIECE_CUT, Transcript};
 use memory_fleet::{FleetFault, Loss};
 use script_servers::ScriptServers;
 use stepped_log::laws::losses_go_on;
-
-/// The most bytes of a piece that come at once.
-const CUT: usize = 65_536;
 
 // Bytes come, and each call that is out has its result.
 fn serve(
@@ -46,8 +43,8 @@ fn piece(
 {
     runner.open(client)?;
     let mut rest = bytes;
-    while rest.len() > CUT {
-        let (cut, more) = rest.split_at(CUT);
+    while rest.len() > PIECE_CUT {
+        let (cut, more) = rest.split_at(PIECE_CUT);
         serve(runner, servers, client, cut)?;
         rest = more;
     }

@@ -3,6 +3,7 @@
 ghost use Rattle.std.specs.Prelude.{◌≡◌, ◌≤◌, ◌++◌, ◌∷◌, ◌↔◌, ℕ, ◌+◌, Bool, List, [], length, drop, map, slice_get, None, IsTrue, IfOk, IfErr, OnOk, OnErr, MatchResult};
 ghost use Rattle.memory_fleet.specs.declared.event.FleetFault.TheVariants.{NoMemory};
 ghost use Rattle.route_tree.specs.Route.{Route};
+ghost use Rattle.server_addresses.specs.declared.servers.TheConstants.{MAX_SERVERS};
 ghost use Rattle.fleet_run.specs.Bad.{first_bad, Refuses};
 ghost use Rattle.fleet_run.specs.Driving.{fault_of};
 ghost use Rattle.fleet_run.specs.Reloads.{AreInOrder, is_refused};
@@ -224,7 +225,7 @@ pub fn drive_stepped(
     marks: &mut Vec<usize>,
 ) -> Result<Report, DriveFault>
     requires servers { length config.now.servers ≤ count_of servers.old }
-    requires few { count_of servers.old ≤ 4294967295 }
+    requires few { count_of servers.old ≤ MAX_SERVERS }
     requires order { AreInOrder (length script.now.events.items) (count_of servers.old) 0 reloads.now }
     requires new { IsNew (count_of servers.old) servers.old }
     requires transcript { transcript.old.shown.items ≡ [] }

@@ -1,5 +1,4 @@
-use Rattle.std.proofs.Common.{◌++◌, ◌∷◌, [], List, ℕ, sym, ap, ◌∙◌}
-use Rattle.mc_runs.specs.Log.{Shown}
+use Rattle.std.proofs.Common.{◌++◌, ◌∷◌, [], ℕ, ap, ◌∙◌}
 use Rattle.fleet_run.specs.Scripted.{transcript_of}
 use Rattle.stepped_run.proofs.Steps.{given_nothing, given_more, one_more_shown, nothing_new}
 use Rattle.stepped_run.proofs.events.give.Goals as goal

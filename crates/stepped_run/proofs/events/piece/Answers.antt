@@ -1,4 +1,4 @@
-use Rattle.std.proofs.Common.{◌≡◌, ◌<◌, ◌≤◌, ◌++◌, ℕ, List, [], refl, sym, ap, ◌∙◌, subst, append_assoc}
+use Rattle.std.proofs.Common.{◌<◌, ◌≤◌, ◌++◌, ℕ, List, [], refl, sym, ◌∙◌, subst}
 use Rattle.stepped_run.specs.Stepping.{FedBy}
 use Rattle.core_run.proofs.Running.{on_ok}
 use Rattle.stepped_run.proofs.Steps.{nothing_fed, fed_more, cut_joins}

@@ -1,4 +1,4 @@
-use Rattle.std.proofs.Common.{◌≡◌, ◌∙◌, arith}
+use Rattle.std.proofs.Common.{◌≡◌, arith}
 use Rattle.std.proofs.Math.Facts.{to_z-of_z}
 use Rattle.script_servers.specs.Servers.{moment_of}
 use Rattle.stepped_run.proofs.Steps.{timed}
