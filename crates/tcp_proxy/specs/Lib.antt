@@ -1,0 +1,3 @@
+pub mod CoreSteps
+pub mod LogsGoOn
+pub mod Beginning
