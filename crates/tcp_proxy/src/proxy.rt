@@ -1,9 +1,13 @@
 //! The proxy's end, and its turns: what is ready is read, what was asked goes to the links and what was answered to the
 //! clients, and then each end that has something to send is written once.
 
-ghost use Rattle.std.specs.Prelude.{◌≡◌, true, IfOk, IfErr};
-ghost use Rattle.link_calls.specs.Cores.{IsLoaded};
+ghost use Rattle.std.specs.Prelude.{◌≡◌, ◌++◌, ◌↔◌, true, false, [], None, IsTrue, IfOk, IfErr, OnOk, OnErr};
+ghost use Rattle.proxy_core.specs.CoreState.{client_at, output_by};
+ghost use Rattle.link_calls.specs.Cores.{core_of, IsLoaded};
 ghost use Rattle.tcp_proxy.specs.CoreSteps.{GoesOn, Fails};
+ghost use Rattle.tcp_proxy.specs.Pieces.{Takes};
+ghost use Rattle.tcp_proxy.specs.Links.{calls_out, AllFail, IsDown, IsDownAt, IsClosedAt};
+ghost use Rattle.tcp_proxy.specs.Stillness.{MayAccept, HasNoWork, IsStill};
 ghost use Rattle.tcp_proxy.specs.Beginning.{limits_by, BeginsFresh, BeginsUnchecked, LoadStops};
 
 use crate::clients::{Client, Clients, note, send, use_held};
@@ -93,7 +97,7 @@ pub struct ProxyEnd {
     // The list that is being worked off, kept so that none is made anew each turn.
     work: Vec<usize>,
     start: Instant,
-    now: u64,
+    time: u64,
     accepting: Accepting,
     // Whether a key or a server became free since busy clients were served.
     is_freed: bool,
@@ -280,6 +284,7 @@ fn send_once(core: &AnyCore, id: usize, client: &mut Client) -> bool {
 // What the client's end holds is given to the core.
 fn feed_held(core: &mut AnyCore, id: usize, client: &mut Client)
     ensures core { GoesOn core.old core.new }
+    ensures piece { Takes id client.old.conn.held.items core.old core.new }
 {
     if client.conn.held.is_empty() {
         return;
@@ -292,6 +297,17 @@ fn feed_held(core: &mut AnyCore, id: usize, client: &mut Client)
     }
 }
 
+// What the core has for the client goes after what is to be sent. How many bytes that is.
+fn show(core: &mut AnyCore, id: usize, client: &mut Client) -> Result<usize, CoreFault>
+    ensures core { GoesOn core.old core.new }
+    ensures bytes { OnOk result (client.new.conn.unsent.items ≡ client.old.conn.unsent.items ++ output_by (client_at (core_of core.old) id)) }
+    ensures kept { OnErr result (client.new.conn.unsent.items ≡ client.old.conn.unsent.items) }
+{
+    let unsent = client.conn.unsent.len();
+    core.move_output(id, &mut client.conn.unsent)?;
+    Ok(client.conn.unsent.len().saturating_sub(unsent))
+}
+
 // The calls that are out on a link have failed.
 fn fail_sent(
     calls: &mut LinkCalls,
@@ -299,6 +315,8 @@ fn fail_sent(
     clients: &mut Clients,
 ) -> Result<(), AllocError>
     ensures core { Fails core.old core.new }
+    ensures none { OnOk result (calls.new.sent.items ≡ []) }
+    ensures all { OnOk result (AllFail calls.old.sent.items core.old core.new) }
 {
     for _ in 0..calls.len() {
         let Some(client) = calls.fail_next(core) else {
@@ -309,13 +327,17 @@ fn fail_sent(
     Ok(())
 }
 
-// The calls that wait for the link, which has no connection, have failed.
+// The calls that wait for the link have failed.
 fn fail_waiting(
     link: &mut Link,
     core: &mut AnyCore,
     clients: &mut Clients,
 ) -> Result<(), AllocError>
+    requires { link.old.conn ≡ None }
     ensures core { Fails core.old core.new }
+    ensures none { OnOk result (link.new.waiting.items ≡ []) }
+    ensures all { OnOk result (AllFail link.old.waiting.items core.old core.new) }
+    ensures rest { link.new ≡ record link.old { waiting = link.new.waiting } }
 {
     for _ in 0..link.waiting() {
         let Some(call) = link.next_waiting() else {
@@ -327,6 +349,18 @@ fn fail_waiting(
         clients.mark_settled(client)?;
     }
     Ok(())
+}
+
+// All calls of the link, which has no connection, have failed: those that are out, and then those that wait.
+fn fail_all(link: &mut Link, core: &mut AnyCore, clients: &mut Clients) -> Result<(), AllocError>
+    requires { link.old.conn ≡ None }
+    ensures core { Fails core.old core.new }
+    ensures down { OnOk result (IsDown link.new) }
+    ensures all { OnOk result (AllFail (link.old.calls.sent.items ++ link.old.waiting.items) core.old core.new) }
+    ensures closed { link.new.conn ≡ None }
+{
+    fail_sent(&mut link.calls, core, clients)?;
+    fail_waiting(link, core, clients)
 }
 
 // All whole answers in these bytes are settled: how many bytes those are, and whether the rest may be the next one's begin.
@@ -416,7 +450,7 @@ impl ProxyEnd {
             links_with_output: Vec::new(alloc),
             work: Vec::new(alloc),
             start,
-            now: 0,
+            time: 0,
             accepting: Accepting::Now,
             is_freed: false,
             has_news: false,
@@ -460,7 +494,7 @@ impl ProxyEnd {
         }
         for at in 0..self.links.len() {
             if let Some(link) = self.links.get_mut(at) {
-                if let Some(news) = link.take_news(self.now) {
+                if let Some(news) = link.take_news(self.time) {
                     return Some((at, news));
                 }
             }
@@ -478,28 +512,38 @@ impl ProxyEnd {
     }
 
     /// What it has done so far.
-    pub fn tally(&self) -> Tally {
+    pub fn tally(&self) -> Tally
+        ensures { result ≡ self.now.tally }
+    {
         self.tally
     }
 
-    // How many calls are out: sent, or waiting to be sent.
-    fn calls_out(&self) -> usize {
-        let mut count = 0usize;
-        for link in self.links.iter() {
-            count = count.saturating_add(link.calls.len());
-            count = count.saturating_add(link.waiting());
+    // Whether so many calls are out: sent, or waiting to be sent.
+    fn are_out(&self, calls: usize) -> bool
+        ensures { IsTrue result ↔ (calls_out self.now.links.items ≡ calls) }
+    {
+        let mut left = calls;
+        for link in self.links.as_slice() {
+            match link.without_calls(left) {
+                Some(rest) => left = rest,
+                None => return false,
+            }
         }
-        count
+        left == 0
     }
 
     /// Whether so many calls are out, and nothing is left to do until something comes.
-    pub fn is_still(&self, calls: usize) -> bool {
-        !self.has_work() && self.calls_out() == calls
+    pub fn is_still(&self, calls: usize) -> bool
+        ensures { IsTrue result ↔ IsStill calls self.now }
+    {
+        !self.has_work() && self.are_out(calls)
     }
 
     /// The connection to a server is closed, and what came over it is never read: the calls that are out on it have failed.
     pub fn drop_link(&mut self, server: usize) -> Result<(), AllocError>
         ensures core { Fails self.old.core.value self.new.core.value }
+        ensures down { OnOk result (IsDownAt server self.new.links.items) }
+        ensures closed { IsClosedAt server self.new.links.items }
     {
         self.fail_link(server, Cause::Broken)
     }
@@ -552,14 +596,16 @@ impl ProxyEnd {
         ensures core { self.new.core ≡ self.old.core }
     {
         let millis = self.start.elapsed(rt)?.as_millis();
-        self.now = u64::try_from(millis).unwrap_or(u64::MAX);
+        self.time = u64::try_from(millis).unwrap_or(u64::MAX);
         Ok(())
     }
 
-    fn may_accept(&self) -> bool {
+    fn may_accept(&self) -> bool
+        ensures { IsTrue result ↔ MayAccept self.now.accepting self.now.time }
+    {
         match self.accepting {
             Accepting::Now => true,
-            Accepting::From(time) => time <= self.now,
+            Accepting::From(time) => time <= self.time,
             Accepting::Idle => false,
         }
     }
@@ -573,19 +619,32 @@ impl ProxyEnd {
     }
 
     // Whether something is left to do.
-    fn has_work(&self) -> bool {
-        self.may_accept()
-            || !self.clients.ready.is_empty()
-            || !self.ready_links.is_empty()
-            || !self.links_with_output.is_empty()
-            || (self.is_freed && !self.clients.busy.is_empty())
+    fn has_work(&self) -> bool
+        ensures { (result ≡ false) ↔ HasNoWork self.now }
+    {
+        if self.may_accept() {
+            return true;
+        }
+        if !self.clients.ready.is_empty() {
+            return true;
+        }
+        if !self.ready_links.is_empty() {
+            return true;
+        }
+        if !self.links_with_output.is_empty() {
+            return true;
+        }
+        if !self.is_freed {
+            return false;
+        }
+        !self.clients.busy.is_empty()
     }
 
     // Room that is spare is kept for a while from now on.
     fn keep_room(&mut self)
         ensures core { self.new.core ≡ self.old.core }
     {
-        self.spare_until = Some(self.now.saturating_add(SPARE_MS));
+        self.spare_until = Some(self.time.saturating_add(SPARE_MS));
     }
 
     // Large data came or went, or room for such is there and not noted yet.
@@ -618,7 +677,7 @@ impl ProxyEnd {
         ensures core { self.new.core ≡ self.old.core }
     {
         match self.spare_until {
-            Some(time) if time <= self.now => {}
+            Some(time) if time <= self.time => {}
             _ => return,
         }
         self.spare_until = None;
@@ -668,7 +727,7 @@ impl ProxyEnd {
         }
         match self.next_limit() {
             Some(limit) => Ok(Some(Duration::from_millis(
-                limit.saturating_sub(self.now).saturating_add(1),
+                limit.saturating_sub(self.time).saturating_add(1),
             ))),
             None => Ok(None),
         }
@@ -751,20 +810,21 @@ impl ProxyEnd {
     // The link's calls have all failed, and it has no connection.
     fn fail_link(&mut self, at: usize, cause: Cause) -> Result<(), AllocError>
         ensures core { Fails self.old.core.value self.new.core.value }
+        ensures down { OnOk result (IsDownAt at self.new.links.items) }
+        ensures closed { IsClosedAt at self.new.links.items }
     {
         let Some(link) = self.links.get_mut(at) else {
             return Ok(());
         };
-        link.close(cause, self.now, &self.settings);
+        link.close(cause, self.time, &self.settings);
         self.has_news = true;
         self.is_freed = true;
-        fail_sent(&mut link.calls, self.core.as_mut(), &mut self.clients)?;
-        fail_waiting(link, self.core.as_mut(), &mut self.clients)
+        fail_all(link, self.core.as_mut(), &mut self.clients)
     }
 
     fn lateness(&self, at: usize) -> Option<Cause> {
         match self.links.get(at) {
-            Some(link) => link.lateness(self.now, &self.settings),
+            Some(link) => link.lateness(self.time, &self.settings),
             None => None,
         }
     }
@@ -823,7 +883,7 @@ impl ProxyEnd {
                     false
                 }
                 _ => {
-                    let again = self.now.saturating_add(ACCEPT_PAUSE);
+                    let again = self.time.saturating_add(ACCEPT_PAUSE);
                     self.accepting = Accepting::From(again);
                     false
                 }
@@ -1165,7 +1225,7 @@ impl ProxyEnd {
         let Some(link) = self.links.get_mut(at) else {
             return false;
         };
-        if link.is_held_back(self.now, &self.settings) {
+        if link.is_held_back(self.time, &self.settings) {
             return false;
         }
         if link.conn.is_some() {
@@ -1177,10 +1237,10 @@ impl ProxyEnd {
         match connect(net, &self.poll, address, LINKS.saturating_add(at)) {
             Ok(stream) => {
                 let dialect = self.settings.server_dialect;
-                link.open(self.alloc, stream, self.now, dialect).is_ok()
+                link.open(self.alloc, stream, self.time, dialect).is_ok()
             }
             Err(_) => {
-                link.close(Cause::Unreachable, self.now, &self.settings);
+                link.close(Cause::Unreachable, self.time, &self.settings);
                 self.has_news = true;
                 false
             }
@@ -1206,7 +1266,7 @@ impl ProxyEnd {
         let call = SentCall {
             ticket,
             client: id,
-            since: self.now,
+            since: self.time,
             dialect: self.dialect_of(at),
         };
         if self.is_full(at) {
@@ -1377,16 +1437,14 @@ impl ProxyEnd {
         let Some(client) = self.clients.get_mut(id) else {
             return Ok(());
         };
-        let unsent = client.conn.unsent.len();
-        match self.core.move_output(id, &mut client.conn.unsent) {
-            Ok(()) => {}
+        let shown = match show(self.core.as_mut(), id, client) {
+            Ok(shown) => shown,
             Err(CoreFault::NoMemory) => {
                 client.break_off();
                 return Ok(());
             }
             Err(_) => return Ok(()),
-        }
-        let shown = client.conn.unsent.len().saturating_sub(unsent);
+        };
         if shown == 0 {
             return Ok(());
         }
