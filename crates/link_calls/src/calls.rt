@@ -1,6 +1,6 @@
 //! The calls of one server that are out, the one that went out first in front.
 
-ghost use Rattle.std.specs.Prelude.{◌≡◌, [], ◌∷◌, ◌++◌, OnOk, OnErr, IfOk, IfErr, length, option_map};
+ghost use Rattle.std.specs.Prelude.{◌≡◌, [], ◌∷◌, ◌++◌, ◌↔◌, IsTrue, OnOk, OnErr, IfOk, IfErr, length, option_map};
 ghost use Rattle.mc_types.specs.Asks.{IsAsk};
 ghost use Rattle.client_requests.specs.Spelling.{spelling_of};
 ghost use Rattle.link_calls.specs.Dialects.{asked_in};
@@ -122,7 +122,9 @@ fn read_next(
 
 impl LinkCalls {
     /// No call is out. It takes no memory.
-    pub fn new(alloc: Global) -> LinkCalls {
+    pub fn new(alloc: Global) -> LinkCalls
+        ensures { result.sent.items ≡ [] }
+    {
         LinkCalls {
             alloc,
             sent: VecDeque::new(alloc),
@@ -130,12 +132,16 @@ impl LinkCalls {
     }
 
     /// How many calls are out.
-    pub fn len(&self) -> usize {
+    pub fn len(&self) -> usize
+        ensures { result ≡ length self.now.sent.items }
+    {
         self.sent.len()
     }
 
     /// Whether none is out.
-    pub fn is_empty(&self) -> bool {
+    pub fn is_empty(&self) -> bool
+        ensures { IsTrue result ↔ (self.now.sent.items ≡ []) }
+    {
         self.sent.is_empty()
     }
 

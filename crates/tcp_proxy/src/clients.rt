@@ -231,8 +231,15 @@ impl Clients {
         Ok(())
     }
 
-    // It stands no longer among those that wait: whether it is to be served for that, as it isn't ready.
-    fn end_busy(&mut self, id: usize) -> bool {
+    /// It stands no longer among those that are ready.
+    pub fn end_ready(&mut self, id: usize) {
+        if let Some(client) = self.get_mut(id) {
+            client.is_ready = false;
+        }
+    }
+
+    /// It stands no longer among those that wait: whether it is to be served for that, as it isn't ready.
+    pub fn end_busy(&mut self, id: usize) -> bool {
         match self.get_mut(id) {
             Some(client) => {
                 client.is_busy = false;

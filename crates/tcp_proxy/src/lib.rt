@@ -3,6 +3,7 @@
 #![tactic(auto)]
 
 mod clients;
+pub mod laws;
 mod link;
 mod news;
 mod proxy;

@@ -1,5 +1,8 @@
 //! One server's link: its connection, if it has one, and the calls that are out.
 
+ghost use Rattle.std.specs.Prelude.{◌≡◌, ◌+◌, ◌<◌, false, ◌∷◌, [], None, length, MatchOption};
+ghost use Rattle.tcp_proxy.specs.Links.{IsDown};
+
 use crate::clients::use_held;
 use crate::news::{Cause, LinkNews};
 use crate::settings::{ServerDialect, Settings};
@@ -72,7 +75,9 @@ pub struct Link {
 
 impl Link {
     /// A link without a connection.
-    pub fn new(alloc: Global, address: Option<SocketAddr>) -> Link {
+    pub fn new(alloc: Global, address: Option<SocketAddr>) -> Link
+        ensures { IsDown result }
+    {
         Link {
             address,
             conn: None,
@@ -94,7 +99,9 @@ impl Link {
     }
 
     // Whether what is to be sent is a backlog.
-    fn has_backlog(&self) -> bool {
+    fn has_backlog(&self) -> bool
+        ensures { self.now.conn ≡ None → result ≡ false }
+    {
         match &self.conn {
             Some(conn) => conn.has_backlog(),
             None => false,
@@ -115,7 +122,11 @@ impl Link {
     }
 
     /// The first of the calls that wait, if it may go out now.
-    pub fn next_waiting(&mut self) -> Option<SentCall> {
+    pub fn next_waiting(&mut self) -> Option<SentCall>
+        ensures waiting { MatchOption result (self.new.waiting.items ≡ self.old.waiting.items) (λ call. self.old.waiting.items ≡ call ∷ self.new.waiting.items) }
+        ensures none { self.old.conn ≡ None → result ≡ None → self.old.waiting.items ≡ [] }
+        ensures rest { self.new ≡ record self.old { waiting = self.new.waiting } }
+    {
         if self.has_backlog() {
             return None;
         }
@@ -123,8 +134,26 @@ impl Link {
     }
 
     /// How many calls wait.
-    pub fn waiting(&self) -> usize {
+    pub fn waiting(&self) -> usize
+        ensures { result ≡ length self.now.waiting.items }
+    {
         self.waiting.len()
+    }
+
+    /// What is left of a number after the calls that are out, if they are no more than that.
+    pub fn without_calls(&self, count: usize) -> Option<usize>
+        ensures { MatchOption result (count < length self.now.calls.sent.items + length self.now.waiting.items) (λ left. length self.now.calls.sent.items + length self.now.waiting.items + left ≡ count) }
+    {
+        let sent = self.calls.len();
+        if count < sent {
+            return None;
+        }
+        let left = count - sent;
+        let waiting = self.waiting();
+        if left < waiting {
+            return None;
+        }
+        Some(left - waiting)
     }
 
     /// When it fails if nothing comes, in milliseconds: its first call, or its connection, has taken too long then.
@@ -232,7 +261,11 @@ impl Link {
     }
 
     /// The connection is gone, or could not be made.
-    pub fn close(&mut self, cause: Cause, now: u64, settings: &Settings) {
+    pub fn close(&mut self, cause: Cause, now: u64, settings: &Settings)
+        ensures conn { self.new.conn ≡ None }
+        ensures calls { self.new.calls ≡ self.old.calls }
+        ensures waiting { self.new.waiting ≡ self.old.waiting }
+    {
         let cause = if self.is_connected {
             cause
         } else {

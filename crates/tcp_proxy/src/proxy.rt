@@ -1,6 +1,15 @@
 //! The proxy's end, and its turns: what is ready is read, what was asked goes to the links and what was answered to the
 //! clients, and then each end that has something to send is written once.
 
+ghost use Rattle.std.specs.Prelude.{◌≡◌, ◌++◌, ◌↔◌, true, false, [], None, IsTrue, IfOk, IfErr, OnOk, OnErr};
+ghost use Rattle.proxy_core.specs.CoreState.{client_at, output_by};
+ghost use Rattle.link_calls.specs.Cores.{core_of, IsLoaded};
+ghost use Rattle.tcp_proxy.specs.CoreSteps.{GoesOn, Fails};
+ghost use Rattle.tcp_proxy.specs.Pieces.{Takes};
+ghost use Rattle.tcp_proxy.specs.Links.{calls_out, AllFail, IsDown, IsDownAt, IsClosedAt};
+ghost use Rattle.tcp_proxy.specs.Stillness.{MayAccept, HasNoWork, IsStill};
+ghost use Rattle.tcp_proxy.specs.Beginning.{limits_by, BeginsFresh, BeginsUnchecked, LoadStops};
+
 use crate::clients::{Client, Clients, note, send, use_held};
 use crate::link::Link;
 use crate::news::{Cause, LinkNews};
@@ -9,7 +18,7 @@ use crate::tally::Tally;
 use bytes::BytesMut;
 use fresh_core::FreshCore;
 use fresh_gate::{Accepted, ReloadFault};
-use link_calls::{AnyCore, LoadFault, Next, SentCall, fail_call};
+use link_calls::{AnyCore, LinkCalls, LoadFault, Next, SentCall, fail_call};
 use mc_types::Dialect;
 use mio::net::{TcpListener, TcpStream};
 use mio::{Events, Poll, Token};
@@ -88,7 +97,7 @@ pub struct ProxyEnd {
     // The list that is being worked off, kept so that none is made anew each turn.
     work: Vec<usize>,
     start: Instant,
-    now: u64,
+    time: u64,
     accepting: Accepting,
     // Whether a key or a server became free since busy clients were served.
     is_freed: bool,
@@ -148,6 +157,11 @@ fn give_back(alloc: Global, held: &mut BytesMut, input: &mut BytesMut) {
     *held = BytesMut::new(alloc);
 }
 
+// Whether a buffer is empty and has much room.
+fn has_spare(buffer: &BytesMut) -> bool {
+    buffer.is_empty() && buffer.capacity() > KEPT_ROOM
+}
+
 // Why a link failed, if too many reads were in vain.
 fn vain(has_failed: bool) -> Option<Cause> {
     if has_failed {
@@ -157,7 +171,9 @@ fn vain(has_failed: bool) -> Option<Cause> {
     }
 }
 
-fn limits_of(settings: Settings) -> Limits {
+fn limits_of(settings: Settings) -> Limits
+    ensures { result ≡ limits_by settings }
+{
     Limits {
         clients: settings.clients,
         held: HELD_LIMIT,
@@ -225,18 +241,155 @@ fn fresh_core(
     alloc: Global,
     accepted: Accepted,
     settings: Settings,
-) -> Result<Box<AnyCore>, AllocError> {
+) -> Result<Box<AnyCore>, AllocError>
+    ensures { IfOk result (λ core. BeginsFresh accepted settings core.value) }
+{
     let core = FreshCore::new(alloc, accepted, limits_of(settings))?;
     Ok(Box::new(alloc, AnyCore::Fresh(core))?)
 }
 
-fn unchecked_core(
-    alloc: Global,
-    tree: Tree,
-    settings: Settings,
-) -> Result<Box<AnyCore>, AllocError> {
+fn unchecked_core(alloc: Global, tree: Tree, settings: Settings) -> Result<Box<AnyCore>, AllocError>
+    ensures { IfOk result (λ core. BeginsUnchecked tree settings core.value) }
+{
     let core = Core::unchecked(alloc, tree, limits_of(settings));
     Ok(Box::new(alloc, AnyCore::Unchecked(core))?)
+}
+
+// One read of the client. One for whose bytes there is no memory is closed, and no other one.
+fn read_once(client: &mut Client, tally: &mut Tally) {
+    let room = client.read_room();
+    match client.conn.read_once(room).unwrap_or(Got::Failed) {
+        Got::Ended => client.is_ended = true,
+        Got::Failed => client.break_off(),
+        Got::Bytes => {
+            client.has_read();
+            tally.note_read(client.conn.held.len());
+        }
+        Got::Nothing | Got::Full => {}
+    }
+}
+
+// What is to be sent to the client goes out, as far as it is taken. Whether the client is to be served for that: it takes what is
+// shown to it again, or it has ended, and all is sent.
+fn send_once(core: &AnyCore, id: usize, client: &mut Client) -> bool {
+    client.has_output = false;
+    let was_full = !client.has_room();
+    if !send(&mut client.conn) {
+        client.break_off();
+    }
+    let is_over = client.conn.unsent.is_empty() && (client.is_ended || core.is_closed(id));
+    is_over || (was_full && client.has_room())
+}
+
+// What the client's end holds is given to the core.
+fn feed_held(core: &mut AnyCore, id: usize, client: &mut Client)
+    ensures core { GoesOn core.old core.new }
+    ensures piece { Takes id client.old.conn.held.items core.old core.new }
+{
+    if client.conn.held.is_empty() {
+        return;
+    }
+    match core.feed(id, client.conn.held.as_slice()) {
+        Ok(()) => client.conn.held.clear(),
+        // The core takes it when it has done what it holds.
+        Err(CoreFault::InputFull) => {}
+        Err(_) => client.break_off(),
+    }
+}
+
+// What the core has for the client goes after what is to be sent. How many bytes that is.
+fn show(core: &mut AnyCore, id: usize, client: &mut Client) -> Result<usize, CoreFault>
+    ensures core { GoesOn core.old core.new }
+    ensures bytes { OnOk result (client.new.conn.unsent.items ≡ client.old.conn.unsent.items ++ output_by (client_at (core_of core.old) id)) }
+    ensures kept { OnErr result (client.new.conn.unsent.items ≡ client.old.conn.unsent.items) }
+{
+    let unsent = client.conn.unsent.len();
+    core.move_output(id, &mut client.conn.unsent)?;
+    Ok(client.conn.unsent.len().saturating_sub(unsent))
+}
+
+// The calls that are out on a link have failed.
+fn fail_sent(
+    calls: &mut LinkCalls,
+    core: &mut AnyCore,
+    clients: &mut Clients,
+) -> Result<(), AllocError>
+    ensures core { Fails core.old core.new }
+    ensures none { OnOk result (calls.new.sent.items ≡ []) }
+    ensures all { OnOk result (AllFail calls.old.sent.items core.old core.new) }
+{
+    for _ in 0..calls.len() {
+        let Some(client) = calls.fail_next(core) else {
+            return Ok(());
+        };
+        clients.mark_settled(client)?;
+    }
+    Ok(())
+}
+
+// The calls that wait for the link have failed.
+fn fail_waiting(
+    link: &mut Link,
+    core: &mut AnyCore,
+    clients: &mut Clients,
+) -> Result<(), AllocError>
+    requires { link.old.conn ≡ None }
+    ensures core { Fails core.old core.new }
+    ensures none { OnOk result (link.new.waiting.items ≡ []) }
+    ensures all { OnOk result (AllFail link.old.waiting.items core.old core.new) }
+    ensures rest { link.new ≡ record link.old { waiting = link.new.waiting } }
+{
+    for _ in 0..link.waiting() {
+        let Some(call) = link.next_waiting() else {
+            return Ok(());
+        };
+        let client = call.client;
+        fail_call(core, call.ticket);
+        clients.end_waiting(client)?;
+        clients.mark_settled(client)?;
+    }
+    Ok(())
+}
+
+// All calls of the link, which has no connection, have failed: those that are out, and then those that wait.
+fn fail_all(link: &mut Link, core: &mut AnyCore, clients: &mut Clients) -> Result<(), AllocError>
+    requires { link.old.conn ≡ None }
+    ensures core { Fails core.old core.new }
+    ensures down { OnOk result (IsDown link.new) }
+    ensures all { OnOk result (AllFail (link.old.calls.sent.items ++ link.old.waiting.items) core.old core.new) }
+    ensures closed { link.new.conn ≡ None }
+{
+    fail_sent(&mut link.calls, core, clients)?;
+    fail_waiting(link, core, clients)
+}
+
+// All whole answers in these bytes are settled: how many bytes those are, and whether the rest may be the next one's begin.
+fn settle_held(
+    calls: &mut LinkCalls,
+    core: &mut AnyCore,
+    clients: &mut Clients,
+    is_freed: &mut bool,
+    held: &[u8],
+) -> Result<(usize, bool), AllocError>
+    ensures core { GoesOn core.old core.new }
+{
+    let mut used = 0usize;
+    for _ in 0..held.len() {
+        let rest = held.get(used..).unwrap_or(b"".as_slice());
+        if rest.is_empty() {
+            return Ok((used, true));
+        }
+        match calls.settle_next(core, rest) {
+            Next::Settled { client, used: len } => {
+                used = used.saturating_add(len);
+                *is_freed = true;
+                clients.mark_settled(client)?;
+            }
+            Next::More => return Ok((used, true)),
+            Next::Foreign => return Ok((used, false)),
+        }
+    }
+    Ok((used, true))
 }
 
 impl ProxyEnd {
@@ -248,7 +401,9 @@ impl ProxyEnd {
         accepted: Accepted,
         servers: &[Option<SocketAddr>],
         settings: Settings,
-    ) -> io::Result<ProxyEnd> {
+    ) -> io::Result<ProxyEnd>
+        ensures core { IfOk result (λ end. BeginsFresh accepted settings end.core.value) }
+    {
         let parts = Parts::open(rt, listen, servers)?;
         let core = fresh_core(rt.alloc(), accepted, settings)?;
         Ok(ProxyEnd::of(rt.alloc(), core, settings, parts))
@@ -261,13 +416,17 @@ impl ProxyEnd {
         tree: Tree,
         servers: &[Option<SocketAddr>],
         settings: Settings,
-    ) -> io::Result<ProxyEnd> {
+    ) -> io::Result<ProxyEnd>
+        ensures core { IfOk result (λ end. BeginsUnchecked tree settings end.core.value) }
+    {
         let parts = Parts::open(rt, listen, servers)?;
         let core = unchecked_core(rt.alloc(), tree, settings)?;
         Ok(ProxyEnd::of(rt.alloc(), core, settings, parts))
     }
 
-    fn of(alloc: Global, core: Box<AnyCore>, settings: Settings, parts: Parts) -> ProxyEnd {
+    fn of(alloc: Global, core: Box<AnyCore>, settings: Settings, parts: Parts) -> ProxyEnd
+        ensures core { result.core ≡ core }
+    {
         let Parts {
             poll,
             events,
@@ -291,7 +450,7 @@ impl ProxyEnd {
             links_with_output: Vec::new(alloc),
             work: Vec::new(alloc),
             start,
-            now: 0,
+            time: 0,
             accepting: Accepting::Now,
             is_freed: false,
             has_news: false,
@@ -304,29 +463,38 @@ impl ProxyEnd {
     /// began. It gives the number of the generation. `servers` are the addresses of all its servers; those in use keep theirs.
     ///
     /// After a fault the tree in use is kept; `NoMemory` may also come after the tree was loaded, and then calls of new servers fail.
-    pub fn load(
-        &mut self,
-        config: Config,
-        servers: &[Option<SocketAddr>],
-    ) -> Result<u32, LoadFault> {
+    pub fn load(&mut self, config: Config, servers: &[Option<SocketAddr>]) -> Result<u32, LoadFault>
+        ensures loaded { IfOk result (λ generation. IsLoaded self.old.core.value config generation self.new.core.value) }
+        ensures refused { IfErr result (λ fault. LoadStops self.old.core.value config fault self.new.core.value) }
+    {
         let generation = self.core.load(self.alloc, config)?;
-        for address in servers.iter().skip(self.links.len()) {
-            if self.links.push(Link::new(self.alloc, *address)).is_err() {
-                return Err(LoadFault::Refused(ReloadFault::NoMemory));
-            }
+        if self.add_links(servers).is_err() {
+            return Err(LoadFault::Refused(ReloadFault::NoMemory));
         }
         Ok(generation)
     }
 
+    // Servers that have no link yet get one.
+    fn add_links(&mut self, servers: &[Option<SocketAddr>]) -> Result<(), AllocError>
+        ensures core { self.new.core ≡ self.old.core }
+    {
+        for address in servers.iter().skip(self.links.len()) {
+            self.links.push(Link::new(self.alloc, *address))?;
+        }
+        Ok(())
+    }
+
     /// What happened to a server's link, and the server's number; of each server once a second at most, and of several things the
     /// last. It is asked after each turn until there is none.
-    pub fn next_news(&mut self) -> Option<(usize, LinkNews)> {
+    pub fn next_news(&mut self) -> Option<(usize, LinkNews)>
+        ensures core { self.new.core ≡ self.old.core }
+    {
         if !self.has_news {
             return None;
         }
         for at in 0..self.links.len() {
             if let Some(link) = self.links.get_mut(at) {
-                if let Some(news) = link.take_news(self.now) {
+                if let Some(news) = link.take_news(self.time) {
                     return Some((at, news));
                 }
             }
@@ -337,32 +505,46 @@ impl ProxyEnd {
 
     /// From now on clients are polled in rounds, as those of a script are: each once, in the order in which they were accepted. Without it
     /// a client is polled until it waits, and who waits for a server comes after who waited before it.
-    pub fn poll_in_rounds(&mut self) {
+    pub fn poll_in_rounds(&mut self)
+        ensures { self.new ≡ record self.old { in_rounds = true } }
+    {
         self.in_rounds = true;
     }
 
     /// What it has done so far.
-    pub fn tally(&self) -> Tally {
+    pub fn tally(&self) -> Tally
+        ensures { result ≡ self.now.tally }
+    {
         self.tally
     }
 
-    // How many calls are out: sent, or waiting to be sent.
-    fn calls_out(&self) -> usize {
-        let mut count = 0usize;
-        for link in self.links.iter() {
-            count = count.saturating_add(link.calls.len());
-            count = count.saturating_add(link.waiting());
+    // Whether so many calls are out: sent, or waiting to be sent.
+    fn are_out(&self, calls: usize) -> bool
+        ensures { IsTrue result ↔ (calls_out self.now.links.items ≡ calls) }
+    {
+        let mut left = calls;
+        for link in self.links.as_slice() {
+            match link.without_calls(left) {
+                Some(rest) => left = rest,
+                None => return false,
+            }
         }
-        count
+        left == 0
     }
 
     /// Whether so many calls are out, and nothing is left to do until something comes.
-    pub fn is_still(&self, calls: usize) -> bool {
-        !self.has_work() && self.calls_out() == calls
+    pub fn is_still(&self, calls: usize) -> bool
+        ensures { IsTrue result ↔ IsStill calls self.now }
+    {
+        !self.has_work() && self.are_out(calls)
     }
 
     /// The connection to a server is closed, and what came over it is never read: the calls that are out on it have failed.
-    pub fn drop_link(&mut self, server: usize) -> Result<(), AllocError> {
+    pub fn drop_link(&mut self, server: usize) -> Result<(), AllocError>
+        ensures core { Fails self.old.core.value self.new.core.value }
+        ensures down { OnOk result (IsDownAt server self.new.links.items) }
+        ensures closed { IsClosedAt server self.new.links.items }
+    {
         self.fail_link(server, Cause::Broken)
     }
 
@@ -372,45 +554,58 @@ impl ProxyEnd {
     }
 
     /// One turn: a wait until something is ready or late, and then all that is ready is done.
-    pub fn turn<R: Net + Clock>(&mut self, rt: &R) -> io::Result<()> {
+    pub fn turn<R: Net + Clock>(&mut self, rt: &R) -> io::Result<()>
+        ensures core { GoesOn self.old.core.value self.new.core.value }
+    {
         let limit = self.wait_limit(rt)?;
         self.turn_by(rt, limit)
     }
 
     /// The same, but it waits this long at most, so that several ends can be turned in one thread.
-    pub fn turn_within<R: Net + Clock>(&mut self, rt: &R, most: Duration) -> io::Result<()> {
+    pub fn turn_within<R: Net + Clock>(&mut self, rt: &R, most: Duration) -> io::Result<()>
+        ensures core { GoesOn self.old.core.value self.new.core.value }
+    {
         let limit = self.wait_limit(rt)?;
         self.turn_by(rt, Some(at_most(limit, most)))
     }
 
-    fn turn_by<R: Net + Clock>(&mut self, rt: &R, limit: Option<Duration>) -> io::Result<()> {
+    fn turn_by<R: Net + Clock>(&mut self, rt: &R, limit: Option<Duration>) -> io::Result<()>
+        ensures core { GoesOn self.old.core.value self.new.core.value }
+    {
         self.wait(rt, limit)?;
         self.give_back_room();
         self.fail_late()?;
-        if self.may_accept() {
-            self.accept_some();
-        }
+        self.accept_ready();
         self.serve_links()?;
-        if self.in_rounds {
-            self.serve_round(rt)?;
-        } else {
-            self.serve_clients(rt)?;
-            self.serve_busy(rt)?;
-        }
+        self.serve_all(rt)?;
         self.send_links()?;
         self.send_clients()
     }
 
-    fn look_at_clock<R: Clock>(&mut self, rt: &R) -> io::Result<()> {
+    fn serve_all<N: Net>(&mut self, net: &N) -> io::Result<()>
+        ensures core { GoesOn self.old.core.value self.new.core.value }
+    {
+        if self.in_rounds {
+            return self.serve_round(net);
+        }
+        self.serve_clients(net)?;
+        self.serve_busy(net)
+    }
+
+    fn look_at_clock<R: Clock>(&mut self, rt: &R) -> io::Result<()>
+        ensures core { self.new.core ≡ self.old.core }
+    {
         let millis = self.start.elapsed(rt)?.as_millis();
-        self.now = u64::try_from(millis).unwrap_or(u64::MAX);
+        self.time = u64::try_from(millis).unwrap_or(u64::MAX);
         Ok(())
     }
 
-    fn may_accept(&self) -> bool {
+    fn may_accept(&self) -> bool
+        ensures { IsTrue result ↔ MayAccept self.now.accepting self.now.time }
+    {
         match self.accepting {
             Accepting::Now => true,
-            Accepting::From(time) => time <= self.now,
+            Accepting::From(time) => time <= self.time,
             Accepting::Idle => false,
         }
     }
@@ -424,28 +619,47 @@ impl ProxyEnd {
     }
 
     // Whether something is left to do.
-    fn has_work(&self) -> bool {
-        self.may_accept()
-            || !self.clients.ready.is_empty()
-            || !self.ready_links.is_empty()
-            || !self.links_with_output.is_empty()
-            || (self.is_freed && !self.clients.busy.is_empty())
+    fn has_work(&self) -> bool
+        ensures { (result ≡ false) ↔ HasNoWork self.now }
+    {
+        if self.may_accept() {
+            return true;
+        }
+        if !self.clients.ready.is_empty() {
+            return true;
+        }
+        if !self.ready_links.is_empty() {
+            return true;
+        }
+        if !self.links_with_output.is_empty() {
+            return true;
+        }
+        if !self.is_freed {
+            return false;
+        }
+        !self.clients.busy.is_empty()
     }
 
     // Room that is spare is kept for a while from now on.
-    fn keep_room(&mut self) {
-        self.spare_until = Some(self.now.saturating_add(SPARE_MS));
+    fn keep_room(&mut self)
+        ensures core { self.new.core ≡ self.old.core }
+    {
+        self.spare_until = Some(self.time.saturating_add(SPARE_MS));
     }
 
     // Large data came or went, or room for such is there and not noted yet.
-    fn note_room(&mut self, is_large: bool, has_room: bool) {
+    fn note_room(&mut self, is_large: bool, has_room: bool)
+        ensures core { self.new.core ≡ self.old.core }
+    {
         if is_large || (has_room && self.spare_until.is_none()) {
             self.keep_room();
         }
     }
 
     // Links give back the room that they don't need now. Whether one has much that it needs.
-    fn give_back_links(&mut self) -> bool {
+    fn give_back_links(&mut self) -> bool
+        ensures core { self.new.core ≡ self.old.core }
+    {
         let mut has_room = false;
         for at in 0..self.links.len() {
             if let Some(link) = self.links.get_mut(at) {
@@ -459,9 +673,11 @@ impl ProxyEnd {
     }
 
     // Where nothing large came for a while, the room that was for it goes back.
-    fn give_back_room(&mut self) {
+    fn give_back_room(&mut self)
+        ensures core { self.new.core ≡ self.old.core }
+    {
         match self.spare_until {
-            Some(time) if time <= self.now => {}
+            Some(time) if time <= self.time => {}
             _ => return,
         }
         self.spare_until = None;
@@ -502,26 +718,32 @@ impl ProxyEnd {
     }
 
     // How long may be waited, by the clock of now.
-    fn wait_limit<R: Clock>(&mut self, rt: &R) -> io::Result<Option<Duration>> {
+    fn wait_limit<R: Clock>(&mut self, rt: &R) -> io::Result<Option<Duration>>
+        ensures core { self.new.core ≡ self.old.core }
+    {
         self.look_at_clock(rt)?;
         if self.has_work() {
             return Ok(Some(Duration::from_millis(0)));
         }
         match self.next_limit() {
             Some(limit) => Ok(Some(Duration::from_millis(
-                limit.saturating_sub(self.now).saturating_add(1),
+                limit.saturating_sub(self.time).saturating_add(1),
             ))),
             None => Ok(None),
         }
     }
 
-    fn wait<R: Clock>(&mut self, rt: &R, limit: Option<Duration>) -> io::Result<()> {
+    fn wait<R: Clock>(&mut self, rt: &R, limit: Option<Duration>) -> io::Result<()>
+        ensures core { self.new.core ≡ self.old.core }
+    {
         self.poll.poll(&mut self.events, limit)?;
         self.note_events()?;
         self.look_at_clock(rt)
     }
 
-    fn note_events(&mut self) -> io::Result<()> {
+    fn note_events(&mut self) -> io::Result<()>
+        ensures core { self.new.core ≡ self.old.core }
+    {
         let none = Events::with_capacity(self.alloc, 0)?;
         let events = std::mem::replace(&mut self.events, none);
         for event in events.iter() {
@@ -539,7 +761,9 @@ impl ProxyEnd {
         Ok(())
     }
 
-    fn note_link(&mut self, at: usize, told: Ready) -> Result<(), AllocError> {
+    fn note_link(&mut self, at: usize, told: Ready) -> Result<(), AllocError>
+        ensures core { self.new.core ≡ self.old.core }
+    {
         let Some(link) = self.links.get_mut(at) else {
             return Ok(());
         };
@@ -559,7 +783,9 @@ impl ProxyEnd {
         Ok(())
     }
 
-    fn mark_link_ready(&mut self, at: usize) -> Result<(), AllocError> {
+    fn mark_link_ready(&mut self, at: usize) -> Result<(), AllocError>
+        ensures core { self.new.core ≡ self.old.core }
+    {
         if let Some(link) = self.links.get_mut(at) {
             if !link.is_ready {
                 link.is_ready = true;
@@ -569,7 +795,9 @@ impl ProxyEnd {
         Ok(())
     }
 
-    fn mark_link_output(&mut self, at: usize) -> Result<(), AllocError> {
+    fn mark_link_output(&mut self, at: usize) -> Result<(), AllocError>
+        ensures core { self.new.core ≡ self.old.core }
+    {
         if let Some(link) = self.links.get_mut(at) {
             if !link.has_output {
                 link.has_output = true;
@@ -580,95 +808,125 @@ impl ProxyEnd {
     }
 
     // The link's calls have all failed, and it has no connection.
-    fn fail_link(&mut self, at: usize, cause: Cause) -> Result<(), AllocError> {
+    fn fail_link(&mut self, at: usize, cause: Cause) -> Result<(), AllocError>
+        ensures core { Fails self.old.core.value self.new.core.value }
+        ensures down { OnOk result (IsDownAt at self.new.links.items) }
+        ensures closed { IsClosedAt at self.new.links.items }
+    {
         let Some(link) = self.links.get_mut(at) else {
             return Ok(());
         };
-        link.close(cause, self.now, &self.settings);
+        link.close(cause, self.time, &self.settings);
         self.has_news = true;
         self.is_freed = true;
-        for _ in 0..link.calls.len() {
-            if let Some(client) = link.calls.fail_next(self.core.as_mut()) {
-                self.clients.mark_settled(client)?;
-            }
-        }
-        self.fail_waiting(at)
-    }
-
-    // The calls that wait for the link, which has no connection, have failed.
-    fn fail_waiting(&mut self, at: usize) -> Result<(), AllocError> {
-        let Some(link) = self.links.get_mut(at) else {
-            return Ok(());
-        };
-        for _ in 0..link.waiting() {
-            if let Some(call) = link.next_waiting() {
-                let client = call.client;
-                fail_call(self.core.as_mut(), call.ticket);
-                self.clients.end_waiting(client)?;
-                self.clients.mark_settled(client)?;
-            }
-        }
-        Ok(())
+        fail_all(link, self.core.as_mut(), &mut self.clients)
     }
 
     fn lateness(&self, at: usize) -> Option<Cause> {
         match self.links.get(at) {
-            Some(link) => link.lateness(self.now, &self.settings),
+            Some(link) => link.lateness(self.time, &self.settings),
             None => None,
         }
     }
 
-    fn fail_late(&mut self) -> Result<(), AllocError> {
+    fn fail_late(&mut self) -> Result<(), AllocError>
+        ensures core { Fails self.old.core.value self.new.core.value }
+    {
         for at in 0..self.links.len() {
-            if let Some(cause) = self.lateness(at) {
-                self.fail_link(at, cause)?;
-            }
+            self.fail_if_late(at)?;
         }
         Ok(())
     }
 
-    fn accept_some(&mut self) {
+    fn fail_if_late(&mut self, at: usize) -> Result<(), AllocError>
+        ensures core { Fails self.old.core.value self.new.core.value }
+    {
+        match self.lateness(at) {
+            Some(cause) => self.fail_link(at, cause),
+            None => Ok(()),
+        }
+    }
+
+    // Clients that wait are accepted, if it is time.
+    fn accept_ready(&mut self)
+        ensures core { GoesOn self.old.core.value self.new.core.value }
+    {
+        if self.may_accept() {
+            self.accept_some();
+        }
+    }
+
+    fn accept_some(&mut self)
+        ensures core { GoesOn self.old.core.value self.new.core.value }
+    {
         for _ in 0..ACCEPTS {
-            match self.listener.accept() {
-                Ok((stream, _)) => self.take_client(stream),
-                Err(error) => match error.kind() {
-                    // That one has gone.
-                    ErrorKind::Interrupted | ErrorKind::ConnectionAborted => {}
-                    ErrorKind::WouldBlock => {
-                        self.accepting = Accepting::Idle;
-                        return;
-                    }
-                    _ => {
-                        let again = self.now.saturating_add(ACCEPT_PAUSE);
-                        self.accepting = Accepting::From(again);
-                        return;
-                    }
-                },
+            if !self.accept_one() {
+                return;
             }
+        }
+    }
+
+    // Whether another may be accepted now.
+    fn accept_one(&mut self) -> bool
+        ensures core { GoesOn self.old.core.value self.new.core.value }
+    {
+        match self.listener.accept() {
+            Ok((stream, _)) => {
+                self.take_client(stream);
+                true
+            }
+            Err(error) => match error.kind() {
+                // That one has gone.
+                ErrorKind::Interrupted | ErrorKind::ConnectionAborted => true,
+                ErrorKind::WouldBlock => {
+                    self.accepting = Accepting::Idle;
+                    false
+                }
+                _ => {
+                    let again = self.time.saturating_add(ACCEPT_PAUSE);
+                    self.accepting = Accepting::From(again);
+                    false
+                }
+            },
         }
     }
 
     // A client came: it is one more, or is told that there are too many. One for which there is no memory is closed.
-    fn take_client(&mut self, stream: TcpStream) {
+    fn take_client(&mut self, stream: TcpStream)
+        ensures core { GoesOn self.old.core.value self.new.core.value }
+    {
         let mut stream = stream;
         match self.core.open_client() {
-            Ok(id) => {
-                let is_kept = watch_stream(&self.poll, &stream, id).is_ok()
-                    && self
-                        .clients
-                        .insert(id, Client::new(self.alloc, stream))
-                        .is_ok();
-                if !is_kept {
-                    self.clients.remove(id);
-                    let _ = self.core.close(id);
-                }
-            }
+            Ok(id) => self.keep_client(id, stream),
             Err(_) => turn_away(&mut stream),
         }
     }
 
+    // It is kept by its id. Where it can't be, the core closes it.
+    fn keep_client(&mut self, id: usize, stream: TcpStream)
+        ensures core { GoesOn self.old.core.value self.new.core.value }
+    {
+        if self.insert_client(id, stream) {
+            return;
+        }
+        self.clients.remove(id);
+        let _ = self.core.close(id);
+    }
+
+    fn insert_client(&mut self, id: usize, stream: TcpStream) -> bool
+        ensures core { self.new.core ≡ self.old.core }
+    {
+        if watch_stream(&self.poll, &stream, id).is_err() {
+            return false;
+        }
+        let client = Client::new(self.alloc, stream);
+        self.clients.insert(id, client).is_ok()
+    }
+
     // One read, and all whole answers are settled. Why the link fails by that, if it does.
-    fn read_link(&mut self, at: usize) -> io::Result<Option<Cause>> {
+    fn read_link(&mut self, at: usize) -> io::Result<Option<Cause>>
+        ensures core { GoesOn self.old.core.value self.new.core.value }
+    {
         let Some(link) = self.links.get_mut(at) else {
             return Ok(None);
         };
@@ -696,7 +954,9 @@ impl ProxyEnd {
     }
 
     // What the server tells of its dialects comes before all answers to calls. Why the link fails by that, if it does.
-    fn learn_and_settle(&mut self, at: usize) -> io::Result<Option<Cause>> {
+    fn learn_and_settle(&mut self, at: usize) -> io::Result<Option<Cause>>
+        ensures core { GoesOn self.old.core.value self.new.core.value }
+    {
         let Some(link) = self.links.get_mut(at) else {
             return Ok(None);
         };
@@ -713,33 +973,22 @@ impl ProxyEnd {
     }
 
     // All whole answers are settled, after another whole answer or not. Why the link fails by that, if it does.
-    fn settle_all(&mut self, at: usize, has_answered: bool) -> io::Result<Option<Cause>> {
+    fn settle_all(&mut self, at: usize, has_answered: bool) -> io::Result<Option<Cause>>
+        ensures core { GoesOn self.old.core.value self.new.core.value }
+    {
         let Some(link) = self.links.get_mut(at) else {
             return Ok(None);
         };
         let Some(conn) = link.conn.as_mut() else {
             return Ok(None);
         };
-        let mut used = 0usize;
-        let mut is_kept = true;
-        for _ in 0..conn.held.len() {
-            let rest = conn.held.as_slice().get(used..).unwrap_or(b"".as_slice());
-            if rest.is_empty() {
-                break;
-            }
-            match link.calls.settle_next(self.core.as_mut(), rest) {
-                Next::Settled { client, used: len } => {
-                    used = used.saturating_add(len);
-                    self.is_freed = true;
-                    self.clients.mark_settled(client)?;
-                }
-                Next::More => break,
-                Next::Foreign => {
-                    is_kept = false;
-                    break;
-                }
-            }
-        }
+        let (used, is_kept) = settle_held(
+            &mut link.calls,
+            self.core.as_mut(),
+            &mut self.clients,
+            &mut self.is_freed,
+            conn.held.as_slice(),
+        )?;
         use_held(conn, used);
         let has_failed = link.has_read(has_answered || used > 0, self.settings.polls);
         if !is_kept {
@@ -748,7 +997,9 @@ impl ProxyEnd {
         Ok(vain(has_failed))
     }
 
-    fn serve_link(&mut self, at: usize) -> io::Result<()> {
+    fn serve_link(&mut self, at: usize) -> io::Result<()>
+        ensures core { GoesOn self.old.core.value self.new.core.value }
+    {
         if let Some(cause) = self.read_link(at)? {
             return Ok(self.fail_link(at, cause)?);
         }
@@ -765,70 +1016,99 @@ impl ProxyEnd {
         Ok(())
     }
 
-    fn serve_links(&mut self) -> io::Result<()> {
+    // It stands no longer among those that are ready.
+    fn end_ready(&mut self, at: usize)
+        ensures core { self.new.core ≡ self.old.core }
+    {
+        if let Some(link) = self.links.get_mut(at) {
+            link.is_ready = false;
+        }
+    }
+
+    // The next link of the list is served.
+    fn serve_link_in(&mut self, place: usize) -> io::Result<()>
+        ensures core { GoesOn self.old.core.value self.new.core.value }
+    {
+        let Some(at) = self.work.get(place) else {
+            return Ok(());
+        };
+        let at = *at;
+        self.end_ready(at);
+        self.serve_link(at)
+    }
+
+    fn serve_links(&mut self) -> io::Result<()>
+        ensures core { GoesOn self.old.core.value self.new.core.value }
+    {
         std::mem::swap(&mut self.work, &mut self.ready_links);
         for i in 0..self.work.len() {
-            if let Some(at) = self.work.get(i) {
-                let at = *at;
-                if let Some(link) = self.links.get_mut(at) {
-                    link.is_ready = false;
-                }
-                self.serve_link(at)?;
-            }
+            self.serve_link_in(i)?;
         }
         self.work.clear();
         Ok(())
     }
 
-    fn serve_clients<N: Net>(&mut self, net: &N) -> io::Result<()> {
+    // The next client of the list, which is ready, is served.
+    fn serve_ready_in<N: Net>(&mut self, net: &N, place: usize) -> io::Result<()>
+        ensures core { GoesOn self.old.core.value self.new.core.value }
+    {
+        let Some(id) = self.work.get(place) else {
+            return Ok(());
+        };
+        let id = *id;
+        self.clients.end_ready(id);
+        self.serve_client(net, id)
+    }
+
+    // The same of one that waits for a key or a server.
+    fn serve_busy_in<N: Net>(&mut self, net: &N, place: usize) -> io::Result<()>
+        ensures core { GoesOn self.old.core.value self.new.core.value }
+    {
+        let Some(id) = self.work.get(place) else {
+            return Ok(());
+        };
+        let id = *id;
+        let _ = self.clients.end_busy(id);
+        self.serve_client(net, id)
+    }
+
+    fn serve_clients<N: Net>(&mut self, net: &N) -> io::Result<()>
+        ensures core { GoesOn self.old.core.value self.new.core.value }
+    {
         std::mem::swap(&mut self.work, &mut self.clients.ready);
         for i in 0..self.work.len() {
-            if let Some(id) = self.work.get(i) {
-                let id = *id;
-                if let Some(client) = self.clients.get_mut(id) {
-                    client.is_ready = false;
-                }
-                self.serve_client(net, id)?;
-            }
+            self.serve_ready_in(net, i)?;
         }
         self.work.clear();
         Ok(())
     }
 
     // Clients that wait for a key or a server, if one became free.
-    fn serve_busy<N: Net>(&mut self, net: &N) -> io::Result<()> {
+    fn serve_busy<N: Net>(&mut self, net: &N) -> io::Result<()>
+        ensures core { GoesOn self.old.core.value self.new.core.value }
+    {
         if !self.is_freed {
             return Ok(());
         }
         self.is_freed = false;
         std::mem::swap(&mut self.work, &mut self.clients.busy);
         for i in 0..self.work.len() {
-            if let Some(id) = self.work.get(i) {
-                let id = *id;
-                if let Some(client) = self.clients.get_mut(id) {
-                    client.is_busy = false;
-                }
-                self.serve_client(net, id)?;
-            }
+            self.serve_busy_in(net, i)?;
         }
         self.work.clear();
         Ok(())
     }
 
     // A round: all that are ready, and all that wait for a key or a server.
-    fn serve_round<N: Net>(&mut self, net: &N) -> io::Result<()> {
+    fn serve_round<N: Net>(&mut self, net: &N) -> io::Result<()>
+        ensures core { GoesOn self.old.core.value self.new.core.value }
+    {
         self.is_freed = false;
         std::mem::swap(&mut self.work, &mut self.clients.ready);
         self.clients.move_busy(&mut self.work)?;
         self.work.sort_unstable();
         for i in 0..self.work.len() {
-            if let Some(id) = self.work.get(i) {
-                let id = *id;
-                if let Some(client) = self.clients.get_mut(id) {
-                    client.is_ready = false;
-                }
-                self.serve_client(net, id)?;
-            }
+            self.serve_ready_in(net, i)?;
         }
         self.work.clear();
         Ok(())
@@ -840,102 +1120,112 @@ impl ProxyEnd {
     }
 
     // One read of the client, and what it holds is given to the core.
-    fn read_client(&mut self, id: usize) -> io::Result<()> {
+    fn read_client(&mut self, id: usize) -> io::Result<()>
+        ensures core { GoesOn self.old.core.value self.new.core.value }
+    {
         let Some(client) = self.clients.get_mut(id) else {
             return Ok(());
         };
         if client.can_read() {
             std::mem::swap(&mut client.conn.held, &mut self.input);
-            let room = client.read_room();
-            // A client for whose bytes there is no memory is closed, and no other one.
-            match client.conn.read_once(room).unwrap_or(Got::Failed) {
-                Got::Ended => client.is_ended = true,
-                Got::Failed => client.break_off(),
-                Got::Bytes => {
-                    client.has_read();
-                    self.tally.note_read(client.conn.held.len());
-                }
-                Got::Nothing | Got::Full => {}
-            }
+            read_once(client, &mut self.tally);
         }
-        if !client.conn.held.is_empty() {
-            match self.core.feed(id, client.conn.held.as_slice()) {
-                Ok(()) => client.conn.held.clear(),
-                // The core takes it when it has done what it holds.
-                Err(CoreFault::InputFull) => {}
-                Err(_) => client.break_off(),
-            }
-        }
+        feed_held(self.core.as_mut(), id, client);
         give_back(self.alloc, &mut client.conn.held, &mut self.input);
         Ok(())
     }
 
-    fn may_go_on(&mut self, id: usize) -> bool {
+    fn may_go_on(&mut self, id: usize) -> bool
+        ensures core { self.new.core ≡ self.old.core }
+    {
         match self.clients.get_mut(id) {
             Some(client) => client.may_go_on(),
             None => false,
         }
     }
 
-    fn note_went_on(&mut self, id: usize) {
+    fn note_went_on(&mut self, id: usize)
+        ensures core { self.new.core ≡ self.old.core }
+    {
         if let Some(client) = self.clients.get_mut(id) {
             client.went_on();
         }
     }
 
     // Nobody waits behind a client that isn't polled until it has taken what it was sent.
-    fn leave_line(&mut self, id: usize) {
+    fn leave_line(&mut self, id: usize)
+        ensures core { GoesOn self.old.core.value self.new.core.value }
+    {
         if self.core.leave_line(id) {
             self.is_freed = true;
         }
     }
 
     // What can be done for the client is done.
-    fn poll_client<N: Net>(&mut self, net: &N, id: usize) -> io::Result<Rest> {
+    fn poll_client<N: Net>(&mut self, net: &N, id: usize) -> io::Result<Rest>
+        ensures core { GoesOn self.old.core.value self.new.core.value }
+    {
         for _ in 0..self.polls() {
             if !self.may_go_on(id) {
                 self.leave_line(id);
                 return Ok(Rest::Full);
             }
-            match self.core.poll(id) {
-                Ok(Polled::Call(ticket)) => {
-                    self.note_went_on(id);
-                    self.send_call(net, id, ticket)?;
-                }
-                Ok(Polled::Did(_note)) => {
-                    self.note_went_on(id);
-                    self.tally.note_command();
-                    self.is_freed = true;
-                }
-                Ok(Polled::Own) | Ok(Polled::Refused) => {}
-                Ok(Polled::Idle) => return Ok(Rest::Idle),
-                Ok(Polled::Waiting) => return Ok(Rest::Waiting),
-                Ok(Polled::Busy) => return Ok(Rest::Busy),
-                Err(CoreFault::NoMemory) => {
-                    self.is_freed = true;
-                    self.end_client(id);
-                }
-                Err(_) => {
-                    self.end_client(id);
-                    return Ok(Rest::Idle);
-                }
+            match self.poll_once(net, id)? {
+                Rest::More => {}
+                rest => return Ok(rest),
             }
         }
         Ok(Rest::More)
     }
 
-    fn end_client(&mut self, id: usize) {
+    // One thing is done for the client, if one can be: what is left after it.
+    fn poll_once<N: Net>(&mut self, net: &N, id: usize) -> io::Result<Rest>
+        ensures core { GoesOn self.old.core.value self.new.core.value }
+    {
+        match self.core.poll(id) {
+            Ok(Polled::Call(ticket)) => {
+                self.note_went_on(id);
+                self.send_call(net, id, ticket)?;
+                Ok(Rest::More)
+            }
+            Ok(Polled::Did(_note)) => {
+                self.note_went_on(id);
+                self.tally.note_command();
+                self.is_freed = true;
+                Ok(Rest::More)
+            }
+            Ok(Polled::Own) | Ok(Polled::Refused) => Ok(Rest::More),
+            Ok(Polled::Idle) => Ok(Rest::Idle),
+            Ok(Polled::Waiting) => Ok(Rest::Waiting),
+            Ok(Polled::Busy) => Ok(Rest::Busy),
+            Err(CoreFault::NoMemory) => {
+                self.is_freed = true;
+                self.end_client(id);
+                Ok(Rest::More)
+            }
+            Err(_) => {
+                self.end_client(id);
+                Ok(Rest::Idle)
+            }
+        }
+    }
+
+    fn end_client(&mut self, id: usize)
+        ensures core { self.new.core ≡ self.old.core }
+    {
         if let Some(client) = self.clients.get_mut(id) {
             client.is_ended = true;
         }
     }
 
     // Whether a call may go out on the link: it has a connection, or one could be begun, and it isn't held back.
-    fn is_open<N: Net>(&mut self, net: &N, at: usize) -> bool {
+    fn is_open<N: Net>(&mut self, net: &N, at: usize) -> bool
+        ensures core { self.new.core ≡ self.old.core }
+    {
         let Some(link) = self.links.get_mut(at) else {
             return false;
         };
-        if link.is_held_back(self.now, &self.settings) {
+        if link.is_held_back(self.time, &self.settings) {
             return false;
         }
         if link.conn.is_some() {
@@ -947,10 +1237,10 @@ impl ProxyEnd {
         match connect(net, &self.poll, address, LINKS.saturating_add(at)) {
             Ok(stream) => {
                 let dialect = self.settings.server_dialect;
-                link.open(self.alloc, stream, self.now, dialect).is_ok()
+                link.open(self.alloc, stream, self.time, dialect).is_ok()
             }
             Err(_) => {
-                link.close(Cause::Unreachable, self.now, &self.settings);
+                link.close(Cause::Unreachable, self.time, &self.settings);
                 self.has_news = true;
                 false
             }
@@ -966,7 +1256,9 @@ impl ProxyEnd {
     }
 
     // The call is written to its server's link or waits for it, or has failed.
-    fn send_call<N: Net>(&mut self, net: &N, id: usize, ticket: Ticket) -> io::Result<()> {
+    fn send_call<N: Net>(&mut self, net: &N, id: usize, ticket: Ticket) -> io::Result<()>
+        ensures core { Fails self.old.core.value self.new.core.value }
+    {
         let at = ticket.server.number() as usize;
         if !self.is_open(net, at) {
             return Ok(self.refuse_call(id, ticket)?);
@@ -974,7 +1266,7 @@ impl ProxyEnd {
         let call = SentCall {
             ticket,
             client: id,
-            since: self.now,
+            since: self.time,
             dialect: self.dialect_of(at),
         };
         if self.is_full(at) {
@@ -993,7 +1285,9 @@ impl ProxyEnd {
     }
 
     // The call waits until its server takes more, or has failed. Until then none of its client's commands begins.
-    fn let_wait(&mut self, at: usize, call: SentCall) -> Result<(), AllocError> {
+    fn let_wait(&mut self, at: usize, call: SentCall) -> Result<(), AllocError>
+        ensures core { Fails self.old.core.value self.new.core.value }
+    {
         let client = call.client;
         let Some(link) = self.links.get_mut(at) else {
             return self.refuse_call(client, call.ticket);
@@ -1008,7 +1302,9 @@ impl ProxyEnd {
     }
 
     // The call is written to its server's link, or has failed.
-    fn begin_call(&mut self, at: usize, call: SentCall) -> Result<(), AllocError> {
+    fn begin_call(&mut self, at: usize, call: SentCall) -> Result<(), AllocError>
+        ensures core { Fails self.old.core.value self.new.core.value }
+    {
         match self.write_call(at, call) {
             None => Ok(()),
             Some(call) => self.refuse_call(call.client, call.ticket),
@@ -1016,7 +1312,9 @@ impl ProxyEnd {
     }
 
     // The call is written to the link, or given back.
-    fn write_call(&mut self, at: usize, call: SentCall) -> Option<SentCall> {
+    fn write_call(&mut self, at: usize, call: SentCall) -> Option<SentCall>
+        ensures core { self.new.core ≡ self.old.core }
+    {
         let Some(link) = self.links.get_mut(at) else {
             return Some(call);
         };
@@ -1030,18 +1328,31 @@ impl ProxyEnd {
     }
 
     // The call has failed, and never went out.
-    fn refuse_call(&mut self, id: usize, ticket: Ticket) -> Result<(), AllocError> {
+    fn refuse_call(&mut self, id: usize, ticket: Ticket) -> Result<(), AllocError>
+        ensures core { Fails self.old.core.value self.new.core.value }
+    {
         fail_call(self.core.as_mut(), ticket);
         self.clients.mark_settled(id)
     }
 
-    // The core writes the replies to the client into a spare buffer, if one is there: it has the room that large ones want. Whether one is.
-    fn lend_room(&mut self, id: usize) -> io::Result<bool> {
-        let is_settled = match self.clients.get_mut(id) {
+    // Whether a command of it can go on, as its call was settled.
+    fn has_settled(&mut self, id: usize) -> bool
+        ensures core { self.new.core ≡ self.old.core }
+    {
+        match self.clients.get_mut(id) {
             Some(client) => client.settled > 0,
             None => false,
-        };
-        if !is_settled || self.spares.is_empty() {
+        }
+    }
+
+    // The core writes the replies to the client into a spare buffer, if one is there: it has the room that large ones want. Whether one is.
+    fn lend_room(&mut self, id: usize) -> io::Result<bool>
+        ensures core { GoesOn self.old.core.value self.new.core.value }
+    {
+        if self.spares.is_empty() {
+            return Ok(false);
+        }
+        if !self.has_settled(id) {
             return Ok(false);
         }
         // What the core has for the client now is shown first, so that what it gives for the spare buffer is room alone.
@@ -1056,24 +1367,36 @@ impl ProxyEnd {
     }
 
     // The core, which has nothing for the client, writes into this buffer from now on. What it wrote into so far is spare.
-    fn exchange_room(&mut self, id: usize, buffer: BytesMut) {
+    fn exchange_room(&mut self, id: usize, buffer: BytesMut)
+        ensures core { GoesOn self.old.core.value self.new.core.value }
+    {
         let mut buffer = buffer;
         let _ = self.core.move_output(id, &mut buffer);
         self.keep_spare(buffer);
     }
 
     // What was done for the client is shown to it, and the core keeps no room that was lent.
-    fn show_lent(&mut self, id: usize, is_lent: bool) -> io::Result<()> {
+    fn show_lent(&mut self, id: usize, is_lent: bool) -> io::Result<()>
+        ensures core { GoesOn self.old.core.value self.new.core.value }
+    {
         self.show_client(id)?;
-        if is_lent {
-            self.exchange_room(id, BytesMut::new(self.alloc));
-        }
+        self.end_lent(id, is_lent);
         self.take_room(id);
         Ok(())
     }
 
+    fn end_lent(&mut self, id: usize, is_lent: bool)
+        ensures core { GoesOn self.old.core.value self.new.core.value }
+    {
+        if is_lent {
+            self.exchange_room(id, BytesMut::new(self.alloc));
+        }
+    }
+
     // The buffer is spare, if it is empty and has much room.
-    fn keep_spare(&mut self, buffer: BytesMut) {
+    fn keep_spare(&mut self, buffer: BytesMut)
+        ensures core { self.new.core ≡ self.old.core }
+    {
         let mut buffer = buffer;
         buffer.clear();
         let room = buffer.capacity();
@@ -1084,11 +1407,13 @@ impl ProxyEnd {
     }
 
     // A client that has nothing to send keeps no large room for it: it is spare.
-    fn take_room(&mut self, id: usize) {
+    fn take_room(&mut self, id: usize)
+        ensures core { self.new.core ≡ self.old.core }
+    {
         let Some(client) = self.clients.get_mut(id) else {
             return;
         };
-        if !client.conn.unsent.is_empty() || client.conn.unsent.capacity() <= KEPT_ROOM {
+        if !has_spare(&client.conn.unsent) {
             return;
         }
         let unsent = std::mem::replace(&mut client.conn.unsent, BytesMut::new(self.alloc));
@@ -1096,7 +1421,9 @@ impl ProxyEnd {
     }
 
     // The same for what the core has for it, which is written into what it is shown next.
-    fn take_rooms(&mut self, id: usize) -> io::Result<()> {
+    fn take_rooms(&mut self, id: usize) -> io::Result<()>
+        ensures core { GoesOn self.old.core.value self.new.core.value }
+    {
         self.take_room(id);
         self.show_client(id)?;
         self.take_room(id);
@@ -1104,20 +1431,20 @@ impl ProxyEnd {
     }
 
     // What the core has for the client goes after what is to be sent.
-    fn show_client(&mut self, id: usize) -> io::Result<()> {
+    fn show_client(&mut self, id: usize) -> io::Result<()>
+        ensures core { GoesOn self.old.core.value self.new.core.value }
+    {
         let Some(client) = self.clients.get_mut(id) else {
             return Ok(());
         };
-        let unsent = client.conn.unsent.len();
-        match self.core.move_output(id, &mut client.conn.unsent) {
-            Ok(()) => {}
+        let shown = match show(self.core.as_mut(), id, client) {
+            Ok(shown) => shown,
             Err(CoreFault::NoMemory) => {
                 client.break_off();
                 return Ok(());
             }
             Err(_) => return Ok(()),
-        }
-        let shown = client.conn.unsent.len().saturating_sub(unsent);
+        };
         if shown == 0 {
             return Ok(());
         }
@@ -1127,30 +1454,28 @@ impl ProxyEnd {
     }
 
     // A client that has ended, for which nothing is left to do and to send, is gone.
-    fn close_client(&mut self, id: usize, rest: Rest) {
+    fn close_client(&mut self, id: usize, rest: Rest)
+        ensures core { GoesOn self.old.core.value self.new.core.value }
+    {
         let Some(client) = self.clients.get_mut(id) else {
             return;
         };
         let is_ended = client.is_ended || self.core.is_closed(id);
         // Bytes that were left unread would take the last replies with them when the socket is closed.
         let is_read = client.is_ended || !client.conn.readable;
-        if rest == Rest::Idle
-            && is_ended
-            && is_read
-            && client.conn.unsent.is_empty()
-            && self.core.close(id).is_ok()
-        {
+        if rest != Rest::Idle || !is_ended || !is_read || !client.conn.unsent.is_empty() {
+            return;
+        }
+        if self.core.close(id).is_ok() {
             self.clients.remove(id);
             self.accepting = Accepting::Now;
         }
     }
 
-    fn serve_client<N: Net>(&mut self, net: &N, id: usize) -> io::Result<()> {
-        self.read_client(id)?;
-        let is_lent = self.lend_room(id)?;
-        let rest = self.poll_client(net, id)?;
-        self.show_lent(id, is_lent)?;
-        self.close_client(id, rest);
+    // What its polls ended with, and what may be done for it, is noted.
+    fn mark_rest(&mut self, id: usize, rest: Rest) -> Result<(), AllocError>
+        ensures core { self.new.core ≡ self.old.core }
+    {
         let is_more = match self.clients.get_mut(id) {
             Some(client) => {
                 rest == Rest::More || client.can_read() || (rest == Rest::Idle && client.has_held())
@@ -1166,8 +1491,21 @@ impl ProxyEnd {
         Ok(())
     }
 
+    fn serve_client<N: Net>(&mut self, net: &N, id: usize) -> io::Result<()>
+        ensures core { GoesOn self.old.core.value self.new.core.value }
+    {
+        self.read_client(id)?;
+        let is_lent = self.lend_room(id)?;
+        let rest = self.poll_client(net, id)?;
+        self.show_lent(id, is_lent)?;
+        self.close_client(id, rest);
+        Ok(self.mark_rest(id, rest)?)
+    }
+
     // What is to be sent to the server goes out, as far as it is taken. Whether the link stands still.
-    fn send_unsent(&mut self, at: usize) -> bool {
+    fn send_unsent(&mut self, at: usize) -> bool
+        ensures core { self.new.core ≡ self.old.core }
+    {
         let Some(link) = self.links.get_mut(at) else {
             return true;
         };
@@ -1181,32 +1519,55 @@ impl ProxyEnd {
     }
 
     // Of the calls that wait the first that may go out.
-    fn next_waiting(&mut self, at: usize) -> Option<SentCall> {
+    fn next_waiting(&mut self, at: usize) -> Option<SentCall>
+        ensures core { self.new.core ≡ self.old.core }
+    {
         self.links.get_mut(at)?.next_waiting()
     }
 
+    // The first call that waits is written to the link, if it may go out. Whether it did.
+    fn begin_next(&mut self, at: usize) -> Result<bool, AllocError>
+        ensures core { Fails self.old.core.value self.new.core.value }
+    {
+        let Some(call) = self.next_waiting(at) else {
+            return Ok(false);
+        };
+        self.clients.end_waiting(call.client)?;
+        self.begin_call(at, call)?;
+        Ok(true)
+    }
+
     // Calls that waited are written to the link, up to a backlog. Whether one was.
-    fn begin_waiting(&mut self, at: usize) -> Result<bool, AllocError> {
+    fn begin_waiting(&mut self, at: usize) -> Result<bool, AllocError>
+        ensures core { Fails self.old.core.value self.new.core.value }
+    {
         let count = match self.links.get(at) {
             Some(link) => link.waiting(),
             None => 0,
         };
         let mut has_begun = false;
         for _ in 0..count {
-            let Some(call) = self.next_waiting(at) else {
-                break;
-            };
+            if !self.begin_next(at)? {
+                return Ok(has_begun);
+            }
             has_begun = true;
-            self.clients.end_waiting(call.client)?;
-            self.begin_call(at, call)?;
         }
         Ok(has_begun)
     }
 
-    fn send_link(&mut self, at: usize) -> Result<(), AllocError> {
+    // It stands no longer among those that have something to send.
+    fn end_output(&mut self, at: usize)
+        ensures core { self.new.core ≡ self.old.core }
+    {
         if let Some(link) = self.links.get_mut(at) {
             link.has_output = false;
         }
+    }
+
+    fn send_link(&mut self, at: usize) -> Result<(), AllocError>
+        ensures core { Fails self.old.core.value self.new.core.value }
+    {
+        self.end_output(at);
         for _ in 0..LINK_SENDS {
             if !self.send_unsent(at) {
                 return self.fail_link(at, Cause::Broken);
@@ -1218,46 +1579,70 @@ impl ProxyEnd {
         self.mark_link_output(at)
     }
 
-    fn send_links(&mut self) -> Result<(), AllocError> {
+    // The next link of the list.
+    fn send_link_in(&mut self, place: usize) -> Result<(), AllocError>
+        ensures core { Fails self.old.core.value self.new.core.value }
+    {
+        let Some(at) = self.work.get(place) else {
+            return Ok(());
+        };
+        let at = *at;
+        self.send_link(at)
+    }
+
+    fn send_links(&mut self) -> Result<(), AllocError>
+        ensures core { Fails self.old.core.value self.new.core.value }
+    {
         std::mem::swap(&mut self.work, &mut self.links_with_output);
         for i in 0..self.work.len() {
-            if let Some(at) = self.work.get(i) {
-                let at = *at;
-                self.send_link(at)?;
-            }
+            self.send_link_in(i)?;
         }
         self.work.clear();
         Ok(())
     }
 
-    fn send_client(&mut self, id: usize) -> io::Result<()> {
+    fn send_client(&mut self, id: usize) -> io::Result<()>
+        ensures core { GoesOn self.old.core.value self.new.core.value }
+    {
         let Some(client) = self.clients.get_mut(id) else {
             return Ok(());
         };
-        client.has_output = false;
-        let was_full = !client.has_room();
-        if !send(&mut client.conn) {
-            client.break_off();
-        }
-        let is_empty = client.conn.unsent.is_empty();
-        let has_room = client.conn.unsent.capacity() > KEPT_ROOM;
-        let is_free = was_full && client.has_room();
-        if is_free || (is_empty && (client.is_ended || self.core.is_closed(id))) {
-            self.clients.mark_ready(id)?;
-        }
-        if is_empty && has_room {
-            self.take_rooms(id)?;
+        let is_more = send_once(self.core.as_ref(), id, client);
+        let has_spare = has_spare(&client.conn.unsent);
+        self.mark_if(id, is_more)?;
+        if has_spare {
+            return self.take_rooms(id);
         }
         Ok(())
     }
 
-    fn send_clients(&mut self) -> io::Result<()> {
+    // The client is to be served, if something is left to do for it.
+    fn mark_if(&mut self, id: usize, is_more: bool) -> Result<(), AllocError>
+        ensures core { self.new.core ≡ self.old.core }
+    {
+        if is_more {
+            return self.clients.mark_ready(id);
+        }
+        Ok(())
+    }
+
+    // The next client of the list.
+    fn send_client_in(&mut self, place: usize) -> io::Result<()>
+        ensures core { GoesOn self.old.core.value self.new.core.value }
+    {
+        let Some(id) = self.work.get(place) else {
+            return Ok(());
+        };
+        let id = *id;
+        self.send_client(id)
+    }
+
+    fn send_clients(&mut self) -> io::Result<()>
+        ensures core { GoesOn self.old.core.value self.new.core.value }
+    {
         std::mem::swap(&mut self.work, &mut self.clients.with_output);
         for i in 0..self.work.len() {
-            if let Some(id) = self.work.get(i) {
-                let id = *id;
-                self.send_client(id)?;
-            }
+            self.send_client_in(i)?;
         }
         self.work.clear();
         Ok(())

@@ -1,0 +1,5 @@
+pub mod Walked
+pub mod LogWalks
+pub mod Failing
+pub mod Counting
+pub mod Feeding

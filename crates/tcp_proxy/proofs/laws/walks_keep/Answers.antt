@@ -1,0 +1,5 @@
+use Rattle.tcp_proxy.proofs.Walked.{walks_keep}
+use Rattle.tcp_proxy.proofs.laws.walks_keep.Goals as goal
+
+pub returns : goal.returns
+returns c = walks_keep

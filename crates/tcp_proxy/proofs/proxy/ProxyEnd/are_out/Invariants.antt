@@ -1,0 +1,7 @@
+use Rattle.std.proofs.Common.{◌≡◌, ◌+◌, length}
+use Rattle.std.proofs.Common.{drop}
+use Rattle.tcp_proxy.specs.Links.{calls_out}
+use Rattle.tcp_proxy.proofs.proxy.ProxyEnd.are_out.Given as goal
+
+abbrev pub invariant-loop-link : goal.invariant-loop-link
+invariant-loop-link l = calls_out l.link-items + l.left ≡ calls_out (drop l.link-index l.link-items) + l.calls

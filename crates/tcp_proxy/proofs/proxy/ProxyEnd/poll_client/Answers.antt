@@ -1,0 +1,14 @@
+use Rattle.tcp_proxy.proofs.Walked.{and_stood, then}
+use Rattle.tcp_proxy.proofs.proxy.ProxyEnd.poll_client.Goals as goal
+
+pub returns-in_err-rest : goal.returns-in_err-rest
+returns-in_err-rest g c = record { core = then (and_stood c.loop.invariant c.may_go_on.ensures.core) c.poll_once.ensures.core }
+
+pub loop-preserved : goal.loop-preserved
+loop-preserved g c = then (and_stood c.loop.invariant c.may_go_on.ensures.core) c.poll_once.ensures.core
+
+pub returns-then-not-may_go_on : goal.returns-then-not-may_go_on
+returns-then-not-may_go_on g c = record { core = then (and_stood c.loop.invariant c.may_go_on.ensures.core) c.leave_line.ensures.core }
+
+pub returns-in_default : goal.returns-in_default
+returns-in_default g c = record { core = then (and_stood c.loop.invariant c.may_go_on.ensures.core) c.poll_once.ensures.core }

@@ -1,0 +1,20 @@
+use Rattle.tcp_proxy.proofs.Walked.{and_stood, then}
+use Rattle.tcp_proxy.proofs.proxy.ProxyEnd.serve_client.Goals as goal
+
+pub returns-in_err-read_client : goal.returns-in_err-read_client
+returns-in_err-read_client g c = record { core = c.read_client.ensures.core }
+
+pub returns-in_err-is_lent : goal.returns-in_err-is_lent
+returns-in_err-is_lent g c = record { core = then (c.read_client.ensures.core) c.lend_room.ensures.core }
+
+pub returns-in_err-rest : goal.returns-in_err-rest
+returns-in_err-rest g c = record { core = then (then (c.read_client.ensures.core) c.lend_room.ensures.core) c.poll_client.ensures.core }
+
+pub returns-in_err-show_lent : goal.returns-in_err-show_lent
+returns-in_err-show_lent g c = record { core = then (then (then (c.read_client.ensures.core) c.lend_room.ensures.core) c.poll_client.ensures.core) c.show_lent.ensures.core }
+
+pub returns-in_err-mark_rest : goal.returns-in_err-mark_rest
+returns-in_err-mark_rest g c = record { core = and_stood (then (then (then (then (c.read_client.ensures.core) c.lend_room.ensures.core) c.poll_client.ensures.core) c.show_lent.ensures.core) c.close_client.ensures.core) c.mark_rest.ensures.core }
+
+pub returns : goal.returns
+returns g c = record { core = and_stood (then (then (then (then (c.read_client.ensures.core) c.lend_room.ensures.core) c.poll_client.ensures.core) c.show_lent.ensures.core) c.close_client.ensures.core) c.mark_rest.ensures.core }

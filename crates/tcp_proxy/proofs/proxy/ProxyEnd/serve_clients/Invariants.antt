@@ -1,0 +1,5 @@
+use Rattle.tcp_proxy.specs.CoreSteps.{GoesOn}
+use Rattle.tcp_proxy.proofs.proxy.ProxyEnd.serve_clients.Given as goal
+
+abbrev pub invariant-loop-i : goal.invariant-loop-i
+invariant-loop-i g l = GoesOn l.fn.self.core.value l.self.core.value

@@ -1,0 +1,33 @@
+-- How the core of a proxy begins, and what a load makes of it. Source: mcgate's own.
+use Rattle.std.specs.Prelude.{◌≡◌, ℕ, List, ◌⊎◌}
+use Rattle.route_tree.specs.Route.{Route}
+use Rattle.route_json.specs.Configuration.{Configuration}
+use Rattle.fresh_gate.specs.declared.reloading.ReloadFault.TheVariants.{NoMemory}
+use Rattle.proxy_core.specs.declared.limits.Limits.{Limits}
+use Rattle.proxy_core.specs.CoreState.{IsFresh}
+use Rattle.fresh_core.specs.Freshly.{IsNew}
+use Rattle.link_calls.specs.declared.any_core.AnyCore.{AnyCore}
+use Rattle.link_calls.specs.declared.any_core.AnyCore.TheVariants as cores
+use Rattle.link_calls.specs.declared.any_core.LoadFault.{LoadFault}
+use Rattle.link_calls.specs.declared.any_core.LoadFault.TheVariants.{Refused}
+use Rattle.link_calls.specs.Cores.{IsLoaded}
+use Rattle.tcp_proxy.specs.declared.settings.Settings.{Settings}
+use Rattle.tcp_proxy.specs.declared.proxy.TheConstants.{HELD_LIMIT}
+
+-- the core's limits
+abbrev pub limits_by : Settings → Limits
+limits_by settings = record { clients = settings.clients; held = HELD_LIMIT; depth = settings.client_window; window = settings.link_window; sharing = settings.sharing }
+
+-- it is a new core on accepted trees
+abbrev pub BeginsFresh : List Configuration → Settings → AnyCore → Type 0
+BeginsFresh accepted settings (cores.Fresh fresh) = IsNew accepted (limits_by settings) fresh
+BeginsFresh accepted settings (cores.Unchecked core) = ⊥
+
+-- it is a new core on this tree, which no gate was asked about
+abbrev pub BeginsUnchecked : Route → Settings → AnyCore → Type 0
+BeginsUnchecked tree settings (cores.Unchecked core) = IsFresh tree (limits_by settings) core
+BeginsUnchecked tree settings (cores.Fresh fresh) = ⊥
+
+-- after a fault it is as it was; where there was no memory for new links, it may be loaded
+abbrev pub LoadStops : AnyCore → Configuration → LoadFault → AnyCore → Type 0
+LoadStops old configuration fault new = (new ≡ old) ⊎ ((fault ≡ Refused NoMemory) × ((generation : ℕ) × IsLoaded old configuration generation new))

@@ -1,0 +1,62 @@
+-- What a walk makes of each log that may have led to a core on accepted trees. Source: mcgate's own.
+use Rattle.std.specs.Prelude.{◌≡◌, ℕ, List, [], ◌∷◌, ◌++◌, Option, ◌⊎◌}
+use Rattle.mc_types.specs.Items.{Item}
+use Rattle.mc_types.specs.declared.ask.Ask.{Ask}
+use Rattle.mc_types.specs.declared.call.Origin.{Origin}
+use Rattle.mc_runs.specs.Run.{End, outcome_of}
+use Rattle.mc_runs.specs.Fleet.{EndsIn}
+use Rattle.mc_runs.specs.Sharing.{Calls}
+use Rattle.mc_runs.specs.Overlap as log
+use Rattle.mc_runs.specs.Overlap.{Entry, Happens}
+use Rattle.proxy_core.specs.CoreState.{dialect, client_at, dropped_by}
+use Rattle.proxy_core.specs.Polls.{Then, Perhaps, BeginsOne, IsPolled}
+use Rattle.proxy_core.specs.Settles.{IsCalled}
+use Rattle.fresh_core.specs.declared.fresh.FreshCore.{FreshCore}
+use Rattle.fresh_core.specs.Freshly.{MayHaveLed, fed}
+use Rattle.link_calls.specs.declared.any_core.AnyCore.TheVariants as cores
+use Rattle.tcp_proxy.specs.CoreSteps.{Step, Opened, NotOpened, Fed, Polled, Stopped, Settled, Gave, Closed, LeftLine, Loaded, Walks}
+
+module _ (opening : ℕ → List ℕ → Option Item) where
+  -- by entries of this kind, the latest first, the log goes on, may have led to the core after, and this holds of it
+  abbrev pub GoesOnSaying : (List (Entry dialect) → Type 0) → List (Entry dialect) → (new : FreshCore) → ((later : List (Entry dialect)) → MayHaveLed opening later new → Type 0) → Type 0
+  GoesOnSaying IsKind past new Holds = (entries : List (Entry dialect)) × IsKind entries × (led : MayHaveLed opening (entries ++ past) new) × Holds (entries ++ past) led
+
+  -- the same log may have led to the core after
+  abbrev pub StaysOn : List (Entry dialect) → (old new : FreshCore) → ((later : List (Entry dialect)) → MayHaveLed opening later new → Type 0) → Type 0
+  StaysOn past old new Holds = (new ≡ old) × (led : MayHaveLed opening past new) × Holds past led
+
+  -- the call that is out had this outcome: however it ended, if its server held what agrees with that by the log, the log goes on by it
+  abbrev pub SettlesOnLog :
+      (number : ℕ) (past : List (Entry dialect)) (old : FreshCore) (led : MayHaveLed opening past old) (new : FreshCore)
+      → ((later : List (Entry dialect)) → MayHaveLed opening later new → Type 0) → (End → Type 0) → Type 0
+  SettlesOnLog number past old led new Holds IsSeen =
+      (server : ℕ) × (ask : Ask) × (origin : Origin) × IsCalled old.core number server ask origin
+      × ((end : End) → IsSeen end → EndsIn (led.beside.holds server ask.key) (led.beside.found number) number ask origin end
+      → GoesOnSaying (λ entries. (more : List (Entry dialect)) × (entries ≡ more ++ Happens (Calls number server ask origin end) ∷ [])) past new Holds)
+
+  -- one call of the core, and a log that may have led to the core before it
+  abbrev pub StepGoes :
+      Step → (past : List (Entry dialect)) (old : FreshCore) (led : MayHaveLed opening past old) (new : FreshCore) → ((later : List (Entry dialect)) → MayHaveLed opening later new → Type 0) → Type 0
+  StepGoes (Opened client) past old led new Holds = GoesOnSaying (λ entries. entries ≡ []) past new Holds
+  StepGoes (NotOpened fault) past old led new Holds = GoesOnSaying (λ entries. entries ≡ []) past new Holds
+  StepGoes (Fed client piece) past old led new Holds = GoesOnSaying (λ entries. entries ≡ fed (dropped_by (client_at old.core client)) client piece) past new Holds
+  StepGoes (Polled client poll) past old led new Holds = GoesOnSaying (Then (Perhaps (BeginsOne client)) (IsPolled client poll)) past new Holds
+  StepGoes (Stopped client fault) past old led new Holds = GoesOnSaying (λ entries. Unit {0}) past new Holds
+  StepGoes (Settled number outcome) past old led new Holds = StaysOn past old new Holds ⊎ SettlesOnLog number past old led new Holds (λ end. outcome ≡ outcome_of end)
+  StepGoes (Gave client bytes) past old led new Holds = GoesOnSaying (λ entries. entries ≡ log.Gives client bytes ∷ []) past new Holds
+  StepGoes (Closed client) past old led new Holds = GoesOnSaying (λ entries. entries ≡ log.Resets client ∷ []) past new Holds
+  StepGoes (LeftLine client) past old led new Holds = GoesOnSaying (λ entries. entries ≡ []) past new Holds
+  StepGoes (Loaded configuration generation) past old led new Holds = GoesOnSaying (λ entries. entries ≡ []) past new Holds
+
+  -- these calls, the latest first: the log goes on by each of them in turn, and this holds of it then
+  abbrev pub LogGoes :
+      List Step → (past : List (Entry dialect)) (old : FreshCore) (led : MayHaveLed opening past old) (new : FreshCore) → ((later : List (Entry dialect)) → MayHaveLed opening later new → Type 0)
+      → Type 0
+  LogGoes [] past old led new Holds = StaysOn past old new Holds
+  LogGoes (step ∷ steps) past old led new Holds = (mid : FreshCore) × LogGoes steps past old led mid (λ later by. StepGoes step later mid by new Holds)
+
+-- a law of all walks: each log that may have led to a core on accepted trees goes on by each call, and may have led to the core after
+abbrev pub WalksGoOn : Type 0
+WalksGoOn =
+    (steps : List Step) (old new : FreshCore) → Walks steps (cores.Fresh old) (cores.Fresh new)
+    → (opening : ℕ → List ℕ → Option Item) (past : List (Entry dialect)) (led : MayHaveLed opening past old) → LogGoes opening steps past old led new (λ later by. Unit {0})
