@@ -298,9 +298,9 @@ impl<'a> Ends<'a> {
         }
     }
 
-    // The proxy is turned until its connection to the server has come.
+    // The proxy is turned until its connection to the server has come: a few turns, as time limits pass meanwhile.
     fn accept(&mut self) -> Result<usize, Fail> {
-        self.turn_often(100)?;
+        self.turn_often(10)?;
         let stream = self.accepted()?;
         self.keep(stream)
     }

@@ -12,7 +12,8 @@ use Rattle.proxy_core.specs.CoreState.{dialect, client_at, dropped_by}
 use Rattle.proxy_core.specs.Polls.{Then, Perhaps, BeginsOne, IsPolled}
 use Rattle.proxy_core.specs.Settles.{IsCalled}
 use Rattle.fresh_core.specs.declared.fresh.FreshCore.{FreshCore}
-use Rattle.fresh_core.specs.Freshly.{MayHaveLed, fed}
+use Rattle.fresh_core.specs.Freshly.{MayHaveLed, EveryLogIsFresh, fed}
+use Rattle.link_calls.specs.declared.any_core.AnyCore.{AnyCore}
 use Rattle.link_calls.specs.declared.any_core.AnyCore.TheVariants as cores
 use Rattle.tcp_proxy.specs.CoreSteps.{Step, Opened, NotOpened, Fed, Polled, Stopped, Settled, Gave, Closed, LeftLine, Loaded, Walks}
 
@@ -60,3 +61,8 @@ abbrev pub WalksGoOn : Type 0
 WalksGoOn =
     (steps : List Step) (old new : FreshCore) → Walks steps (cores.Fresh old) (cores.Fresh new)
     → (opening : ℕ → List ℕ → Option Item) (past : List (Entry dialect)) (led : MayHaveLed opening past old) → LogGoes opening steps past old led new (λ later by. Unit {0})
+
+-- each log that may have led to a core on accepted trees is fresh
+abbrev pub LogsAreFresh : AnyCore → Type 0
+LogsAreFresh (cores.Fresh fresh) = EveryLogIsFresh fresh
+LogsAreFresh (cores.Unchecked core) = Unit {0}

@@ -5,6 +5,7 @@ ghost use Rattle.std.specs.Prelude.{◌≡◌, ◌++◌, ◌↔◌, true, false,
 ghost use Rattle.proxy_core.specs.CoreState.{client_at, output_by};
 ghost use Rattle.link_calls.specs.Cores.{core_of, IsLoaded};
 ghost use Rattle.tcp_proxy.specs.CoreSteps.{GoesOn, Fails};
+ghost use Rattle.tcp_proxy.specs.LogsGoOn.{LogsAreFresh};
 ghost use Rattle.tcp_proxy.specs.Pieces.{Takes};
 ghost use Rattle.tcp_proxy.specs.Links.{calls_out, AllFail, IsDown, IsDownAt, IsClosedAt};
 ghost use Rattle.tcp_proxy.specs.Stillness.{MayAccept, HasNoWork, IsStill};
@@ -17,6 +18,7 @@ use crate::settings::Settings;
 use crate::tally::Tally;
 use bytes::BytesMut;
 use fresh_core::FreshCore;
+use fresh_core::laws::fresh_core_is_fresh;
 use fresh_gate::{Accepted, ReloadFault};
 use link_calls::{AnyCore, LinkCalls, LoadFault, Next, SentCall, fail_call};
 use mc_types::Dialect;
@@ -501,6 +503,16 @@ impl ProxyEnd {
         }
         self.has_news = self.news_limit().is_some();
         None
+    }
+
+    /// Where the gate accepted its trees, each log that may have led to the core is fresh. A law: it does nothing.
+    pub fn logs_are_fresh(&self)
+        ensures { LogsAreFresh self.now.core.value }
+    {
+        match self.core.as_ref() {
+            AnyCore::Fresh(core) => fresh_core_is_fresh(core),
+            AnyCore::Unchecked(_) => {}
+        }
     }
 
     /// From now on clients are polled in rounds, as those of a script are: each once, in the order in which they were accepted. Without it
