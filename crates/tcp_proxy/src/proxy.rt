@@ -594,6 +594,7 @@ impl ProxyEnd {
         self.send_clients()
     }
 
+    // Clients are served, in rounds or not.
     fn serve_all<N: Net>(&mut self, net: &N) -> io::Result<()>
         ensures core { GoesOn self.old.core.value self.new.core.value }
     {
@@ -925,6 +926,7 @@ impl ProxyEnd {
         let _ = self.core.close(id);
     }
 
+    // Whether it could be.
     fn insert_client(&mut self, id: usize, stream: TcpStream) -> bool
         ensures core { self.new.core ≡ self.old.core }
     {
@@ -1397,6 +1399,7 @@ impl ProxyEnd {
         Ok(())
     }
 
+    // The core gets other room for the client, if some was lent.
     fn end_lent(&mut self, id: usize, is_lent: bool)
         ensures core { GoesOn self.old.core.value self.new.core.value }
     {
