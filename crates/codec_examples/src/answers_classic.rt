@@ -1,35 +1,25 @@
 //! Tests: each answer to each ask, whole and cut.
 
+use crate::answers_meta::put_read;
 use bytes::BytesMut;
 use mc_types::{Answer, Ask, Body, Dialect, Key, Op, Tokens};
 use std::alloc::Global;
 use std::test::Fail;
-use text_answers::{AnswerRead, read_answer, write_answer, write_end, write_value};
+use text_answers::{AnswerRead, read_answer, write_end, write_value};
 
-// A classic ask for the key `k`.
-fn ask(alloc: Global, op: Op, with_cas: bool) -> Result<Ask, Fail> {
-    Ok(Ask {
-        key: Key::read(b"k").ok().ok_or("k is a key")?,
-        op,
-        dialect: Dialect::Classic,
-        with_cas,
-        flags: 0,
-        exptime: None,
-        body: Body::empty(),
-        cas: None,
-        delta: 0,
-        tokens: Tokens::new(alloc),
-    })
+/// A classic ask for the key `k`.
+pub fn ask(alloc: Global, op: Op, with_cas: bool) -> Result<Ask, Fail> {
+    let key = Key::read(b"k").ok().ok_or("k is a key")?;
+    let mut ask = Ask::bare(Dialect::Classic, op, key, Tokens::new(alloc));
+    ask.with_cas = with_cas;
+    Ok(ask)
 }
 
 // The answer that the bytes begin with, as it is written, or the name of what else was read.
 fn read(alloc: Global, ask: &Ask, bytes: &[u8]) -> Result<BytesMut, Fail> {
     let mut out = BytesMut::new(alloc);
-    match read_answer(alloc, ask, bytes)? {
-        AnswerRead::More => out.extend_from_slice(b"more")?,
-        AnswerRead::Foreign => out.extend_from_slice(b"foreign")?,
-        AnswerRead::Answer(answer, _) => write_answer(ask, &answer, &mut out)?,
-    }
+    let read = read_answer(alloc, ask, bytes)?;
+    put_read(ask, &read, &mut out)?;
     Ok(out)
 }
 

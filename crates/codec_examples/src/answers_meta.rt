@@ -1,6 +1,6 @@
 //! Answers of the meta dialect with known readings.
 use bytes::BytesMut;
-use mc_types::{Answer, Ask, Body, Code, Dialect, Key, Op, Opaque, Token, Tokens};
+use mc_types::{Answer, Ask, Code, Dialect, Key, Op, Opaque, Token, Tokens};
 use std::alloc::{AllocError, Global};
 use std::test::Fail;
 use text_answers::{AnswerRead, read_answer, write_answer};
@@ -29,18 +29,8 @@ fn tokens(alloc: Global, letters: &[u8]) -> Result<Tokens, AllocError> {
 
 // A meta ask for the key `a` with these return flags; `O` is `O7`.
 fn ask(alloc: Global, op: Op, letters: &[u8]) -> Result<Ask, Fail> {
-    Ok(Ask {
-        key: Key::read(b"a").ok().ok_or("a is a key")?,
-        op,
-        dialect: Dialect::Meta,
-        with_cas: false,
-        flags: 0,
-        exptime: None,
-        body: Body::empty(),
-        cas: None,
-        delta: 0,
-        tokens: tokens(alloc, letters)?,
-    })
+    let key = Key::read(b"a").ok().ok_or("a is a key")?;
+    Ok(Ask::bare(Dialect::Meta, op, key, tokens(alloc, letters)?))
 }
 
 /// Writes what was read: an answer, or a word.

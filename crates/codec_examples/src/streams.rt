@@ -1,7 +1,8 @@
 //! Tests: streams of messages, in any pieces.
 
+use crate::answers_classic::ask;
 use bytes::BytesMut;
-use mc_types::{Answer, Ask, Body, Code, Dialect, ErrorText, Fields, Key, Op, OwnText, Tokens};
+use mc_types::{Answer, Ask, Body, Code, ErrorText, Fields, Op, OwnText};
 use std::alloc::{AllocError, Global};
 use std::test::Fail;
 use text_codec::{
@@ -247,22 +248,6 @@ fn answers_of_its_own(rt: HostRuntime) -> Result<(), Fail> {
     Ok(())
 }
 
-// A classic ask for the key `k`.
-fn ask(alloc: Global, op: Op) -> Result<Ask, Fail> {
-    Ok(Ask {
-        key: Key::read(b"k").ok().ok_or("k is a key")?,
-        op,
-        dialect: Dialect::Classic,
-        with_cas: false,
-        flags: 0,
-        exptime: None,
-        body: Body::empty(),
-        cas: None,
-        delta: 0,
-        tokens: Tokens::new(alloc),
-    })
-}
-
 fn hit(alloc: Global) -> Result<Answer, AllocError> {
     Ok(Answer::Hit {
         flags: 5,
@@ -273,7 +258,7 @@ fn hit(alloc: Global) -> Result<Answer, AllocError> {
 
 #[test]
 fn replies_to_a_get_of_three_keys(rt: HostRuntime) -> Result<(), Fail> {
-    let get = ask(rt.alloc(), Op::Get)?;
+    let get = ask(rt.alloc(), Op::Get, false)?;
     let hit = hit(rt.alloc())?;
     let mut out = BytesMut::new(rt.alloc());
     write_part(false, false, &get, &hit, &mut out)?;
@@ -289,7 +274,7 @@ fn replies_to_a_get_of_three_keys(rt: HostRuntime) -> Result<(), Fail> {
 // An error line stands in place of `END`, and no further key is asked.
 #[test]
 fn an_error_ends_a_get(rt: HostRuntime) -> Result<(), Fail> {
-    let get = ask(rt.alloc(), Op::Get)?;
+    let get = ask(rt.alloc(), Op::Get, false)?;
     let hit = hit(rt.alloc())?;
     let failed = Answer::ServerError(ErrorText::own(OwnText::CallFailed));
     let mut out = BytesMut::new(rt.alloc());
@@ -306,7 +291,7 @@ fn an_error_ends_a_get(rt: HostRuntime) -> Result<(), Fail> {
 
 #[test]
 fn nothing_is_shown_where_no_answer_is_wanted(rt: HostRuntime) -> Result<(), Fail> {
-    let delete = ask(rt.alloc(), Op::Delete)?;
+    let delete = ask(rt.alloc(), Op::Delete, false)?;
     let mut out = BytesMut::new(rt.alloc());
     write_part(true, true, &delete, &Answer::Error, &mut out)?;
     write_part(true, true, &delete, &Answer::Deleted, &mut out)?;

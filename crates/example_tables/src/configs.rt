@@ -1,5 +1,6 @@
 //! The configurations of examples, by the names by which these call them.
 
+use crate::tables::configuration;
 use std::alloc::{AllocError, Global};
 
 fn one_server() -> &'static str {
@@ -8,11 +9,6 @@ fn one_server() -> &'static str {
 
 fn two_servers() -> &'static str {
     r#"{"pools":{"A":{"servers":["127.0.0.1:5001","127.0.0.1:5002"]}},"route":"PoolRoute|A"}"#
-}
-
-// Pools A and B of one server each.
-fn pools() -> &'static str {
-    r#"{"pools":{"A":{"servers":["127.0.0.1:5001"]},"B":{"servers":["127.0.0.1:5002"]}},"route":"#
 }
 
 // Gets fail over from A to B.
@@ -48,9 +44,7 @@ fn routes() -> [(&'static str, &'static str); 6] {
 }
 
 fn with_route(alloc: Global, text: &str, name: &str, route: &str) -> Result<String, AllocError> {
-    let mut config = pools().to_string(alloc)?;
-    config.push_str(route)?;
-    config.push_str("}")?;
+    let config = configuration(alloc, route)?;
     text.replace(alloc, name, config.as_str())
 }
 

@@ -1,5 +1,6 @@
 //! Examples as lines of text: an event in each, and after an arrow what it gives, if it gives something.
 
+use crate::tellers::halves;
 use std::alloc::{AllocError, Global};
 use std::test::Fail;
 
@@ -11,7 +12,7 @@ pub trait Stage {
 
 /// The first word, and what comes after the space.
 pub fn cut(text: &str) -> (&str, &str) {
-    text.split_once(' ').unwrap_or((text, ""))
+    halves(text, " ")
 }
 
 /// A number and what comes after the space.
@@ -40,7 +41,7 @@ pub fn yes_or_no(is_so: bool) -> &'static str {
 }
 
 fn play_line<S: Stage>(stage: &mut S, name: &str, line: &str) -> Result<(), Fail> {
-    let (event, want) = line.split_once(" => ").unwrap_or((line, ""));
+    let (event, want) = halves(line, " => ");
     let got = stage.answer(event, want)?;
     if got.as_str() != want {
         return Err(Fail::new(format_args!("{name}\n{event} => {got}")));
@@ -60,5 +61,5 @@ pub fn play_lines<S: Stage>(stage: &mut S, name: &str, lines: &str) -> Result<()
 
 /// The first line of an example, and the others.
 pub fn first_line(text: &str) -> (&str, &str) {
-    text.split_once('\n').unwrap_or((text, ""))
+    halves(text, "\n")
 }

@@ -55,13 +55,20 @@ pub fn unfolded(alloc: Global, text: &str) -> Result<String, AllocError> {
     Ok(lines)
 }
 
-// The configuration of pools A of server 0 and B of server 1, one server each.
+// As `configuration` says.
 fn push_configuration(out: &mut String, route: &str) -> Result<(), AllocError> {
     out.push_str(
         r#"{"pools":{"A":{"servers":["127.0.0.1:5001"]},"B":{"servers":["127.0.0.1:5002"]}},"route":"#,
     )?;
     out.push_str(route)?;
     out.push('}')
+}
+
+/// The configuration of two servers, 127.0.0.1:5001 in pool A and 127.0.0.1:5002 in pool B, and of this route.
+pub fn configuration(alloc: Global, route: &str) -> Result<String, AllocError> {
+    let mut text = String::new(alloc);
+    push_configuration(&mut text, route)?;
+    Ok(text)
 }
 
 fn push_expanded(out: &mut String, line: &str) -> Result<(), AllocError> {
@@ -74,8 +81,7 @@ fn push_expanded(out: &mut String, line: &str) -> Result<(), AllocError> {
     }
 }
 
-/// The text with the configuration of two servers, 127.0.0.1:5001 in pool A and 127.0.0.1:5002 in pool B, and of this route
-/// for each `over A and B ROUTE` at the end of a line.
+/// The text with the [`configuration`] of this route for each `over A and B ROUTE` at the end of a line.
 pub fn expanded(alloc: Global, text: &str) -> Result<String, AllocError> {
     let mut lines = String::new(alloc);
     for (at, line) in text.split('\n').enumerate() {

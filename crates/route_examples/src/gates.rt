@@ -2,7 +2,8 @@
 
 use certificates::{Certificate, ClassRows, Run, places};
 use coverage::Deleting;
-use example_tables::tellers::{Teller, between, halves, number_of, wrong};
+use example_tables::tables::configuration;
+use example_tables::tellers::{Teller, halves, number_of, wrong};
 use fresh_gate::{Accepted, Gap, Reason, Refused, ReloadFault, check, judge};
 use mc_types::{Op, ServerId};
 use route_json::{Config, ConfigFault, read_config};
@@ -53,16 +54,6 @@ fn reloads() -> &'static str {
 "PoolRoute|A"; {"type":"OperationSelectorRoute","default_policy":"PoolRoute|A","operation_policies":{"delete":{"type":"AllSyncRoute","children":["PoolRoute|A","PoolRoute|B"]}}}; "PoolRoute|B" => accepted generation=2; generation=1 refused: server=127.0.0.1:5002 read=get delete=delete residue=0/1; accepted places=1
 # Sixteen generations.
 "PoolRoute|A"«16 ; "PoolRoute|A"» => accepted generation=2; accepted generation=3; accepted generation=4; accepted generation=5; accepted generation=6; accepted generation=7; accepted generation=8; accepted generation=9; accepted generation=10; accepted generation=11; accepted generation=12; accepted generation=13; accepted generation=14; accepted generation=15; accepted generation=16; too many generations; accepted places=1"#
-}
-
-// The pools of routes.
-fn pools() -> &'static str {
-    r#"{"pools":{"A":{"servers":["127.0.0.1:5001"]},"B":{"servers":["127.0.0.1:5002"]}},"route":"#
-}
-
-// The text of a configuration of this route over the pools A and B.
-fn with_route(alloc: Global, route: &str) -> Result<String, AllocError> {
-    between(alloc, pools(), route, "}")
 }
 
 fn read_name(op: Op) -> &'static str {
@@ -138,7 +129,7 @@ struct OfRoutes;
 
 impl Teller for OfRoutes {
     fn told(alloc: Global, example: &str) -> Result<String, AllocError> {
-        let text = with_route(alloc, halves(example, ": ").1)?;
+        let text = configuration(alloc, halves(example, ": ").1)?;
         judged(alloc, text.as_str())
     }
 }
@@ -159,7 +150,7 @@ fn config_named(alloc: Global, name: &str) -> Result<Config, ConfigFault> {
     if !whole.is_empty() {
         return read_config(alloc, whole);
     }
-    let text = with_route(alloc, named(verdicts(), name))?;
+    let text = configuration(alloc, named(verdicts(), name))?;
     read_config(alloc, text.as_str())
 }
 
@@ -243,7 +234,7 @@ fn push_reload(
     route: &str,
     out: &mut String,
 ) -> Result<(), AllocError> {
-    let text = with_route(alloc, route)?;
+    let text = configuration(alloc, route)?;
     let line = match read_config(alloc, text.as_str()) {
         Ok(config) => reloaded(alloc, accepted, config)?,
         Err(fault) => fault.to_string(alloc)?,
@@ -284,7 +275,7 @@ struct OfReloads;
 impl Teller for OfReloads {
     fn told(alloc: Global, example: &str) -> Result<String, AllocError> {
         let (first, routes) = halves(example, "; ");
-        let text = with_route(alloc, first)?;
+        let text = configuration(alloc, first)?;
         match read_config(alloc, text.as_str()) {
             Ok(config) => reloads_after(alloc, config, routes),
             Err(fault) => fault.to_string(alloc),

@@ -283,18 +283,9 @@ fn told_of(alloc: Global, job: &mut Job, letters: &[u8]) -> Result<String, Alloc
 
 // A classic ask.
 fn ask_of(alloc: Global, key: Key, op: Op, with_cas: bool) -> Ask {
-    Ask {
-        key,
-        op,
-        dialect: Dialect::Classic,
-        with_cas,
-        flags: 0,
-        exptime: None,
-        body: Body::empty(),
-        cas: None,
-        delta: 0,
-        tokens: Tokens::new(alloc),
-    }
+    let mut ask = Ask::bare(Dialect::Classic, op, key, Tokens::new(alloc));
+    ask.with_cas = with_cas;
+    ask
 }
 
 // A command of the key `a`; its hash is e40c292c, which is 0 modulo 2 and 1 modulo 3.
