@@ -32,6 +32,30 @@ pub fn example_of(part: &str) -> Example<'_> {
     }
 }
 
+/// What prints something of what an example gives it.
+pub trait Printer {
+    /// The exit status and what was printed, as `told` says it.
+    fn printed(&self, alloc: Global, given: &str) -> Result<String, Fail>;
+}
+
+fn holds<P: Printer>(alloc: Global, printer: &P, part: &str) -> Result<(), Fail> {
+    let Example {
+        name,
+        given,
+        wanted,
+    } = example_of(part);
+    let got = printer.printed(alloc, given)?;
+    same(name, got.as_str(), wanted)
+}
+
+/// That each of these examples of several lines holds.
+pub fn all_hold<P: Printer>(alloc: Global, printer: &P, examples: &str) -> Result<(), Fail> {
+    for part in examples.split("== ").skip(1) {
+        holds(alloc, printer, part)?;
+    }
+    Ok(())
+}
+
 /// An exit status on a line of its own, and then what was printed.
 pub fn told(alloc: Global, status: u8, out: &[u8]) -> Result<String, Fail> {
     let printed = str::from_utf8(out).unwrap_or("not UTF-8");

@@ -1,5 +1,6 @@
 //! Scripts that run, that are refused, and that can't be read. In examples of one line `⏎` is a line end.
 
+use crate::scripts::printed;
 use config_check::status::WRITER;
 use example_tables::full_writer::Full;
 use example_tables::tables::{expanded, same, sides, told, unfolded};
@@ -38,14 +39,7 @@ fn unasked() -> &'static str {
     " => 0⏎done 0 commands 0 calls 0 stale⏎"
 }
 
-// What is printed of a script, with the status; with `any` whatever the gate says of its trees.
-fn printed(alloc: Global, any: bool, script: &str) -> Result<String, Fail> {
-    let mut out = Vec::new(alloc);
-    let status = run_replay(alloc, any, script, &mut out);
-    told(alloc, status, out.as_slice())
-}
-
-// The same of a folded script and what stands before it.
+// What is printed of a folded script and what stands before it.
 fn printed_of(alloc: Global, any: bool, front: &str, script: &str) -> Result<String, Fail> {
     let script = format!(in alloc; "{front}{script}")?;
     let script = unfolded(alloc, script.as_str())?;

@@ -3,8 +3,8 @@
 //! `over A and B` and a route stand for the configuration of two servers and this route (`tables::expanded`).
 
 use config_check::{Form, run_check};
-use example_tables::faults::{faults, same_fault};
-use example_tables::tables::{Example, example_of, expanded, same, sides, told};
+use example_tables::faults::faults_hold;
+use example_tables::tables::{Printer, all_hold, expanded, same, told};
 use replay::run_replay;
 use std::alloc::{AllocError, Global};
 use std::test::Fail;
@@ -461,76 +461,71 @@ fn printed_of(alloc: Global, any: bool, given: &str) -> Result<String, Fail> {
     printed(alloc, any, script.as_str())
 }
 
-fn holds(alloc: Global, any: bool, part: &str) -> Result<(), Fail> {
-    let Example {
-        name,
-        given,
-        wanted,
-    } = example_of(part);
-    let got = printed_of(alloc, any, given)?;
-    same(name, got.as_str(), wanted)
+/// Scripts, over the trees that the gate accepts or over any.
+#[derive(Clone, Copy)]
+pub struct OfScripts {
+    pub any: bool,
 }
 
-/// Each of these examples holds.
-pub fn all_hold(alloc: Global, any: bool, examples: &str) -> Result<(), Fail> {
-    for part in examples.split("== ").skip(1) {
-        holds(alloc, any, part)?;
+impl Printer for OfScripts {
+    fn printed(&self, alloc: Global, given: &str) -> Result<String, Fail> {
+        printed_of(alloc, self.any, given)
     }
-    Ok(())
 }
 
 #[test]
 fn scripts_of_commands(rt: HostRuntime) -> Result<(), Fail> {
-    all_hold(rt.alloc(), false, commands())
+    all_hold(rt.alloc(), &OfScripts { any: false }, commands())
 }
 
 #[test]
 fn scripts_of_meta_commands(rt: HostRuntime) -> Result<(), Fail> {
-    all_hold(rt.alloc(), false, meta_commands())
+    all_hold(rt.alloc(), &OfScripts { any: false }, meta_commands())
 }
 
 #[test]
 fn scripts_of_servers_and_slots(rt: HostRuntime) -> Result<(), Fail> {
-    all_hold(rt.alloc(), false, servers_and_slots())
+    all_hold(rt.alloc(), &OfScripts { any: false }, servers_and_slots())
 }
 
 #[test]
 fn scripts_of_time_and_losses(rt: HostRuntime) -> Result<(), Fail> {
-    all_hold(rt.alloc(), false, time_and_losses())
+    all_hold(rt.alloc(), &OfScripts { any: false }, time_and_losses())
 }
 
 #[test]
 fn scripts_of_failures(rt: HostRuntime) -> Result<(), Fail> {
-    all_hold(rt.alloc(), false, failures())
+    all_hold(rt.alloc(), &OfScripts { any: false }, failures())
 }
 
 #[test]
 fn scripts_of_all_sync_deletes(rt: HostRuntime) -> Result<(), Fail> {
-    all_hold(rt.alloc(), false, all_sync_deletes())
+    all_hold(rt.alloc(), &OfScripts { any: false }, all_sync_deletes())
 }
 
 #[test]
 fn scripts_of_reloads(rt: HostRuntime) -> Result<(), Fail> {
-    all_hold(rt.alloc(), false, reloads())
+    all_hold(rt.alloc(), &OfScripts { any: false }, reloads())
 }
 
 #[test]
 fn scripts_of_leaks(rt: HostRuntime) -> Result<(), Fail> {
-    all_hold(rt.alloc(), true, leaks())
+    all_hold(rt.alloc(), &OfScripts { any: true }, leaks())
 }
 
-fn fault_holds(alloc: Global, line: &str) -> Result<(), Fail> {
-    let (text, fault) = sides(line);
-    let got = printed(alloc, false, text)?;
-    same_fault(alloc, text, got.as_str(), fault)
+// Texts as they stand.
+#[derive(Clone, Copy)]
+struct OfTexts;
+
+impl Printer for OfTexts {
+    fn printed(&self, alloc: Global, given: &str) -> Result<String, Fail> {
+        printed(alloc, false, given)
+    }
 }
 
 #[test]
 fn configuration_faults(rt: HostRuntime) -> Result<(), Fail> {
-    for line in faults().lines() {
-        fault_holds(rt.alloc(), line)?;
-    }
-    Ok(())
+    faults_hold(rt.alloc(), &OfTexts)
 }
 
 fn verdict(alloc: Global, config: &str) -> Result<String, Fail> {
@@ -564,22 +559,19 @@ fn verdict_and_session(alloc: Global, config: &str) -> Result<String, Fail> {
     Ok(lines)
 }
 
-fn set_up_holds(alloc: Global, part: &str) -> Result<(), Fail> {
-    let Example {
-        name,
-        given,
-        wanted,
-    } = example_of(part);
-    let got = verdict_and_session(alloc, given)?;
-    same(name, got.as_str(), wanted)
+// Configurations: the verdict, and a session.
+#[derive(Clone, Copy)]
+struct OfSetUps;
+
+impl Printer for OfSetUps {
+    fn printed(&self, alloc: Global, given: &str) -> Result<String, Fail> {
+        verdict_and_session(alloc, given)
+    }
 }
 
 #[test]
 fn set_ups_of_the_readme(rt: HostRuntime) -> Result<(), Fail> {
-    for part in usual_set_ups().split("== ").skip(1) {
-        set_up_holds(rt.alloc(), part)?;
-    }
-    Ok(())
+    all_hold(rt.alloc(), &OfSetUps, usual_set_ups())
 }
 
 // What is printed of a script of these pieces, without the last line's end.
@@ -615,10 +607,9 @@ fn a_set_that_never_ends(rt: HostRuntime) -> Result<(), Fail> {
     Ok(())
 }
 
-/// A script in which client 0 sends so many letters between two texts.
+// So many letters between two texts.
 fn letters(alloc: Global, head: &str, count: usize, tail: &str) -> Result<String, AllocError> {
-    let mut script = String::from_str(alloc, "pool 1\n> 0 ")?;
-    script.push_str(head)?;
+    let mut script = String::from_str(alloc, head)?;
     for _ in 0..count {
         script.push('k')?;
     }
@@ -626,8 +617,8 @@ fn letters(alloc: Global, head: &str, count: usize, tail: &str) -> Result<String
     Ok(script)
 }
 
-// What is printed of that script.
-fn of_letters(alloc: Global, head: &str, count: usize, tail: &str) -> Result<String, Fail> {
+/// What is printed of a script with so many letters.
+pub fn of_letters(alloc: Global, head: &str, count: usize, tail: &str) -> Result<String, Fail> {
     let script = letters(alloc, head, count, tail)?;
     printed(alloc, false, script.as_str())
 }
@@ -642,7 +633,7 @@ fn key_lengths(rt: HostRuntime) -> Result<(), Fail> {
         ),
     ];
     for (length, want) in cases {
-        let got = of_letters(rt.alloc(), "get ", length, "\\r\\n")?;
+        let got = of_letters(rt.alloc(), "pool 1\n> 0 get ", length, "\\r\\n")?;
         assert_eq!(rt; got.as_str(), want, "at {length}");
     }
     Ok(())
@@ -650,7 +641,8 @@ fn key_lengths(rt: HostRuntime) -> Result<(), Fail> {
 
 #[test]
 fn largest_data(rt: HostRuntime) -> Result<(), Fail> {
-    let largest = of_letters(rt.alloc(), "set a 0 0 1048576\\r\\n", 1_048_576, "\\r\\n")?;
+    let head = "pool 1\n> 0 set a 0 0 1048576\\r\\n";
+    let largest = of_letters(rt.alloc(), head, 1_048_576, "\\r\\n")?;
     assert_eq!(rt;
         largest.as_str(),
         "0\n< 0 STORED\\r\\n\ndone 1 commands 1 calls 0 stale\n"
@@ -660,12 +652,8 @@ fn largest_data(rt: HostRuntime) -> Result<(), Fail> {
 
 #[test]
 fn larger_data(rt: HostRuntime) -> Result<(), Fail> {
-    let larger = of_letters(
-        rt.alloc(),
-        "set a 0 0 1048577\\r\\n",
-        1_048_577,
-        "\\r\\nget a\\r\\n",
-    )?;
+    let head = "pool 1\n> 0 set a 0 0 1048577\\r\\n";
+    let larger = of_letters(rt.alloc(), head, 1_048_577, "\\r\\nget a\\r\\n")?;
     assert_eq!(rt;
         larger.as_str(),
         "0\n< 0 SERVER_ERROR object too large for cache\\r\\nEND\\r\\n\ndone 1 commands 1 calls 0 stale\n"

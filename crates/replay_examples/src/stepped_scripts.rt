@@ -1,9 +1,9 @@
 //! Scripts that step their calls, with known transcripts: commands of several clients overlap, and servers break off or answer
 //! nonsense.
 
-use crate::scripts::{all_hold, printed};
-use example_tables::tables::expanded;
-use std::alloc::{AllocError, Global};
+use crate::scripts::{OfScripts, of_letters, printed};
+use example_tables::tables::{all_hold, expanded};
+use std::alloc::Global;
 use std::process::Abort;
 use std::test::Fail;
 
@@ -231,40 +231,24 @@ refused: server=127.0.0.1:5001 read=get delete=delete prefix= residue=0/1
 
 #[test]
 fn commands_that_overlap(rt: HostRuntime) -> Result<(), Fail> {
-    all_hold(rt.alloc(), false, overlaps())
+    all_hold(rt.alloc(), &OfScripts { any: false }, overlaps())
 }
 
 #[test]
 fn calls_that_are_named(rt: HostRuntime) -> Result<(), Fail> {
-    all_hold(rt.alloc(), false, counted_calls())
+    all_hold(rt.alloc(), &OfScripts { any: false }, counted_calls())
 }
 
 #[test]
 fn cut_and_junk_answers(rt: HostRuntime) -> Result<(), Fail> {
-    all_hold(rt.alloc(), false, broken_answers())
+    all_hold(rt.alloc(), &OfScripts { any: false }, broken_answers())
 }
 
 #[test]
 fn reloads_while_calls_are_out(rt: HostRuntime) -> Result<(), Fail> {
-    all_hold(rt.alloc(), false, reloads())?;
-    all_hold(rt.alloc(), true, unasked())?;
-    all_hold(rt.alloc(), false, refused())
-}
-
-// So many letters, between two texts.
-fn letters(alloc: Global, head: &str, count: usize, tail: &str) -> Result<String, AllocError> {
-    let mut text = String::from_str(alloc, head)?;
-    for _ in 0..count {
-        text.push('k')?;
-    }
-    text.push_str(tail)?;
-    Ok(text)
-}
-
-// What is printed of a script with so many letters.
-fn of_letters(alloc: Global, head: &str, count: usize, tail: &str) -> Result<String, Fail> {
-    let script = letters(alloc, head, count, tail)?;
-    printed(alloc, false, script.as_str())
+    all_hold(rt.alloc(), &OfScripts { any: false }, reloads())?;
+    all_hold(rt.alloc(), &OfScripts { any: true }, unasked())?;
+    all_hold(rt.alloc(), &OfScripts { any: false }, refused())
 }
 
 // A client adds 524,288 bytes between two pieces, and not one more; each client has its own count, and a piece of any client ends them all.

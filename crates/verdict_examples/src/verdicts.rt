@@ -4,9 +4,9 @@
 
 use config_check::status::WRITER;
 use config_check::{Form, run_check};
-use example_tables::faults::{faults, same_fault};
+use example_tables::faults::faults_hold;
 use example_tables::full_writer::Full;
-use example_tables::tables::{Example, example_of, expanded, same, sides, told};
+use example_tables::tables::{Example, Printer, all_hold, configuration, example_of, told};
 use std::alloc::{AllocError, Global};
 use std::test::Fail;
 
@@ -126,41 +126,44 @@ fn verdict(alloc: Global, form: Form, text: &str) -> Result<String, Fail> {
     told(alloc, status, out.as_slice())
 }
 
-fn over_two_pools(alloc: Global, route: &str) -> Result<String, Fail> {
-    let line = format!(in alloc; "over A and B {route}")?;
-    Ok(expanded(alloc, line.as_str())?)
-}
-
 fn verdict_on_route(alloc: Global, form: Form, route: &str) -> Result<String, Fail> {
-    let text = over_two_pools(alloc, route)?;
+    let text = configuration(alloc, route)?;
     verdict(alloc, form, text.as_str())
 }
 
-fn holds(alloc: Global, form: Form, part: &str) -> Result<(), Fail> {
-    let Example {
-        name,
-        given,
-        wanted,
-    } = example_of(part);
-    let got = verdict_on_route(alloc, form, given)?;
-    same(name, got.as_str(), wanted)
+// Verdicts on routes.
+#[derive(Clone, Copy)]
+struct OfRoutes {
+    form: Form,
 }
 
-fn all_hold(alloc: Global, form: Form, examples: &str) -> Result<(), Fail> {
-    for part in examples.split("== ").skip(1) {
-        holds(alloc, form, part)?;
+impl Printer for OfRoutes {
+    fn printed(&self, alloc: Global, given: &str) -> Result<String, Fail> {
+        verdict_on_route(alloc, self.form, given)
     }
-    Ok(())
+}
+
+// Verdicts on whole texts, in lines.
+#[derive(Clone, Copy)]
+struct OfTexts;
+
+impl Printer for OfTexts {
+    fn printed(&self, alloc: Global, given: &str) -> Result<String, Fail> {
+        verdict(alloc, Form::Lines, given)
+    }
 }
 
 #[test]
 fn verdicts_on_routes(rt: HostRuntime) -> Result<(), Fail> {
-    all_hold(rt.alloc(), Form::Lines, routes())
+    all_hold(rt.alloc(), &OfRoutes { form: Form::Lines }, routes())
 }
 
 #[test]
 fn pictures(rt: HostRuntime) -> Result<(), Fail> {
-    all_hold(rt.alloc(), Form::Picture, drawings())
+    let drawn = OfRoutes {
+        form: Form::Picture,
+    };
+    all_hold(rt.alloc(), &drawn, drawings())
 }
 
 #[test]
@@ -179,36 +182,14 @@ fn verdicts_in_words(rt: HostRuntime) -> Result<(), Fail> {
     Ok(())
 }
 
-fn holds_on_pools(alloc: Global, part: &str) -> Result<(), Fail> {
-    let Example {
-        name,
-        given,
-        wanted,
-    } = example_of(part);
-    let got = verdict(alloc, Form::Lines, given)?;
-    same(name, got.as_str(), wanted)
-}
-
 #[test]
 fn verdicts_on_pools(rt: HostRuntime) -> Result<(), Fail> {
-    for part in pools().split("== ").skip(1) {
-        holds_on_pools(rt.alloc(), part)?;
-    }
-    Ok(())
-}
-
-fn fault_holds(alloc: Global, line: &str) -> Result<(), Fail> {
-    let (text, fault) = sides(line);
-    let got = verdict(alloc, Form::Lines, text)?;
-    same_fault(alloc, text, got.as_str(), fault)
+    all_hold(rt.alloc(), &OfTexts, pools())
 }
 
 #[test]
 fn configuration_faults(rt: HostRuntime) -> Result<(), Fail> {
-    for line in faults().lines() {
-        fault_holds(rt.alloc(), line)?;
-    }
-    Ok(())
+    faults_hold(rt.alloc(), &OfTexts)
 }
 
 // The route, nested so often in what stands before and after it.
@@ -295,7 +276,7 @@ fn status_in(alloc: Global, text: &str, room: usize) -> u8 {
 
 #[test]
 fn writers_that_fail(rt: HostRuntime) -> Result<(), Fail> {
-    let text = over_two_pools(rt.alloc(), "\"PoolRoute|A\"")?;
+    let text = configuration(rt.alloc(), "\"PoolRoute|A\"")?;
     for room in 0..10 {
         assert_eq!(rt; status_in(rt.alloc(), text.as_str(), room), WRITER);
         assert_eq!(rt; status_in(rt.alloc(), "", room), WRITER);
