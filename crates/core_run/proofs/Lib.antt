@@ -1,2 +1,3 @@
 pub mod Running
 pub mod Leasts
+pub mod Breaking

@@ -3,3 +3,4 @@ pub mod Tallying
 pub mod Counting
 pub mod Running
 pub mod Turns
+pub mod Breaking

@@ -1,10 +1,12 @@
 //! The core, what it can't know, and its calls at the servers of a script.
 
-ghost use Rattle.std.specs.Prelude.{◌≡◌, ◌<◌, ◌≤◌, ◌+◌, ◌↔◌, [], IsTrue, IfOk, OnOk};
+ghost use Rattle.std.specs.Prelude.{◌≡◌, ℕ, ◌<◌, ◌≤◌, ◌+◌, ◌++◌, ◌∷◌, ◌↔◌, [], nat_eq, if◌then◌else◌, IsTrue, IfOk, IfErr, OnOk};
+ghost use Rattle.memory_fleet.specs.declared.event.FleetFault.TheVariants.{NoMemory};
 ghost use Rattle.proxy_core.specs.CoreState.{IsOut};
 ghost use Rattle.proxy_core.specs.Polls.{Polls};
 ghost use Rattle.script_servers.specs.Servers.{count_of, turn_of, Answers};
 ghost use Rattle.stepped_log.specs.Laws.{stamp_shown, CountsPoll, CountsOne, IsBegin};
+ghost use Rattle.core_run.specs.Breaking.{fleet_fault_of, AreGivenAll};
 ghost use Rattle.core_run.specs.Finding.{found_of};
 ghost use Rattle.core_run.specs.Turns.{IsLeast, IsLesser};
 
@@ -27,7 +29,8 @@ use stepped_log::laws::{
 ///
 /// Each call keeps a log of all that happened: what stands beside it in `Stands` is what a runner and its servers keep. That the
 /// core numbers its clients from 0 is tested as they are opened, and that nothing is left to do where no call is out; with the faults that
-/// can't come (these, a client that isn't there, more bytes than may be held, a ticket that isn't out) it ends as `Spent`.
+/// can't come (these, a client that isn't there, more bytes than may be held, a ticket that isn't out) it ends as it does out of memory, so
+/// that `Spent` says that numbers are spent, and nothing else.
 #[derive(Drop)]
 pub struct Runner {
     core: Core,
@@ -61,15 +64,17 @@ fn joined(one: Progress, other: Progress) -> Progress
 }
 
 // What stops a run where the core has a fault.
-fn fault_of(fault: CoreFault) -> FleetFault {
+fn fault_of(fault: CoreFault) -> FleetFault
+    ensures { result ≡ fleet_fault_of fault }
+{
     match fault {
-        CoreFault::NoMemory => FleetFault::NoMemory,
-        CoreFault::Spent
+        CoreFault::Spent => FleetFault::Spent,
+        CoreFault::NoMemory
         | CoreFault::TooManyClients
         | CoreFault::NoClient
         | CoreFault::InputFull
         | CoreFault::UnderWay
-        | CoreFault::NoTicket => FleetFault::Spent,
+        | CoreFault::NoTicket => FleetFault::NoMemory,
     }
 }
 
@@ -83,11 +88,23 @@ fn answer(
     ensures ok { IfOk result (λ made. Answers stamp servers.old server ask.now made servers.new) }
     ensures rest { servers.new ≡ record servers.old { caches = servers.new.caches; turn = servers.new.turn } }
     ensures count { count_of servers.new ≡ count_of servers.old }
+    ensures err { IfErr result (λ fault. (turn_of servers.new ≡ turn_of servers.old) × AreGivenAll fault servers.old) }
 {
     if !is_ask(ask) || server.number() as usize >= servers.servers() {
-        return Err(FleetFault::Spent);
+        return Err(FleetFault::NoMemory);
     }
     servers.answer(stamp, server, ask)
+}
+
+// What a call of the command found is known.
+fn note(found: &mut Found, number: u64, stamp: Option<u64>) -> Result<(), FleetFault>
+    ensures ok { OnOk result ((n : ℕ) → found_of found.new n ≡ (if nat_eq number n then found_of found.old n ++ stamp ∷ [] else found_of found.old n)) }
+    ensures fault { IfErr result (λ fault. fault ≡ NoMemory) }
+{
+    match found.note(number, stamp) {
+        Ok(()) => Ok(()),
+        Err(_) => Err(FleetFault::NoMemory),
+    }
 }
 
 // Whether these are one server.
@@ -114,7 +131,8 @@ fn lesser(one: Option<ServerId>, other: ServerId) -> ServerId
 }
 
 impl Runner {
-    ghost use Rattle.core_run.specs.Running.{kept_of, Moves, MovesByOne, MovesAt, MovesByResults, MovesFed, MovesGiven, IsLoadedBy, IsIdle, AreIdle, IsAtRest};
+    ghost use Rattle.core_run.specs.Running.{kept_of, Moves, MovesByOne, MovesAt, MovesByResults, MovesFed, MovesGiven, IsLoadedBy, IsIdle, AreIdle, IsAtRest, AreOfOne};
+    ghost use Rattle.core_run.specs.Breaking.{IsLastBegun, StopsAt, StopsFed, StopsGiving, StopsAfter};
 
     /// No client was opened; commands begin on this tree.
     pub fn new(alloc: Global, tree: Tree) -> Runner
@@ -155,13 +173,14 @@ impl Runner {
     fn open_next(&mut self) -> Result<(), FleetFault>
         ensures moves { OnOk result ((servers : ScriptServers) → Moves self.old servers self.new servers) }
         ensures clients { OnOk result (self.new.clients ≡ self.old.clients + 1) }
+        ensures fault { IfErr result (λ fault. fault ≡ NoMemory) }
     {
         openings_go_on();
         match self.core.open_client() {
             Err(fault) => Err(fault_of(fault)),
             Ok(place) => {
                 if place != self.clients || place == usize::MAX {
-                    return Err(FleetFault::Spent);
+                    return Err(FleetFault::NoMemory);
                 }
                 self.clients = place + 1;
                 Ok(())
@@ -169,10 +188,11 @@ impl Runner {
         }
     }
 
-    /// Clients are opened up to this one, counted from 0. The errors are running out of memory, and `Spent` where no more may be open.
+    /// Clients are opened up to this one, counted from 0. The only error is running out of memory.
     pub fn open(&mut self, client: usize) -> Result<(), FleetFault>
         ensures moves { OnOk result ((servers : ScriptServers) → Moves self.old servers self.new servers) }
         ensures opened { OnOk result ((client < self.new.clients) × (self.old.clients ≤ self.new.clients)) }
+        ensures fault { IfErr result (λ fault. fault ≡ NoMemory) }
     {
         while self.clients <= client {
             self.open_next()?;
@@ -180,11 +200,11 @@ impl Runner {
         Ok(())
     }
 
-    /// A client's bytes come, and nothing is done of them yet. The errors are running out of memory, and `Spent` where the client isn't
-    /// open, or more is held of it than may be.
+    /// A client's bytes come, and nothing is done of them yet. The only error is running out of memory.
     pub fn feed(&mut self, client: usize, piece: &[u8]) -> Result<(), FleetFault>
         ensures fed { OnOk result ((servers : ScriptServers) → MovesFed client piece.now self.old servers self.new servers) }
         ensures clients { self.new.clients ≡ self.old.clients }
+        ensures fault { IfErr result (λ fault. fault ≡ NoMemory) }
     {
         feeds_go_on();
         match self.core.feed(client, piece) {
@@ -203,23 +223,34 @@ impl Runner {
         }
     }
 
-    // A command ended.
+    // A command ended. (each had a number, so that there is one for their count)
     fn count(&mut self, note: &Note) -> Result<(), FleetFault>
+        ensures fault { IfErr result (λ fault. fault ≡ NoMemory) }
         ensures counts { OnOk result ((self.new.core ≡ self.old.core) × ((servers : ScriptServers) → CountsOne note.now (kept_of self.old servers) (kept_of self.new servers))) }
         ensures clients { self.new.clients ≡ self.old.clients }
     {
         let shown = self.stamp_shown(note);
-        self.counts
-            .count(note.number, note.ask.key(), shown, note.acknowledged)?;
-        self.found.forget(note.number);
-        Ok(())
+        let counted = self
+            .counts
+            .count(note.number, note.ask.key(), shown, note.acknowledged);
+        match counted {
+            Ok(()) => {
+                self.found.forget(note.number);
+                Ok(())
+            }
+            Err(_) => Err(FleetFault::NoMemory),
+        }
     }
 
     // A call went out.
     fn put_out(&mut self, ticket: Ticket) -> Result<(), FleetFault>
-        ensures { self.new ≡ record self.old { out = self.new.out } }
+        ensures rest { self.new ≡ record self.old { out = self.new.out } }
+        ensures fault { IfErr result (λ fault. fault ≡ NoMemory) }
     {
-        Ok(self.out.push(ticket)?)
+        match self.out.push(ticket) {
+            Ok(()) => Ok(()),
+            Err(_) => Err(FleetFault::NoMemory),
+        }
     }
 
     // What was done for a client.
@@ -227,6 +258,7 @@ impl Runner {
         ensures counts { OnOk result ((self.new.core ≡ self.old.core) × ((servers : ScriptServers) → CountsPoll poll (kept_of self.old servers) (kept_of self.new servers))) }
         ensures clients { self.new.clients ≡ self.old.clients }
         ensures idle { IfOk result (λ progress. progress ≡ Progress.Idle → (poll ≡ Poll.Idle) × (self.new ≡ self.old)) }
+        ensures fault { IfErr result (λ fault. fault ≡ NoMemory) }
     {
         match poll {
             Poll::Idle => Ok(Progress::Idle),
@@ -248,6 +280,7 @@ impl Runner {
         ensures moves { OnOk result ((servers : ScriptServers) → Moves self.old servers self.new servers) }
         ensures clients { self.new.clients ≡ self.old.clients }
         ensures idle { IfOk result (λ progress. progress ≡ Progress.Idle → (self.new ≡ self.old) × IsIdle self.old.core client) }
+        ensures spent { IfErr result (λ fault. IsLastBegun fault self.old.core) }
     {
         polls_go_on();
         match self.core.poll(client) {
@@ -261,6 +294,7 @@ impl Runner {
         ensures moves { OnOk result ((servers : ScriptServers) → Moves self.old servers self.new servers) }
         ensures clients { OnOk result (self.new.clients ≡ self.old.clients) }
         ensures idle { IfOk result (λ progress. progress ≡ Progress.Idle → AreIdle self.new) }
+        ensures err { IfErr result (λ fault. StopsAt self.old fault) }
     {
         let mut progress = Progress::Idle;
         for client in 0..self.clients {
@@ -270,11 +304,13 @@ impl Runner {
         Ok(progress)
     }
 
-    // Clients are polled until a whole round gives nothing: whether nothing is left to do for any of them.
+    // Clients are polled until a whole round gives nothing: whether nothing is left to do for any of them. (each round does something, of
+    // which there is less than 2^64 - 1)
     fn poll_all(&mut self) -> Result<bool, FleetFault>
         ensures moves { OnOk result ((servers : ScriptServers) → Moves self.old servers self.new servers) }
         ensures clients { OnOk result (self.new.clients ≡ self.old.clients) }
         ensures idle { IfOk result (λ idle. IsTrue idle → AreIdle self.new) }
+        ensures err { IfErr result (λ fault. StopsAt self.old fault) }
     {
         for _round in 0..u64::MAX {
             let progress = self.poll_round()?;
@@ -284,13 +320,14 @@ impl Runner {
                 Progress::Moved => {}
             }
         }
-        Err(FleetFault::Spent)
+        Err(FleetFault::NoMemory)
     }
 
     // Clients are polled until a whole round gives nothing.
     fn go_on(&mut self) -> Result<(), FleetFault>
         ensures moves { OnOk result ((servers : ScriptServers) → Moves self.old servers self.new servers) }
         ensures clients { OnOk result (self.new.clients ≡ self.old.clients) }
+        ensures err { IfErr result (λ fault. StopsAt self.old fault) }
     {
         let _is_idle = self.poll_all()?;
         Ok(())
@@ -301,6 +338,7 @@ impl Runner {
     pub fn add(&mut self, client: usize, bytes: &[u8]) -> Result<(), FleetFault>
         ensures fed { OnOk result ((servers : ScriptServers) → MovesFed client bytes.now self.old servers self.new servers) }
         ensures clients { OnOk result (self.new.clients ≡ self.old.clients) }
+        ensures err { IfErr result (λ fault. StopsFed client bytes.now self.old fault) }
     {
         self.feed(client, bytes)?;
         self.go_on()
@@ -337,6 +375,18 @@ impl Runner {
         least
     }
 
+    // There is room for what one more call of the command finds.
+    fn make_room(&mut self, number: u64) -> Result<(), FleetFault>
+        ensures ok { OnOk result ((n : ℕ) → found_of self.new.found n ≡ found_of self.old.found n) }
+        ensures rest { self.new ≡ record self.old { found = self.new.found } }
+        ensures fault { IfErr result (λ fault. fault ≡ NoMemory) }
+    {
+        match self.found.make_room(number) {
+            Ok(()) => Ok(()),
+            Err(_) => Err(FleetFault::NoMemory),
+        }
+    }
+
     // The call, which is one of this server, has its result.
     fn settle(
         &mut self,
@@ -347,19 +397,20 @@ impl Runner {
         ensures ok { OnOk result (MovesByOne server self.old servers.old self.new servers.new) }
         ensures count { count_of servers.new ≡ count_of servers.old }
         ensures clients { self.new.clients ≡ self.old.clients }
+        ensures err { IfErr result (λ fault. StopsGiving fault servers.old servers.new) }
     {
         results_go_on();
         let number = ticket.number;
-        self.found.make_room(number)?;
+        self.make_room(number)?;
         let Some(call) = self.core.called(number) else {
-            return Err(FleetFault::Spent);
+            return Err(FleetFault::NoMemory);
         };
         if !is_same(call.server, server) {
-            return Err(FleetFault::Spent);
+            return Err(FleetFault::NoMemory);
         }
         let stamp = self.found.stamp_of(number, call.origin);
         let made = answer(servers, stamp, call.server, call.ask)?;
-        self.found.note(number, made.stamp)?;
+        note(&mut self.found, number, made.stamp)?;
         match self.core.settle(ticket, made.outcome) {
             Ok(()) => Ok(()),
             Err(fault) => Err(fault_of(fault)),
@@ -375,6 +426,7 @@ impl Runner {
         ensures ok { OnOk result (MovesAt server self.old servers.old self.new servers.new) }
         ensures count { count_of servers.new ≡ count_of servers.old }
         ensures clients { OnOk result (self.new.clients ≡ self.old.clients) }
+        ensures err { IfErr result (λ fault. StopsGiving fault servers.old servers.new) }
     {
         match self.take_first(server) {
             None => Ok(()),
@@ -392,6 +444,7 @@ impl Runner {
         ensures ok { OnOk result (MovesAt server self.old servers.old self.new servers.new) }
         ensures count { count_of servers.new ≡ count_of servers.old }
         ensures clients { OnOk result (self.new.clients ≡ self.old.clients) }
+        ensures err { IfErr result (λ fault. StopsAfter (AreOfOne server) self.old servers.old fault servers.new) }
     {
         self.give_first(servers, server)?;
         self.go_on()
@@ -399,12 +452,13 @@ impl Runner {
 
     // Where no call is out, nothing else is left to do.
     fn rest(&self, is_idle: bool) -> Result<(), FleetFault>
-        ensures { OnOk result (IsTrue is_idle × (IsOut self.now.core → ⊥)) }
+        ensures ok { OnOk result (IsTrue is_idle × (IsOut self.now.core → ⊥)) }
+        ensures fault { IfErr result (λ fault. fault ≡ NoMemory) }
     {
         if is_idle && !self.core.is_out() {
             Ok(())
         } else {
-            Err(FleetFault::Spent)
+            Err(FleetFault::NoMemory)
         }
     }
 
@@ -416,6 +470,7 @@ impl Runner {
         ensures none { OnOk result (self.new.out.items ≡ []) }
         ensures clients { OnOk result (self.new.clients ≡ self.old.clients) }
         ensures rest { OnOk result (IsAtRest self.new) }
+        ensures err { IfErr result (λ fault. StopsAfter (λ results. Unit {0}) self.old servers.old fault servers.new) }
     {
         for _round in 0..u64::MAX {
             let is_idle = self.poll_all()?;
@@ -424,11 +479,12 @@ impl Runner {
                 Some(server) => self.give_first(servers, server)?,
             }
         }
-        Err(FleetFault::Spent)
+        Err(FleetFault::NoMemory)
     }
 
-    /// A client's new output, which is then empty. The errors are running out of memory, and `Spent` where there is no such client.
+    /// A client's new output, which is then empty. The only error is running out of memory.
     pub fn take_output(&mut self, client: usize) -> Result<Vec<u8>, FleetFault>
+        ensures fault { IfErr result (λ fault. fault ≡ NoMemory) }
         ensures given { IfOk result (λ bytes. (servers : ScriptServers) → MovesGiven client bytes.items self.old servers self.new servers) }
         ensures clients { self.new.clients ≡ self.old.clients }
     {
@@ -439,16 +495,20 @@ impl Runner {
         }
     }
 
-    /// Commands that begin from now on run by this tree, of which no gate is asked. The errors are running out of memory, and `Spent`
-    /// where as many trees were in use as can be numbered.
+    /// Commands that begin from now on run by this tree, of which no gate is asked. The only error is running out of memory, as which it is
+    /// also told where 2^32 - 1 trees were in use before.
     pub fn load(&mut self, tree: &Tree) -> Result<(), FleetFault>
+        ensures fault { IfErr result (λ fault. fault ≡ NoMemory) }
         ensures loaded { OnOk result ((servers : ScriptServers) → IsLoadedBy tree.now self.old servers self.new servers) }
         ensures clients { self.new.clients ≡ self.old.clients }
     {
         loads_go_on();
-        match self.core.reload(tree.copy()?) {
+        let Ok(tree) = tree.copy() else {
+            return Err(FleetFault::NoMemory);
+        };
+        match self.core.reload(tree) {
             Ok(_generation) => Ok(()),
-            Err(_) => Err(FleetFault::Spent),
+            Err(_) => Err(FleetFault::NoMemory),
         }
     }
 }

@@ -159,30 +159,6 @@ module _ (first : Route) (refused : List Bool) (reloads : List Reload) (events :
         },
       )
 
-  -- ---- the end
-
-  -- what was done so far
-  pub part_of : StandingSays → (loaded : ℕ) (left : List Scripted) (given : List Shown) (k : Kept) → loaded ≤ length reloads → (h : HasCome first refused reloads events loaded left given k) (count : ℕ) → AreThrough events count h.log given → StepsPart first refused reloads events given
-  part_of law loaded left given k within h count through =
-      let plans : ℕ → List ℕ → Plan = λ n key. tree_at (tree_by first h.loads n) key in
-      let says = law (opening_of events) (tree_by first h.loads) h.log k h.stands in
-      record {
-        log = h.log;
-        loads = h.loads;
-        loaded = loaded;
-        within = within;
-        loads_are = h.loads_are;
-        in_turn = h.in_turn;
-        follows = says.follows;
-        streams = λ c. (said_in left c, h.streams c);
-        given_is = h.given_is;
-        order = h.order;
-        count = count;
-        through = inr through;
-        run = runs dialect (tree_words plans) (bars_by Alone plans) (opening_of events) h.log says.follows;
-        world = inr (record { done = h.done; later = left; events_are = h.done_is; servers = k.servers; world = h.world });
-      }
-
 -- ---- one event after another
 
 pub next_left : (xs : List Event) (i : ℕ) (x : Event) → i < length xs → x ≡ get_or xs i x → map scripted_of (drop i xs) ≡ scripted_of x ∷ map scripted_of (drop (i + 1) xs)
@@ -243,25 +219,6 @@ handed_none t none = subst (λ (l : List Output). AreHandedInTurn (map shown_by 
     none_handed zero le = record { newer = []; older = []; log_is = refl; given = λ c. refl }
     none_handed (suc n) le = record { newer = []; older = []; log_is = refl; given = λ c. refl }
 
--- nothing was done
-pub nothing_done : (first : Route) (refused : List Bool) (reloads : List Reload) (events : List Scripted) (t : Transcript) → t.shown.items ≡ [] → StepsPart first refused reloads events (transcript_of t)
-nothing_done first refused reloads events t none = record {
-  log = [];
-  loads = [];
-  loaded = 0;
-  within = omega arith;
-  loads_are = refl;
-  in_turn = refl;
-  follows = tt;
-  streams = λ c. (said_in events c, refl);
-  given_is = given_none t none;
-  order = handed_none t none;
-  count = 0;
-  through = inl refl;
-  run = tt;
-  world = inl refl;
-}
-
 -- new servers, on which is what the script puts there
 abbrev pub begins :
     NothingStands → (first : Route) (refused : List Bool) (reloads : List Reload) (events : List Event) (n : ℕ) (a : Runner) (s t : ScriptServers) (x : Transcript)
@@ -299,9 +256,3 @@ begins law first refused reloads events n a s t x begin new put rest good none =
   where
     both : ((i : ℕ) (key : List ℕ) → held_at (caches_of t) i key ≡ opening_of (map scripted_of events) i key) → held_at (caches_of t) ≡ opening_of (map scripted_of events)
     both each i s key = each s key i
-
--- ---- a fault
-
-pub ends_so : (fault : FleetFault) (first : Route) (refused : List Bool) (reloads : List Reload) (events : List Scripted) (t : Transcript) (marks : List ℕ) → StepsPart first refused reloads events (transcript_of t) → EndsStepped first refused reloads events t marks (fault_of fault)
-ends_so faults.NoMemory first refused reloads events t marks part = part
-ends_so faults.Spent first refused reloads events t marks part = part

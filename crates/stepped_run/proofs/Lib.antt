@@ -3,3 +3,4 @@ pub mod Held
 pub mod Come
 pub mod Worlds
 pub mod Stood
+pub mod Broken

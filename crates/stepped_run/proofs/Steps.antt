@@ -38,7 +38,7 @@ one_then : (b : Bool) (xs first second : List ℕ) → cond b (cond b (xs ++ fir
 one_then true xs first second = append_assoc xs first second
 one_then false xs first second = refl
 
-after_it : (b : Bool) (xs bytes : List ℕ) → cond b (xs ++ bytes) xs ≡ xs ++ cond b bytes []
+pub after_it : (b : Bool) (xs bytes : List ℕ) → cond b (xs ++ bytes) xs ≡ xs ++ cond b bytes []
 after_it true xs bytes = refl
 after_it false xs bytes = sym (append-nil xs)
 

@@ -4,7 +4,7 @@ use Rattle.std.specs.Prelude.{◌⊎◌, MatchOption, option_map, nat_eq}
 use Rattle.std.specs.Map.{lookup}
 use Rattle.std.proofs.Math.Seq.{drop-length, take-length, take-append_seam}
 use Rattle.std.proofs.lemmas.Bool.{cases_lt}
-use Rattle.std.proofs.lemmas.List.{append_cancel_right, drop-map, take-append-le}
+use Rattle.std.proofs.lemmas.List.{append_cancel_right, drop-map, take-append-drop, take-append-le}
 use Rattle.commands_under_way.specs.Begun.{owner_by}
 use Rattle.mc_types.specs.Items.{Item}
 use Rattle.mc_runs.specs.Log.{Shown}
@@ -38,15 +38,15 @@ use Rattle.stepped_log.specs.Standing.{Kept, Stands, LeavesAsMuch, tree_by}
 use Rattle.stepped_log.specs.Laws.{StandingSays, NothingStands, IsBegin}
 use Rattle.core_run.specs.Running.{kept_of, MovesByResults, IsIdle, IsAtRest}
 use Rattle.core_run.specs.declared.runner.Runner.{Runner}
-use Rattle.stepped_run.specs.Driving.{said_by, said_in, shown_to, may_be_out, leaves_out, IsDoneFor, IsSettled, IsThrough, AreThrough, IsMarked, AreMarked, one_loaded, trees_loaded, IsReached, CameSo, CameInTurn, DrivesStepped, StepsPart}
+use Rattle.stepped_run.specs.Driving.{said_by, said_in, shown_to, may_be_out, leaves_out, IsDoneFor, IsSettled, IsThrough, AreThrough, IsMarked, AreMarked, one_loaded, trees_loaded, IsReached, CameSo, CameInTurn, DrivesStepped}
 use Rattle.stepped_run.specs.Holding.{put_all_on}
-use Rattle.stepped_run.specs.Stepping.{Befalls, LeavesBy, IsHeard, RestsAfter, IsGivenAll, HandsOutAll, HandsSome, HasCome, HasStood, TakesUp, Loads}
+use Rattle.stepped_run.specs.Stepping.{Befalls, LeavesBy, IsHeard, RestsAfter, IsGivenAll, HandsOutAll, HasCome, HasStood, TakesUp, Loads}
 use Rattle.stepped_run.specs.World.{World}
-use Rattle.stepped_run.proofs.Come.{said_split, mark_count, come_on, come_ended, come_out, come_some, part_of, begins, next_left}
+use Rattle.stepped_run.proofs.Come.{said_split, mark_count, come_on, come_ended, come_out, begins, next_left}
 
 -- ---- what is said in events, one after another
 
-said_append : (first second : List Scripted) (c : ℕ) → said_in (first ++ second) c ≡ said_in first c ++ said_in second c
+pub said_append : (first second : List Scripted) (c : ℕ) → said_in (first ++ second) c ≡ said_in first c ++ said_in second c
 said_append [] second c = refl
 said_append (event ∷ first) second c = ap (λ xs. said_by event c ++ xs) (said_append first second c) ∙ sym (append_assoc (said_by event c) (said_in first c) (said_in second c))
 
@@ -70,7 +70,7 @@ first_shown n given after rest c is within = ap (λ l. shown_to l c) (sym (take-
 longer_by : (given after rest : List Shown) → after ≡ given ++ rest → length given ≤ length after
 longer_by given after rest is = let e = ap length is ∙ length-append given rest in omega (arith, e)
 
-through_on : (events done : List Scripted) (more log : List (Entry dialect)) (given after rest : List Shown) → after ≡ given ++ rest → IsThrough events done log given → IsThrough events done (more ++ log) after
+pub through_on : (events done : List Scripted) (more log : List (Entry dialect)) (given after rest : List Shown) → after ≡ given ++ rest → IsThrough events done log given → IsThrough events done (more ++ log) after
 through_on events done more log given after rest is t =
     let within = t.within in
     let longer = longer_by given after rest is in
@@ -88,7 +88,7 @@ through_on events done more log given after rest is t =
     }
 
 -- marks that are within what was handed out
-marked_on :
+pub marked_on :
     (events : List Scripted) (more log : List (Entry dialect)) (given after rest : List Shown) → after ≡ given ++ rest → (reloads : List Reload) (marks : List ℕ)
     → AreMarked events log given reloads marks → AreMarked events (more ++ log) after reloads marks
 marked_on events more log given after rest is [] marks h = tt
@@ -102,6 +102,7 @@ marked_on events more log given after rest is (r ∷ reloads) (mark ∷ marks) h
         within = let within = m.within in let longer = longer_by given after rest is in omega (arith, within, longer);
         streams = m.streams;
         given_is = λ c. m.given_is c ∙ first_shown mark given after rest c is m.within;
+        settled = m.settled;
       },
       marked_on events more log given after rest is reloads marks h.1,
     )
@@ -229,6 +230,34 @@ pub loads_then :
     (refused : List Bool) (reloads : List Reload) (next shown x y z : ℕ) (k l m : List ℕ) (a b d : Runner) → Loads refused reloads next shown x y k l a b → Loads refused reloads next shown y z l m b d → Loads refused reloads next shown x z k m a d
 loads_then refused reloads next shown x y z k l m a b d p q first events left given clients s here all h = q first events left given clients s here all (p first events left given clients s here all h)
 
+-- what came before the place of a reload that is due
+module _ (first : Route) (refused : List Bool) (reloads : List Reload) (events left : List Scripted) (next n : ℕ) (given : List Shown) (marks : List ℕ) (clients : ℕ) (k : Kept) (here : left ≡ drop next events) (h : HasStood first refused reloads events n left given marks clients k) where
+  said_before : (c : ℕ) → stream_of h.come.log c ≡ said_in (take next events) c
+  said_before c =
+      append_cancel_right (stream_of h.come.log c) (said_in (take next events) c) (said_in left c)
+      (sym (h.come.streams c) ∙ said_split next events c ∙ ap (λ (l : List Scripted). said_in (take next events) c ++ said_in l c) (sym here))
+
+  done_before : take next events ≡ h.come.done
+  done_before =
+      append_cancel_right (take next events) h.come.done left
+      (ap (λ (l : List Scripted). take next events ++ l) here ∙ take-append-drop next events ∙ h.come.done_is)
+
+  -- its mark is what was handed out so far
+  pub marked_one : (shown : ℕ) (marks' : List ℕ) (r : Reload) → shown ≡ length given → r.at ≡ next → slice_get reloads n ≡ Some r → marks' ≡ marks ++ shown ∷ [] → AreMarked events h.come.log given reloads marks'
+  marked_one shown marks' r all place at more =
+      subst (AreMarked events h.come.log given reloads) (sym more)
+      (marked_more events h.come.log given reloads marks r shown (ap (slice_get reloads) h.counted ∙ at)
+      (record {
+        newer = [];
+        older = h.come.log;
+        log_is = refl;
+        within = omega (arith, all);
+        streams = λ c. said_before c ∙ ap (λ (m : ℕ). said_in (take m events) c) (sym place);
+        given_is = λ c. h.come.given_is c ∙ ap (λ l. shown_to l c) (sym (take-length given)) ∙ ap (λ (m : ℕ). shown_to (take m given) c) (sym all);
+        settled = subst (λ (l : List Scripted). leaves_out false l ≡ false → IsSettled l h.come.log) (sym done_before ∙ ap (λ (m : ℕ). take m events) (sym place)) h.settled;
+      })
+      h.marked)
+
 -- one more reload, which is refused, or not
 pub loads_one :
     StandingSays → (refused : List Bool) (reloads : List Reload) (next shown n : ℕ) (marks marks' : List ℕ) (r : Reload) (is : Bool) (a b : Runner) → r.at ≡ next → slice_get reloads n ≡ Some r → is ≡ is_refused (slice_get refused n)
@@ -253,20 +282,13 @@ loads_one law refused reloads next shown n marks marks' r is a b place at same m
         (subst (λ (o : Option Reload). CameSo b o events come.log loads (CameInTurn refused reloads events come.log n)) (sym at) x))
 
     said : (c : ℕ) → stream_of come.log c ≡ said_in (take r.at events) c
-    said c =
-        append_cancel_right (stream_of come.log c) (said_in (take next events) c) (said_in left c)
-        (sym (come.streams c) ∙ said_split next events c ∙ ap (λ (l : List Scripted). said_in (take next events) c ++ said_in l c) (sym here))
-        ∙ ap (λ (m : ℕ). said_in (take m events) c) (sym place)
+    said c = said_before first refused reloads events left next n given marks clients (kept_of a s) here h c ∙ ap (λ (m : ℕ). said_in (take m events) c) (sym place)
 
     reached : IsReached come.log events r.at a.core.number
     reached = record { newer = []; older = come.log; log_is = refl; streams = said; begun_is = (law (opening_of events) (tree_by first come.loads) come.log (kept_of a s) come.stands).begun }
 
     marked : AreMarked events come.log given reloads marks'
-    marked =
-        subst (AreMarked events come.log given reloads) (sym more)
-        (marked_more events come.log given reloads marks r shown (ap (slice_get reloads) h.counted ∙ at)
-        (record { newer = []; older = come.log; log_is = refl; within = omega (arith, all); streams = said; given_is = λ c. come.given_is c ∙ ap (λ l. shown_to l c) (sym (take-length given)) ∙ ap (λ (m : ℕ). shown_to (take m given) c) (sym all) })
-        h.marked)
+    marked = marked_one first refused reloads events left next n given marks clients (kept_of a s) here h shown marks' r all place at more
 
     by : (is : Bool) → is ≡ is_refused (slice_get refused n) → TakesUp is r.config.tree a b → HasStood first refused reloads events (n + 1) left given marks' clients (kept_of b s)
     by true e stays =
@@ -316,7 +338,7 @@ loads_one law refused reloads next shown n marks marks' r is a b place at same m
 
 module _ (first : Route) (refused : List Bool) (reloads : List Reload) (events : List Scripted) where
   -- the part of the log that is all of it
-  here : (loaded : ℕ) (left : List Scripted) (given : List Shown) (k : Kept) (h : HasCome first refused reloads events loaded left given k) → (leaves_out false h.done ≡ false → IsSettled h.done h.log) → IsThrough events h.done h.log given
+  pub here : (loaded : ℕ) (left : List Scripted) (given : List Shown) (k : Kept) (h : HasCome first refused reloads events loaded left given k) → (leaves_out false h.done ≡ false → IsSettled h.done h.log) → IsThrough events h.done h.log given
   here loaded left given k h settled =
       record {
         newer = [];
@@ -369,44 +391,10 @@ module _ (first : Route) (refused : List Bool) (reloads : List Reload) (events :
         counted = h.counted;
       }
 
-  -- not all could be handed out
-  pub stood_broken :
-      StandingSays → (loaded : ℕ) (event : Scripted) (left : List Scripted) (given after : List Shown) (marks : List ℕ) (a b : Runner) (s t : ScriptServers) → loaded ≤ length reloads → Befalls event a s b t → HandsSome given after b
-      → HasStood first refused reloads events loaded (event ∷ left) given marks a.clients (kept_of a s) → StepsPart first refused reloads events after
-  stood_broken law loaded event left given after marks a b s t within m hands h =
-      let opening = opening_of events in
-      let tree = tree_by first h.come.loads in
-      let log = h.come.log in
-      let mid = come_on first refused reloads events loaded event left given a b s t m h.come in
-      let end = come_some first refused reloads events loaded left given after b t hands mid in
-      let g = (m.goes opening tree log h.come.stands).0 in
-      let o = (hands t opening tree (g.more ++ log) g.stands).1 in
-      part_of first refused reloads events law loaded left after end.0 within end.1 (length h.come.done)
-      (λ n le. through_on events (take n events) o.more (g.more ++ log) given after o.longer.0 o.longer.1 (through_on events (take n events) g.more log given given [] (sym (append-nil given)) (h.through n le)))
-
-  -- what was done so far
-  pub part_stood : StandingSays → (loaded : ℕ) (left : List Scripted) (given : List Shown) (marks : List ℕ) (clients : ℕ) (k : Kept) → loaded ≤ length reloads → HasStood first refused reloads events loaded left given marks clients k → StepsPart first refused reloads events given
-  part_stood law loaded left given marks clients k within h = part_of first refused reloads events law loaded left given k within h.come (length h.come.done) h.through
-
   -- ---- the end
 
   all_done : (done : List Scripted) → events ≡ done ++ [] → done ≡ events
   all_done done is = sym (is ∙ append-nil done)
-
-  -- what is still out has its results, and not all can be handed out
-  pub ended_broken :
-      StandingSays → (given after : List Shown) (marks : List ℕ) (a b : Runner) (s t : ScriptServers) → MovesByResults a s b t → HandsSome given after b
-      → HasStood first refused reloads events (length reloads) [] given marks a.clients (kept_of a s) → StepsPart first refused reloads events after
-  ended_broken law given after marks a b s t m hands h =
-      let opening = opening_of events in
-      let tree = tree_by first h.come.loads in
-      let log = h.come.log in
-      let mid = come_ended first refused reloads events (length reloads) [] given a b s t m h.come in
-      let end = come_some first refused reloads events (length reloads) [] given after b t hands mid in
-      let g = (m.1.goes opening tree log h.come.stands).goes in
-      let o = (hands t opening tree (g.more ++ log) g.stands).1 in
-      part_of first refused reloads events law (length reloads) [] after end.0 (omega arith) end.1 (length h.come.done)
-      (λ n le. through_on events (take n events) o.more (g.more ++ log) given after o.longer.0 o.longer.1 (through_on events (take n events) g.more log given given [] (sym (append-nil given)) (h.through n le)))
 
   -- all was done, and nothing is left to do
   pub stood_ended :
@@ -450,7 +438,7 @@ module _ (first : Route) (refused : List Bool) (reloads : List Reload) (events :
 
 -- reloads that are due, an event, and what is handed out after it
 module _ (first : Route) (refused : List Bool) (reloads : List Reload) (xs : List Event) where
-  due :
+  pub due :
       (i shown before loaded : ℕ) (x : Event) (given : List Shown) (marks marks' : List ℕ) (a b : Runner) (s : ScriptServers) → i < length xs → x ≡ get_or xs i x → shown ≡ length given → b.clients ≡ a.clients
       → Loads refused reloads i shown before loaded marks marks' a b
       → HasStood first refused reloads (map scripted_of xs) before (map scripted_of (drop i xs)) given marks a.clients (kept_of a s)
@@ -468,15 +456,6 @@ module _ (first : Route) (refused : List Bool) (reloads : List Reload) (xs : Lis
       → HasStood first refused reloads (map scripted_of xs) loaded (map scripted_of (drop (i + 1) xs)) after marks' e.clients (kept_of e t)
   event_next i shown before loaded x given after marks marks' a b d e s t lt is all same loads befalls heard rest hands kept h =
       stood_next first refused reloads (map scripted_of xs) loaded (scripted_of x) (map scripted_of (drop (i + 1) xs)) given after marks' b d e s t befalls heard rest hands kept
-      (due i shown before loaded x given marks marks' a b s lt is all same loads h)
-
-  -- the same, where not all could be handed out
-  pub event_broken :
-      StandingSays → (i shown before loaded : ℕ) (x : Event) (given after : List Shown) (marks marks' : List ℕ) (a b d : Runner) (s t : ScriptServers) → i < length xs → x ≡ get_or xs i x → shown ≡ length given → b.clients ≡ a.clients → loaded ≤ length reloads
-      → Loads refused reloads i shown before loaded marks marks' a b → Befalls (scripted_of x) b s d t → HandsSome given after d
-      → HasStood first refused reloads (map scripted_of xs) before (map scripted_of (drop i xs)) given marks a.clients (kept_of a s) → StepsPart first refused reloads (map scripted_of xs) after
-  event_broken law i shown before loaded x given after marks marks' a b d s t lt is all same within loads befalls hands h =
-      stood_broken first refused reloads (map scripted_of xs) law loaded (scripted_of x) (map scripted_of (drop (i + 1) xs)) given after marks' b d s t within befalls hands
       (due i shown before loaded x given marks marks' a b s lt is all same loads h)
 
   -- the reloads after the last event

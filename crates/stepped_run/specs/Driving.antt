@@ -1,5 +1,5 @@
 -- What a script that steps its calls does. Source: mcgate's own.
-use Rattle.std.specs.Prelude.{◌⊎◌, ◌≡◌, ℕ, zero, suc, ◌≤◌, Bool, true, false, List, [], ◌∷◌, ◌++◌, length, map, take, Option, Some, None, slice_get, if◌then◌else◌, nat_eq}
+use Rattle.std.specs.Prelude.{◌⊎◌, ◌≡◌, ℕ, zero, suc, ◌+◌, ◌<◌, ◌≤◌, ◌^◌, Bool, true, false, List, [], ◌∷◌, ◌++◌, length, map, take, Option, Some, None, slice_get, if◌then◌else◌, nat_eq}
 use Rattle.std.specs.List.{All}
 use Rattle.mc_runs.specs.Log.{Shown}
 use Rattle.mc_runs.specs.Overlap.{Entry, Follows, run_of, front_of, queue_of, output_of, given_of, owner_of}
@@ -21,9 +21,12 @@ use Rattle.fleet_run.specs.declared.script.DriveFault.TheVariants.{BadEvent, NoM
 use Rattle.fleet_run.specs.Scripted.{Scripted, Piece, Add, Result, Fail, Hold, At, Now, Moment, transcript_of}
 use Rattle.fleet_run.specs.Opening.{opening_of}
 use Rattle.fleet_run.specs.Reloads.{is_refused}
+use Rattle.memory_fleet.specs.Fleets.{last_turn}
+use Rattle.proxy_core.specs.declared.limits.TheConstants.{LAST_COMMAND}
+use Rattle.script_servers.specs.Servers.{turn_of}
 use Rattle.script_servers.specs.declared.servers.ScriptServers.{ScriptServers}
 use Rattle.stepped_log.specs.Standing.{replied_in, tree_by}
-use Rattle.stepped_run.specs.World.{World, HasWorld}
+use Rattle.stepped_run.specs.World.{World}
 
 -- ---- what a script says
 
@@ -107,7 +110,7 @@ AreThrough events count log given = (n : ℕ) → n ≤ count → IsThrough even
 
 -- ---- reloads' marks
 
--- a part of the log, before a reload: clients had said what the events before its place say, and were given so many outputs
+-- a part of the log, before a reload: clients had said what the events before its place say, and were given so many outputs; unless calls may be out nothing was left to do, so that these are all that there were
 pub record IsMarked (events : List Scripted) (log : List (Entry dialect)) (given : List Shown) (place mark : ℕ) : Type 0 where
   pub newer : List (Entry dialect)
   pub older : List (Entry dialect)
@@ -115,6 +118,7 @@ pub record IsMarked (events : List Scripted) (log : List (Entry dialect)) (given
   pub within : mark ≤ length given
   pub streams : (c : ℕ) → stream_of older c ≡ said_in (take place events) c
   pub given_is : (c : ℕ) → given_of older c ≡ shown_to (take mark given) c
+  pub settled : leaves_out false (take place events) ≡ false → IsSettled (take place events) older
 
 -- so it is with each reload that has a mark
 abbrev pub AreMarked : List Scripted → List (Entry dialect) → List Shown → List Reload → List ℕ → Type 0
@@ -193,8 +197,25 @@ pub record DrivesStepped (first : Route) (refused : List Bool) (reloads : List R
   pub servers : ScriptServers
   pub world : World events events log servers
 
--- the same of what was done until a fault, where so many reloads had come: each client said a beginning of what the script says
-pub record StepsPart (first : Route) (refused : List Bool) (reloads : List Reload) (events : List Scripted) (given : List Shown) : Type 0 where
+-- ---- what a fault leaves
+
+-- a beginning of what the next event says was said, after all that earlier ones say
+pub record IsSaid (done next : List Scripted) (log : List (Entry dialect)) (c : ℕ) : Type 0 where
+  pub said : List ℕ
+  pub unsaid : List ℕ
+  pub cut : said_in next c ≡ said ++ unsaid
+  pub stream : stream_of log c ≡ said_in done c ++ said
+
+-- servers have made the calls of the log, or one more
+abbrev pub HaveMade : List (Entry dialect) → ScriptServers → Type 0
+HaveMade log servers = (turn_of servers ≡ calls_in (run_of log)) ⊎ (turn_of servers ≡ calls_in (run_of log) + 1)
+
+-- the world of a log is what these events, and the next one where it had come, make of it
+abbrev pub HasWorldOf : List Scripted → List Scripted → List Scripted → List (Entry dialect) → Type 0
+HasWorldOf events done next log = (at : ScriptServers) × (World events done log at ⊎ World events (done ++ next) log at)
+
+-- the same of what was done until a fault: these events were done, at most one more had begun, and so many reloads had come
+pub record StepsPart (first : Route) (refused : List Bool) (reloads : List Reload) (events : List Scripted) (given : List Shown) (marks : List ℕ) (servers : ScriptServers) : Type 0 where
   pub log : List (Entry dialect)
   pub loads : List (ℕ × Route)
   pub loaded : ℕ
@@ -202,20 +223,29 @@ pub record StepsPart (first : Route) (refused : List Bool) (reloads : List Reloa
   pub loads_are : loaded_trees loads ≡ trees_loaded refused reloads loaded
   pub in_turn : CameInTurn refused reloads events log loaded loads
   pub follows : FollowsBy first loads events log
-  pub streams : (c : ℕ) → (rest : List ℕ) × (said_in events c ≡ stream_of log c ++ rest)
+  pub done : List Scripted
+  pub next : List Scripted
+  pub later : List Scripted
+  pub events_are : events ≡ done ++ (next ++ later)
+  pub one : length next ≤ 1
+  pub streams : (c : ℕ) → IsSaid done next log c
   pub given_is : (c : ℕ) → given_of log c ≡ shown_to given c
   pub order : AreHandedInTurn given log
-  -- so many events came before it
-  pub count : ℕ
-  pub through : (log ≡ []) ⊎ AreThrough events count log given
+  pub through : (log ≡ []) ⊎ AreThrough events (length done) log given
+  pub marked : AreMarked events log given reloads marks
   pub run : RunsBy first loads events log
-  pub world : (log ≡ []) ⊎ HasWorld events log
+  pub world : (log ≡ []) ⊎ HasWorldOf events done next log
+  pub made : HaveMade log servers
 
--- what a fault leaves: nothing was handed out where an event can't be
-abbrev pub EndsStepped : Route → List Bool → List Reload → List Scripted → Transcript → List ℕ → DriveFault → Type 0
-EndsStepped first refused reloads events transcript marks (BadEvent index) = (transcript.shown.items ≡ []) × (marks ≡ [])
-EndsStepped first refused reloads events transcript marks NoMemory = StepsPart first refused reloads events (transcript_of transcript)
-EndsStepped first refused reloads events transcript marks Spent = StepsPart first refused reloads events (transcript_of transcript)
+-- numbers are spent only where the last command has its number, or none of the next 2^32 calls can be numbered
+abbrev pub AreSpentIn : List (Entry dialect) → Type 0
+AreSpentIn log = (commands_in (run_of log) ≡ LAST_COMMAND) ⊎ (last_turn < calls_in (run_of log) + 2 ^ 32)
+
+-- what a fault leaves: where an event can't be nothing was handed out, and the servers are as they were
+abbrev pub EndsStepped : Route → List Bool → List Reload → List Scripted → Transcript → List ℕ → ScriptServers → ScriptServers → DriveFault → Type 0
+EndsStepped first refused reloads events transcript marks old new (BadEvent index) = (transcript.shown.items ≡ []) × (marks ≡ []) × (new ≡ old)
+EndsStepped first refused reloads events transcript marks old new NoMemory = StepsPart first refused reloads events (transcript_of transcript) marks new
+EndsStepped first refused reloads events transcript marks old new Spent = (part : StepsPart first refused reloads events (transcript_of transcript) marks new) × AreSpentIn part.log
 
 -- each mark tells how many of so many outputs came before its reload
 abbrev pub AreMarks : ℕ → List ℕ → Type 0

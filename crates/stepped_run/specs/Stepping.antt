@@ -1,5 +1,5 @@
 -- How far a script that steps its calls has come, and what each step makes of its log. Source: mcgate's own.
-use Rattle.std.specs.Prelude.{◌≡◌, ℕ, ◌<◌, ◌≤◌, Bool, true, false, List, [], ◌++◌, length, map, drop, Option, IfSome, slice_get}
+use Rattle.std.specs.Prelude.{◌≡◌, ◌⊎◌, ℕ, ◌<◌, ◌≤◌, Bool, true, false, List, [], ◌++◌, length, map, drop, Option, IfSome, slice_get}
 use Rattle.mc_types.specs.Items.{Item}
 use Rattle.mc_runs.specs.Log.{Shown}
 use Rattle.mc_runs.specs.Overlap.{Entry, given_of, output_of, run_of}
@@ -12,10 +12,13 @@ use Rattle.fleet_run.specs.Opening.{opening_of}
 use Rattle.script_servers.specs.declared.servers.ScriptServers.{ScriptServers}
 use Rattle.stepped_log.specs.Results.{CallResult, AreGiven, call_of, calls_of}
 use Rattle.stepped_log.specs.Standing.{Kept, Stands, GoesOnFed, LeavesAsMuch, tree_by}
+use Rattle.memory_fleet.specs.declared.event.FleetFault.{FleetFault}
+use Rattle.memory_fleet.specs.declared.event.FleetFault.TheVariants.{Spent}
+use Rattle.core_run.specs.Breaking.{AreSpent, IsWithinOne}
 use Rattle.core_run.specs.Running.{kept_of, IsLoadedBy, AreOfOne, IsAtRest}
 use Rattle.core_run.specs.declared.runner.Runner.{Runner}
 use Rattle.stepped_run.specs.World.{Changes, World}
-use Rattle.stepped_run.specs.Driving.{said_by, said_in, shown_to, AreHandedInTurn, trees_loaded, loaded_trees, CameInTurn, leaves_out, IsSettled, AreThrough, AreMarked}
+use Rattle.stepped_run.specs.Driving.{said_by, said_in, shown_to, AreHandedInTurn, trees_loaded, loaded_trees, CameInTurn, leaves_out, IsSettled, AreThrough, AreMarked, StepsPart, AreSpentIn}
 
 -- an event that asks clients nothing leaves as much to do as there was
 abbrev pub LeavesBy : Scripted → List (Entry dialect) → List (Entry dialect) → Type 0
@@ -65,6 +68,39 @@ pub record Befalls (event : Scripted) (old : Runner) (before : ScriptServers) (n
   pub given : AreGiven results mid after
   pub fit : AreFit event results
   pub goes : (opening : ℕ → List ℕ → Option Item) (tree : ℕ → Route) (log : List (Entry dialect)) → Stands opening tree log (kept_of old before) → (g : GoesOnSaid opening tree log event (kept_of new after)) × HasCalls results g.more log
+
+-- the log goes on, and clients said a beginning of what the event says
+pub record GoesOnInPart (opening : ℕ → List ℕ → Option Item) (tree : ℕ → Route) (log : List (Entry dialect)) (event : Scripted) (k : Kept) : Type 0 where
+  pub more : List (Entry dialect)
+  pub stands : Stands opening tree (more ++ log) k
+  pub said : ℕ → List ℕ
+  pub unsaid : ℕ → List ℕ
+  pub cut : (c : ℕ) → said_by event c ≡ said c ++ unsaid c
+  pub streams : (c : ℕ) → stream_of (more ++ log) c ≡ stream_of log c ++ said c
+  pub given : (c : ℕ) → given_of (more ++ log) c ≡ given_of log c
+
+-- a client said a beginning of these bytes, and the servers gave some results, until nothing more could be done, nor one result more be taken
+pub record FedInPart (client : ℕ) (bytes : List ℕ) (old : Runner) (before : ScriptServers) (fault : FleetFault) (after : ScriptServers) : Type 0 where
+  pub mid : Runner
+  pub at : ScriptServers
+  pub said : List ℕ
+  pub unsaid : List ℕ
+  pub cut : bytes ≡ said ++ unsaid
+  pub fed : FedBy client said old before mid at
+  pub within : IsWithinOne at after
+  pub spent : AreSpent fault mid.core at
+
+-- an event that asks for results, or hadn't come, was broken off: until then each log that stood before goes on so
+pub record BreaksOff (event : Scripted) (old : Runner) (before : ScriptServers) (fault : FleetFault) (after : ScriptServers) : Type 0 where
+  pub mid : Runner
+  pub at : ScriptServers
+  pub results : List CallResult
+  pub given : AreGiven results before at
+  pub come : (results ≡ []) ⊎ Changes event before before
+  pub fit : AreFit event results
+  pub goes : (opening : ℕ → List ℕ → Option Item) (tree : ℕ → Route) (log : List (Entry dialect)) → Stands opening tree log (kept_of old before) → (g : GoesOnInPart opening tree log event (kept_of mid at)) × HasCalls results g.more log
+  pub within : IsWithinOne at after
+  pub spent : AreSpent fault mid.core at
 
 -- clients that weren't opened said nothing in the event
 pub record IsHeard (event : Scripted) (old new : Runner) : Type 0 where
@@ -146,6 +182,27 @@ Loads refused reloads next shown before after marks marks' old new =
     (first : Route) (events left : List Scripted) (given : List Shown) (clients : ℕ) (servers : ScriptServers) → left ≡ drop next events → shown ≡ length given
     → HasStood first refused reloads events before left given marks clients (kept_of old servers)
     → HasStood first refused reloads events after left given marks' clients (kept_of new servers)
+
+-- so many of these reloads were loaded until memory was refused, and marks stand at their places
+pub record LoadsSome (first : Route) (refused : List Bool) (reloads : List Reload) (events left : List Scripted) (given : List Shown) (marks : List ℕ) (clients : ℕ) (servers : ScriptServers) : Type 0 where
+  pub loaded : ℕ
+  pub within : loaded ≤ length reloads
+  pub own : List ℕ
+  pub runner : Runner
+  pub stood : HasStood first refused reloads events loaded left given own clients (kept_of runner servers)
+  pub marked : AreMarked events stood.come.log given reloads marks
+
+-- a script has come that far from these reloads
+abbrev pub LoadsInPart : List Bool → List Reload → ℕ → ℕ → ℕ → List ℕ → List ℕ → Runner → Type 0
+LoadsInPart refused reloads next shown before marks marks' old =
+    (first : Route) (events left : List Scripted) (given : List Shown) (clients : ℕ) (servers : ScriptServers) → left ≡ drop next events → shown ≡ length given
+    → HasStood first refused reloads events before left given marks clients (kept_of old servers)
+    → LoadsSome first refused reloads events left given marks' clients servers
+
+-- what was done until a fault of the servers or of memory
+pub record StopsPart (first : Route) (refused : List Bool) (reloads : List Reload) (events : List Scripted) (given : List Shown) (marks : List ℕ) (servers : ScriptServers) (fault : FleetFault) : Type 0 where
+  pub part : StepsPart first refused reloads events given marks servers
+  pub spent : fault ≡ Spent → AreSpentIn part.log
 
 -- the reload of this number comes before the event of this place
 abbrev pub IsDue : List Reload → ℕ → ℕ → Type 0

@@ -104,11 +104,3 @@ pub record World (events done : List Scripted) (log : List (Entry dialect)) (ser
   pub lead : LeadTo events deeds servers
   pub in_turn : AreInTurn deeds
   pub calls : map call_of (results_of deeds) ≡ calls_of (run_of log)
-
--- nothing was done, or there is the world of the events that were done, and what else the script says came later
-pub record HasWorld (events : List Scripted) (log : List (Entry dialect)) : Type 0 where
-  pub done : List Scripted
-  pub later : List Scripted
-  pub events_are : events ≡ done ++ later
-  pub servers : ScriptServers
-  pub world : World events done log servers

@@ -1,11 +1,13 @@
 //! One event of a script.
 
-ghost use Rattle.std.specs.Prelude.{◌≡◌, ◌<◌, ◌≤◌, pos, ◌≤ℤ◌, List, false, length, OnOk, OnErr};
+ghost use Rattle.std.specs.Prelude.{◌≡◌, ◌<◌, ◌≤◌, pos, ◌≤ℤ◌, List, false, length, IfErr, OnOk, OnErr};
+ghost use Rattle.memory_fleet.specs.declared.event.FleetFault.TheVariants.{NoMemory};
 ghost use Rattle.fleet_run.specs.Bad.{bad_in};
 ghost use Rattle.fleet_run.specs.Scripted.{Scripted, Now, Moment, loss_of, scripted_of, transcript_of};
 ghost use Rattle.script_servers.specs.Servers.{count_of};
+ghost use Rattle.core_run.specs.Breaking.{StopsFed};
 ghost use Rattle.core_run.specs.Running.{MovesFed, IsAtRest};
-ghost use Rattle.stepped_run.specs.Stepping.{FedBy, Befalls, IsHeard, RestsAfter, HandsOut, HandsOutAll, HandsSome};
+ghost use Rattle.stepped_run.specs.Stepping.{FedBy, FedInPart, Befalls, BreaksOff, IsHeard, RestsAfter, HandsOut, HandsOutAll, HandsSome};
 
 use core_run::Runner;
 use fleet_run::{Event, Output, PIECE_CUT, Transcript};
@@ -24,6 +26,7 @@ fn serve(
     ensures count { count_of servers.new ≡ count_of servers.old }
     ensures clients { OnOk result (runner.new.clients ≡ runner.old.clients) }
     ensures rest { OnOk result (IsAtRest runner.new) }
+    ensures err { IfErr result (λ fault. FedInPart client bytes.now runner.old servers.old fault servers.new) }
 {
     runner.feed(client, bytes)?;
     runner.settle_all(servers)
@@ -40,6 +43,7 @@ fn piece(
     ensures count { count_of servers.new ≡ count_of servers.old }
     ensures opened { OnOk result ((client < runner.new.clients) × (runner.old.clients ≤ runner.new.clients)) }
     ensures rest { OnOk result (IsAtRest runner.new) }
+    ensures err { IfErr result (λ fault. FedInPart client bytes.now runner.old servers.old fault servers.new) }
 {
     runner.open(client)?;
     let mut rest = bytes;
@@ -55,6 +59,7 @@ fn piece(
 fn add(runner: &mut Runner, client: usize, bytes: &[u8]) -> Result<(), FleetFault>
     ensures fed { OnOk result ((servers : ScriptServers) → MovesFed client bytes.now runner.old servers runner.new servers) }
     ensures opened { OnOk result ((client < runner.new.clients) × (runner.old.clients ≤ runner.new.clients)) }
+    ensures err { IfErr result (λ fault. StopsFed client bytes.now runner.old fault) }
 {
     runner.open(client)?;
     runner.add(client, bytes)
@@ -86,6 +91,7 @@ fn give(runner: &mut Runner, client: usize, transcript: &mut Transcript) -> Resu
     ensures err { OnErr result (transcript.new.shown.items ≡ transcript.old.shown.items) }
     ensures longer { length transcript.old.shown.items ≤ length transcript.new.shown.items }
     ensures clients { runner.new.clients ≡ runner.old.clients }
+    ensures fault { IfErr result (λ fault. fault ≡ NoMemory) }
 {
     let bytes = runner.take_output(client)?;
     let new = bytes.as_slice();
@@ -93,17 +99,18 @@ fn give(runner: &mut Runner, client: usize, transcript: &mut Transcript) -> Resu
         return Ok(());
     }
     let Ok(client) = u8::try_from(client) else {
-        return Err(FleetFault::Spent);
+        return Err(FleetFault::NoMemory);
     };
     Ok(transcript.shown.push(Output { client, bytes })?)
 }
 
-/// Each client is given its new output, in rising number. The errors are running out of memory, and `Spent` where a client has no
-/// number of 8 bits; what was handed out before stands in the transcript.
+/// Each client is given its new output, in rising number. The only error is running out of memory; what was handed out before stands in
+/// the transcript.
 pub fn give_all(runner: &mut Runner, transcript: &mut Transcript) -> Result<(), FleetFault>
     ensures ok { OnOk result (HandsOutAll (transcript_of transcript.old) (transcript_of transcript.new) runner.old runner.new) }
     ensures clients { OnOk result (runner.new.clients ≡ runner.old.clients) }
     ensures err { OnErr result (HandsSome (transcript_of transcript.old) (transcript_of transcript.new) runner.old) }
+    ensures fault { IfErr result (λ fault. fault ≡ NoMemory) }
     ensures longer { length transcript.old.shown.items ≤ length transcript.new.shown.items }
 {
     for client in 0..runner.clients() {
@@ -113,7 +120,7 @@ pub fn give_all(runner: &mut Runner, transcript: &mut Transcript) -> Result<(), 
 }
 
 /// What an event is to the clients and the servers, before anything is handed out; what it puts on servers is there already. The
-/// errors are running out of memory, and `Spent` where numbers are.
+/// errors are running out of memory, and `Spent` where numbers are; clients and servers are as far as they came.
 pub fn befall(
     runner: &mut Runner,
     servers: &mut ScriptServers,
@@ -124,6 +131,7 @@ pub fn befall(
     ensures count { count_of servers.new ≡ count_of servers.old }
     ensures heard { OnOk result (IsHeard (scripted_of event.now) runner.old runner.new) }
     ensures rest { OnOk result (RestsAfter (scripted_of event.now) runner.new) }
+    ensures err { IfErr result (λ fault. BreaksOff (scripted_of event.now) runner.old servers.old fault servers.new) }
 {
     match event {
         Event::Piece(client, bytes) => piece(runner, servers, *client as usize, bytes.as_slice()),

@@ -10,8 +10,8 @@ ghost use Rattle.fleet_run.specs.Reloads.{AreInOrder, is_refused};
 ghost use Rattle.fleet_run.specs.Scripted.{Scripted, scripted_of, transcript_of};
 ghost use Rattle.script_servers.specs.Servers.{IsNew, count_of};
 ghost use Rattle.core_run.specs.Running.{kept_of};
-ghost use Rattle.stepped_run.specs.Driving.{DrivesStepped, StepsPart, EndsStepped, AreMarks};
-ghost use Rattle.stepped_run.specs.Stepping.{HasStood, TakesUp, Loads, IsDue};
+ghost use Rattle.stepped_run.specs.Driving.{DrivesStepped, EndsStepped, AreMarks};
+ghost use Rattle.stepped_run.specs.Stepping.{HasStood, TakesUp, Loads, LoadsInPart, StopsPart, IsDue};
 
 use crate::events::{befall, give_all};
 use crate::holding::hold_all;
@@ -56,6 +56,7 @@ fn mark(marks: &mut Vec<usize>, shown: usize) -> Result<(), FleetFault>
 fn take_over(runner: &mut Runner, reload: &Reload, refused: bool) -> Result<(), FleetFault>
     ensures takes { OnOk result (TakesUp refused reload.now.config.tree runner.old runner.new) }
     ensures clients { runner.new.clients ≡ runner.old.clients }
+    ensures fault { IfErr result (λ fault. fault ≡ NoMemory) }
 {
     if refused {
         return Ok(());
@@ -83,6 +84,8 @@ fn load_due(
     ensures due { IfOk result (λ loaded. IsDue reloads.now loaded next → ⊥) }
     ensures marked { IfOk result (λ loaded. length marks.old.items ≡ before → length marks.new.items ≡ loaded) }
     ensures marks { AreMarks shown marks.old.items → AreMarks shown marks.new.items }
+    ensures err { OnErr result (LoadsInPart refused.now reloads.now next shown before marks.old.items marks.new.items runner.old) }
+    ensures fault { IfErr result (λ fault. fault ≡ NoMemory) }
 {
     standing_says();
     let mut loaded = before;
@@ -101,7 +104,7 @@ fn finish(
     transcript: &mut Transcript,
 ) -> Result<Report, FleetFault>
     ensures ok { IfOk result (λ report. (first : Route) (refused : List Bool) (reloads : List Reload) (events : List Scripted) (marks : List ℕ) → HasStood first refused reloads events (length reloads) [] (transcript_of transcript.old) marks runner.old.clients (kept_of runner.old servers.old) → DrivesStepped first refused reloads events (transcript_of transcript.new) marks report) }
-    ensures err { OnErr result ((first : Route) (refused : List Bool) (reloads : List Reload) (events : List Scripted) (marks : List ℕ) → HasStood first refused reloads events (length reloads) [] (transcript_of transcript.old) marks runner.old.clients (kept_of runner.old servers.old) → StepsPart first refused reloads events (transcript_of transcript.new)) }
+    ensures err { IfErr result (λ fault. (first : Route) (refused : List Bool) (reloads : List Reload) (events : List Scripted) (marks : List ℕ) → HasStood first refused reloads events (length reloads) [] (transcript_of transcript.old) marks runner.old.clients (kept_of runner.old servers.old) → StopsPart first refused reloads events (transcript_of transcript.new) marks servers.new fault) }
     ensures longer { length transcript.old.shown.items ≤ length transcript.new.shown.items }
 {
     standing_says();
@@ -129,7 +132,7 @@ fn drive_over(
     requires order { AreInOrder (length events.now) (count_of servers.old) 0 reloads.now }
     requires marks { marks.old.items ≡ [] }
     ensures ok { IfOk result (λ report. (first : Route) → HasStood first refused.now reloads.now (map scripted_of events.now) 0 (map scripted_of events.now) (transcript_of transcript.old) marks.old.items runner.old.clients (kept_of runner.old servers.old) → DrivesStepped first refused.now reloads.now (map scripted_of events.now) (transcript_of transcript.new) marks.new.items report) }
-    ensures err { OnErr result ((first : Route) → HasStood first refused.now reloads.now (map scripted_of events.now) 0 (map scripted_of events.now) (transcript_of transcript.old) marks.old.items runner.old.clients (kept_of runner.old servers.old) → StepsPart first refused.now reloads.now (map scripted_of events.now) (transcript_of transcript.new)) }
+    ensures err { IfErr result (λ fault. (first : Route) → HasStood first refused.now reloads.now (map scripted_of events.now) 0 (map scripted_of events.now) (transcript_of transcript.old) marks.old.items runner.old.clients (kept_of runner.old servers.old) → StopsPart first refused.now reloads.now (map scripted_of events.now) (transcript_of transcript.new) marks.new.items servers.new fault) }
     ensures marked { OnOk result (length marks.new.items ≡ length reloads.now) }
     ensures marks { AreMarks (length transcript.new.shown.items) marks.new.items }
 {
@@ -173,7 +176,7 @@ fn drive_events(
     requires transcript { transcript.old.shown.items ≡ [] }
     requires marks { marks.old.items ≡ [] }
     ensures ok { IfOk result (λ report. DrivesStepped config.now.tree refused.now reloads.now (map scripted_of script.now.events.items) (transcript_of transcript.new) marks.new.items report) }
-    ensures err { OnErr result (StepsPart config.now.tree refused.now reloads.now (map scripted_of script.now.events.items) (transcript_of transcript.new)) }
+    ensures err { IfErr result (StopsPart config.now.tree refused.now reloads.now (map scripted_of script.now.events.items) (transcript_of transcript.new) marks.new.items servers.new) }
     ensures marked { OnOk result (length marks.new.items ≡ length reloads.now) }
     ensures marks { AreMarks (length transcript.new.shown.items) marks.new.items }
 {
@@ -210,8 +213,9 @@ fn drive_fault(fault: FleetFault) -> DriveFault
 /// What is handed out stands in the transcript. Of each reload it notes how many outputs were there before it; the reloads stand in the
 /// order of their places, and there is a server for each of all configurations'.
 ///
-/// The error is `BadEvent` exactly where an event can't be, with the place of the first one, and then nothing has happened. After
-/// running out of memory, and after `Spent`, the transcript holds what was handed out before.
+/// The error is `BadEvent` exactly where an event can't be, with the place of the first one, and then nothing has happened: the servers
+/// are as they were. After running out of memory the transcript holds what was handed out before, and after `Spent` too, which comes only
+/// where none of the next 2^32 calls could be numbered, or 2^64 - 1 commands have begun.
 ///
 /// Source: mcgate's own.
 pub fn drive_stepped(
@@ -232,7 +236,7 @@ pub fn drive_stepped(
     requires marks { marks.old.items ≡ [] }
     ensures refuses { MatchResult result (λ _. first_bad (count_of servers.old) (map scripted_of script.now.events.items) ≡ None) (Refuses (count_of servers.old) script.now) }
     ensures ok { IfOk result (λ report. DrivesStepped config.now.tree refused.now reloads.now (map scripted_of script.now.events.items) (transcript_of transcript.new) marks.new.items report) }
-    ensures fault { IfErr result (λ fault. EndsStepped config.now.tree refused.now reloads.now (map scripted_of script.now.events.items) transcript.new marks.new.items fault) }
+    ensures fault { IfErr result (λ fault. EndsStepped config.now.tree refused.now reloads.now (map scripted_of script.now.events.items) transcript.new marks.new.items servers.old servers.new fault) }
     ensures marked { OnOk result (length marks.new.items ≡ length reloads.now) }
     ensures marks { AreMarks (length transcript.new.shown.items) marks.new.items }
 {

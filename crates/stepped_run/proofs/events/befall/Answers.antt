@@ -1,11 +1,16 @@
-use Rattle.std.proofs.Common.{refl, sym, ap, subst, List, ℕ}
+use Rattle.std.proofs.Common.{refl, sym, ap, ◌∙◌, subst, List, ℕ, Err, arith}
 use Rattle.fleet_run.specs.declared.script.Event.{Event}
-use Rattle.fleet_run.specs.Scripted.{manner_of, scripted_of}
+use Rattle.fleet_run.specs.Scripted.{Fail, At, loss_of, manner_of, scripted_of}
+use Rattle.memory_fleet.specs.declared.event.FleetFault.{FleetFault}
+use Rattle.script_servers.specs.Servers.{turn_of}
+use Rattle.core_run.specs.Breaking.{StopsFed}
 use Rattle.core_run.proofs.Running.{on_ok}
 use Rattle.core_run.specs.Running.{MovesFed}
 use Rattle.core_run.specs.declared.runner.Runner.{Runner}
-use Rattle.stepped_run.specs.Stepping.{FedBy, Befalls, IsHeard, RestsAfter}
+use Rattle.stepped_run.specs.Stepping.{FedBy, FedInPart, Befalls, BreaksOff, IsHeard, RestsAfter}
 use Rattle.stepped_run.proofs.Steps.{heard_of, heard_more, piece_said, add_said, result_asked, held_before, named, loss_named}
+use Rattle.core_run.proofs.Breaking.{err_weaker}
+use Rattle.stepped_run.proofs.Broken.{if_err, named_late, piece_breaks, add_breaks, result_breaks, nothing_breaks}
 use Rattle.stepped_run.proofs.events.befall.Goals as goal
 
 pub returns-in-Piece-clause-ok : goal.returns-in-Piece-clause-ok
@@ -105,3 +110,40 @@ returns-in-Now-clause-rest c = subst (λ (e : Event). RestsAfter (scripted_of e)
 
 pub returns-in-Moment-clause-rest : goal.returns-in-Moment-clause-rest
 returns-in-Moment-clause-rest c = subst (λ (e : Event). RestsAfter (scripted_of e) c.args.runner.now) (sym c.in-Moment.is) (tt)
+
+pub returns-in-Piece-clause-err : goal.returns-in-Piece-clause-err
+returns-in-Piece-clause-err c =
+    err_weaker c.piece.result _ _
+    (λ fault h. subst (λ (e : Event). BreaksOff (scripted_of e) c.args.runner.now c.args.servers.now fault c.piece.new.servers) (sym c.in-Piece.is)
+    (piece_breaks c.in-Piece.client c.in-Piece.bytes.items c.args.runner.now c.args.servers.now c.piece.new.servers fault
+    (subst (λ (l : List ℕ). FedInPart c.in-Piece.client l c.args.runner.now c.args.servers.now fault c.piece.new.servers) c.as_slice.ensures.value h)))
+    c.piece.ensures.err
+
+pub returns-in-Add-clause-err : goal.returns-in-Add-clause-err
+returns-in-Add-clause-err c =
+    err_weaker c.add.result _ _
+    (λ fault h. subst (λ (e : Event). BreaksOff (scripted_of e) c.args.runner.now c.args.servers.now fault c.args.servers.now) (sym c.in-Add.is)
+    (add_breaks c.in-Add.client c.in-Add.bytes.items c.args.runner.now c.args.servers.now fault
+    (subst (λ (l : List ℕ). StopsFed c.in-Add.client l c.args.runner.now fault) c.as_slice-in-Add.ensures.value h)))
+    c.add.ensures.err
+
+pub returns-in-Result-clause-err : goal.returns-in-Result-clause-err
+returns-in-Result-clause-err c =
+    err_weaker c.settle_first.result _ _
+    (λ fault h. subst (λ (e : Event). BreaksOff (scripted_of e) c.args.runner.now c.args.servers.now fault c.settle_first.new.servers) (sym c.in-Result.is)
+    (result_breaks c.in-Result.server c.args.runner.now c.args.servers.now c.settle_first.new.servers fault h))
+    c.settle_first.ensures.err
+
+pub returns-in-Fail-clause-err : goal.returns-in-Fail-clause-err
+returns-in-Fail-clause-err c =
+    if_err c.fail.result _
+    (λ fault is. subst (λ (e : Event). BreaksOff (scripted_of e) c.args.runner.now c.args.servers.now fault c.fail.new.self) (sym c.in-Fail.is)
+    (nothing_breaks (Fail c.in-Fail.turn (manner_of c.in-Fail.manner)) refl c.args.runner.now c.args.servers.now c.fail.new.self fault (ap turn_of c.fail.ensures.rest)
+    (named_late fault c.args.runner.now.core c.args.servers.now c.in-Fail.turn (omega arith) (λ spent. c.fail.ensures.spent.0 (is ∙ ap (λ (f : FleetFault). Err f) spent)))))
+
+pub returns-in-At-clause-err : goal.returns-in-At-clause-err
+returns-in-At-clause-err c =
+    if_err c.lose_at.result _
+    (λ fault is. subst (λ (e : Event). BreaksOff (scripted_of e) c.args.runner.now c.args.servers.now fault c.lose_at.new.self) (sym c.in-At.is)
+    (nothing_breaks (At c.in-At.turn (loss_of c.in-At.loss)) refl c.args.runner.now c.args.servers.now c.lose_at.new.self fault (ap turn_of c.lose_at.ensures.rest)
+    (named_late fault c.args.runner.now.core c.args.servers.now c.in-At.turn (omega arith) (λ spent. c.lose_at.ensures.spent.0 (is ∙ ap (λ (f : FleetFault). Err f) spent)))))

@@ -1,7 +1,9 @@
-use Rattle.std.proofs.Common.{◌<◌, ◌≤◌, ◌++◌, ℕ, List, [], refl, sym, ◌∙◌, subst}
+use Rattle.std.proofs.Common.{◌<◌, ◌≤◌, ◌++◌, ℕ, List, [], refl, sym, ap, ◌∙◌, subst, append_assoc, append-nil}
 use Rattle.stepped_run.specs.Stepping.{FedBy}
 use Rattle.core_run.proofs.Running.{on_ok}
 use Rattle.stepped_run.proofs.Steps.{nothing_fed, fed_more, cut_joins}
+use Rattle.core_run.proofs.Breaking.{passed, err_weaker}
+use Rattle.stepped_run.proofs.Broken.{none_in_part, fed_in_part}
 use Rattle.stepped_run.proofs.events.piece.Goals as goal
 
 pub loop-rest-init : goal.loop-rest-init
@@ -36,3 +38,24 @@ returns-clause-ok c =
 pub returns-clause-opened : goal.returns-clause-opened
 returns-clause-opened c =
     on_ok c.serve-2.result _ _ (λ e. subst (λ (n : ℕ). (c.args.client < n) × (c.args.runner.now.clients ≤ n)) (sym e) c.loop-rest.invariant.opened) c.serve-2.ensures.clients
+
+pub returns-in_err-open-clause-err : goal.returns-in_err-open-clause-err
+returns-in_err-open-clause-err c =
+    passed c.from_residual.result _ _ c.from_residual.ensures.1 (none_in_part c.args.client c.args.bytes.now c.args.runner.now c.args.servers.now _ c.in_err-open.ensures.fault)
+
+pub returns-in_err-serve-clause-err : goal.returns-in_err-serve-clause-err
+returns-in_err-serve-clause-err c =
+    let v = c.loop-rest.invariant in
+    let cut = c.split_at.result.0.now in
+    let more = c.split_at.result.1.now in
+    passed c.from_residual-in_err-serve.result _ _ c.from_residual-in_err-serve.ensures.1
+    (fed_in_part c.args.client c.args.bytes.now v.fed.0 cut more c.args.runner.now c.loop-rest.runner c.args.servers.now c.loop-rest.servers c.serve.new.servers _
+    (cut_joins c.args.bytes.now v.fed.0 c.loop-rest.rest.now cut more 65536 v.fed.1 c.split_at.ensures.front c.split_at.ensures.back ∙ append_assoc v.fed.0 cut more) v.fed.2 c.in_err-serve.ensures.err)
+
+pub returns-clause-err : goal.returns-clause-err
+returns-clause-err c =
+    let v = c.loop-rest.invariant in
+    err_weaker c.serve-2.result _ _
+    (λ fault h. fed_in_part c.args.client c.args.bytes.now v.fed.0 c.loop-rest.rest.now [] c.args.runner.now c.loop-rest.runner c.args.servers.now c.loop-rest.servers c.serve-2.new.servers fault
+    (v.fed.1 ∙ ap (λ (l : List ℕ). v.fed.0 ++ l) (sym (append-nil c.loop-rest.rest.now))) v.fed.2 h)
+    c.serve-2.ensures.err

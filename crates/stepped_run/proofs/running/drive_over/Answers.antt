@@ -1,17 +1,18 @@
-use Rattle.std.proofs.Common.{◌≡◌, ℕ, List, length, map, take, drop, false, refl, sym, ap, ◌∙◌, subst, arith}
+use Rattle.std.proofs.Common.{◌≡◌, ℕ, ◌+◌, List, length, map, take, drop, false, refl, sym, ap, ◌∙◌, subst, arith}
 use Rattle.std.proofs.lemmas.Result.{IfOk-weaker}
 use Rattle.fleet_run.specs.declared.script.Output.{Output}
 use Rattle.fleet_run.specs.Bad.{bad_in}
 use Rattle.fleet_run.specs.Reloads.{AreInOrder}
 use Rattle.fleet_run.specs.Scripted.{scripted_of, shown_by, transcript_of}
 use Rattle.fleet_run.proofs.BadEvents.{good_here, not_here}
-use Rattle.fleet_run.proofs.Driven.{on_err}
 use Rattle.script_servers.specs.Servers.{count_of}
 use Rattle.core_run.specs.Running.{kept_of}
 use Rattle.fleet_run.specs.declared.script.Transcript.{Transcript}
-use Rattle.std.proofs.lemmas.List.{length-map}
-use Rattle.stepped_run.proofs.Come.{all_came, marks_on, marks_none, on_err_as, on_ok_so}
-use Rattle.stepped_run.proofs.Stood.{part_stood, event_next, event_broken, stood_last}
+use Rattle.std.proofs.lemmas.List.{length-map, drop-map}
+use Rattle.stepped_run.proofs.Come.{all_came, marks_on, marks_none, on_ok_so}
+use Rattle.core_run.proofs.Breaking.{passed, err_weaker}
+use Rattle.stepped_run.proofs.Broken.{stops_between, stops_within, stops_handing}
+use Rattle.stepped_run.proofs.Stood.{due, event_next, stood_last}
 use Rattle.stepped_run.proofs.running.drive_over.Goals as goal
 
 -- so many outputs are in the transcript
@@ -36,8 +37,13 @@ pub returns-in_err-loaded-clause-err : goal.returns-in_err-loaded-clause-err
 returns-in_err-loaded-clause-err c =
     let v = c.loop-next.invariant in
     let xs = c.args.events.now in
-    on_err c.from_residual.result
-    (λ first h. part_stood first c.args.refused.now c.args.reloads.now (map scripted_of xs) c.standing_says.ensures c.loop-next.loaded (map scripted_of (drop c.loop-next.next xs)) (transcript_of c.loop-next.transcript) c.loop-next.marks.items c.loop-next.runner.clients (kept_of c.loop-next.runner c.loop-next.servers) v.within (v.stood first h))
+    let i = c.loop-next.next in
+    let given = transcript_of c.loop-next.transcript in
+    let e = c.in_err-loaded.ensures in
+    passed c.from_residual.result _ _ c.from_residual.ensures.1
+    (λ first h. stops_between first c.args.refused.now c.args.reloads.now (map scripted_of xs) c.standing_says.ensures (map scripted_of (drop i xs)) given c.load_due.new.marks.items c.loop-next.runner.clients c.loop-next.servers _
+    (e.err first (map scripted_of xs) (map scripted_of (drop i xs)) given c.loop-next.runner.clients c.loop-next.servers (sym (drop-map scripted_of i xs)) (shown_all c.loop-next.transcript c.as_slice-shown.result.now c.as_slice-shown.ensures.value) (v.stood first h))
+    e.fault)
 
 pub befall-requires : goal.befall-requires
 befall-requires c =
@@ -53,16 +59,27 @@ pub returns-in_err-befall-clause-err : goal.returns-in_err-befall-clause-err
 returns-in_err-befall-clause-err c =
     let v = c.loop-next.invariant in
     let xs = c.args.events.now in
-    on_err c.from_residual-in_err-befall.result
-    (λ first h. part_stood first c.args.refused.now c.args.reloads.now (map scripted_of xs) c.standing_says.ensures c.loop-next.loaded (map scripted_of (drop c.loop-next.next xs)) (transcript_of c.loop-next.transcript) c.loop-next.marks.items c.loop-next.runner.clients (kept_of c.loop-next.runner c.loop-next.servers) v.within (v.stood first h))
+    let i = c.loop-next.next in
+    let x = c.index-events-next.result in
+    let given = transcript_of c.loop-next.transcript in
+    passed c.from_residual-in_err-befall.result _ _ c.from_residual-in_err-befall.ensures.1
+    (λ first h. stops_within first c.args.refused.now c.args.reloads.now (map scripted_of xs) c.standing_says.ensures c.in_ok-loaded.loaded (scripted_of x) (map scripted_of (drop (i + 1) xs)) given c.load_due.new.marks.items c.load_due.new.runner c.loop-next.servers c.befall.new.servers _
+    c.in_ok-loaded.ensures.within c.in_err-befall.ensures.err
+    (due first c.args.refused.now c.args.reloads.now xs i (length c.as_slice-shown.result.now) c.loop-next.loaded c.in_ok-loaded.loaded x given c.loop-next.marks.items c.load_due.new.marks.items c.loop-next.runner c.load_due.new.runner c.loop-next.servers
+    c.loop-next-test.true c.index-events-next.is (shown_all c.loop-next.transcript c.as_slice-shown.result.now c.as_slice-shown.ensures.value) c.in_ok-loaded.ensures.clients c.in_ok-loaded.ensures.ok (v.stood first h)))
 
 pub returns-in_err-give_all-clause-err : goal.returns-in_err-give_all-clause-err
 returns-in_err-give_all-clause-err c =
     let v = c.loop-next.invariant in
-    on_err c.from_residual-in_err-give_all.result
-    (λ first h. event_broken first c.args.refused.now c.args.reloads.now c.args.events.now c.standing_says.ensures c.loop-next.next (length c.as_slice-shown.result.now) c.loop-next.loaded c.in_ok-loaded.loaded c.index-events-next.result
-    (transcript_of c.loop-next.transcript) (transcript_of c.give_all.new.transcript) c.loop-next.marks.items c.load_due.new.marks.items c.loop-next.runner c.load_due.new.runner c.befall.new.runner c.loop-next.servers c.befall.new.servers c.loop-next-test.true c.index-events-next.is
-    (shown_all c.loop-next.transcript c.as_slice-shown.result.now c.as_slice-shown.ensures.value) c.in_ok-loaded.ensures.clients c.in_ok-loaded.ensures.within c.in_ok-loaded.ensures.ok c.in_ok-befall.ensures.ok c.in_err-give_all.ensures.err (v.stood first h))
+    let xs = c.args.events.now in
+    let i = c.loop-next.next in
+    let x = c.index-events-next.result in
+    let given = transcript_of c.loop-next.transcript in
+    passed c.from_residual-in_err-give_all.result _ _ c.from_residual-in_err-give_all.ensures.1
+    (λ first h. stops_handing first c.args.refused.now c.args.reloads.now (map scripted_of xs) c.standing_says.ensures c.in_ok-loaded.loaded (scripted_of x) (map scripted_of (drop (i + 1) xs)) given (transcript_of c.give_all.new.transcript) c.load_due.new.marks.items
+    c.load_due.new.runner c.befall.new.runner c.loop-next.servers c.befall.new.servers _ c.in_ok-loaded.ensures.within c.in_ok-befall.ensures.ok c.in_err-give_all.ensures.err c.in_err-give_all.ensures.fault
+    (due first c.args.refused.now c.args.reloads.now xs i (length c.as_slice-shown.result.now) c.loop-next.loaded c.in_ok-loaded.loaded x given c.loop-next.marks.items c.load_due.new.marks.items c.loop-next.runner c.load_due.new.runner c.loop-next.servers
+    c.loop-next-test.true c.index-events-next.is (shown_all c.loop-next.transcript c.as_slice-shown.result.now c.as_slice-shown.ensures.value) c.in_ok-loaded.ensures.clients c.in_ok-loaded.ensures.ok (v.stood first h)))
 
 pub loop-next-preserved : goal.loop-next-preserved
 loop-next-preserved c =
@@ -98,8 +115,15 @@ pub returns-in_err-_all-clause-err : goal.returns-in_err-_all-clause-err
 returns-in_err-_all-clause-err c =
     let v = c.loop-next.invariant in
     let xs = c.args.events.now in
-    on_err c.from_residual-in_err-_all.result
-    (λ first h. part_stood first c.args.refused.now c.args.reloads.now (map scripted_of xs) c.standing_says.ensures c.loop-next.loaded (map scripted_of (drop c.loop-next.next xs)) (transcript_of c.loop-next.transcript) c.loop-next.marks.items c.loop-next.runner.clients (kept_of c.loop-next.runner c.loop-next.servers) v.within (v.stood first h))
+    let i = c.loop-next.next in
+    let given = transcript_of c.loop-next.transcript in
+    let e = c.in_err-_all.ensures in
+    let end : i ≡ length xs = omega arith in
+    passed c.from_residual-in_err-_all.result _ _ c.from_residual-in_err-_all.ensures.1
+    (λ first h. stops_between first c.args.refused.now c.args.reloads.now (map scripted_of xs) c.standing_says.ensures (map scripted_of (drop i xs)) given c.load_due-2.new.marks.items c.loop-next.runner.clients c.loop-next.servers _
+    (e.err first (map scripted_of xs) (map scripted_of (drop i xs)) given c.loop-next.runner.clients c.loop-next.servers (sym (drop-map scripted_of i xs) ∙ ap (λ (n : ℕ). drop n (map scripted_of xs)) end)
+    (shown_all c.loop-next.transcript c.as_slice-shown-2.result.now c.as_slice-shown-2.ensures.value) (v.stood first h))
+    e.fault)
 
 pub returns-clause-ok : goal.returns-clause-ok
 returns-clause-ok c =
@@ -123,8 +147,8 @@ returns-clause-err c =
     let e = c.in_ok-_all.ensures in
     let end : c.loop-next.next ≡ length xs = omega arith in
     let all = all_came (length xs) (count_of c.args.servers.now) 0 reloads c.in_ok-_all._all c.requires.order e.within e.due in
-    on_err_as c.finish.result _ _
-    (λ d first h. d first c.args.refused.now reloads (map scripted_of xs) c.load_due-2.new.marks.items
+    err_weaker c.finish.result _ _
+    (λ fault d first h. d first c.args.refused.now reloads (map scripted_of xs) c.load_due-2.new.marks.items
     (stood_last first c.args.refused.now reloads xs c.loop-next.next (length c.as_slice-shown-2.result.now) c.loop-next.loaded c.in_ok-_all._all (transcript_of c.loop-next.transcript) c.loop-next.marks.items c.load_due-2.new.marks.items c.loop-next.runner c.load_due-2.new.runner c.loop-next.servers end all
     (shown_all c.loop-next.transcript c.as_slice-shown-2.result.now c.as_slice-shown-2.ensures.value) e.clients e.ok (v.stood first h)))
     c.finish.ensures.err

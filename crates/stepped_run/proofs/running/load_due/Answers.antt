@@ -1,8 +1,10 @@
 use Rattle.std.proofs.Common.{◌≡◌, ℕ, ◌+◌, drop, refl, ◌∙◌, subst, arith}
 use Rattle.fleet_run.specs.Reloads.{AreInOrder}
+use Rattle.fleet_run.proofs.Driven.{on_err}
 use Rattle.fleet_run.proofs.Due.{due_at, order_at, order_on}
 use Rattle.stepped_run.proofs.Come.{at_place, mark_more, mark_count}
 use Rattle.stepped_run.proofs.Stood.{loads_stay, loads_then, loads_one}
+use Rattle.stepped_run.proofs.Broken.{loads_some, loads_marked}
 use Rattle.stepped_run.proofs.running.load_due.Goals as goal
 
 pub loop-marks-init : goal.loop-marks-init
@@ -35,3 +37,18 @@ returns-clause-order c end servers h =
 
 pub returns-clause-clients : goal.returns-clause-clients
 returns-clause-clients c = c.loop-marks.invariant.clients
+
+pub returns-in_err-mark-clause-err : goal.returns-in_err-mark-clause-err
+returns-in_err-mark-clause-err c =
+    on_err c.from_residual.result
+    (loads_some c.args.refused.now c.args.reloads.now c.args.next c.args.shown c.args.before c.loop-marks.loaded c.args.marks.now.items c.loop-marks.marks.items c.mark.new.marks.items c.args.runner.now c.loop-marks.runner c.loop-marks.invariant.within c.in_err-mark.ensures.err c.loop-marks.invariant.loads)
+
+pub returns-in_err-take_over-clause-err : goal.returns-in_err-take_over-clause-err
+returns-in_err-take_over-clause-err c =
+    let v = c.loop-marks.invariant in
+    let n = c.loop-marks.loaded in
+    let r = c.index-reloads-loaded.result in
+    let due = c.is_due.ensures.0 c.loop-marks-test.true in
+    let place : r.at ≡ c.args.next = due_at c.requires.order.0 c.requires.order.1 n c.args.next c.args.reloads.now r due c.index-reloads-loaded.is (v.order c.requires.order.0 c.requires.order.1 c.requires.order.2) in
+    on_err c.from_residual-in_err-take_over.result
+    (loads_marked c.args.refused.now c.args.reloads.now c.args.next c.args.shown c.args.before n c.args.marks.now.items c.loop-marks.marks.items c.mark.new.marks.items c.args.runner.now c.loop-marks.runner r place (at_place c.args.reloads.now n r due.0 c.index-reloads-loaded.is) c.in_ok-mark.ensures.ok v.within v.loads)

@@ -1,5 +1,7 @@
 use Rattle.std.proofs.Common.{refl, ◌∙◌}
+use Rattle.memory_fleet.specs.declared.event.FleetFault.TheVariants.{NoMemory}
 use Rattle.core_run.proofs.Running.{stays, then}
+use Rattle.core_run.proofs.Breaking.{passed, stops_here, stops_then}
 use Rattle.core_run.proofs.runner.Runner.poll_all.Goals as goal
 
 pub loop-round-init : goal.loop-round-init
@@ -22,3 +24,10 @@ returns-in-Waits-clause-moves c = λ s. then c.args.self.now c.loop-round.self c
 
 pub returns-in-Waits-clause-clients : goal.returns-in-Waits-clause-clients
 returns-in-Waits-clause-clients c = c.in_ok-progress.ensures.clients ∙ c.loop-round.invariant.clients
+
+pub returns-in_err-progress-clause-err : goal.returns-in_err-progress-clause-err
+returns-in_err-progress-clause-err c =
+    passed c.from_residual.result _ _ c.from_residual.ensures.1 (stops_then c.args.self.now c.loop-round.self _ c.loop-round.invariant.moves c.in_err-progress.ensures.err)
+
+pub returns-clause-err : goal.returns-clause-err
+returns-clause-err c = stops_here c.args.self.now c.loop-round.self NoMemory c.loop-round.invariant.moves tt

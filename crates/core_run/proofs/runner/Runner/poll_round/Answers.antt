@@ -2,6 +2,7 @@ use Rattle.std.proofs.Common.{◌≡◌, refl, sym, ◌∙◌, subst, arith}
 use Rattle.core_run.specs.Running.{AreIdle, IsIdle}
 use Rattle.core_run.specs.declared.runner.Runner.{Runner}
 use Rattle.core_run.proofs.Running.{stays, then, one_more_idle}
+use Rattle.core_run.proofs.Breaking.{passed, stops_here}
 use Rattle.core_run.proofs.runner.Runner.poll_round.Goals as goal
 
 pub loop-client-init : goal.loop-client-init
@@ -33,3 +34,7 @@ returns-clause-idle c = λ e.
     let all : c.loop-client.client ≡ c.args.self.now.clients = omega arith in
     let each : AreIdle c.args.self.now = λ n lt. (v.idle e).1 n (omega (arith, lt, all)) in
     subst AreIdle (sym (v.idle e).0) each
+
+pub returns-in_err-one-clause-err : goal.returns-in_err-one-clause-err
+returns-in_err-one-clause-err c =
+    passed c.from_residual.result _ _ c.from_residual.ensures.1 (stops_here c.args.self.now c.loop-client.self _ c.loop-client.invariant.moves c.in_err-one.ensures.spent)
