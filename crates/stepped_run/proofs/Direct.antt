@@ -8,6 +8,7 @@ use Rattle.mc_runs.specs.Log.{Shown}
 use Rattle.mc_runs.specs.Overlap.{Entry, run_of}
 use Rattle.mc_runs.specs.Run.{Call}
 use Rattle.mc_runs.specs.Sharing.{AreAlone, IsFreshByNumber}
+use Rattle.mc_runs.specs.SharingStale.{stale_in}
 use Rattle.mc_runs.specs.Single.{server_words}
 use Rattle.mc_runs.proofs.Covered.{single_covered}
 use Rattle.mc_runs.proofs.SharingFresh.{fresh_by_number}
@@ -49,32 +50,39 @@ pub fresh_where_direct :
     → Says opening (tree_by tree []) log k → IsFreshByNumber opening (run_of log) × (k.stale ≡ 0)
 fresh_where_direct law opening tree log k direct says = says.fresh (covered_where_direct law tree direct)
 
+-- so it is where no tree was loaded later
+pub fresh_unloaded :
+    DirectIsOneServer → (opening : ℕ → List ℕ → Option Item) (tree : Route) (loads : List (ℕ × Route)) (log : List (Entry dialect)) (k : Kept) → is_direct tree ≡ true → loads ≡ []
+    → Says opening (tree_by tree loads) log k → IsFreshByNumber opening (run_of log) × (k.stale ≡ 0)
+fresh_unloaded law opening tree loads log k direct none says = fresh_where_direct law opening tree log k direct (subst (λ (l : List (ℕ × Route)). Says opening (tree_by tree l) log k) none says)
+
 -- ---- scripts without reloads
 
 -- each command has its key alone
 alone : (plans : ℕ → List ℕ → Plan) → AreAlone (bars_by Alone plans)
 alone plans number other ask client same = (refl, refl)
 
-module _ (law : DirectIsOneServer) (tree : Route) (refused : List Bool) (events : List Scripted) (direct : is_direct tree ≡ true) where
-  run_fresh : (loads : List (ℕ × Route)) (log : List (Entry dialect)) → loads ≡ [] → RunsBy tree loads events log → IsFreshByNumber (opening_of events) (run_of log)
-  run_fresh loads log none run =
-      let plans : ℕ → List ℕ → Plan = λ n key. tree_at tree key in
-      fresh_by_number (tree_words plans) (bars_by Alone plans) (covered_where_direct law tree direct) (alone plans) (opening_of events) (run_of log) (subst (λ (l : List (ℕ × Route)). RunsBy tree l events log) none run)
+module _ (refused : List Bool) (events : List Scripted) where
+  -- of no reloads none came
+  pub none_loaded : (loaded : ℕ) (loads : List (ℕ × Route)) (log : List (Entry dialect)) → loaded ≤ 0 → CameInTurn refused [] events log loaded loads → loads ≡ []
+  none_loaded zero loads log within turn = turn
+  none_loaded (suc n) loads log within turn = absurd (omega (arith, within))
 
-  -- what such a script drives
-  pub drives_fresh :
-      (given : List Shown) (marks : List ℕ) (report : Report) → (d : DrivesStepped tree refused [] events given marks report) → IsFreshByNumber (opening_of events) (run_of d.log) × (report.stale ≡ 0)
-  drives_fresh given marks report d =
-      let plans : ℕ → List ℕ → Plan = λ n key. tree_at (tree_by tree d.loads n) key in
-      let fresh : IsFreshByNumber (opening_of events) (run_of d.log) = run_fresh d.loads d.log d.in_turn d.run in (
-        fresh,
-        d.stale ∙ (counts_stale (tree_words plans) (bars_by Alone plans) (opening_of events) (alone plans)).none (run_of d.log) d.run fresh,
-      )
+  module _ (law : DirectIsOneServer) (tree : Route) (direct : is_direct tree ≡ true) where
+    -- a run of such a script is fresh, and has no stale reply
+    pub run_fresh : (loads : List (ℕ × Route)) (log : List (Entry dialect)) → loads ≡ [] → RunsBy tree loads events log → IsFreshByNumber (opening_of events) (run_of log) × (stale_in (opening_of events) (run_of log) ≡ 0)
+    run_fresh loads log none run =
+        let plans : ℕ → List ℕ → Plan = λ n key. tree_at tree key in
+        let alone_run = subst (λ (l : List (ℕ × Route)). RunsBy tree l events log) none run in
+        let fresh : IsFreshByNumber (opening_of events) (run_of log) =
+        fresh_by_number (tree_words plans) (bars_by Alone plans) (covered_where_direct law tree direct) (alone plans) (opening_of events) (run_of log) alone_run in
+        (fresh, (counts_stale (tree_words plans) (bars_by Alone plans) (opening_of events) (alone plans)).none (run_of log) alone_run fresh)
 
-  none_loaded : (loaded : ℕ) (loads : List (ℕ × Route)) (log : List (Entry dialect)) → loaded ≤ 0 → CameInTurn refused [] events log loaded loads → loads ≡ []
-  none_loaded zero loads log none turn = turn
-  none_loaded (suc n) loads log none turn = absurd (omega (arith, none))
+    -- so is what it drives
+    pub drives_fresh :
+        (given : List Shown) (marks : List ℕ) (report : Report) → (d : DrivesStepped tree refused [] events given marks report) → IsFreshByNumber (opening_of events) (run_of d.log) × (report.stale ≡ 0)
+    drives_fresh given marks report d = let fresh = run_fresh d.loads d.log d.in_turn d.run in (fresh.0, d.stale ∙ fresh.1)
 
-  -- what it did until a fault
-  pub part_fresh : (given : List Shown) → (p : StepsPart tree refused [] events given) → IsFreshByNumber (opening_of events) (run_of p.log)
-  part_fresh given p = run_fresh p.loads p.log (none_loaded p.loaded p.loads p.log p.within p.in_turn) p.run
+    -- and what it did until a fault
+    pub part_fresh : (given : List Shown) → (p : StepsPart tree refused [] events given) → IsFreshByNumber (opening_of events) (run_of p.log)
+    part_fresh given p = (run_fresh p.loads p.log (none_loaded p.loaded p.loads p.log p.within p.in_turn) p.run).0
