@@ -1,5 +1,5 @@
 -- In a log of overlapping commands each command that began has had its reply, or is under way, unless it was broken off; and none is broken off where no client was ever dropped.
-use Rattle.std.proofs.Common.{◌≡◌, ℕ, zero, suc, ◌+◌, ◌<◌, ◌≤◌, Bool, true, false, cond, List, [], ◌∷◌, ◌++◌, Option, Some, None, inl, inr, refl, sym, ap, ◌∙◌, subst, arith, nat_eq}
+use Rattle.std.proofs.Common.{◌≡◌, ℕ, zero, suc, ◌+◌, ◌<◌, ◌≤◌, Bool, true, false, cond, List, [], ◌∷◌, ◌++◌, Option, Some, None, inl, inr, refl, sym, ap, ◌∙◌, arith, nat_eq}
 use Rattle.std.proofs.lemmas.Bool.{cases_lt, eqb-true, eq-eqb, ne_eqb}
 use Rattle.mc_types.specs.declared.ask.Ask.{Ask}
 use Rattle.mc_types.specs.Items.{Item}
@@ -89,6 +89,14 @@ held_before false o x e = e
 differ : (b : Bool) → b ≡ true → b ≡ false → ⊥
 differ b on off = cc
 
+module _ {P : Protocol} where
+  -- no client was dropped at any time
+  abbrev pub IsServedAlways : List (Entry P) → Type 0
+  IsServedAlways log = (newer older : List (Entry P)) → log ≡ newer ++ older → (c : ℕ) → is_dropped older c ≡ false
+
+  served_before : (entry : Entry P) (log : List (Entry P)) → IsServedAlways (entry ∷ log) → IsServedAlways log
+  served_before entry log served = λ newer older is c. served (entry ∷ newer) older (ap (λ l. entry ∷ l) is) c
+
 module _ {P : Protocol} (words : Words) (Bars : ℕ → Ask → ℕ → Ask → Type 0) (opening : ℕ → List ℕ → Option Item) where
   -- who has an owner began
   pub owned_within : (log : List (Entry P)) → Follows words Bars opening log → (n : ℕ) (x : Owner) → owner_of log n ≡ Some x → (1 ≤ n) × (n ≤ commands_in (run_of log))
@@ -159,12 +167,9 @@ module _ {P : Protocol} (words : Words) (Bars : ℕ → Ask → ℕ → Ask → 
       let none = none_owned (owner_of log) (commands_in (run_of log)) free in
       omega (arith, all, none)
 
-  -- no client was dropped at any time
-  abbrev pub IsServedAlways : List (Entry P) → Type 0
-  IsServedAlways log = (newer older : List (Entry P)) → log ≡ newer ++ older → (c : ℕ) → is_dropped older c ≡ false
-
-  served_before : (entry : Entry P) (log : List (Entry P)) → IsServedAlways (entry ∷ log) → IsServedAlways log
-  served_before entry log served = λ newer older is c. served (entry ∷ newer) older (ap (λ l. entry ∷ l) is) c
+  -- where none was broken off either, each has had its reply
+  pub replied_unbroken : (log : List (Entry P)) → Follows words Bars opening log → broken_in (run_of log) ≡ 0 → ((n : ℕ) → owner_of log n ≡ None) → commands_in (run_of log) ≡ replied_in (run_of log)
+  replied_unbroken log f none free = let all = all_over log f free in omega (arith, all, none)
 
   -- where none was, no command was broken off
   pub none_broken : (log : List (Entry P)) → Follows words Bars opening log → IsServedAlways log → broken_in (run_of log) ≡ 0
@@ -190,7 +195,4 @@ module _ {P : Protocol} (words : Words) (Bars : ℕ → Ask → ℕ → Ask → 
 
   -- so each command that began has had its reply where no client was dropped at any time and no command is under way
   pub all_replied : (log : List (Entry P)) → Follows words Bars opening log → IsServedAlways log → ((n : ℕ) → owner_of log n ≡ None) → commands_in (run_of log) ≡ replied_in (run_of log)
-  all_replied log f served free =
-      let all = all_over log f free in
-      let none = none_broken log f served in
-      omega (arith, all, none)
+  all_replied log f served free = replied_unbroken log f (none_broken log f served) free
