@@ -5,35 +5,22 @@ use Rattle.std.proofs.Math.Seq.{drop-cons}
 use Rattle.std.proofs.lemmas.Bool.{ltb-true, lt-ltb}
 use Rattle.std.proofs.lemmas.List.{map-append, take_more}
 use Rattle.std.proofs.lemmas.Option.{slice_get_within}
-use Rattle.mc_runs.specs.Run.{IsFresh}
-use Rattle.mc_runs.specs.Log.{Shown, run_of}
-use Rattle.mc_runs.specs.Freshness.{RunsAreFresh}
-use Rattle.mc_runs.proofs.LogRuns.{runs}
-use Rattle.mc_runs.proofs.LogStale.{fresh_has_none}
 use Rattle.route_tree.specs.Route.{Route}
 use Rattle.route_json.specs.Configuration.{Configuration}
 use Rattle.route_json.specs.Servers.{Addresses}
 use Rattle.fresh_gate.specs.Reload.{AreKept, KeepsNumbers, IsReloadFault}
 use Rattle.fresh_gate.specs.declared.reloading.ReloadFault.{ReloadFault}
 use Rattle.fresh_gate.specs.declared.reloading.ReloadFault.TheVariants as faults
-use Rattle.fresh_gate.specs.Sound.{AreGenerations, GenerationsAreFresh, IsLast, trees_of}
-use Rattle.memory_fleet.specs.declared.fleet.MemoryFleet.{MemoryFleet}
+use Rattle.fresh_gate.specs.Sound.{IsLast, trees_of}
 use Rattle.fleet_run.specs.declared.script.Reload.{Reload}
-use Rattle.fleet_run.specs.declared.script.Report.{Report}
-use Rattle.fleet_run.specs.declared.script.Transcript.{Transcript}
-use Rattle.fleet_run.specs.declared.script.DriveFault.{DriveFault}
-use Rattle.fleet_run.specs.declared.script.DriveFault.TheVariants.{BadEvent, NoMemory, Spent}
-use Rattle.fleet_run.specs.Scripted.{Scripted, transcript_of}
-use Rattle.fleet_run.specs.Serving.{words_by}
-use Rattle.fleet_run.specs.Opening.{opening_of}
-use Rattle.fleet_run.specs.Reloads.{tree_after, loads_before, tree_of_each, DrivesBy, DrivesPartBy, EndsBy}
+use Rattle.fleet_run.specs.Reloads.{tree_after}
 use Rattle.fleet_run.specs.Reloads as reloads
 use Rattle.accepted_run.specs.declared.judging.Loading.{Loading}
 use Rattle.accepted_run.specs.declared.judging.Loading.TheVariants.{Loaded, Refused}
 use Rattle.fleet_run.proofs.Reloading.{one_more_taken}
-use Rattle.accepted_run.specs.Freshly.{InUse}
+use Rattle.accepted_run.specs.Reloads.{InUse}
 use Rattle.accepted_run.proofs.Accepting.{same_config, tree_at_number}
-use Rattle.accepted_run.specs.Reloads.{AreChained, JudgesOne, Judges, is_refused, loading_of, ReloadsFreshly, ReloadsPartFreshly, EndsReloads}
+use Rattle.accepted_run.specs.Reloads.{AreChained, JudgesOne, Judges, is_refused, loading_of}
 
 -- ---- lists of servers
 
@@ -121,16 +108,6 @@ accepted_rise (Refused fault ∷ ls) (suc i) zero le = absurd (omega (arith, le)
 accepted_rise (Loaded n ∷ ls) (suc i) (suc j) le = let h = accepted_rise ls i j (omega (arith, le)) in omega (arith, h)
 accepted_rise (Refused fault ∷ ls) (suc i) (suc j) le = accepted_rise ls i j (omega (arith, le))
 
-loads_rise : (begun : List ℕ) (n m : ℕ) → n < m → loads_before begun n ≤ loads_before begun m
-loads_rise [] n m lt = omega arith
-loads_rise (b ∷ begun) n m lt = by (loads_rise begun n m lt) (nat_lt b n) refl
-  where
-    by : loads_before begun n ≤ loads_before begun m → (x : Bool) → nat_lt b n ≡ x → cond x (suc (loads_before begun n)) zero ≤ cond (nat_lt b m) (suc (loads_before begun m)) zero
-    by h false e = omega arith
-    by h true e =
-        let below = ltb-true b n e in
-        subst (λ (y : Bool). suc (loads_before begun n) ≤ cond y (suc (loads_before begun m)) zero) (sym (lt-ltb b m (omega (arith, below, lt)))) (omega (arith, h))
-
 -- ---- the trees in use are generations
 
 more_at : (xs ys : List Configuration) (i : ℕ) (c : Configuration) → slice_get xs i ≡ Some c → slice_get (xs ++ ys) i ≡ Some c
@@ -183,31 +160,3 @@ loaded_at configs configs' (r ∷ rs) (Refused fault ∷ ls) c j some last (suc 
 pub some_of : (configs : List Configuration) (c : Configuration) → IsLast configs c → 0 < length configs
 some_of [] c last = absurd (cc)
 some_of (x ∷ configs) c last = omega arith
-
--- every run by the trees in use is fresh
-reloads_fresh : GenerationsAreFresh → (configs configs' : List Configuration) (rs : List Reload) (ls : List Loading) (c : Configuration) (begun : List ℕ) → Judges configs rs ls configs' → AreGenerations (trees_of configs') → 0 < length configs → IsLast configs c → RunsAreFresh (words_by (tree_of_each c.tree (map is_refused ls) rs begun))
-reloads_fresh law configs configs' rs ls c begun j are some last =
-    (law (trees_of configs') are).0 (tree_of_each c.tree (map is_refused ls) rs begun)
-    (record {
-      generation = λ n. (length configs - 1) + accepted_in ls (loads_before begun n);
-      loaded = λ n. loaded_at configs configs' rs ls c j some last (loads_before begun n);
-      rising = λ n m lt. let h = accepted_rise ls (loads_before begun n) (loads_before begun m) (loads_rise begun n m lt) in omega (arith, h);
-    })
-
--- ---- what a script did
-
-module _ (law : GenerationsAreFresh) (configs configs' : List Configuration) (rs : List Reload) (ls : List Loading) (c : Configuration) (events : List Scripted) (judged : Judges configs rs ls configs') (are : AreGenerations (trees_of configs')) (some : 0 < length configs) (last : IsLast configs c) where
-  pub reloads_freshly : (given : List Shown) (marks : List ℕ) (report : Report) → DrivesBy c.tree (map is_refused ls) rs events given marks report → ReloadsFreshly c.tree ls rs events given marks report
-  reloads_freshly given marks report d =
-      let is_fresh : IsFresh (opening_of events) (run_of d.log) = reloads_fresh law configs configs' rs ls c d.begun judged are some last (opening_of events) (run_of d.log) d.run in
-      record { drives = d; fresh = is_fresh; none_stale = d.stale ∙ fresh_has_none (words_by (tree_of_each c.tree (map is_refused ls) rs d.begun)) (opening_of events) (run_of d.log) d.run is_fresh }
-
-  part_freshly : (given : List Shown) (marks : List ℕ) (fleet : MemoryFleet) → DrivesPartBy c.tree (map is_refused ls) rs events given marks fleet → ReloadsPartFreshly c.tree ls rs events given marks fleet
-  part_freshly given marks fleet p =
-      let opening = opening_of (take p.count events) in
-      record { part = p; fresh = reloads_fresh law configs configs' rs ls c p.begun judged are some last opening (run_of p.log) (runs _ (words_by (tree_of_each c.tree (map is_refused ls) rs p.begun)) opening p.log p.follows) }
-
-  pub ends_reloads : (t : Transcript) (marks : List ℕ) (fleet : MemoryFleet) (fault : DriveFault) → EndsBy c.tree (map is_refused ls) rs events t marks fleet fault → EndsReloads c.tree ls rs events t marks fleet fault
-  ends_reloads t marks fleet (BadEvent index) e = e
-  ends_reloads t marks fleet NoMemory e = part_freshly (transcript_of t) marks fleet e
-  ends_reloads t marks fleet Spent e = part_freshly (transcript_of t) marks fleet e

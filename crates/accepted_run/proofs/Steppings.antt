@@ -26,6 +26,7 @@ use Rattle.fleet_run.specs.Opening.{opening_of}
 use Rattle.fleet_run.specs.Reloads.{one_more, tree_after}
 use Rattle.fleet_run.specs.Reloads as reloads
 use Rattle.stepped_log.specs.Standing.{tree_by}
+use Rattle.script_servers.specs.declared.servers.ScriptServers.{ScriptServers}
 use Rattle.stepped_run.specs.Driving.{one_loaded, trees_loaded, loaded_trees, RunsBy, DrivesStepped, StepsPart, EndsStepped}
 use Rattle.accepted_run.specs.declared.judging.Loading.{Loading}
 use Rattle.accepted_run.specs.Reloads.{Judges, is_refused}
@@ -128,10 +129,10 @@ module _ (law : GenerationsAreFresh) (configs configs' : List Configuration) (rs
       let by : IsFreshByNumber (opening_of events) (run_of d.log) = steps_fresh (length rs) d.loads d.log d.loads_are d.run in
       record { drives = d; fresh = by; none_stale = d.stale ∙ (counts_stale (tree_words plans) (bars_by Alone plans) (opening_of events) (alone plans)).none (run_of d.log) d.run by }
 
-  part_freshly : (given : List Shown) → StepsPart c.tree (map is_refused ls) rs events given → StepsPartFreshly c.tree ls rs events given
-  part_freshly given p = record { part = p; fresh = steps_fresh p.loaded p.loads p.log p.loads_are p.run }
+  part_freshly : (given : List Shown) (marks : List ℕ) (servers : ScriptServers) → StepsPart c.tree (map is_refused ls) rs events given marks servers → StepsPartFreshly c.tree ls rs events given marks servers
+  part_freshly given marks servers p = record { part = p; fresh = steps_fresh p.loaded p.loads p.log p.loads_are p.run }
 
-  pub ends_steps : (t : Transcript) (marks : List ℕ) (fault : DriveFault) → EndsStepped c.tree (map is_refused ls) rs events t marks fault → EndsSteps c.tree ls rs events t marks fault
-  ends_steps t marks (BadEvent index) e = e
-  ends_steps t marks NoMemory e = part_freshly (transcript_of t) e
-  ends_steps t marks Spent e = part_freshly (transcript_of t) e
+  pub ends_steps : (t : Transcript) (marks : List ℕ) (before after : ScriptServers) (fault : DriveFault) → EndsStepped c.tree (map is_refused ls) rs events t marks before after fault → EndsSteps c.tree ls rs events t marks before after fault
+  ends_steps t marks before after (BadEvent index) e = e
+  ends_steps t marks before after NoMemory e = part_freshly (transcript_of t) marks after e
+  ends_steps t marks before after Spent e = (record { part = e.0; fresh = steps_fresh e.0.loaded e.0.loads e.0.log e.0.loads_are e.0.run }, e.1)

@@ -1,3 +1,2 @@
-pub mod Freshly
 pub mod Reloads
 pub mod Stepped

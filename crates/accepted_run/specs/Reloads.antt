@@ -21,6 +21,10 @@ use Rattle.fleet_run.specs.Reloads.{DrivesBy, DrivesPartBy, EndsBy}
 use Rattle.accepted_run.specs.declared.judging.Loading.{Loading}
 use Rattle.accepted_run.specs.declared.judging.Loading.TheVariants.{Loaded, Refused}
 
+-- so it is with the configuration in use
+abbrev pub InUse : List Configuration → (Configuration → Type 0) → Type 0
+InUse configs P = (config : Configuration) → IsLast configs config → P config
+
 -- each list of servers begins with the one before it
 abbrev pub AreChained : Addresses → List Reload → Type 0
 AreChained used [] = Unit {0}
@@ -62,20 +66,3 @@ pub record AreJudged (first : Configuration) (rs : List Reload) (ls : List Loadi
   pub first_is : IsLast configs first
   pub judged : Judges configs rs ls accepted
   pub refused_are : refused ≡ map is_refused ls
-
--- the script ran, each command by the tree that was accepted last when it began; its run is fresh, and none of its replies is stale
-pub record ReloadsFreshly (first : Route) (loadings : List Loading) (reloads : List Reload) (events : List Scripted) (given : List Shown) (marks : List ℕ) (report : Report) : Type 0 where
-  pub drives : DrivesBy first (map is_refused loadings) reloads events given marks report
-  pub fresh : IsFresh (opening_of events) (run_of drives.log)
-  pub none_stale : report.stale ≡ 0
-
--- a part of it ran so, and the run of all that was done is fresh
-pub record ReloadsPartFreshly (first : Route) (loadings : List Loading) (reloads : List Reload) (events : List Scripted) (given : List Shown) (marks : List ℕ) (fleet : MemoryFleet) : Type 0 where
-  pub part : DrivesPartBy first (map is_refused loadings) reloads events given marks fleet
-  pub fresh : IsFresh (opening_of (take part.count events)) (run_of part.log)
-
--- what a fault leaves
-abbrev pub EndsReloads : Route → List Loading → List Reload → List Scripted → Transcript → List ℕ → MemoryFleet → DriveFault → Type 0
-EndsReloads first loadings reloads events transcript marks fleet (BadEvent index) = EndsBy first (map is_refused loadings) reloads events transcript marks fleet (BadEvent index)
-EndsReloads first loadings reloads events transcript marks fleet NoMemory = ReloadsPartFreshly first loadings reloads events (transcript_of transcript) marks fleet
-EndsReloads first loadings reloads events transcript marks fleet Spent = ReloadsPartFreshly first loadings reloads events (transcript_of transcript) marks fleet

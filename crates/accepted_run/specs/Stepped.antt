@@ -11,7 +11,8 @@ use Rattle.fleet_run.specs.declared.script.DriveFault.{DriveFault}
 use Rattle.fleet_run.specs.declared.script.DriveFault.TheVariants.{BadEvent, NoMemory, Spent}
 use Rattle.fleet_run.specs.Scripted.{Scripted, transcript_of}
 use Rattle.fleet_run.specs.Opening.{opening_of}
-use Rattle.stepped_run.specs.Driving.{DrivesStepped, StepsPart}
+use Rattle.stepped_run.specs.Driving.{DrivesStepped, StepsPart, AreSpentIn}
+use Rattle.script_servers.specs.declared.servers.ScriptServers.{ScriptServers}
 use Rattle.accepted_run.specs.declared.judging.Loading.{Loading}
 use Rattle.accepted_run.specs.Reloads.{is_refused}
 
@@ -22,12 +23,12 @@ pub record StepsFreshly (first : Route) (loadings : List Loading) (reloads : Lis
   pub none_stale : report.stale ≡ 0
 
 -- a part of it ran, and the run of all that was done is fresh
-pub record StepsPartFreshly (first : Route) (loadings : List Loading) (reloads : List Reload) (events : List Scripted) (given : List Shown) : Type 0 where
-  pub part : StepsPart first (map is_refused loadings) reloads events given
+pub record StepsPartFreshly (first : Route) (loadings : List Loading) (reloads : List Reload) (events : List Scripted) (given : List Shown) (marks : List ℕ) (servers : ScriptServers) : Type 0 where
+  pub part : StepsPart first (map is_refused loadings) reloads events given marks servers
   pub fresh : IsFreshByNumber (opening_of events) (run_of part.log)
 
--- what a fault leaves: nothing was handed out where an event can't be
-abbrev pub EndsSteps : Route → List Loading → List Reload → List Scripted → Transcript → List ℕ → DriveFault → Type 0
-EndsSteps first loadings reloads events transcript marks (BadEvent index) = (transcript.shown.items ≡ []) × (marks ≡ [])
-EndsSteps first loadings reloads events transcript marks NoMemory = StepsPartFreshly first loadings reloads events (transcript_of transcript)
-EndsSteps first loadings reloads events transcript marks Spent = StepsPartFreshly first loadings reloads events (transcript_of transcript)
+-- what a fault leaves: where an event can't be nothing was handed out, and the servers are as they were
+abbrev pub EndsSteps : Route → List Loading → List Reload → List Scripted → Transcript → List ℕ → ScriptServers → ScriptServers → DriveFault → Type 0
+EndsSteps first loadings reloads events transcript marks old new (BadEvent index) = (transcript.shown.items ≡ []) × (marks ≡ []) × (new ≡ old)
+EndsSteps first loadings reloads events transcript marks old new NoMemory = StepsPartFreshly first loadings reloads events (transcript_of transcript) marks new
+EndsSteps first loadings reloads events transcript marks old new Spent = (done : StepsPartFreshly first loadings reloads events (transcript_of transcript) marks new) × AreSpentIn done.part.log

@@ -2,8 +2,7 @@
 
 ghost use Rattle.std.specs.Prelude.{◌≡◌, IfOk, map};
 ghost use Rattle.fresh_gate.specs.Reload.{KeepsNumbers};
-ghost use Rattle.accepted_run.specs.Freshly.{InUse};
-ghost use Rattle.accepted_run.specs.Reloads.{AreChained, Judges, JudgesOne, is_refused, loading_of};
+ghost use Rattle.accepted_run.specs.Reloads.{InUse, AreChained, Judges, JudgesOne, is_refused, loading_of};
 
 use fleet_run::Reload;
 use fresh_gate::{Accepted, ReloadFault};

@@ -1,4 +1,4 @@
-//! A script that steps its calls, run through configurations that the gate was asked for.
+//! A script, run through configurations that the gate was asked for.
 
 ghost use Rattle.std.specs.Prelude.{◌≡◌, ◌≤◌, [], length, map, None, IfOk, IfErr, OnOk, MatchResult};
 ghost use Rattle.script_servers.specs.Servers.{IsNew, count_of};
@@ -19,15 +19,15 @@ use script_servers::ScriptServers;
 use std::alloc::Global;
 use stepped_run::drive_stepped;
 
-/// Runs a script that may step its calls, with reloads that the gate was asked for: each command through the tree that was accepted
-/// last before it began; commands of different clients overlap, each alone on its key. `first` was in use before the first reload.
+/// Runs a script with reloads that the gate was asked for: each command through the tree that was accepted last before it began; where
+/// the script steps its calls commands of different clients overlap, each alone on its key. `first` was in use before the first reload.
 ///
 /// All holds that [`drive_stepped`] says, its faults too; and **the run is fresh over all loaded trees**: where a delete of a key was
 /// acknowledged, no command that began later shows data that descend from a store of that key by a command before that delete,
 /// whichever trees the two ran by. So the report's `stale` is 0.
 ///
 /// Source: mcgate's own.
-pub fn drive_stepped_judged(
+pub fn drive_judged(
     alloc: Global,
     accepted: &Accepted,
     first: &Config,
@@ -47,7 +47,7 @@ pub fn drive_stepped_judged(
     requires marks { marks.old.items ≡ [] }
     ensures refuses { MatchResult result (λ _. first_bad (count_of servers.old) (map scripted_of script.now.events.items) ≡ None) (Refuses (count_of servers.old) script.now) }
     ensures ok { IfOk result (λ report. StepsFreshly first.now.tree judged.now.loadings.items reloads.now (map scripted_of script.now.events.items) (transcript_of transcript.new) marks.new.items report) }
-    ensures fault { IfErr result (λ fault. EndsSteps first.now.tree judged.now.loadings.items reloads.now (map scripted_of script.now.events.items) transcript.new marks.new.items fault) }
+    ensures fault { IfErr result (λ fault. EndsSteps first.now.tree judged.now.loadings.items reloads.now (map scripted_of script.now.events.items) transcript.new marks.new.items servers.old servers.new fault) }
     ensures marked { OnOk result (length marks.new.items ≡ length reloads.now) }
     ensures marks { AreMarks (length transcript.new.shown.items) marks.new.items }
 {

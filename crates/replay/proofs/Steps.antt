@@ -1,4 +1,4 @@
--- From what a drive of a script that steps its calls did to what was printed of it.
+-- From what a drive did to what was printed of it.
 use Rattle.std.proofs.Common.{◌≡◌, ℕ, ◌≤◌, ◌++◌, arith, Bool, true, false, List, [], length, map, Option, Result, refl, sym, ap, ◌∙◌, subst, inr}
 use Rattle.std.specs.Prelude.{IfOk, IfErr, OnOk}
 use Rattle.std.specs.Io.KnownBytes.{Appends}
@@ -23,7 +23,7 @@ use Rattle.accepted_run.specs.Reloads.{is_refused}
 use Rattle.accepted_run.specs.Stepped.{StepsFreshly, StepsPartFreshly, EndsSteps}
 use Rattle.config_check.specs.declared.status.RunFault.{RunFault}
 use Rattle.config_check.specs.declared.status.RunFault.TheVariants.{NoMemory, Writer, TooManyCalls}
-use Rattle.replay.specs.Replay.{RunsSteps, PrintsSteps, BreaksEventsOff, Wrote, BrokeOff, AreLoadings, HasReloads, reloads_of, servers_of, transcript_lines}
+use Rattle.replay.specs.Replay.{RunsEvents, PrintsPart, PrintsSpent, BreaksTreeOff, Wrote, BrokeOff, AreLoadings, HasReloads, reloads_of, servers_of, transcript_lines}
 use Rattle.replay.proofs.Printing.{first_few}
 
 true_is_not_false : true ≡ false → ⊥
@@ -62,8 +62,8 @@ module _ (config : Configuration) (reloads : List Reload) (loadings : List Loadi
     within_shown within = subst (λ (n : ℕ). AreMarks n marks) (sym (length-map t.shown.items shown_by)) within
 
     -- through trees that no gate has seen
-    pub steps_any : loadings ≡ [] → IfOk driven (DrivesStepped config.tree (map is_refused loadings) rs events (transcript_of t) marks) → OnOk driven (length marks ≡ length rs) → AreMarks (length t.shown.items) marks → Wrote driven (transcript_lines true rs ls (transcript_of t) ms) old new → RunsSteps true config reloads events old new
-    steps_any none ran marked within w =
+    pub ran_any : loadings ≡ [] → IfOk driven (DrivesStepped config.tree (map is_refused loadings) rs events (transcript_of t) marks) → OnOk driven (length marks ≡ length rs) → AreMarks (length t.shown.items) marks → Wrote driven (transcript_lines true rs ls (transcript_of t) ms) old new → RunsEvents true config reloads events old new
+    ran_any none ran marked within w =
         let r = subst (λ (r : Result Report DriveFault). IfOk r (DrivesStepped config.tree (map is_refused loadings) rs events (transcript_of t) marks)) w.driven_is ran in
         let m = subst (λ (r : Result Report DriveFault). OnOk r (length marks ≡ length rs)) w.driven_is marked in
         record {
@@ -80,30 +80,33 @@ module _ (config : Configuration) (reloads : List Reload) (loadings : List Loadi
           none_stale = λ e. absurd (true_is_not_false e);
         }
 
-    some_any : loadings ≡ [] → StepsPart config.tree (map is_refused loadings) rs events (transcript_of t) → AreMarks (length t.shown.items) marks → Appends old new (transcript_lines true rs ls (transcript_of t) ms) → PrintsSteps true config reloads events old new
-    some_any none part within wrote = record {
+    abbrev some_any : (servers : ScriptServers) → loadings ≡ [] → StepsPart config.tree (map is_refused loadings) reloads events (transcript_of t) marks servers → AreMarks (length t.shown.items) marks → Appends old new (transcript_lines true rs ls (transcript_of t) ms) → PrintsPart true config reloads events old new
+    some_any servers none part within wrote = record {
       loadings = loadings;
       shown = transcript_of t;
       marks = marks;
-      part = subst (λ (x : List Reload). StepsPart config.tree (map is_refused loadings) x events (transcript_of t)) rs_are part;
+      servers = servers;
+      part = part;
       within = within_shown within;
       printed = subst (λ (l : List ℕ). Appends old new l) (lines_are true) wrote;
       are_loadings = none;
       fresh = λ e. absurd (true_is_not_false e);
     }
 
-    pub part_any : loadings ≡ [] → IfErr driven (EndsStepped config.tree (map is_refused loadings) rs events t marks) → AreMarks (length t.shown.items) marks → (fault : RunFault) → BrokeOff driven (transcript_lines true rs ls (transcript_of t) ms) old new fault → BreaksEventsOff true true config reloads events old new fault
-    part_any none ends within NoMemory b =
-        let part = subst (λ (r : Result Report DriveFault). IfErr r (EndsStepped config.tree (map is_refused loadings) rs events t marks)) b.0 ends in
-        inr (some_any none part within b.1)
-    part_any none ends within TooManyCalls b =
-        let part = subst (λ (r : Result Report DriveFault). IfErr r (EndsStepped config.tree (map is_refused loadings) rs events t marks)) b.0 ends in
-        some_any none part within b.1
-    part_any none ends within Writer b = tt
+    pub part_any : (before after : ScriptServers) → loadings ≡ [] → IfErr driven (EndsStepped config.tree (map is_refused loadings) rs events t marks before after) → AreMarks (length t.shown.items) marks → (fault : RunFault) → BrokeOff driven (transcript_lines true rs ls (transcript_of t) ms) old new fault → BreaksTreeOff true config reloads events old new fault
+    part_any before after none ends within NoMemory b =
+        let e = subst (λ (x : List Reload). IfErr driven (EndsStepped config.tree (map is_refused loadings) x events t marks before after)) rs_are ends in
+        let part = subst (λ (r : Result Report DriveFault). IfErr r (EndsStepped config.tree (map is_refused loadings) reloads events t marks before after)) b.0 e in
+        inr (some_any after none part within b.1)
+    part_any before after none ends within TooManyCalls b =
+        let e = subst (λ (x : List Reload). IfErr driven (EndsStepped config.tree (map is_refused loadings) x events t marks before after)) rs_are ends in
+        let part = subst (λ (r : Result Report DriveFault). IfErr r (EndsStepped config.tree (map is_refused loadings) reloads events t marks before after)) b.0 e in
+        record { prints = some_any after none part.0 within b.1; spent = part.1 }
+    part_any before after none ends within Writer b = tt
 
     -- through trees that the gate accepted
-    pub steps_accepted : AreLoadings false config reloads loadings → IfOk driven (StepsFreshly config.tree loadings rs events (transcript_of t) marks) → OnOk driven (length marks ≡ length rs) → AreMarks (length t.shown.items) marks → Wrote driven (transcript_lines false rs ls (transcript_of t) ms) old new → RunsSteps false config reloads events old new
-    steps_accepted judged ran marked within w =
+    pub ran_accepted : AreLoadings false config reloads loadings → IfOk driven (StepsFreshly config.tree loadings rs events (transcript_of t) marks) → OnOk driven (length marks ≡ length rs) → AreMarks (length t.shown.items) marks → Wrote driven (transcript_lines false rs ls (transcript_of t) ms) old new → RunsEvents false config reloads events old new
+    ran_accepted judged ran marked within w =
         let r = subst (λ (r : Result Report DriveFault). IfOk r (StepsFreshly config.tree loadings rs events (transcript_of t) marks)) w.driven_is ran in
         let freshly = subst (λ (x : List Reload). StepsFreshly config.tree loadings x events (transcript_of t) marks w.report) rs_are r in
         let m = subst (λ (r : Result Report DriveFault). OnOk r (length marks ≡ length rs)) w.driven_is marked in
@@ -121,25 +124,26 @@ module _ (config : Configuration) (reloads : List Reload) (loadings : List Loadi
           none_stale = λ e. freshly.none_stale;
         }
 
-    some_accepted : AreLoadings false config reloads loadings → StepsPartFreshly config.tree loadings rs events (transcript_of t) → AreMarks (length t.shown.items) marks → Appends old new (transcript_lines false rs ls (transcript_of t) ms) → PrintsSteps false config reloads events old new
-    some_accepted judged part within wrote =
-        let freshly = subst (λ (x : List Reload). StepsPartFreshly config.tree loadings x events (transcript_of t)) rs_are part in
-        record {
-          loadings = loadings;
-          shown = transcript_of t;
-          marks = marks;
-          part = freshly.part;
-          within = within_shown within;
-          printed = subst (λ (l : List ℕ). Appends old new l) (lines_are false) wrote;
-          are_loadings = judged;
-          fresh = λ e. freshly.fresh;
-        }
+    abbrev some_accepted : (servers : ScriptServers) → AreLoadings false config reloads loadings → StepsPartFreshly config.tree loadings reloads events (transcript_of t) marks servers → AreMarks (length t.shown.items) marks → Appends old new (transcript_lines false rs ls (transcript_of t) ms) → PrintsPart false config reloads events old new
+    some_accepted servers judged freshly within wrote = record {
+      loadings = loadings;
+      shown = transcript_of t;
+      marks = marks;
+      servers = servers;
+      part = freshly.part;
+      within = within_shown within;
+      printed = subst (λ (l : List ℕ). Appends old new l) (lines_are false) wrote;
+      are_loadings = judged;
+      fresh = λ e. freshly.fresh;
+    }
 
-    pub part_accepted : AreLoadings false config reloads loadings → IfErr driven (EndsSteps config.tree loadings rs events t marks) → AreMarks (length t.shown.items) marks → (fault : RunFault) → BrokeOff driven (transcript_lines false rs ls (transcript_of t) ms) old new fault → BreaksEventsOff true false config reloads events old new fault
-    part_accepted judged ends within NoMemory b =
-        let part = subst (λ (r : Result Report DriveFault). IfErr r (EndsSteps config.tree loadings rs events t marks)) b.0 ends in
-        inr (some_accepted judged part within b.1)
-    part_accepted judged ends within TooManyCalls b =
-        let part = subst (λ (r : Result Report DriveFault). IfErr r (EndsSteps config.tree loadings rs events t marks)) b.0 ends in
-        some_accepted judged part within b.1
-    part_accepted judged ends within Writer b = tt
+    pub part_accepted : (before after : ScriptServers) → AreLoadings false config reloads loadings → IfErr driven (EndsSteps config.tree loadings rs events t marks before after) → AreMarks (length t.shown.items) marks → (fault : RunFault) → BrokeOff driven (transcript_lines false rs ls (transcript_of t) ms) old new fault → BreaksTreeOff false config reloads events old new fault
+    part_accepted before after judged ends within NoMemory b =
+        let e = subst (λ (x : List Reload). IfErr driven (EndsSteps config.tree loadings x events t marks before after)) rs_are ends in
+        let part = subst (λ (r : Result Report DriveFault). IfErr r (EndsSteps config.tree loadings reloads events t marks before after)) b.0 e in
+        inr (some_accepted after judged part within b.1)
+    part_accepted before after judged ends within TooManyCalls b =
+        let e = subst (λ (x : List Reload). IfErr driven (EndsSteps config.tree loadings x events t marks before after)) rs_are ends in
+        let part = subst (λ (r : Result Report DriveFault). IfErr r (EndsSteps config.tree loadings reloads events t marks before after)) b.0 e in
+        record { prints = some_accepted after judged part.0 within b.1; spent = part.1 }
+    part_accepted before after judged ends within Writer b = tt

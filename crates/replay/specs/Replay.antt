@@ -1,14 +1,12 @@
 -- What a replay prints, by how it ends. Source: mcgate's own.
 use Rattle.std.specs.Prelude.{◌≡◌, ℕ, ◌+◌, ◌-◌, Bool, true, false, ◌++◌, ◌⊎◌, List, [], ◌∷◌, length, map, take, drop, slice_get, Option, Some, None, Result, Ok, Err}
 use Rattle.std.specs.Io.KnownBytes.{Appends}
-use Rattle.mc_runs.specs.Run.{IsFresh}
-use Rattle.mc_runs.specs.Log.{run_of}
 use Rattle.route_json.specs.declared.fault.ConfigFault.{ConfigFault}
 use Rattle.route_json.specs.Configuration.{Configuration}
 use Rattle.route_json.specs.Servers.{Addresses}
 use Rattle.fresh_gate.specs.Gate.{IsCertified}
 use Rattle.fresh_gate.specs.Sound.{AreGenerations, trees_of}
-use Rattle.memory_fleet.specs.declared.fleet.MemoryFleet.{MemoryFleet}
+use Rattle.script_servers.specs.declared.servers.ScriptServers.{ScriptServers}
 use Rattle.fleet_run.specs.declared.script.Script.{Script}
 use Rattle.fleet_run.specs.declared.script.Reload.{Reload}
 use Rattle.fleet_run.specs.declared.script.Report.{Report}
@@ -16,12 +14,10 @@ use Rattle.fleet_run.specs.declared.script.DriveFault.{DriveFault}
 use Rattle.fleet_run.specs.declared.script.DriveFault.TheVariants as drive_faults
 use Rattle.fleet_run.specs.Scripted.{Scripted, Shown, scripted_of}
 use Rattle.fleet_run.specs.Opening.{opening_of}
-use Rattle.fleet_run.specs.Stepped.{is_stepped}
-use Rattle.fleet_run.specs.Driving.{Drives, DrivesPart, IsSpent}
-use Rattle.fleet_run.specs.Reloads.{AreInOrder, DrivesBy, DrivesPartBy}
-use Rattle.mc_runs.specs.Overlap.{run_of as stepped_run_of}
+use Rattle.fleet_run.specs.Reloads.{AreInOrder}
+use Rattle.mc_runs.specs.Overlap.{run_of}
 use Rattle.mc_runs.specs.Sharing.{IsFreshByNumber}
-use Rattle.stepped_run.specs.Driving.{DrivesStepped, StepsPart, AreMarks}
+use Rattle.stepped_run.specs.Driving.{DrivesStepped, StepsPart, AreSpentIn, AreMarks}
 use Rattle.accepted_run.specs.declared.judging.Loading.{Loading}
 use Rattle.accepted_run.specs.declared.judging.Loading.TheVariants.{Loaded, Refused}
 use Rattle.accepted_run.specs.Reloads.{Judges, is_refused}
@@ -43,10 +39,6 @@ scripted script = map scripted_of script.events.items
 -- the same of a script that was read
 abbrev pub events_of : ConfiguredScript → List Scripted
 events_of script = scripted script.script
-
--- whether it steps its calls
-abbrev pub steps_of : ConfiguredScript → Bool
-steps_of script = is_stepped (events_of script)
 
 -- the configurations that it loads
 abbrev pub reloads_of : ConfiguredScript → List Reload
@@ -112,41 +104,7 @@ AreLoadings true config reloads loadings = loadings ≡ []
 AreLoadings false config reloads loadings = IsCertified config.tree × (accepted : List Configuration) × Judges (config ∷ []) reloads loadings accepted × AreGenerations (trees_of accepted)
 
 -- the events ran, each command through the tree in use when it began, and the lines of the transcript and of the report were written. Where the gate was asked the run is fresh, and no reply is stale
-pub record RunsTree (any : Bool) (config : Configuration) (reloads : List Reload) (events : List Scripted) (old new : Option (List ℕ)) : Type 0 where
-  pub loadings : List Loading
-  pub shown : List Shown
-  pub marks : List ℕ
-  pub report : Report
-  pub drives : DrivesBy config.tree (map is_refused loadings) reloads events shown marks report
-  pub printed : Appends old new (transcript_lines any reloads loadings shown marks ++ report_line report)
-  pub are_loadings : AreLoadings any config reloads loadings
-  pub fresh : any ≡ false → IsFresh (opening_of events) (run_of drives.log)
-  pub none_stale : any ≡ false → report.stale ≡ 0
-  -- where nothing is loaded, all commands have the one tree
-  pub alone : reloads ≡ [] → Drives config.tree events shown report
-
--- a part of the events ran so, and left the servers so; the lines of its transcript were written
-pub record PrintsPart (any : Bool) (config : Configuration) (reloads : List Reload) (events : List Scripted) (old new : Option (List ℕ)) : Type 0 where
-  pub loadings : List Loading
-  pub shown : List Shown
-  pub marks : List ℕ
-  pub fleet : MemoryFleet
-  pub part : DrivesPartBy config.tree (map is_refused loadings) reloads events shown marks fleet
-  pub printed : Appends old new (transcript_lines any reloads loadings shown marks)
-  pub are_loadings : AreLoadings any config reloads loadings
-  pub fresh : any ≡ false → IsFresh (opening_of (take part.count events)) (run_of part.log)
-  -- where nothing is loaded, all commands have the one tree
-  pub alone : reloads ≡ [] → DrivesPart config.tree events shown fleet
-
--- the same, until its servers had no more numbers for calls or commands
-pub record PrintsSpent (any : Bool) (config : Configuration) (reloads : List Reload) (events : List Scripted) (old new : Option (List ℕ)) : Type 0 where
-  pub prints : PrintsPart any config reloads events old new
-  pub spent : IsSpent drive_faults.Spent prints.fleet
-
--- ---- the same of a script that steps its calls, whose commands overlap
-
--- the events ran, each command through the tree in use when it began, and the lines of the transcript and of the report were written. Where the gate was asked the run is fresh by number, and no reply is stale
-pub record RunsSteps (any : Bool) (config : Configuration) (reloads : List Reload) (events : List Scripted) (old new : Option (List ℕ)) : Type 0 where
+pub record RunsEvents (any : Bool) (config : Configuration) (reloads : List Reload) (events : List Scripted) (old new : Option (List ℕ)) : Type 0 where
   pub loadings : List Loading
   pub shown : List Shown
   pub marks : List ℕ
@@ -156,49 +114,37 @@ pub record RunsSteps (any : Bool) (config : Configuration) (reloads : List Reloa
   pub within : AreMarks (length shown) marks
   pub printed : Appends old new (transcript_lines any reloads loadings shown marks ++ report_line report)
   pub are_loadings : AreLoadings any config reloads loadings
-  pub fresh : any ≡ false → IsFreshByNumber (opening_of events) (stepped_run_of drives.log)
+  pub fresh : any ≡ false → IsFreshByNumber (opening_of events) (run_of drives.log)
   pub none_stale : any ≡ false → report.stale ≡ 0
 
--- a part of the events ran so; the lines of its transcript were written
-pub record PrintsSteps (any : Bool) (config : Configuration) (reloads : List Reload) (events : List Scripted) (old new : Option (List ℕ)) : Type 0 where
+-- a part of the events ran so, and left the servers so; the lines of its transcript were written
+pub record PrintsPart (any : Bool) (config : Configuration) (reloads : List Reload) (events : List Scripted) (old new : Option (List ℕ)) : Type 0 where
   pub loadings : List Loading
   pub shown : List Shown
   pub marks : List ℕ
-  pub part : StepsPart config.tree (map is_refused loadings) reloads events shown
+  pub servers : ScriptServers
+  pub part : StepsPart config.tree (map is_refused loadings) reloads events shown marks servers
   pub within : AreMarks (length shown) marks
   pub printed : Appends old new (transcript_lines any reloads loadings shown marks)
   pub are_loadings : AreLoadings any config reloads loadings
-  pub fresh : any ≡ false → IsFreshByNumber (opening_of events) (stepped_run_of part.log)
+  pub fresh : any ≡ false → IsFreshByNumber (opening_of events) (run_of part.log)
 
--- ---- a script of either kind: it steps its calls, or its commands run one at a time
-
-abbrev pub RunsEvents : Bool → Bool → Configuration → List Reload → List Scripted → Option (List ℕ) → Option (List ℕ) → Type 0
-RunsEvents false any config reloads events old new = RunsTree any config reloads events old new
-RunsEvents true any config reloads events old new = RunsSteps any config reloads events old new
-
-abbrev pub PrintsEvents : Bool → Bool → Configuration → List Reload → List Scripted → Option (List ℕ) → Option (List ℕ) → Type 0
-PrintsEvents false any config reloads events old new = PrintsPart any config reloads events old new
-PrintsEvents true any config reloads events old new = PrintsSteps any config reloads events old new
-
--- a part of the events ran, and there were more calls than are counted; of a script that steps its calls it isn't said how many there were
-abbrev pub PrintsOverrun : Bool → Bool → Configuration → List Reload → List Scripted → Option (List ℕ) → Option (List ℕ) → Type 0
-PrintsOverrun false any config reloads events old new = PrintsSpent any config reloads events old new
-PrintsOverrun true any config reloads events old new = PrintsSteps any config reloads events old new
+-- the same, until there were no more numbers for calls or commands
+pub record PrintsSpent (any : Bool) (config : Configuration) (reloads : List Reload) (events : List Scripted) (old new : Option (List ℕ)) : Type 0 where
+  pub prints : PrintsPart any config reloads events old new
+  pub spent : AreSpentIn prints.part.log
 
 -- memory was refused before the run, and nothing was written; or during it, and the transcript so far was, as it was where there were too
 -- many calls. Nothing is said of a writer that failed
-abbrev pub BreaksEventsOff : Bool → Bool → Configuration → List Reload → List Scripted → Option (List ℕ) → Option (List ℕ) → RunFault → Type 0
-BreaksEventsOff steps any config reloads events old new NoMemory = (new ≡ old) ⊎ PrintsEvents steps any config reloads events old new
-BreaksEventsOff steps any config reloads events old new TooManyCalls = PrintsOverrun steps any config reloads events old new
-BreaksEventsOff steps any config reloads events old new Writer = Unit {0}
-
 abbrev pub BreaksTreeOff : Bool → Configuration → List Reload → List Scripted → Option (List ℕ) → Option (List ℕ) → RunFault → Type 0
-BreaksTreeOff any config reloads events old new fault = BreaksEventsOff (is_stepped events) any config reloads events old new fault
+BreaksTreeOff any config reloads events old new NoMemory = (new ≡ old) ⊎ PrintsPart any config reloads events old new
+BreaksTreeOff any config reloads events old new TooManyCalls = PrintsSpent any config reloads events old new
+BreaksTreeOff any config reloads events old new Writer = Unit {0}
 
 -- status 0: it ran; status 1: the gate was asked, it refused the first configuration, and that was written
 abbrev pub RunsGood : Bool → Configuration → List Reload → List Scripted → Option (List ℕ) → Option (List ℕ) → ℕ → Type 0
 RunsGood any config reloads events old new status =
-    ((status ≡ 0) × RunsEvents (is_stepped events) any config reloads events old new) ⊎ ((status ≡ 1) × (any ≡ false) × PrintsRefused config old new)
+    ((status ≡ 0) × RunsEvents any config reloads events old new) ⊎ ((status ≡ 1) × (any ≡ false) × PrintsRefused config old new)
 
 -- ---- a script that was read
 
@@ -253,13 +199,13 @@ ReplaysTold any t old new status = Ran any t old new status ⊎ ((status ≡ 2) 
 pub record RanInPart (any : Bool) (t : Result Told WhyNot) (old new : Option (List ℕ)) : Type 0 where
   pub script : Told
   pub said : t ≡ Ok script
-  pub prints : PrintsEvents (is_stepped (events_said script)) any script.configuration script.loads (events_said script) old new
+  pub prints : PrintsPart any script.configuration script.loads (events_said script) old new
 
 -- the script ran in part, and had more calls than are counted
 pub record Overran (any : Bool) (t : Result Told WhyNot) (old new : Option (List ℕ)) : Type 0 where
   pub script : Told
   pub said : t ≡ Ok script
-  pub prints : PrintsOverrun (is_stepped (events_said script)) any script.configuration script.loads (events_said script) old new
+  pub prints : PrintsSpent any script.configuration script.loads (events_said script) old new
 
 -- memory was refused before the run, and nothing was written; or during it
 abbrev pub IsBrokenOff : Bool → Result Told WhyNot → Option (List ℕ) → Option (List ℕ) → Type 0

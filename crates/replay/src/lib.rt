@@ -2,8 +2,7 @@
 #![tactic(auto)]
 
 pub mod replaying;
-mod stepping;
+mod running;
 mod transcripts;
-mod whole;
 
 pub use replaying::{run_replay, run_replay_over};

@@ -3,54 +3,20 @@
 ghost use Rattle.std.specs.Prelude.{◌≡◌, ◌≤◌, ◌∷◌, [], false, true, Ok, IfOk, IfErr, length};
 ghost use Rattle.fresh_gate.specs.Gate.{IsCertified};
 ghost use Rattle.script_text.specs.Script.{told, told_over};
-ghost use Rattle.replay.specs.Replay.{Replays, ReplaysOver, IsReading, ReplaysRead, BreaksReadOff, RunsScript, RunsGood, RunsEvents, BreaksTreeOff, BreaksScriptOff, HasReloads, IsBrokenOff, Overran, BreaksOff, steps_of, events_of, reloads_of};
+ghost use Rattle.replay.specs.Replay.{Replays, ReplaysOver, IsReading, ReplaysRead, BreaksReadOff, RunsScript, RunsGood, BreaksTreeOff, BreaksScriptOff, HasReloads, IsBrokenOff, Overran, BreaksOff, events_of, reloads_of};
 
-use crate::stepping::{run_steps, run_steps_accepted};
-use crate::whole::{run_whole, run_whole_accepted};
+use crate::running::{run_accepted, run_any};
 use config_check::RunFault;
 use config_check::checking::print_refused;
 use config_check::status::{BAD_INPUT, answer_of};
-use fleet_run::{first_bad_event, is_stepped};
-use fresh_gate::{Accepted, judge};
+use fleet_run::first_bad_event;
+use fresh_gate::judge;
 use route_json::Config;
 use script_text::configured::{ConfiguredScript, ScriptFault};
 use script_text::printer::{write_bad_line, write_config_fault};
 use script_text::reader::{read_events, read_script};
 use std::alloc::Global;
 use std::io::Write;
-
-// Runs a script through trees that no gate has seen.
-fn run_any<W: Write>(alloc: Global, script: &ConfiguredScript, out: &mut W) -> Result<u8, RunFault>
-    requires { HasReloads script.now }
-    ensures ok { IfOk result (λ status. (status ≡ 0) × RunsEvents (steps_of script.now) true script.now.config (reloads_of script.now) (events_of script.now) (W.contents out.old) (W.contents out.new)) }
-    ensures err { IfErr result (BreaksTreeOff true script.now.config (reloads_of script.now) (events_of script.now) (W.contents out.old) (W.contents out.new)) }
-{
-    if is_stepped(&script.script) {
-        run_steps(alloc, script, out)
-    } else {
-        run_whole(alloc, script, out)
-    }
-}
-
-// Runs a script through an accepted tree and those of its reloads that the gate accepts.
-fn run_accepted<W: Write>(
-    alloc: Global,
-    accepted: &mut Accepted,
-    script: &ConfiguredScript,
-    out: &mut W,
-) -> Result<u8, RunFault>
-    requires accepted { accepted.old ≡ script.now.config ∷ [] }
-    requires certified { IsCertified script.now.config.tree }
-    requires reloads { HasReloads script.now }
-    ensures ok { IfOk result (λ status. (status ≡ 0) × RunsEvents (steps_of script.now) false script.now.config (reloads_of script.now) (events_of script.now) (W.contents out.old) (W.contents out.new)) }
-    ensures err { IfErr result (BreaksTreeOff false script.now.config (reloads_of script.now) (events_of script.now) (W.contents out.old) (W.contents out.new)) }
-{
-    if is_stepped(&script.script) {
-        run_steps_accepted(alloc, accepted, script, out)
-    } else {
-        run_whole_accepted(alloc, accepted, script, out)
-    }
-}
 
 // Runs a script if the gate accepts its first tree, or else writes why it is refused.
 fn run_gated<W: Write>(
@@ -160,7 +126,7 @@ fn replay_events<W: Write>(
 ///
 /// Each command runs through the tree in use when it begins: that of the configuration, and after a reload line that line's, unless
 /// the gate refuses it: it judges each new tree against those of all generations. What became of a reload line stands at its place in
-/// the transcript. Commands run one at a time, and in a script that steps its calls ([`is_stepped`]) those of several clients overlap.
+/// the transcript. After a `>` each command has ended before the next line; commands of several clients overlap where `+` and `result` step their calls.
 ///
 /// With `any` the gate isn't asked: every tree runs, and the report tells how many replies were stale. Without it the trees are those
 /// that the gate accepts, and none is.

@@ -28,6 +28,7 @@ gives_go_on opening tree log client bytes old new stands step rest =
         leads = same_words stands.beside.at g.0.at old.core.limits new.core.limits opening (entry ∷ log) new.core g.0 same.at g.6 leads;
         limits = g.6 ∙ stands.limits;
         served = stands.served;
+        unbroken = stands.unbroken;
         holds = λ s key. ap (λ h. h s key) same.holds ∙ stands.holds s key ∙ sym (ap (λ c. held_at c s key) rest.servers.caches);
         turn = same.turn ∙ stands.turn ∙ sym rest.servers.turn;
         known = λ n o e.

@@ -26,7 +26,7 @@ use Rattle.route_tree.specs.Word.{tree_words}
 use Rattle.route_tree.proofs.Showing.{replies_show_what_was_found}
 use Rattle.proxy_core.specs.CoreState.{dialect}
 use Rattle.proxy_core.specs.declared.note.Note.{Note}
-use Rattle.stepped_log.specs.Standing.{Kept, replied_in, IsBesides}
+use Rattle.stepped_log.specs.Standing.{Kept, replied_in, broken_in, IsBesides}
 use Rattle.stepped_log.specs.Laws.{is_as_old, stamp_shown, CountsOne}
 
 -- ---- small facts
@@ -78,9 +78,10 @@ as_old_is (Some n) (Some item) = refl
 
 -- ---- what a log tells
 
--- of a log that came of another one: its clients are served, what the calls of commands under way found is known, commands are counted, and no client said or was given more
+-- of a log that came of another one: its clients are served, no command was broken off, what the calls of commands under way found is known, commands are counted, and no client said or was given more
 pub record Tells (opening : ℕ → List ℕ → Option Item) (base : List (Entry dialect)) (found : ℕ → List (Option Item)) (log : List (Entry dialect)) (k : Kept) : Type 0 where
   pub served : (c : ℕ) → is_dropped log c ≡ false
+  pub unbroken : broken_in (run_of log) ≡ 0
   pub known : (n : ℕ) (o : Owner) → owner_of log n ≡ Some o → AreFound (calls_so_far (run_of log) n) (found n) (k.stamps n)
   pub items : (n : ℕ) (o : Owner) → owner_of log n ≡ Some o → (i : ℕ) (item : Item) → slice_get (found n) i ≡ Some (Some item) → item_at opening (run_of log) n i ≡ Some item
   pub commands : k.commands ≡ replied_in (run_of log)
@@ -96,6 +97,7 @@ module _ (opening : ℕ → List ℕ → Option Item) (base : List (Entry dialec
   besides log old new b t =
       record {
         served = t.served;
+        unbroken = t.unbroken;
         known = λ n o e. subst (AreFound (calls_so_far (run_of log) n) (found n)) (sym (b.found n)) (t.known n o e);
         items = t.items;
         commands = b.counts.commands ∙ t.commands;
@@ -124,6 +126,7 @@ module _ (opening : ℕ → List ℕ → Option Item) (base : List (Entry dialec
       ]) refl in
       record {
         served = t.served;
+        unbroken = t.unbroken;
         known = λ n o e. begun_known n o e;
         items = λ n o e i item at. begun_items n o e i item at;
         commands = t.commands;
@@ -139,7 +142,7 @@ module _ (opening : ℕ → List ℕ → Option Item) (base : List (Entry dialec
   shown_more client [] log k t = t
   shown_more client (s ∷ shown) log k t =
       let r = shown_more client shown log k t in
-      record { served = r.served; known = r.known; items = r.items; commands = r.commands; stale = r.stale; last = r.last; later = r.later; streams = r.streams; given = r.given }
+      record { served = r.served; unbroken = r.unbroken; known = r.known; items = r.items; commands = r.commands; stale = r.stale; last = r.last; later = r.later; streams = r.streams; given = r.given }
 
   -- the stamp that is known of what a reply shows is that of the item which its call found
   stamp_is : (past : List Event) (number : ℕ) (from : Option ℕ) (reply : Answer) (stamps : List (Option ℕ)) → AreFound (calls_so_far past number) (found number) stamps → ((i : ℕ) (item : Item) → slice_get (found number) i ≡ Some (Some item) → item_at opening past number i ≡ Some item)
@@ -177,6 +180,7 @@ module _ (opening : ℕ → List ℕ → Option Item) (base : List (Entry dialec
         ] in
         record {
           served = t.served;
+          unbroken = t.unbroken;
           known = λ n o e. subst (AreFound (calls_so_far run n) (found n)) (sym (counts.stamps n)) (ended_known n o e);
           items = λ n o e i item at. ended_items n o e i item at;
           commands = counts.commands ∙ ap (λ m. m + 1) t.commands;

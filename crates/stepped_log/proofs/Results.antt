@@ -179,6 +179,7 @@ module _ (opening : ℕ → List ℕ → Option Item) (tree : ℕ → Route) (lo
               leads = leads_there;
               limits = limits ∙ stands.limits;
               served = λ c. alike.dropped c ∙ stands.served c;
+              unbroken = alike.broken ∙ stands.unbroken;
               holds = λ s key.
                   ap (λ (h : ℕ → List ℕ → Option Item). h s key) is.holds ∙ sym (step.call.holds s key) ∙ step.holds s key ∙ ap (λ l. held_at l s key) (sym caches);
               turn = is.turn ∙ ap (λ t. t + 1) stands.turn ∙ sym turn;

@@ -21,7 +21,7 @@ use Rattle.script_servers.proofs.Losses.{same_event, same_held}
 use Rattle.route_tree.specs.Word.{tree_words}
 use Rattle.proxy_core.specs.declared.proxy.Core.{Core}
 use Rattle.proxy_core.specs.CoreState.{dialect, bars_of, Beside, Fits, state_of}
-use Rattle.stepped_log.specs.Standing.{replied_in, GoesOn}
+use Rattle.stepped_log.specs.Standing.{replied_in, broken_in, GoesOn}
 use Rattle.stepped_log.specs.Results.{calls_of}
 use Rattle.stepped_log.specs.Laws.{LossesGoOn}
 
@@ -75,6 +75,7 @@ pub record IsAlike (opening : ℕ → List ℕ → Option Item) (new old : List 
   pub given : (c : ℕ) → given_of new c ≡ given_of old c
   pub begun : commands_in (run_of new) ≡ commands_in (run_of old)
   pub replied : replied_in (run_of new) ≡ replied_in (run_of old)
+  pub broken : broken_in (run_of new) ≡ broken_in (run_of old)
   pub tally : tally_of opening (run_of new) ≡ tally_of opening (run_of old)
   pub gone : (key : List ℕ) → last_gone (run_of new) key ≡ last_gone (run_of old) key
 
@@ -88,6 +89,7 @@ alike_then opening new mid old a b =
       given = λ c. a.given c ∙ b.given c;
       begun = a.begun ∙ b.begun;
       replied = a.replied ∙ b.replied;
+      broken = a.broken ∙ b.broken;
       tally = a.tally ∙ b.tally;
       gone = λ key. a.gone key ∙ b.gone key;
     }
@@ -95,18 +97,18 @@ alike_then opening new mid old a b =
 -- after a call
 pub call_alike : (opening : ℕ → List ℕ → Option Item) (log : List (Entry dialect)) (number server : ℕ) (ask : Ask) (origin : Origin) (end : End) → IsAlike opening (Happens (Calls number server ask origin end) ∷ log) log
 call_alike opening log number server ask origin end =
-    record { dropped = λ c. refl; owner = λ n. refl; stream = λ c. refl; given = λ c. refl; begun = refl; replied = refl; tally = refl; gone = λ key. refl }
+    record { dropped = λ c. refl; owner = λ n. refl; stream = λ c. refl; given = λ c. refl; begun = refl; replied = refl; broken = refl; tally = refl; gone = λ key. refl }
 
 -- after losses
 pub losses_alike : (opening : ℕ → List ℕ → Option Item) (log : List (Entry dialect)) (lost : List Event) → AreLosses lost → IsAlike opening (happened lost ++ log) log
-losses_alike opening log [] are = record { dropped = λ c. refl; owner = λ n. refl; stream = λ c. refl; given = λ c. refl; begun = refl; replied = refl; tally = refl; gone = λ key. refl }
+losses_alike opening log [] are = record { dropped = λ c. refl; owner = λ n. refl; stream = λ c. refl; given = λ c. refl; begun = refl; replied = refl; broken = refl; tally = refl; gone = λ key. refl }
 losses_alike opening log (Loses server key ∷ es) are =
     alike_then opening (Happens (Loses server key) ∷ (happened es ++ log)) (happened es ++ log) log
-    (record { dropped = λ c. refl; owner = λ n. refl; stream = λ c. refl; given = λ c. refl; begun = refl; replied = refl; tally = refl; gone = λ key. refl })
+    (record { dropped = λ c. refl; owner = λ n. refl; stream = λ c. refl; given = λ c. refl; begun = refl; replied = refl; broken = refl; tally = refl; gone = λ key. refl })
     (losses_alike opening log es are)
 losses_alike opening log (Restarts server ∷ es) are =
     alike_then opening (Happens (Restarts server) ∷ (happened es ++ log)) (happened es ++ log) log
-    (record { dropped = λ c. refl; owner = λ n. refl; stream = λ c. refl; given = λ c. refl; begun = refl; replied = refl; tally = refl; gone = λ key. refl })
+    (record { dropped = λ c. refl; owner = λ n. refl; stream = λ c. refl; given = λ c. refl; begun = refl; replied = refl; broken = refl; tally = refl; gone = λ key. refl })
     (losses_alike opening log es are)
 losses_alike opening log (Begins number ask ∷ es) are = absurd are
 losses_alike opening log (Calls number server ask origin end ∷ es) are = absurd are
@@ -154,6 +156,7 @@ losses_go_on opening tree log loss old new stands lost =
         leads = subst (λ (x : Core). LeadsTo (tree_words beside.at) (bars_of x beside) opening (Happens event ∷ log) (state_of x beside)) (sym lost.core) (losses_lead old.core stands.beside (event ∷ []) are opening log stands.leads);
         limits = ap (λ (x : Core). x.limits) lost.core ∙ stands.limits;
         served = λ c. alike.dropped c ∙ stands.served c;
+        unbroken = alike.broken ∙ stands.unbroken;
         holds = λ s key. same_held loss stands.beside.holds (held_at old.caches) s key (stands.holds s key) ∙ sym (same_event loss (held_at old.caches) s key) ∙ sym (lost.held s key);
         turn = stands.turn ∙ sym lost.turn;
         known = λ n o e.

@@ -28,7 +28,7 @@ use Rattle.proxy_core.specs.declared.note.Poll.{Poll}
 use Rattle.proxy_core.specs.declared.note.Poll.TheVariants as polls
 use Rattle.memory_fleet.specs.Losing.{held_at}
 use Rattle.stepped_log.specs.Results.{GoesOnBy}
-use Rattle.stepped_log.specs.Standing.{Kept, replied_in, tree_by, Stands, GoesOn, GoesOnFed, GoesOnGiven, LeavesAsMuch, CountsAsMany, HasServers, FoundAsMuch, IsBesides}
+use Rattle.stepped_log.specs.Standing.{Kept, replied_in, broken_in, tree_by, Stands, GoesOn, GoesOnFed, GoesOnGiven, LeavesAsMuch, CountsAsMany, HasServers, FoundAsMuch, IsBesides}
 
 -- ---- polls
 
@@ -141,11 +141,12 @@ pub record IsBegin (tree : Route) (k : Kept) : Type 0 where
 abbrev pub NothingStands : Type 0
 NothingStands = (tree : Route) (k : Kept) → IsBegin tree k → Stands (held_at k.caches) (tree_by tree []) [] k
 
--- what a log that stands says: it follows by the trees that were loaded, each command alone on its key; calls and stale replies are counted; where deletes clear what later commands take, it is fresh and no reply is stale
+-- what a log that stands says: it follows by the trees that were loaded, each command alone on its key, and none was broken off; calls and stale replies are counted; where deletes clear what later commands take, it is fresh and no reply is stale
 pub record Says (opening : ℕ → List ℕ → Option Item) (tree : ℕ → Route) (log : List (Entry dialect)) (k : Kept) : Type 0 where
   pub follows : Follows (tree_words (λ n key. tree_at (tree n) key)) (bars_by Alone (λ n key. tree_at (tree n) key)) opening log
   pub begun : k.core.number ≡ commands_in (run_of log)
   pub ended : k.commands ≡ replied_in (run_of log)
+  pub unbroken : broken_in (run_of log) ≡ 0
   pub calls : k.turn ≡ calls_in (run_of log)
   pub stale : k.stale ≡ stale_in opening (run_of log)
   pub fresh : IsCovered (tree_words (λ n key. tree_at (tree n) key)) → IsFreshByNumber opening (run_of log) × (k.stale ≡ 0)

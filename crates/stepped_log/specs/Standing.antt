@@ -39,12 +39,22 @@ replied_in (Breaks number ∷ past) = replied_in past
 replied_in (Loses server key ∷ past) = replied_in past
 replied_in (Restarts server ∷ past) = replied_in past
 
+-- how many commands were broken off
+abbrev pub broken_in : List Event → ℕ
+broken_in [] = 0
+broken_in (Breaks number ∷ past) = broken_in past + 1
+broken_in (Begins number ask ∷ past) = broken_in past
+broken_in (Calls number server ask origin end ∷ past) = broken_in past
+broken_in (Replies number key reply from ∷ past) = broken_in past
+broken_in (Loses server key ∷ past) = broken_in past
+broken_in (Restarts server ∷ past) = broken_in past
+
 -- the tree of a command, by its number: the first one, or that which was loaded last before it began; of each that was loaded it is known how many commands had begun. The latest comes first
 abbrev pub tree_by : Route → List (ℕ × Route) → ℕ → Route
 tree_by first [] n = first
 tree_by first (load ∷ loads) n = if nat_lt load.0 n then load.1 else tree_by first loads n
 
--- the log, with commands by these trees and servers that held these opening items, leads to the core and the servers as they are kept, for which every client is served; and what is counted is what the log says
+-- the log, with commands by these trees and servers that held these opening items, leads to the core and the servers as they are kept, for which every client is served and no command was broken off; and what is counted is what the log says
 pub record Stands (opening : ℕ → List ℕ → Option Item) (tree : ℕ → Route) (log : List (Entry dialect)) (k : Kept) : Type 0 where
   pub beside : Beside
   pub plain : beside.at ≡ (λ n key. tree_at (tree n) key)
@@ -52,6 +62,7 @@ pub record Stands (opening : ℕ → List ℕ → Option Item) (tree : ℕ → R
   pub leads : LeadsTo (tree_words beside.at) (bars_of k.core beside) opening log (state_of k.core beside)
   pub limits : k.core.limits ≡ script_limits
   pub served : (c : ℕ) → is_dropped log c ≡ false
+  pub unbroken : broken_in (run_of log) ≡ 0
   pub holds : (s : ℕ) (key : List ℕ) → beside.holds s key ≡ held_at k.caches s key
   pub turn : beside.turn ≡ k.turn
   pub known : (n : ℕ) (o : Owner) → owner_of log n ≡ Some o → AreFound (calls_so_far (run_of log) n) (beside.found n) (k.stamps n)

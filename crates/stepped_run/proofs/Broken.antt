@@ -38,9 +38,10 @@ use Rattle.core_run.specs.Running.{kept_of, AreOfOne, Moves, MovesFed, MovesByRe
 use Rattle.core_run.specs.declared.runner.Runner.{Runner}
 use Rattle.core_run.proofs.Running.{stays}
 use Rattle.core_run.proofs.Breaking.{begun_spent}
-use Rattle.stepped_run.specs.Driving.{said_by, said_in, shown_to, AreHandedInTurn, AreThrough, AreMarked, IsSaid, HaveMade, HasWorldOf, StepsPart, AreSpentIn, EndsStepped}
+use Rattle.stepped_run.specs.Driving.{said_by, said_in, shown_to, AreHandedInTurn, AreThrough, AreMarked, IsSaid, HaveMade, HasWorldOf, RunsBy, StepsPart, AreSpentIn, EndsStepped}
 use Rattle.stepped_run.specs.World.{Changes, World}
 use Rattle.stepped_run.specs.Stepping.{HasCalls, FedBy, AreFit, GoesOnInPart, FedInPart, Befalls, BreaksOff, HandsSome, HasCome, HasStood, Loads, LoadsInPart, LoadsSome, StopsPart}
+use Rattle.stepped_run.proofs.Direct.{fresh_if_direct}
 use Rattle.stepped_run.proofs.Come.{turn_on, come_on, come_ended, come_some, given_none, handed_none}
 use Rattle.stepped_run.proofs.Steps.{after_it, handed_on, nothing_fed, fed_more, fed_after, fed_results}
 use Rattle.stepped_run.proofs.Stood.{said_append, through_on, marked_on, marked_one}
@@ -198,6 +199,7 @@ module _ (first : Route) (refused : List Bool) (reloads : List Reload) (events :
   part_by loaded left done next given marks k servers within h is one through marked made =
       let plans : ℕ → List ℕ → Plan = λ n key. tree_at (tree_by first h.loads n) key in
       let says = law (opening_of events) (tree_by first h.loads) h.log k h.stands in
+      let run : RunsBy first h.loads events h.log = runs dialect (tree_words plans) (bars_by Alone plans) (opening_of events) h.log says.follows in
       record {
         log = h.log;
         loads = h.loads;
@@ -221,7 +223,8 @@ module _ (first : Route) (refused : List Bool) (reloads : List Reload) (events :
         order = h.order;
         through = inr through;
         marked = marked;
-        run = runs dialect (tree_words plans) (bars_by Alone plans) (opening_of events) h.log says.follows;
+        run = run;
+        direct = fresh_if_direct first refused reloads events loaded h.loads h.log within h.in_turn run;
         world = inr (k.servers, inr (subst (λ (l : List Scripted). World events l h.log k.servers) is h.world));
         made = made;
       }
@@ -256,6 +259,8 @@ module _ (first : Route) (refused : List Bool) (reloads : List Reload) (events :
       let after = g.more ++ log in
       let plans : ℕ → List ℕ → Plan = λ n key. tree_at (tree n) key in
       let says = law opening tree after (kept_of m.mid m.at) g.stands in
+      let run : RunsBy first h.come.loads events after = runs dialect (tree_words plans) (bars_by Alone plans) opening after says.follows in
+      let turn = turn_on refused reloads events g.more log loaded h.come.loads h.come.in_turn in
       record {
         part = record {
           log = after;
@@ -263,7 +268,7 @@ module _ (first : Route) (refused : List Bool) (reloads : List Reload) (events :
           loaded = loaded;
           within = within;
           loads_are = h.come.loads_are;
-          in_turn = turn_on refused reloads events g.more log loaded h.come.loads h.come.in_turn;
+          in_turn = turn;
           follows = says.follows;
           done = done;
           next = event ∷ [];
@@ -280,7 +285,8 @@ module _ (first : Route) (refused : List Bool) (reloads : List Reload) (events :
           order = handed_on given g.more log h.come.order;
           through = inr (λ n le. through_on events (take n events) g.more log given given [] (sym (append-nil given)) (h.through n le));
           marked = marked_on events g.more log given given [] (sym (append-nil given)) reloads marks h.marked;
-          run = runs dialect (tree_words plans) (bars_by Alone plans) opening after says.follows;
+          run = run;
+          direct = fresh_if_direct first refused reloads events loaded h.come.loads after within turn run;
           world = inr (by g.more m.come p.1);
           made = made_by after t m.at says.calls m.within;
         };
@@ -390,6 +396,7 @@ nothing_done first refused reloads events t marks count s u fault none unmarked 
         through = inl refl;
         marked = subst (AreMarked events [] (transcript_of t) reloads) (sym unmarked) (no_marks reloads);
         run = tt;
+        direct = fresh_if_direct first refused reloads events 0 [] [] (omega arith) refl tt;
         world = inl refl;
         made = inl (same ∙ new.turn);
       };

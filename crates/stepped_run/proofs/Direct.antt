@@ -1,10 +1,9 @@
 -- Where each key has one server, a run is fresh without the gate.
-use Rattle.std.proofs.Common.{◌≡◌, ℕ, zero, suc, ◌≤◌, Bool, true, List, [], Option, refl, ◌∙◌, subst, arith}
+use Rattle.std.proofs.Common.{◌≡◌, ℕ, zero, suc, ◌≤◌, Bool, true, List, [], length, Option, refl, ◌∙◌, subst, arith}
 use Rattle.mc_types.specs.declared.ask.Ask.{Ask}
 use Rattle.mc_types.specs.declared.answer.Answer.{Answer}
 use Rattle.mc_types.specs.Items.{Item}
 use Rattle.mc_runs.specs.Cover.{IsCovered}
-use Rattle.mc_runs.specs.Log.{Shown}
 use Rattle.mc_runs.specs.Overlap.{Entry, run_of}
 use Rattle.mc_runs.specs.Run.{Call}
 use Rattle.mc_runs.specs.Sharing.{AreAlone, IsFreshByNumber}
@@ -18,15 +17,16 @@ use Rattle.route_tree.specs.Direct.{is_direct, server_at, DirectIsOneServer}
 use Rattle.route_tree.specs.Plan.{Plan}
 use Rattle.route_tree.specs.Route.{Route}
 use Rattle.route_tree.specs.Word.{tree_words}
+use Rattle.route_tree.proofs.OneServer.{direct_is_one_server}
 use Rattle.proxy_core.specs.Claims.{bars_by}
 use Rattle.proxy_core.specs.CoreState.{dialect}
 use Rattle.commands_under_way.specs.declared.sharing.Sharing.TheVariants.{Alone}
-use Rattle.fleet_run.specs.declared.script.Report.{Report}
+use Rattle.fleet_run.specs.declared.script.Reload.{Reload}
 use Rattle.fleet_run.specs.Opening.{opening_of}
 use Rattle.fleet_run.specs.Scripted.{Scripted}
 use Rattle.stepped_log.specs.Laws.{Says}
 use Rattle.stepped_log.specs.Standing.{Kept, tree_by}
-use Rattle.stepped_run.specs.Driving.{CameInTurn, DrivesStepped, RunsBy, StepsPart}
+use Rattle.stepped_run.specs.Driving.{CameInTurn, RunsBy, IsFreshIfDirect}
 
 -- words whose commands are among those of words that are covered are covered too
 covered_among :
@@ -78,11 +78,11 @@ module _ (refused : List Bool) (events : List Scripted) where
         fresh_by_number (tree_words plans) (bars_by Alone plans) (covered_where_direct law tree direct) (alone plans) (opening_of events) (run_of log) alone_run in
         (fresh, (counts_stale (tree_words plans) (bars_by Alone plans) (opening_of events) (alone plans)).none (run_of log) alone_run fresh)
 
-    -- so is what it drives
-    pub drives_fresh :
-        (given : List Shown) (marks : List ℕ) (report : Report) → (d : DrivesStepped tree refused [] events given marks report) → IsFreshByNumber (opening_of events) (run_of d.log) × (report.stale ≡ 0)
-    drives_fresh given marks report d = let fresh = run_fresh d.loads d.log d.in_turn d.run in (fresh.0, d.stale ∙ fresh.1)
-
-    -- and what it did until a fault
-    pub part_fresh : (given : List Shown) → (p : StepsPart tree refused [] events given) → IsFreshByNumber (opening_of events) (run_of p.log)
-    part_fresh given p = (run_fresh p.loads p.log (none_loaded p.loaded p.loads p.log p.within p.in_turn) p.run).0
+-- so it is where no other tree comes
+pub fresh_if_direct :
+    (first : Route) (refused : List Bool) (reloads : List Reload) (events : List Scripted) (loaded : ℕ) (loads : List (ℕ × Route)) (log : List (Entry dialect)) → loaded ≤ length reloads → CameInTurn refused reloads events log loaded loads → RunsBy first loads events log
+    → IsFreshIfDirect first reloads events log
+fresh_if_direct first refused reloads events loaded loads log within turn run direct none =
+    let few : loaded ≤ 0 = subst (λ (rs : List Reload). loaded ≤ length rs) none within in
+    let unloaded = none_loaded refused events loaded loads log few (subst (λ (rs : List Reload). CameInTurn refused rs events log loaded loads) none turn) in
+    (run_fresh refused events direct_is_one_server first direct loads log unloaded run).0

@@ -4,3 +4,6 @@ pub mod Come
 pub mod Worlds
 pub mod Stood
 pub mod Broken
+pub mod Direct
+pub mod Messages
+pub mod Replied

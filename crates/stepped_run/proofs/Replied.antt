@@ -5,19 +5,9 @@ use Rattle.mc_types.specs.declared.ask.Ask.{Ask}
 use Rattle.mc_types.specs.Items.{Item}
 use Rattle.mc_runs.specs.Run.{Words}
 use Rattle.mc_runs.specs.Protocol.{Protocol}
-use Rattle.mc_runs.specs.Sharing.{Event, Begins, Calls, Replies, Breaks, Loses, Restarts, commands_in}
+use Rattle.mc_runs.specs.Sharing.{Begins, Calls, Replies, Breaks, Loses, Restarts, commands_in}
 use Rattle.mc_runs.specs.Overlap.{Owner, Entry, Feeds, Starts, Sends, Happens, Ends, Shows, Passes, Gives, Drops, Frees, Resets, run_of, owner_of, is_dropped, Follows}
-use Rattle.stepped_log.specs.Standing.{replied_in}
-
--- how many commands were broken off
-abbrev pub broken_in : List Event → ℕ
-broken_in [] = 0
-broken_in (Breaks number ∷ past) = broken_in past + 1
-broken_in (Begins number ask ∷ past) = broken_in past
-broken_in (Calls number server ask origin end ∷ past) = broken_in past
-broken_in (Replies number key reply from ∷ past) = broken_in past
-broken_in (Loses server key ∷ past) = broken_in past
-broken_in (Restarts server ∷ past) = broken_in past
+use Rattle.stepped_log.specs.Standing.{replied_in, broken_in}
 
 abbrev one_of : Option Owner → ℕ
 one_of None = 0

@@ -207,6 +207,7 @@ stands_as opening tree log k servers st =
       leads = st.leads;
       limits = st.limits;
       served = st.served;
+      unbroken = st.unbroken;
       holds = st.holds;
       turn = st.turn;
       known = st.known;

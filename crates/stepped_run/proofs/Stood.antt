@@ -38,10 +38,13 @@ use Rattle.stepped_log.specs.Standing.{Kept, Stands, LeavesAsMuch, tree_by}
 use Rattle.stepped_log.specs.Laws.{StandingSays, NothingStands, IsBegin}
 use Rattle.core_run.specs.Running.{kept_of, MovesByResults, IsIdle, IsAtRest}
 use Rattle.core_run.specs.declared.runner.Runner.{Runner}
-use Rattle.stepped_run.specs.Driving.{said_by, said_in, shown_to, may_be_out, leaves_out, IsDoneFor, IsSettled, IsThrough, AreThrough, IsMarked, AreMarked, one_loaded, trees_loaded, IsReached, CameSo, CameInTurn, DrivesStepped}
+use Rattle.stepped_run.specs.Driving.{said_by, said_in, shown_to, may_be_out, leaves_out, IsDoneFor, IsSettled, IsThrough, AreThrough, IsMarked, AreMarked, one_loaded, trees_loaded, IsReached, CameSo, CameInTurn, RunsBy, DrivesStepped}
 use Rattle.stepped_run.specs.Holding.{put_all_on}
 use Rattle.stepped_run.specs.Stepping.{Befalls, LeavesBy, IsHeard, RestsAfter, IsGivenAll, HandsOutAll, HasCome, HasStood, TakesUp, Loads}
 use Rattle.stepped_run.specs.World.{World}
+use Rattle.stepped_run.proofs.Direct.{fresh_if_direct}
+use Rattle.stepped_run.proofs.Messages.{each_written}
+use Rattle.stepped_run.proofs.Replied.{replied_unbroken}
 use Rattle.stepped_run.proofs.Come.{said_split, mark_count, come_on, come_ended, come_out, begins, next_left}
 
 -- ---- what is said in events, one after another
@@ -413,22 +416,29 @@ module _ (first : Route) (refused : List Bool) (reloads : List Reload) (events :
       let all = all_done done h.come.done_is in
       let plans : ℕ → List ℕ → Plan = λ n key. tree_at (tree n) key in
       let says = law opening tree end.log (kept_of d t) end.stands in
+      let said : (c : ℕ) → stream_of end.log c ≡ said_in events c = λ c. sym (end.streams c ∙ append-nil (stream_of end.log c)) in
+      let settled : IsSettled events end.log = subst (λ (l : List Scripted). IsSettled l end.log) all (piece_settled done opening tree (g.more ++ log) end.log b t g.stands rest o.left o.all (λ c le. h.heard c (subst (λ (n : ℕ). n ≤ c) same le))) in
+      let replied = sym (replied_unbroken (tree_words plans) (bars_by Alone plans) opening end.log says.follows says.unbroken settled.free) in
+      let run : RunsBy first end.loads events end.log = runs dialect (tree_words plans) (bars_by Alone plans) opening end.log says.follows in
       record {
         log = end.log;
         loads = end.loads;
         loads_are = end.loads_are;
         in_turn = end.in_turn;
         follows = says.follows;
-        streams = λ c. sym (end.streams c ∙ append-nil (stream_of end.log c));
+        streams = said;
         given_is = end.given_is;
         order = end.order;
         through = λ n le. through_on events (take n events) o.more (g.more ++ log) given after o.longer.0 o.longer.1
             (through_on events (take n events) g.more log given given [] (sym (append-nil given)) (h.through n (subst (λ (l : List Scripted). n ≤ length l) (sym all) le)));
         marked = marked_on events o.more (g.more ++ log) given after o.longer.0 o.longer.1 reloads marks (marked_on events g.more log given given [] (sym (append-nil given)) reloads marks h.marked);
-        settled = subst (λ (l : List Scripted). IsSettled l end.log) all (piece_settled done opening tree (g.more ++ log) end.log b t g.stands rest o.left o.all (λ c le. h.heard c (subst (λ (n : ℕ). n ≤ c) same le)));
-        commands = commands ∙ says.ended;
+        settled = settled;
+        written = each_written (tree_words plans) (bars_by Alone plans) opening events end.log says.follows said settled;
+        commands = commands ∙ says.ended ∙ replied;
+        replied = replied;
         calls = calls ∙ says.calls;
-        run = runs dialect (tree_words plans) (bars_by Alone plans) opening end.log says.follows;
+        run = run;
+        direct = fresh_if_direct first refused reloads events (length reloads) end.loads end.log (omega arith) end.in_turn run;
         stale = stale ∙ says.stale;
         servers = t;
         world = subst (λ (l : List Scripted). World events l end.log t) all end.world;

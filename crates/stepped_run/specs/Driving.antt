@@ -5,9 +5,11 @@ use Rattle.mc_runs.specs.Log.{Shown}
 use Rattle.mc_runs.specs.Overlap.{Entry, Follows, run_of, front_of, queue_of, output_of, given_of, owner_of}
 use Rattle.mc_runs.specs.Protocol.{IsStuck}
 use Rattle.mc_runs.specs.OverlapStream.{stream_of}
-use Rattle.mc_runs.specs.Sharing.{Run, calls_in, commands_in}
+use Rattle.mc_runs.specs.OverlapLaws.{WritesAll}
+use Rattle.mc_runs.specs.Sharing.{Run, IsFreshByNumber, calls_in, commands_in}
 use Rattle.mc_runs.specs.SharingStale.{stale_in}
 use Rattle.route_tree.specs.At.{tree_at}
+use Rattle.route_tree.specs.Direct.{is_direct}
 use Rattle.route_tree.specs.Route.{Route}
 use Rattle.route_tree.specs.Word.{tree_words}
 use Rattle.proxy_core.specs.Claims.{bars_by}
@@ -155,6 +157,15 @@ abbrev pub RunsBy : Route → List (ℕ × Route) → List Scripted → List (En
 RunsBy first loads events log =
     Run (tree_words (λ n key. tree_at (tree_by first loads n) key)) (bars_by Alone (λ n key. tree_at (tree_by first loads n) key)) (opening_of events) (run_of log)
 
+-- a client's stream is its messages and less than a whole one; it was given what they and the replies of their commands show, and nothing else
+abbrev pub IsWritten : Route → List (ℕ × Route) → List Scripted → List (Entry dialect) → ℕ → Type 0
+IsWritten first loads events log c =
+    WritesAll dialect (tree_words (λ n key. tree_at (tree_by first loads n) key)) (bars_by Alone (λ n key. tree_at (tree_by first loads n) key)) (opening_of events) log c
+
+-- where each key has one server and no other tree comes, the run is fresh, whatever the gate would say
+abbrev pub IsFreshIfDirect : Route → List Reload → List Scripted → List (Entry dialect) → Type 0
+IsFreshIfDirect first reloads events log = is_direct first ≡ true → reloads ≡ [] → IsFreshByNumber (opening_of events) (run_of log)
+
 -- a part of the log, before a reload: its clients had said what the events before the reload's place say, and so many commands had begun
 pub record IsReached (log : List (Entry dialect)) (events : List Scripted) (place begun : ℕ) : Type 0 where
   pub newer : List (Entry dialect)
@@ -189,10 +200,14 @@ pub record DrivesStepped (first : Route) (refused : List Bool) (reloads : List R
   pub through : AreThrough events (length events) log given
   pub marked : AreMarked events log given reloads marks
   pub settled : IsSettled events log
-  pub commands : report.commands ≡ replied_in (run_of log)
+  pub written : (c : ℕ) → IsWritten first loads events log c
+  pub commands : report.commands ≡ commands_in (run_of log)
+  -- each of them had its reply
+  pub replied : replied_in (run_of log) ≡ commands_in (run_of log)
   pub calls : report.calls ≡ calls_in (run_of log)
   pub run : RunsBy first loads events log
   pub stale : report.stale ≡ stale_in (opening_of events) (run_of log)
+  pub direct : IsFreshIfDirect first reloads events log
   -- failures, losses and the time are the script's, and each answer its server's by its table at that time
   pub servers : ScriptServers
   pub world : World events events log servers
@@ -234,6 +249,7 @@ pub record StepsPart (first : Route) (refused : List Bool) (reloads : List Reloa
   pub through : (log ≡ []) ⊎ AreThrough events (length done) log given
   pub marked : AreMarked events log given reloads marks
   pub run : RunsBy first loads events log
+  pub direct : IsFreshIfDirect first reloads events log
   pub world : (log ≡ []) ⊎ HasWorldOf events done next log
   pub made : HaveMade log servers
 

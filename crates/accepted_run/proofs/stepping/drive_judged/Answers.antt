@@ -4,7 +4,7 @@ use Rattle.fleet_run.specs.Scripted.{scripted_of, transcript_of}
 use Rattle.stepped_run.specs.Driving.{DrivesStepped, EndsStepped}
 use Rattle.accepted_run.proofs.Loadings.{some_of}
 use Rattle.accepted_run.proofs.Steppings.{steps_freshly, ends_steps}
-use Rattle.accepted_run.proofs.stepping.drive_stepped_judged.Goals as goal
+use Rattle.accepted_run.proofs.stepping.drive_judged.Goals as goal
 
 pub returns-clause-ok : goal.returns-clause-ok
 returns-clause-ok c =
@@ -19,5 +19,5 @@ returns-clause-fault c =
     let j = c.requires.judged in
     let events = map scripted_of c.args.script.now.events.items in
     let same = c.as_slice-refused.ensures.value ∙ j.refused_are in
-    IfErr-weaker c.drive_stepped.result _ _ (λ fault e. ends_steps c.generations_are_fresh.ensures j.configs c.args.accepted.now c.args.reloads.now c.args.judged.now.loadings.items c.args.first.now events j.judged c.config-in_use.ensures.generations (some_of j.configs c.args.first.now j.first_is) j.first_is c.drive_stepped.new.transcript c.drive_stepped.new.marks.items fault
-    (subst (λ (refused : List Bool). EndsStepped c.args.first.now.tree refused c.args.reloads.now events c.drive_stepped.new.transcript c.drive_stepped.new.marks.items fault) same e)) c.drive_stepped.ensures.fault
+    IfErr-weaker c.drive_stepped.result _ _ (λ fault e. ends_steps c.generations_are_fresh.ensures j.configs c.args.accepted.now c.args.reloads.now c.args.judged.now.loadings.items c.args.first.now events j.judged c.config-in_use.ensures.generations (some_of j.configs c.args.first.now j.first_is) j.first_is c.drive_stepped.new.transcript c.drive_stepped.new.marks.items c.args.servers.now c.drive_stepped.new.servers fault
+    (subst (λ (refused : List Bool). EndsStepped c.args.first.now.tree refused c.args.reloads.now events c.drive_stepped.new.transcript c.drive_stepped.new.marks.items c.args.servers.now c.drive_stepped.new.servers fault) same e)) c.drive_stepped.ensures.fault

@@ -1,11 +1,11 @@
-//! Scripts that step their calls.
+//! Scripts that are run through trees of routes.
 
 ghost use Rattle.std.specs.Prelude.{◌≡◌, ◌∷◌, [], IfOk, IfErr, false, true};
 ghost use Rattle.fresh_gate.specs.Gate.{IsCertified};
-ghost use Rattle.replay.specs.Replay.{RunsSteps, BreaksEventsOff, HasReloads, events_of, reloads_of};
+ghost use Rattle.replay.specs.Replay.{RunsEvents, BreaksTreeOff, HasReloads, events_of, reloads_of};
 
 use crate::transcripts::write_driven;
-use accepted_run::{drive_stepped_judged, judge_reloads};
+use accepted_run::{drive_judged, judge_reloads};
 use config_check::RunFault;
 use fleet_run::Transcript;
 use fresh_gate::Accepted;
@@ -15,15 +15,15 @@ use std::alloc::Global;
 use std::io::Write;
 use stepped_run::drive_stepped;
 
-/// Runs a script that may step its calls through trees that no gate has seen, over servers in memory, and writes what came of it.
-pub fn run_steps<W: Write>(
+/// Runs a script through trees that no gate has seen, over servers in memory, and writes what came of it.
+pub fn run_any<W: Write>(
     alloc: Global,
     script: &ConfiguredScript,
     out: &mut W,
 ) -> Result<u8, RunFault>
     requires { HasReloads script.now }
-    ensures ok { IfOk result (λ status. (status ≡ 0) × RunsSteps true script.now.config (reloads_of script.now) (events_of script.now) (W.contents out.old) (W.contents out.new)) }
-    ensures err { IfErr result (BreaksEventsOff true true script.now.config (reloads_of script.now) (events_of script.now) (W.contents out.old) (W.contents out.new)) }
+    ensures ok { IfOk result (λ status. (status ≡ 0) × RunsEvents true script.now.config (reloads_of script.now) (events_of script.now) (W.contents out.old) (W.contents out.new)) }
+    ensures err { IfErr result (BreaksTreeOff true script.now.config (reloads_of script.now) (events_of script.now) (W.contents out.old) (W.contents out.new)) }
 {
     let reloads = script.reloads.as_slice();
     let mut servers = ScriptServers::new(alloc, script.server_count())?;
@@ -46,7 +46,7 @@ pub fn run_steps<W: Write>(
 }
 
 /// The same through an accepted tree and those of its reloads that the gate accepts.
-pub fn run_steps_accepted<W: Write>(
+pub fn run_accepted<W: Write>(
     alloc: Global,
     accepted: &mut Accepted,
     script: &ConfiguredScript,
@@ -55,8 +55,8 @@ pub fn run_steps_accepted<W: Write>(
     requires accepted { accepted.old ≡ script.now.config ∷ [] }
     requires certified { IsCertified script.now.config.tree }
     requires reloads { HasReloads script.now }
-    ensures ok { IfOk result (λ status. (status ≡ 0) × RunsSteps false script.now.config (reloads_of script.now) (events_of script.now) (W.contents out.old) (W.contents out.new)) }
-    ensures err { IfErr result (BreaksEventsOff true false script.now.config (reloads_of script.now) (events_of script.now) (W.contents out.old) (W.contents out.new)) }
+    ensures ok { IfOk result (λ status. (status ≡ 0) × RunsEvents false script.now.config (reloads_of script.now) (events_of script.now) (W.contents out.old) (W.contents out.new)) }
+    ensures err { IfErr result (BreaksTreeOff false script.now.config (reloads_of script.now) (events_of script.now) (W.contents out.old) (W.contents out.new)) }
 {
     let reloads = script.reloads.as_slice();
     let judged = judge_reloads(alloc, accepted, reloads)?;
@@ -66,7 +66,7 @@ pub fn run_steps_accepted<W: Write>(
         shown: Vec::new(alloc),
     };
     let mut marks = Vec::new(alloc);
-    let driven = drive_stepped_judged(
+    let driven = drive_judged(
         alloc,
         accepted,
         &script.config,
