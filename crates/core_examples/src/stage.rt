@@ -5,7 +5,7 @@ ghost use Rattle.route_tree.specs.Route as route;
 
 use fresh_core::FreshCore;
 use fresh_gate::judge;
-use mc_types::{Ask, Body, Dialect, Key, Op, Origin, Outcome, ServerId, Tokens};
+use mc_types::{Ask, Dialect, Key, Op, Origin, Outcome, ServerId, Tokens};
 use proxy_core::{Core, CoreFault, Limits, Poll, SharedAsk, Sharing, Ticket};
 use route_json::{Config, read_config};
 use route_tree::{Tree, TreeForm};
@@ -244,18 +244,8 @@ fn core(alloc: Global, text: &str) -> Result<Played, Fail> {
 
 // An ask like that of the call that is out.
 fn ask(alloc: Global) -> Result<Ask, Fail> {
-    Ok(Ask {
-        key: Key::read(b"a").ok().ok_or("a is a key")?,
-        op: Op::Get,
-        dialect: Dialect::Classic,
-        with_cas: false,
-        flags: 0,
-        exptime: None,
-        body: Body::empty(),
-        cas: None,
-        delta: 0,
-        tokens: Tokens::new(alloc),
-    })
+    let key = Key::read(b"a").ok().ok_or("a is a key")?;
+    Ok(Ask::bare(Dialect::Classic, Op::Get, key, Tokens::new(alloc)))
 }
 
 // A ticket that no core gave out.

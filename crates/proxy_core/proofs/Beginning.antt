@@ -18,14 +18,16 @@ use Rattle.route_tree.proofs.Going.{each_ask_has_a_word}
 use Rattle.route_job.specs.Jobs.{Comes}
 use Rattle.route_job.proofs.Executing.{good_at}
 use Rattle.mc_types.specs.declared.ask.Ask.{Ask}
-use Rattle.proxy_core.specs.declared.client.Pending.{Pending}
-use Rattle.proxy_core.specs.declared.client.Client.{Client}
+use Rattle.core_client.specs.declared.client.Pending.{Pending}
+use Rattle.core_client.specs.declared.client.Client.{Client}
 use Rattle.commands_under_way.specs.declared.command.Command.{Command}
 use Rattle.proxy_core.specs.declared.proxy.Core.{Core}
 use Rattle.proxy_core.specs.Steps.{Begins}
 use Rattle.commands_under_way.specs.declared.claim.Claim.{Claim}
-use Rattle.proxy_core.specs.Claims.{claim_by, clears_key, copies_key, has_own}
-use Rattle.proxy_core.specs.CoreState.{dialect, bars_of, client_at, command_at, Beside, front_by, output_by, dropped_by, owner_by, MayComeOf, state_of, is_call, IsSlot, AreSlots, IsAtFront, IsWaitedFor, IsQueue, IsHeld, IsOnItsWay, ticket_by, Fits, GoesByOne}
+use Rattle.proxy_core.specs.Claims.{claim_by, clears_key, copies_key}
+use Rattle.core_client.specs.Clients.{has_own}
+use Rattle.core_client.specs.ClientState.{dialect, front_by, output_by, dropped_by, IsSlot}
+use Rattle.proxy_core.specs.CoreState.{bars_of, client_at, command_at, Beside, owner_by, MayComeOf, state_of, is_call, AreSlots, IsAtFront, IsWaitedFor, IsQueue, IsHeld, IsOnItsWay, ticket_by, Fits, GoesByOne}
 use Rattle.commands_under_way.proofs.Commands.{some_command}
 use Rattle.proxy_core.proofs.Commands.{by_number}
 use Rattle.proxy_core.proofs.Claims.{own_there, none_of}

@@ -10,10 +10,11 @@ use Rattle.mc_runs.specs.OverlapState.{Leads, Either}
 use Rattle.mc_runs.proofs.OverlapSteps.{walks_lead, leads_on}
 use Rattle.route_tree.specs.At.{tree_at}
 use Rattle.route_tree.specs.Word.{tree_words}
-use Rattle.proxy_core.specs.declared.client.Client.{Client}
+use Rattle.core_client.specs.declared.client.Client.{Client}
 use Rattle.commands_under_way.specs.declared.command.Command.{Command}
 use Rattle.proxy_core.specs.declared.proxy.Core.{Core}
-use Rattle.proxy_core.specs.CoreState.{dialect, bars_of, client_at, command_at, Beside, front_by, output_by, dropped_by, owner_by, MayComeOf, state_of, AreSlots, IsWaitedFor, IsQueue, IsHeld, IsOnItsWay, ticket_by, Fits, GoesBy}
+use Rattle.core_client.specs.ClientState.{dialect, front_by, output_by, dropped_by}
+use Rattle.proxy_core.specs.CoreState.{bars_of, client_at, command_at, Beside, owner_by, MayComeOf, state_of, AreSlots, IsWaitedFor, IsQueue, IsHeld, IsOnItsWay, ticket_by, Fits, GoesBy}
 use Rattle.proxy_core.specs.Steps.{event_of, settled, Resolves}
 use Rattle.proxy_core.specs.Ending.{Drops}
 use Rattle.proxy_core.specs.Settles.{SettlesBy, DropsBy, TakesOut}

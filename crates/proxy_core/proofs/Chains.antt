@@ -7,7 +7,8 @@ use Rattle.route_tree.specs.Word.{tree_words}
 use Rattle.proxy_core.specs.declared.limits.Limits.{Limits}
 use Rattle.proxy_core.specs.declared.proxy.Core.{Core}
 use Rattle.proxy_core.specs.Claims.{bars_by}
-use Rattle.proxy_core.specs.CoreState.{dialect, bars_of, Beside, state_of, IsBeside, GoesBy}
+use Rattle.core_client.specs.ClientState.{dialect}
+use Rattle.proxy_core.specs.CoreState.{bars_of, Beside, state_of, IsBeside, GoesBy}
 
 pub beside_on : (old mid new : Beside) → IsBeside old mid → IsBeside mid new → IsBeside old new
 beside_on old mid new a b = record { at = b.at ∙ a.at; holds = b.holds ∙ a.holds; found = b.found ∙ a.found; turn = b.turn ∙ a.turn }

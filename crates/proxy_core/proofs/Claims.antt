@@ -5,10 +5,11 @@ use Rattle.std.specs.List.{list_any}
 use Rattle.std.specs.Map.{lookup}
 use Rattle.mc_types.specs.declared.ask.Ask.{Ask}
 use Rattle.mc_runs.specs.Overlap.{Slot, slot_in}
-use Rattle.proxy_core.specs.declared.client.Pending.{Pending}
+use Rattle.core_client.specs.declared.client.Pending.{Pending}
 use Rattle.commands_under_way.specs.declared.command.Command.{Command}
-use Rattle.proxy_core.specs.Claims.{waits_on, has_own}
-use Rattle.proxy_core.specs.CoreState.{dialect, AreSlots}
+use Rattle.core_client.specs.Clients.{waits_on, has_own}
+use Rattle.core_client.specs.ClientState.{dialect}
+use Rattle.proxy_core.specs.CoreState.{AreSlots}
 use Rattle.commands_under_way.proofs.Commands.{some_command}
 use Rattle.proxy_core.proofs.Slots.{some_slot, no_slot}
 

@@ -13,10 +13,11 @@ use Rattle.request_parts.specs.Stream.{extended}
 use Rattle.route_tree.specs.At.{tree_at}
 use Rattle.route_tree.specs.Word.{tree_words}
 use Rattle.text_codec.proofs.ReaderLaws.{reader_is}
-use Rattle.proxy_core.specs.declared.client.Client.{Client}
+use Rattle.core_client.specs.declared.client.Client.{Client}
 use Rattle.commands_under_way.specs.declared.command.Command.{Command}
 use Rattle.proxy_core.specs.declared.proxy.Core.{Core}
-use Rattle.proxy_core.specs.Clients.{IsNew, Takes, TakesPiece, LosesOutput}
+use Rattle.core_client.specs.Clients.{IsNew, TakesPiece, LosesOutput}
+use Rattle.proxy_core.specs.Feeding.{Takes}
 use Rattle.route_tree.specs.Plan.{Plan}
 use Rattle.proxy_core.specs.declared.limits.Limits.{Limits}
 use Rattle.proxy_core.specs.Faults.{has_commands}
@@ -24,7 +25,8 @@ use Rattle.commands_under_way.specs.Lines.{others}
 use Rattle.proxy_core.specs.Steps.{Turns}
 use Rattle.proxy_core.proofs.Slots.{held_then, same_held}
 use Rattle.proxy_core.proofs.Tickets.{contrary}
-use Rattle.proxy_core.specs.CoreState.{dialect, bars_of, client_at, command_at, Beside, front_by, output_by, dropped_by, owner_by, MayComeOf, state_of, AreSlots, IsAtFront, IsWaitedFor, IsQueue, IsHeld, IsOnItsWay, ticket_by, Fits, GoesByOne, Opens, Feeds, FeedsOpen, Gives, Closes}
+use Rattle.core_client.specs.ClientState.{dialect, front_by, output_by, dropped_by}
+use Rattle.proxy_core.specs.CoreState.{bars_of, client_at, command_at, Beside, owner_by, MayComeOf, state_of, AreSlots, IsAtFront, IsWaitedFor, IsQueue, IsHeld, IsOnItsWay, ticket_by, Fits, GoesByOne, Opens, Feeds, FeedsOpen, Gives, Closes}
 
 -- what is left of a command stays so where the limits stay
 pub on_its_way_kept : (old new : Core) (plan : Plan) (command : Command) → new.limits ≡ old.limits → IsOnItsWay old.limits.sharing plan command → IsOnItsWay new.limits.sharing plan command

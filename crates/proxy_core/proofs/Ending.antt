@@ -11,13 +11,15 @@ use Rattle.request_parts.specs.Stream.{Place}
 use Rattle.text_codec.proofs.ReaderLaws.{reader_is}
 use Rattle.route_tree.specs.At.{tree_at}
 use Rattle.route_tree.specs.Word.{tree_words}
-use Rattle.proxy_core.specs.declared.client.Pending.{Pending}
-use Rattle.proxy_core.specs.declared.client.Client.{Client}
+use Rattle.core_client.specs.declared.client.Pending.{Pending}
+use Rattle.core_client.specs.declared.client.Client.{Client}
 use Rattle.commands_under_way.specs.declared.command.Command.{Command}
 use Rattle.proxy_core.specs.declared.proxy.Core.{Core}
-use Rattle.proxy_core.specs.CoreState.{dialect, bars_of, client_at, command_at, Beside, front_by, output_by, dropped_by, owner_by, MayComeOf, state_of, is_call, has_call_out, AreSlots, IsAtFront, IsWaitedFor, IsQueue, IsHeld, IsOnItsWay, ticket_by, Fits, GoesBy, GoesByOne}
+use Rattle.core_client.specs.ClientState.{dialect, front_by, output_by, dropped_by}
+use Rattle.proxy_core.specs.CoreState.{bars_of, client_at, command_at, Beside, owner_by, MayComeOf, state_of, is_call, has_call_out, AreSlots, IsAtFront, IsWaitedFor, IsQueue, IsHeld, IsOnItsWay, ticket_by, Fits, GoesBy, GoesByOne}
 use Rattle.proxy_core.specs.Steps.{Turns}
-use Rattle.proxy_core.specs.Ending.{pending_in, replied_in, GoesOn, Ends, Drops, Frees}
+use Rattle.core_client.specs.Replying.{pending_in, replied_in, GoesOn}
+use Rattle.proxy_core.specs.Ending.{Ends, Drops, Frees}
 use Rattle.proxy_core.proofs.Clients.{on_its_way_kept, changed, stays, command_stays, still_fits, owners, by_client}
 use Rattle.commands_under_way.proofs.Commands.{no_command}
 use Rattle.proxy_core.proofs.Commands.{by_number}

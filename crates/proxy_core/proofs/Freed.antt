@@ -7,10 +7,11 @@ use Rattle.slab.proofs.SlabLemmas.{Updates-with_value}
 use Rattle.indexmap.specs.IndexMap as map
 use Rattle.mc_runs.specs.Overlap as log
 use Rattle.mc_runs.specs.Overlap.{Entry}
-use Rattle.proxy_core.specs.declared.client.Client.{Client}
+use Rattle.core_client.specs.declared.client.Client.{Client}
 use Rattle.commands_under_way.specs.declared.command.Command.{Command}
 use Rattle.proxy_core.specs.declared.proxy.Core.{Core}
-use Rattle.proxy_core.specs.CoreState.{client_at, command_at, dropped_by}
+use Rattle.proxy_core.specs.CoreState.{client_at, command_at}
+use Rattle.core_client.specs.ClientState.{dropped_by}
 use Rattle.proxy_core.specs.Settles.{is_idle, HasIdle, freed, FreesSome, DropsBy, TakesOut}
 use Rattle.proxy_core.specs.Ending.{Drops}
 use Rattle.commands_under_way.specs.declared.key_lines.Standing.{Standing}

@@ -3,10 +3,7 @@ pub mod Slots
 pub mod Claims
 pub mod Commands
 pub mod Clients
-pub mod Fronts
-pub mod ClientStreams
 pub mod Polls
-pub mod Places
 pub mod Chains
 pub mod Reloading
 pub mod Passing

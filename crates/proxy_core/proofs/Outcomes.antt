@@ -4,10 +4,11 @@ use Rattle.std.proofs.lemmas.Bool.{eqb-true, eq-eqb}
 use Rattle.mc_types.specs.declared.call.Outcome.{Outcome}
 use Rattle.mc_runs.specs.Overlap as log
 use Rattle.mc_runs.specs.Overlap.{Entry, Slot, Owner}
-use Rattle.proxy_core.specs.declared.client.Client.{Client}
+use Rattle.core_client.specs.declared.client.Client.{Client}
 use Rattle.commands_under_way.specs.declared.command.Command.{Command}
 use Rattle.proxy_core.specs.declared.proxy.Core.{Core}
-use Rattle.proxy_core.specs.CoreState.{dialect, client_at, command_at, output_by, dropped_by, is_call, has_call_out, IsHeld}
+use Rattle.core_client.specs.ClientState.{dialect, output_by, dropped_by}
+use Rattle.proxy_core.specs.CoreState.{client_at, command_at, is_call, has_call_out, IsHeld}
 use Rattle.proxy_core.specs.Steps.{Resolves}
 use Rattle.commands_under_way.specs.Lines as line
 use Rattle.proxy_core.specs.Settles.{TakesOutcome, FitsCall, SettlesBy, Settles, AreIdle, freed, FreesSome, FreesIdle, DropsBy, TakesOut, Breaks}

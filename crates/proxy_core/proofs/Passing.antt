@@ -4,11 +4,13 @@ use Rattle.request_parts.specs.Stream.{Place}
 use Rattle.mc_runs.specs.Overlap.{Slot, Passes}
 use Rattle.mc_runs.proofs.OverlapSteps.{walks_lead}
 use Rattle.route_tree.specs.Word.{tree_words}
-use Rattle.proxy_core.specs.declared.client.Pending.{Pending}
-use Rattle.proxy_core.specs.declared.client.Client.{Client}
+use Rattle.core_client.specs.declared.client.Pending.{Pending}
+use Rattle.core_client.specs.declared.client.Client.{Client}
 use Rattle.proxy_core.specs.declared.proxy.Core.{Core}
-use Rattle.proxy_core.specs.Steps.{Turns, PassesOne}
-use Rattle.proxy_core.specs.CoreState.{dialect, Message, bars_of, front_by, output_by, dropped_by, MayComeOf, state_of, AreSlots, IsAtFront, IsWaitedFor, IsQueue, GoesByOne}
+use Rattle.proxy_core.specs.Steps.{Turns}
+use Rattle.core_client.specs.Fronts.{PassesOne}
+use Rattle.core_client.specs.ClientState.{dialect, Message, front_by, output_by, dropped_by}
+use Rattle.proxy_core.specs.CoreState.{bars_of, MayComeOf, state_of, AreSlots, IsAtFront, IsWaitedFor, IsQueue, GoesByOne}
 use Rattle.proxy_core.proofs.Slots.{same_held}
 use Rattle.proxy_core.proofs.Clients.{changed, stays, command_stays, still_fits, owners}
 

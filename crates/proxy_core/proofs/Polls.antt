@@ -16,32 +16,34 @@ use Rattle.route_tree.specs.At.{tree_at}
 use Rattle.route_tree.specs.Route.{IsTree}
 use Rattle.route_tree.specs.Word.{Given, Word, tree_words}
 use Rattle.route_job.specs.Jobs.{Comes, IsDone}
-use Rattle.proxy_core.specs.declared.answering.Passed.{Passed}
-use Rattle.proxy_core.specs.declared.client.Client.{Client}
+use Rattle.core_client.specs.declared.answering.Passed.{Passed}
+use Rattle.core_client.specs.declared.client.Client.{Client}
 use Rattle.commands_under_way.specs.declared.command.Command.{Command}
 use Rattle.proxy_core.specs.declared.proxy.Core.{Core}
-use Rattle.proxy_core.specs.declared.client.Pending.{Pending}
+use Rattle.core_client.specs.declared.client.Pending.{Pending}
 use Rattle.proxy_core.specs.declared.fault.CoreFault.{CoreFault}
 use Rattle.proxy_core.specs.declared.fault.CoreFault.TheVariants as faults
 use Rattle.proxy_core.specs.declared.note.Note.{Note}
 use Rattle.proxy_core.specs.declared.note.Poll.{Poll}
 use Rattle.proxy_core.specs.declared.note.Poll.TheVariants as polls
-use Rattle.proxy_core.specs.declared.replying.Place.{Place}
+use Rattle.core_client.specs.declared.replying.Place.{Place}
 use Rattle.commands_under_way.specs.declared.ticket.Ticket.{Ticket}
 use Rattle.proxy_core.specs.Steps.{Turns}
-use Rattle.proxy_core.specs.Fronts.{Stays, PassesFront, BeginsKey}
+use Rattle.core_client.specs.Fronts.{Stays, PassesFront, BeginsKey}
 use Rattle.commands_under_way.specs.Ready.{IsIdle}
 use Rattle.commands_under_way.specs.Begun.{IsBegun, ticket_of}
 use Rattle.proxy_core.specs.Polls.{ForClient, IsPassed, IsNothing, HasBegun, BeginsAt, CanSend, IsSent, IsEnded, IsServed, AreShown, IsShown, queue_len, ShowsNext, StopsFirst, StopsAfter, IsBelowDepth, BeginsBelow, MayAsk, NoneGoesOn, IsNextAsk, bars, stands_before, StandsStill, StandsInLine, Acts, Polls, IsPolled, IsActed, IsWhy, SoEnded, SoFar, ReadFault, Perhaps, BeginsOne, DropsAll, StopsAt}
 use Rattle.proxy_core.specs.Settles.{freed}
 use Rattle.commands_under_way.specs.Lines as line
 use Rattle.commands_under_way.proofs.Lines.{others_again}
-use Rattle.proxy_core.specs.Heads.{HasNoReply, ShowsOne}
-use Rattle.proxy_core.specs.Resting.{HasCommand}
-use Rattle.proxy_core.specs.Replying.{IsPlace, Answers}
+use Rattle.core_client.specs.Heads.{HasNoReply, ShowsOne}
+use Rattle.core_client.specs.Nexts.{HasCommand}
+use Rattle.core_client.specs.Replying.{IsPlace, Answers}
 use Rattle.proxy_core.specs.Finishing.{CanEnd, IsNote}
-use Rattle.proxy_core.specs.CoreState.{dialect, bars_of, client_at, command_at, front_by, output_by, dropped_by, owner_by, MayComeOf, state_of, is_call, AreSlots, IsAtFront, IsQueue, IsHeld, IsWaitedFor, ticket_by, GoesBy}
-use Rattle.proxy_core.specs.Claims.{claim_by, is_barred, has_own}
+use Rattle.core_client.specs.ClientState.{dialect, front_by, output_by, dropped_by}
+use Rattle.proxy_core.specs.CoreState.{bars_of, client_at, command_at, owner_by, MayComeOf, state_of, is_call, AreSlots, IsAtFront, IsQueue, IsHeld, IsWaitedFor, ticket_by, GoesBy}
+use Rattle.proxy_core.specs.Claims.{claim_by, is_barred}
+use Rattle.core_client.specs.Clients.{has_own}
 use Rattle.proxy_core.proofs.Clients.{on_its_way_kept, stays, command_stays, still_fits, owners}
 use Rattle.proxy_core.proofs.Slots.{same_held}
 use Rattle.commands_under_way.proofs.Commands.{some_command}
@@ -49,7 +51,7 @@ use Rattle.proxy_core.proofs.Passing.{passes}
 use Rattle.proxy_core.proofs.Beginning.{begins}
 use Rattle.proxy_core.proofs.Sending.{sends}
 use Rattle.proxy_core.proofs.Ending.{ends}
-use Rattle.proxy_core.proofs.Places.{there_at, replied_at}
+use Rattle.core_client.proofs.Places.{there_at, replied_at}
 use Rattle.proxy_core.proofs.Showing.{shows}
 use Rattle.proxy_core.proofs.Chains.{Then, goes_then, goes_as, goes_nowhere}
 

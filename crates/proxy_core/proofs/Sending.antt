@@ -15,7 +15,8 @@ use Rattle.route_job.specs.Jobs.{server_in}
 use Rattle.commands_under_way.specs.declared.command.Command.{Command}
 use Rattle.proxy_core.specs.declared.proxy.Core.{Core}
 use Rattle.proxy_core.specs.Steps.{SendsOut}
-use Rattle.proxy_core.specs.CoreState.{bars_of, client_at, command_at, Beside, front_by, output_by, dropped_by, owner_by, MayComeOf, state_of, is_call, IsQueue, IsHeld, IsOnItsWay, ticket_by, Fits, GoesByOne}
+use Rattle.proxy_core.specs.CoreState.{bars_of, client_at, command_at, Beside, owner_by, MayComeOf, state_of, is_call, IsQueue, IsHeld, IsOnItsWay, ticket_by, Fits, GoesByOne}
+use Rattle.core_client.specs.ClientState.{front_by, output_by, dropped_by}
 use Rattle.commands_under_way.proofs.Commands.{some_command, is_call_true}
 use Rattle.proxy_core.proofs.Commands.{by_number, call_key}
 use Rattle.proxy_core.proofs.Clients.{on_its_way_kept}

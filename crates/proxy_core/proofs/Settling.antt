@@ -19,7 +19,8 @@ use Rattle.route_job.specs.Jobs.{server_in, call_of}
 use Rattle.commands_under_way.specs.declared.command.Command.{Command}
 use Rattle.proxy_core.specs.declared.proxy.Core.{Core}
 use Rattle.proxy_core.specs.Steps.{Resolves}
-use Rattle.proxy_core.specs.CoreState.{bars_of, client_at, command_at, Beside, front_by, output_by, dropped_by, owner_by, MayComeOf, state_of, IsQueue, IsHeld, IsOnItsWay, ticket_by, Fits}
+use Rattle.proxy_core.specs.CoreState.{bars_of, client_at, command_at, Beside, owner_by, MayComeOf, state_of, IsQueue, IsHeld, IsOnItsWay, ticket_by, Fits}
+use Rattle.core_client.specs.ClientState.{front_by, output_by, dropped_by}
 use Rattle.commands_under_way.proofs.Commands.{some_command}
 use Rattle.proxy_core.proofs.Commands.{by_number, to_come_after}
 use Rattle.proxy_core.proofs.Clients.{on_its_way_kept}

@@ -10,11 +10,13 @@ use Rattle.text_codec.specs.TextProtocol.{Whole, LongLine, asks_in, shown_by, sh
 use Rattle.text_codec.specs.Replies.{is_last, shown_text}
 use Rattle.route_tree.specs.At.{tree_at}
 use Rattle.route_tree.specs.Word.{tree_words}
-use Rattle.proxy_core.specs.declared.client.Pending.{Pending}
-use Rattle.proxy_core.specs.declared.client.Client.{Client}
+use Rattle.core_client.specs.declared.client.Pending.{Pending}
+use Rattle.core_client.specs.declared.client.Client.{Client}
 use Rattle.proxy_core.specs.declared.proxy.Core.{Core}
-use Rattle.proxy_core.specs.Steps.{Turns, ShowsHead}
-use Rattle.proxy_core.specs.CoreState.{dialect, Message, bars_of, Beside, client_at, quiet_in, front_by, output_by, dropped_by, MayComeOf, state_of, IsSlot, AreSlots, IsAtFront, IsWaitedFor, IsQueue, ticket_by, GoesBy}
+use Rattle.proxy_core.specs.Steps.{Turns}
+use Rattle.core_client.specs.Heads.{ShowsHead}
+use Rattle.core_client.specs.ClientState.{dialect, Message, quiet_in, front_by, output_by, dropped_by, IsSlot}
+use Rattle.proxy_core.specs.CoreState.{bars_of, Beside, client_at, MayComeOf, state_of, AreSlots, IsAtFront, IsWaitedFor, IsQueue, ticket_by, GoesBy}
 use Rattle.proxy_core.proofs.Slots.{no_reply, behind, none_behind, held_then}
 use Rattle.proxy_core.proofs.Clients.{on_its_way_kept, changed, stays, command_stays, owners}
 

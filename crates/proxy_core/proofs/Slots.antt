@@ -3,9 +3,10 @@ use Rattle.std.proofs.Common.{◌≡◌, ℕ, Bool, true, false, cond, List, [],
 use Rattle.std.proofs.lemmas.Bool.{eqb-true}
 use Rattle.mc_types.specs.declared.answer.Answer.{Answer}
 use Rattle.mc_runs.specs.Overlap.{Slot, slot_in, answered_in, is_last_slot}
-use Rattle.proxy_core.specs.declared.client.Client.{Client}
+use Rattle.core_client.specs.declared.client.Client.{Client}
 use Rattle.commands_under_way.specs.declared.command.Command.{Command}
-use Rattle.proxy_core.specs.CoreState.{dialect, IsWaitedFor, IsHeld}
+use Rattle.core_client.specs.ClientState.{dialect}
+use Rattle.proxy_core.specs.CoreState.{IsWaitedFor, IsHeld}
 use Rattle.proxy_core.proofs.Tickets.{contrary}
 
 pub some_slot : {x y : Slot dialect} → ◌≡◌ {A = Option (Slot dialect)} (Some x) (Some y) → x ≡ y

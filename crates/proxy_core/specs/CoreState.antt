@@ -1,5 +1,5 @@
 -- What the core's clients, commands and calls stand for in the log of all that happened, and what each of its calls does. Source: mcgate's own.
-use Rattle.std.specs.Prelude.{◌≡◌, ℕ, ◌+◌, ◌<◌, ◌≤◌, ◌↔◌, Bool, true, false, List, [], ◌∷◌, ◌++◌, Option, Some, None, option_map, if◌then◌else◌, nat_eq, slice_get}
+use Rattle.std.specs.Prelude.{◌≡◌, ℕ, ◌+◌, ◌<◌, ◌≤◌, ◌↔◌, Bool, true, false, List, [], ◌∷◌, ◌++◌, Option, Some, None, option_map, if◌then◌else◌, nat_eq}
 use Rattle.slab.specs.Slab as slab
 use Rattle.indexmap.specs.IndexMap as map
 use Rattle.mc_types.specs.declared.ask.Ask.{Ask}
@@ -7,13 +7,10 @@ use Rattle.mc_types.specs.declared.answer.Answer.{Answer}
 use Rattle.mc_types.specs.declared.call.Origin.TheVariants.{Client as OfClient}
 use Rattle.mc_types.specs.Items.{Item}
 use Rattle.mc_runs.specs.Run.{Call}
-use Rattle.mc_runs.specs.Protocol.{Protocol}
 use Rattle.mc_runs.specs.Overlap as log
 use Rattle.mc_runs.specs.Overlap.{Front, Slot, Ticket, Entry, Resets, ticket_in, without, slot_in, is_last_slot, start_front}
 use Rattle.mc_runs.specs.OverlapState.{OverlapState, LeadsTo, Leads}
 use Rattle.request_parts.specs.Stream.{Place}
-use Rattle.client_requests.specs.Asks.{quiet_of}
-use Rattle.text_codec.specs.TextProtocol.{memcached_text, Said, Whole, LongLine}
 use Rattle.route_tree.specs.At.{tree_at}
 use Rattle.route_tree.specs.Route.{Route}
 use Rattle.route_tree.specs.Plan.{Plan, IsGood}
@@ -21,27 +18,18 @@ use Rattle.route_tree.specs.Word.{Given, Word, tree_words}
 use Rattle.route_job.specs.Jobs.{Comes}
 use Rattle.route_job.specs.Rest.{ask_under, origin_under}
 use Rattle.route_job.specs.Jobs.{server_in}
-use Rattle.proxy_core.specs.declared.client.Pending.{Pending}
-use Rattle.proxy_core.specs.declared.client.Client.{Client}
+use Rattle.core_client.specs.declared.client.Pending.{Pending}
+use Rattle.core_client.specs.declared.client.Client.{Client}
 use Rattle.commands_under_way.specs.declared.command.Command.{Command}
 use Rattle.proxy_core.specs.declared.limits.Limits.{Limits}
 use Rattle.commands_under_way.specs.declared.sharing.Sharing.{Sharing}
 use Rattle.proxy_core.specs.Claims.{claim_by, bars_by}
 use Rattle.commands_under_way.specs.Lines.{others}
 use Rattle.proxy_core.specs.declared.proxy.Core.{Core}
+use Rattle.core_client.specs.ClientState.{IsSlot}
+pub use Rattle.core_client.specs.ClientState.{dialect, Message, front_by, output_by, dropped_by}
 pub use Rattle.commands_under_way.specs.Begun.{owner_by}
 pub use Rattle.commands_under_way.specs.Out.{is_call, has_call_out}
-
--- what clients say, and what they are shown for it
-abbrev pub dialect : Protocol
-dialect = memcached_text
-
-abbrev pub Message : Type 0
-Message = Said
-
-abbrev pub quiet_in : Message → Bool
-quiet_in (Whole message) = quiet_of message
-quiet_in LongLine = false
 
 abbrev pub client_at : Core → ℕ → Option Client
 client_at core c = slab.get core.clients c
@@ -62,19 +50,6 @@ pub record Beside : Type 0 where
 -- which commands the core doesn't let be under way together on one key: by its own rule, and by the plain trees that they run by
 abbrev pub bars_of : Core → Beside → ℕ → Ask → ℕ → Ask → Type 0
 bars_of core beside = bars_by core.limits.sharing beside.at
-
--- a client that isn't there said nothing
-abbrev pub front_by : Option Client → Front dialect
-front_by None = start_front
-front_by (Some x) = record { place = x.stream; index = x.index; waits = x.waits }
-
-abbrev pub output_by : Option Client → List ℕ
-output_by None = []
-output_by (Some x) = x.output.items
-
-abbrev pub dropped_by : Option Client → Bool
-dropped_by None = false
-dropped_by (Some x) = x.dropped
 
 -- what may still come of a command
 abbrev pub MayComeOf : Option Command → List Call → Answer → Option ℕ → Type 0
@@ -97,15 +72,6 @@ state_of core beside =
       found = beside.found;
       turn = beside.turn;
     }
-
--- what the core keeps of a command of a client's queue
-pub record IsSlot (pending : Pending) (slot : Slot dialect) : Type 0 where
-  pub number : slot.number ≡ pending.number
-  pub ask : slot.ask ≡ pending.ask
-  pub reply : slot.reply ≡ pending.reply
-  pub quiet : quiet_in slot.message ≡ pending.quiet
-  pub last : is_last_slot slot ≡ pending.last
-  pub asks : slice_get (dialect.asks_of slot.message) slot.index ≡ Some pending.ask
 
 abbrev pub AreSlots : List Pending → List (Slot dialect) → Type 0
 AreSlots [] [] = Unit {0}

@@ -1,34 +1,18 @@
 -- What changes in the core when a command of a client has its reply, nothing is done for a client any more, and a command of such a client is broken off; that each of these is a step of the core is a law. Source: mcgate's own.
-use Rattle.std.specs.Prelude.{◌≡◌, ℕ, ◌+◌, Bool, true, false, List, [], ◌∷◌, Option, Some, None, if◌then◌else◌, nat_eq}
+use Rattle.std.specs.Prelude.{◌≡◌, ℕ, true, false, [], ◌∷◌, Option, Some, None, if◌then◌else◌, nat_eq}
 use Rattle.mc_types.specs.declared.answer.Answer.{Answer}
 use Rattle.mc_runs.specs.Log.{Part}
 use Rattle.mc_runs.specs.Overlap as log
 use Rattle.mc_runs.specs.Overlap.{Front, Entry, Happens}
-use Rattle.request_parts.specs.Stream.{Place}
 use Rattle.route_job.specs.Jobs.{Comes}
-use Rattle.proxy_core.specs.declared.client.Pending.{Pending}
-use Rattle.proxy_core.specs.declared.client.Client.{Client}
+use Rattle.core_client.specs.declared.client.Pending.{Pending}
+use Rattle.core_client.specs.declared.client.Client.{Client}
 use Rattle.commands_under_way.specs.declared.command.Command.{Command}
 use Rattle.proxy_core.specs.declared.proxy.Core.{Core}
-use Rattle.proxy_core.specs.CoreState.{dialect, Message, client_at, command_at, front_by, has_call_out, GoesBy, GoesByOne}
+use Rattle.core_client.specs.ClientState.{dialect}
+use Rattle.core_client.specs.Replying.{pending_in, replied_in, GoesOn}
+use Rattle.proxy_core.specs.CoreState.{client_at, command_at, has_call_out, GoesBy, GoesByOne}
 use Rattle.proxy_core.specs.Steps.{Turns}
-
--- the first command of this number in a client's queue
-abbrev pub pending_in : ℕ → List Pending → Option Pending
-pending_in n [] = None
-pending_in n (pending ∷ rest) = if nat_eq pending.number n then Some pending else pending_in n rest
-
--- it has its reply
-abbrev pub replied_in : ℕ → Answer → List Pending → List Pending
-replied_in n reply [] = []
-replied_in n reply (pending ∷ rest) = if nat_eq pending.number n then record pending { reply = Some reply } ∷ rest else pending ∷ replied_in n reply rest
-
--- where the starting of a client's commands goes on when this reply has come: of a last key it had gone on before; of any other it stands after the message, where the reply ends it, or before its next key
-abbrev pub GoesOn : Bool → Client → Answer → Client → Type 0
-GoesOn true x reply y = front_by (Some y) ≡ front_by (Some x)
-GoesOn false x reply y =
-    (message : Message) × (next : Place) × dialect.Reads x.stream message next
-    × (◌≡◌ {A = Front dialect} (front_by (Some y)) (if dialect.ends message x.index reply then record { place = next; index = 0; waits = false } else record { place = x.stream; index = x.index + 1; waits = false }))
 
 -- the command of this number, whose job is done, is over, and its client's queue has its reply
 pub record Ends (old new : Core) (number : ℕ) (a : Command) (x y : Client) (pending : Pending) (reply : Answer) (from : Option ℕ) : Type 0 where

@@ -8,7 +8,8 @@ use Rattle.proxy_core.specs.declared.limits.TheConstants.{SCRIPT_HELD}
 use Rattle.proxy_core.specs.declared.limits.Limits.{Limits}
 use Rattle.commands_under_way.specs.declared.sharing.Sharing.TheVariants.{Alone}
 use Rattle.proxy_core.specs.declared.proxy.Core.{Core}
-use Rattle.proxy_core.specs.Clients.{IsEnded, HasRoom, RoomFault}
+use Rattle.core_client.specs.Clients.{IsEnded}
+use Rattle.proxy_core.specs.Feeding.{HasRoom, RoomFault}
 use Rattle.proxy_core.specs.CoreState.{client_at}
 pub use Rattle.commands_under_way.specs.Owned.{has_commands}
 

@@ -1,15 +1,10 @@
 pub mod Claims
-pub mod Clients
-pub mod ClientStreams
+pub mod Feeding
 pub mod CoreState
 pub mod Faults
 pub mod Steps
-pub mod Fronts
-pub mod Heads
 pub mod Polls
 pub mod Ending
-pub mod Replying
 pub mod Finishing
 pub mod Settles
-pub mod Nexts
 pub mod Resting

@@ -6,37 +6,35 @@ use Rattle.mc_types.specs.declared.answer.Answer.{Answer}
 use Rattle.mc_runs.specs.Log.{Part}
 use Rattle.mc_runs.specs.Overlap.{Slot, Entry, Starts, Sends, Ends, Shows, Passes, Drops}
 use Rattle.mc_runs.specs.Protocol.{IsStuck}
-use Rattle.request_parts.specs.Stream.{Place, Stands}
-use Rattle.client_requests.specs.declared.reader.Read.{Read}
+use Rattle.request_parts.specs.Stream.{Place}
 use Rattle.client_requests.specs.declared.request.Request.{Request}
-use Rattle.request_parts.specs.declared.skip.Skip.TheVariants.{Nothing}
-use Rattle.client_requests.specs.Message.{IsReadFrom, message_in}
-use Rattle.client_requests.specs.Asks.{asks_of}
-use Rattle.text_codec.specs.Held.{IsReadAt, held_at}
-use Rattle.proxy_core.specs.declared.answering.Passed.{Passed}
-use Rattle.proxy_core.specs.declared.client.Client.{Client}
+use Rattle.core_client.specs.declared.answering.Passed.{Passed}
+use Rattle.core_client.specs.declared.client.Client.{Client}
 use Rattle.proxy_core.specs.declared.fault.CoreFault.{CoreFault}
 use Rattle.proxy_core.specs.declared.fault.CoreFault.TheVariants as faults
 use Rattle.proxy_core.specs.declared.limits.TheConstants.{LAST_COMMAND}
 use Rattle.proxy_core.specs.declared.proxy.Core.{Core}
 use Rattle.route_job.specs.Jobs.{IsCalling}
 use Rattle.commands_under_way.specs.declared.command.Command.{Command}
-use Rattle.proxy_core.specs.declared.answering.Passed.TheVariants.{Own, Refused}
+use Rattle.core_client.specs.declared.answering.Passed.TheVariants.{Own, Refused}
 use Rattle.commands_under_way.specs.declared.turns.Turn.TheVariants.{Full}
 use Rattle.proxy_core.specs.declared.note.Note.{Note}
 use Rattle.proxy_core.specs.declared.note.Poll.{Poll}
 use Rattle.proxy_core.specs.declared.note.Poll.TheVariants as polls
 use Rattle.proxy_core.specs.Settles.{freed, HasNoIdle}
 use Rattle.commands_under_way.specs.declared.ticket.Ticket.{Ticket}
-use Rattle.proxy_core.specs.CoreState.{dialect, Message, client_at, command_at, output_by, dropped_by, GoesBy}
-use Rattle.proxy_core.specs.Fronts.{AsksNone, told_of, IsAskAt}
+use Rattle.core_client.specs.ClientState.{dialect, Message, output_by, dropped_by}
+use Rattle.proxy_core.specs.CoreState.{client_at, command_at, GoesBy}
+use Rattle.core_client.specs.Fronts.{told_of, IsAskAt}
 use Rattle.route_tree.specs.At.{tree_at}
 use Rattle.commands_under_way.specs.declared.claim.Claim.{Claim}
-use Rattle.proxy_core.specs.Claims.{claim_by, is_barred, has_own}
+use Rattle.proxy_core.specs.Claims.{claim_by, is_barred}
+use Rattle.core_client.specs.Clients.{has_own}
 use Rattle.commands_under_way.specs.Lines.{is_behind, others, joined}
-use Rattle.proxy_core.specs.Heads.{HasNoReply}
+use Rattle.core_client.specs.Heads.{HasNoReply}
 use Rattle.commands_under_way.specs.Ready.{IsIdle, IsTurn}
-use Rattle.proxy_core.specs.Resting.{AreHeldUp, HasCommand, IsLater}
+use Rattle.proxy_core.specs.Resting.{AreHeldUp}
+use Rattle.core_client.specs.Nexts.{CanAskBelow, HasCommand, IsLater}
 
 -- this holds of the client, which is there
 abbrev pub ForClient : Core → ℕ → (Client → Type 0) → Type 0
@@ -44,13 +42,6 @@ ForClient core client Is = MatchOption (client_at core client) ⊥ Is
 
 abbrev pub IsServed : Client → Type 0
 IsServed x = x.dropped ≡ false
-
--- nothing is under way for the client, which is served, and this was read at its front: a message that asks no server
-pub record IsPassing (read : Read) (x : Client) : Type 0 where
-  pub is_read : IsReadAt x.stream read
-  pub asks : AsksNone x.stream read
-  pub served : x.dropped ≡ false
-  pub none : x.queue.items ≡ []
 
 -- a message that asks no server was passed, and is told so
 abbrev pub IsPassed : ℕ → Passed → List (Entry dialect) → Type 0
@@ -73,24 +64,6 @@ StopsAfter client IsKind old faults.Spent new = ⊥
 -- memory was refused before anything happened
 abbrev pub StopsFirst : ℕ → Core → CoreFault → Core → Type 0
 StopsFirst client = StopsAfter client IsNothing
-
--- the next key of the request at the front of the client, which is served, is this ask's
-pub record CanBegin (request : Request) (ask : Ask) (x : Client) : Type 0 where
-  pub at : IsAskAt x request ask
-  pub ready : x.waits ≡ false
-  pub served : x.dropped ≡ false
-
--- the request stands at the front of the client, which is served, and a key of it is next
-pub record CanAsk (request : Request) (x : Client) : Type 0 where
-  pub stands : x.stream ≡ Stands Nothing (held_at x.stream)
-  pub is_read : IsReadFrom (held_at x.stream) request
-  pub there : x.index < length (asks_of (message_in (held_at x.stream) request))
-  pub ready : x.waits ≡ false
-  pub served : x.dropped ≡ false
-
--- and it has fewer commands whose replies were not shown than this
-abbrev pub CanAskBelow : ℕ → Request → Client → Type 0
-CanAskBelow depth request x = CanAsk request x × (length x.queue.items < depth)
 
 -- a command of this ask began
 abbrev pub HasBegun : ℕ → ℕ → Ask → List (Entry dialect) → Type 0

@@ -13,12 +13,13 @@ use Rattle.mc_runs.specs.OverlapState.{Leads}
 use Rattle.route_tree.specs.Word.{tree_words}
 use Rattle.route_job.specs.Rest.{ask_under, origin_under}
 use Rattle.route_job.specs.Jobs.{server_in}
-use Rattle.proxy_core.specs.declared.client.Client.{Client}
+use Rattle.core_client.specs.declared.client.Client.{Client}
 use Rattle.commands_under_way.specs.declared.command.Command.{Command}
 use Rattle.proxy_core.specs.declared.fault.CoreFault.{CoreFault}
 use Rattle.proxy_core.specs.declared.fault.CoreFault.TheVariants as faults
 use Rattle.proxy_core.specs.declared.proxy.Core.{Core}
-use Rattle.proxy_core.specs.CoreState.{dialect, bars_of, client_at, command_at, Beside, output_by, dropped_by, state_of, has_call_out, Fits, IsBeside, GoesBy}
+use Rattle.core_client.specs.ClientState.{dialect, output_by, dropped_by}
+use Rattle.proxy_core.specs.CoreState.{bars_of, client_at, command_at, Beside, state_of, has_call_out, Fits, IsBeside, GoesBy}
 use Rattle.proxy_core.specs.Steps.{event_of, settled}
 use Rattle.proxy_core.specs.Ending.{Drops}
 use Rattle.commands_under_way.specs.Lines as line

@@ -12,18 +12,21 @@ use Rattle.mc_runs.specs.Sharing.{Event, Calls, after_event}
 use Rattle.mc_runs.specs.Overlap.{Slot, Starts, Sends, Happens, Shows, Passes, after_start, slot_of, IsNext, out_after}
 use Rattle.mc_runs.specs.OverlapState.{Leads, found_after}
 use Rattle.request_parts.specs.Stream.{Place}
-use Rattle.text_codec.specs.Replies.{shown_text}
 use Rattle.route_tree.specs.At.{tree_at}
 use Rattle.route_tree.specs.Route.{IsTree}
 use Rattle.route_tree.specs.Word.{Given, Word, tree_words}
 use Rattle.route_job.specs.Rest.{ask_under, origin_under}
 use Rattle.route_job.specs.Jobs.{server_in, call_of, Comes, IsCalling}
-use Rattle.proxy_core.specs.declared.client.Pending.{Pending}
-use Rattle.proxy_core.specs.declared.client.Client.{Client}
+use Rattle.core_client.specs.declared.client.Pending.{Pending}
+use Rattle.core_client.specs.declared.client.Client.{Client}
 use Rattle.commands_under_way.specs.declared.command.Command.{Command}
 use Rattle.proxy_core.specs.declared.proxy.Core.{Core}
-use Rattle.proxy_core.specs.Claims.{claim_by, is_barred, has_own}
-use Rattle.proxy_core.specs.CoreState.{dialect, Message, bars_of, client_at, command_at, Beside, front_by, owner_by, state_of, IsSlot, Fits, GoesBy, GoesByOne}
+use Rattle.proxy_core.specs.Claims.{claim_by, is_barred}
+use Rattle.core_client.specs.Clients.{has_own}
+use Rattle.core_client.specs.ClientState.{dialect, Message, front_by, IsSlot}
+use Rattle.core_client.specs.Fronts.{PassesOne}
+use Rattle.core_client.specs.Heads.{ShowsHead}
+use Rattle.proxy_core.specs.CoreState.{bars_of, client_at, command_at, Beside, owner_by, state_of, Fits, GoesBy, GoesByOne}
 
 -- one client's place changed, and nothing else of the core but the room for clients and the lines of keys
 pub record Turns (old new : Core) (client : ℕ) (a b : Option Client) : Type 0 where
@@ -34,19 +37,6 @@ pub record Turns (old new : Core) (client : ℕ) (a b : Option Client) : Type 0 
   pub tree : new.tree ≡ old.tree
   pub limits : new.limits ≡ old.limits
   pub number : new.number ≡ old.number
-
--- a client without commands under way passed a message that asks no server
-pub record PassesOne (x : Client) (message : Message) (next : Place) (y : Client) : Type 0 where
-  pub reads : dialect.Reads x.stream message next
-  pub asks : dialect.asks_of message ≡ []
-  pub served : x.dropped ≡ false
-  pub none : x.queue.items ≡ []
-  pub queue : y.queue.items ≡ []
-  pub stream : y.stream ≡ next
-  pub index : y.index ≡ 0
-  pub waits : y.waits ≡ false
-  pub output : y.output.items ≡ x.output.items ++ dialect.passed message
-  pub dropped : y.dropped ≡ x.dropped
 
 -- the core began a command of a client: this key of the message at its front
 pub record Begins (old new : Core) (client : ℕ) (x y : Client) (part : Part dialect) (pending : Pending) (command : Command) : Type 0 where
@@ -102,19 +92,6 @@ pub record Resolves (old new : Core) (number : ℕ) (a b : Command) (outcome : O
   pub tree : new.tree ≡ old.tree
   pub limits : new.limits ≡ old.limits
   pub number_is : new.number ≡ old.number
-
--- the head of its commands was shown
-pub record ShowsHead (x : Client) (pending : Pending) (reply : Answer) (y : Client) : Type 0 where
-  pub rest : List Pending
-  pub head : x.queue.items ≡ pending ∷ rest
-  pub replied : pending.reply ≡ Some reply
-  pub served : x.dropped ≡ false
-  pub queue : y.queue.items ≡ rest
-  pub output : y.output.items ≡ x.output.items ++ shown_text pending.quiet pending.last pending.ask reply
-  pub stream : y.stream ≡ x.stream
-  pub index : y.index ≡ x.index
-  pub waits : y.waits ≡ x.waits
-  pub dropped : y.dropped ≡ x.dropped
 
 -- a message that asks no server is passed
 abbrev pub PassingIsAStep : Type 0

@@ -5,8 +5,8 @@ ghost use Rattle.commands_under_way.specs.Ready.{IsTurn};
 ghost use Rattle.commands_under_way.specs.declared.turns.Turn.TheVariants.{Full};
 ghost use Rattle.proxy_core.specs.Resting.{IsReady, IsHeldUp, AreHeldUp};
 
-use crate::client::Pending;
 use commands_under_way::{CommandTable, Turn, turn_of};
+use core_client::Pending;
 use std::collections::VecDeque;
 
 /// A command, and what it can do.

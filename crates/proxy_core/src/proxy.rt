@@ -2,16 +2,18 @@
 
 ghost use Rattle.slab.specs.Slab.{get};
 ghost use Rattle.std.specs.Prelude.{◌≡◌, ◌++◌, ◌↔◌, IsTrue, IfOk, IfErr, OnOk, OnErr};
-ghost use Rattle.proxy_core.specs.CoreState.{IsFresh, IsOut, Opens, Feeds, Gives, Closes, LeavesLine, Reloads, client_at, output_by};
+ghost use Rattle.proxy_core.specs.CoreState.{IsFresh, IsOut, Opens, Feeds, Gives, Closes, LeavesLine, Reloads, client_at};
+ghost use Rattle.core_client.specs.ClientState.{output_by};
 ghost use Rattle.commands_under_way.specs.Lines.{is_standing};
 ghost use Rattle.proxy_core.specs.Faults.{IsClosed, CanOpen, CanFeed, CanClose, OpenFault, FeedFault, OutputFault, CloseFault};
 
-use crate::client::Client;
 use crate::fault::{CoreFault, ReloadFault};
+use crate::feeding::feed_within;
 use crate::limits::{LAST_GENERATION, Limits};
 use bytes::BytesMut;
 use commands_under_way::owned::has_commands;
 use commands_under_way::{CommandTable, KeyLines};
+use core_client::Client;
 use route_tree::Tree;
 use slab::Slab;
 use std::alloc::Global;
@@ -77,7 +79,7 @@ impl Core {
     {
         match self.clients.get_mut(client) {
             None => Err(CoreFault::NoClient),
-            Some(x) => x.feed_within(self.limits.held, piece),
+            Some(x) => feed_within(x, self.limits.held, piece),
         }
     }
 

@@ -1,7 +1,8 @@
 //! The result of a call of a server comes.
 
 ghost use Rattle.std.specs.Prelude.{◌≡◌, OnOk, IfErr, IfSome, option_map};
-ghost use Rattle.proxy_core.specs.CoreState.{client_at, dropped_by};
+ghost use Rattle.proxy_core.specs.CoreState.{client_at};
+ghost use Rattle.core_client.specs.ClientState.{dropped_by};
 ghost use Rattle.proxy_core.specs.Settles.{FitsCall, asked, IsCalled, TakesOut, Settles, SettleFault};
 
 use crate::fault::CoreFault;

@@ -19,8 +19,8 @@ use Rattle.route_tree.specs.Word.{tree_words}
 use Rattle.proxy_core.specs.Claims.{bars_by}
 use Rattle.proxy_core.specs.CoreState.{dialect, client_at, command_at, dropped_by, front_by, IsQueue, AreSlots, IsOut}
 use Rattle.proxy_core.specs.Polls.{IsDone}
-use Rattle.proxy_core.specs.declared.client.Client.{Client}
-use Rattle.proxy_core.specs.declared.client.Pending.{Pending}
+use Rattle.core_client.specs.declared.client.Client.{Client}
+use Rattle.core_client.specs.declared.client.Pending.{Pending}
 use Rattle.proxy_core.specs.declared.proxy.Core.{Core}
 use Rattle.commands_under_way.specs.declared.command.Command.{Command}
 use Rattle.commands_under_way.specs.declared.sharing.Sharing.TheVariants.{Alone}

@@ -1,13 +1,15 @@
-use Rattle.std.proofs.Common.{◌≡◌, ℕ, ◌<◌, Bool, true, false, List, length, sym, refl, ap, ◌∙◌, subst, inl, inr}
+use Rattle.std.proofs.Common.{◌≡◌, ℕ, ◌<◌, Bool, true, false, List, length, sym, refl, ap, ◌∙◌, inl, inr}
 use Rattle.mc_types.specs.declared.ask.Ask.{Ask}
 use Rattle.client_requests.specs.declared.request.Request.{Request}
-use Rattle.proxy_core.specs.declared.client.Client.{Client}
+use Rattle.core_client.specs.declared.client.Client.{Client}
 use Rattle.proxy_core.specs.declared.note.Poll.TheVariants.{Busy}
-use Rattle.proxy_core.specs.Fronts.{IsAskAt}
+use Rattle.core_client.specs.Fronts.{IsAskAt}
 use Rattle.proxy_core.specs.declared.proxy.Core.{Core}
-use Rattle.proxy_core.specs.Claims.{is_barred, has_own}
+use Rattle.proxy_core.specs.Claims.{is_barred}
+use Rattle.core_client.specs.Clients.{has_own}
 use Rattle.commands_under_way.specs.Lines.{is_behind, others}
-use Rattle.proxy_core.specs.Polls.{CanAsk, CanAskBelow, IsBelowDepth, ForClient, IsServed, IsNextAsk, claim_of, bars, stands_before, CanBegin, Acts, Polls, StopsAfter, SoEnded, ReadFault}
+use Rattle.core_client.specs.Nexts.{CanAskBelow, CanBegin}
+use Rattle.proxy_core.specs.Polls.{IsBelowDepth, ForClient, IsServed, IsNextAsk, claim_of, bars, stands_before, Acts, Polls, StopsAfter, SoEnded, ReadFault}
 use Rattle.proxy_core.proofs.Polls.{first_stops, begun_stops, begun_polls, nothing_polls, for_map, for_both, if_err, if_ok}
 use Rattle.proxy_core.proofs.proxy.Core.begin_ask.Goals as goal
 

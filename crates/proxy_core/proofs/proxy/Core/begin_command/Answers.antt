@@ -1,10 +1,11 @@
-use Rattle.proxy_core.specs.declared.client.Client.{Client}
-use Rattle.proxy_core.specs.Claims.{has_own}
+use Rattle.core_client.specs.declared.client.Client.{Client}
+use Rattle.core_client.specs.Clients.{has_own}
 use Rattle.std.proofs.Common.{◌≡◌, false, ◌+◌, sym, refl, ap, ◌∙◌, nat_eq, cond, Some}
 use Rattle.std.specs.Map.{lookup}
 use Rattle.proxy_core.specs.Steps.{Turns}
-use Rattle.proxy_core.specs.Fronts.{Stays}
-use Rattle.proxy_core.specs.Polls.{CanBegin, IsServed}
+use Rattle.core_client.specs.Fronts.{Stays}
+use Rattle.core_client.specs.Nexts.{CanBegin}
+use Rattle.proxy_core.specs.Polls.{IsServed}
 use Rattle.proxy_core.proofs.Clients.{written}
 use Rattle.proxy_core.proofs.Polls.{same_goes, still_goes, begun_goes, of_client, when_ok, when_err, still_served, for_map}
 use Rattle.proxy_core.proofs.proxy.Core.begin_command.Goals as goal

@@ -1,4 +1,5 @@
-use Rattle.proxy_core.specs.Polls.{CanBegin, IsServed}
+use Rattle.core_client.specs.Nexts.{CanBegin}
+use Rattle.proxy_core.specs.Polls.{IsServed}
 use Rattle.proxy_core.proofs.Chains.{goes_nowhere}
 use Rattle.proxy_core.proofs.Polls.{for_map}
 use Rattle.proxy_core.proofs.proxy.Core.begin_key.Goals as goal

@@ -1,10 +1,11 @@
-use Rattle.std.proofs.Common.{◌≡◌, IfOk, IfErr, refl, sym, subst}
+use Rattle.std.proofs.Common.{IfOk, IfErr, refl, sym, subst}
 use Rattle.proxy_core.specs.declared.fault.CoreFault.{CoreFault}
 use Rattle.proxy_core.specs.declared.fault.CoreFault.TheVariants.{NoMemory}
 use Rattle.proxy_core.specs.declared.proxy.Core.{Core}
-use Rattle.proxy_core.specs.Polls.{CanAsk, CanAskBelow, CanBegin, ForClient, IsServed, NoneGoesOn, Polls, ReadFault}
+use Rattle.core_client.specs.Nexts.{CanAsk, CanAskBelow, CanBegin}
+use Rattle.proxy_core.specs.Polls.{ForClient, IsServed, NoneGoesOn, Polls, ReadFault}
 use Rattle.proxy_core.proofs.Chains.{goes_nowhere}
-use Rattle.proxy_core.proofs.Polls.{first_stops, for_map, if_err, if_ok}
+use Rattle.proxy_core.proofs.Polls.{first_stops, for_map}
 use Rattle.proxy_core.proofs.proxy.Core.begin_next.Goals as goal
 
 pub next_ask-requires : goal.next_ask-requires

@@ -1,6 +1,6 @@
 use Rattle.std.proofs.Common.{◌≡◌, List, [], ◌∷◌, ◌++◌, ap, ◌∙◌}
 use Rattle.mc_runs.specs.Overlap.{Entry, Drops}
-use Rattle.proxy_core.specs.CoreState.{dialect, output_by, dropped_by}
+use Rattle.core_client.specs.ClientState.{dialect, output_by, dropped_by}
 use Rattle.proxy_core.specs.Settles.{freed}
 use Rattle.proxy_core.proofs.Chains.{Then, goes_then, goes_as}
 use Rattle.proxy_core.proofs.proxy.Core.drop_client.Goals as goal

@@ -1,5 +1,5 @@
 use Rattle.std.proofs.Common.{Some, true, sym, refl, ap}
-use Rattle.proxy_core.specs.CoreState.{output_by, dropped_by}
+use Rattle.core_client.specs.ClientState.{output_by, dropped_by}
 use Rattle.proxy_core.specs.Steps.{Turns}
 use Rattle.proxy_core.proofs.Clients.{written, stays}
 use Rattle.proxy_core.proofs.Ending.{drops}

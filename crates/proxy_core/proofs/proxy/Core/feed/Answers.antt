@@ -1,6 +1,6 @@
 use Rattle.std.proofs.Common.{sym, subst, MatchOption}
 use Rattle.indexmap.proofs.MapLemmas.{OnOk-map}
-use Rattle.proxy_core.specs.Clients.{HasRoom}
+use Rattle.proxy_core.specs.Feeding.{HasRoom}
 use Rattle.proxy_core.proofs.Clients.{fed}
 use Rattle.proxy_core.proofs.proxy.Core.feed.Goals as goal
 
@@ -8,7 +8,7 @@ pub returns-in-Some-clause-ok : goal.returns-in-Some-clause-ok
 returns-in-Some-clause-ok c =
     let old = c.args.self.now in
     let x = c.in-Some.x.now in
-    let y = c.feed_within.new.self in
+    let y = c.feed_within.new.client in
     let was = sym c.in-Some.ensures.value in
     OnOk-map c.feed_within.result _ _ (λ taken. (
       subst (λ o. MatchOption o ⊥ (λ x. HasRoom old.limits.held x c.args.piece.now)) (sym was) taken.0,

@@ -1,5 +1,6 @@
 use Rattle.std.proofs.Common.{sym, ap, ◌∙◌, ◌++◌}
-use Rattle.proxy_core.specs.CoreState.{client_at, output_by}
+use Rattle.proxy_core.specs.CoreState.{client_at}
+use Rattle.core_client.specs.ClientState.{output_by}
 use Rattle.proxy_core.proofs.Clients.{written, gives}
 use Rattle.proxy_core.proofs.proxy.Core.move_output.Goals as goal
 

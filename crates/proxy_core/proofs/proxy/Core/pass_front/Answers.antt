@@ -1,5 +1,5 @@
 use Rattle.std.proofs.Common.{sym}
-use Rattle.proxy_core.specs.Polls.{IsPassing}
+use Rattle.core_client.specs.Nexts.{IsPassing}
 use Rattle.proxy_core.proofs.Clients.{written}
 use Rattle.proxy_core.proofs.Polls.{passed_goes, still_goes, still_served, of_client}
 use Rattle.proxy_core.proofs.proxy.Core.pass_front.Goals as goal

@@ -1,5 +1,5 @@
 use Rattle.std.proofs.Common.{MatchOption, subst}
-use Rattle.proxy_core.specs.declared.client.Client.{Client}
+use Rattle.core_client.specs.declared.client.Client.{Client}
 use Rattle.proxy_core.specs.Resting.{AreHeldUp}
 use Rattle.proxy_core.proofs.Resting.{if_none}
 use Rattle.proxy_core.proofs.proxy.Core.ready.Goals as goal

@@ -1,7 +1,8 @@
 use Rattle.std.proofs.Common.{◌≡◌, cond, Some, refl, sym, ap, ◌∙◌, subst, true}
 use Rattle.commands_under_way.specs.declared.command.Command.{Command}
 use Rattle.proxy_core.specs.declared.proxy.Core.{Core}
-use Rattle.proxy_core.specs.CoreState.{command_at, client_at, dropped_by, has_call_out}
+use Rattle.proxy_core.specs.CoreState.{command_at, client_at, has_call_out}
+use Rattle.core_client.specs.ClientState.{dropped_by}
 use Rattle.proxy_core.specs.Settles.{FitsCall, Settles, Breaks, TakesOut, FreesIdle}
 use Rattle.commands_under_way.proofs.Commands.{some_command}
 use Rattle.proxy_core.proofs.Outcomes.{goes_further, is_freed, breaks_off}

@@ -1,0 +1,4 @@
+pub mod ClientStreams
+pub mod Fronts
+pub mod Places
+pub mod Resting

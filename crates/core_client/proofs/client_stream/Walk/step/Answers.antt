@@ -1,0 +1,19 @@
+use Rattle.std.proofs.Common.{ℕ, List, ap, subst, ◌∙◌}
+use Rattle.client_requests.specs.Message.{message_in}
+use Rattle.client_requests.specs.Asks.{asks_of, counted, IsWalk}
+use Rattle.text_codec.specs.Held.{held_at}
+use Rattle.core_client.proofs.ClientStreams.{counted_one, next_is}
+use Rattle.core_client.proofs.client_stream.Walk.step.Goals as goal
+
+pub returns-clause-at : goal.returns-clause-at
+returns-clause-at c =
+    let walk = c.args.self.now in
+    let place = c.args.stream.now in
+    let next = c.in_ok-next.field-0 in
+    record {
+      read = c.requires.at.read;
+      asks = subst (λ (bytes : List ℕ). IsWalk bytes c.next.new.self) c.held.ensures c.in_ok-next.ensures.walk;
+      request = c.in_ok-next.ensures.request ∙ c.requires.at.request;
+      taken = c.in_ok-next.ensures.taken ∙ ap (λ n. counted next n) c.requires.at.taken
+          ∙ counted_one next (asks_of (message_in (held_at place) walk.request)) walk.taken (next_is place walk c.held.result.now next c.held.ensures c.requires.at c.in_ok-next.ensures.value) c.requires.there;
+    }

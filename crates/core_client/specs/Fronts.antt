@@ -1,0 +1,102 @@
+-- What stands at a client's front, and what is changed of one client where it is passed, or a key of it begins. Source: mcgate's own.
+use Rattle.std.specs.Prelude.{◌≡◌, ℕ, ◌<◌, Bool, true, false, List, [], ◌∷◌, ◌++◌, length, Some, slice_get, if◌then◌else◌}
+use Rattle.mc_types.specs.declared.ask.Ask.{Ask}
+use Rattle.mc_runs.specs.Log.{Part}
+use Rattle.mc_runs.specs.Overlap.{Front, IsNext, after_start, slot_of}
+use Rattle.request_parts.specs.declared.skip.Skip.TheVariants.{Nothing}
+use Rattle.request_parts.specs.Message.{Served, Refusal}
+use Rattle.request_parts.specs.Stream.{Place, Stands}
+use Rattle.client_requests.specs.declared.reader.Read.{Read}
+use Rattle.client_requests.specs.declared.reader.Read.TheVariants as reads
+use Rattle.client_requests.specs.declared.request.Request.{Request}
+use Rattle.client_requests.specs.Message.{IsReadFrom, message_in}
+use Rattle.client_requests.specs.Asks.{asks_of}
+use Rattle.text_codec.specs.Held.{held_at}
+use Rattle.text_codec.specs.TextProtocol.{Whole, LongLine}
+use Rattle.core_client.specs.declared.client.Client.{Client}
+use Rattle.core_client.specs.declared.client.Pending.{Pending}
+use Rattle.core_client.specs.declared.answering.Passed.{Passed}
+use Rattle.core_client.specs.declared.answering.Passed.TheVariants.{Own, Refused}
+use Rattle.core_client.specs.ClientState.{dialect, Message, front_by, IsSlot}
+
+-- nothing of it changes
+pub record Stays (x y : Client) : Type 0 where
+  pub stream : y.stream ≡ x.stream
+  pub index : y.index ≡ x.index
+  pub waits : y.waits ≡ x.waits
+  pub queue : y.queue.items ≡ x.queue.items
+  pub output : y.output.items ≡ x.output.items
+  pub dropped : y.dropped ≡ x.dropped
+
+-- its reader goes to this place, before the first key there, and its output goes on by these bytes
+pub record GoesTo (x : Client) (place : Place) (more : List ℕ) (y : Client) : Type 0 where
+  pub stream : y.stream ≡ place
+  pub index : y.index ≡ 0
+  pub waits : y.waits ≡ false
+  pub queue : y.queue.items ≡ x.queue.items
+  pub output : y.output.items ≡ x.output.items ++ more
+  pub dropped : y.dropped ≡ x.dropped
+
+-- a message was read that asks no server
+abbrev pub AsksNone : Place → Read → Type 0
+AsksNone place reads.More = ⊥
+AsksNone place reads.TooLong = Unit {0}
+AsksNone place (reads.Refused why used skip) = Unit {0}
+AsksNone place (reads.Request request) = asks_of (message_in (held_at place) request) ≡ []
+
+-- a client without commands under way passed a message that asks no server
+pub record PassesOne (x : Client) (message : Message) (next : Place) (y : Client) : Type 0 where
+  pub reads : dialect.Reads x.stream message next
+  pub asks : dialect.asks_of message ≡ []
+  pub served : x.dropped ≡ false
+  pub none : x.queue.items ≡ []
+  pub queue : y.queue.items ≡ []
+  pub stream : y.stream ≡ next
+  pub index : y.index ≡ 0
+  pub waits : y.waits ≡ false
+  pub output : y.output.items ≡ x.output.items ++ dialect.passed message
+  pub dropped : y.dropped ≡ x.dropped
+
+-- what is told of a message that asks no server: mcgate's own, or refused
+abbrev pub told_of : Message → Passed
+told_of (Whole (Served order block)) = Own
+told_of (Whole (Refusal why skip)) = Refused
+told_of LongLine = Refused
+
+-- a message that asks no server was passed, and is told so
+pub record PassesFront (x : Client) (passed : Passed) (y : Client) : Type 0 where
+  pub message : Message
+  pub next : Place
+  pub passes : PassesOne x message next y
+  pub told : passed ≡ told_of message
+
+-- the request stands at the client's front, and this ask is its next key's
+pub record IsAskAt (x : Client) (request : Request) (ask : Ask) : Type 0 where
+  pub place : x.stream ≡ Stands Nothing (held_at x.stream)
+  pub read : IsReadFrom (held_at x.stream) request
+  pub at : slice_get (asks_of (message_in (held_at x.stream) request)) x.index ≡ Some ask
+  pub there : x.index < length (asks_of (message_in (held_at x.stream) request))
+
+-- where the starting stands after a key that is the last or not, with these bytes after its message
+abbrev pub front_after : Bool → Client → List ℕ → Front dialect
+front_after last x rest = if last then record { place = Stands Nothing rest; index = 0; waits = false } else record { place = x.stream; index = x.index; waits = true }
+
+-- the starting stands after the key, and nothing else changes
+pub record MovesOn (last : Bool) (x : Client) (rest : List ℕ) (y : Client) : Type 0 where
+  pub front : front_by (Some y) ≡ front_after last x rest
+  pub queue : y.queue.items ≡ x.queue.items
+  pub output : y.output.items ≡ x.output.items
+  pub dropped : y.dropped ≡ x.dropped
+
+-- the next key of the message at the front began: its reply is waited for
+pub record BeginsKey (x : Client) (ask : Ask) (number : ℕ) (y : Client) : Type 0 where
+  pub part : Part dialect
+  pub pending : Pending
+  pub ask_is : part.ask ≡ ask
+  pub number_is : pending.number ≡ number
+  pub next : IsNext (front_by (Some x)) part
+  pub front : front_by (Some y) ≡ after_start (front_by (Some x)) part
+  pub queue : y.queue.items ≡ x.queue.items ++ pending ∷ []
+  pub output : y.output.items ≡ x.output.items
+  pub dropped : y.dropped ≡ x.dropped
+  pub slot : IsSlot pending (slot_of number part)

@@ -1,0 +1,34 @@
+-- What stands at the head of a client's commands, and what is changed of one client where it is shown. Source: mcgate's own.
+use Rattle.std.specs.Prelude.{◌≡◌, ℕ, Bool, true, false, List, [], ◌∷◌, ◌++◌, Some, None}
+use Rattle.mc_types.specs.declared.answer.Answer.{Answer}
+use Rattle.text_codec.specs.Replies.{shown_text}
+use Rattle.core_client.specs.declared.client.Client.{Client}
+use Rattle.core_client.specs.declared.client.Pending.{Pending}
+
+-- whether it has a reply, and the output after it
+abbrev pub WritesReply : Pending → List ℕ → Bool → List ℕ → Type 0
+WritesReply pending output true output' = (reply : Answer) × (pending.reply ≡ Some reply) × (output' ≡ output ++ shown_text pending.quiet pending.last pending.ask reply)
+WritesReply pending output false output' = (pending.reply ≡ None) × (output' ≡ output)
+
+-- the head of its commands was shown
+pub record ShowsHead (x : Client) (pending : Pending) (reply : Answer) (y : Client) : Type 0 where
+  pub rest : List Pending
+  pub head : x.queue.items ≡ pending ∷ rest
+  pub replied : pending.reply ≡ Some reply
+  pub served : x.dropped ≡ false
+  pub queue : y.queue.items ≡ rest
+  pub output : y.output.items ≡ x.output.items ++ shown_text pending.quiet pending.last pending.ask reply
+  pub stream : y.stream ≡ x.stream
+  pub index : y.index ≡ x.index
+  pub waits : y.waits ≡ x.waits
+  pub dropped : y.dropped ≡ x.dropped
+
+-- nothing is at the head, or what has no reply yet
+abbrev pub HasNoReply : List Pending → Type 0
+HasNoReply [] = Unit {0}
+HasNoReply (pending ∷ rest) = pending.reply ≡ None
+
+-- whether the head had a reply, which was shown then
+abbrev pub ShowsOne : Client → Bool → Client → Type 0
+ShowsOne x true y = (pending : Pending) × (reply : Answer) × ShowsHead x pending reply y
+ShowsOne x false y = HasNoReply x.queue.items × (y ≡ x)

@@ -1,0 +1,59 @@
+-- What is next for a client whose commands can't go on. Source: mcgate's own.
+use Rattle.std.specs.Prelude.{◌≡◌, ℕ, ◌<◌, ◌≤◌, false, [], length, Some}
+use Rattle.mc_types.specs.declared.ask.Ask.{Ask}
+use Rattle.mc_runs.specs.Log.{Part}
+use Rattle.mc_runs.specs.Overlap.{IsNext}
+use Rattle.mc_runs.specs.Protocol.{IsStuck}
+use Rattle.request_parts.specs.declared.skip.Skip.TheVariants.{Nothing}
+use Rattle.request_parts.specs.Stream.{Place, Stands}
+use Rattle.client_requests.specs.declared.reader.Read.{Read}
+use Rattle.client_requests.specs.declared.request.Request.{Request}
+use Rattle.client_requests.specs.Message.{IsReadFrom, message_in}
+use Rattle.client_requests.specs.Asks.{asks_of}
+use Rattle.text_codec.specs.Held.{IsReadAt, held_at}
+use Rattle.core_client.specs.declared.client.Client.{Client}
+use Rattle.core_client.specs.declared.nexts.Next.{Next}
+use Rattle.core_client.specs.declared.nexts.Next.TheVariants as nexts
+use Rattle.core_client.specs.ClientState.{dialect, Message, front_by}
+use Rattle.core_client.specs.Fronts.{AsksNone, IsAskAt}
+
+-- nothing is under way for the client, which is served, and this was read at its front: a message that asks no server
+pub record IsPassing (read : Read) (x : Client) : Type 0 where
+  pub is_read : IsReadAt x.stream read
+  pub asks : AsksNone x.stream read
+  pub served : x.dropped ≡ false
+  pub none : x.queue.items ≡ []
+
+-- the next key of the request at the front of the client, which is served, is this ask's
+pub record CanBegin (request : Request) (ask : Ask) (x : Client) : Type 0 where
+  pub at : IsAskAt x request ask
+  pub ready : x.waits ≡ false
+  pub served : x.dropped ≡ false
+
+-- the request stands at the front of the client, which is served, and a key of it is next
+pub record CanAsk (request : Request) (x : Client) : Type 0 where
+  pub stands : x.stream ≡ Stands Nothing (held_at x.stream)
+  pub is_read : IsReadFrom (held_at x.stream) request
+  pub there : x.index < length (asks_of (message_in (held_at x.stream) request))
+  pub ready : x.waits ≡ false
+  pub served : x.dropped ≡ false
+
+-- and it has fewer commands whose replies were not shown than this
+abbrev pub CanAskBelow : ℕ → Request → Client → Type 0
+CanAskBelow depth request x = CanAsk request x × (length x.queue.items < depth)
+
+-- it has commands whose replies were not shown
+abbrev pub HasCommand : Client → Type 0
+HasCommand x = 0 < length x.queue.items
+
+-- nothing at the client's front can be done: if it waits for no reply before its next key, it has as many commands as it may have; and what asks no server stands after a command
+pub record IsLater (depth : ℕ) (x : Client) : Type 0 where
+  pub key : (part : Part dialect) → IsNext (front_by (Some x)) part → depth ≤ length x.queue.items
+  pub other : (message : Message) (next : Place) → dialect.Reads x.stream message next → dialect.asks_of message ≡ [] → HasCommand x
+
+-- of a client that may have so many commands whose replies were not shown
+abbrev pub IsNextOf : ℕ → Client → Next → Type 0
+IsNextOf depth x nexts.Nothing = (x.queue.items ≡ []) × IsStuck dialect x.stream
+IsNextOf depth x (nexts.Passing read) = IsPassing read x
+IsNextOf depth x (nexts.Key request) = CanAskBelow depth request x
+IsNextOf depth x nexts.Later = IsLater depth x

@@ -1,0 +1,117 @@
+//! One client of the core, and its commands whose replies were not shown yet.
+
+ghost use Rattle.std.specs.Prelude.{◌≡◌, ◌++◌, false, ◌↔◌, IsTrue, OnOk, OnErr, IfOk, IfErr};
+ghost use Rattle.core_client.specs.Clients.{has_own, IsNew, IsEnded, TakesPiece, LosesOutput};
+
+use crate::client_stream::ClientStream;
+use bytes::BytesMut;
+use commands_under_way::SharedAsk;
+use mc_types::{Answer, Key};
+use std::alloc::{AllocError, Global};
+use std::collections::VecDeque;
+use std::mem;
+
+/// A command of a client whose reply was not shown yet.
+#[derive(Drop)]
+pub struct Pending {
+    pub ask: SharedAsk,
+    pub reply: Option<Answer>,
+    pub number: u64,
+    /// Whether its message wants no answer.
+    pub quiet: bool,
+    /// Whether it asks the last key of its message.
+    pub last: bool,
+}
+
+/// One client: what it sent and is not done, what it was not given yet, and its commands that have begun and whose replies
+/// were not shown yet, in its own order.
+#[derive(Drop)]
+pub struct Client {
+    pub stream: ClientStream,
+    pub output: BytesMut,
+    pub queue: VecDeque<Pending>,
+    /// Which key of the message at the front is next.
+    pub index: usize,
+    /// Whether the key before it has no reply yet.
+    pub waits: bool,
+    /// Whether nothing is done for it any more, as memory was refused.
+    pub dropped: bool,
+}
+
+fn copied(alloc: Global, bytes: &[u8]) -> Result<Vec<u8>, AllocError>
+    ensures { IfOk result (λ copy. copy.items ≡ bytes.now) }
+{
+    bytes.to_vec(alloc)
+}
+
+// Whether one of these without a reply is on the key.
+fn waits_on(key: &Key, queue: &VecDeque<Pending>) -> bool
+    ensures { result ≡ has_own key.now queue.now.items }
+{
+    queue.iter().any(|pending| pending.reply.is_none() && *pending.ask.key() == *key)
+}
+
+impl Client {
+    /// A client that said nothing yet. It takes no memory.
+    pub fn new(alloc: Global) -> Client
+        ensures { IsNew result }
+    {
+        Client {
+            stream: ClientStream::new(alloc),
+            output: BytesMut::new(alloc),
+            queue: VecDeque::new(alloc),
+            index: 0,
+            waits: false,
+            dropped: false,
+        }
+    }
+
+    /// Whether a command of it on this key has no reply yet. It takes no memory.
+    pub fn has_own(&self, key: &Key) -> bool
+        ensures { result ≡ has_own key.now self.now.queue.items }
+    {
+        waits_on(key, &self.queue)
+    }
+
+    /// Whether nothing is read of it any more. It takes no memory.
+    pub fn is_ended(&self) -> bool
+        ensures { IsTrue result ↔ IsEnded self.now }
+    {
+        self.dropped || self.stream.is_closed()
+    }
+
+    /// A piece came. The only error is running out of memory, which leaves the client as it was.
+    pub fn feed(&mut self, piece: &[u8]) -> Result<(), AllocError>
+        ensures ok { OnOk result (TakesPiece self.old piece.now self.new) }
+        ensures err { OnErr result (self.new ≡ self.old) }
+    {
+        self.stream.feed(piece)
+    }
+
+    /// The output so far goes after what stands in `out`, and is then empty. Where nothing stands in `out` they are exchanged, so that no byte is copied.
+    /// The only error is running out of memory, which leaves both as they were.
+    pub fn move_output(&mut self, out: &mut BytesMut) -> Result<(), AllocError>
+        ensures bytes { OnOk result (out.new.items ≡ out.old.items ++ self.old.output.items) }
+        ensures ok { OnOk result (LosesOutput self.old self.new) }
+        ensures err { OnErr result ((self.new ≡ self.old) × (out.new.items ≡ out.old.items)) }
+    {
+        if out.is_empty() {
+            mem::swap(&mut self.output, out);
+            return Ok(());
+        }
+        out.extend_from_slice(self.output.as_slice())?;
+        self.output.clear();
+        Ok(())
+    }
+
+    /// The output so far, a copy, which is then empty. The only error is running out of memory, which leaves the client as it was.
+    pub fn take_output(&mut self, alloc: Global) -> Result<Vec<u8>, AllocError>
+        ensures bytes { IfOk result (λ bytes. bytes.items ≡ self.old.output.items) }
+        ensures ok { OnOk result (LosesOutput self.old self.new) }
+        ensures err { OnErr result (self.new ≡ self.old) }
+    {
+        let bytes = copied(alloc, self.output.as_slice())?;
+        self.output.clear();
+        Ok(bytes)
+    }
+}

@@ -1,0 +1,15 @@
+//! One client of the proxy's core: what it sent and is not done, its commands in its own order, and what it was not given yet.
+#![tactic(auto)]
+
+pub mod answering;
+pub mod client;
+pub mod client_stream;
+pub mod heads;
+pub mod nexts;
+pub mod replying;
+pub mod starting;
+
+pub use answering::Passed;
+pub use client::{Client, Pending};
+pub use client_stream::ClientStream;
+pub use nexts::Next;

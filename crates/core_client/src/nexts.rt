@@ -1,0 +1,106 @@
+//! What is next for a client whose commands can't go on.
+
+ghost use Rattle.std.specs.Prelude.{◌≡◌, ◌↔◌, ℕ, [], false, IsTrue, IfOk};
+ghost use Rattle.mc_types.specs.Asks.{IsAsk};
+ghost use Rattle.text_codec.specs.Held.{IsReadAt, held_at};
+ghost use Rattle.client_requests.specs.Message.{message_in};
+ghost use Rattle.client_requests.specs.Asks.{asks_of};
+ghost use Rattle.client_requests.specs.declared.reader.Read.TheVariants.{More, Request as Requests};
+ghost use Rattle.core_client.specs.Nexts.{CanAsk, CanBegin, IsNextOf};
+ghost use Rattle.core_client.specs.Fronts.{AsksNone};
+
+use crate::client::{Client, Pending};
+use commands_under_way::SharedAsk;
+use std::alloc::{AllocError, Global};
+use std::collections::VecDeque;
+use text_codec::{Read, Request};
+
+/// What is next.
+#[derive(Clone, Copy)]
+pub enum Next {
+    /// Nothing: no whole message is held, and no reply is waited for.
+    Nothing,
+    /// This message, which asks no server.
+    Passing(Read),
+    /// The next key of this request.
+    Key(Request),
+    /// Nothing before a reply has come.
+    Later,
+}
+
+fn is_free(queue: &VecDeque<Pending>) -> bool
+    ensures { IsTrue result ↔ (queue.now.items ≡ []) }
+{
+    queue.is_empty()
+}
+
+impl Client {
+    // A request with keys stands at the front.
+    fn key_of(&self, depth: usize, request: Request) -> Next
+        requires at { IsReadAt self.now.stream (Requests request) }
+        requires some { asks_of (message_in (held_at self.now.stream) request) ≡ [] → ⊥ }
+        requires served { self.now.dropped ≡ false }
+        ensures { IsNextOf depth self.now result }
+    {
+        if self.waits || depth <= self.queue.len() || request.asks() <= self.index {
+            return Next::Later;
+        }
+        Next::Key(request)
+    }
+
+    // No whole message stands there.
+    fn nothing(&self) -> Next
+        requires { IsReadAt self.now.stream More }
+        ensures { (depth : ℕ) → IsNextOf depth self.now result }
+    {
+        if is_free(&self.queue) {
+            Next::Nothing
+        } else {
+            Next::Later
+        }
+    }
+
+    // A message that asks no server stands there.
+    fn passing(&self, read: Read) -> Next
+        requires at { IsReadAt self.now.stream read }
+        requires asks { AsksNone self.now.stream read }
+        requires served { self.now.dropped ≡ false }
+        ensures { (depth : ℕ) → IsNextOf depth self.now result }
+    {
+        if is_free(&self.queue) {
+            Next::Passing(read)
+        } else {
+            Next::Later
+        }
+    }
+
+    /// What is next for it, where so many commands may have no shown reply. It takes no memory.
+    pub fn next(&self, depth: usize) -> Next
+        requires { self.now.dropped ≡ false }
+        ensures { IsNextOf depth self.now result }
+    {
+        match self.stream.read() {
+            Read::More => self.nothing(),
+            Read::TooLong => self.passing(Read::TooLong),
+            Read::Refused { why, used, skip } => self.passing(Read::Refused { why, used, skip }),
+            Read::Request(request) => {
+                if request.asks() == 0 {
+                    self.passing(Read::Request(request))
+                } else {
+                    self.key_of(depth, request)
+                }
+            }
+        }
+    }
+
+    /// The ask of the next key of the request at its front. The only error is running out of memory.
+    pub fn next_ask(&mut self, alloc: Global, request: &Request) -> Result<SharedAsk, AllocError>
+        requires { CanAsk request.now self.old }
+        ensures begins { IfOk result (λ ask. CanBegin request.now ask self.old) }
+        ensures asks { IfOk result IsAsk }
+        ensures same { self.new ≡ self.old }
+    {
+        let ask = self.stream.ask(alloc, request, self.index)?;
+        SharedAsk::new(alloc, ask)
+    }
+}

@@ -1,9 +1,0 @@
-use Rattle.connections.proofs.Fronts.{more_stuck}
-use Rattle.proxy_core.proofs.Resting.{later_none}
-use Rattle.proxy_core.proofs.client.Client.nothing.Goals as goal
-
-pub returns-then-is_free : goal.returns-then-is_free
-returns-then-is_free c = λ depth. (c.is_free.ensures.0 c.if-is_free.true, more_stuck c.args.self.now.stream c.requires)
-
-pub returns-else-is_free : goal.returns-else-is_free
-returns-else-is_free c = later_none c.args.self.now c.requires
