@@ -1,15 +1,13 @@
 //! Refusal runs, driven.
 
-ghost use Rattle.std.specs.Prelude.{◌≡◌, false, map};
-ghost use Rattle.fleet_run.specs.Scripted.{scripted_of};
-ghost use Rattle.fleet_run.specs.Stepped.{is_stepped};
-
 use crate::growing::grown;
-use fleet_run::{MemoryFleet, Script, Transcript, drive_any};
+use fleet_run::{Script, Transcript};
 use fresh_gate::{Gap, Reason, judge};
 use refusals::refusal_run;
 use route_json::{Config, read_config};
+use script_servers::ScriptServers;
 use std::alloc::{AllocError, Global};
+use stepped_run::drive_stepped;
 
 /// What came of the configurations.
 #[derive(Clone, Copy)]
@@ -52,14 +50,24 @@ fn counted(end: End, counts: Counts) -> Counts {
     counts
 }
 
-fn driven(alloc: Global, config: &Config, script: &Script) -> Result<End, AllocError>
-    requires { is_stepped (map scripted_of script.now.events.items) ≡ false }
-{
-    let mut fleet = MemoryFleet::new(alloc, config.servers().len() as u32)?;
+fn driven(alloc: Global, config: &Config, script: &Script) -> Result<End, AllocError> {
+    let mut servers = ScriptServers::new(alloc, config.servers().len() as u32)?;
     let mut transcript = Transcript {
         shown: Vec::new(alloc),
     };
-    match drive_any(alloc, config, &mut fleet, script, &mut transcript) {
+    let none = Vec::new(alloc);
+    let mut marks = Vec::new(alloc);
+    let driven = drive_stepped(
+        alloc,
+        config,
+        &none,
+        &[],
+        &mut servers,
+        script,
+        &mut transcript,
+        &mut marks,
+    );
+    match driven {
         Ok(report) if report.stale > 0 => Ok(End::Leaks),
         Ok(_) => Ok(End::Stays),
         Err(_) => Ok(End::Other),

@@ -1,8 +1,12 @@
 -- What a refusal run is, and that a gap without an all-sync and a warm-up has one.
-use Rattle.std.proofs.Common.{◌≡◌, ℕ, ◌<◌, Bool, true, false, not, cond, nat_eq, List, [], length, map, Option, Some, None, IsSome, IfSome, inr, refl, sym, ap, ◌∙◌, subst}
+use Rattle.std.proofs.Common.{◌≡◌, ℕ, ◌<◌, Bool, true, false, not, cond, nat_eq, List, [], length, map, Option, Some, None, IsSome, IfSome, inl, inr, refl, sym, ap, ◌∙◌, subst}
 use Rattle.mc_types.specs.declared.ask.Op.TheVariants.{Delete}
 use Rattle.std.proofs.lemmas.Bool.{eq-eqb}
+use Rattle.std.proofs.lemmas.List.{length-map, length-replicate}
 use Rattle.mc_runs.specs.Log.{Scripted, Shown}
+use Rattle.mc_runs.specs.Overlap.{run_of}
+use Rattle.mc_runs.specs.Sharing.{AreAlone}
+use Rattle.mc_runs.proofs.SharingStale.{counts_stale}
 use Rattle.request_parts.specs.declared.skip.Skip.TheVariants.{Nothing}
 use Rattle.request_parts.specs.Stream.{Stands}
 use Rattle.client_requests.specs.Spelling.{message_of}
@@ -12,7 +16,7 @@ use Rattle.route_tree.specs.Direct.{words_of}
 use Rattle.route_tree.specs.Place.{tree_at_place}
 use Rattle.route_tree.specs.Plan.{Plan, IsGood}
 use Rattle.route_tree.specs.Route.{Route, IsTree}
-use Rattle.route_tree.specs.Word.{answer_of_nothing}
+use Rattle.route_tree.specs.Word.{answer_of_nothing, tree_words}
 use Rattle.route_tree.proofs.Places.{place_is_enough}
 use Rattle.route_json.specs.Configuration.{Configuration}
 use Rattle.route_json.specs.Fits.{IsBelow}
@@ -23,19 +27,26 @@ use Rattle.fresh_gate.specs.declared.gap.Gap.{Gap}
 use Rattle.fleet_run.specs.declared.script.Report.{Report}
 use Rattle.fleet_run.specs.declared.script.Script.{Script}
 use Rattle.fleet_run.specs.Scripted.{scripted_of}
-use Rattle.fleet_run.specs.Driving.{Drives}
 use Rattle.fleet_run.specs.Opening.{opening_of}
 use Rattle.fleet_run.specs.Bad.{first_bad}
+use Rattle.cache_server.specs.Contents.{empty}
+use Rattle.memory_fleet.specs.Fleets.{capacity}
+use Rattle.script_servers.specs.Servers.{IsNew, count_of}
+use Rattle.script_servers.specs.declared.servers.ScriptServers.{ScriptServers}
+use Rattle.proxy_core.specs.Claims.{bars_by}
+use Rattle.commands_under_way.specs.declared.sharing.Sharing.TheVariants.{Alone}
+use Rattle.stepped_log.specs.Standing.{tree_by}
+use Rattle.stepped_run.specs.Driving.{DrivesStepped, FollowsBy}
 use Rattle.refusal_words.specs.Turns.{acks, finds}
 use Rattle.refusal_words.specs.Bait.{delete_of, read_of, answer_of}
 use Rattle.refusal_words.specs.Scripts.{Leaks}
 use Rattle.refusal_words.proofs.Beside.{gaps_have_words}
-use Rattle.refusal_words.proofs.Gaps.{numbers_have_script, stale_is_leak}
+use Rattle.refusal_words.proofs.Gaps.{numbers_have_script}
 use Rattle.refusals.specs.declared.failures.Failures.{Failures}
 use Rattle.refusals.specs.Tried.{IsFirstKey}
 use Rattle.refusals.specs.Commands.{script_for, delete_text, read_text}
 use Rattle.refusals.specs.Failing.{both, failures_of}
-use Rattle.refusals.specs.Refusals.{IsRealGap, IsShowing, IsRefusalRun, IsRoundabout, MayLack, IsAnswer}
+use Rattle.refusals.specs.Refusals.{IsRealGap, LeaksStepped, IsShowing, IsRefusalRun, IsRoundabout, MayLack, IsAnswer}
 use Rattle.refusals.proofs.OneAsk.{quiet_start, one_delete, one_read}
 use Rattle.refusals.proofs.Baited.{baited}
 use Rattle.refusals.proofs.Below.{found_is_below}
@@ -83,7 +94,7 @@ module _ (config : Configuration) (gap : Gap) (key : List ℕ) (f : Failures) (t
     read = f.read;
     script_is = refl;
     failing = λ g e. (ap (λ (x : Failures). x.delete) (same_failures g e), ap (λ (x : Failures). x.read) (same_failures g e));
-    shows = record { can_be = can_be; leaks = leaks };
+    shows = record { can_be = can_be; leaks = inl leaks };
   })
 
 -- a driven script
@@ -116,10 +127,29 @@ pub answered : (config : Configuration) (gap : Gap) (found : Option Script) → 
 answered config gap None h n = n
 answered config gap (Some script) h n = h
 
+-- so many servers as were asked for
+pub counted : (n : ℕ) (servers : ScriptServers) → IsNew n servers → count_of servers ≡ n
+counted n servers new = ap length new.caches ∙ length-replicate n (empty capacity)
+
+-- each command has its key alone
+alone : (plans : ℕ → List ℕ → Plan) → AreAlone (bars_by Alone plans)
+alone plans number other ask client same = (refl, refl)
+
 -- a driver that counts a stale reply shows a leak
-pub drives_leak : (tree : Route) (events : List Scripted) (given : List Shown) (report : Report) → Drives tree events given report → not (nat_eq report.stale 0) ≡ true → Leaks memcached_text (words_of tree) (opening_of events) events
-drives_leak tree events given report d t =
-    stale_is_leak memcached_text (words_of tree) (opening_of events) events d.log d.follows d.script_is d.settled (λ e. not_false (nat_eq report.stale 0) t (eq-eqb report.stale 0 (d.stale ∙ e)))
+pub drives_leak : (tree : Route) (events : List Scripted) (given : List Shown) (marks : List ℕ) (report : Report) → DrivesStepped tree [] [] events given marks report → not (nat_eq report.stale 0) ≡ true → LeaksStepped tree events
+drives_leak tree events given marks report d t =
+    let plans : ℕ → List ℕ → Plan = λ n key. tree_at (tree_by tree d.loads n) key in
+    record {
+      log = d.log;
+      follows = subst (λ (l : List (ℕ × Route)). FollowsBy tree l events d.log) d.in_turn d.follows;
+      streams = d.streams;
+      settled = d.settled;
+      replied = d.replied;
+      servers = d.servers;
+      world = d.world;
+      leaks = λ fresh.
+          not_false (nat_eq report.stale 0) t (eq-eqb report.stale 0 (d.stale ∙ (counts_stale (tree_words plans) (bars_by Alone plans) (opening_of events) (alone plans)).none (run_of d.log) d.run fresh));
+    }
 
 pub by_stale : (stale : Bool) (script : Script) (P : Script → Type 0) → (stale ≡ true → P script) → IfSome (cond stale (Some script) None) P
 by_stale true script P h = h refl

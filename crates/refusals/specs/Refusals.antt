@@ -2,6 +2,9 @@
 use Rattle.std.specs.Prelude.{◌≡◌, ℕ, ◌<◌, [], ◌∷◌, List, length, Option, Some, None, MatchOption, map, slice_get, ◌⊎◌}
 use Rattle.mc_types.specs.declared.ask.Op.TheVariants.{Delete}
 use Rattle.mc_runs.specs.Log.{Scripted}
+use Rattle.mc_runs.specs.Overlap.{Entry, run_of}
+use Rattle.mc_runs.specs.OverlapStream.{stream_of}
+use Rattle.mc_runs.specs.Sharing.{IsFreshByNumber, commands_in}
 use Rattle.route_tree.specs.Place.{tree_at_place}
 use Rattle.route_tree.specs.At.{tree_at}
 use Rattle.route_tree.specs.Route.{Route}
@@ -14,6 +17,11 @@ use Rattle.certificates.specs.Tables.{IsTable}
 use Rattle.fresh_gate.specs.declared.gap.Gap.{Gap}
 use Rattle.fresh_gate.specs.Gate.{IsGapAt}
 use Rattle.text_codec.specs.TextProtocol.{memcached_text}
+use Rattle.proxy_core.specs.CoreState.{dialect}
+use Rattle.script_servers.specs.declared.servers.ScriptServers.{ScriptServers}
+use Rattle.stepped_log.specs.Standing.{replied_in}
+use Rattle.stepped_run.specs.Driving.{said_in, IsSettled, FollowsBy}
+use Rattle.stepped_run.specs.World.{World}
 use Rattle.fleet_run.specs.declared.script.Script.{Script}
 use Rattle.fleet_run.specs.Scripted.{scripted_of}
 use Rattle.fleet_run.specs.Opening.{opening_of}
@@ -36,10 +44,21 @@ pub record IsRealGap (tree : Route) (gap : Gap) : Type 0 where
   pub at : gap.place ≡ place_at class.prefix gap.place.residue table.modulus
   pub gap_at : IsGapAt (tree_at_place tree gap.place) (tree_at_place tree gap.place) gap.server gap.op gap.deleting
 
--- over the configuration's servers each of the events can be, so that the script can be driven; and it has a run of the tree that isn't fresh
+-- a log of the script as it is driven, each command alone on its key: its clients say what the script says and have all their replies, calls have the results that the script and the tables of servers make, and its run isn't fresh
+pub record LeaksStepped (tree : Route) (events : List Scripted) : Type 0 where
+  pub log : List (Entry dialect)
+  pub follows : FollowsBy tree [] events log
+  pub streams : (c : ℕ) → stream_of log c ≡ said_in events c
+  pub settled : IsSettled events log
+  pub replied : replied_in (run_of log) ≡ commands_in (run_of log)
+  pub servers : ScriptServers
+  pub world : World events events log servers
+  pub leaks : IsFreshByNumber (opening_of events) (run_of log) → ⊥
+
+-- over the configuration's servers each of the events can be, so that the script can be driven; and it has a run of the tree that isn't fresh, of whole commands or as it is driven
 pub record IsShowing (config : Configuration) (events : List Scripted) : Type 0 where
   pub can_be : first_bad (length config.servers) events ≡ None
-  pub leaks : Leaks memcached_text (words_of config.tree) (opening_of events) events
+  pub leaks : Leaks memcached_text (words_of config.tree) (opening_of events) events ⊎ LeaksStepped config.tree events
 
 -- the script, over the first key that is tried and stands at the gap's place, can be driven and has a run that isn't fresh, none of whose commands is broken; the failed calls are those that it names, not applied. Where each call but one of the delete and one of the read can fail, so many do before it
 pub record IsRefusalRun (config : Configuration) (gap : Gap) (events : List Scripted) : Type 0 where

@@ -1,5 +1,5 @@
 //! Scripts that leak, for gaps.
-ghost use Rattle.std.specs.Prelude.{◌≡◌, ◌↔◌, [], ◌∷◌, List, Some, None, true, false, map, MatchOption, IfOk, IfSome, IfNone, IsTrue, if◌then◌else◌};
+ghost use Rattle.std.specs.Prelude.{◌≡◌, ◌≤◌, ◌↔◌, [], ◌∷◌, List, Some, None, true, false, map, length, MatchOption, IfOk, IfSome, IfNone, IsTrue, if◌then◌else◌};
 ghost use Rattle.mc_runs.specs.Log.{Scripted};
 ghost use Rattle.route_tree.specs.Plan.{IsGood};
 ghost use Rattle.route_tree.specs.At.{tree_at};
@@ -7,6 +7,8 @@ ghost use Rattle.coverage.specs.Cover.{IsTaking};
 ghost use Rattle.certificates.specs.Tables.{IsTable};
 ghost use Rattle.fleet_run.specs.Scripted.{scripted_of};
 ghost use Rattle.fleet_run.specs.Stepped.{is_stepped};
+ghost use Rattle.server_addresses.specs.declared.servers.TheConstants.{MAX_SERVERS};
+ghost use Rattle.script_servers.specs.Servers.{IsNew};
 ghost use Rattle.refusals.specs.Tried.{IsFirstKey};
 ghost use Rattle.refusals.specs.Failing.{failures_of};
 ghost use Rattle.refusals.specs.Refusals.{MayLack, IsShowing, IsRefusalRun, IsRealGap, IsAnswer};
@@ -15,11 +17,13 @@ use crate::failures::{Failures, failures_at};
 use crate::keys::key_at;
 use crate::script::script_for;
 use certificates::{PlaceFault, PlaceTable, places};
-use fleet_run::{DriveFault, MemoryFleet, Script, Transcript, drive_any};
+use fleet_run::{DriveFault, Script, Transcript};
 use fresh_gate::Gap;
 use mc_types::{Key, Op};
 use route_json::Config;
+use script_servers::ScriptServers;
 use std::alloc::{AllocError, Global};
+use stepped_run::drive_stepped;
 
 // Whether the replies to the operation show items.
 fn is_read(op: Op) -> bool
@@ -31,17 +35,36 @@ fn is_read(op: Op) -> bool
     }
 }
 
-// Whether the script, which steps no calls, can be driven, and then shows an item that is older than a delete.
+// New servers, one for each of the configuration's.
+fn servers_for(alloc: Global, config: &Config) -> Result<ScriptServers, AllocError>
+    ensures new { IfOk result (IsNew (length config.now.servers)) }
+    ensures few { length config.now.servers ≤ MAX_SERVERS }
+{
+    let count = config.servers().len();
+    ScriptServers::new(alloc, count as u32)
+}
+
+// Whether the script can be driven, and then shows an item that is older than a delete.
 fn is_stale(alloc: Global, config: &Config, script: &Script) -> Result<bool, AllocError>
-    requires whole { is_stepped (map scripted_of script.now.events.items) ≡ false }
     ensures { IfOk result (λ stale. stale ≡ true → IsShowing config.now (map scripted_of script.now.events.items)) }
 {
-    let servers = config.servers().len();
-    let mut fleet = MemoryFleet::new(alloc, servers as u32)?;
+    let mut servers = servers_for(alloc, config)?;
     let mut transcript = Transcript {
         shown: Vec::new(alloc),
     };
-    match drive_any(alloc, config, &mut fleet, script, &mut transcript) {
+    let none = Vec::new(alloc);
+    let mut marks = Vec::new(alloc);
+    let driven = drive_stepped(
+        alloc,
+        config,
+        &none,
+        &[],
+        &mut servers,
+        script,
+        &mut transcript,
+        &mut marks,
+    );
+    match driven {
         Ok(report) => Ok(report.stale != 0),
         Err(DriveFault::NoMemory) => Err(AllocError),
         Err(DriveFault::BadEvent(_) | DriveFault::Spent) => Ok(false),
@@ -129,7 +152,7 @@ fn run_by(
 /// For a gap of the configuration's tree, a script that shows it: the gap's server holds `1` under a key at the gap's place, the
 /// key is deleted, and a read of the gap's operation shows that item all the same. Some calls of the delete and of the read
 /// may fail, not applied. Over the configuration's servers each event of the script can be, and none steps calls
-/// ([`is_stepped`](fleet_run::is_stepped)), so `drive_any` may be asked for it and refuses none. The key is the first at the place
+/// ([`is_stepped`](fleet_run::is_stepped)), so `drive_stepped` refuses none. The key is the first at the place
 /// among the gap's prefix followed by `k0`, `k1`, .. `k65535`; the delete is the classic one, which leaves the server whenever the
 /// delete of the meta dialect does.
 ///

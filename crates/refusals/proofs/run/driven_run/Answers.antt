@@ -1,10 +1,8 @@
-use Rattle.std.proofs.Common.{Option, IfSome, map, sym, ap, ◌∙◌, subst}
+use Rattle.std.proofs.Common.{Option, IfSome, map, sym, subst}
 use Rattle.fleet_run.specs.declared.script.Script.{Script}
 use Rattle.fleet_run.specs.Scripted.{scripted_of}
 use Rattle.refusals.specs.Refusals.{IsRefusalRun}
 use Rattle.refusals.proofs.Answering.{by_stale, driven_run}
-use Rattle.fleet_run.specs.Stepped.{is_stepped}
-use Rattle.refusals.proofs.Whole.{script_whole}
 use Rattle.refusals.proofs.run.driven_run.Goals as goal
 
 pub returns : goal.returns
@@ -14,6 +12,3 @@ returns c =
     let script = c.in_ok-script.script in
     subst (λ (found : Option Script). IfSome found (λ s. IsRefusalRun config gap (map scripted_of s.events.items))) (sym c.only_if.ensures)
     (by_stale c.in_ok-stale.stale script (λ s. IsRefusalRun config gap (map scripted_of s.events.items)) (λ t. driven_run config gap c.args.key.now (map scripted_of script.events.items) c.requires.first c.requires.none c.in_ok-script.ensures (c.in_ok-stale.ensures t)))
-
-pub is_stale-requires : goal.is_stale-requires
-is_stale-requires c = record { whole = ap is_stepped c.in_ok-script.ensures ∙ script_whole c.args.gap.now.server c.args.key.now c.args.gap.now.op 0 0 }

@@ -1,7 +1,22 @@
-use Rattle.std.proofs.Common.{map}
+use Rattle.std.proofs.Common.{◌≡◌, ℕ, List, [], arith, length, map, None, inr, refl, sym, ap, ◌∙◌, subst}
+use Rattle.fleet_run.specs.declared.script.Reload.{Reload}
+use Rattle.fleet_run.specs.Bad.{first_bad}
 use Rattle.fleet_run.specs.Scripted.{scripted_of, transcript_of}
-use Rattle.refusals.proofs.Answering.{drives_leak}
+use Rattle.stepped_run.specs.Driving.{DrivesStepped}
+use Rattle.refusals.proofs.Answering.{counted, drives_leak}
 use Rattle.refusals.proofs.run.is_stale.Goals as goal
 
 pub returns-in-Ok : goal.returns-in-Ok
-returns-in-Ok c t = record { can_be = c.in-Ok.ensures.refuses; leaks = drives_leak c.args.config.now.tree (map scripted_of c.args.script.now.events.items) (transcript_of c.drive_any.new.transcript) c.in-Ok.report c.in-Ok.ensures.ok t }
+returns-in-Ok c t =
+    let events = map scripted_of c.args.script.now.events.items in
+    let config = c.args.config.now in
+    let none = c.deref.ensures.value ∙ c.new-none.ensures.items in
+    record {
+      can_be = subst (λ (n : ℕ). first_bad n events ≡ None) (counted (length config.servers) c.in_ok-servers.servers c.in_ok-servers.ensures.new) c.in-Ok.ensures.refuses;
+      leaks = inr (drives_leak config.tree events (transcript_of c.drive_stepped-driven.new.transcript) c.drive_stepped-driven.new.marks.items c.in-Ok.report (subst (λ (rs : List Reload). DrivesStepped config.tree [] rs events (transcript_of c.drive_stepped-driven.new.transcript) c.drive_stepped-driven.new.marks.items c.in-Ok.report) none c.in-Ok.ensures.ok) t);
+    }
+
+pub drive_stepped-driven-requires-clause-few : goal.drive_stepped-driven-requires-clause-few
+drive_stepped-driven-requires-clause-few c =
+    let count = counted (length c.args.config.now.servers) c.in_ok-servers.servers c.in_ok-servers.ensures.new in
+    let few = c.servers_for.ensures.few in omega (arith, count, few)
