@@ -1,4 +1,4 @@
--- What stands at a client's front, and when nothing can be done there.
+-- When a command can go on, and the place of each command among those of its client.
 use Rattle.std.proofs.Common.{◌≡◌, ℕ, Bool, true, false, cond, List, [], ◌∷◌, Option, Some, None, inl, inr, refl, sym, ap, ◌∙◌, subst, nat_eq, slice_get}
 use Rattle.std.specs.Prelude.{IfNone}
 use Rattle.indexmap.specs.IndexMap as map
