@@ -1,4 +1,4 @@
--- In a log of overlapping commands each command that began has had its reply, or is under way, unless it was broken off; and none is broken off where no client was ever dropped.
+-- In a log of overlapping commands each command that began has had its reply, or is under way, unless it was broken off.
 use Rattle.std.proofs.Common.{◌≡◌, ℕ, zero, suc, ◌+◌, ◌<◌, ◌≤◌, Bool, true, false, cond, List, [], ◌∷◌, ◌++◌, Option, Some, None, inl, inr, refl, sym, ap, ◌∙◌, arith, nat_eq}
 use Rattle.std.proofs.lemmas.Bool.{cases_lt, eqb-true, eq-eqb, ne_eqb}
 use Rattle.mc_types.specs.declared.ask.Ask.{Ask}
@@ -6,7 +6,7 @@ use Rattle.mc_types.specs.Items.{Item}
 use Rattle.mc_runs.specs.Run.{Words}
 use Rattle.mc_runs.specs.Protocol.{Protocol}
 use Rattle.mc_runs.specs.Sharing.{Begins, Calls, Replies, Breaks, Loses, Restarts, commands_in}
-use Rattle.mc_runs.specs.Overlap.{Owner, Entry, Feeds, Starts, Sends, Happens, Ends, Shows, Passes, Gives, Drops, Frees, Resets, run_of, owner_of, is_dropped, Follows}
+use Rattle.mc_runs.specs.Overlap.{Owner, Entry, Feeds, Starts, Sends, Happens, Ends, Shows, Passes, Gives, Drops, Frees, Resets, run_of, owner_of, Follows}
 use Rattle.stepped_log.specs.Standing.{replied_in, broken_in}
 
 abbrev one_of : Option Owner → ℕ
@@ -75,17 +75,6 @@ one_less owner number (suc n) x is low high = elim (cases_lt number (suc n)) [
 held_before : (b : Bool) (o : Option Owner) (x : Owner) → cond b None o ≡ Some x → o ≡ Some x
 held_before true o x e = absurd cc
 held_before false o x e = e
-
-differ : (b : Bool) → b ≡ true → b ≡ false → ⊥
-differ b on off = cc
-
-module _ {P : Protocol} where
-  -- no client was dropped at any time
-  abbrev pub IsServedAlways : List (Entry P) → Type 0
-  IsServedAlways log = (newer older : List (Entry P)) → log ≡ newer ++ older → (c : ℕ) → is_dropped older c ≡ false
-
-  served_before : (entry : Entry P) (log : List (Entry P)) → IsServedAlways (entry ∷ log) → IsServedAlways log
-  served_before entry log served = λ newer older is c. served (entry ∷ newer) older (ap (λ l. entry ∷ l) is) c
 
 module _ {P : Protocol} (words : Words) (Bars : ℕ → Ask → ℕ → Ask → Type 0) (opening : ℕ → List ℕ → Option Item) where
   -- who has an owner began
@@ -160,29 +149,3 @@ module _ {P : Protocol} (words : Words) (Bars : ℕ → Ask → ℕ → Ask → 
   -- where none was broken off either, each has had its reply
   pub replied_unbroken : (log : List (Entry P)) → Follows words Bars opening log → broken_in (run_of log) ≡ 0 → ((n : ℕ) → owner_of log n ≡ None) → commands_in (run_of log) ≡ replied_in (run_of log)
   replied_unbroken log f none free = let all = all_over log f free in omega (arith, all, none)
-
-  -- where none was, no command was broken off
-  pub none_broken : (log : List (Entry P)) → Follows words Bars opening log → IsServedAlways log → broken_in (run_of log) ≡ 0
-  none_broken [] f served = refl
-  none_broken (Feeds client bytes ∷ log) f served = none_broken log f.1 (served_before (Feeds client bytes) log served)
-  none_broken (Starts client number part ∷ log) f served = none_broken log f.1 (served_before (Starts client number part) log served)
-  none_broken (Sends number server ask origin ∷ log) f served = none_broken log f.1 (served_before (Sends number server ask origin) log served)
-  none_broken (Happens (Calls number server ask origin end) ∷ log) f served = none_broken log f.1 (served_before (Happens (Calls number server ask origin end)) log served)
-  none_broken (Happens (Loses server key) ∷ log) f served = none_broken log f.1 (served_before (Happens (Loses server key)) log served)
-  none_broken (Happens (Restarts server) ∷ log) f served = none_broken log f.1 (served_before (Happens (Restarts server)) log served)
-  none_broken (Happens (Begins number ask) ∷ log) f served = absurd f.0
-  none_broken (Happens (Replies number key reply from) ∷ log) f served = absurd f.0
-  none_broken (Happens (Breaks number) ∷ log) f served = absurd f.0
-  none_broken (Ends client number part reply from ∷ log) f served = none_broken log f.1 (served_before (Ends client number part reply from) log served)
-  none_broken (Shows client slot reply ∷ log) f served = none_broken log f.1 (served_before (Shows client slot reply) log served)
-  none_broken (Passes client message next ∷ log) f served = none_broken log f.1 (served_before (Passes client message next) log served)
-  none_broken (Gives client bytes ∷ log) f served = none_broken log f.1 (served_before (Gives client bytes) log served)
-  none_broken (Drops client ∷ log) f served = none_broken log f.1 (served_before (Drops client) log served)
-  none_broken (Frees number ∷ log) f served =
-      let dropped = f.0.1 in
-      absurd (differ (is_dropped log dropped.0.client) dropped.2 (served (Frees number ∷ []) log refl dropped.0.client))
-  none_broken (Resets client ∷ log) f served = none_broken log f.1 (served_before (Resets client) log served)
-
-  -- so each command that began has had its reply where no client was dropped at any time and no command is under way
-  pub all_replied : (log : List (Entry P)) → Follows words Bars opening log → IsServedAlways log → ((n : ℕ) → owner_of log n ≡ None) → commands_in (run_of log) ≡ replied_in (run_of log)
-  all_replied log f served free = replied_unbroken log f (none_broken log f served) free
