@@ -5,14 +5,14 @@ use Rattle.std.specs.Io.KnownBytes.{Appends}
 use Rattle.std.proofs.Math.Seq.{drop-cons}
 use Rattle.std.proofs.lemmas.List.{length-map, take_all, drop_all, take-map, drop-map}
 use Rattle.std.proofs.lemmas.Option.{slice_get-get_or, slice_get_within}
-use Rattle.route_tree.specs.Direct.{DirectIsOneServer}
 use Rattle.route_json.specs.Configuration.{Configuration}
 use Rattle.route_json.specs.Servers.{Addresses}
 use Rattle.script_text.specs.FirstLine.{WhyNot}
-use Rattle.script_text.specs.Printed.{shown_lines, report_line}
+use Rattle.script_text.specs.Printed.{shown_lines}
 use Rattle.script_text.specs.Script.{Told, bad_line, bad_event_line, either, servers_said, events_said, lines_said, servers_known, AreChainedFrom, IsScriptOf, ReadsScript, Numbered}
 use Rattle.script_text.specs.declared.configured.ConfiguredScript.{ConfiguredScript}
 use Rattle.fleet_run.specs.declared.script.Output.{Output}
+use Rattle.fleet_run.specs.Reloads.{AreInOrder}
 use Rattle.fleet_run.specs.declared.script.Reload.{Reload}
 use Rattle.fleet_run.specs.declared.script.Report.{Report}
 use Rattle.fleet_run.specs.declared.script.Transcript.{Transcript}
@@ -20,22 +20,16 @@ use Rattle.fleet_run.specs.declared.script.DriveFault.{DriveFault}
 use Rattle.fleet_run.specs.declared.script.DriveFault.TheVariants as faults
 use Rattle.fleet_run.specs.Scripted.{Scripted, Shown, shown_by, scripted_of, transcript_of}
 use Rattle.fleet_run.specs.Bad.{first_bad}
-use Rattle.fleet_run.specs.Driving.{Drives, DrivesPart, IsSpent}
-use Rattle.fleet_run.specs.Reloads.{AreInOrder, DrivesBy, DrivesPartBy, EndsBy}
-use Rattle.fleet_run.proofs.Reloading.{drives, ends_as}
 use Rattle.fresh_gate.specs.Gate.{IsCertified}
 use Rattle.fresh_gate.specs.Sound.{IsLast, AreGenerations, trees_of}
 use Rattle.fresh_gate.specs.Reload.{AreKept}
-use Rattle.memory_fleet.specs.declared.fleet.MemoryFleet.{MemoryFleet}
-use Rattle.memory_fleet.specs.Fleets.{IsNewFleet, count_of}
 use Rattle.script_text.specs.declared.configured.ScriptFault.{ScriptFault}
 use Rattle.accepted_run.specs.declared.judging.Loading.{Loading}
-use Rattle.accepted_run.specs.Freshly.{InUse}
-use Rattle.accepted_run.specs.Reloads.{AreChained, AreJudged, Judges, ReloadsFreshly, ReloadsPartFreshly, EndsReloads, is_refused}
+use Rattle.accepted_run.specs.Reloads.{InUse, AreChained, AreJudged, Judges, is_refused}
 use Rattle.config_check.specs.Checking.{PrintsRefused, StopsUnwritten}
 use Rattle.config_check.specs.declared.status.RunFault.{RunFault}
 use Rattle.config_check.specs.declared.status.RunFault.TheVariants.{NoMemory, Writer, TooManyCalls}
-use Rattle.replay.specs.Replay.{ReplaysTold, RunsScript, RunsGood, RunsTree, BreaksEventsOff, BreaksTreeOff, BreaksScriptOff, BreaksOff, PrintsPart, Wrote, BrokeOff, run_fault_of, AreLoadings, HasReloads, events_of, reloads_of, servers_of, load_line, load_lines, with_loads, transcript_lines}
+use Rattle.replay.specs.Replay.{ReplaysTold, RunsScript, RunsGood, BreaksTreeOff, BreaksScriptOff, BreaksOff, Wrote, BrokeOff, run_fault_of, AreLoadings, HasReloads, events_of, reloads_of, servers_of, load_line, load_lines, with_loads, transcript_lines}
 
 pub both_written : (old mid new : Option (List ℕ)) (a b : List ℕ) → Appends old mid a → Appends mid new b → Appends old new (a ++ b)
 both_written None mid new a b x y = tt
@@ -120,20 +114,6 @@ first_few used (r ∷ rs) chained =
 pub chained_also : (used : Addresses) (rs : List Reload) → AreChainedFrom used rs → AreChained used rs
 chained_also used [] chained = chained
 chained_also used (r ∷ rs) chained = (chained.0, chained_also r.config.servers rs chained.1)
-
-pub enough : (script : ConfiguredScript) (servers : ℕ) (fleet : MemoryFleet) → servers ≡ servers_of script → IsNewFleet servers fleet → HasReloads script → length script.config.servers ≤ count_of fleet
-enough script servers fleet is new has =
-    let few = first_few script.config.servers (reloads_of script) has.chained in
-    let count = new.count in
-    omega (arith, few, is, count)
-
-pub in_order : (script : ConfiguredScript) (reloads : List Reload) (servers : ℕ) (fleet : MemoryFleet) → reloads ≡ reloads_of script → servers ≡ servers_of script → IsNewFleet servers fleet → HasReloads script → AreInOrder (length script.script.events.items) (count_of fleet) 0 reloads
-in_order script reloads servers fleet same is new has =
-    subst (λ (rs : List Reload). AreInOrder (length script.script.events.items) (count_of fleet) 0 rs) (sym same)
-    (subst (λ (n : ℕ). AreInOrder (length script.script.events.items) n 0 (reloads_of script)) (sym (new.count ∙ is)) has.order)
-
-pub new_fleet : (servers : ℕ) (fleet : MemoryFleet) → IsNewFleet servers fleet → IsNewFleet (count_of fleet) fleet
-new_fleet servers fleet new = subst (λ (n : ℕ). IsNewFleet n fleet) (sym new.count) new
 
 same : (a b : Configuration) → Some a ≡ Some b → a ≡ b
 same a b e = cc
