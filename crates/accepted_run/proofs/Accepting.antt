@@ -16,7 +16,6 @@ use Rattle.fleet_run.specs.declared.script.DriveFault.{DriveFault}
 use Rattle.fleet_run.specs.declared.script.DriveFault.TheVariants.{BadEvent, NoMemory, Spent}
 use Rattle.fleet_run.specs.Scripted.{Scripted, transcript_of}
 use Rattle.fleet_run.specs.Opening.{opening_of}
-use Rattle.fleet_run.specs.Driving.{Drives, DrivesPart, EndsAsFault}
 use Rattle.accepted_run.specs.Reloads.{InUse}
 
 pub same_config : (xs : List Configuration) (c d : Configuration) → IsLast xs c → IsLast xs d → c ≡ d

@@ -17,7 +17,7 @@ use Rattle.fleet_run.specs.Reloads.{tree_after}
 use Rattle.fleet_run.specs.Reloads as reloads
 use Rattle.accepted_run.specs.declared.judging.Loading.{Loading}
 use Rattle.accepted_run.specs.declared.judging.Loading.TheVariants.{Loaded, Refused}
-use Rattle.fleet_run.proofs.Reloading.{one_more_taken}
+use Rattle.fleet_run.proofs.Due.{one_more_taken}
 use Rattle.accepted_run.specs.Reloads.{InUse}
 use Rattle.accepted_run.proofs.Accepting.{same_config, tree_at_number}
 use Rattle.accepted_run.specs.Reloads.{AreChained, JudgesOne, Judges, is_refused, loading_of}

@@ -17,7 +17,6 @@ use Rattle.fleet_run.specs.declared.script.DriveFault.{DriveFault}
 use Rattle.fleet_run.specs.declared.script.DriveFault.TheVariants.{BadEvent, NoMemory, Spent}
 use Rattle.fleet_run.specs.Scripted.{Scripted, transcript_of}
 use Rattle.fleet_run.specs.Opening.{opening_of}
-use Rattle.fleet_run.specs.Reloads.{DrivesBy, DrivesPartBy, EndsBy}
 use Rattle.accepted_run.specs.declared.judging.Loading.{Loading}
 use Rattle.accepted_run.specs.declared.judging.Loading.TheVariants.{Loaded, Refused}
 

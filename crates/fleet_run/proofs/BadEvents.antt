@@ -1,14 +1,13 @@
 -- Which events of a script are bad, one after another.
 use Rattle.std.proofs.Common.{◌≡◌, ℕ, zero, suc, ◌+◌, ◌<◌, ◌≤◌, Bool, true, false, cond, nat_eq, ◌||◌, List, [], ◌∷◌, ◌++◌, length, take, drop, get_or, set, replicate, Option, Some, None, refl, sym, ap, ◌∙◌, subst, arith, map, inl, inr}
-use Rattle.std.specs.Prelude.{sum_by, nat_lt, nat_le, slice_get, Vec}
+use Rattle.std.specs.Prelude.{sum_by, slice_get, Vec}
 use Rattle.std.proofs.Common.{Global}
 use Rattle.std.proofs.Math.Seq.{drop-cons, drop-length}
-use Rattle.std.proofs.lemmas.Bool.{ltb-false, leb-false, eqb-true, cases_eq, ne_eqb, eq-eqb}
+use Rattle.std.proofs.lemmas.Bool.{ltb-false, eqb-true, cases_eq, ne_eqb, eq-eqb}
 use Rattle.std.proofs.lemmas.Option.{slice_get_within, slice_get-get_or}
 use Rattle.std.proofs.lemmas.List.{length-set, length-replicate, get_or-replicate, get_or-set_same, get_or-set_other}
 use Rattle.std.proofs.lemmas.List.Sums.{sum_by-append, sum_by-cons}
 use Rattle.std.proofs.lemmas.List.Folds.{list_any-append}
-use Rattle.mc_types.specs.Asks.{data_limit}
 use Rattle.fleet_run.specs.declared.script.Event.{Event}
 use Rattle.fleet_run.specs.declared.script.Event.TheVariants.{Piece, Add}
 use Rattle.fleet_run.specs.Scripted.{Scripted, scripted_of}
@@ -22,14 +21,14 @@ map_suc [] i x lt is = absurd (omega arith)
 map_suc (y ∷ xs) zero x lt is = ap (λ (e : Event). scripted_of e ∷ []) (sym is)
 map_suc (y ∷ xs) (suc i) x lt is = ap (λ l. scripted_of y ∷ l) (map_suc xs i x (omega arith) is)
 
-pub map_more : (xs : List Event) (i : ℕ) (x : Event) → i < length xs → x ≡ get_or xs i x → map scripted_of (take (i + 1) xs) ≡ map scripted_of (take i xs) ++ scripted_of x ∷ []
+map_more : (xs : List Event) (i : ℕ) (x : Event) → i < length xs → x ≡ get_or xs i x → map scripted_of (take (i + 1) xs) ≡ map scripted_of (take i xs) ++ scripted_of x ∷ []
 map_more xs i x lt is = let one : i + 1 ≡ suc i = omega arith in ap (λ (n : ℕ). map scripted_of (take n xs)) one ∙ map_suc xs i x lt is
 
 or_false : (b : Bool) → (b || false) ≡ b
 or_false true = refl
 or_false false = refl
 
-pub one_begun : (before : List Scripted) (event : Scripted) → has_begun (before ++ event ∷ []) ≡ (has_begun before || begins_run event)
+one_begun : (before : List Scripted) (event : Scripted) → has_begun (before ++ event ∷ []) ≡ (has_begun before || begins_run event)
 one_begun before event = list_any-append begins_run before (event ∷ []) ∙ ap (λ b. has_begun before || b) (or_false (begins_run event))
 
 pub right_false : (a b : Bool) → (a || b) ≡ false → b ≡ false
@@ -164,19 +163,6 @@ add_more old new event client bytes is sum more begun = subst (λ (e : Event). I
   begun_is = begun ∙ or_true old.begun;
   added_are = λ c n lt was. ap (λ (l : List ℕ). slice_get l c) more ∙ added_at old.added client c n (length bytes.items) was;
 })
-
--- a piece that isn't bad is of one of 64 clients
-pub is_client : (servers : ℕ) (before : List Scripted) (event : Event) (client : ℕ) (bytes : Vec ℕ Global) → bad_in servers before (scripted_of event) ≡ false → event ≡ Piece client bytes → client < 64
-is_client servers before event client bytes good is =
-    let e : bad_in servers before (scripted_of (Piece client bytes)) ≡ false = subst (λ (x : Event). bad_in servers before (scripted_of x) ≡ false) is good in
-    let h = ltb-false 63 client (left_false _ _ e) in
-    omega (arith, h)
-
--- what isn't bad is put on a server that is there, in time, and isn't too long
-pub is_held : (servers : ℕ) (before : List Scripted) (server : ℕ) (key content : List ℕ) → bad_in servers before (scripted.Hold server key content) ≡ false → (server < servers) × (length content ≤ data_limit) × (has_begun before ≡ false)
-is_held servers before server key content good =
-    let front = left_false (nat_le servers server || nat_lt data_limit (length content)) (has_begun before) good in
-    (leb-false servers server (left_false (nat_le servers server) (nat_lt data_limit (length content)) front), ltb-false data_limit (length content) (right_false (nat_le servers server) (nat_lt data_limit (length content)) front), right_false (nat_le servers server || nat_lt data_limit (length content)) (has_begun before) good)
 
 -- the first bad event, from the i-th on
 abbrev pub bad_from : ℕ → List Event → ℕ → Option ℕ

@@ -1,8 +1,9 @@
--- When a reload is due.
-use Rattle.std.proofs.Common.{◌≡◌, ℕ, zero, suc, ◌+◌, ◌<◌, ◌≤◌, Bool, true, false, List, [], ◌∷◌, length, drop, get_or, nat_le, slice_get, Option, Some, refl, sym, ap, ◌∙◌, subst, arith, ◌⊎◌, inl, inr}
+-- When a reload is due, and which came before.
+use Rattle.std.proofs.Common.{◌≡◌, ℕ, zero, suc, ◌+◌, ◌<◌, ◌≤◌, Bool, true, false, List, [], ◌∷◌, ◌++◌, length, take, drop, get_or, nat_le, slice_get, Option, Some, refl, sym, ap, ◌∙◌, subst, arith, ◌⊎◌, inl, inr}
 use Rattle.std.specs.Prelude.{IsTrue, IfSome}
 use Rattle.std.proofs.Math.Seq.{drop-cons}
 use Rattle.std.proofs.lemmas.Bool.{leb-true, leb-false}
+use Rattle.std.proofs.lemmas.List.{take_more}
 use Rattle.std.proofs.lemmas.Option.{slice_get_within, slice_get-get_or}
 use Rattle.fleet_run.specs.declared.script.Reload.{Reload}
 use Rattle.fleet_run.specs.Reloads.{AreInOrder}
@@ -51,27 +52,13 @@ order_at end servers loaded next reloads r lt is h =
     (subst (λ (x : Reload). (next ≤ x.at) × (x.at ≤ end) × (length x.config.servers ≤ servers) × AreInOrder end servers x.at (drop (suc loaded) reloads)) (sym is)
     (subst (AreInOrder end servers next) (drop-cons reloads loaded r lt) h))
 
--- where none is due and something is left, an event is
-pub event_left : (end servers loaded next : ℕ) (reloads : List Reload) (due : Bool) → (IsDue reloads loaded next → IsTrue due) → due ≡ false → AreInOrder end servers next (drop loaded reloads) → (next < end) ⊎ (loaded < length reloads) → next < end
-event_left end servers loaded next reloads due says none h (inl lt) = lt
-event_left end servers loaded next reloads due says none h (inr lt) = there reloads loaded lt h (λ r at. later due reloads loaded next r says none at)
-  where
-    there : (rs : List Reload) (i : ℕ) → i < length rs → AreInOrder end servers next (drop i rs) → ((r : Reload) → slice_get rs i ≡ Some r → next < r.at) → next < end
-    there [] i lt h up = absurd (omega (arith, lt))
-    there (r ∷ rs) zero lt h up = let a = up r refl in let b = h.1 in omega (arith, a, b)
-    there (r ∷ rs) (suc i) lt h up = there rs i (omega (arith, lt)) h up
-
--- where nothing is left, all events and reloads were taken up
-pub none_left : (events reloads next loaded : ℕ) (left : Bool) → ((next < events) ⊎ (loaded < reloads) → IsTrue left) → left ≡ false → (events ≤ next) × (reloads ≤ loaded)
-none_left events reloads next loaded left says none = (by (le_or_above events next) (λ lt. not_true left none (says (inl lt))), by (le_or_above reloads loaded) (λ lt. not_true left none (says (inr lt))))
-  where
-    by : {a b : ℕ} → (a ≤ b) ⊎ (b < a) → (b < a → ⊥) → a ≤ b
-    by (inl le) never = le
-    by (inr lt) never = absurd (never lt)
-
 -- the one that is due comes at this place
 pub due_at : (end servers loaded next : ℕ) (reloads : List Reload) (r : Reload) → IsDue reloads loaded next → r ≡ get_or reloads loaded r → AreInOrder end servers next (drop loaded reloads) → r.at ≡ next
 due_at end servers loaded next reloads r due is h =
     let at : r.at ≤ next = subst (λ (o : Option Reload). IfSome o (λ x. x.at ≤ next)) (slice_get-get_or reloads loaded r due.0 ∙ ap Some (sym is)) due.1 in
     let from = (order_at end servers loaded next reloads r due.0 is h).0 in
     omega (arith, at, from)
+
+-- those that came, and one more
+pub one_more_taken : (rs : List Reload) (i : ℕ) (r : Reload) → i < length rs → r ≡ get_or rs i r → take (i + 1) rs ≡ take i rs ++ r ∷ []
+one_more_taken rs i r lt is = take_more rs i r lt ∙ ap (λ (x : Reload). take i rs ++ x ∷ []) (sym is)

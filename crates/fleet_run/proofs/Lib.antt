@@ -1,15 +1,4 @@
-pub mod Wording
-pub mod Advancing
-pub mod Messages
-pub mod Clients
-pub mod Breaking
 pub mod BadEvents
 pub mod Whole
-pub mod Openings
-pub mod EventSteps
-pub mod Driven
-pub mod Belows
 pub mod Due
-pub mod Reloading
-pub mod Commands
-pub mod CountLemmas
+pub mod Quiet

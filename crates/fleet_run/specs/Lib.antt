@@ -1,9 +1,5 @@
-pub mod Gone
-pub mod Counting
-pub mod Serving
 pub mod Scripted
 pub mod Stepped
 pub mod Bad
 pub mod Opening
-pub mod Driving
 pub mod Reloads

@@ -1,10 +1,9 @@
 -- What servers hold before the run of a script: what the script puts there. Source: mcgate's own.
-use Rattle.std.specs.Prelude.{◌≡◌, ℕ, List, [], ◌∷◌, Option, Some, None, slice_get, if◌then◌else◌, nat_eq}
+use Rattle.std.specs.Prelude.{ℕ, List, [], ◌∷◌, Option, if◌then◌else◌, nat_eq}
 use Rattle.mc_types.specs.Items.{Item}
 use Rattle.cache_server.specs.Contents.{Contents, empty, storing, opening}
 use Rattle.cache_server.specs.Held.{holds}
 use Rattle.memory_fleet.specs.Fleets.{capacity}
-use Rattle.memory_fleet.specs.declared.fleet.MemoryFleet.{MemoryFleet}
 use Rattle.fleet_run.specs.Scripted.{Scripted, Piece, Add, Result, Fail, Hold, At, Now, Moment}
 
 -- what an event puts into the cache of a server: of a full cache the least recently used is pushed out
@@ -30,8 +29,3 @@ opening_cache events s = put_by_all s (empty capacity) events
 -- what a server holds of a key before the run
 abbrev pub opening_of : List Scripted → ℕ → List ℕ → Option Item
 opening_of events s key = holds (opening_cache events s) key
-
--- the servers hold what these events put there, and nothing else befell them
-pub record IsOpened (events : List Scripted) (fleet : MemoryFleet) : Type 0 where
-  pub there : (s : ℕ) (cache : Contents) → slice_get fleet.caches.items s ≡ Some cache → cache ≡ opening_cache events s
-  pub absent : (s : ℕ) → slice_get fleet.caches.items s ≡ None → opening_cache events s ≡ empty capacity

@@ -1,11 +1,15 @@
--- What a script's events and a transcript's entries are in a log. Source: mcgate's own.
+-- What a script's events and a transcript's entries are in a log, and what ends a script before its last event. Source: mcgate's own.
 use Rattle.std.specs.Prelude.{List, map}
 use Rattle.memory_fleet.specs.declared.event.Loss.{Loss as Lost}
 use Rattle.memory_fleet.specs.declared.event.Loss.TheVariants as losses
+use Rattle.memory_fleet.specs.declared.event.FleetFault.{FleetFault}
+use Rattle.memory_fleet.specs.declared.event.FleetFault.TheVariants as fleet_faults
 use Rattle.fleet_run.specs.declared.script.Event.{Event}
 use Rattle.fleet_run.specs.declared.script.Event.TheVariants as events
 use Rattle.fleet_run.specs.declared.script.Output.{Output}
 use Rattle.fleet_run.specs.declared.script.Transcript.{Transcript}
+use Rattle.fleet_run.specs.declared.script.DriveFault.{DriveFault}
+use Rattle.fleet_run.specs.declared.script.DriveFault.TheVariants.{NoMemory, Spent}
 pub use Rattle.mc_runs.specs.Log.{Manner, Before, After, Junk, Cut, Loss, Lose, Restart, Scripted, Piece, Add, Result, Fail, Hold, At, Now, Moment, Shown}
 pub use Rattle.script_servers.specs.Servers.{manner_of}
 
@@ -30,3 +34,8 @@ shown_by output = record { client = output.client; bytes = output.bytes.items }
 
 abbrev pub transcript_of : Transcript → List Shown
 transcript_of transcript = map shown_by transcript.shown.items
+
+-- what a fault of the servers is to the script
+abbrev pub fault_of : FleetFault → DriveFault
+fault_of fleet_faults.NoMemory = NoMemory
+fault_of fleet_faults.Spent = Spent

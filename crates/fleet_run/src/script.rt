@@ -31,7 +31,7 @@ pub enum Event {
     Moment(i64),
 }
 
-/// The most bytes of a piece that come at once, in a script that steps its calls: a longer piece comes in cuts of so many and a rest, and after each of them each call
+/// The most bytes of a piece that come at once: a longer piece comes in cuts of so many and a rest, and after each of them each call
 /// that is out has its result.
 pub const PIECE_CUT: usize = 65_536;
 

@@ -41,8 +41,7 @@ fn steps(events: &[Event]) -> bool
 }
 
 /// Whether the script steps its calls: one of its events leaves calls out (`+`), gives one its result by hand (`result`), or names a
-/// call that is to fail by the bytes of its answer (`cut`, `junk`). Every other script is run one command at a time. It takes no
-/// memory.
+/// call that is to fail by the bytes of its answer (`cut`, `junk`). It takes no memory.
 ///
 /// Source: mcgate's own.
 #[tactic(auto, using(crate::proofs::Whole::any_map))]

@@ -1,15 +1,14 @@
 //! Scripts as events: which can't be, and what the others hand out.
 
-use fleet_run::{
-    DriveFault, Event, Manner, Report, Script, Transcript, drive_any, first_bad_event, is_stepped,
-};
+use fleet_run::{DriveFault, Event, Loss, Manner, Report, Script, Transcript, first_bad_event};
 use mc_types::{Key, ServerId};
-use memory_fleet::{Loss, MemoryFleet};
 use route_json::Config;
+use script_servers::ScriptServers;
 use script_text::printer::{write_outputs, write_report};
 use std::alloc::{AllocError, Global};
 use std::io::Write;
 use std::test::Fail;
+use stepped_run::drive_stepped;
 
 fn key() -> Result<Key, Fail> {
     match Key::read(b"a") {
@@ -123,21 +122,29 @@ struct Outcome {
     calls: u64,
 }
 
-// A script that steps no calls is driven over one server.
+// A script is driven over one server.
 fn driven(alloc: Global, script: &Script) -> Result<Outcome, Fail> {
-    if is_stepped(script) {
-        return Err(Fail::from("it steps its calls"));
-    }
     let config = Config::of_pool(alloc, 1)?;
-    let mut fleet = MemoryFleet::new(alloc, 1)?;
+    let mut servers = ScriptServers::new(alloc, 1)?;
     let mut transcript = Transcript {
         shown: Vec::new(alloc),
     };
-    let ended = drive_any(alloc, &config, &mut fleet, script, &mut transcript);
+    let none = Vec::new(alloc);
+    let mut marks = Vec::new(alloc);
+    let ended = drive_stepped(
+        alloc,
+        &config,
+        &none,
+        &[],
+        &mut servers,
+        script,
+        &mut transcript,
+        &mut marks,
+    );
     Ok(Outcome {
         transcript,
         ended,
-        calls: fleet.calls(),
+        calls: servers.calls(),
     })
 }
 

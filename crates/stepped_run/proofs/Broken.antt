@@ -24,9 +24,8 @@ use Rattle.fleet_run.specs.declared.script.Event.{Event}
 use Rattle.fleet_run.specs.declared.script.Output.{Output}
 use Rattle.fleet_run.specs.declared.script.Reload.{Reload}
 use Rattle.fleet_run.specs.declared.script.Transcript.{Transcript}
-use Rattle.fleet_run.specs.Driving.{fault_of}
 use Rattle.fleet_run.specs.Opening.{opening_of}
-use Rattle.fleet_run.specs.Scripted.{Scripted, Manner, Piece, Add, Result as Results, Fail, Hold, At, Now, Moment, scripted_of, shown_by, transcript_of}
+use Rattle.fleet_run.specs.Scripted.{Scripted, Manner, Piece, Add, Result as Results, Fail, Hold, At, Now, Moment, scripted_of, shown_by, transcript_of, fault_of}
 use Rattle.script_servers.specs.Servers.{turn_of, IsNew}
 use Rattle.script_servers.specs.declared.servers.ScriptServers.{ScriptServers}
 use Rattle.stepped_log.specs.Laws.{StandingSays}

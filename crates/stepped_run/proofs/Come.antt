@@ -26,10 +26,9 @@ use Rattle.fleet_run.specs.declared.script.Output.{Output}
 use Rattle.fleet_run.specs.declared.script.Reload.{Reload}
 use Rattle.fleet_run.specs.declared.script.Transcript.{Transcript}
 use Rattle.fleet_run.specs.Bad.{first_bad}
-use Rattle.fleet_run.specs.Driving.{fault_of}
 use Rattle.fleet_run.specs.Opening.{opening_of}
 use Rattle.fleet_run.specs.Reloads.{is_refused, AreInOrder}
-use Rattle.fleet_run.specs.Scripted.{Scripted, scripted_of, shown_by, transcript_of}
+use Rattle.fleet_run.specs.Scripted.{Scripted, scripted_of, shown_by, transcript_of, fault_of}
 use Rattle.script_servers.specs.Servers.{caches_of, turn_of, moment_of, named_of, lost_of, IsNew}
 use Rattle.script_servers.specs.declared.servers.ScriptServers.{ScriptServers}
 use Rattle.stepped_log.specs.Standing.{Kept, Stands, tree_by}

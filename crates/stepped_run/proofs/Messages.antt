@@ -14,7 +14,7 @@ use Rattle.text_codec.specs.Replies.{is_failure}
 use Rattle.text_codec.proofs.ReaderLaws.{reader_is}
 use Rattle.proxy_core.specs.CoreState.{dialect}
 use Rattle.fleet_run.specs.Scripted.{Scripted}
-use Rattle.fleet_run.proofs.Driven.{quiet_start}
+use Rattle.fleet_run.proofs.Quiet.{quiet_start}
 use Rattle.stepped_run.specs.Driving.{said_in, IsDoneFor, IsSettled}
 
 nothing_left : (xs ys : List ℕ) → xs ++ ys ≡ [] → (xs ≡ []) × (ys ≡ [])

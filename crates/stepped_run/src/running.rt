@@ -5,9 +5,8 @@ ghost use Rattle.memory_fleet.specs.declared.event.FleetFault.TheVariants.{NoMem
 ghost use Rattle.route_tree.specs.Route.{Route};
 ghost use Rattle.server_addresses.specs.declared.servers.TheConstants.{MAX_SERVERS};
 ghost use Rattle.fleet_run.specs.Bad.{first_bad, Refuses};
-ghost use Rattle.fleet_run.specs.Driving.{fault_of};
 ghost use Rattle.fleet_run.specs.Reloads.{AreInOrder, is_refused};
-ghost use Rattle.fleet_run.specs.Scripted.{Scripted, scripted_of, transcript_of};
+ghost use Rattle.fleet_run.specs.Scripted.{Scripted, scripted_of, transcript_of, fault_of};
 ghost use Rattle.script_servers.specs.Servers.{IsNew, count_of};
 ghost use Rattle.core_run.specs.Running.{kept_of};
 ghost use Rattle.stepped_run.specs.Driving.{DrivesStepped, EndsStepped, AreMarks};

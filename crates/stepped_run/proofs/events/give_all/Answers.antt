@@ -3,7 +3,7 @@ use Rattle.std.specs.Prelude.{◌⊎◌}
 use Rattle.std.proofs.lemmas.Bool.{cases_lt}
 use Rattle.fleet_run.specs.declared.script.Output.{Output}
 use Rattle.fleet_run.specs.Scripted.{transcript_of, shown_by}
-use Rattle.fleet_run.proofs.Driven.{on_err}
+use Rattle.route_job.proofs.Executing.{on_err}
 use Rattle.stepped_run.specs.Stepping.{HandsOut, HandsSome}
 use Rattle.stepped_run.proofs.Steps.{hands_nothing, hands_then, hands_some}
 use Rattle.stepped_run.proofs.events.give_all.Goals as goal

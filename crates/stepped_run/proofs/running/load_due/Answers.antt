@@ -1,6 +1,6 @@
 use Rattle.std.proofs.Common.{◌≡◌, ℕ, ◌+◌, drop, refl, ◌∙◌, subst, arith}
 use Rattle.fleet_run.specs.Reloads.{AreInOrder}
-use Rattle.fleet_run.proofs.Driven.{on_err}
+use Rattle.route_job.proofs.Executing.{on_err}
 use Rattle.fleet_run.proofs.Due.{due_at, order_at, order_on}
 use Rattle.stepped_run.proofs.Come.{at_place, mark_more, mark_count}
 use Rattle.stepped_run.proofs.Stood.{loads_stay, loads_then, loads_one}
