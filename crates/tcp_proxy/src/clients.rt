@@ -65,6 +65,8 @@ pub struct Client {
     pub has_output: bool,
     /// A command of it waits for a key or a server.
     pub is_busy: bool,
+    /// More of it is wanted: the core has no message of it that waits for a key, for a server or for its turn.
+    pub wants_more: bool,
 }
 
 impl Client {
@@ -79,6 +81,7 @@ impl Client {
             is_ready: false,
             has_output: false,
             is_busy: false,
+            wants_more: true,
         }
     }
 
@@ -97,9 +100,14 @@ impl Client {
         self.settled > 0 || self.may_begin()
     }
 
-    /// Whether something may be read of it.
+    /// Whether something may be read of it. Behind a message that waits nothing is read: the core would move it, byte by byte, when
+    /// that message is done.
     pub fn can_read(&self) -> bool {
-        self.conn.readable && !self.is_ended && self.conn.held.is_empty() && self.may_begin()
+        self.conn.readable
+            && self.wants_more
+            && !self.is_ended
+            && self.conn.held.is_empty()
+            && self.may_begin()
     }
 
     /// Whether bytes that were read wait for room in the core.

@@ -1491,8 +1491,11 @@ impl ProxyEnd {
     fn mark_rest(&mut self, id: usize, rest: Rest) -> Result<(), AllocError>
         ensures core { self.new.core ≡ self.old.core }
     {
+        // In rounds all is read as it comes.
+        let in_rounds = self.in_rounds;
         let is_more = match self.clients.get_mut(id) {
             Some(client) => {
+                client.wants_more = in_rounds || rest == Rest::Idle || rest == Rest::Waiting;
                 rest == Rest::More || client.can_read() || (rest == Rest::Idle && client.has_held())
             }
             None => false,

@@ -11,6 +11,10 @@ use std::{io, mem};
 // From so many bytes on, what is held is copied as a whole where it has to move.
 const MOVED_FROM: usize = 64;
 
+// What is copied gets room for so much more at most, where no read wants more: large data pass through the processor's caches several
+// times, and leave them where the buffers are larger.
+const MOVED_ROOM: usize = 1_048_576;
+
 /// How much an end keeps, in bytes.
 #[derive(Clone, Copy)]
 pub struct Limits {
@@ -146,8 +150,9 @@ impl<S: Read + Write + Drop> Conn<S> {
         self.other.clear();
         self.other.reserve(len)?;
         self.other.extend_reserved(self.held.as_slice());
-        // Four times as much, so that it seldom has to move again.
-        self.other.reserve(room.max(len.saturating_mul(4)))?;
+        // Four times as much, up to a bound, so that it seldom has to move again.
+        let more = len.saturating_mul(4).min(MOVED_ROOM);
+        self.other.reserve(room.max(more))?;
         mem::swap(&mut self.held, &mut self.other);
         Ok(())
     }
