@@ -44,18 +44,8 @@ fn copies_with_ample_memory(rt: HostRuntime) -> Result<(), Fail> {
 fn asks_and_answers_are_copied(rt: HostRuntime) -> Result<(), Fail> {
     let alloc = rt.alloc();
     let key = Key::read(b"a").ok().ok_or("a is a key")?;
-    let ask = Ask {
-        key,
-        op: Op::Delete,
-        dialect: Dialect::Meta,
-        with_cas: false,
-        flags: 0,
-        exptime: None,
-        body: Body::empty(),
-        cas: Some(9),
-        delta: 0,
-        tokens: Tokens::new(alloc),
-    };
+    let mut ask = Ask::bare(Dialect::Meta, Op::Delete, key, Tokens::new(alloc));
+    ask.cas = Some(9);
     let copy = ask.copy()?;
     assert!(rt; copy.cas == Some(9));
     assert!(rt; Answer::Meta(Code::Nf, Fields::none()).acknowledges(&copy));

@@ -4,7 +4,7 @@ ghost use Rattle.std.specs.Prelude.{◌≡◌, [], ◌∷◌, IfOk};
 ghost use Rattle.route_tree.specs.Route as route;
 
 use crate::jobs::answering::DOWN;
-use mc_types::{Ask, Body, Dialect, Key, Op, ServerId, Tokens};
+use mc_types::{Ask, Dialect, Key, Op, ServerId, Tokens};
 use route_tree::{Tree, TreeForm};
 use std::alloc::{AllocError, Global};
 
@@ -34,18 +34,7 @@ pub fn all_sync(alloc: Global) -> Result<Tree, AllocError> {
 
 /// A classic ask of the key without data.
 pub fn ask_of(alloc: Global, key: Key, op: Op) -> Ask {
-    Ask {
-        key,
-        op,
-        dialect: Dialect::Classic,
-        with_cas: false,
-        flags: 0,
-        exptime: None,
-        body: Body::empty(),
-        cas: None,
-        delta: 0,
-        tokens: Tokens::new(alloc),
-    }
+    Ask::bare(Dialect::Classic, op, key, Tokens::new(alloc))
 }
 
 /// The operations of the commands, in turn.
