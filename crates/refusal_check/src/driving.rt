@@ -1,13 +1,10 @@
 //! Refusal runs, driven.
 
 use crate::growing::grown;
-use fleet_run::{Script, Transcript};
 use fresh_gate::{Gap, Reason, judge};
-use refusals::refusal_run;
+use refusals::{is_stale, refusal_run};
 use route_json::{Config, read_config};
-use script_servers::ScriptServers;
 use std::alloc::{AllocError, Global};
-use stepped_run::drive_stepped;
 
 /// What came of the configurations.
 #[derive(Clone, Copy)]
@@ -16,9 +13,9 @@ pub struct Counts {
     pub refused: u32,
     /// Of the refused ones, how many have a refusal run.
     pub runs: u32,
-    /// Of the runs, how many show a stale reply where they are driven.
+    /// Of the runs, how many can be driven and then show a stale reply.
     pub leaks: u32,
-    /// Texts that are no configuration, and runs that broke off.
+    /// Texts that are no configuration, and refusals for another reason than a gap.
     pub others: u32,
 }
 
@@ -50,34 +47,16 @@ fn counted(end: End, counts: Counts) -> Counts {
     counts
 }
 
-fn driven(alloc: Global, config: &Config, script: &Script) -> Result<End, AllocError> {
-    let mut servers = ScriptServers::new(alloc, config.servers().len() as u32)?;
-    let mut transcript = Transcript {
-        shown: Vec::new(alloc),
-    };
-    let none = Vec::new(alloc);
-    let mut marks = Vec::new(alloc);
-    let driven = drive_stepped(
-        alloc,
-        config,
-        &none,
-        &[],
-        &mut servers,
-        script,
-        &mut transcript,
-        &mut marks,
-    );
-    match driven {
-        Ok(report) if report.stale > 0 => Ok(End::Leaks),
-        Ok(_) => Ok(End::Stays),
-        Err(_) => Ok(End::Other),
-    }
-}
-
 fn shown(alloc: Global, config: &Config, gap: &Gap) -> Result<End, AllocError> {
     match refusal_run(alloc, config, gap)? {
-        Some(script) => driven(alloc, config, &script),
         None => Ok(End::NoRun),
+        Some(script) => {
+            if is_stale(alloc, config, &script)? {
+                Ok(End::Leaks)
+            } else {
+                Ok(End::Stays)
+            }
+        }
     }
 }
 

@@ -7,4 +7,4 @@ pub mod keys;
 pub mod run;
 pub mod script;
 
-pub use run::refusal_run;
+pub use run::{is_stale, refusal_run};

@@ -44,8 +44,9 @@ fn servers_for(alloc: Global, config: &Config) -> Result<ScriptServers, AllocErr
     ScriptServers::new(alloc, count as u32)
 }
 
-// Whether the script can be driven, and then shows an item that is older than a delete.
-fn is_stale(alloc: Global, config: &Config, script: &Script) -> Result<bool, AllocError>
+/// Whether the script can be driven over new servers of the configuration, and then shows an item that is older than a delete. The
+/// only error is running out of memory.
+pub fn is_stale(alloc: Global, config: &Config, script: &Script) -> Result<bool, AllocError>
     ensures { IfOk result (λ stale. stale ≡ true → IsShowing config.now (map scripted_of script.now.events.items)) }
 {
     let mut servers = servers_for(alloc, config)?;
