@@ -9,7 +9,6 @@ use Rattle.fresh_gate.specs.Sound.{IsLast, trees_of}
 use Rattle.fresh_gate.specs.Reload.{AreKept, IsReloadFault}
 use Rattle.fresh_gate.specs.declared.reloading.ReloadFault.{ReloadFault}
 use Rattle.fresh_gate.specs.declared.reloading.ReloadFault.TheVariants as faults
-use Rattle.memory_fleet.specs.declared.fleet.MemoryFleet.{MemoryFleet}
 use Rattle.fleet_run.specs.declared.script.Reload.{Reload}
 use Rattle.fleet_run.specs.declared.script.Transcript.{Transcript}
 use Rattle.fleet_run.specs.declared.script.Report.{Report}

@@ -2,8 +2,8 @@
 use Rattle.std.proofs.Common.{◌≡◌, ℕ, ◌+◌, Bool, true, false, cond, nat_eq, List, [], ◌++◌, Result, Ok, Err, refl, sym, ◌∙◌, subst, inl, inr, arith, append-nil}
 use Rattle.std.specs.Prelude.{IfErr, IsErrAnd}
 use Rattle.mc_runs.specs.OverlapStream.{stream_of}
-use Rattle.memory_fleet.specs.declared.event.FleetFault.{FleetFault}
-use Rattle.memory_fleet.specs.declared.event.FleetFault.TheVariants.{NoMemory, Spent}
+use Rattle.script_servers.specs.declared.event.FleetFault.{FleetFault}
+use Rattle.script_servers.specs.declared.event.FleetFault.TheVariants.{NoMemory, Spent}
 use Rattle.proxy_core.specs.Faults.{OpenFault, FeedFault, OutputFault}
 use Rattle.proxy_core.specs.Polls.{PollFault}
 use Rattle.proxy_core.specs.Settles.{SettleFault}

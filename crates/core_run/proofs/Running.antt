@@ -17,10 +17,10 @@ use Rattle.proxy_core.specs.Settles.{IsCalled, Settles}
 use Rattle.proxy_core.specs.declared.note.Poll.{Poll}
 use Rattle.proxy_core.specs.declared.note.Poll.TheVariants as polls
 use Rattle.proxy_core.specs.declared.proxy.Core.{Core}
-use Rattle.memory_fleet.specs.Law.{stamp_given}
+use Rattle.script_servers.specs.Found.{stamp_given}
 use Rattle.route_tree.specs.Route.{Route}
 use Rattle.cache_server.specs.Contents.{Contents}
-use Rattle.memory_fleet.specs.declared.event.Made.{Made}
+use Rattle.script_servers.specs.declared.event.Made.{Made}
 use Rattle.script_servers.specs.Calling.{Ends}
 use Rattle.script_servers.specs.Servers.{Answers}
 use Rattle.script_servers.specs.declared.servers.ScriptServers.{ScriptServers}

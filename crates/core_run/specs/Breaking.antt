@@ -1,8 +1,8 @@
 -- How far calls of a runner came that ended in a fault. Source: mcgate's own.
 use Rattle.std.specs.Prelude.{◌≡◌, ◌⊎◌, ℕ, ◌+◌, ◌<◌, ◌^◌, List, ◌++◌}
-use Rattle.memory_fleet.specs.Fleets.{last_turn}
-use Rattle.memory_fleet.specs.declared.event.FleetFault.{FleetFault}
-use Rattle.memory_fleet.specs.declared.event.FleetFault.TheVariants.{NoMemory, Spent}
+use Rattle.script_servers.specs.Limits.{last_turn}
+use Rattle.script_servers.specs.declared.event.FleetFault.{FleetFault}
+use Rattle.script_servers.specs.declared.event.FleetFault.TheVariants.{NoMemory, Spent}
 use Rattle.proxy_core.specs.declared.fault.CoreFault.{CoreFault}
 use Rattle.proxy_core.specs.declared.fault.CoreFault.TheVariants as faults
 use Rattle.proxy_core.specs.declared.limits.TheConstants.{LAST_COMMAND}

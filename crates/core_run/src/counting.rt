@@ -5,7 +5,7 @@ ghost use Rattle.stepped_log.specs.Laws.{is_as_old};
 
 use crate::tally::Tally;
 use mc_types::Key;
-use memory_fleet::FleetFault;
+use script_servers::FleetFault;
 use std::alloc::{AllocError, Global};
 use std::collections::BTreeMap;
 

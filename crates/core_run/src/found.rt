@@ -1,7 +1,7 @@
 //! What the calls of commands under way found.
 
 ghost use Rattle.std.specs.Prelude.{◌≡◌, ℕ, ◌++◌, ◌∷◌, [], if◌then◌else◌, nat_eq, OnOk, OnErr};
-ghost use Rattle.memory_fleet.specs.Law.{stamp_at, stamp_given};
+ghost use Rattle.script_servers.specs.Found.{stamp_at, stamp_given};
 
 use mc_types::Origin;
 use std::alloc::{AllocError, Global};

@@ -1,7 +1,7 @@
 //! The core, what it can't know, and its calls at the servers of a script.
 
 ghost use Rattle.std.specs.Prelude.{◌≡◌, ℕ, ◌<◌, ◌≤◌, ◌+◌, ◌++◌, ◌∷◌, ◌↔◌, [], nat_eq, if◌then◌else◌, IsTrue, IfOk, IfErr, OnOk};
-ghost use Rattle.memory_fleet.specs.declared.event.FleetFault.TheVariants.{NoMemory};
+ghost use Rattle.script_servers.specs.declared.event.FleetFault.TheVariants.{NoMemory};
 ghost use Rattle.proxy_core.specs.CoreState.{IsOut};
 ghost use Rattle.proxy_core.specs.Polls.{Polls};
 ghost use Rattle.script_servers.specs.Servers.{count_of, turn_of, Answers};
@@ -15,10 +15,9 @@ use crate::found::Found;
 use crate::tally::Tally;
 use client_asks::is_ask;
 use mc_types::{Ask, ServerId};
-use memory_fleet::{FleetFault, Made};
 use proxy_core::{Core, CoreFault, Limits, Note, Poll, Ticket};
 use route_tree::Tree;
-use script_servers::ScriptServers;
+use script_servers::{FleetFault, Made, ScriptServers};
 use std::alloc::Global;
 use stepped_log::laws::{
     feeds_go_on, gives_go_on, loads_go_on, openings_go_on, polls_go_on, results_go_on,

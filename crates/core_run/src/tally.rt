@@ -2,7 +2,7 @@
 
 ghost use Rattle.std.specs.Prelude.{◌≤◌, IfOk};
 
-use memory_fleet::FleetFault;
+use script_servers::FleetFault;
 
 /// How many commands ended, and how many of them were stale.
 #[derive(Clone, Copy)]

@@ -3,7 +3,7 @@ use Rattle.std.specs.Prelude.{ℕ, List, [], ◌∷◌, Option, if◌then◌else
 use Rattle.mc_types.specs.Items.{Item}
 use Rattle.cache_server.specs.Contents.{Contents, empty, storing, opening}
 use Rattle.cache_server.specs.Held.{holds}
-use Rattle.memory_fleet.specs.Fleets.{capacity}
+use Rattle.script_servers.specs.Limits.{capacity}
 use Rattle.fleet_run.specs.Scripted.{Scripted, Piece, Add, Result, Fail, Hold, At, Now, Moment}
 
 -- what an event puts into the cache of a server: of a full cache the least recently used is pushed out

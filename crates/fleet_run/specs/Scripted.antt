@@ -1,9 +1,9 @@
 -- What a script's events and a transcript's entries are in a log, and what ends a script before its last event. Source: mcgate's own.
 use Rattle.std.specs.Prelude.{List, map}
-use Rattle.memory_fleet.specs.declared.event.Loss.{Loss as Lost}
-use Rattle.memory_fleet.specs.declared.event.Loss.TheVariants as losses
-use Rattle.memory_fleet.specs.declared.event.FleetFault.{FleetFault}
-use Rattle.memory_fleet.specs.declared.event.FleetFault.TheVariants as fleet_faults
+use Rattle.script_servers.specs.declared.event.Loss.{Loss as Lost}
+use Rattle.script_servers.specs.declared.event.Loss.TheVariants as losses
+use Rattle.script_servers.specs.declared.event.FleetFault.{FleetFault}
+use Rattle.script_servers.specs.declared.event.FleetFault.TheVariants as fleet_faults
 use Rattle.fleet_run.specs.declared.script.Event.{Event}
 use Rattle.fleet_run.specs.declared.script.Event.TheVariants as events
 use Rattle.fleet_run.specs.declared.script.Output.{Output}

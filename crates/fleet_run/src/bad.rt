@@ -1,13 +1,13 @@
 //! Which events of a script can't be.
 
 ghost use Rattle.std.specs.Prelude.{◌≡◌, ◌<◌, List, length, map, replicate, IfSome};
-ghost use Rattle.memory_fleet.specs.Fleets.{server_of};
+ghost use Rattle.script_servers.specs.Caches.{server_of};
 ghost use Rattle.fleet_run.specs.Scripted.{Scripted, scripted_of};
 ghost use Rattle.fleet_run.specs.Bad.{bad_in, first_bad, IsBefore, HasRoom, IsOneMore};
 
 use crate::script::{Event, Script};
 use mc_types::{DATA_LIMIT, SCRIPT_CLIENTS};
-use memory_fleet::Loss;
+use script_servers::Loss;
 
 /// The most bytes that all pieces of a script have together.
 pub const PIECE_LIMIT: usize = 16_777_216;

@@ -6,7 +6,6 @@ pub mod script;
 pub mod stepped;
 
 pub use bad::first_bad_event;
-pub use memory_fleet::Loss;
 pub use script::{DriveFault, Event, Output, PIECE_CUT, Reload, Report, Script, Transcript};
-pub use script_servers::Manner;
+pub use script_servers::{Loss, Manner};
 pub use stepped::is_stepped;

@@ -1,9 +1,8 @@
 //! What a script holds, and what comes of driving it.
 
 use mc_types::{Key, ServerId};
-use memory_fleet::Loss;
 use route_json::Config;
-use script_servers::Manner;
+use script_servers::{Loss, Manner};
 
 /// One event of a script.
 #[derive(Drop)]

@@ -1,7 +1,7 @@
 //! Why an event that a line says can't be.
 
 ghost use Rattle.std.specs.Prelude.{◌≡◌, ◌≤◌, map, sum_by};
-ghost use Rattle.memory_fleet.specs.Fleets.{server_of};
+ghost use Rattle.script_servers.specs.Caches.{server_of};
 ghost use Rattle.fleet_run.specs.Scripted.{scripted_of};
 ghost use Rattle.fleet_run.specs.Bad.{len_of};
 ghost use Rattle.line_faults.specs.Misfits.{misfit_of, bytes_before_bad};

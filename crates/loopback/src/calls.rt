@@ -1,9 +1,8 @@
 //! The calls of servers in the order in which they are made: which of them fail, and what is lost just before one.
 
 use cache_connection::Cache;
-use memory_fleet::Loss;
-use memory_fleet::losses::{add_loss, lose_all};
-use script_servers::Manner;
+use script_servers::losing::{add_loss, lose_all};
+use script_servers::{Loss, Manner};
 use std::alloc::{AllocError, Global};
 use std::collections::BTreeMap;
 

@@ -4,7 +4,7 @@ use Rattle.std.specs.declared.io.ErrorKind.{ErrorKind}
 use Rattle.std.specs.declared.io.ErrorKind.TheVariants as io_kinds
 use Rattle.clap.specs.declared.error.ErrorKind.{ErrorKind as RefusalKind}
 use Rattle.clap.specs.declared.error.ErrorKind.TheVariants as refusal_kinds
-use Rattle.memory_fleet.specs.Fleets.{last_turn}
+use Rattle.script_servers.specs.Limits.{last_turn}
 use Rattle.mc_types.specs.declared.key.KeyFault.{KeyFault}
 use Rattle.mc_types.specs.declared.key.KeyFault.TheVariants as keys
 use Rattle.config_check.specs.declared.status.RunFault.{RunFault}

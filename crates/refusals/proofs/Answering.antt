@@ -30,7 +30,7 @@ use Rattle.fleet_run.specs.Scripted.{scripted_of}
 use Rattle.fleet_run.specs.Opening.{opening_of}
 use Rattle.fleet_run.specs.Bad.{first_bad}
 use Rattle.cache_server.specs.Contents.{empty}
-use Rattle.memory_fleet.specs.Fleets.{capacity}
+use Rattle.script_servers.specs.Limits.{capacity}
 use Rattle.script_servers.specs.Servers.{IsNew, count_of}
 use Rattle.script_servers.specs.declared.servers.ScriptServers.{ScriptServers}
 use Rattle.proxy_core.specs.Claims.{bars_by}

@@ -8,7 +8,7 @@ use Rattle.mc_runs.specs.Log.{Scripted, Piece, Fail, Hold, Before}
 use Rattle.cache_server.specs.Contents.{Contents, empty, same_key, storing, opening}
 use Rattle.cache_server.specs.Held.{holds}
 use Rattle.cache_server.proofs.CallLemmas.{hold_is}
-use Rattle.memory_fleet.specs.Fleets.{capacity}
+use Rattle.script_servers.specs.Limits.{capacity}
 use Rattle.coverage.proofs.Choices.{bool_is}
 use Rattle.fleet_run.specs.Opening.{put_by, put_by_all, opening_of}
 use Rattle.refusal_words.specs.Bait.{bait, IsBaited}

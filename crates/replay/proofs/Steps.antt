@@ -8,7 +8,7 @@ use Rattle.script_text.specs.Printed.{report_line}
 use Rattle.script_text.specs.Script.{servers_known}
 use Rattle.script_text.specs.declared.configured.ConfiguredScript.{ConfiguredScript}
 use Rattle.cache_server.specs.Contents.{empty}
-use Rattle.memory_fleet.specs.Fleets.{capacity}
+use Rattle.script_servers.specs.Limits.{capacity}
 use Rattle.script_servers.specs.Servers.{IsNew, count_of}
 use Rattle.script_servers.specs.declared.servers.ScriptServers.{ScriptServers}
 use Rattle.fleet_run.specs.declared.script.Reload.{Reload}

@@ -1,7 +1,7 @@
 -- One call at the cache of its server, as the code makes it.
 use Rattle.std.proofs.Common.{◌≡◌, ℕ, ℤ, ◌<◌, Bool, true, false, cond, List, length, Option, Some, None, inr, refl, sym, ap, ◌∙◌, subst}
 use Rattle.std.proofs.lemmas.Bool.{leb-true, leb-false}
-use Rattle.std.specs.Prelude.{slice_set, slice_index_or, nat_abs, nat_le}
+use Rattle.std.specs.Prelude.{slice_set, slice_index_or, nat_abs, nat_le, Result, Ok, Err, IfOk, OnOk, OnErr}
 use Rattle.mc_types.specs.declared.ask.Ask.{Ask}
 use Rattle.mc_types.specs.declared.answer.Answer.{Answer}
 use Rattle.mc_types.specs.declared.call.Outcome.TheVariants.{Answered, Failed}
@@ -11,11 +11,23 @@ use Rattle.cache_server.specs.Contents.{Contents}
 use Rattle.cache_server.specs.Table.{Applies}
 use Rattle.cache_server.specs.Held.{holds, IsCall, lost_by}
 use Rattle.text_answers.specs.Spelling.{spelling_of}
-use Rattle.memory_fleet.specs.Losing.{changed_at}
-use Rattle.memory_fleet.specs.declared.event.Made.{Made}
-use Rattle.memory_fleet.proofs.Places.{is_there}
-use Rattle.memory_fleet.proofs.LossLemmas.{set_is_changed}
+use Rattle.script_servers.specs.Caches.{changed_at}
+use Rattle.script_servers.specs.declared.event.Made.{Made}
+use Rattle.script_servers.proofs.Places.{is_there}
+use Rattle.script_servers.proofs.CacheLosses.{set_is_changed}
 use Rattle.script_servers.specs.Calling.{AppliesAt, IsMade, IsRefused, made_of}
+
+pub if_both : {A E : Type 0} (r : Result A E) (P Q R : A → Type 0) → ((a : A) → P a → Q a → R a) → IfOk r P → IfOk r Q → IfOk r R
+if_both (Ok a) P Q R on p q = on a p q
+if_both (Err e) P Q R on p q = tt
+
+pub on_err : {A E : Type 0} (r : Result A E) (P Q : Type 0) → (P → Q) → OnErr r P → OnErr r Q
+on_err (Ok a) P Q on p = tt
+on_err (Err e) P Q on p = on p
+
+pub on_ok_both : {A E : Type 0} (r : Result A E) (P Q R : Type 0) → (P → Q → R) → OnOk r P → OnOk r Q → OnOk r R
+on_ok_both (Ok a) P Q R on p q = on p q
+on_ok_both (Err e) P Q R on p q = tt
 
 pub applied : (moment : ℤ) (stamp : ℕ) (old new : List Contents) (server place : ℕ) (ask : Ask) (x y : Contents) (answer : Answer) (found : Option ℕ) → place ≡ server → server < length old → x ≡ slice_index_or old place x → new ≡ slice_set old place y
     → Applies moment stamp ask x answer found y → IsCall stamp ask (holds x) (lost_by (nat_abs moment) stamp ask x) answer found (holds y) → AppliesAt stamp moment old server ask answer found new

@@ -6,10 +6,10 @@ use Rattle.mc_runs.specs.Sharing.{after_event}
 use Rattle.mc_runs.specs.SharingFleet.{after_losses}
 use Rattle.mc_runs.specs.ScriptLog.{lost_by}
 use Rattle.cache_server.specs.Contents.{Contents}
-use Rattle.memory_fleet.specs.Losing.{loss_of, held_at, after_loss, lost_in}
-use Rattle.memory_fleet.specs.declared.event.Loss.{Loss}
-use Rattle.memory_fleet.specs.declared.event.Loss.TheVariants.{Item as LostItem, Restart}
-use Rattle.memory_fleet.proofs.LossLemmas.{lost_more, lost_len}
+use Rattle.script_servers.specs.Caches.{loss_of, held_at, after_loss, lost_in}
+use Rattle.script_servers.specs.declared.event.Loss.{Loss}
+use Rattle.script_servers.specs.declared.event.Loss.TheVariants.{Item as LostItem, Restart}
+use Rattle.script_servers.proofs.CacheLosses.{lost_more, lost_len}
 use Rattle.script_servers.specs.Losing.{told_of, events_of, AreLost}
 
 -- what a loss leaves is said alike by both forms of runs

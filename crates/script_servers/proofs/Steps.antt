@@ -17,13 +17,13 @@ use Rattle.mc_runs.specs.ScriptLog.{lost_by}
 use Rattle.cache_server.specs.Contents.{Contents}
 use Rattle.cache_server.specs.Held as cache
 use Rattle.cache_server.specs.Held.{holds, without}
-use Rattle.memory_fleet.specs.Fleets.{IsStamp}
-use Rattle.memory_fleet.specs.Law.{AgreesWith}
-use Rattle.memory_fleet.specs.Losing.{held_at}
-use Rattle.memory_fleet.specs.declared.event.Loss.{Loss}
-use Rattle.memory_fleet.specs.declared.event.Loss.TheVariants.{Item as LostItem, Restart}
-use Rattle.memory_fleet.specs.declared.event.Made.{Made}
-use Rattle.memory_fleet.proofs.Places.{held_here, held_else, without_same, by_server, same}
+use Rattle.script_servers.specs.Found.{IsStamp}
+use Rattle.script_servers.specs.Found.{AgreesWith}
+use Rattle.script_servers.specs.Caches.{held_at}
+use Rattle.script_servers.specs.declared.event.Loss.{Loss}
+use Rattle.script_servers.specs.declared.event.Loss.TheVariants.{Item as LostItem, Restart}
+use Rattle.script_servers.specs.declared.event.Made.{Made}
+use Rattle.script_servers.proofs.Places.{held_here, held_else, without_same, by_server, same}
 use Rattle.script_servers.specs.Losing.{told_of, events_of, AreLost}
 use Rattle.script_servers.specs.Calling.{EndsAs, AppliesAt, Ends}
 use Rattle.script_servers.specs.Servers.{caches_of, turn_of, moment_of, named_of, lost_of}

@@ -11,8 +11,8 @@ use Rattle.cache_server.specs.Contents.{Contents, at_moment}
 use Rattle.cache_server.specs.Table.{Applies}
 use Rattle.cache_server.specs.Held.{holds, IsCall, lost_by}
 use Rattle.text_answers.specs.Spelling.{spelling_of}
-use Rattle.memory_fleet.specs.Losing.{changed_at}
-use Rattle.memory_fleet.specs.declared.event.Made.{Made}
+use Rattle.script_servers.specs.Caches.{changed_at}
+use Rattle.script_servers.specs.declared.event.Made.{Made}
 
 -- a call ends as it is named by a script, whatever else the script is of; the text of an answer is its spelling
 abbrev pub EndsAs : Ask → Option Manner → End → Type 0

@@ -10,9 +10,9 @@ use Rattle.mc_runs.specs.Sharing.{Event, Loses}
 use Rattle.mc_runs.specs.SharingFleet.{Fleet, MakesCall, after_losses}
 use Rattle.cache_server.specs.Contents.{Contents}
 use Rattle.cache_server.specs.Held.{lost_by}
-use Rattle.memory_fleet.specs.Losing.{loss_of, held_at, lost_in}
-use Rattle.memory_fleet.specs.Law.{IsFound}
-use Rattle.memory_fleet.specs.declared.event.Made.{Made}
+use Rattle.script_servers.specs.Caches.{loss_of, held_at, lost_in}
+use Rattle.script_servers.specs.Found.{IsFound}
+use Rattle.script_servers.specs.declared.event.Made.{Made}
 use Rattle.script_servers.specs.Losing.{events_of}
 use Rattle.script_servers.specs.Calling.{EndsAs}
 use Rattle.script_servers.specs.Servers.{caches_of, turn_of, moment_of, named_of, lost_of, Answers}

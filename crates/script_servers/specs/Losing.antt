@@ -5,9 +5,9 @@ use Rattle.mc_runs.specs.Sharing.{Event}
 use Rattle.mc_runs.specs.SharingFleet.{after_losses}
 use Rattle.mc_runs.specs.ScriptLog.{lost_by}
 use Rattle.cache_server.specs.Contents.{Contents}
-use Rattle.memory_fleet.specs.Losing.{loss_of, held_at, lost_in}
-use Rattle.memory_fleet.specs.declared.event.Loss.{Loss}
-use Rattle.memory_fleet.specs.declared.event.Loss.TheVariants as losses
+use Rattle.script_servers.specs.Caches.{loss_of, held_at, lost_in}
+use Rattle.script_servers.specs.declared.event.Loss.{Loss}
+use Rattle.script_servers.specs.declared.event.Loss.TheVariants as losses
 
 -- a loss, as a script has it
 abbrev pub told_of : Loss → log.Loss

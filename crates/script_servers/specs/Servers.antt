@@ -5,12 +5,12 @@ use Rattle.std.specs.BTreeMap.{get}
 use Rattle.mc_types.specs.declared.ask.Ask.{Ask}
 use Rattle.mc_runs.specs.ScriptLog as log
 use Rattle.cache_server.specs.Contents.{Contents, empty}
-use Rattle.memory_fleet.specs.Fleets.{capacity}
-use Rattle.memory_fleet.specs.Losing.{listed}
-use Rattle.memory_fleet.specs.declared.event.FleetFault.{FleetFault}
-use Rattle.memory_fleet.specs.declared.event.FleetFault.TheVariants.{NoMemory, Spent}
-use Rattle.memory_fleet.specs.declared.event.Loss.{Loss}
-use Rattle.memory_fleet.specs.declared.event.Made.{Made}
+use Rattle.script_servers.specs.Limits.{capacity}
+use Rattle.script_servers.specs.Caches.{listed}
+use Rattle.script_servers.specs.declared.event.FleetFault.{FleetFault}
+use Rattle.script_servers.specs.declared.event.FleetFault.TheVariants.{NoMemory, Spent}
+use Rattle.script_servers.specs.declared.event.Loss.{Loss}
+use Rattle.script_servers.specs.declared.event.Made.{Made}
 use Rattle.script_servers.specs.Losing.{AreLost}
 use Rattle.script_servers.specs.Calling.{IsMade, IsRefused}
 use Rattle.script_servers.specs.declared.manner.Manner.{Manner}

@@ -4,16 +4,16 @@ ghost use Rattle.std.specs.Prelude.{◌≡◌, ◌<◌, length, nat_abs, Some, o
 ghost use Rattle.mc_types.specs.Asks.{IsAsk};
 ghost use Rattle.mc_runs.specs.ScriptLog.{Cut};
 ghost use Rattle.cache_server.specs.Contents.{at_moment};
-ghost use Rattle.memory_fleet.specs.Losing.{changed_at};
+ghost use Rattle.script_servers.specs.Caches.{changed_at};
 ghost use Rattle.script_servers.specs.Servers.{manner_of};
 ghost use Rattle.script_servers.specs.Calling.{AppliesAt, IsMade, IsRefused, made_of};
 
 use crate::cutting::read_cut;
+use crate::event::Made;
 use crate::manner::Manner;
 use crate::moment::Moment;
 use cache_server::Cache;
 use mc_types::{Answer, Ask, Outcome, ServerId};
-use memory_fleet::Made;
 use std::alloc::{AllocError, Global};
 
 // What the server answers, by its cache, and the stamp of what it found.

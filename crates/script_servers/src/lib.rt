@@ -4,12 +4,13 @@
 
 mod calling;
 mod cutting;
+mod event;
 pub mod laws;
-mod losing;
+pub mod losing;
 mod manner;
 mod moment;
 mod servers;
 
+pub use event::{FleetFault, Loss, Made};
 pub use manner::Manner;
-pub use memory_fleet::{FleetFault, Loss, Made};
-pub use servers::ScriptServers;
+pub use servers::{CAPACITY, ScriptServers};

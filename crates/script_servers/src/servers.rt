@@ -4,20 +4,22 @@ ghost use Rattle.std.specs.Prelude.{◌≡◌, ◌+◌, ◌<◌, ◌≤◌, ◌�
 ghost use Rattle.mc_types.specs.Asks.{IsAsk, data_limit};
 ghost use Rattle.mc_runs.specs.Fleet.{after_event};
 ghost use Rattle.cache_server.specs.Contents.{storing, opening};
-ghost use Rattle.memory_fleet.specs.Fleets.{last_turn};
-ghost use Rattle.memory_fleet.specs.Losing.{loss_of, held_at, changed_at, after_loss};
+ghost use Rattle.script_servers.specs.Limits.{last_turn};
+ghost use Rattle.script_servers.specs.Caches.{loss_of, held_at, changed_at, after_loss};
 ghost use Rattle.script_servers.specs.Losing.{AreLost};
 
 use crate::calling::make_call;
-use crate::losing::lose_all;
+use crate::event::{FleetFault, Loss, Made};
+use crate::losing::{add_loss, lose_all, lose_one};
 use crate::manner::Manner;
 use crate::moment::Moment;
 use cache_server::Cache;
 use mc_types::{Ask, Key, ServerId};
-use memory_fleet::losses::{add_loss, lose_one};
-use memory_fleet::{CAPACITY, FleetFault, Loss, Made};
 use std::alloc::{AllocError, Global};
 use std::collections::BTreeMap;
+
+/// The most items that a server of a script holds. mcgate's own.
+pub const CAPACITY: usize = 1_024;
 
 /// Servers in memory: their caches, by their places, and one clock; and the failures and losses that are named for calls to come.
 /// A call is counted as it has its result.
@@ -36,7 +38,7 @@ pub struct ScriptServers {
 }
 
 impl ScriptServers {
-    ghost use Rattle.memory_fleet.specs.declared.event.FleetFault.TheVariants.{Spent};
+    ghost use Rattle.script_servers.specs.declared.event.FleetFault.TheVariants.{Spent};
     ghost use Rattle.script_servers.specs.Servers.{manner_of, caches_of, count_of, turn_of, moment_of, named_of, lost_of, IsNew, Answers, Stops};
 
     /// So many servers, each of which holds nothing yet and then at most 1,024 items, at moment 0. The only error is running out

@@ -74,7 +74,33 @@ expiry by the moment
 moment 9
 0 #99 get a| => VALUE a 0 1|1|END| #3
 moment 10
-0 #99 get a| => END|"#
+0 #99 get a| => END|
+
+failed but applied
+1
+fail 1 before
+fail 2 after
+0 #1 set a 0 0 1|1| => failed
+0 #2 set b 0 0 1|2| => failed
+0 #99 get a| => END|
+0 #99 get b| => VALUE b 0 1|2|END| #2
+
+failed meta calls
+1
+hold 0 a 1
+fail 1 before
+fail 3 after
+0 #98 md a| => failed
+0 #99 mg a v| => VA 1|1| #0
+0 #98 md a| => failed
+0 #98 md a| => NF|
+
+a copy has the stamp of its item: that of its command is another
+2
+1 #5 set a 0 0 1|1| => STORED|
+1 #6 mg a v| => VA 1|1| #5
+0 #5 add a 0 0 1|1| => STORED|
+0 #99 mg a v| => VA 1|1| #5"#
 }
 
 fn server(servers: &ScriptServers, text: &str) -> Result<ServerId, Fail>

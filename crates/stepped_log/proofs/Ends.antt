@@ -9,8 +9,8 @@ use Rattle.mc_runs.specs.SharingStale.{stale_in}
 use Rattle.mc_runs.proofs.OverlapRuns.{runs}
 use Rattle.mc_runs.proofs.SharingFresh.{fresh_by_number}
 use Rattle.mc_runs.proofs.SharingStale.{counts_stale}
-use Rattle.memory_fleet.specs.Law.{AreFound}
-use Rattle.memory_fleet.specs.Losing.{held_at}
+use Rattle.script_servers.specs.Found.{AreFound}
+use Rattle.script_servers.specs.Caches.{held_at}
 use Rattle.route_tree.specs.At.{tree_at}
 use Rattle.route_tree.specs.Plan.{Plan}
 use Rattle.route_tree.specs.Route.{Route}

@@ -4,8 +4,8 @@ use Rattle.std.proofs.lemmas.Bool.{eq-eqb}
 use Rattle.mc_runs.specs.Sharing.{calls_so_far}
 use Rattle.mc_runs.specs.Overlap.{Entry, Gives, run_of, given_of}
 use Rattle.mc_runs.specs.OverlapState.{LeadsTo}
-use Rattle.memory_fleet.specs.Law.{AreFound}
-use Rattle.memory_fleet.specs.Losing.{held_at}
+use Rattle.script_servers.specs.Found.{AreFound}
+use Rattle.script_servers.specs.Caches.{held_at}
 use Rattle.route_tree.specs.Word.{tree_words}
 use Rattle.proxy_core.specs.CoreState.{dialect, bars_of, state_of}
 use Rattle.stepped_log.specs.Laws.{GivesGoOn}

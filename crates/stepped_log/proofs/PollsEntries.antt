@@ -7,8 +7,8 @@ use Rattle.mc_types.specs.Items.{Item}
 use Rattle.mc_runs.specs.Sharing.{calls_so_far, commands_in}
 use Rattle.mc_runs.specs.Overlap.{Slot, Entry, Ends, Shows, Passes, run_of, Follows}
 use Rattle.mc_runs.specs.OverlapState.{LeadsTo}
-use Rattle.memory_fleet.specs.Law.{AreFound}
-use Rattle.memory_fleet.specs.Losing.{held_at}
+use Rattle.script_servers.specs.Found.{AreFound}
+use Rattle.script_servers.specs.Caches.{held_at}
 use Rattle.route_tree.specs.Plan.{Plan}
 use Rattle.route_tree.specs.Word.{tree_words}
 use Rattle.proxy_core.specs.Claims.{bars_by}

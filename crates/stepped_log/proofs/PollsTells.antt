@@ -19,8 +19,8 @@ use Rattle.mc_runs.specs.Overlap.{Slot, Owner, Entry, Starts, Ends, Shows, run_o
 use Rattle.mc_runs.specs.OverlapStream.{stream_of}
 use Rattle.mc_runs.proofs.Sharing.{new_calls}
 use Rattle.mc_runs.proofs.OverlapSteps.{owner_way}
-use Rattle.memory_fleet.specs.Law.{AreFound}
-use Rattle.memory_fleet.proofs.Naming.{shown_found}
+use Rattle.script_servers.specs.Found.{AreFound}
+use Rattle.script_servers.proofs.Found.{shown_found}
 use Rattle.route_tree.specs.Plan.{Plan}
 use Rattle.route_tree.specs.Word.{tree_words}
 use Rattle.route_tree.proofs.Showing.{replies_show_what_was_found}

@@ -13,10 +13,10 @@ use Rattle.mc_runs.specs.SharingFleet.{Fleet, AreLosses}
 use Rattle.mc_runs.specs.Overlap.{Entry, Happens, Frees, run_of, given_of}
 use Rattle.mc_runs.specs.OverlapState.{OverlapState, LeadsTo, found_after}
 use Rattle.mc_runs.specs.OverlapStream.{stream_of}
-use Rattle.memory_fleet.specs.Law.{stamp_given, AreFound, IsFound}
-use Rattle.memory_fleet.specs.Losing.{held_at}
-use Rattle.memory_fleet.specs.declared.event.Made.{Made}
-use Rattle.memory_fleet.proofs.Places.{same}
+use Rattle.script_servers.specs.Found.{stamp_given, AreFound, IsFound}
+use Rattle.script_servers.specs.Caches.{held_at}
+use Rattle.script_servers.specs.declared.event.Made.{Made}
+use Rattle.script_servers.proofs.Places.{same}
 use Rattle.script_servers.specs.Law.{spills_of, IsStep}
 use Rattle.script_servers.specs.Servers.{caches_of, Answers}
 use Rattle.script_servers.specs.declared.servers.ScriptServers.{ScriptServers}

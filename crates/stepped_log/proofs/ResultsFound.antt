@@ -12,8 +12,8 @@ use Rattle.mc_runs.specs.Fleet.{StampIn}
 use Rattle.mc_runs.specs.Sharing.{calls_so_far}
 use Rattle.mc_runs.specs.Overlap.{Entry, run_of}
 use Rattle.mc_runs.specs.OverlapState.{LeadsTo}
-use Rattle.memory_fleet.specs.Law.{stamp_given, AreFound, IsFound}
-use Rattle.memory_fleet.proofs.Naming.{shown_found}
+use Rattle.script_servers.specs.Found.{stamp_given, AreFound, IsFound}
+use Rattle.script_servers.proofs.Found.{shown_found}
 use Rattle.route_tree.specs.Sources.{IsSourced, AreAsked}
 use Rattle.route_tree.specs.Word.{tree_words}
 use Rattle.route_tree.proofs.Sources.{calls_are_asked}

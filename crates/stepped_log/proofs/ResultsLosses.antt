@@ -12,10 +12,10 @@ use Rattle.mc_runs.specs.Overlap.{Entry, Happens, run_of, given_of, is_dropped, 
 use Rattle.mc_runs.specs.OverlapState.{LeadsTo, Leads, IsLike, MayHappenNow, after}
 use Rattle.mc_runs.specs.OverlapStream.{stream_of}
 use Rattle.mc_runs.proofs.OverlapSteps.{walks_lead, leads_on}
-use Rattle.memory_fleet.specs.Law.{AreFound}
-use Rattle.memory_fleet.specs.Losing.{held_at}
-use Rattle.memory_fleet.specs.declared.event.Loss.{Loss}
-use Rattle.memory_fleet.specs.declared.event.Loss.TheVariants.{Item as LostItem, Restart}
+use Rattle.script_servers.specs.Found.{AreFound}
+use Rattle.script_servers.specs.Caches.{held_at}
+use Rattle.script_servers.specs.declared.event.Loss.{Loss}
+use Rattle.script_servers.specs.declared.event.Loss.TheVariants.{Item as LostItem, Restart}
 use Rattle.script_servers.specs.Losing.{told_of}
 use Rattle.script_servers.proofs.Losses.{same_event, same_held}
 use Rattle.route_tree.specs.Word.{tree_words}

@@ -8,10 +8,10 @@ use Rattle.mc_runs.specs.Overlap.{Entry, Follows, run_of}
 use Rattle.mc_runs.specs.Sharing.{commands_in, calls_in, IsFreshByNumber}
 use Rattle.mc_runs.specs.SharingStale.{stale_in}
 use Rattle.mc_runs.specs.Cover.{IsCovered}
-use Rattle.memory_fleet.specs.Law.{stamp_at, stamp_given}
-use Rattle.memory_fleet.specs.Losing.{loss_of, after_loss}
-use Rattle.memory_fleet.specs.declared.event.Loss.{Loss}
-use Rattle.memory_fleet.specs.declared.event.Made.{Made}
+use Rattle.script_servers.specs.Found.{stamp_at, stamp_given}
+use Rattle.script_servers.specs.Caches.{loss_of, after_loss}
+use Rattle.script_servers.specs.declared.event.Loss.{Loss}
+use Rattle.script_servers.specs.declared.event.Made.{Made}
 use Rattle.script_servers.specs.Servers.{caches_of, turn_of, Answers}
 use Rattle.script_servers.specs.declared.servers.ScriptServers.{ScriptServers}
 use Rattle.route_tree.specs.At.{tree_at}
@@ -26,7 +26,7 @@ use Rattle.commands_under_way.specs.declared.sharing.Sharing.TheVariants.{Alone}
 use Rattle.proxy_core.specs.declared.note.Note.{Note}
 use Rattle.proxy_core.specs.declared.note.Poll.{Poll}
 use Rattle.proxy_core.specs.declared.note.Poll.TheVariants as polls
-use Rattle.memory_fleet.specs.Losing.{held_at}
+use Rattle.script_servers.specs.Caches.{held_at}
 use Rattle.stepped_log.specs.Results.{GoesOnBy}
 use Rattle.stepped_log.specs.Standing.{Kept, replied_in, broken_in, tree_by, Stands, GoesOn, GoesOnFed, GoesOnGiven, LeavesAsMuch, CountsAsMany, HasServers, FoundAsMuch, IsBesides}
 

@@ -6,7 +6,7 @@ use Rattle.mc_types.specs.Items.{Item}
 use Rattle.mc_runs.specs.Run.{Call, outcome_of}
 use Rattle.mc_runs.specs.Sharing.{Event, Begins, Calls, Replies, Breaks, Loses, Restarts}
 use Rattle.mc_runs.specs.Overlap.{Entry, run_of}
-use Rattle.memory_fleet.specs.declared.event.Made.{Made}
+use Rattle.script_servers.specs.declared.event.Made.{Made}
 use Rattle.script_servers.specs.Servers.{Answers}
 use Rattle.script_servers.specs.declared.servers.ScriptServers.{ScriptServers}
 use Rattle.route_tree.specs.Route.{Route}

@@ -7,8 +7,8 @@ use Rattle.mc_runs.specs.Overlap.{Owner, Entry, run_of, front_of, queue_of, outp
 use Rattle.mc_runs.specs.OverlapState.{LeadsTo}
 use Rattle.mc_runs.specs.OverlapStream.{stream_of}
 use Rattle.cache_server.specs.Contents.{Contents}
-use Rattle.memory_fleet.specs.Losing.{held_at}
-use Rattle.memory_fleet.specs.Law.{AreFound}
+use Rattle.script_servers.specs.Caches.{held_at}
+use Rattle.script_servers.specs.Found.{AreFound}
 use Rattle.script_servers.specs.declared.servers.ScriptServers.{ScriptServers}
 use Rattle.route_tree.specs.At.{tree_at}
 use Rattle.route_tree.specs.Route.{Route}

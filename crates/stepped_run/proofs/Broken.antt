@@ -8,9 +8,9 @@ use Rattle.mc_runs.specs.Overlap.{Entry, run_of}
 use Rattle.mc_runs.specs.OverlapStream.{stream_of}
 use Rattle.mc_runs.specs.Sharing.{calls_in, commands_in}
 use Rattle.mc_runs.proofs.OverlapRuns.{runs}
-use Rattle.memory_fleet.specs.Fleets.{last_turn}
-use Rattle.memory_fleet.specs.declared.event.FleetFault.{FleetFault}
-use Rattle.memory_fleet.specs.declared.event.FleetFault.TheVariants as faults
+use Rattle.script_servers.specs.Limits.{last_turn}
+use Rattle.script_servers.specs.declared.event.FleetFault.{FleetFault}
+use Rattle.script_servers.specs.declared.event.FleetFault.TheVariants as faults
 use Rattle.proxy_core.specs.Claims.{bars_by}
 use Rattle.proxy_core.specs.CoreState.{dialect}
 use Rattle.proxy_core.specs.declared.limits.TheConstants.{LAST_COMMAND}

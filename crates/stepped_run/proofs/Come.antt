@@ -10,10 +10,10 @@ use Rattle.mc_runs.specs.Overlap.{Entry}
 use Rattle.mc_runs.specs.OverlapStream.{stream_of}
 use Rattle.mc_runs.proofs.OverlapRuns.{runs}
 use Rattle.cache_server.specs.Contents.{empty}
-use Rattle.memory_fleet.specs.Fleets.{capacity}
-use Rattle.memory_fleet.specs.Losing.{held_at}
-use Rattle.memory_fleet.specs.declared.event.FleetFault.{FleetFault}
-use Rattle.memory_fleet.specs.declared.event.FleetFault.TheVariants as faults
+use Rattle.script_servers.specs.Limits.{capacity}
+use Rattle.script_servers.specs.Caches.{held_at}
+use Rattle.script_servers.specs.declared.event.FleetFault.{FleetFault}
+use Rattle.script_servers.specs.declared.event.FleetFault.TheVariants as faults
 use Rattle.proxy_core.specs.Claims.{bars_by}
 use Rattle.proxy_core.specs.CoreState.{dialect}
 use Rattle.commands_under_way.specs.declared.sharing.Sharing.TheVariants.{Alone}

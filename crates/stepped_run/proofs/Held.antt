@@ -6,8 +6,8 @@ use Rattle.std.proofs.lemmas.Bool.{ne_eqb, leb-false}
 use Rattle.mc_types.specs.Items.{Item}
 use Rattle.cache_server.specs.Contents.{Contents, empty, storing, opening}
 use Rattle.cache_server.specs.Held as cache
-use Rattle.memory_fleet.specs.Fleets.{capacity}
-use Rattle.memory_fleet.specs.Losing.{held_at, changed_at}
+use Rattle.script_servers.specs.Limits.{capacity}
+use Rattle.script_servers.specs.Caches.{held_at, changed_at}
 use Rattle.fleet_run.specs.declared.script.Event.{Event}
 use Rattle.fleet_run.specs.Bad.{bad_in, first_from, first_bad}
 use Rattle.fleet_run.specs.Opening.{put_by, put_by_all, opening_cache, opening_of}

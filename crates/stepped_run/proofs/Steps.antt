@@ -9,9 +9,9 @@ use Rattle.mc_runs.specs.Overlap.{Entry, given_of, output_of, run_of}
 use Rattle.mc_runs.specs.OverlapStream.{stream_of}
 use Rattle.proxy_core.specs.CoreState.{dialect}
 use Rattle.route_tree.specs.Route.{Route}
-use Rattle.memory_fleet.specs.Losing.{held_at, after_loss}
-use Rattle.memory_fleet.specs.Losing as losing
-use Rattle.memory_fleet.specs.declared.event.Loss.{Loss}
+use Rattle.script_servers.specs.Caches.{held_at, after_loss}
+use Rattle.script_servers.specs.Caches as losing
+use Rattle.script_servers.specs.declared.event.Loss.{Loss}
 use Rattle.mc_runs.specs.Fleet.{after_event}
 use Rattle.fleet_run.specs.declared.script.Output.{Output}
 use Rattle.fleet_run.specs.Scripted.{Scripted, Manner, Piece, Add, Result, Fail, Hold, At, Now, Moment, loss_of, shown_by}

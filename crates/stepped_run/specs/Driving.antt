@@ -23,7 +23,7 @@ use Rattle.fleet_run.specs.declared.script.DriveFault.TheVariants.{BadEvent, NoM
 use Rattle.fleet_run.specs.Scripted.{Scripted, Piece, Add, Result, Fail, Hold, At, Now, Moment, transcript_of}
 use Rattle.fleet_run.specs.Opening.{opening_of}
 use Rattle.fleet_run.specs.Reloads.{is_refused}
-use Rattle.memory_fleet.specs.Fleets.{last_turn}
+use Rattle.script_servers.specs.Limits.{last_turn}
 use Rattle.proxy_core.specs.declared.limits.TheConstants.{LAST_COMMAND}
 use Rattle.script_servers.specs.Servers.{turn_of}
 use Rattle.script_servers.specs.declared.servers.ScriptServers.{ScriptServers}

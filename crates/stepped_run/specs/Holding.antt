@@ -1,7 +1,7 @@
 -- What the events of a script put on servers before its run. Source: mcgate's own.
 use Rattle.std.specs.Prelude.{List, [], ◌∷◌}
 use Rattle.cache_server.specs.Contents.{Contents, storing, opening}
-use Rattle.memory_fleet.specs.Losing.{changed_at}
+use Rattle.script_servers.specs.Caches.{changed_at}
 use Rattle.fleet_run.specs.declared.script.Event.{Event}
 use Rattle.fleet_run.specs.Scripted.{Scripted, Piece, Add, Result, Fail, Hold, At, Now, Moment, scripted_of}
 

@@ -12,8 +12,8 @@ use Rattle.fleet_run.specs.Opening.{opening_of}
 use Rattle.script_servers.specs.declared.servers.ScriptServers.{ScriptServers}
 use Rattle.stepped_log.specs.Results.{CallResult, AreGiven, call_of, calls_of}
 use Rattle.stepped_log.specs.Standing.{Kept, Stands, GoesOnFed, LeavesAsMuch, tree_by}
-use Rattle.memory_fleet.specs.declared.event.FleetFault.{FleetFault}
-use Rattle.memory_fleet.specs.declared.event.FleetFault.TheVariants.{Spent}
+use Rattle.script_servers.specs.declared.event.FleetFault.{FleetFault}
+use Rattle.script_servers.specs.declared.event.FleetFault.TheVariants.{Spent}
 use Rattle.core_run.specs.Breaking.{AreSpent, IsWithinOne}
 use Rattle.core_run.specs.Running.{kept_of, IsLoadedBy, AreOfOne, IsAtRest}
 use Rattle.core_run.specs.declared.runner.Runner.{Runner}

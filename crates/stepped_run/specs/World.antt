@@ -2,8 +2,8 @@
 use Rattle.std.specs.Prelude.{◌≡◌, ℕ, ◌+◌, pos, List, [], ◌∷◌, ◌++◌, map, Some, None, slice_get, if◌then◌else◌, nat_eq}
 use Rattle.mc_runs.specs.Overlap.{Entry, run_of}
 use Rattle.cache_server.specs.Contents.{Contents}
-use Rattle.memory_fleet.specs.Losing as losing
-use Rattle.memory_fleet.specs.declared.event.Loss.{Loss}
+use Rattle.script_servers.specs.Caches as losing
+use Rattle.script_servers.specs.declared.event.Loss.{Loss}
 use Rattle.script_servers.specs.Servers.{caches_of, turn_of, moment_of, named_of, lost_of, Answers}
 use Rattle.script_servers.specs.declared.servers.ScriptServers.{ScriptServers}
 use Rattle.proxy_core.specs.CoreState.{dialect}

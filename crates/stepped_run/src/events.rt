@@ -1,7 +1,7 @@
 //! One event of a script.
 
 ghost use Rattle.std.specs.Prelude.{◌≡◌, ◌<◌, ◌≤◌, pos, ◌≤ℤ◌, List, false, length, IfErr, OnOk, OnErr};
-ghost use Rattle.memory_fleet.specs.declared.event.FleetFault.TheVariants.{NoMemory};
+ghost use Rattle.script_servers.specs.declared.event.FleetFault.TheVariants.{NoMemory};
 ghost use Rattle.fleet_run.specs.Bad.{bad_in};
 ghost use Rattle.fleet_run.specs.Scripted.{Scripted, Now, Moment, loss_of, scripted_of, transcript_of};
 ghost use Rattle.script_servers.specs.Servers.{count_of};
@@ -11,8 +11,7 @@ ghost use Rattle.stepped_run.specs.Stepping.{FedBy, FedInPart, Befalls, BreaksOf
 
 use core_run::Runner;
 use fleet_run::{Event, Output, PIECE_CUT, Transcript};
-use memory_fleet::{FleetFault, Loss};
-use script_servers::ScriptServers;
+use script_servers::{FleetFault, Loss, ScriptServers};
 use stepped_log::laws::losses_go_on;
 
 // Bytes come, and each call that is out has its result.

@@ -1,7 +1,7 @@
 //! A script that steps its calls, run through trees of routes on servers in memory.
 
 ghost use Rattle.std.specs.Prelude.{◌≡◌, ◌≤◌, ◌++◌, ◌∷◌, ◌↔◌, ℕ, ◌+◌, Bool, List, [], length, drop, map, slice_get, None, IsTrue, IfOk, IfErr, OnOk, OnErr, MatchResult};
-ghost use Rattle.memory_fleet.specs.declared.event.FleetFault.TheVariants.{NoMemory};
+ghost use Rattle.script_servers.specs.declared.event.FleetFault.TheVariants.{NoMemory};
 ghost use Rattle.route_tree.specs.Route.{Route};
 ghost use Rattle.server_addresses.specs.declared.servers.TheConstants.{MAX_SERVERS};
 ghost use Rattle.fleet_run.specs.Bad.{first_bad, Refuses};
@@ -16,9 +16,8 @@ use crate::events::{befall, give_all};
 use crate::holding::hold_all;
 use core_run::Runner;
 use fleet_run::{DriveFault, Event, Reload, Report, Script, Transcript, first_bad_event};
-use memory_fleet::FleetFault;
 use route_json::Config;
-use script_servers::ScriptServers;
+use script_servers::{FleetFault, ScriptServers};
 use std::alloc::Global;
 use stepped_log::laws::{nothing_stands, standing_says};
 

@@ -1,5 +1,5 @@
 use Rattle.std.proofs.Common.{◌<◌, ◌^◌, sym, subst, arith}
-use Rattle.memory_fleet.specs.declared.event.Loss.{Loss}
+use Rattle.script_servers.specs.declared.event.Loss.{Loss}
 use Rattle.fleet_run.specs.Scripted.{loss_of}
 use Rattle.script_lines.specs.Laws.{AreBytes, LossHasWidths}
 use Rattle.script_lines.proofs.writing.write_loss.Goals as goal

@@ -2,7 +2,7 @@ use Rattle.std.proofs.Common.{◌≡◌, ℤ, refl, ap, ◌∙◌, subst, arith,
 use Rattle.std.proofs.Math.Facts.{to_z-of_z}
 use Rattle.std.specs.Prelude.{nat_abs, slice_set}
 use Rattle.cache_server.specs.Contents.{at_moment}
-use Rattle.memory_fleet.proofs.Calls.{if_both, on_err}
+use Rattle.script_servers.proofs.Calls.{if_both, on_err}
 use Rattle.script_servers.specs.Calling.{AppliesAt}
 use Rattle.script_servers.proofs.Calls.{applied, changed}
 use Rattle.script_servers.proofs.calling.apply.Goals as goal

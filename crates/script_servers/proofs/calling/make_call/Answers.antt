@@ -1,7 +1,7 @@
 use Rattle.std.proofs.Common.{OnErr, option_map, sym, subst}
 use Rattle.script_servers.specs.Servers.{manner_of}
 use Rattle.mc_types.specs.declared.call.Outcome.TheVariants.{Answered}
-use Rattle.memory_fleet.specs.declared.event.Made.{Made}
+use Rattle.script_servers.specs.declared.event.Made.{Made}
 use Rattle.script_servers.specs.Calling.{IsMade, IsRefused}
 use Rattle.script_servers.proofs.Calls.{answered}
 use Rattle.script_servers.proofs.calling.make_call.Goals as goal

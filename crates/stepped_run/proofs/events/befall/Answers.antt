@@ -1,7 +1,7 @@
 use Rattle.std.proofs.Common.{refl, sym, ap, ◌∙◌, subst, List, ℕ, Err, arith}
 use Rattle.fleet_run.specs.declared.script.Event.{Event}
 use Rattle.fleet_run.specs.Scripted.{Fail, At, loss_of, manner_of, scripted_of}
-use Rattle.memory_fleet.specs.declared.event.FleetFault.{FleetFault}
+use Rattle.script_servers.specs.declared.event.FleetFault.{FleetFault}
 use Rattle.script_servers.specs.Servers.{turn_of}
 use Rattle.core_run.specs.Breaking.{StopsFed}
 use Rattle.core_run.proofs.Running.{on_ok}

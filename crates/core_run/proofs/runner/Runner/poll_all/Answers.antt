@@ -1,5 +1,5 @@
 use Rattle.std.proofs.Common.{refl, ◌∙◌}
-use Rattle.memory_fleet.specs.declared.event.FleetFault.TheVariants.{NoMemory}
+use Rattle.script_servers.specs.declared.event.FleetFault.TheVariants.{NoMemory}
 use Rattle.core_run.proofs.Running.{stays, then}
 use Rattle.core_run.proofs.Breaking.{passed, stops_here, stops_then}
 use Rattle.core_run.proofs.runner.Runner.poll_all.Goals as goal

@@ -1,5 +1,5 @@
 use Rattle.std.proofs.Common.{ℕ, Option, refl, ◌∙◌, subst}
-use Rattle.memory_fleet.specs.declared.event.FleetFault.TheVariants.{NoMemory}
+use Rattle.script_servers.specs.declared.event.FleetFault.TheVariants.{NoMemory}
 use Rattle.core_run.specs.Turns.{IsLeast}
 use Rattle.core_run.proofs.Running.{stays, by_none, by_then, on_ok}
 use Rattle.core_run.proofs.Breaking.{passed, results_here, results_stop, results_then, none_begun, err_weaker}

@@ -1,5 +1,5 @@
 use Rattle.cache_server.specs.Contents.{storing, opening}
-use Rattle.memory_fleet.proofs.Calls.{on_ok_both}
+use Rattle.script_servers.proofs.Calls.{on_ok_both}
 use Rattle.script_servers.proofs.Calls.{changed}
 use Rattle.script_servers.proofs.servers.ScriptServers.hold.Goals as goal
 

@@ -4,8 +4,8 @@ use Rattle.std.specs.Map.{lookup}
 use Rattle.std.specs.BTreeMap.{is_at}
 use Rattle.std.proofs.lemmas.List.{replicate_more}
 use Rattle.cache_server.specs.Contents.{empty}
-use Rattle.memory_fleet.specs.Fleets.{capacity}
-use Rattle.memory_fleet.specs.Losing.{losses_of}
+use Rattle.script_servers.specs.Limits.{capacity}
+use Rattle.script_servers.specs.Caches.{losses_of}
 use Rattle.script_servers.specs.Servers.{manner_of}
 use Rattle.script_servers.proofs.servers.ScriptServers.new.Goals as goal
 

@@ -1,6 +1,6 @@
 use Rattle.std.proofs.Common.{◌≡◌, replicate}
 use Rattle.cache_server.specs.Contents.{empty}
-use Rattle.memory_fleet.specs.Fleets.{capacity}
+use Rattle.script_servers.specs.Limits.{capacity}
 use Rattle.script_servers.proofs.servers.ScriptServers.new.Given as goal
 
 abbrev pub invariant-loop-place : goal.invariant-loop-place

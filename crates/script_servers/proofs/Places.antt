@@ -5,10 +5,10 @@ use Rattle.std.proofs.Math.Dec.{eqb-suc-zero, eqb-zero-suc, eqb-suc-suc}
 use Rattle.std.proofs.lemmas.Bool.{eqb-true, eq-eqb}
 use Rattle.mc_types.specs.Items.{Item}
 use Rattle.mc_runs.specs.Run.{Event, Loses}
-use Rattle.mc_runs.specs.Fleet.{after_losses, AreLosses}
+use Rattle.mc_runs.specs.Fleet.{after_losses}
 use Rattle.cache_server.specs.Contents.{Contents}
 use Rattle.cache_server.specs.Held.{holds, without, IsLoss}
-use Rattle.memory_fleet.specs.Fleets.{held_at}
+use Rattle.script_servers.specs.Caches.{held_at}
 
 pub held_set : (caches : List Contents) (s : ℕ) (x : Contents) → s < length caches → (t : ℕ) (k : List ℕ) → held_at (slice_set caches s x) t k ≡ cond (nat_eq s t) (holds x k) (held_at caches t k)
 held_set [] s x lt t k = absurd (omega arith)
@@ -38,12 +38,6 @@ held_here caches s x lt k = held_set caches s x lt s k ∙ ap (λ b. cond b (hol
 pub held_else : (caches : List Contents) (s : ℕ) (x : Contents) → s < length caches → (t : ℕ) (k : List ℕ) → nat_eq s t ≡ false → held_at (slice_set caches s x) t k ≡ held_at caches t k
 held_else caches s x lt t k other = held_set caches s x lt t k ∙ ap (λ b. cond b (holds x k) (held_at caches t k)) other
 
-pub held_push : (caches : List Contents) (c : Contents) → ((s : ℕ) (k : List ℕ) → held_at caches s k ≡ None) → ((k : List ℕ) → holds c k ≡ None) → (s : ℕ) (k : List ℕ) → held_at (caches ++ c ∷ []) s k ≡ None
-held_push [] c none new zero k = new k
-held_push [] c none new (suc s) k = refl
-held_push (d ∷ caches) c none new zero k = none 0 k
-held_push (d ∷ caches) c none new (suc s) k = held_push caches c (λ t. none (suc t)) new s k
-
 pub without_same : (lost : List (List ℕ)) (f g : List ℕ → Option Item) → ((k : List ℕ) → f k ≡ g k) → (k : List ℕ) → without lost f k ≡ without lost g k
 without_same [] f g is k = is k
 without_same (key ∷ lost) f g is k = ap (λ o. cond (bytes_eq key k) None o) (without_same lost f g is k)
@@ -52,10 +46,6 @@ without_same (key ∷ lost) f g is k = ap (λ o. cond (bytes_eq key k) None o) (
 abbrev pub losing_all : ℕ → List (List ℕ) → List Event
 losing_all server [] = []
 losing_all server (key ∷ lost) = Loses server key ∷ losing_all server lost
-
-pub are_losses : (server : ℕ) (lost : List (List ℕ)) → AreLosses (losing_all server lost)
-are_losses server [] = tt
-are_losses server (key ∷ lost) = are_losses server lost
 
 pub lost_else : (server : ℕ) (lost : List (List ℕ)) (h : ℕ → List ℕ → Option Item) (s : ℕ) (k : List ℕ) → nat_eq server s ≡ false → after_losses (losing_all server lost) h s k ≡ h s k
 lost_else server [] h s k other = refl
@@ -82,27 +72,3 @@ loses_at caches server x y lost lt is loss s k =
     by_server (λ t. held_at (slice_set caches server y) t k ≡ after_losses (losing_all server lost) (held_at caches) t k) server s
     (held_here caches server y lt k ∙ loss k ∙ without_same lost (holds x) (held_at caches server) (λ q. sym (held_there caches server x lt is q)) k ∙ sym (lost_here server lost (held_at caches) k))
     (λ other. held_else caches server y lt s k other ∙ sym (lost_else server lost (held_at caches) s k other))
-
-untouched : (f : Contents → Contents) (b : Bool) → b ≡ false → (o : Option Contents) → o ≡ option_map (λ c. cond b (f c) c) o
-untouched f b other None = refl
-untouched f b other (Some c) = ap (λ d. Some (cond d (f c) c)) (sym other)
-
--- the cache at a place was changed
-pub changed_there : (f : Contents → Contents) (caches : List Contents) (s : ℕ) (x y : Contents) → s < length caches → x ≡ slice_index_or caches s x → y ≡ f x → (t : ℕ) → slice_get (slice_set caches s y) t ≡ option_map (λ c. cond (nat_eq s t) (f c) c) (slice_get caches t)
-changed_there f [] s x y lt at is t = absurd (omega arith)
-changed_there f (c ∷ caches) zero x y lt at is zero = ap Some (is ∙ ap f at)
-changed_there f (c ∷ caches) zero x y lt at is (suc t) = untouched f (nat_eq 0 (suc t)) (eqb-zero-suc t) (slice_get caches t)
-changed_there f (c ∷ caches) (suc s) x y lt at is zero = untouched f (nat_eq (suc s) 0) (eqb-suc-zero s) (Some c)
-changed_there f (c ∷ caches) (suc s) x y lt at is (suc t) =
-    changed_there f caches s x y (omega arith) at is t ∙ ap (λ b. option_map (λ c. cond b (f c) c) (slice_get caches t)) (sym (eqb-suc-suc s t))
-
-pub none_held : (n : ℕ) (c : Contents) → ((k : List ℕ) → holds c k ≡ None) → (s : ℕ) (k : List ℕ) → held_at (replicate n c) s k ≡ None
-none_held zero c none s k = refl
-none_held (suc n) c none zero k = none k
-none_held (suc n) c none (suc s) k = none_held n c none s k
-
--- the same, where the place is given by a number that is it
-pub changed_in : (f : Contents → Contents) (caches : List Contents) (server place : ℕ) (x y : Contents) → place ≡ server → server < length caches → x ≡ slice_index_or caches place x → y ≡ f x → (t : ℕ) → slice_get (slice_set caches place y) t ≡ option_map (λ c. cond (nat_eq server t) (f c) c) (slice_get caches t)
-changed_in f caches server place x y is lt at to t =
-    changed_there f caches place x y (subst (λ p. p < length caches) (sym is) lt) at to t
-    ∙ ap (λ p. option_map (λ c. cond (nat_eq p t) (f c) c) (slice_get caches t)) is

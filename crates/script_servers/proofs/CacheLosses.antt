@@ -4,14 +4,13 @@ use Rattle.std.specs.Prelude.{slice_set, slice_index_or}
 use Rattle.std.proofs.lemmas.Bool.{eqb-true}
 use Rattle.mc_types.specs.Items.{Item}
 use Rattle.mc_runs.specs.Run.{Event, Loses, Restarts}
-use Rattle.mc_runs.specs.Fleet.{after_event, after_losses, AreLosses}
-use Rattle.mc_runs.proofs.Bridge.{event_same}
+use Rattle.mc_runs.specs.Fleet.{after_event}
 use Rattle.cache_server.specs.Contents.{Contents, losing, restarted}
 use Rattle.cache_server.specs.Held.{holds, IsLoss}
-use Rattle.memory_fleet.specs.Losing.{loss_of, held_at, plain_for, place_of, changed_at, after_loss, lost_in, AreLost}
-use Rattle.memory_fleet.specs.declared.event.Loss.{Loss}
-use Rattle.memory_fleet.specs.declared.event.Loss.TheVariants.{Item as LostItem, Restart}
-use Rattle.memory_fleet.proofs.Places.{held_here, held_else, by_server, loses_at, same}
+use Rattle.script_servers.specs.Caches.{loss_of, held_at, plain_for, place_of, changed_at, after_loss, lost_in}
+use Rattle.script_servers.specs.declared.event.Loss.{Loss}
+use Rattle.script_servers.specs.declared.event.Loss.TheVariants.{Item as LostItem, Restart}
+use Rattle.script_servers.proofs.Places.{held_here, held_else, by_server, loses_at, same}
 
 pub set_is_changed : (f : Contents → Contents) (caches : List Contents) (s : ℕ) (x y : Contents) → s < length caches → x ≡ slice_index_or caches s x → y ≡ f x → slice_set caches s y ≡ changed_at s f caches
 set_is_changed f [] s x y lt at is = absurd (omega (arith, lt))
@@ -57,21 +56,6 @@ pub lost_more : (losses : List Event) (loss : Event) (caches : List Contents) �
 lost_more [] loss caches = refl
 lost_more (l ∷ losses) loss caches = lost_more losses loss (after_loss l caches)
 
-loss_is : (loss : Loss) (lost : List Event) → AreLosses lost → AreLosses (loss_of loss ∷ lost)
-loss_is (LostItem server key) lost h = h
-loss_is (Restart server) lost h = h
-
-pub nothing_lost : (caches : List Contents) → AreLost caches caches
-nothing_lost caches = record { lost = []; losses = tt; holds = λ s k. refl }
-
-pub are_lost_more : (old mid new : List Contents) (loss : Loss) → AreLost old mid → ((s : ℕ) (k : List ℕ) → held_at new s k ≡ after_event (loss_of loss) (held_at mid) s k) → AreLost old new
-are_lost_more old mid new loss a h =
-    record {
-      lost = loss_of loss ∷ a.lost;
-      losses = loss_is loss a.lost a.losses;
-      holds = λ s k. h s k ∙ event_same (λ x y. None) (loss_of loss) (held_at mid) (after_losses a.lost (held_at old)) s k (a.holds s k);
-    }
-
 -- ---- as the code loses it
 
 pub item_contents : (caches : List Contents) (server place : ℕ) (key : List ℕ) (loss : Loss) (x y : Contents) → loss ≡ LostItem server key → place ≡ server → place < length caches → x ≡ slice_index_or caches place x → y ≡ losing x key → slice_set caches place y ≡ after_loss (loss_of loss) caches
@@ -98,14 +82,6 @@ beyond_contents caches place loss l is at le = place_beyond caches l (subst (λ 
 
 pub beyond_held : (caches : List Contents) (place : ℕ) (loss l : Loss) → loss ≡ l → place ≡ place_of (loss_of l) → length caches ≤ place → (s : ℕ) (k : List ℕ) → held_at caches s k ≡ after_event (loss_of loss) (held_at caches) s k
 beyond_held caches place loss l is at le s k = lost_beyond caches l (subst (λ p. length caches ≤ p) at le) s k ∙ ap (λ m. after_event (loss_of m) (held_at caches) s k) (sym is)
-
-take_suc : (xs : List Loss) (i : ℕ) (x : Loss) → i < length xs → x ≡ get_or xs i x → map loss_of (take (suc i) xs) ≡ map loss_of (take i xs) ++ loss_of x ∷ []
-take_suc [] i x lt is = absurd (omega (arith, lt))
-take_suc (y ∷ xs) zero x lt is = ap (λ z. loss_of z ∷ []) (sym is)
-take_suc (y ∷ xs) (suc i) x lt is = ap (λ l. loss_of y ∷ l) (take_suc xs i x (omega (arith, lt)) is)
-
-pub take_more : (xs : List Loss) (i : ℕ) (x : Loss) → i < length xs → x ≡ get_or xs i x → map loss_of (take (i + 1) xs) ≡ map loss_of (take i xs) ++ loss_of x ∷ []
-take_more xs i x lt is = let one : i + 1 ≡ suc i = omega arith in ap (λ (n : ℕ). map loss_of (take n xs)) one ∙ take_suc xs i x lt is
 
 changed_len : (s : ℕ) (f : Contents → Contents) (caches : List Contents) → length (changed_at s f caches) ≡ length caches
 changed_len s f [] = refl

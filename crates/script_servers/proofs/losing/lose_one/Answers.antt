@@ -1,7 +1,7 @@
 use Rattle.std.proofs.Common.{sym, ◌∙◌, arith}
-use Rattle.memory_fleet.specs.declared.event.Loss.TheVariants.{Item, Restart}
-use Rattle.memory_fleet.proofs.LossLemmas.{item_contents, item_held, all_contents, all_held, beyond_contents, beyond_held}
-use Rattle.memory_fleet.proofs.losses.lose_one.Goals as goal
+use Rattle.script_servers.specs.declared.event.Loss.TheVariants.{Item, Restart}
+use Rattle.script_servers.proofs.CacheLosses.{item_contents, item_held, all_contents, all_held, beyond_contents, beyond_held}
+use Rattle.script_servers.proofs.losing.lose_one.Goals as goal
 
 pub returns-then-place-len-clause-contents : goal.returns-then-place-len-clause-contents
 returns-then-place-len-clause-contents c =

@@ -1,18 +1,9 @@
-//! How a call fails, what a server loses, and what stops the servers.
+//! What a server loses, what stops the servers, and what comes of a call.
 
 ghost use Rattle.std.specs.Prelude.{◌≡◌, None};
 
 use mc_types::{Key, Outcome, ServerId};
 use std::alloc::{AllocError, AllocFailed};
-
-/// How a call fails.
-#[derive(Clone, Copy, PartialEq, Eq)]
-pub enum Manner {
-    /// It isn't applied.
-    Before,
-    /// It is applied, and its answer is lost.
-    After,
-}
 
 /// What a server loses.
 #[derive(Clone, Copy)]
@@ -33,7 +24,7 @@ pub enum FleetFault {
 }
 
 impl From<AllocError> for FleetFault {
-    ghost use Rattle.memory_fleet.specs.declared.event.FleetFault.TheVariants.{NoMemory};
+    ghost use Rattle.script_servers.specs.declared.event.FleetFault.TheVariants.{NoMemory};
 
     ghost from_gives = { λ _ fault. fault ≡ NoMemory };
 
@@ -43,7 +34,7 @@ impl From<AllocError> for FleetFault {
 }
 
 impl<T: Drop> From<AllocFailed<T>> for FleetFault {
-    ghost use Rattle.memory_fleet.specs.declared.event.FleetFault.TheVariants.{NoMemory};
+    ghost use Rattle.script_servers.specs.declared.event.FleetFault.TheVariants.{NoMemory};
 
     ghost from_gives = { λ _ fault. fault ≡ NoMemory };
 

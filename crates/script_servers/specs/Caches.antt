@@ -1,20 +1,24 @@
--- What losses leave of the caches of servers, and which are named for a call. Source: mcgate's own.
-use Rattle.std.specs.Prelude.{◌≡◌, ℕ, zero, suc, List, [], ◌∷◌, Option, Some, None, Vec}
+-- The caches of servers by their places, what a loss leaves of them, and which losses are named for a call. Source: mcgate's own.
+use Rattle.std.specs.Prelude.{ℕ, zero, suc, List, [], ◌∷◌, Option, Some, None, Vec}
 use Rattle.std.specs.Ordering.{nat_cmp}
 use Rattle.std.specs.BTreeMap.{BTreeMap, get}
 use Rattle.std.specs.declared.alloc.Global.{Global}
 use Rattle.mc_types.specs.Items.{Item}
 use Rattle.mc_runs.specs.Run.{Event, Loses, Restarts}
-use Rattle.mc_runs.specs.Fleet.{after_losses, AreLosses}
 use Rattle.cache_server.specs.Contents.{Contents, losing, restarted}
 use Rattle.cache_server.specs.Held as cache
-use Rattle.memory_fleet.specs.declared.event.Loss.{Loss}
-use Rattle.memory_fleet.specs.declared.event.Loss.TheVariants as losses
+use Rattle.script_servers.specs.declared.event.Loss.{Loss}
+use Rattle.script_servers.specs.declared.event.Loss.TheVariants as losses
 
 -- a loss, as an event of a run
 abbrev pub loss_of : Loss → Event
 loss_of (losses.Item server key) = Loses server key
 loss_of (losses.Restart server) = Restarts server
+
+-- the server of a loss
+abbrev pub server_of : Loss → ℕ
+server_of (losses.Item server key) = server
+server_of (losses.Restart server) = server
 
 -- what the cache at a place holds of a key
 abbrev pub held_at : List Contents → ℕ → List ℕ → Option Item
@@ -48,12 +52,6 @@ after_loss loss caches = changed_at (place_of loss) (plain_for loss) caches
 abbrev pub lost_in : List Event → List Contents → List Contents
 lost_in [] caches = caches
 lost_in (loss ∷ more) caches = lost_in more (after_loss loss caches)
-
--- something is lost, and nothing else changes
-pub record AreLost (old new : List Contents) : Type 0 where
-  pub lost : List Event
-  pub losses : AreLosses lost
-  pub holds : (s : ℕ) (k : List ℕ) → held_at new s k ≡ after_losses lost (held_at old) s k
 
 -- the losses of an entry
 abbrev pub losses_of : Option (Vec Loss Global) → List Loss

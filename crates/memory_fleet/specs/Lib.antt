@@ -1,4 +1,0 @@
-pub mod Losing
-pub mod Fleets
-pub mod Serves
-pub mod Law
