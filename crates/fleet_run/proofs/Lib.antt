@@ -1,4 +1,3 @@
 pub mod BadEvents
-pub mod Whole
 pub mod Due
 pub mod Quiet

@@ -3,9 +3,7 @@
 
 pub mod bad;
 pub mod script;
-pub mod stepped;
 
 pub use bad::first_bad_event;
 pub use script::{DriveFault, Event, Output, PIECE_CUT, Reload, Report, Script, Transcript};
 pub use script_servers::{Loss, Manner};
-pub use stepped::is_stepped;

@@ -9,7 +9,7 @@ use Rattle.route_json.specs.Configuration.{Configuration}
 use Rattle.fresh_gate.specs.declared.gap.Gap.{Gap}
 use Rattle.fleet_run.specs.declared.script.Script.{Script}
 use Rattle.fleet_run.specs.Scripted.{scripted_of}
-use Rattle.fleet_run.specs.Stepped.{is_step, is_stepped}
+use Rattle.refusals.specs.Stepped.{is_step, is_stepped}
 use Rattle.refusal_words.specs.Scripts.{fail_lines}
 use Rattle.refusals.specs.Commands.{script_for, delete_text, read_text}
 use Rattle.refusals.specs.Refusals.{IsRefusalRun, IsAnswer}

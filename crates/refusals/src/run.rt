@@ -6,7 +6,7 @@ ghost use Rattle.route_tree.specs.At.{tree_at};
 ghost use Rattle.coverage.specs.Cover.{IsTaking};
 ghost use Rattle.certificates.specs.Tables.{IsTable};
 ghost use Rattle.fleet_run.specs.Scripted.{scripted_of};
-ghost use Rattle.fleet_run.specs.Stepped.{is_stepped};
+ghost use Rattle.refusals.specs.Stepped.{is_stepped};
 ghost use Rattle.server_addresses.specs.declared.servers.TheConstants.{MAX_SERVERS};
 ghost use Rattle.script_servers.specs.Servers.{IsNew};
 ghost use Rattle.refusals.specs.Tried.{IsFirstKey};
@@ -152,8 +152,8 @@ fn run_by(
 
 /// For a gap of the configuration's tree, a script that shows it: the gap's server holds `1` under a key at the gap's place, the
 /// key is deleted, and a read of the gap's operation shows that item all the same. Some calls of the delete and of the read
-/// may fail, not applied. Over the configuration's servers each event of the script can be, and none steps calls
-/// ([`is_stepped`](fleet_run::is_stepped)), so `drive_stepped` refuses none. The key is the first at the place
+/// may fail, not applied. Over the configuration's servers each event of the script can be, so `drive_stepped` refuses none, and none leaves
+/// calls out or names one whose answer comes in part. The key is the first at the place
 /// among the gap's prefix followed by `k0`, `k1`, .. `k65535`; the delete is the classic one, which leaves the server whenever the
 /// delete of the meta dialect does.
 ///
