@@ -1,8 +1,8 @@
 -- How many calls are out.
 use Rattle.std.proofs.Common.{◌≡◌, ℕ, zero, suc, ◌+◌, ◌<◌, ◌≤◌, List, [], ◌∷◌, length, drop, get_or, refl, sym, ap, ◌∙◌, drop-cons, add-one, nat_eq, arith}
 use Rattle.std.specs.Prelude.{IsTrue, ◌↔◌, false}
-use Rattle.tcp_proxy.specs.declared.link.Link.{Link}
-use Rattle.tcp_proxy.specs.Links.{calls_out}
+use Rattle.proxy_connections.specs.declared.link.Link.{Link}
+use Rattle.proxy_connections.specs.Links.{calls_out}
 
 pub out_at :
     (links : List Link) (i : ℕ) (link : Link) → i < length links → link ≡ get_or links i link

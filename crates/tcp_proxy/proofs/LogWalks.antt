@@ -15,9 +15,9 @@ use Rattle.fresh_core.specs.Freshly.{MayHaveLed, GoesFreshly}
 use Rattle.fresh_core.specs.Results.{PollStops, SettlesFreshly, SettleStops}
 use Rattle.link_calls.specs.declared.any_core.AnyCore.{AnyCore}
 use Rattle.link_calls.specs.declared.any_core.AnyCore.TheVariants as cores
-use Rattle.tcp_proxy.specs.CoreSteps.{Step, Opened, NotOpened, Fed, Polled, Stopped, Settled, Gave, Closed, LeftLine, Loaded, Does, Walks}
+use Rattle.proxy_connections.specs.CoreSteps.{Step, Opened, NotOpened, Fed, Polled, Stopped, Settled, Gave, Closed, LeftLine, Loaded, Does, Walks}
 use Rattle.tcp_proxy.specs.LogsGoOn.{GoesOnSaying, StaysOn, SettlesOnLog, StepGoes, LogGoes, WalksGoOn}
-use Rattle.tcp_proxy.proofs.Walked.{does_keep}
+use Rattle.proxy_connections.proofs.Walked.{does_keep}
 
 module _ (opening : ℕ → List ℕ → Option Item) (past : List (Entry dialect)) (old new : FreshCore) (led : MayHaveLed opening past old)
     (Holds : (later : List (Entry dialect)) → MayHaveLed opening later new → Type 0) (holds : (later : List (Entry dialect)) (by : MayHaveLed opening later new) → Holds later by) where

@@ -11,8 +11,8 @@ use Rattle.link_calls.specs.declared.any_core.AnyCore.TheVariants as cores
 use Rattle.link_calls.specs.declared.any_core.LoadFault.{LoadFault}
 use Rattle.link_calls.specs.declared.any_core.LoadFault.TheVariants.{Refused}
 use Rattle.link_calls.specs.Cores.{IsLoaded}
-use Rattle.tcp_proxy.specs.declared.settings.Settings.{Settings}
-use Rattle.tcp_proxy.specs.declared.proxy.TheConstants.{HELD_LIMIT}
+use Rattle.proxy_connections.specs.declared.settings.Settings.{Settings}
+use Rattle.tcp_proxy.specs.declared.beginning.TheConstants.{HELD_LIMIT}
 
 -- the core's limits
 abbrev pub limits_by : Settings → Limits

@@ -15,7 +15,7 @@ use Rattle.fresh_core.specs.declared.fresh.FreshCore.{FreshCore}
 use Rattle.fresh_core.specs.Freshly.{MayHaveLed, EveryLogIsFresh, fed}
 use Rattle.link_calls.specs.declared.any_core.AnyCore.{AnyCore}
 use Rattle.link_calls.specs.declared.any_core.AnyCore.TheVariants as cores
-use Rattle.tcp_proxy.specs.CoreSteps.{Step, Opened, NotOpened, Fed, Polled, Stopped, Settled, Gave, Closed, LeftLine, Loaded, Walks}
+use Rattle.proxy_connections.specs.CoreSteps.{Step, Opened, NotOpened, Fed, Polled, Stopped, Settled, Gave, Closed, LeftLine, Loaded, Walks}
 
 module _ (opening : ℕ → List ℕ → Option Item) where
   -- by entries of this kind, the latest first, the log goes on, may have led to the core after, and this holds of it

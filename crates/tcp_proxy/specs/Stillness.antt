@@ -3,7 +3,7 @@ use Rattle.std.specs.Prelude.{◌≡◌, ℕ, ◌≤◌, true, []}
 use Rattle.tcp_proxy.specs.declared.proxy.Accepting.{Accepting}
 use Rattle.tcp_proxy.specs.declared.proxy.Accepting.TheVariants as accepting
 use Rattle.tcp_proxy.specs.declared.proxy.ProxyEnd.{ProxyEnd}
-use Rattle.tcp_proxy.specs.Links.{calls_out}
+use Rattle.proxy_connections.specs.Links.{calls_out}
 
 -- clients may wait to be accepted, and it is time for it
 abbrev pub MayAccept : accepting.the_data → ℕ → Type 0

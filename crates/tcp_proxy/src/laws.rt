@@ -1,6 +1,6 @@
 //! Laws of what may happen to the core of a proxy.
 
-ghost use Rattle.tcp_proxy.specs.CoreSteps.{WalksKeep};
+ghost use Rattle.proxy_connections.specs.CoreSteps.{WalksKeep};
 ghost use Rattle.tcp_proxy.specs.LogsGoOn.{WalksGoOn};
 
 /// A core on accepted trees stays one, whatever calls of it are made, and so does one on any trees.

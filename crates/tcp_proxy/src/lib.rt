@@ -2,15 +2,10 @@
 //! between them.
 #![tactic(auto)]
 
-mod clients;
+mod beginning;
 pub mod laws;
-mod link;
-mod news;
+mod parts;
 mod proxy;
-mod settings;
-mod tally;
 
-pub use news::{Cause, LinkNews};
 pub use proxy::ProxyEnd;
-pub use settings::{ServerDialect, Settings};
-pub use tally::Tally;
+pub use proxy_connections::{Cause, LinkNews, ServerDialect, Settings, Tally};

@@ -1,48 +1,41 @@
 //! The proxy's end, and its turns: what is ready is read, what was asked goes to the links and what was answered to the
 //! clients, and then each end that has something to send is written once.
 
-ghost use Rattle.std.specs.Prelude.{◌≡◌, ◌++◌, ◌↔◌, true, false, [], None, IsTrue, IfOk, IfErr, OnOk, OnErr};
-ghost use Rattle.proxy_core.specs.CoreState.{client_at, output_by};
-ghost use Rattle.link_calls.specs.Cores.{core_of, IsLoaded};
-ghost use Rattle.tcp_proxy.specs.CoreSteps.{GoesOn, Fails};
+ghost use Rattle.std.specs.Prelude.{◌≡◌, ◌↔◌, true, false, IsTrue, IfOk, IfErr, OnOk};
+ghost use Rattle.link_calls.specs.Cores.{IsLoaded};
+ghost use Rattle.proxy_connections.specs.CoreSteps.{GoesOn, Fails};
+ghost use Rattle.proxy_connections.specs.Links.{calls_out, IsDownAt, IsClosedAt};
 ghost use Rattle.tcp_proxy.specs.LogsGoOn.{LogsAreFresh};
-ghost use Rattle.tcp_proxy.specs.Pieces.{Takes};
-ghost use Rattle.tcp_proxy.specs.Links.{calls_out, AllFail, IsDown, IsDownAt, IsClosedAt};
 ghost use Rattle.tcp_proxy.specs.Stillness.{MayAccept, HasNoWork, IsStill};
-ghost use Rattle.tcp_proxy.specs.Beginning.{limits_by, BeginsFresh, BeginsUnchecked, LoadStops};
+ghost use Rattle.tcp_proxy.specs.Beginning.{BeginsFresh, BeginsUnchecked, LoadStops};
 
-use crate::clients::{Client, Clients, note, send, use_held};
-use crate::link::Link;
-use crate::news::{Cause, LinkNews};
-use crate::settings::Settings;
-use crate::tally::Tally;
+use crate::beginning::{fresh_core, unchecked_core};
+use crate::parts::{LINKS, LISTENER, Parts};
 use bytes::BytesMut;
-use fresh_core::FreshCore;
 use fresh_core::laws::fresh_core_is_fresh;
 use fresh_gate::{Accepted, ReloadFault};
-use link_calls::{AnyCore, LinkCalls, LoadFault, Next, SentCall, fail_call};
+use link_calls::{AnyCore, LoadFault, SentCall, fail_call};
 use mc_types::Dialect;
 use mio::net::{TcpListener, TcpStream};
 use mio::{Events, Poll, Token};
-use proxy_core::{Core, CoreFault, Limits, Poll as Polled, Ticket};
+use proxy_connections::{
+    Cause, Client, Clients, KEPT_ROOM, Link, LinkNews, Settings, Tally, connect, fail_all,
+    feed_held, give_back, has_spare, note, read_once, send, send_once, settle_held, show,
+    turn_away, use_held, vain, watch_stream,
+};
+use proxy_core::{CoreFault, Poll as Polled, Ticket};
 use route_json::Config;
 use route_tree::Tree;
 use std::alloc::{AllocError, Global};
 use std::io;
-use std::io::{ErrorKind, Read, Write};
+use std::io::ErrorKind;
 use std::net::{Net, SocketAddr};
-use std::os::fd::AsRawFd;
 use std::rt::Clock;
 use std::time::{Duration, Instant};
-use tcp_socket::{Got, Ready, watch};
-
-const LISTENER: usize = 1_000_000_000_000;
-
-const LINKS: usize = 1_000_000_000;
+use tcp_socket::{Got, Ready};
 
 const LINK_READ: usize = 65_536;
 
-const HELD_LIMIT: usize = 2_097_152;
 // So many things are done for a client before the next one's turn.
 const POLLS: usize = 128;
 
@@ -50,9 +43,6 @@ const ACCEPTS: usize = 64;
 
 // How long accepting pauses after it has failed, in milliseconds.
 const ACCEPT_PAUSE: u64 = 100;
-
-// An empty buffer with more room than this isn't kept by its end, in bytes.
-const KEPT_ROOM: usize = 262_144;
 
 // So many such buffers of clients are spare at most, and none of them has more room than this.
 const SPARES: usize = 8;
@@ -125,66 +115,6 @@ enum Rest {
     More,
 }
 
-// Tells a client that there are too many. What it sent already is read first: left unread, it would take the line with it.
-fn turn_away(stream: &mut TcpStream) {
-    let mut part = [0; 4_096];
-    let _ = stream.read(&mut part);
-    let _ = stream.write(b"SERVER_ERROR too many clients\r\n".as_slice());
-}
-
-fn watch_stream(poll: &Poll, stream: &TcpStream, token: usize) -> io::Result<()> {
-    stream.set_nodelay(true)?;
-    watch(poll.registry(), stream.as_raw_fd(), token)
-}
-
-fn connect<N: Net>(
-    net: &N,
-    poll: &Poll,
-    address: SocketAddr,
-    token: usize,
-) -> io::Result<TcpStream> {
-    let stream = TcpStream::connect(net, address)?;
-    watch_stream(poll, &stream, token)?;
-    Ok(stream)
-}
-
-// A buffer in which nothing is left is the one for the next client, if it has more room than that has.
-fn give_back(alloc: Global, held: &mut BytesMut, input: &mut BytesMut) {
-    if !held.is_empty() {
-        return;
-    }
-    if input.capacity() < held.capacity() {
-        std::mem::swap(held, input);
-    }
-    *held = BytesMut::new(alloc);
-}
-
-// Whether a buffer is empty and has much room.
-fn has_spare(buffer: &BytesMut) -> bool {
-    buffer.is_empty() && buffer.capacity() > KEPT_ROOM
-}
-
-// Why a link failed, if too many reads were in vain.
-fn vain(has_failed: bool) -> Option<Cause> {
-    if has_failed {
-        Some(Cause::VainReads)
-    } else {
-        None
-    }
-}
-
-fn limits_of(settings: Settings) -> Limits
-    ensures { result ≡ limits_by settings }
-{
-    Limits {
-        clients: settings.clients,
-        held: HELD_LIMIT,
-        depth: settings.client_window,
-        window: settings.link_window,
-        sharing: settings.sharing,
-    }
-}
-
 fn earlier(limit: Option<u64>, other: Option<u64>) -> Option<u64> {
     match (limit, other) {
         (Some(a), Some(b)) => Some(a.min(b)),
@@ -198,200 +128,6 @@ fn at_most(limit: Option<Duration>, most: Duration) -> Duration {
         Some(limit) if limit < most => limit,
         _ => most,
     }
-}
-
-// What of an end wants the system.
-#[derive(Drop)]
-struct Parts {
-    poll: Poll,
-    events: Events,
-    listener: TcpListener,
-    links: Vec<Link>,
-    start: Instant,
-}
-
-fn links_to(alloc: Global, servers: &[Option<SocketAddr>]) -> Result<Vec<Link>, AllocError> {
-    let mut links = Vec::new(alloc);
-    for address in servers {
-        links.push(Link::new(alloc, *address))?;
-    }
-    Ok(links)
-}
-
-impl Parts {
-    // It listens, and no link has a connection.
-    fn open<R: Net + Clock + AllocGlobal>(
-        rt: &R,
-        listen: SocketAddr,
-        servers: &[Option<SocketAddr>],
-    ) -> io::Result<Parts> {
-        let start = Instant::now(rt)?;
-        let poll = Poll::new(rt)?;
-        let listener = TcpListener::bind(rt, listen)?;
-        watch(poll.registry(), listener.as_raw_fd(), LISTENER)?;
-        Ok(Parts {
-            poll,
-            events: Events::with_capacity(rt.alloc(), 1_024)?,
-            listener,
-            links: links_to(rt.alloc(), servers)?,
-            start,
-        })
-    }
-}
-
-fn fresh_core(
-    alloc: Global,
-    accepted: Accepted,
-    settings: Settings,
-) -> Result<Box<AnyCore>, AllocError>
-    ensures { IfOk result (λ core. BeginsFresh accepted settings core.value) }
-{
-    let core = FreshCore::new(alloc, accepted, limits_of(settings))?;
-    Ok(Box::new(alloc, AnyCore::Fresh(core))?)
-}
-
-fn unchecked_core(alloc: Global, tree: Tree, settings: Settings) -> Result<Box<AnyCore>, AllocError>
-    ensures { IfOk result (λ core. BeginsUnchecked tree settings core.value) }
-{
-    let core = Core::unchecked(alloc, tree, limits_of(settings));
-    Ok(Box::new(alloc, AnyCore::Unchecked(core))?)
-}
-
-// One read of the client. One for whose bytes there is no memory is closed, and no other one.
-fn read_once(client: &mut Client, tally: &mut Tally) {
-    let room = client.read_room();
-    match client.conn.read_once(room).unwrap_or(Got::Failed) {
-        Got::Ended => client.is_ended = true,
-        Got::Failed => client.break_off(),
-        Got::Bytes => {
-            client.has_read();
-            tally.note_read(client.conn.held.len());
-        }
-        Got::Nothing | Got::Full => {}
-    }
-}
-
-// What is to be sent to the client goes out, as far as it is taken. Whether the client is to be served for that: it takes what is
-// shown to it again, or it has ended, and all is sent.
-fn send_once(core: &AnyCore, id: usize, client: &mut Client) -> bool {
-    client.has_output = false;
-    let was_full = !client.has_room();
-    if !send(&mut client.conn) {
-        client.break_off();
-    }
-    let is_over = client.conn.unsent.is_empty() && (client.is_ended || core.is_closed(id));
-    is_over || (was_full && client.has_room())
-}
-
-// What the client's end holds is given to the core.
-fn feed_held(core: &mut AnyCore, id: usize, client: &mut Client)
-    ensures core { GoesOn core.old core.new }
-    ensures piece { Takes id client.old.conn.held.items core.old core.new }
-{
-    if client.conn.held.is_empty() {
-        return;
-    }
-    match core.feed(id, client.conn.held.as_slice()) {
-        Ok(()) => client.conn.held.clear(),
-        // The core takes it when it has done what it holds.
-        Err(CoreFault::InputFull) => {}
-        Err(_) => client.break_off(),
-    }
-}
-
-// What the core has for the client goes after what is to be sent. How many bytes that is.
-fn show(core: &mut AnyCore, id: usize, client: &mut Client) -> Result<usize, CoreFault>
-    ensures core { GoesOn core.old core.new }
-    ensures bytes { OnOk result (client.new.conn.unsent.items ≡ client.old.conn.unsent.items ++ output_by (client_at (core_of core.old) id)) }
-    ensures kept { OnErr result (client.new.conn.unsent.items ≡ client.old.conn.unsent.items) }
-{
-    let unsent = client.conn.unsent.len();
-    core.move_output(id, &mut client.conn.unsent)?;
-    Ok(client.conn.unsent.len().saturating_sub(unsent))
-}
-
-// The calls that are out on a link have failed.
-fn fail_sent(
-    calls: &mut LinkCalls,
-    core: &mut AnyCore,
-    clients: &mut Clients,
-) -> Result<(), AllocError>
-    ensures core { Fails core.old core.new }
-    ensures none { OnOk result (calls.new.sent.items ≡ []) }
-    ensures all { OnOk result (AllFail calls.old.sent.items core.old core.new) }
-{
-    for _ in 0..calls.len() {
-        let Some(client) = calls.fail_next(core) else {
-            return Ok(());
-        };
-        clients.mark_settled(client)?;
-    }
-    Ok(())
-}
-
-// The calls that wait for the link have failed.
-fn fail_waiting(
-    link: &mut Link,
-    core: &mut AnyCore,
-    clients: &mut Clients,
-) -> Result<(), AllocError>
-    requires { link.old.conn ≡ None }
-    ensures core { Fails core.old core.new }
-    ensures none { OnOk result (link.new.waiting.items ≡ []) }
-    ensures all { OnOk result (AllFail link.old.waiting.items core.old core.new) }
-    ensures rest { link.new ≡ record link.old { waiting = link.new.waiting } }
-{
-    for _ in 0..link.waiting() {
-        let Some(call) = link.next_waiting() else {
-            return Ok(());
-        };
-        let client = call.client;
-        fail_call(core, call.ticket);
-        clients.end_waiting(client)?;
-        clients.mark_settled(client)?;
-    }
-    Ok(())
-}
-
-// All calls of the link, which has no connection, have failed: those that are out, and then those that wait.
-fn fail_all(link: &mut Link, core: &mut AnyCore, clients: &mut Clients) -> Result<(), AllocError>
-    requires { link.old.conn ≡ None }
-    ensures core { Fails core.old core.new }
-    ensures down { OnOk result (IsDown link.new) }
-    ensures all { OnOk result (AllFail (link.old.calls.sent.items ++ link.old.waiting.items) core.old core.new) }
-    ensures closed { link.new.conn ≡ None }
-{
-    fail_sent(&mut link.calls, core, clients)?;
-    fail_waiting(link, core, clients)
-}
-
-// All whole answers in these bytes are settled: how many bytes those are, and whether the rest may be the next one's begin.
-fn settle_held(
-    calls: &mut LinkCalls,
-    core: &mut AnyCore,
-    clients: &mut Clients,
-    is_freed: &mut bool,
-    held: &[u8],
-) -> Result<(usize, bool), AllocError>
-    ensures core { GoesOn core.old core.new }
-{
-    let mut used = 0usize;
-    for _ in 0..held.len() {
-        let rest = held.get(used..).unwrap_or(b"".as_slice());
-        if rest.is_empty() {
-            return Ok((used, true));
-        }
-        match calls.settle_next(core, rest) {
-            Next::Settled { client, used: len } => {
-                used = used.saturating_add(len);
-                *is_freed = true;
-                clients.mark_settled(client)?;
-            }
-            Next::More => return Ok((used, true)),
-            Next::Foreign => return Ok((used, false)),
-        }
-    }
-    Ok((used, true))
 }
 
 impl ProxyEnd {

@@ -1,4 +1,4 @@
-use Rattle.tcp_proxy.proofs.Walked.{walks_keep}
+use Rattle.proxy_connections.proofs.Walked.{walks_keep}
 use Rattle.tcp_proxy.proofs.laws.walks_keep.Goals as goal
 
 pub returns : goal.returns

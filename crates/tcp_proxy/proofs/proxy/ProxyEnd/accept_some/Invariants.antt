@@ -1,4 +1,4 @@
-use Rattle.tcp_proxy.specs.CoreSteps.{GoesOn}
+use Rattle.proxy_connections.specs.CoreSteps.{GoesOn}
 use Rattle.tcp_proxy.proofs.proxy.ProxyEnd.accept_some.Given as goal
 
 abbrev pub invariant-loop : goal.invariant-loop

@@ -1,6 +1,5 @@
-use Rattle.std.proofs.Common.{refl, ap}
-use Rattle.std.proofs.Common.{arith}
-use Rattle.tcp_proxy.specs.Links.{calls_out}
+use Rattle.std.proofs.Common.{refl, ap, arith}
+use Rattle.proxy_connections.specs.Links.{calls_out}
 use Rattle.tcp_proxy.proofs.Counting.{out_at, out_end, none_left, no_truth}
 use Rattle.tcp_proxy.proofs.proxy.ProxyEnd.are_out.Goals as goal
 

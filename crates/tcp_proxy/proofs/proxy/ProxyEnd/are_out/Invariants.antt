@@ -1,6 +1,5 @@
-use Rattle.std.proofs.Common.{◌≡◌, ◌+◌, length}
-use Rattle.std.proofs.Common.{drop}
-use Rattle.tcp_proxy.specs.Links.{calls_out}
+use Rattle.std.proofs.Common.{◌≡◌, ◌+◌, drop}
+use Rattle.proxy_connections.specs.Links.{calls_out}
 use Rattle.tcp_proxy.proofs.proxy.ProxyEnd.are_out.Given as goal
 
 abbrev pub invariant-loop-link : goal.invariant-loop-link

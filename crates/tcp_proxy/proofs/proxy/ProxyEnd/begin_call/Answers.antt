@@ -1,4 +1,4 @@
-use Rattle.tcp_proxy.proofs.Walked.{stood, stood_and}
+use Rattle.proxy_connections.proofs.Walked.{stood, stood_and}
 use Rattle.tcp_proxy.proofs.proxy.ProxyEnd.begin_call.Goals as goal
 
 pub returns-in-None : goal.returns-in-None

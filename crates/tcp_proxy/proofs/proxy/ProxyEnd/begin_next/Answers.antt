@@ -1,4 +1,4 @@
-use Rattle.tcp_proxy.proofs.Walked.{stood_and}
+use Rattle.proxy_connections.proofs.Walked.{stood_and}
 use Rattle.tcp_proxy.proofs.proxy.ProxyEnd.begin_next.Goals as goal
 
 pub returns-in_err-begin_call : goal.returns-in_err-begin_call

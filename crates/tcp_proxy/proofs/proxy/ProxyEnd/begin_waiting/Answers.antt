@@ -1,4 +1,4 @@
-use Rattle.tcp_proxy.proofs.Walked.{then}
+use Rattle.proxy_connections.proofs.Walked.{then}
 use Rattle.tcp_proxy.proofs.proxy.ProxyEnd.begin_waiting.Goals as goal
 
 pub loop-preserved : goal.loop-preserved

@@ -1,4 +1,4 @@
-use Rattle.tcp_proxy.specs.CoreSteps.{Fails}
+use Rattle.proxy_connections.specs.CoreSteps.{Fails}
 use Rattle.tcp_proxy.proofs.proxy.ProxyEnd.begin_waiting.Given as goal
 
 abbrev pub invariant-loop : goal.invariant-loop

@@ -1,4 +1,4 @@
-use Rattle.tcp_proxy.proofs.Walked.{by_close, from}
+use Rattle.proxy_connections.proofs.Walked.{by_close, from}
 use Rattle.tcp_proxy.proofs.proxy.ProxyEnd.close_client.Goals as goal
 
 pub returns-then-is_ok : goal.returns-then-is_ok

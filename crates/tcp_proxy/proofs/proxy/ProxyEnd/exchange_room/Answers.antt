@@ -1,4 +1,4 @@
-use Rattle.tcp_proxy.proofs.Walked.{and_stood, by_output, from}
+use Rattle.proxy_connections.proofs.Walked.{and_stood, by_output, from}
 use Rattle.tcp_proxy.proofs.proxy.ProxyEnd.exchange_room.Goals as goal
 
 pub returns : goal.returns

@@ -1,4 +1,4 @@
-use Rattle.tcp_proxy.proofs.Walked.{then}
+use Rattle.proxy_connections.proofs.Walked.{then}
 use Rattle.tcp_proxy.proofs.proxy.ProxyEnd.fail_late.Goals as goal
 
 pub loop-at-preserved : goal.loop-at-preserved

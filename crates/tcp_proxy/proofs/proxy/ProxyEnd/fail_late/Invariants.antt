@@ -1,4 +1,4 @@
-use Rattle.tcp_proxy.specs.CoreSteps.{Fails}
+use Rattle.proxy_connections.specs.CoreSteps.{Fails}
 use Rattle.tcp_proxy.proofs.proxy.ProxyEnd.fail_late.Given as goal
 
 abbrev pub invariant-loop-at : goal.invariant-loop-at

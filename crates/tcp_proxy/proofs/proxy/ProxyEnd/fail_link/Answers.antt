@@ -1,8 +1,8 @@
-use Rattle.tcp_proxy.proofs.Walked.{from}
+use Rattle.proxy_connections.proofs.Walked.{from}
 use Rattle.std.proofs.Common.{◌≡◌, None}
-use Rattle.tcp_proxy.specs.declared.link.Link.{Link}
-use Rattle.tcp_proxy.specs.Links.{IsDown}
-use Rattle.tcp_proxy.proofs.Failing.{on_ok, at_set}
+use Rattle.proxy_connections.specs.declared.link.Link.{Link}
+use Rattle.proxy_connections.specs.Links.{IsDown}
+use Rattle.proxy_connections.proofs.Failing.{on_ok, at_set}
 use Rattle.tcp_proxy.proofs.proxy.ProxyEnd.fail_link.Goals as goal
 
 pub returns : goal.returns

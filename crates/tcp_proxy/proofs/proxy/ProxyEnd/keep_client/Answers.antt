@@ -1,4 +1,4 @@
-use Rattle.tcp_proxy.proofs.Walked.{by_close, from, stood, then}
+use Rattle.proxy_connections.proofs.Walked.{by_close, from, stood, then}
 use Rattle.tcp_proxy.proofs.proxy.ProxyEnd.keep_client.Goals as goal
 
 pub returns : goal.returns

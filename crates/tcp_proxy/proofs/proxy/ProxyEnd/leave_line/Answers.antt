@@ -1,4 +1,4 @@
-use Rattle.tcp_proxy.proofs.Walked.{by_leave, from}
+use Rattle.proxy_connections.proofs.Walked.{by_leave, from}
 use Rattle.tcp_proxy.proofs.proxy.ProxyEnd.leave_line.Goals as goal
 
 pub returns-then-leave_line : goal.returns-then-leave_line

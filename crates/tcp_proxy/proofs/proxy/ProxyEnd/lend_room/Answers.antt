@@ -1,4 +1,4 @@
-use Rattle.tcp_proxy.proofs.Walked.{stood, stood_and, then}
+use Rattle.proxy_connections.proofs.Walked.{stood, stood_and, then}
 use Rattle.tcp_proxy.proofs.proxy.ProxyEnd.lend_room.Goals as goal
 
 pub returns-in_err-show_client : goal.returns-in_err-show_client

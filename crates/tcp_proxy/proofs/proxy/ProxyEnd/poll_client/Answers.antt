@@ -1,4 +1,4 @@
-use Rattle.tcp_proxy.proofs.Walked.{and_stood, then}
+use Rattle.proxy_connections.proofs.Walked.{and_stood, then}
 use Rattle.tcp_proxy.proofs.proxy.ProxyEnd.poll_client.Goals as goal
 
 pub returns-in_err-rest : goal.returns-in_err-rest

@@ -1,4 +1,4 @@
-use Rattle.tcp_proxy.proofs.Walked.{and_stood, by_poll, failed, from, then}
+use Rattle.proxy_connections.proofs.Walked.{and_stood, by_poll, failed, from, then}
 use Rattle.tcp_proxy.proofs.proxy.ProxyEnd.poll_once.Goals as goal
 
 pub returns-in_err-send_call-in-Ok-Call : goal.returns-in_err-send_call-in-Ok-Call

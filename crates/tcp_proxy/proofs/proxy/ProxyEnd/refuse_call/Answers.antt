@@ -1,4 +1,4 @@
-use Rattle.tcp_proxy.proofs.Walked.{by_failure, from}
+use Rattle.proxy_connections.proofs.Walked.{by_failure, from}
 use Rattle.tcp_proxy.proofs.proxy.ProxyEnd.refuse_call.Goals as goal
 
 pub returns : goal.returns

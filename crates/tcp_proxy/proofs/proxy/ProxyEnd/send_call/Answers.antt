@@ -1,4 +1,4 @@
-use Rattle.tcp_proxy.proofs.Walked.{and_stood, stood_and}
+use Rattle.proxy_connections.proofs.Walked.{and_stood, stood_and}
 use Rattle.tcp_proxy.proofs.proxy.ProxyEnd.send_call.Goals as goal
 
 pub returns-in_err-begin_call : goal.returns-in_err-begin_call

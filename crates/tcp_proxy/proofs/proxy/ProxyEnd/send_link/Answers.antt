@@ -1,4 +1,4 @@
-use Rattle.tcp_proxy.proofs.Walked.{and_stood, stood, then}
+use Rattle.proxy_connections.proofs.Walked.{and_stood, stood, then}
 use Rattle.tcp_proxy.proofs.proxy.ProxyEnd.send_link.Goals as goal
 
 pub loop-init : goal.loop-init

@@ -1,4 +1,4 @@
-use Rattle.tcp_proxy.proofs.Walked.{and_stood, then}
+use Rattle.proxy_connections.proofs.Walked.{and_stood, then}
 use Rattle.tcp_proxy.proofs.proxy.ProxyEnd.serve_client.Goals as goal
 
 pub returns-in_err-read_client : goal.returns-in_err-read_client

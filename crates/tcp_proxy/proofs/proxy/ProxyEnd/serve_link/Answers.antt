@@ -1,4 +1,4 @@
-use Rattle.tcp_proxy.proofs.Walked.{failed, then}
+use Rattle.proxy_connections.proofs.Walked.{failed, then}
 use Rattle.tcp_proxy.proofs.proxy.ProxyEnd.serve_link.Goals as goal
 
 pub returns-in_err-fail_link : goal.returns-in_err-fail_link

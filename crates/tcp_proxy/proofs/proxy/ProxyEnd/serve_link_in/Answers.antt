@@ -1,4 +1,4 @@
-use Rattle.tcp_proxy.proofs.Walked.{stood_and}
+use Rattle.proxy_connections.proofs.Walked.{stood_and}
 use Rattle.tcp_proxy.proofs.proxy.ProxyEnd.serve_link_in.Goals as goal
 
 pub returns : goal.returns

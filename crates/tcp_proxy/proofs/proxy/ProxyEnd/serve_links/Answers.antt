@@ -1,4 +1,4 @@
-use Rattle.tcp_proxy.proofs.Walked.{then}
+use Rattle.proxy_connections.proofs.Walked.{then}
 use Rattle.tcp_proxy.proofs.proxy.ProxyEnd.serve_links.Goals as goal
 
 pub loop-i-preserved : goal.loop-i-preserved

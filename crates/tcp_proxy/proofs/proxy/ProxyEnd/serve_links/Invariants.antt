@@ -1,4 +1,4 @@
-use Rattle.tcp_proxy.specs.CoreSteps.{GoesOn}
+use Rattle.proxy_connections.specs.CoreSteps.{GoesOn}
 use Rattle.tcp_proxy.proofs.proxy.ProxyEnd.serve_links.Given as goal
 
 abbrev pub invariant-loop-i : goal.invariant-loop-i

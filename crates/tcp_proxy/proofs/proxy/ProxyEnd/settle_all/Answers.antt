@@ -1,4 +1,4 @@
-use Rattle.tcp_proxy.proofs.Walked.{from}
+use Rattle.proxy_connections.proofs.Walked.{from}
 use Rattle.tcp_proxy.proofs.proxy.ProxyEnd.settle_all.Goals as goal
 
 pub returns : goal.returns

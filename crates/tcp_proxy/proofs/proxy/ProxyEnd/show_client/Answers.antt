@@ -1,4 +1,4 @@
-use Rattle.tcp_proxy.proofs.Walked.{and_stood, from}
+use Rattle.proxy_connections.proofs.Walked.{and_stood, from}
 use Rattle.tcp_proxy.proofs.proxy.ProxyEnd.show_client.Goals as goal
 
 pub returns-in-Err : goal.returns-in-Err

@@ -1,4 +1,4 @@
-use Rattle.tcp_proxy.proofs.Walked.{and_stood, then}
+use Rattle.proxy_connections.proofs.Walked.{and_stood, then}
 use Rattle.tcp_proxy.proofs.proxy.ProxyEnd.show_lent.Goals as goal
 
 pub returns : goal.returns

@@ -1,4 +1,4 @@
-use Rattle.tcp_proxy.proofs.Walked.{by_open, from, then}
+use Rattle.proxy_connections.proofs.Walked.{by_open, from, then}
 use Rattle.tcp_proxy.proofs.proxy.ProxyEnd.take_client.Goals as goal
 
 pub returns-in-Ok : goal.returns-in-Ok

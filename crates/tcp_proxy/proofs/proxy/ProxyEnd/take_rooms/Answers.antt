@@ -1,4 +1,4 @@
-use Rattle.tcp_proxy.proofs.Walked.{and_stood, stood_and}
+use Rattle.proxy_connections.proofs.Walked.{and_stood, stood_and}
 use Rattle.tcp_proxy.proofs.proxy.ProxyEnd.take_rooms.Goals as goal
 
 pub returns-in_err-show_client : goal.returns-in_err-show_client

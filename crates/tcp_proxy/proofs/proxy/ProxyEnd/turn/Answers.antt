@@ -1,4 +1,4 @@
-use Rattle.tcp_proxy.proofs.Walked.{stood, stood_and}
+use Rattle.proxy_connections.proofs.Walked.{stood, stood_and}
 use Rattle.tcp_proxy.proofs.proxy.ProxyEnd.turn.Goals as goal
 
 pub returns-in_err-limit : goal.returns-in_err-limit

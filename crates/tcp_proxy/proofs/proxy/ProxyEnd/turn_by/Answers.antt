@@ -1,4 +1,4 @@
-use Rattle.tcp_proxy.proofs.Walked.{and_stood, failed, stood, then}
+use Rattle.proxy_connections.proofs.Walked.{and_stood, failed, stood, then}
 use Rattle.tcp_proxy.proofs.proxy.ProxyEnd.turn_by.Goals as goal
 
 pub returns-in_err-wait : goal.returns-in_err-wait

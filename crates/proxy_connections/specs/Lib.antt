@@ -1,0 +1,3 @@
+pub mod CoreSteps
+pub mod Links
+pub mod Pieces

@@ -1,0 +1,67 @@
+//! A client's bytes: read, given to the core, shown by it and sent.
+
+ghost use Rattle.std.specs.Prelude.{◌≡◌, ◌++◌, OnOk, OnErr};
+ghost use Rattle.proxy_core.specs.CoreState.{client_at, output_by};
+ghost use Rattle.link_calls.specs.Cores.{core_of};
+ghost use Rattle.proxy_connections.specs.CoreSteps.{GoesOn};
+ghost use Rattle.proxy_connections.specs.Pieces.{Takes};
+
+use crate::clients::Client;
+use crate::sockets::send;
+use crate::tally::Tally;
+use link_calls::AnyCore;
+use proxy_core::CoreFault;
+use tcp_socket::Got;
+
+/// One read of the client. One for whose bytes there is no memory is closed, and no other one.
+pub fn read_once(client: &mut Client, tally: &mut Tally) {
+    let room = client.read_room();
+    match client.conn.read_once(room).unwrap_or(Got::Failed) {
+        Got::Ended => client.is_ended = true,
+        Got::Failed => client.break_off(),
+        Got::Bytes => {
+            client.has_read();
+            tally.note_read(client.conn.held.len());
+        }
+        Got::Nothing | Got::Full => {}
+    }
+}
+
+/// What is to be sent to the client goes out, as far as it is taken. Whether the client is to be served for that: it takes what is
+/// shown to it again, or it has ended, and all is sent.
+pub fn send_once(core: &AnyCore, id: usize, client: &mut Client) -> bool {
+    client.has_output = false;
+    let was_full = !client.has_room();
+    if !send(&mut client.conn) {
+        client.break_off();
+    }
+    let is_over = client.conn.unsent.is_empty() && (client.is_ended || core.is_closed(id));
+    is_over || (was_full && client.has_room())
+}
+
+/// What the client's end holds is given to the core.
+pub fn feed_held(core: &mut AnyCore, id: usize, client: &mut Client)
+    ensures core { GoesOn core.old core.new }
+    ensures piece { Takes id client.old.conn.held.items core.old core.new }
+{
+    if client.conn.held.is_empty() {
+        return;
+    }
+    match core.feed(id, client.conn.held.as_slice()) {
+        Ok(()) => client.conn.held.clear(),
+        // The core takes it when it has done what it holds.
+        Err(CoreFault::InputFull) => {}
+        Err(_) => client.break_off(),
+    }
+}
+
+/// What the core has for the client goes after what is to be sent. How many bytes that is.
+pub fn show(core: &mut AnyCore, id: usize, client: &mut Client) -> Result<usize, CoreFault>
+    ensures core { GoesOn core.old core.new }
+    ensures bytes { OnOk result (client.new.conn.unsent.items ≡ client.old.conn.unsent.items ++ output_by (client_at (core_of core.old) id)) }
+    ensures kept { OnErr result (client.new.conn.unsent.items ≡ client.old.conn.unsent.items) }
+{
+    let unsent = client.conn.unsent.len();
+    core.move_output(id, &mut client.conn.unsent)?;
+    Ok(client.conn.unsent.len().saturating_sub(unsent))
+}

@@ -1,0 +1,22 @@
+//! The connections of a proxy: one client's end, one server's link, and what each of them does to the core.
+#![tactic(auto)]
+
+mod client_bytes;
+mod clients;
+mod link;
+mod news;
+mod outcomes;
+mod room;
+mod settings;
+mod sockets;
+mod tally;
+
+pub use client_bytes::{feed_held, read_once, send_once, show};
+pub use clients::{Client, Clients};
+pub use link::{Link, vain};
+pub use news::{Cause, LinkNews};
+pub use outcomes::{fail_all, settle_held};
+pub use room::{KEPT_ROOM, give_back, has_spare};
+pub use settings::{ServerDialect, Settings};
+pub use sockets::{connect, note, send, turn_away, use_held, watch_stream};
+pub use tally::Tally;

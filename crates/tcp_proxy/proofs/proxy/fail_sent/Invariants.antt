@@ -1,8 +1,0 @@
-use Rattle.std.proofs.Common.{◌≡◌, ◌+◌, length}
-use Rattle.tcp_proxy.specs.CoreSteps.{Fails}
-use Rattle.link_calls.specs.declared.any_core.AnyCore.{AnyCore}
-use Rattle.tcp_proxy.specs.Links.{AllFail}
-use Rattle.tcp_proxy.proofs.proxy.fail_sent.Given as goal
-
-abbrev pub invariant-loop : goal.invariant-loop
-invariant-loop l = record { core : Fails l.fn.core l.core; few : l.counter + length l.calls.sent.items ≡ l.end; all : (new : AnyCore) → AllFail l.calls.sent.items l.core new → AllFail l.fn.calls.sent.items l.fn.core new }

@@ -1,0 +1,51 @@
+//! The core with which an end begins.
+
+ghost use Rattle.std.specs.Prelude.{◌≡◌, IfOk};
+ghost use Rattle.tcp_proxy.specs.Beginning.{limits_by, BeginsFresh, BeginsUnchecked};
+
+use fresh_core::FreshCore;
+use fresh_gate::Accepted;
+use link_calls::AnyCore;
+use proxy_connections::Settings;
+use proxy_core::{Core, Limits};
+use route_tree::Tree;
+use std::alloc::{AllocError, Global};
+
+// How many bytes of a client the core holds.
+const HELD_LIMIT: usize = 2_097_152;
+
+fn limits_of(settings: Settings) -> Limits
+    ensures { result ≡ limits_by settings }
+{
+    Limits {
+        clients: settings.clients,
+        held: HELD_LIMIT,
+        depth: settings.client_window,
+        window: settings.link_window,
+        sharing: settings.sharing,
+    }
+}
+
+/// A new core on accepted trees.
+pub fn fresh_core(
+    alloc: Global,
+    accepted: Accepted,
+    settings: Settings,
+) -> Result<Box<AnyCore>, AllocError>
+    ensures { IfOk result (λ core. BeginsFresh accepted settings core.value) }
+{
+    let core = FreshCore::new(alloc, accepted, limits_of(settings))?;
+    Ok(Box::new(alloc, AnyCore::Fresh(core))?)
+}
+
+/// A new core on a tree of which no gate was asked.
+pub fn unchecked_core(
+    alloc: Global,
+    tree: Tree,
+    settings: Settings,
+) -> Result<Box<AnyCore>, AllocError>
+    ensures { IfOk result (λ core. BeginsUnchecked tree settings core.value) }
+{
+    let core = Core::unchecked(alloc, tree, limits_of(settings));
+    Ok(Box::new(alloc, AnyCore::Unchecked(core))?)
+}
