@@ -1,8 +1,11 @@
 -- Who stands before whom in the line of a key.
-use Rattle.std.proofs.Common.{◌≡◌, ℕ, ◌+◌, ◌<◌, Bool, true, false, cond, not, ◌||◌, List, [], ◌∷◌, ◌++◌, length, drop, get_or, refl, sym, ap, ◌∙◌, nat_eq}
+use Rattle.std.proofs.Common.{◌≡◌, ℕ, ◌+◌, ◌<◌, Bool, true, false, cond, not, ◌||◌, ◌&&◌, position, slice_set, Option, Some, List, [], ◌∷◌, ◌++◌, length, drop, get_or, refl, sym, ap, ◌∙◌, nat_eq}
 use Rattle.std.proofs.lemmas.Bool.{eqb-true}
 use Rattle.std.specs.List.{list_any}
-use Rattle.std.specs.Cmp.Lexicographic.{pointwise}
+use Rattle.std.specs.Cmp.Lexicographic.{pointwise, same_text}
+use Rattle.std.proofs.Math.Bool.{beq}
+use Rattle.std.proofs.lemmas.List.{set-get_or}
+use Rattle.std.proofs.lemmas.List.Quantifiers.{position-Some}
 use Rattle.std.proofs.lemmas.List.{drop_more}
 use Rattle.std.proofs.lemmas.List.Sums.{take_while-cons}
 use Rattle.commands_under_way.specs.declared.claim.Claim.{Claim}
@@ -115,3 +118,36 @@ nobody_is_passed client key it lines apart = (
   λ there none.
       ap (λ place. before client key (put_at place it lines)) none ∙ before_end client key (others it.client lines) (it ∷ []) (place_stays client key it.client apart lines there) ∙ before_others client key it.client apart lines,
 )
+
+-- who stands in its place with the claim that it has changes nothing
+pub joins_again :
+    (lines : List Standing) (place client : ℕ) (key : List ℕ) (claim : Claim) (it : Standing) → position (is_place client key) lines ≡ Some place → it ≡ get_or lines place it
+    → (beq it.claim.clears claim.clears && beq it.claim.copies claim.copies) ≡ true → slice_set lines place (record { key = key; client = client; claim = claim }) ≡ lines
+joins_again lines place client key claim it at got same =
+    let there : is_place client key it ≡ true = ap (is_place client key) got ∙ (position-Some (is_place client key) lines place it at).1 in
+    let both = of_place (nat_eq it.client client) (pointwise nat_eq it.key key) there in
+    let is : record { key = key; client = client; claim = claim } ≡ it =
+        λ i. record {
+          key = sym (same_text it.key key (sym both.1)) i;
+          client = sym (eqb-true it.client client both.0) i;
+          claim = record { clears = sym (one_bool it.claim.clears claim.clears (first _ _ same)) i; copies = sym (one_bool it.claim.copies claim.copies (second _ _ same)) i };
+        } in
+    ap (λ (x : Standing). slice_set lines place x) (is ∙ got) ∙ set-get_or lines place it
+  where
+    of_place : (a b : Bool) → cond a b false ≡ true → (a ≡ true) × (b ≡ true)
+    of_place true b e = (refl, e)
+    of_place false b e = absurd cc
+
+    first : (a b : Bool) → (a && b) ≡ true → a ≡ true
+    first true b e = refl
+    first false b e = absurd cc
+
+    second : (a b : Bool) → (a && b) ≡ true → b ≡ true
+    second true b e = e
+    second false b e = absurd cc
+
+    one_bool : (a b : Bool) → beq a b ≡ true → a ≡ b
+    one_bool true true e = refl
+    one_bool false false e = refl
+    one_bool true false e = absurd cc
+    one_bool false true e = absurd cc

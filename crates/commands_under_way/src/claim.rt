@@ -10,7 +10,7 @@ use route_tree::Tree;
 
 /// What a command claims of its key: on one key, what copies isn't under way with what clears. Where each command has its key
 /// alone, each counts as both.
-#[derive(Clone, Copy)]
+#[derive(Clone, Copy, PartialEq, Eq)]
 pub struct Claim {
     /// Whether it counts as one that clears the key.
     pub clears: bool,

@@ -1,6 +1,6 @@
 //! The lines of keys: clients whose next command waits for its key.
 
-ghost use Rattle.std.specs.Prelude.{◌≡◌, [], position, OnOk, OnErr};
+ghost use Rattle.std.specs.Prelude.{◌≡◌, [], false, position, IfOk, OnOk, OnErr};
 ghost use Rattle.commands_under_way.specs.Lines.{is_place, is_in_way, is_behind, is_standing, others, joined};
 
 use crate::claim::Claim;
@@ -97,10 +97,11 @@ impl KeyLines {
         any_before(client, key, claim, self.standing.as_slice())
     }
 
-    /// The client stands in the line of this key: where it stood there, in its place, or else at the end. The only error is running out
-    /// of memory: then it stands in no line.
-    pub fn join(&mut self, client: usize, key: &Key, claim: Claim) -> Result<(), AllocError>
+    /// The client stands in the line of this key: where it stood there, in its place, or else at the end. It tells whether that changed
+    /// anything. The only error is running out of memory: then it stands in no line.
+    pub fn join(&mut self, client: usize, key: &Key, claim: Claim) -> Result<bool, AllocError>
         ensures ok { OnOk result (self.new ≡ joined (record { claim = claim; client = client; key = key.now }) self.old) }
+        ensures same { IfOk result (λ changed. changed ≡ false → self.new ≡ self.old) }
         ensures err { OnErr result (self.new ≡ others client self.old) }
     {
         let it = Standing {
@@ -109,13 +110,17 @@ impl KeyLines {
             claim,
         };
         match place_of(client, key, &self.standing) {
-            Some(place) => self.standing[place] = it,
+            Some(place) => {
+                let is_same = self.standing[place].claim == claim;
+                self.standing[place] = it;
+                Ok(!is_same)
+            }
             None => {
                 self.leave(client);
                 self.standing.push(it)?;
+                Ok(true)
             }
         }
-        Ok(())
     }
 
     /// Whether the client stands in a line. It takes no memory.

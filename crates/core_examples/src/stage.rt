@@ -78,7 +78,7 @@ fn polled(poll: &Poll) -> Told {
         Poll::Refused => word("refused"),
         Poll::Call(ticket) => number("call ", ticket.number),
         Poll::Waiting => word("waiting"),
-        Poll::Busy => word("busy"),
+        Poll::Queued | Poll::Busy => word("busy"),
         Poll::Did(note) => number("did ", note.number),
     }
 }

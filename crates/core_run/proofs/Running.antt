@@ -180,6 +180,7 @@ same_counts polls.Own k l x b = same_besides k l x b
 same_counts polls.Refused k l x b = same_besides k l x b
 same_counts (polls.Call ticket) k l x b = same_besides k l x b
 same_counts polls.Waiting k l x b = same_besides k l x b
+same_counts polls.Queued k l x b = same_besides k l x b
 same_counts polls.Busy k l x b = same_besides k l x b
 
 -- a poll, and what is counted of it

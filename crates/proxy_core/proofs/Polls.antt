@@ -375,7 +375,8 @@ why_of old new client polls.Own h = absurd h
 why_of old new client polls.Refused h = absurd h
 why_of old new client (polls.Call ticket) h = tt
 why_of old new client polls.Waiting h = absurd h
-why_of old new client polls.Busy h = (h.0, inl (h.1, inl h.2))
+why_of old new client polls.Queued h = (h.0, inl (h.1, h.2))
+why_of old new client polls.Busy h = absurd h
 why_of old new client (polls.Did note) h = h
 
 -- the same answer, where nothing began before it
@@ -410,10 +411,16 @@ pub nothing_polls : (old : Core) (client : ℕ) (poll : Poll) → ((entries : Li
 nothing_polls old client poll f why =
     record { goes = goes_as old old IsNothing (Then (Perhaps (BeginsBelow old client)) (IsPolled client poll)) (λ entries e. ([], [], inl refl, f [] refl, e)) (goes_nowhere old); why = why; order = inl (refl, refl) }
 
--- or nothing but that the client stands in the line of its key
-pub line_polls : (old new : Core) (client : ℕ) → GoesBy old IsNothing new → StandsInLine old client new → MayAsk old client → NoneGoesOn new client → Polls old client polls.Busy new
+-- or nothing but that the client came to the line of its key
+pub line_polls : (old new : Core) (client : ℕ) → GoesBy old IsNothing new → StandsInLine old client new → MayAsk old client → NoneGoesOn new client → Polls old client polls.Queued new
 line_polls old new client goes stands may held =
-    record { goes = goes_as old new IsNothing (Then (Perhaps (BeginsBelow old client)) (IsPolled client polls.Busy)) (λ entries e. ([], [], inl refl, refl, e)) goes; why = (held, inr (inr stands, may)); order = inr (inr stands) }
+    record { goes = goes_as old new IsNothing (Then (Perhaps (BeginsBelow old client)) (IsPolled client polls.Queued)) (λ entries e. ([], [], inl refl, refl, e)) goes; why = (held, inr (stands, may)); order = inr (inr stands) }
+
+-- or stood there already
+pub stood_polls : (old new : Core) (client : ℕ) → new ≡ old → StandsInLine old client new → MayAsk old client → NoneGoesOn old client → Polls old client polls.Busy new
+stood_polls old new client same stands may held =
+    subst (λ (core : Core). Polls old client polls.Busy core) (sym same)
+    (nothing_polls old client polls.Busy (λ entries e. e) (refl, held, inr (inr (subst (StandsInLine old client) same stands), may)))
 
 -- what holds of a client gives what else holds of it
 pub for_map : (core : Core) (client : ℕ) (P Q : Client → Type 0) → ((x : Client) → P x → Q x) → ForClient core client P → ForClient core client Q

@@ -144,6 +144,7 @@ IsPolled client polls.Own = IsPassed client Own
 IsPolled client polls.Refused = IsPassed client Refused
 IsPolled client (polls.Call ticket) = IsSent ticket
 IsPolled client polls.Waiting = IsNothing
+IsPolled client polls.Queued = IsNothing
 IsPolled client polls.Busy = IsNothing
 IsPolled client (polls.Did note) = Then (IsEnded client note) (AreShown client)
 
@@ -167,9 +168,9 @@ stands_before core client ask = is_behind client ask.key (claim_of core ask) cor
 abbrev pub IsNextAsk : Core → ℕ → Ask → Bool → Type 0
 IsNextAsk core client ask own = (request : Request) × ForClient core client (λ x. IsAskAt x request ask × (has_own ask.key x.queue.items ≡ own))
 
--- the client's next command waits for one of the client's own on its key, and all is as it was
-abbrev pub WaitsForOwn : Core → ℕ → Core → Type 0
-WaitsForOwn old client new = (new ≡ old) × ((ask : Ask) × IsNextAsk old client ask true)
+-- the client's next command waits for one of the client's own on its key
+abbrev pub WaitsForOwn : Core → ℕ → Type 0
+WaitsForOwn core client = (ask : Ask) × IsNextAsk core client ask true
 
 -- it waits in the line of its key: one under way bars it, or a client stands before it there whose claim is in the way. Where it stood there it keeps its place, else it came to the end; nothing else changes
 pub record StandsInLine (old : Core) (client : ℕ) (new : Core) : Type 0 where
@@ -178,9 +179,9 @@ pub record StandsInLine (old : Core) (client : ℕ) (new : Core) : Type 0 where
   pub waits : (bars old ask ≡ true) ⊎ (stands_before old client ask ≡ true)
   pub core_is : new ≡ record old { lines = joined (record { claim = claim_of old ask; client = client; key = ask.key }) old.lines }
 
--- it waits for its key
-abbrev pub HasNoKey : Core → ℕ → Core → Type 0
-HasNoKey old client new = WaitsForOwn old client new ⊎ StandsInLine old client new
+-- it waits for its key, and stands in its line where another client's command is in the way
+abbrev pub HasNoKey : Core → ℕ → Type 0
+HasNoKey core client = WaitsForOwn core client ⊎ StandsInLine core client core
 
 -- its next command began: none under way bars it, and nobody stands before it in the line of its key whose claim is in the way. It stands in no line any more
 pub record BeginsInTurn (old : Core) (client : ℕ) (new : Core) : Type 0 where
@@ -215,9 +216,17 @@ NothingBegins core client = ForClient core client (IsLater core.limits.depth)
 abbrev pub MayAsk : Core → ℕ → Type 0
 MayAsk core client = (request : Request) × ForClient core client (CanAskBelow core.limits.depth request)
 
--- a command of the client waits for its server: it began just now, or nothing at the front can be done. Or its next command waits for its key; where nothing that it waits for is there, it begins
-abbrev pub IsBusy : Core → ℕ → Core → Type 0
-IsBusy old client new = (HasNoRoom new client × (ForClient new client HasCommand ⊎ ((new ≡ old) × NothingBegins old client))) ⊎ (HasNoKey old client new × MayAsk old client)
+-- a command of the client waits for its server, and nothing at the front can be done; or its next command waits for its key: where nothing that it waits for is there, it begins
+abbrev pub IsBusy : Core → ℕ → Type 0
+IsBusy core client = (HasNoRoom core client × NothingBegins core client) ⊎ (HasNoKey core client × MayAsk core client)
+
+-- its next command began and waits for its server, or came to the line of its key
+abbrev pub IsQueued : Core → ℕ → Core → Type 0
+IsQueued old client new = (HasNoRoom new client × ForClient new client HasCommand) ⊎ (StandsInLine old client new × MayAsk old client)
+
+-- nothing can be done for the client without a result of a call: it is done, or none of its commands can go on, and nothing at its front can be done or its next command waits for its key
+abbrev pub IsHeldUp : Core → ℕ → Type 0
+IsHeldUp core client = ForClient core client IsDone ⊎ (NoneGoesOn core client × (NothingBegins core client ⊎ (HasNoKey core client × MayAsk core client)))
 
 -- what holds after an answer: why nothing can be done, or that no reply is left to be shown
 abbrev pub IsWhy : Core → ℕ → Poll → Core → Type 0
@@ -226,7 +235,8 @@ IsWhy old client polls.Own new = Unit {0}
 IsWhy old client polls.Refused new = Unit {0}
 IsWhy old client (polls.Call ticket) new = Unit {0}
 IsWhy old client polls.Waiting new = (new ≡ old) × NoneGoesOn old client × NothingBegins old client
-IsWhy old client polls.Busy new = NoneGoesOn new client × IsBusy old client new
+IsWhy old client polls.Queued new = NoneGoesOn new client × IsQueued old client new
+IsWhy old client polls.Busy new = (new ≡ old) × NoneGoesOn old client × IsBusy old client
 IsWhy old client (polls.Did note) new = IsShown new client
 
 -- the same after a command went on as it could
@@ -236,7 +246,8 @@ IsActed client polls.Own new = ⊥
 IsActed client polls.Refused new = ⊥
 IsActed client (polls.Call ticket) new = Unit {0}
 IsActed client polls.Waiting new = ⊥
-IsActed client polls.Busy new = NoneGoesOn new client × HasNoRoom new client × ForClient new client HasCommand
+IsActed client polls.Queued new = NoneGoesOn new client × HasNoRoom new client × ForClient new client HasCommand
+IsActed client polls.Busy new = ⊥
 IsActed client (polls.Did note) new = IsShown new client
 
 -- what was done for a command that can go on

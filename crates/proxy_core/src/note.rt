@@ -25,7 +25,9 @@ pub enum Poll {
     Call(Ticket),
     /// Nothing: each of its commands waits for an answer.
     Waiting,
-    /// A command of it waits for its server, or the next for its key.
+    /// Its next command began and waits for its server, or came to the line of its key. It is `Busy` next.
+    Queued,
+    /// Nothing: a command of it waits for its server, or the next for its key.
     Busy,
     /// A command ended.
     Did(Note),

@@ -196,7 +196,7 @@ impl Core {
         // It waits for its server, and the others can go on no more than before it.
         match self.ready(client) {
             Some(ready) => self.act(client, ready.number, ready.turn),
-            None => Ok(Poll::Busy),
+            None => Ok(Poll::Queued),
         }
     }
 
@@ -246,7 +246,8 @@ impl Core {
         let joined = self.lines.join(client, ask.key(), claim);
         drop_ask(ask);
         match joined {
-            Ok(()) => Ok(Poll::Busy),
+            Ok(true) => Ok(Poll::Queued),
+            Ok(false) => Ok(Poll::Busy),
             Err(_) => Err(CoreFault::NoMemory),
         }
     }
@@ -397,9 +398,9 @@ impl Core {
     /// closed, dropped or leaves: it comes to the end, and is passed by nobody who comes after it. So a key that became free goes to
     /// whoever came first, even if others are polled before. A client that waits for a command of its own comes to no line.
     ///
-    /// Where it is `Waiting` or `Busy`, none of its commands that have no reply yet can go on: each has its call out, or waits
-    /// for its server. Where it is `Waiting`, nothing at its front can be done either. After `Did` each reply that could be
-    /// shown was.
+    /// Where it is `Waiting`, `Busy` or `Queued`, none of its commands that have no reply yet can go on: each has its call out, or waits
+    /// for its server. Where it is `Waiting`, nothing at its front can be done either. `Idle`, `Waiting` and `Busy` leave the core as it
+    /// was. After `Did` each reply that could be shown was.
     ///
     /// `NoClient`. `Spent` where the last number that there is was given out: the core is as it was. `NoMemory`: nothing is
     /// done for the client any more, whose output so far is kept, which stands in no line, and whose commands of which no call is out

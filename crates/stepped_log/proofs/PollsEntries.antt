@@ -30,6 +30,7 @@ servers_stay polls.Own old new counts = counts.servers
 servers_stay polls.Refused old new counts = counts.servers
 servers_stay (polls.Call ticket) old new counts = counts.servers
 servers_stay polls.Waiting old new counts = counts.servers
+servers_stay polls.Queued old new counts = counts.servers
 servers_stay polls.Busy old new counts = counts.servers
 
 -- of no stamps none are left, whether they are forgotten or not
@@ -45,6 +46,7 @@ unknown_stay polls.Own old new counts n e = counts.found n ∙ e
 unknown_stay polls.Refused old new counts n e = counts.found n ∙ e
 unknown_stay (polls.Call ticket) old new counts n e = counts.found n ∙ e
 unknown_stay polls.Waiting old new counts n e = counts.found n ∙ e
+unknown_stay polls.Queued old new counts n e = counts.found n ∙ e
 unknown_stay polls.Busy old new counts n e = counts.found n ∙ e
 
 module _ (at : ℕ → List ℕ → Plan) (Bars : ℕ → Ask → ℕ → Ask → Type 0) (opening : ℕ → List ℕ → Option Item) where
@@ -64,6 +66,7 @@ module _ (at : ℕ → List ℕ → Plan) (Bars : ℕ → Ask → ℕ → Ask �
     polled : (log : List (Entry dialect)) (client : ℕ) (poll : Poll) (second : List (Entry dialect)) (old new : Kept) → Follows (tree_words at) Bars opening (second ++ log) → IsPolled client poll second → CountsPoll poll old new → Tells opening base found log old → Tells opening base found (second ++ log) new
     polled log client polls.Idle second old new f is counts t = subst (λ l. Tells opening base found (l ++ log) new) (sym is) (besides opening base found log old new counts t)
     polled log client polls.Waiting second old new f is counts t = subst (λ l. Tells opening base found (l ++ log) new) (sym is) (besides opening base found log old new counts t)
+    polled log client polls.Queued second old new f is counts t = subst (λ l. Tells opening base found (l ++ log) new) (sym is) (besides opening base found log old new counts t)
     polled log client polls.Busy second old new f is counts t = subst (λ l. Tells opening base found (l ++ log) new) (sym is) (besides opening base found log old new counts t)
     polled log client polls.Own second old new f is counts t = passed log client is.0 is.1 second new is.3 (besides opening base found log old new counts t)
     polled log client polls.Refused second old new f is counts t = passed log client is.0 is.1 second new is.3 (besides opening base found log old new counts t)

@@ -58,6 +58,7 @@ CountsPoll polls.Own old new = IsBesides old new
 CountsPoll polls.Refused old new = IsBesides old new
 CountsPoll (polls.Call ticket) old new = IsBesides old new
 CountsPoll polls.Waiting old new = IsBesides old new
+CountsPoll polls.Queued old new = IsBesides old new
 CountsPoll polls.Busy old new = IsBesides old new
 
 -- each poll goes on with the log

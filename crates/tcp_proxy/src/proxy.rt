@@ -947,7 +947,7 @@ impl ProxyEnd {
             Ok(Polled::Own) | Ok(Polled::Refused) => Ok(Rest::More),
             Ok(Polled::Idle) => Ok(Rest::Idle),
             Ok(Polled::Waiting) => Ok(Rest::Waiting),
-            Ok(Polled::Busy) => Ok(Rest::Busy),
+            Ok(Polled::Queued) | Ok(Polled::Busy) => Ok(Rest::Busy),
             Err(CoreFault::NoMemory) => {
                 self.is_freed = true;
                 self.end_client(id);

@@ -98,7 +98,7 @@ impl Drive {
                 Ok(true)
             }
             Poll::Own | Poll::Refused => Ok(true),
-            Poll::Idle | Poll::Waiting | Poll::Busy => Ok(false),
+            Poll::Idle | Poll::Waiting | Poll::Queued | Poll::Busy => Ok(false),
         }
     }
 
