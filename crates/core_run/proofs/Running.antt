@@ -12,7 +12,7 @@ use Rattle.mc_runs.specs.Run.{End, Read, Unread, Never, outcome_of}
 use Rattle.mc_runs.specs.Single.{FitsOutcome}
 use Rattle.mc_types.specs.declared.call.Origin.{Origin}
 use Rattle.proxy_core.specs.CoreState.{dialect, Reloads}
-use Rattle.proxy_core.specs.Polls.{Polls, IsWhy}
+use Rattle.proxy_core.specs.Polls.{Polls}
 use Rattle.proxy_core.specs.Settles.{IsCalled, Settles}
 use Rattle.proxy_core.specs.declared.note.Poll.{Poll}
 use Rattle.proxy_core.specs.declared.note.Poll.TheVariants as polls
@@ -30,7 +30,7 @@ use Rattle.stepped_log.proofs.Counted.{goes_on_by_none}
 use Rattle.stepped_log.specs.Laws.{CountsPoll, PollsGoOn, ResultsGoOn, LoadsGoOn}
 use Rattle.core_run.specs.Counting.{last_of}
 use Rattle.core_run.specs.Finding.{found_of}
-use Rattle.core_run.specs.Running.{kept_of, Moves, MovesBy, MovesByOne, MovesAt, MovesByResults, MovesFed, IsLoadedBy, IsIdle}
+use Rattle.core_run.specs.Running.{kept_of, Moves, MovesBy, MovesByOne, MovesAt, MovesByResults, MovesFed, IsLoadedBy}
 use Rattle.core_run.specs.declared.found.Found.{Found}
 use Rattle.core_run.specs.declared.runner.Runner.{Runner}
 
@@ -161,6 +161,10 @@ pub on_ok : {A E : Type 0} (r : Result A E) (P Q : Type 0) → (P → Q) → OnO
 on_ok (Ok a) P Q f p = f p
 on_ok (Err e) P Q f p = tt
 
+pub on_both : {A E : Type 0} (r : Result A E) (P Q : Type 0) → OnOk r P → OnOk r Q → OnOk r (P × Q)
+on_both (Ok a) P Q p q = (p, q)
+on_both (Err e) P Q p q = tt
+
 -- ---- one call of the core
 
 -- what is counted doesn't depend on the core
@@ -224,18 +228,3 @@ resulted law number server ask origin made stamp a b room s t called same is ans
 -- which calls are out isn't kept
 pub out_only : (a b d : Runner) (s t : ScriptServers) → b ≡ record a { out = b.out } → (results : List CallResult) → MovesBy results b s d t → MovesBy results a s d t
 out_only a b d s t same results m = record { given = m.given; goes = λ opening tree log stands. m.goes opening tree log (subst (λ r. Stands opening tree log (kept_of r s)) (sym same) stands) }
-
--- ---- where nothing is left to do
-
--- a poll that found nothing to do changed nothing
-pub idle_poll : (client : ℕ) (poll : Poll) (a b : Runner) (x : Core) → Polls a.core client poll x → (poll ≡ polls.Idle) × (b ≡ record a { core = x }) → (b ≡ a) × IsIdle a.core client
-idle_poll client poll a b x step h =
-    let why = subst (λ p. IsWhy a.core client p x) h.0 step.why in
-    (h.1 ∙ ap (λ (y : Core). record a { core = y }) why.0, why.1)
-
--- one more client has nothing left to do
-pub one_more_idle : (a : Runner) (client : ℕ) → ((c : ℕ) → c < client → IsIdle a.core c) → IsIdle a.core client → (c : ℕ) → c < client + 1 → IsIdle a.core c
-one_more_idle a client before now c lt = elim (cases_lt c client) [
-  | inl less ↦ before c less
-  | inr le ↦ subst (λ (n : ℕ). IsIdle a.core n) (omega (arith, le, lt)) now
-]

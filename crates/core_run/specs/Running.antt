@@ -5,7 +5,7 @@ use Rattle.mc_runs.specs.Overlap.{Entry}
 use Rattle.route_tree.specs.Route.{Route}
 use Rattle.proxy_core.specs.CoreState.{dialect}
 use Rattle.proxy_core.specs.CoreState.{IsOut}
-use Rattle.proxy_core.specs.Polls.{ForClient, IsDone}
+use Rattle.proxy_core.specs.Polls.{ForClient, IsDone, IsStalled}
 use Rattle.proxy_core.specs.declared.proxy.Core.{Core}
 use Rattle.script_servers.specs.Servers.{caches_of, turn_of}
 use Rattle.script_servers.specs.declared.servers.ScriptServers.{ScriptServers}
@@ -82,7 +82,15 @@ IsIdle core client = ForClient core client IsDone
 abbrev pub AreIdle : Runner → Type 0
 AreIdle runner = (c : ℕ) → c < runner.clients → IsIdle runner.core c
 
--- and no command is under way
+-- nothing can be done for any that was opened without a result of a call
+abbrev pub AreStalled : Runner → Type 0
+AreStalled runner = (c : ℕ) → c < runner.clients → IsStalled runner.core c
+
+-- for whom nothing could be done, nothing can be done still
+abbrev pub KeepStalled : Runner → Runner → Type 0
+KeepStalled old new = (c : ℕ) → IsStalled old.core c → IsStalled new.core c
+
+-- nothing is left to do for any, and no command is under way
 pub record IsAtRest (runner : Runner) : Type 0 where
   pub idle : AreIdle runner
   pub none : IsOut runner.core → ⊥

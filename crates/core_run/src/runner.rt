@@ -4,10 +4,12 @@ ghost use Rattle.std.specs.Prelude.{◌≡◌, ℕ, ◌<◌, ◌≤◌, ◌+◌,
 ghost use Rattle.script_servers.specs.declared.event.FleetFault.TheVariants.{NoMemory};
 ghost use Rattle.proxy_core.specs.CoreState.{IsOut};
 ghost use Rattle.proxy_core.specs.Polls.{Polls};
+ghost use Rattle.commands_under_way.specs.declared.sharing.Sharing.TheVariants.{Alone};
 ghost use Rattle.script_servers.specs.Servers.{count_of, turn_of, Answers};
 ghost use Rattle.stepped_log.specs.Laws.{stamp_shown, CountsPoll, CountsOne, IsBegin};
 ghost use Rattle.core_run.specs.Breaking.{fleet_fault_of, AreGivenAll};
 ghost use Rattle.core_run.specs.Finding.{found_of};
+ghost use Rattle.core_run.specs.Progressing.{both_gave};
 ghost use Rattle.core_run.specs.Turns.{IsLeast, IsLesser};
 
 use crate::counting::Counts;
@@ -52,7 +54,7 @@ enum Progress {
 
 // What both together gave.
 fn joined(one: Progress, other: Progress) -> Progress
-    ensures { result ≡ Progress.Idle → (one ≡ Progress.Idle) × (other ≡ Progress.Idle) }
+    ensures { result ≡ both_gave one other }
 {
     match (one, other) {
         (Progress::Idle, other) => other,
@@ -130,7 +132,8 @@ fn lesser(one: Option<ServerId>, other: ServerId) -> ServerId
 }
 
 impl Runner {
-    ghost use Rattle.core_run.specs.Running.{kept_of, Moves, MovesByOne, MovesAt, MovesByResults, MovesFed, MovesGiven, IsLoadedBy, IsIdle, AreIdle, IsAtRest, AreOfOne};
+    ghost use Rattle.core_run.specs.Running.{kept_of, Moves, MovesByOne, MovesAt, MovesByResults, MovesFed, MovesGiven, IsLoadedBy, AreIdle, AreStalled, KeepStalled, IsAtRest, AreOfOne};
+    ghost use Rattle.core_run.specs.Progressing.{TakesSo, LeavesSo, AreStill};
     ghost use Rattle.core_run.specs.Breaking.{IsLastBegun, StopsAt, StopsFed, StopsGiving, StopsAfter};
 
     /// No client was opened; commands begin on this tree.
@@ -256,13 +259,14 @@ impl Runner {
     fn take_poll(&mut self, poll: Poll) -> Result<Progress, FleetFault>
         ensures counts { OnOk result ((self.new.core ≡ self.old.core) × ((servers : ScriptServers) → CountsPoll poll (kept_of self.old servers) (kept_of self.new servers))) }
         ensures clients { self.new.clients ≡ self.old.clients }
-        ensures idle { IfOk result (λ progress. progress ≡ Progress.Idle → (poll ≡ Poll.Idle) × (self.new ≡ self.old)) }
+        ensures still { IfOk result (λ progress. TakesSo poll progress self.old self.new) }
         ensures fault { IfErr result (λ fault. fault ≡ NoMemory) }
     {
         match poll {
             Poll::Idle => Ok(Progress::Idle),
-            Poll::Waiting | Poll::Busy => Ok(Progress::Waits),
-            Poll::Own | Poll::Refused => Ok(Progress::Moved),
+            Poll::Waiting => Ok(Progress::Waits),
+            Poll::Busy => Ok(Progress::Waits),
+            Poll::Own | Poll::Refused | Poll::Queued => Ok(Progress::Moved),
             Poll::Did(note) => {
                 self.count(&note)?;
                 Ok(Progress::Moved)
@@ -278,7 +282,7 @@ impl Runner {
     fn poll(&mut self, client: usize) -> Result<Progress, FleetFault>
         ensures moves { OnOk result ((servers : ScriptServers) → Moves self.old servers self.new servers) }
         ensures clients { self.new.clients ≡ self.old.clients }
-        ensures idle { IfOk result (λ progress. progress ≡ Progress.Idle → (self.new ≡ self.old) × IsIdle self.old.core client) }
+        ensures still { IfOk result (λ progress. LeavesSo progress client self.old self.new) }
         ensures spent { IfErr result (λ fault. IsLastBegun fault self.old.core) }
     {
         polls_go_on();
@@ -292,7 +296,7 @@ impl Runner {
     fn poll_round(&mut self) -> Result<Progress, FleetFault>
         ensures moves { OnOk result ((servers : ScriptServers) → Moves self.old servers self.new servers) }
         ensures clients { OnOk result (self.new.clients ≡ self.old.clients) }
-        ensures idle { IfOk result (λ progress. progress ≡ Progress.Idle → AreIdle self.new) }
+        ensures still { IfOk result (λ progress. AreStill progress self.new) }
         ensures err { IfErr result (λ fault. StopsAt self.old fault) }
     {
         let mut progress = Progress::Idle;
@@ -303,11 +307,12 @@ impl Runner {
         Ok(progress)
     }
 
-    // Clients are polled until a whole round gives nothing: whether nothing is left to do for any of them. (each round does something, of
-    // which there is less than 2^64 - 1)
+    // Clients are polled until a whole round gives nothing, so that nothing can be done for any of them without a result: whether nothing is
+    // left to do for them. (each round does something, of which there is less than 2^64 - 1)
     fn poll_all(&mut self) -> Result<bool, FleetFault>
         ensures moves { OnOk result ((servers : ScriptServers) → Moves self.old servers self.new servers) }
         ensures clients { OnOk result (self.new.clients ≡ self.old.clients) }
+        ensures stalled { OnOk result (AreStalled self.new) }
         ensures idle { IfOk result (λ idle. IsTrue idle → AreIdle self.new) }
         ensures err { IfErr result (λ fault. StopsAt self.old fault) }
     {
@@ -322,10 +327,11 @@ impl Runner {
         Err(FleetFault::NoMemory)
     }
 
-    // Clients are polled until a whole round gives nothing.
+    // All that can be done without a result is done.
     fn go_on(&mut self) -> Result<(), FleetFault>
         ensures moves { OnOk result ((servers : ScriptServers) → Moves self.old servers self.new servers) }
         ensures clients { OnOk result (self.new.clients ≡ self.old.clients) }
+        ensures stalled { OnOk result (AreStalled self.new) }
         ensures err { IfErr result (λ fault. StopsAt self.old fault) }
     {
         let _is_idle = self.poll_all()?;
@@ -337,6 +343,7 @@ impl Runner {
     pub fn add(&mut self, client: usize, bytes: &[u8]) -> Result<(), FleetFault>
         ensures fed { OnOk result ((servers : ScriptServers) → MovesFed client bytes.now self.old servers self.new servers) }
         ensures clients { OnOk result (self.new.clients ≡ self.old.clients) }
+        ensures stalled { OnOk result (AreStalled self.new) }
         ensures err { IfErr result (λ fault. StopsFed client bytes.now self.old fault) }
     {
         self.feed(client, bytes)?;
@@ -443,6 +450,7 @@ impl Runner {
         ensures ok { OnOk result (MovesAt server self.old servers.old self.new servers.new) }
         ensures count { count_of servers.new ≡ count_of servers.old }
         ensures clients { OnOk result (self.new.clients ≡ self.old.clients) }
+        ensures stalled { OnOk result (AreStalled self.new) }
         ensures err { IfErr result (λ fault. StopsAfter (AreOfOne server) self.old servers.old fault servers.new) }
     {
         self.give_first(servers, server)?;
@@ -481,10 +489,12 @@ impl Runner {
         Err(FleetFault::NoMemory)
     }
 
-    /// A client's new output, which is then empty. The only error is running out of memory.
+    /// A client's new output, which is then empty. Where nothing could be done without a result, nothing can be done still. The only error
+    /// is running out of memory.
     pub fn take_output(&mut self, client: usize) -> Result<Vec<u8>, FleetFault>
         ensures fault { IfErr result (λ fault. fault ≡ NoMemory) }
         ensures given { IfOk result (λ bytes. (servers : ScriptServers) → MovesGiven client bytes.items self.old servers self.new servers) }
+        ensures stalled { OnOk result (KeepStalled self.old self.new) }
         ensures clients { self.new.clients ≡ self.old.clients }
     {
         gives_go_on();
@@ -499,6 +509,7 @@ impl Runner {
     pub fn load(&mut self, tree: &Tree) -> Result<(), FleetFault>
         ensures fault { IfErr result (λ fault. fault ≡ NoMemory) }
         ensures loaded { OnOk result ((servers : ScriptServers) → IsLoadedBy tree.now self.old servers self.new servers) }
+        ensures stalled { OnOk result (self.old.core.limits.sharing ≡ Alone → KeepStalled self.old self.new) }
         ensures clients { self.new.clients ≡ self.old.clients }
     {
         loads_go_on();

@@ -17,4 +17,4 @@ pub mod Freed
 pub mod Broken
 pub mod Outcomes
 pub mod Resting
-pub mod HeldUp
+pub mod Stalled

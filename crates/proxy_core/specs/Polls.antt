@@ -225,8 +225,8 @@ abbrev pub IsQueued : Core → ℕ → Core → Type 0
 IsQueued old client new = (HasNoRoom new client × ForClient new client HasCommand) ⊎ (StandsInLine old client new × MayAsk old client)
 
 -- nothing can be done for the client without a result of a call: it is done, or none of its commands can go on, and nothing at its front can be done or its next command waits for its key
-abbrev pub IsHeldUp : Core → ℕ → Type 0
-IsHeldUp core client = ForClient core client IsDone ⊎ (NoneGoesOn core client × (NothingBegins core client ⊎ (HasNoKey core client × MayAsk core client)))
+abbrev pub IsStalled : Core → ℕ → Type 0
+IsStalled core client = ForClient core client IsDone ⊎ (NoneGoesOn core client × (NothingBegins core client ⊎ (HasNoKey core client × MayAsk core client)))
 
 -- what holds after an answer: why nothing can be done, or that no reply is left to be shown
 abbrev pub IsWhy : Core → ℕ → Poll → Core → Type 0

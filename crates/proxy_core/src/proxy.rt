@@ -4,7 +4,7 @@ ghost use Rattle.slab.specs.Slab.{get};
 ghost use Rattle.std.specs.Prelude.{◌≡◌, ℕ, ◌++◌, ◌↔◌, IsTrue, IfOk, IfErr, OnOk, OnErr};
 ghost use Rattle.proxy_core.specs.CoreState.{IsFresh, IsOut, Opens, Feeds, Gives, Closes, LeavesLine, Reloads, client_at};
 ghost use Rattle.core_client.specs.ClientState.{output_by};
-ghost use Rattle.proxy_core.specs.Polls.{IsHeldUp};
+ghost use Rattle.proxy_core.specs.Polls.{IsStalled};
 ghost use Rattle.commands_under_way.specs.Lines.{is_standing};
 ghost use Rattle.proxy_core.specs.Faults.{IsClosed, CanOpen, CanFeed, CanClose, OpenFault, FeedFault, OutputFault, CloseFault};
 
@@ -91,7 +91,7 @@ impl Core {
     pub fn move_output(&mut self, client: usize, out: &mut BytesMut) -> Result<(), CoreFault>
         ensures bytes { OnOk result (out.new.items ≡ out.old.items ++ output_by (client_at self.old client)) }
         ensures ok { OnOk result (Gives self.old client (output_by (client_at self.old client)) self.new) }
-        ensures held { OnOk result ((c : ℕ) → IsHeldUp self.old c → IsHeldUp self.new c) }
+        ensures stalled { OnOk result ((c : ℕ) → IsStalled self.old c → IsStalled self.new c) }
         ensures err { IfErr result (λ fault. OutputFault self.old client fault × (self.new ≡ self.old)) }
         ensures out { OnErr result (out.new.items ≡ out.old.items) }
         ensures lines { self.new.lines ≡ self.old.lines }
@@ -110,7 +110,7 @@ impl Core {
     /// `NoClient`; `NoMemory`.
     pub fn take_output(&mut self, client: usize) -> Result<Vec<u8>, CoreFault>
         ensures ok { IfOk result (λ bytes. Gives self.old client bytes.items self.new) }
-        ensures held { OnOk result ((c : ℕ) → IsHeldUp self.old c → IsHeldUp self.new c) }
+        ensures stalled { OnOk result ((c : ℕ) → IsStalled self.old c → IsStalled self.new c) }
         ensures err { IfErr result (λ fault. OutputFault self.old client fault × (self.new ≡ self.old)) }
         ensures lines { self.new.lines ≡ self.old.lines }
     {

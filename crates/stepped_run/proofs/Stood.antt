@@ -18,7 +18,8 @@ use Rattle.route_tree.specs.Route.{Route}
 use Rattle.route_tree.specs.Word.{tree_words}
 use Rattle.proxy_core.specs.Claims.{bars_by}
 use Rattle.proxy_core.specs.CoreState.{dialect, client_at, command_at, dropped_by, front_by, IsQueue, AreSlots, IsOut}
-use Rattle.proxy_core.specs.Polls.{IsDone}
+use Rattle.proxy_core.specs.Polls.{IsDone, IsStalled}
+use Rattle.proxy_core.specs.declared.limits.Limits.{Limits}
 use Rattle.core_client.specs.declared.client.Client.{Client}
 use Rattle.core_client.specs.declared.client.Pending.{Pending}
 use Rattle.proxy_core.specs.declared.proxy.Core.{Core}
@@ -36,7 +37,7 @@ use Rattle.script_servers.specs.Servers.{caches_of, turn_of, IsNew}
 use Rattle.script_servers.specs.declared.servers.ScriptServers.{ScriptServers}
 use Rattle.stepped_log.specs.Standing.{Kept, Stands, LeavesAsMuch, tree_by}
 use Rattle.stepped_log.specs.Laws.{StandingSays, NothingStands, IsBegin}
-use Rattle.core_run.specs.Running.{kept_of, MovesByResults, IsIdle, IsAtRest}
+use Rattle.core_run.specs.Running.{kept_of, MovesByResults, IsIdle, AreStalled, KeepStalled, IsAtRest}
 use Rattle.core_run.specs.declared.runner.Runner.{Runner}
 use Rattle.stepped_run.specs.Driving.{said_by, said_in, shown_to, may_be_out, leaves_out, IsDoneFor, IsSettled, IsThrough, AreThrough, IsMarked, AreMarked, one_loaded, trees_loaded, IsReached, CameSo, CameInTurn, RunsBy, DrivesStepped}
 use Rattle.stepped_run.specs.Holding.{put_all_on}
@@ -87,6 +88,7 @@ through_on events done more log given after rest is t =
       given_is = λ c. t.given_is c ∙ first_shown t.shown given after rest c is t.within;
       servers = t.servers;
       world = t.world;
+      stalled = t.stalled;
       settled = t.settled;
     }
 
@@ -211,18 +213,18 @@ not_so e = absurd cc
 
 -- after any event, and what is handed out after it
 event_settled :
-    (done : List Scripted) (event : Scripted) (opening : ℕ → List ℕ → Option Item) (tree : ℕ → Route) (log mid after : List (Entry dialect)) (b : Runner) (t : ScriptServers) → Stands opening tree mid (kept_of b t)
-    → LeavesBy event log mid → RestsAfter event b → LeavesAsMuch mid after → ((c : ℕ) → given_of mid c ≡ given_of log c) → ((c : ℕ) → IsGivenAll mid c → IsGivenAll after c)
+    (done : List Scripted) (event : Scripted) (opening : ℕ → List ℕ → Option Item) (tree : ℕ → Route) (log mid after : List (Entry dialect)) (a b : Runner) (t : ScriptServers) → Stands opening tree mid (kept_of b t)
+    → LeavesBy event log mid → RestsAfter event a b → LeavesAsMuch mid after → ((c : ℕ) → given_of mid c ≡ given_of log c) → ((c : ℕ) → IsGivenAll mid c → IsGivenAll after c)
     → ((c : ℕ) → c < b.clients → IsGivenAll after c) → ((c : ℕ) → b.clients ≤ c → said_in (done ++ event ∷ []) c ≡ [])
     → (leaves_out false done ≡ false → IsSettled done log) → may_be_out event (leaves_out false done) ≡ false → IsSettled (done ++ event ∷ []) after
-event_settled done (Piece client bytes) opening tree log mid after b t stands by rest left given kept all heard before out = piece_settled (done ++ Piece client bytes ∷ []) opening tree mid after b t stands rest left all heard
-event_settled done (Add client bytes) opening tree log mid after b t stands by rest left given kept all heard before out = not_so out
-event_settled done (Result server) opening tree log mid after b t stands by rest left given kept all heard before out = not_so out
-event_settled done (Fail turn manner) opening tree log mid after b t stands by rest left given kept all heard before out = quiet_settled done (Fail turn manner) log mid after (λ c. refl) by left given kept (before out)
-event_settled done (Hold server key content) opening tree log mid after b t stands by rest left given kept all heard before out = quiet_settled done (Hold server key content) log mid after (λ c. refl) by left given kept (before out)
-event_settled done (At turn loss) opening tree log mid after b t stands by rest left given kept all heard before out = quiet_settled done (At turn loss) log mid after (λ c. refl) by left given kept (before out)
-event_settled done (Now loss) opening tree log mid after b t stands by rest left given kept all heard before out = quiet_settled done (Now loss) log mid after (λ c. refl) by left given kept (before out)
-event_settled done (Moment moment) opening tree log mid after b t stands by rest left given kept all heard before out = quiet_settled done (Moment moment) log mid after (λ c. refl) by left given kept (before out)
+event_settled done (Piece client bytes) opening tree log mid after a b t stands by rest left given kept all heard before out = piece_settled (done ++ Piece client bytes ∷ []) opening tree mid after b t stands rest left all heard
+event_settled done (Add client bytes) opening tree log mid after a b t stands by rest left given kept all heard before out = not_so out
+event_settled done (Result server) opening tree log mid after a b t stands by rest left given kept all heard before out = not_so out
+event_settled done (Fail turn manner) opening tree log mid after a b t stands by rest left given kept all heard before out = quiet_settled done (Fail turn manner) log mid after (λ c. refl) by left given kept (before out)
+event_settled done (Hold server key content) opening tree log mid after a b t stands by rest left given kept all heard before out = quiet_settled done (Hold server key content) log mid after (λ c. refl) by left given kept (before out)
+event_settled done (At turn loss) opening tree log mid after a b t stands by rest left given kept all heard before out = quiet_settled done (At turn loss) log mid after (λ c. refl) by left given kept (before out)
+event_settled done (Now loss) opening tree log mid after a b t stands by rest left given kept all heard before out = quiet_settled done (Now loss) log mid after (λ c. refl) by left given kept (before out)
+event_settled done (Moment moment) opening tree log mid after a b t stands by rest left given kept all heard before out = quiet_settled done (Moment moment) log mid after (λ c. refl) by left given kept (before out)
 
 -- ---- reloads
 
@@ -311,11 +313,12 @@ loads_one law refused reloads next shown n marks marks' r is a b place at same m
           };
           through = h.through;
           settled = h.settled;
+          stalled = λ c lt. subst (λ (x : Runner). IsStalled x.core c) (sym stays) (h.stalled c lt);
           heard = h.heard;
           marked = marked;
           counted = mark_count n shown marks marks' more h.counted;
         }
-    by false e loads =
+    by false e (loads, keeps) =
         record {
           come = record {
             log = come.log;
@@ -332,6 +335,7 @@ loads_one law refused reloads next shown n marks marks' r is a b place at same m
           };
           through = h.through;
           settled = h.settled;
+          stalled = λ c lt. keeps (ap (λ (l : Limits). l.sharing) come.stands.limits) c (h.stalled c lt);
           heard = h.heard;
           marked = marked;
           counted = mark_count n shown marks marks' more h.counted;
@@ -339,10 +343,30 @@ loads_one law refused reloads next shown n marks marks' r is a b place at same m
 
 -- ---- one event
 
+-- where nothing more could be done before an event, nothing can be done after it
+stalled_after : (event : Scripted) (a b : Runner) → RestsAfter event a b → AreStalled a → AreStalled b
+stalled_after (Piece client bytes) a b rest held c lt = inl (rest.idle c lt)
+stalled_after (Add client bytes) a b rest held = rest
+stalled_after (Result server) a b rest held = rest
+stalled_after (Fail turn manner) a b same held = subst AreStalled (sym same) held
+stalled_after (Hold server key content) a b same held = subst AreStalled (sym same) held
+stalled_after (At turn loss) a b same held = subst AreStalled (sym same) held
+stalled_after (Now loss) a b same held = subst AreStalled (sym same) held
+stalled_after (Moment moment) a b same held = subst AreStalled (sym same) held
+
+-- a client was opened, or said nothing
+stalled_or_unheard : (done : List Scripted) (count : ℕ) (core : Core) → ((c : ℕ) → count ≤ c → said_in done c ≡ []) → ((c : ℕ) → c < count → IsStalled core c) → (c : ℕ) → (said_in done c ≡ []) ⊎ IsStalled core c
+stalled_or_unheard done count core unheard held c = elim (cases_lt c count) [
+  | inl lt ↦ inr (held c lt)
+  | inr le ↦ inl (unheard c le)
+]
+
 module _ (first : Route) (refused : List Bool) (reloads : List Reload) (events : List Scripted) where
   -- the part of the log that is all of it
-  pub here : (loaded : ℕ) (left : List Scripted) (given : List Shown) (k : Kept) (h : HasCome first refused reloads events loaded left given k) → (leaves_out false h.done ≡ false → IsSettled h.done h.log) → IsThrough events h.done h.log given
-  here loaded left given k h settled =
+  pub here :
+      (loaded : ℕ) (left : List Scripted) (given : List Shown) (k : Kept) (h : HasCome first refused reloads events loaded left given k) → ((c : ℕ) → (said_in h.done c ≡ []) ⊎ IsStalled k.core c) → (leaves_out false h.done ≡ false → IsSettled h.done h.log)
+      → IsThrough events h.done h.log given
+  here loaded left given k h stalled settled =
       record {
         newer = [];
         older = h.log;
@@ -353,6 +377,7 @@ module _ (first : Route) (refused : List Bool) (reloads : List Reload) (events :
         given_is = λ c. h.given_is c ∙ ap (λ l. shown_to l c) (sym (take-length given));
         servers = k.servers;
         world = h.world;
+        stalled = record { trees = tree_by first h.loads; kept = k; stands = h.stands; clients = stalled };
         settled = settled;
       }
 
@@ -368,10 +393,10 @@ module _ (first : Route) (refused : List Bool) (reloads : List Reload) (events :
       last lt = let e = length-append done (event ∷ []) in omega (arith, e, lt, le)
 
   pub stood_next :
-      (loaded : ℕ) (event : Scripted) (left : List Scripted) (given after : List Shown) (marks : List ℕ) (a b d : Runner) (s t : ScriptServers) → Befalls event a s b t → IsHeard event a b → RestsAfter event b
-      → HandsOutAll given after b d → d.clients ≡ b.clients
+      (loaded : ℕ) (event : Scripted) (left : List Scripted) (given after : List Shown) (marks : List ℕ) (a b d : Runner) (s t : ScriptServers) → Befalls event a s b t → IsHeard event a b → RestsAfter event a b
+      → HandsOutAll given after b d → KeepStalled b d → d.clients ≡ b.clients
       → HasStood first refused reloads events loaded (event ∷ left) given marks a.clients (kept_of a s) → HasStood first refused reloads events loaded left after marks d.clients (kept_of d t)
-  stood_next loaded event left given after marks a b d s t m heard rest hands same h =
+  stood_next loaded event left given after marks a b d s t m heard rest hands keeps same h =
       let opening = opening_of events in
       let tree = tree_by first h.come.loads in
       let log = h.come.log in
@@ -382,13 +407,15 @@ module _ (first : Route) (refused : List Bool) (reloads : List Reload) (events :
       let o = hands t opening tree (g.more ++ log) g.stands in
       let unheard : (c : ℕ) → b.clients ≤ c → said_in (done ++ event ∷ []) c ≡ [] = λ c le. none_said done event c (h.heard c (heard.unheard c le).0) (heard.unheard c le).1 in
       let settled : leaves_out false (done ++ event ∷ []) ≡ false → IsSettled (done ++ event ∷ []) (o.more ++ (g.more ++ log)) = λ out.
-      event_settled done event opening tree log (g.more ++ log) (o.more ++ (g.more ++ log)) b t g.stands g.left rest o.left g.given o.kept o.all unheard h.settled (sym (out_append false done event) ∙ out) in
+      event_settled done event opening tree log (g.more ++ log) (o.more ++ (g.more ++ log)) a b t g.stands g.left rest o.left g.given o.kept o.all unheard h.settled (sym (out_append false done event) ∙ out) in
+      let stalled : (c : ℕ) → c < d.clients → IsStalled d.core c = λ c lt. keeps c (stalled_after event a b rest h.stalled c (subst (λ (n : ℕ). c < n) same lt)) in
       record {
         come = end;
         through = through_next done left event (o.more ++ (g.more ++ log)) after end.done_is
             (λ n le. through_on events (take n events) o.more (g.more ++ log) given after o.longer.0 o.longer.1 (through_on events (take n events) g.more log given given [] (sym (append-nil given)) (h.through n le)))
-            (here loaded left after (kept_of d t) end settled);
+            (here loaded left after (kept_of d t) end (stalled_or_unheard (done ++ event ∷ []) d.clients d.core (λ c le. unheard c (subst (λ (n : ℕ). n ≤ c) same le)) stalled) settled);
         settled = settled;
+        stalled = stalled;
         heard = λ c le. unheard c (subst (λ (n : ℕ). n ≤ c) same le);
         marked = marked_on events o.more (g.more ++ log) given after o.longer.0 o.longer.1 reloads marks (marked_on events g.more log given given [] (sym (append-nil given)) reloads marks h.marked);
         counted = h.counted;
@@ -461,11 +488,11 @@ module _ (first : Route) (refused : List Bool) (reloads : List Reload) (xs : Lis
 
   pub event_next :
       (i shown before loaded : ℕ) (x : Event) (given after : List Shown) (marks marks' : List ℕ) (a b d e : Runner) (s t : ScriptServers) → i < length xs → x ≡ get_or xs i x → shown ≡ length given → b.clients ≡ a.clients
-      → Loads refused reloads i shown before loaded marks marks' a b → Befalls (scripted_of x) b s d t → IsHeard (scripted_of x) b d → RestsAfter (scripted_of x) d → HandsOutAll given after d e → e.clients ≡ d.clients
+      → Loads refused reloads i shown before loaded marks marks' a b → Befalls (scripted_of x) b s d t → IsHeard (scripted_of x) b d → RestsAfter (scripted_of x) b d → HandsOutAll given after d e → KeepStalled d e → e.clients ≡ d.clients
       → HasStood first refused reloads (map scripted_of xs) before (map scripted_of (drop i xs)) given marks a.clients (kept_of a s)
       → HasStood first refused reloads (map scripted_of xs) loaded (map scripted_of (drop (i + 1) xs)) after marks' e.clients (kept_of e t)
-  event_next i shown before loaded x given after marks marks' a b d e s t lt is all same loads befalls heard rest hands kept h =
-      stood_next first refused reloads (map scripted_of xs) loaded (scripted_of x) (map scripted_of (drop (i + 1) xs)) given after marks' b d e s t befalls heard rest hands kept
+  event_next i shown before loaded x given after marks marks' a b d e s t lt is all same loads befalls heard rest hands keeps kept h =
+      stood_next first refused reloads (map scripted_of xs) loaded (scripted_of x) (map scripted_of (drop (i + 1) xs)) given after marks' b d e s t befalls heard rest hands keeps kept
       (due i shown before loaded x given marks marks' a b s lt is all same loads h)
 
   -- the reloads after the last event
@@ -485,15 +512,16 @@ module _ (first : Route) (refused : List Bool) (reloads : List Reload) (xs : Lis
 -- new servers, on which is what the script puts there
 pub begins_stood :
     NothingStands → (first : Route) (refused : List Bool) (reloads : List Reload) (events : List Event) (n : ℕ) (a : Runner) (s t : ScriptServers) (x : Transcript) (marks : List ℕ)
-    → ((u : ScriptServers) → turn_of u ≡ 0 → IsBegin first (kept_of a u)) → IsNew n s → caches_of t ≡ put_all_on events (caches_of s) → t ≡ record s { caches = t.caches } → first_bad n (map scripted_of events) ≡ None → x.shown.items ≡ [] → marks ≡ []
+    → ((u : ScriptServers) → turn_of u ≡ 0 → IsBegin first (kept_of a u)) → a.clients ≡ 0 → IsNew n s → caches_of t ≡ put_all_on events (caches_of s) → t ≡ record s { caches = t.caches } → first_bad n (map scripted_of events) ≡ None → x.shown.items ≡ [] → marks ≡ []
     → HasStood first refused reloads (map scripted_of events) 0 (map scripted_of events) (transcript_of x) marks a.clients (kept_of a t)
-begins_stood law first refused reloads events n a s t x marks begin new put rest good none unmarked =
+begins_stood law first refused reloads events n a s t x marks begin nobody new put rest good none unmarked =
     let come = begins law first refused reloads events n a s t x begin new put rest good none in
     let settled : IsSettled [] [] = record { clients = λ c. inl refl; free = λ n. refl } in
     record {
       come = come;
-      through = λ m le. subst (λ (l : List Scripted). IsThrough (map scripted_of events) l [] (transcript_of x)) (none_of m (map scripted_of events) le) (here first refused reloads (map scripted_of events) 0 (map scripted_of events) (transcript_of x) (kept_of a t) come (λ out. settled));
+      through = λ m le. subst (λ (l : List Scripted). IsThrough (map scripted_of events) l [] (transcript_of x)) (none_of m (map scripted_of events) le) (here first refused reloads (map scripted_of events) 0 (map scripted_of events) (transcript_of x) (kept_of a t) come (λ c. inl refl) (λ out. settled));
       settled = λ out. settled;
+      stalled = λ c lt. absurd (omega (arith, lt, nobody));
       heard = λ c le. refl;
       marked = subst (AreMarked (map scripted_of events) [] (transcript_of x) reloads) (sym unmarked) (no_marks (map scripted_of events) [] (transcript_of x) reloads);
       counted = ap length unmarked;

@@ -14,6 +14,7 @@ use Rattle.route_tree.specs.Route.{Route}
 use Rattle.route_tree.specs.Word.{tree_words}
 use Rattle.proxy_core.specs.Claims.{bars_by}
 use Rattle.proxy_core.specs.CoreState.{dialect}
+use Rattle.proxy_core.specs.Polls.{IsStalled}
 use Rattle.commands_under_way.specs.declared.sharing.Sharing.TheVariants.{Alone}
 use Rattle.fleet_run.specs.declared.script.Reload.{Reload}
 use Rattle.fleet_run.specs.declared.script.Transcript.{Transcript}
@@ -27,7 +28,7 @@ use Rattle.script_servers.specs.Limits.{last_turn}
 use Rattle.proxy_core.specs.declared.limits.TheConstants.{LAST_COMMAND}
 use Rattle.script_servers.specs.Servers.{turn_of}
 use Rattle.script_servers.specs.declared.servers.ScriptServers.{ScriptServers}
-use Rattle.stepped_log.specs.Standing.{replied_in, tree_by}
+use Rattle.stepped_log.specs.Standing.{Kept, Stands, replied_in, tree_by}
 use Rattle.stepped_run.specs.World.{World}
 
 -- ---- what a script says
@@ -93,7 +94,14 @@ pub record IsSettled (events : List Scripted) (log : List (Entry dialect)) : Typ
   pub clients : (c : ℕ) → (said_in events c ≡ []) ⊎ IsDoneFor log c
   pub free : (n : ℕ) → owner_of log n ≡ None
 
--- a part of the log, after the first events of a script: clients had said what these say, and were given the first outputs; servers were what they and the results made of them; and unless calls may be out nothing was left to do
+-- a core that had done just this log: without a result of a call it could do nothing for a client that said something in these events
+pub record IsStalledIn (events done : List Scripted) (log : List (Entry dialect)) : Type 0 where
+  pub trees : ℕ → Route
+  pub kept : Kept
+  pub stands : Stands (opening_of events) trees log kept
+  pub clients : (c : ℕ) → (said_in done c ≡ []) ⊎ IsStalled kept.core c
+
+-- a part of the log, after the first events of a script: clients had said what these say, and were given the first outputs; servers were what they and the results made of them; nothing more could be done without a result; and unless calls may be out nothing was left to do
 pub record IsThrough (events done : List Scripted) (log : List (Entry dialect)) (given : List Shown) : Type 0 where
   pub newer : List (Entry dialect)
   pub older : List (Entry dialect)
@@ -104,6 +112,7 @@ pub record IsThrough (events done : List Scripted) (log : List (Entry dialect)) 
   pub given_is : (c : ℕ) → given_of older c ≡ shown_to (take shown given) c
   pub servers : ScriptServers
   pub world : World events done older servers
+  pub stalled : IsStalledIn events done older
   pub settled : leaves_out false done ≡ false → IsSettled done older
 
 -- there is such a part after each of so many events

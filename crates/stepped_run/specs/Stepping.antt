@@ -6,6 +6,8 @@ use Rattle.mc_runs.specs.Overlap.{Entry, given_of, output_of, run_of}
 use Rattle.mc_runs.specs.OverlapStream.{stream_of}
 use Rattle.route_tree.specs.Route.{Route}
 use Rattle.proxy_core.specs.CoreState.{dialect}
+use Rattle.proxy_core.specs.Polls.{IsStalled}
+use Rattle.commands_under_way.specs.declared.sharing.Sharing.TheVariants.{Alone}
 use Rattle.fleet_run.specs.declared.script.Reload.{Reload}
 use Rattle.fleet_run.specs.Scripted.{Scripted, Piece, Add, Result, Fail, Hold, At, Now, Moment}
 use Rattle.fleet_run.specs.Opening.{opening_of}
@@ -15,7 +17,7 @@ use Rattle.stepped_log.specs.Standing.{Kept, Stands, GoesOnFed, LeavesAsMuch, tr
 use Rattle.script_servers.specs.declared.event.FleetFault.{FleetFault}
 use Rattle.script_servers.specs.declared.event.FleetFault.TheVariants.{Spent}
 use Rattle.core_run.specs.Breaking.{AreSpent, IsWithinOne}
-use Rattle.core_run.specs.Running.{kept_of, IsLoadedBy, AreOfOne, IsAtRest}
+use Rattle.core_run.specs.Running.{kept_of, IsLoadedBy, AreOfOne, AreStalled, KeepStalled, IsAtRest}
 use Rattle.core_run.specs.declared.runner.Runner.{Runner}
 use Rattle.stepped_run.specs.World.{Changes, World}
 use Rattle.stepped_run.specs.Driving.{said_by, said_in, shown_to, AreHandedInTurn, trees_loaded, loaded_trees, CameInTurn, leaves_out, IsSettled, AreThrough, AreMarked, StepsPart, AreSpentIn}
@@ -106,16 +108,16 @@ pub record BreaksOff (event : Scripted) (old : Runner) (before : ScriptServers) 
 pub record IsHeard (event : Scripted) (old new : Runner) : Type 0 where
   pub unheard : (c : ℕ) → new.clients ≤ c → (old.clients ≤ c) × (said_by event c ≡ [])
 
--- after a piece nothing is left to do but to hand out
-abbrev pub RestsAfter : Scripted → Runner → Type 0
-RestsAfter (Piece client bytes) new = IsAtRest new
-RestsAfter (Add client bytes) new = Unit {0}
-RestsAfter (Result server) new = Unit {0}
-RestsAfter (Fail turn manner) new = Unit {0}
-RestsAfter (Hold server key content) new = Unit {0}
-RestsAfter (At turn loss) new = Unit {0}
-RestsAfter (Now loss) new = Unit {0}
-RestsAfter (Moment moment) new = Unit {0}
+-- after a piece nothing is left to do but to hand out, and after what is added, or a result, nothing more can be done without one; other events are none to clients
+abbrev pub RestsAfter : Scripted → Runner → Runner → Type 0
+RestsAfter (Piece client bytes) old new = IsAtRest new
+RestsAfter (Add client bytes) old new = AreStalled new
+RestsAfter (Result server) old new = AreStalled new
+RestsAfter (Fail turn manner) old new = new ≡ old
+RestsAfter (Hold server key content) old new = new ≡ old
+RestsAfter (At turn loss) old new = new ≡ old
+RestsAfter (Now loss) old new = new ≡ old
+RestsAfter (Moment moment) old new = new ≡ old
 
 -- the client was given all that there was for it
 abbrev pub IsGivenAll : List (Entry dialect) → ℕ → Type 0
@@ -162,11 +164,12 @@ pub record HasCome (first : Route) (refused : List Bool) (reloads : List Reload)
   pub done_is : events ≡ done ++ left
   pub world : World events done log k.servers
 
--- and so it stood after each event: clients that weren't opened said nothing yet, and unless calls may be out nothing is left to do
+-- and so it stood after each event: clients that weren't opened said nothing yet, nothing more can be done without a result, and unless calls may be out nothing is left to do
 pub record HasStood (first : Route) (refused : List Bool) (reloads : List Reload) (events : List Scripted) (loaded : ℕ) (left : List Scripted) (given : List Shown) (marks : List ℕ) (clients : ℕ) (k : Kept) : Type 0 where
   pub come : HasCome first refused reloads events loaded left given k
   pub through : AreThrough events (length come.done) come.log given
   pub settled : leaves_out false come.done ≡ false → IsSettled come.done come.log
+  pub stalled : (c : ℕ) → c < clients → IsStalled k.core c
   pub heard : (c : ℕ) → clients ≤ c → said_in come.done c ≡ []
   pub marked : AreMarked events come.log given reloads marks
   pub counted : length marks ≡ loaded
@@ -174,7 +177,7 @@ pub record HasStood (first : Route) (refused : List Bool) (reloads : List Reload
 -- a reload's tree is loaded, unless it is refused
 abbrev pub TakesUp : Bool → Route → Runner → Runner → Type 0
 TakesUp true tree old new = new ≡ old
-TakesUp false tree old new = (servers : ScriptServers) → IsLoadedBy tree old servers new servers
+TakesUp false tree old new = ((servers : ScriptServers) → IsLoadedBy tree old servers new servers) × (old.core.limits.sharing ≡ Alone → KeepStalled old new)
 
 -- a script has come from these reloads to those, before the event of this place, where so many outputs were handed out
 abbrev pub Loads : List Bool → List Reload → ℕ → ℕ → ℕ → ℕ → List ℕ → List ℕ → Runner → Runner → Type 0

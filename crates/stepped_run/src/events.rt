@@ -6,7 +6,7 @@ ghost use Rattle.fleet_run.specs.Bad.{bad_in};
 ghost use Rattle.fleet_run.specs.Scripted.{Scripted, Now, Moment, loss_of, scripted_of, transcript_of};
 ghost use Rattle.script_servers.specs.Servers.{count_of};
 ghost use Rattle.core_run.specs.Breaking.{StopsFed};
-ghost use Rattle.core_run.specs.Running.{MovesFed, IsAtRest};
+ghost use Rattle.core_run.specs.Running.{MovesFed, AreStalled, KeepStalled, IsAtRest};
 ghost use Rattle.stepped_run.specs.Stepping.{FedBy, FedInPart, Befalls, BreaksOff, IsHeard, RestsAfter, HandsOut, HandsOutAll, HandsSome};
 
 use core_run::Runner;
@@ -58,6 +58,7 @@ fn piece(
 fn add(runner: &mut Runner, client: usize, bytes: &[u8]) -> Result<(), FleetFault>
     ensures fed { OnOk result ((servers : ScriptServers) → MovesFed client bytes.now runner.old servers runner.new servers) }
     ensures opened { OnOk result ((client < runner.new.clients) × (runner.old.clients ≤ runner.new.clients)) }
+    ensures stalled { OnOk result (AreStalled runner.new) }
     ensures err { IfErr result (λ fault. StopsFed client bytes.now runner.old fault) }
 {
     runner.open(client)?;
@@ -87,6 +88,7 @@ fn set_clock(runner: &Runner, servers: &mut ScriptServers, moment: &i64)
 // A client is given its new output, if there is any.
 fn give(runner: &mut Runner, client: usize, transcript: &mut Transcript) -> Result<(), FleetFault>
     ensures ok { OnOk result (HandsOut (λ c. client ≡ c) (transcript_of transcript.old) (transcript_of transcript.new) runner.old runner.new) }
+    ensures stalled { OnOk result (KeepStalled runner.old runner.new) }
     ensures err { OnErr result (transcript.new.shown.items ≡ transcript.old.shown.items) }
     ensures longer { length transcript.old.shown.items ≤ length transcript.new.shown.items }
     ensures clients { runner.new.clients ≡ runner.old.clients }
@@ -107,6 +109,7 @@ fn give(runner: &mut Runner, client: usize, transcript: &mut Transcript) -> Resu
 /// the transcript.
 pub fn give_all(runner: &mut Runner, transcript: &mut Transcript) -> Result<(), FleetFault>
     ensures ok { OnOk result (HandsOutAll (transcript_of transcript.old) (transcript_of transcript.new) runner.old runner.new) }
+    ensures stalled { OnOk result (KeepStalled runner.old runner.new) }
     ensures clients { OnOk result (runner.new.clients ≡ runner.old.clients) }
     ensures err { OnErr result (HandsSome (transcript_of transcript.old) (transcript_of transcript.new) runner.old) }
     ensures fault { IfErr result (λ fault. fault ≡ NoMemory) }
@@ -129,7 +132,7 @@ pub fn befall(
     ensures ok { OnOk result (Befalls (scripted_of event.now) runner.old servers.old runner.new servers.new) }
     ensures count { count_of servers.new ≡ count_of servers.old }
     ensures heard { OnOk result (IsHeard (scripted_of event.now) runner.old runner.new) }
-    ensures rest { OnOk result (RestsAfter (scripted_of event.now) runner.new) }
+    ensures rest { OnOk result (RestsAfter (scripted_of event.now) runner.old runner.new) }
     ensures err { IfErr result (λ fault. BreaksOff (scripted_of event.now) runner.old servers.old fault servers.new) }
 {
     match event {

@@ -18,3 +18,6 @@ returns-in_err-open-clause-err c = passed c.from_residual.result _ _ c.from_resi
 pub returns-clause-err : goal.returns-clause-err
 returns-clause-err c =
     err_weaker c.add.result _ _ (λ fault h. stops_after_open c.args.client c.args.bytes.now c.args.runner.now c.open.new.self fault c.in_ok-open.ensures.moves h) c.add.ensures.err
+
+pub returns-clause-stalled : goal.returns-clause-stalled
+returns-clause-stalled c = c.add.ensures.stalled

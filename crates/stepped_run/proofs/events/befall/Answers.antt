@@ -88,28 +88,28 @@ pub returns-in-Moment-clause-heard : goal.returns-in-Moment-clause-heard
 returns-in-Moment-clause-heard c = subst (λ (e : Event). IsHeard (scripted_of e) c.args.runner.now c.args.runner.now) (sym c.in-Moment.is) (heard_more _ c.args.runner.now c.args.runner.now (λ n. refl) refl)
 
 pub returns-in-Piece-clause-rest : goal.returns-in-Piece-clause-rest
-returns-in-Piece-clause-rest c = on_ok c.piece.result _ _ (λ r. subst (λ (e : Event). RestsAfter (scripted_of e) c.piece.new.runner) (sym c.in-Piece.is) (r)) c.piece.ensures.rest
+returns-in-Piece-clause-rest c = on_ok c.piece.result _ _ (λ r. subst (λ (e : Event). RestsAfter (scripted_of e) c.args.runner.now c.piece.new.runner) (sym c.in-Piece.is) r) c.piece.ensures.rest
 
 pub returns-in-Add-clause-rest : goal.returns-in-Add-clause-rest
-returns-in-Add-clause-rest c = on_ok c.add.result _ _ (λ r. subst (λ (e : Event). RestsAfter (scripted_of e) c.add.new.runner) (sym c.in-Add.is) (tt)) c.add.ensures.fed
+returns-in-Add-clause-rest c = on_ok c.add.result _ _ (λ r. subst (λ (e : Event). RestsAfter (scripted_of e) c.args.runner.now c.add.new.runner) (sym c.in-Add.is) r) c.add.ensures.stalled
 
 pub returns-in-Result-clause-rest : goal.returns-in-Result-clause-rest
-returns-in-Result-clause-rest c = on_ok c.settle_first.result _ _ (λ r. subst (λ (e : Event). RestsAfter (scripted_of e) c.settle_first.new.self) (sym c.in-Result.is) (tt)) c.settle_first.ensures.ok
+returns-in-Result-clause-rest c = on_ok c.settle_first.result _ _ (λ r. subst (λ (e : Event). RestsAfter (scripted_of e) c.args.runner.now c.settle_first.new.self) (sym c.in-Result.is) r) c.settle_first.ensures.stalled
 
 pub returns-in-Hold-clause-rest : goal.returns-in-Hold-clause-rest
-returns-in-Hold-clause-rest c = subst (λ (e : Event). RestsAfter (scripted_of e) c.args.runner.now) (sym c.in-Hold.is) (tt)
+returns-in-Hold-clause-rest c = subst (λ (e : Event). RestsAfter (scripted_of e) c.args.runner.now c.args.runner.now) (sym c.in-Hold.is) refl
 
 pub returns-in-Fail-clause-rest : goal.returns-in-Fail-clause-rest
-returns-in-Fail-clause-rest c = on_ok c.fail.result _ _ (λ r. subst (λ (e : Event). RestsAfter (scripted_of e) c.args.runner.now) (sym c.in-Fail.is) (tt)) c.fail.ensures.ok
+returns-in-Fail-clause-rest c = on_ok c.fail.result _ _ (λ r. subst (λ (e : Event). RestsAfter (scripted_of e) c.args.runner.now c.args.runner.now) (sym c.in-Fail.is) refl) c.fail.ensures.ok
 
 pub returns-in-At-clause-rest : goal.returns-in-At-clause-rest
-returns-in-At-clause-rest c = on_ok c.lose_at.result _ _ (λ r. subst (λ (e : Event). RestsAfter (scripted_of e) c.args.runner.now) (sym c.in-At.is) (tt)) c.lose_at.ensures.ok
+returns-in-At-clause-rest c = on_ok c.lose_at.result _ _ (λ r. subst (λ (e : Event). RestsAfter (scripted_of e) c.args.runner.now c.args.runner.now) (sym c.in-At.is) refl) c.lose_at.ensures.ok
 
 pub returns-in-Now-clause-rest : goal.returns-in-Now-clause-rest
-returns-in-Now-clause-rest c = subst (λ (e : Event). RestsAfter (scripted_of e) c.lose.new.runner) (sym c.in-Now.is) (tt)
+returns-in-Now-clause-rest c = subst (λ (e : Event). RestsAfter (scripted_of e) c.args.runner.now c.lose.new.runner) (sym c.in-Now.is) c.lose.ensures.same
 
 pub returns-in-Moment-clause-rest : goal.returns-in-Moment-clause-rest
-returns-in-Moment-clause-rest c = subst (λ (e : Event). RestsAfter (scripted_of e) c.args.runner.now) (sym c.in-Moment.is) (tt)
+returns-in-Moment-clause-rest c = subst (λ (e : Event). RestsAfter (scripted_of e) c.args.runner.now c.args.runner.now) (sym c.in-Moment.is) refl
 
 pub returns-in-Piece-clause-err : goal.returns-in-Piece-clause-err
 returns-in-Piece-clause-err c =

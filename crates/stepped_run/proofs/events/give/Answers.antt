@@ -16,3 +16,9 @@ returns-clause-ok c =
     (one_more_shown c.args.transcript.now.shown.items c.push.new.self.items c.args.client (record { client = c.in-Ok.client; bytes = c.in_ok-bytes.bytes }) c.in_ok-push.ensures.items
     ∙ ap (λ (n : ℕ). shown ++ record { client = n; bytes = bytes } ∷ []) c.in-Ok.ensures.1)
     c.in_ok-bytes.ensures.given
+
+pub returns-then-is_empty-clause-stalled : goal.returns-then-is_empty-clause-stalled
+returns-then-is_empty-clause-stalled c = c.in_ok-bytes.ensures.stalled
+
+pub returns-clause-stalled : goal.returns-clause-stalled
+returns-clause-stalled c = c.in_ok-bytes.ensures.stalled

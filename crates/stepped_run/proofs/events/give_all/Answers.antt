@@ -13,6 +13,7 @@ loop-client-init c = record {
   hands = hands_nothing (λ n. n < 0) (λ n lt. omega (arith, lt)) (transcript_of c.args.transcript.now) c.args.runner.now;
   longer = omega arith;
   clients = refl;
+  stalled = λ m h. h;
 }
 
 pub returns-in_err-give-clause-err : goal.returns-in_err-give-clause-err
@@ -34,6 +35,7 @@ loop-client-preserved c =
       hands = hands_then (λ m. m < n) (λ m. n ≡ m) (λ m. m < n + 1) (up_to n) (transcript_of c.args.transcript.now) (transcript_of c.loop-client.transcript) (transcript_of c.give.new.transcript) c.args.runner.now c.loop-client.runner c.give.new.runner c.loop-client.invariant.hands c.in_ok-give.ensures.ok;
       longer = let a = c.loop-client.invariant.longer in let b = c.in_ok-give.ensures.longer in omega (arith, a, b);
       clients = c.in_ok-give.ensures.clients ∙ c.loop-client.invariant.clients;
+      stalled = λ m h. c.in_ok-give.ensures.stalled m (c.loop-client.invariant.stalled m h);
     }
 
 pub returns-clause-ok : goal.returns-clause-ok
@@ -44,3 +46,6 @@ returns-clause-ok c =
 
 pub returns-clause-clients : goal.returns-clause-clients
 returns-clause-clients c = c.loop-client.invariant.clients
+
+pub returns-clause-stalled : goal.returns-clause-stalled
+returns-clause-stalled c = c.loop-client.invariant.stalled

@@ -35,7 +35,7 @@ returns-clause-ok c =
     let count = count_of c.args.servers.now in
     let come = begins_stood c.nothing_stands.ensures first refused reloads xs count c.new-runner.result c.args.servers.now c.hold_all.new.servers c.args.transcript.now c.args.marks.now.items
     (λ u e. subst (λ (r : Route). IsBegin r (kept_of c.new-runner.result u)) (c.in_ok-copy.ensures ∙ c.tree.ensures.tree) (c.new-runner.ensures.begin u e))
-    c.requires.new c.in_ok-hold_all.ensures.ok c.in_ok-hold_all.ensures.rest (ap (λ (l : List Event). first_bad count (map scripted_of l)) c.as_slice-events.ensures.value ∙ c.requires.good) c.requires.transcript c.requires.marks in
+    c.new-runner.ensures.clients c.requires.new c.in_ok-hold_all.ensures.ok c.in_ok-hold_all.ensures.rest (ap (λ (l : List Event). first_bad count (map scripted_of l)) c.as_slice-events.ensures.value ∙ c.requires.good) c.requires.transcript c.requires.marks in
     IfOk-weaker c.drive_over-done.result _ _
     (λ report d. subst (λ (l : List Event). DrivesStepped first refused reloads (map scripted_of l) (transcript_of c.drive_over-done.new.transcript) c.drive_over-done.new.marks.items report) c.as_slice-events.ensures.value (d first come))
     c.drive_over-done.ensures.ok
@@ -49,7 +49,7 @@ returns-clause-err c =
     let count = count_of c.args.servers.now in
     let come = begins_stood c.nothing_stands.ensures first refused reloads xs count c.new-runner.result c.args.servers.now c.hold_all.new.servers c.args.transcript.now c.args.marks.now.items
     (λ u e. subst (λ (r : Route). IsBegin r (kept_of c.new-runner.result u)) (c.in_ok-copy.ensures ∙ c.tree.ensures.tree) (c.new-runner.ensures.begin u e))
-    c.requires.new c.in_ok-hold_all.ensures.ok c.in_ok-hold_all.ensures.rest (ap (λ (l : List Event). first_bad count (map scripted_of l)) c.as_slice-events.ensures.value ∙ c.requires.good) c.requires.transcript c.requires.marks in
+    c.new-runner.ensures.clients c.requires.new c.in_ok-hold_all.ensures.ok c.in_ok-hold_all.ensures.rest (ap (λ (l : List Event). first_bad count (map scripted_of l)) c.as_slice-events.ensures.value ∙ c.requires.good) c.requires.transcript c.requires.marks in
     err_weaker c.drive_over-done.result _ _
     (λ fault d. subst (λ (l : List Event). StopsPart first refused reloads (map scripted_of l) (transcript_of c.drive_over-done.new.transcript) c.drive_over-done.new.marks.items c.drive_over-done.new.servers fault) c.as_slice-events.ensures.value (d first come))
     c.drive_over-done.ensures.err

@@ -1,7 +1,7 @@
 use Rattle.std.proofs.Common.{Bool, sym, subst}
 use Rattle.route_tree.specs.Route.{Route}
 use Rattle.core_run.specs.Running.{IsLoadedBy}
-use Rattle.core_run.proofs.Running.{on_ok}
+use Rattle.core_run.proofs.Running.{on_ok, on_both}
 use Rattle.stepped_run.specs.Stepping.{TakesUp}
 use Rattle.stepped_run.proofs.running.take_over.Goals as goal
 
@@ -9,4 +9,5 @@ pub returns-clause-takes : goal.returns-clause-takes
 returns-clause-takes c =
     on_ok c.load.result _ _
     (λ m. subst (λ (b : Bool). TakesUp b c.args.reload.now.config.tree c.args.runner.now c.load.new.self) (sym c.if-refused.false)
-    (λ s. subst (λ (t : Route). IsLoadedBy t c.args.runner.now s c.load.new.self s) c.tree.ensures.tree (m s))) c.load.ensures.loaded
+    (λ s. subst (λ (t : Route). IsLoadedBy t c.args.runner.now s c.load.new.self s) c.tree.ensures.tree (m.0 s), m.1))
+    (on_both c.load.result _ _ c.load.ensures.loaded c.load.ensures.stalled)

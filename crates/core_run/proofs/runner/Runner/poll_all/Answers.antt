@@ -1,6 +1,9 @@
-use Rattle.std.proofs.Common.{refl, ◌∙◌}
+use Rattle.std.proofs.Common.{refl, ◌∙◌, subst}
 use Rattle.script_servers.specs.declared.event.FleetFault.TheVariants.{NoMemory}
+use Rattle.core_run.specs.Progressing.{AreStill}
+use Rattle.core_run.specs.declared.runner.Progress.{Progress}
 use Rattle.core_run.proofs.Running.{stays, then}
+use Rattle.core_run.proofs.Progressing.{idle_are_stalled}
 use Rattle.core_run.proofs.Breaking.{passed, stops_here, stops_then}
 use Rattle.core_run.proofs.runner.Runner.poll_all.Goals as goal
 
@@ -18,6 +21,15 @@ returns-in-Idle-clause-moves c = λ s. then c.args.self.now c.loop-round.self c.
 
 pub returns-in-Idle-clause-clients : goal.returns-in-Idle-clause-clients
 returns-in-Idle-clause-clients c = c.in_ok-progress.ensures.clients ∙ c.loop-round.invariant.clients
+
+pub returns-in-Idle-clause-stalled : goal.returns-in-Idle-clause-stalled
+returns-in-Idle-clause-stalled c = idle_are_stalled c.poll_round.new.self (subst (λ (p : Progress). AreStill p c.poll_round.new.self) c.in-Idle.is c.in_ok-progress.ensures.still)
+
+pub returns-in-Idle-clause-idle : goal.returns-in-Idle-clause-idle
+returns-in-Idle-clause-idle c = λ e. subst (λ (p : Progress). AreStill p c.poll_round.new.self) c.in-Idle.is c.in_ok-progress.ensures.still
+
+pub returns-in-Waits-clause-stalled : goal.returns-in-Waits-clause-stalled
+returns-in-Waits-clause-stalled c = subst (λ (p : Progress). AreStill p c.poll_round.new.self) c.in-Waits.is c.in_ok-progress.ensures.still
 
 pub returns-in-Waits-clause-moves : goal.returns-in-Waits-clause-moves
 returns-in-Waits-clause-moves c = λ s. then c.args.self.now c.loop-round.self c.poll_round.new.self s s s (c.loop-round.invariant.moves s) (c.in_ok-progress.ensures.moves s)

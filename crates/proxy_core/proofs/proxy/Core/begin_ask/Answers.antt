@@ -29,7 +29,7 @@ pub returns-then-has_own-clause-ok : goal.returns-then-has_own-clause-ok
 returns-then-has_own-clause-ok c =
     let old = c.args.self.now in
     let next = is_next old c.args.client c.args.request.now c.args.ask c.key.result.now c.has_own.result true c.requires.next c.has_own.ensures c.key.ensures c.if-has_own.true in
-    nothing_polls old c.args.client Busy (λ entries e. e) (c.requires.held, inr (inl (refl, (c.args.ask, next)), (c.args.request.now, c.requires.asks)))
+    nothing_polls old c.args.client Busy (λ entries e. e) (refl, c.requires.held, inr (inl (c.args.ask, next), (c.args.request.now, c.requires.asks)))
 
 pub wait_in_line-requires-clause-next : goal.wait_in_line-requires-clause-next
 wait_in_line-requires-clause-next c = is_next c.args.self.now c.args.client c.args.request.now c.args.ask c.key.result.now c.has_own.result false c.requires.next c.has_own.ensures c.key.ensures c.if-has_own.false

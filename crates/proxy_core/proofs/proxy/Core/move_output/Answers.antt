@@ -2,6 +2,7 @@ use Rattle.std.proofs.Common.{sym, ap, ◌∙◌, ◌++◌}
 use Rattle.proxy_core.specs.CoreState.{client_at}
 use Rattle.core_client.specs.ClientState.{output_by}
 use Rattle.proxy_core.proofs.Clients.{written, gives}
+use Rattle.proxy_core.proofs.Stalled.{still_stalled}
 use Rattle.proxy_core.proofs.proxy.Core.move_output.Goals as goal
 
 pub returns-in-Ok-clause-bytes : goal.returns-in-Ok-clause-bytes
@@ -14,3 +15,10 @@ returns-in-Ok-clause-ok c =
     let y = c.move_output.new.self in
     let was = sym c.in-Some.ensures.value in
     gives old _ c.args.client x y (output_by (client_at old c.args.client)) (written old c.args.client x y was) (ap output_by was) c.in-Ok.ensures.ok
+
+pub returns-in-Ok-clause-stalled : goal.returns-in-Ok-clause-stalled
+returns-in-Ok-clause-stalled c =
+    let old = c.args.self.now in
+    let x = c.in-Some.x.now in
+    let y = c.move_output.new.self in
+    still_stalled old _ c.args.client x y (written old c.args.client x y (sym c.in-Some.ensures.value)) c.in-Ok.ensures.ok

@@ -1,24 +1,40 @@
-use Rattle.std.proofs.Common.{List, refl, ap, ◌∙◌}
+use Rattle.std.proofs.Common.{◌≡◌, ◌⊎◌, ℕ, true, false, List, refl, ap, ◌∙◌}
+use Rattle.mc_types.specs.declared.ask.Ask.{Ask}
+use Rattle.commands_under_way.specs.declared.claim.Claim.{Claim}
 use Rattle.commands_under_way.specs.declared.key_lines.Standing.{Standing}
 use Rattle.proxy_core.specs.declared.proxy.Core.{Core}
 use Rattle.proxy_core.specs.declared.fault.CoreFault.TheVariants.{NoMemory}
 use Rattle.commands_under_way.specs.Lines.{others, joined}
 use Rattle.commands_under_way.proofs.Lines.{others_again}
-use Rattle.proxy_core.proofs.Polls.{same_goes, first_stops, line_polls}
+use Rattle.proxy_core.specs.Polls.{IsNextAsk, StandsInLine, claim_of, bars, stands_before}
+use Rattle.proxy_core.proofs.Polls.{same_goes, first_stops, line_polls, stood_polls}
 use Rattle.proxy_core.proofs.proxy.Core.wait_in_line.Goals as goal
 
-pub returns-in-Ok-clause-ok : goal.returns-in-Ok-clause-ok
-returns-in-Ok-clause-ok c =
+-- it stands in the line of its key now
+stands_now :
+    (old : Core) (lines : List Standing) (client : ℕ) (ask : Ask) (claim : Claim) (key : List ℕ) → IsNextAsk old client ask false → claim ≡ claim_of old ask → key ≡ ask.key → (bars old ask ≡ true) ⊎ (stands_before old client ask ≡ true)
+    → lines ≡ joined (record { claim = claim; client = client; key = key }) old.lines → StandsInLine old client (record old { lines = lines })
+stands_now old lines client ask claim key next is same waits joins =
+    record {
+      ask = ask;
+      next = next;
+      waits = waits;
+      core_is = ap (λ (l : List Standing). record old { lines = l }) (joins ∙ (λ i. joined (record { claim = is i; client = client; key = same i }) old.lines));
+    }
+
+pub returns-in-Ok-true-clause-ok : goal.returns-in-Ok-true-clause-ok
+returns-in-Ok-true-clause-ok c =
     let old = c.args.self.now in
-    let ask = c.args.ask in
     let new : Core = record old { lines = c.join-joined.new.self } in
     line_polls old new c.args.client (same_goes old new (λ n. refl) (λ n. refl) refl refl refl)
-    (record {
-      ask = ask;
-      next = c.requires.next;
-      waits = c.requires.waits;
-      core_is = ap (λ (l : List Standing). record old { lines = l }) (c.in-Ok.ensures.ok ∙ (λ i. joined (record { claim = c.requires.claim_is i; client = c.args.client; key = c.key.ensures i }) old.lines));
-    }) c.requires.may c.requires.held
+    (stands_now old c.join-joined.new.self c.args.client c.args.ask c.args.claim c.key.result.now c.requires.next c.requires.claim_is c.key.ensures c.requires.waits c.in-Ok-true.ensures.ok) c.requires.may c.requires.held
+
+pub returns-in-Ok-false-clause-ok : goal.returns-in-Ok-false-clause-ok
+returns-in-Ok-false-clause-ok c =
+    let old = c.args.self.now in
+    let new : Core = record old { lines = c.join-joined.new.self } in
+    stood_polls old new c.args.client (ap (λ (l : List Standing). record old { lines = l }) (c.in-Ok-false.ensures.same c.in-Ok-false.field-0-test))
+    (stands_now old c.join-joined.new.self c.args.client c.args.ask c.args.claim c.key.result.now c.requires.next c.requires.claim_is c.key.ensures c.requires.waits c.in-Ok-false.ensures.ok) c.requires.may c.requires.held
 
 pub returns-in-Err-clause-err : goal.returns-in-Err-clause-err
 returns-in-Err-clause-err c =
