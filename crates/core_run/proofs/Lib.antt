@@ -1,3 +1,4 @@
 pub mod Running
 pub mod Leasts
 pub mod Breaking
+pub mod Firsts
