@@ -15,7 +15,7 @@ use Rattle.script_servers.specs.Servers.{turn_of}
 use Rattle.script_servers.specs.declared.servers.ScriptServers.{ScriptServers}
 use Rattle.stepped_log.specs.Results.{CallResult}
 use Rattle.core_run.specs.Breaking.{fleet_fault_of, IsLastBegun, AreGivenAll, AreSpent, StopsAt, StopsFed, StopsGiving, StopsAfter}
-use Rattle.core_run.specs.Running.{Moves, MovesFed, MovesAt, MovesByResults, AreOfOne}
+use Rattle.core_run.specs.Running.{Moves, MovesFed, MovesAt, MovesByResults, AreAskedYet}
 use Rattle.core_run.specs.declared.runner.Runner.{Runner}
 use Rattle.core_run.proofs.Running.{stays, then, fed_then, none_by, by_none, by_then, at_then}
 
@@ -70,13 +70,13 @@ pub results_stop : (a b : Runner) (s t : ScriptServers) (fault : FleetFault) →
 results_stop a b s t fault m h = results_here a h.mid s t fault (by_then a b h.mid s t t m (by_none b h.mid t (h.moves t))) h.spent
 
 -- the same at one server
-pub none_at : (server : ℕ) (a : Runner) (s u : ScriptServers) (fault : FleetFault) → StopsGiving fault s u → StopsAfter (AreOfOne server) a s fault u
-none_at server a s u fault h = record { mid = a; at = s; results = []; fit = tt; moves = none_by a a s (stays a s); within = h.within; spent = given_spent fault a.core s h.all }
+pub none_at : (server : ℕ) (a : Runner) (s u : ScriptServers) (fault : FleetFault) → StopsGiving fault s u → StopsAfter (AreAskedYet server a s) a s fault u
+none_at server a s u fault h = record { mid = a; at = s; results = []; fit = inl refl; moves = none_by a a s (stays a s); within = h.within; spent = given_spent fault a.core s h.all }
 
-pub at_stop : (server : ℕ) (a b : Runner) (s t : ScriptServers) (fault : FleetFault) → MovesAt server a s b t → StopsAt b fault → StopsAfter (AreOfOne server) a s fault t
+pub at_stop : (server : ℕ) (a b : Runner) (s t : ScriptServers) (fault : FleetFault) → MovesAt server a s b t → StopsAt b fault → StopsAfter (AreAskedYet server a s) a s fault t
 at_stop server a b s t fault m h =
     let n = at_then server a b h.mid s t m (h.moves t) in
-    record { mid = h.mid; at = t; results = n.0; fit = n.1; moves = n.2; within = inl refl; spent = begun_spent fault h.mid.core t h.spent }
+    record { mid = h.mid; at = t; results = n.0; fit = inr n.1; moves = n.2; within = inl refl; spent = begun_spent fault h.mid.core t h.spent }
 
 -- ---- faults that are passed on
 

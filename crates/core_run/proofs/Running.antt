@@ -1,5 +1,5 @@
 -- What calls of a runner make of a log, one after another.
-use Rattle.std.proofs.Common.{◌≡◌, ℕ, ◌+◌, ◌<◌, inl, inr, arith, cond, nat_eq, List, [], ◌∷◌, ◌++◌, map, Option, Result, Ok, Err, refl, sym, ap, ◌∙◌, subst, append_assoc}
+use Rattle.std.proofs.Common.{◌≡◌, ℕ, ◌+◌, ◌<◌, inl, inr, arith, cond, nat_eq, Bool, List, [], ◌∷◌, ◌++◌, map, Option, Some, Result, Ok, Err, refl, sym, ap, ◌∙◌, subst, append_assoc}
 use Rattle.std.proofs.lemmas.Bool.{cases_lt}
 use Rattle.std.proofs.lemmas.List.{map-append}
 use Rattle.std.specs.Prelude.{OnOk, ℤ}
@@ -7,16 +7,18 @@ use Rattle.mc_types.specs.declared.ask.Ask.{Ask}
 use Rattle.mc_types.specs.Items.{Item}
 use Rattle.mc_runs.specs.Overlap.{Entry}
 use Rattle.mc_runs.specs.OverlapStream.{stream_of}
-use Rattle.mc_runs.specs.Overlap.{given_of, run_of}
+use Rattle.mc_runs.specs.Overlap.{Ticket as LogTicket, given_of, out_of, run_of, ticket_in}
 use Rattle.mc_runs.specs.Run.{End, Read, Unread, Never, outcome_of}
 use Rattle.mc_runs.specs.Single.{FitsOutcome}
 use Rattle.mc_types.specs.declared.call.Origin.{Origin}
+use Rattle.commands_under_way.specs.declared.ticket.Ticket.{Ticket}
 use Rattle.proxy_core.specs.CoreState.{dialect, Reloads}
 use Rattle.proxy_core.specs.Polls.{Polls}
 use Rattle.proxy_core.specs.Settles.{IsCalled, Settles}
 use Rattle.proxy_core.specs.declared.note.Poll.{Poll}
 use Rattle.proxy_core.specs.declared.note.Poll.TheVariants as polls
 use Rattle.proxy_core.specs.declared.proxy.Core.{Core}
+use Rattle.script_servers.proofs.Places.{same as itself}
 use Rattle.script_servers.specs.Found.{stamp_given}
 use Rattle.route_tree.specs.Route.{Route}
 use Rattle.cache_server.specs.Contents.{Contents}
@@ -24,15 +26,18 @@ use Rattle.script_servers.specs.declared.event.Made.{Made}
 use Rattle.script_servers.specs.Calling.{Ends}
 use Rattle.script_servers.specs.Servers.{Answers}
 use Rattle.script_servers.specs.declared.servers.ScriptServers.{ScriptServers}
-use Rattle.stepped_log.specs.Standing.{Kept, Stands, GoesOn, GoesOnFed, IsBesides}
-use Rattle.stepped_log.specs.Results.{CallResult, NumberedCall, call_of, calls_of, AreGiven, GoesOnBy}
+use Rattle.stepped_log.specs.Standing.{Kept, calls_at, Stands, GoesOn, GoesOnFed, IsBesides}
+use Rattle.stepped_log.specs.Results.{CallResult, AreOfFirst, NumberedCall, call_of, calls_of, AreGiven, GoesOnBy}
 use Rattle.stepped_log.proofs.Counted.{goes_on_by_none}
+use Rattle.stepped_log.proofs.Outs.{called_is_out}
 use Rattle.stepped_log.specs.Laws.{CountsPoll, PollsGoOn, ResultsGoOn, LoadsGoOn}
 use Rattle.core_run.specs.Counting.{last_of}
 use Rattle.core_run.specs.Finding.{found_of}
-use Rattle.core_run.specs.Running.{kept_of, Moves, MovesBy, MovesByOne, MovesAt, MovesByResults, MovesFed, IsLoadedBy}
+use Rattle.core_run.specs.Running.{kept_of, Moves, MovesBy, AreAsked, MovesByOne, MovesAt, MovesByResults, MovesFed, IsLoadedBy}
+use Rattle.core_run.specs.Turns.{TakesFirst}
 use Rattle.core_run.specs.declared.found.Found.{Found}
 use Rattle.core_run.specs.declared.runner.Runner.{Runner}
+use Rattle.core_run.proofs.Firsts.{out_call, left_out}
 
 -- nothing was done
 pub stays : (a : Runner) (s : ScriptServers) → Moves a s a s
@@ -136,7 +141,7 @@ moved a b s t m opening tree log stands = (m.1.goes opening tree log stands).goe
 
 -- a call of this server
 pub at_server : (server other : ℕ) (a b : Runner) (s t : ScriptServers) → other ≡ server → MovesByOne other a s b t → MovesByOne server a s b t
-at_server server other a b s t same m = (m.0, m.1 ∙ same, m.2)
+at_server server other a b s t same m = subst (λ (n : ℕ). MovesByOne n a s b t) same m
 
 -- all but the core is kept as it was
 pub besides : (k l : Kept) → l ≡ record k { core = l.core } → IsBesides k l
@@ -145,6 +150,7 @@ besides k l same =
       servers = record { caches = ap (λ x. x.caches) same; turn = ap (λ x. x.turn) same };
       counts = record { commands = ap (λ x. x.commands) same; stale = ap (λ x. x.stale) same; last = λ key. ap (λ x. x.last key) same };
       found = λ n. ap (λ x. x.stamps n) same;
+      out = ap (λ x. x.out) same;
     }
 
 -- a call that was made has an outcome that fits its ask
@@ -174,15 +180,22 @@ same_besides k l x b =
       servers = record { caches = b.servers.caches; turn = b.servers.turn };
       counts = record { commands = b.counts.commands; stale = b.counts.stale; last = b.counts.last };
       found = b.found;
+      out = b.out;
     }
 
 same_counts : (poll : Poll) (k l : Kept) (x : Core) → CountsPoll poll (record k { core = x }) l → CountsPoll poll k l
 same_counts (polls.Did note) k l x b =
-    record { servers = record { caches = b.servers.caches; turn = b.servers.turn }; commands = b.commands; stale = b.stale; last = b.last; stamps = b.stamps }
+    record { servers = record { caches = b.servers.caches; turn = b.servers.turn }; commands = b.commands; stale = b.stale; last = b.last; stamps = b.stamps; out = b.out }
 same_counts polls.Idle k l x b = same_besides k l x b
 same_counts polls.Own k l x b = same_besides k l x b
 same_counts polls.Refused k l x b = same_besides k l x b
-same_counts (polls.Call ticket) k l x b = same_besides k l x b
+same_counts (polls.Call ticket) k l x b =
+    record {
+      servers = record { caches = b.servers.caches; turn = b.servers.turn };
+      counts = record { commands = b.counts.commands; stale = b.counts.stale; last = b.counts.last };
+      found = b.found;
+      out = b.out;
+    }
 same_counts polls.Waiting k l x b = same_besides k l x b
 same_counts polls.Queued k l x b = same_besides k l x b
 same_counts polls.Busy k l x b = same_besides k l x b
@@ -197,34 +210,66 @@ pub loaded : LoadsGoOn → (a : Runner) (x : Core) (t tree : Route) → t ≡ tr
 loaded law a x t tree same step s opening first loads log stands =
     law opening first loads log tree (kept_of a s) (kept_of (record a { core = x }) s) stands (subst (λ r. Reloads a.core r x) same step) (besides (kept_of a s) (kept_of (record a { core = x }) s) refl)
 
--- a call has its result
+some_is : (x y : LogTicket) → Some x ≡ Some y → x ≡ y
+some_is x y e = cc
+
+-- the call that was taken is that of the core
+is_taken : (number : ℕ) (x : LogTicket) (xs tickets : List LogTicket) (call : LogTicket) → tickets ≡ x ∷ xs → x.number ≡ number → ticket_in tickets number ≡ Some call → call ≡ x
+is_taken number x xs tickets call is named out =
+    some_is call x (sym out ∙ ap (λ (ts : List LogTicket). ticket_in ts number) is ∙ ap (λ (b : Bool). cond b (Some x) (ticket_in xs number)) (ap (λ (n : ℕ). nat_eq n number) named ∙ itself number))
+
+-- the first call that was out at a server has its result
 pub resulted :
-    ResultsGoOn → (number server : ℕ) (ask : Ask) (origin : Origin) (made : Made) (stamp : ℕ) (a b : Runner) (room : Found) (s t : ScriptServers)
-    → IsCalled a.core number server ask origin → ((n : ℕ) → found_of room n ≡ found_of a.found n) → stamp ≡ stamp_given (found_of room number) number origin → Answers stamp s server ask made t
+    ResultsGoOn → (server : ℕ) (ask : Ask) (origin : Origin) (made : Made) (stamp : ℕ) (ticket : Ticket) (old a b : Runner) (room : Found) (s t : ScriptServers)
+    → TakesFirst server ticket old a → IsCalled a.core ticket.number server ask origin → ((n : ℕ) → found_of room n ≡ found_of a.found n) → stamp ≡ stamp_given (found_of room ticket.number) ticket.number origin → Answers stamp s server ask made t
     → t ≡ record s { caches = t.caches; turn = t.turn }
-    → ((n : ℕ) → found_of b.found n ≡ cond (nat_eq number n) (found_of room n ++ made.stamp ∷ []) (found_of room n)) → Settles a.core number made.outcome b.core → b.counts ≡ a.counts → MovesByOne server a s b t
-resulted law number server ask origin made stamp a b room s t called same is answers rest found settles counts =
-    let by : Answers (stamp_given (found_of a.found number) number origin) s server ask made t = subst (λ n. Answers n s server ask made t) (is ∙ ap (λ f. stamp_given f number origin) (same number)) answers in (
-      record { number = number; server = server; ask = ask; origin = origin; stamp = stamp_given (found_of a.found number) number origin; made = made },
-      refl,
+    → ((n : ℕ) → found_of b.found n ≡ cond (nat_eq ticket.number n) (found_of room n ++ made.stamp ∷ []) (found_of room n)) → Settles a.core ticket.number made.outcome b.core → b.counts ≡ a.counts → b.out ≡ a.out → MovesByOne server old s b t
+resulted law server ask origin made stamp ticket old a b room s t takes called same is answers rest found settles counts out =
+    let number = ticket.number in
+    let core_is = ap (λ (r : Runner). r.core) takes.rest in
+    let was : (n : ℕ) → found_of room n ≡ found_of old.found n = λ n. same n ∙ ap (λ (r : Runner). found_of r.found n) takes.rest in
+    let counted = counts ∙ ap (λ (r : Runner). r.counts) takes.rest in
+    let of_core : IsCalled old.core number server ask origin = subst (λ k. IsCalled k number server ask origin) core_is called in
+    let by : Answers (stamp_given (found_of old.found number) number origin) s server ask made t = subst (λ n. Answers n s server ask made t) (is ∙ ap (λ f. stamp_given f number origin) (was number)) answers in
+    let r : CallResult = record { number = number; server = server; ask = ask; origin = origin; stamp = stamp_given (found_of old.found number) number origin; made = made } in (
+      r,
+      record {
+        one = refl;
+        first = λ opening tree log stands.
+            let tickets = stands.out server ∙ takes.first in
+            subst (λ (ts : List LogTicket). AreOfFirst server ts (r ∷ [])) (sym tickets)
+            (
+              r,
+              refl,
+              record {
+                server_is = refl;
+                call_is = is_taken number (out_call ticket) (calls_at server a.out.items) (out_of log server) (record { number = number; ask = ask; origin = origin }) tickets refl (called_is_out opening tree log (kept_of old s) stands number server ask origin of_core);
+              },
+            );
+      },
       record {
         given = (s, refl, by, rest);
-        goes = λ opening tree log stands. law opening tree log number server ask origin made s t (kept_of a s) (kept_of b t) stands (
+        goes = λ opening tree log stands. law opening tree log number server ask origin made s t (kept_of old s) (kept_of b t) stands (
             record {
-              called = called;
+              called = of_core;
               caches_were = refl;
               turn_was = refl;
               answers = by;
-              settles = settles;
+              settles = subst (λ k. Settles k number made.outcome b.core) core_is settles;
               caches_are = refl;
               turn_is = refl;
-              stamps = λ n. found n ∙ ap (λ f. cond (nat_eq number n) (f ++ made.stamp ∷ []) f) (same n);
-              counts = record { commands = ap (λ c. c.tally.commands) counts; stale = ap (λ c. c.tally.stale) counts; last = λ key. ap (λ c. last_of c key) counts };
+              stamps = λ n. found n ∙ ap (λ f. cond (nat_eq number n) (f ++ made.stamp ∷ []) f) (was n);
+              counts = record { commands = ap (λ c. c.tally.commands) counted; stale = ap (λ c. c.tally.stale) counted; last = λ key. ap (λ c. last_of c key) counted };
+              out = λ n. ap (λ v. calls_at n v.items) out ∙ left_out server ticket old a takes n;
             }
             );
       },
     )
 
--- which calls are out isn't kept
-pub out_only : (a b d : Runner) (s t : ScriptServers) → b ≡ record a { out = b.out } → (results : List CallResult) → MovesBy results b s d t → MovesBy results a s d t
-out_only a b d s t same results m = record { given = m.given; goes = λ opening tree log stands. m.goes opening tree log (subst (λ r. Stands opening tree log (kept_of r s)) (sym same) stands) }
+-- none was out at a server
+pub none_asked : (server : ℕ) (a b : Runner) (s : ScriptServers) → b ≡ a → calls_at server a.out.items ≡ [] → MovesAt server a s b s
+none_asked server a b s stayed none = (
+  [],
+  record { one = tt; first = λ opening tree log stands. subst (λ (ts : List LogTicket). AreOfFirst server ts []) (sym (stands.out server ∙ none)) refl },
+  subst (λ (r : Runner). MovesBy [] a s r s) (sym stayed) (none_by a a s (stays a s)),
+)

@@ -1,7 +1,7 @@
 -- What a runner and its servers keep, and what its calls make of the log. Source: mcgate's own.
-use Rattle.std.specs.Prelude.{◌≡◌, ℕ, ◌<◌, List, [], ◌∷◌, Option}
+use Rattle.std.specs.Prelude.{◌≡◌, ◌⊎◌, ℕ, ◌<◌, List, [], ◌∷◌, Option}
 use Rattle.mc_types.specs.Items.{Item}
-use Rattle.mc_runs.specs.Overlap.{Entry}
+use Rattle.mc_runs.specs.Overlap.{Entry, out_of}
 use Rattle.route_tree.specs.Route.{Route}
 use Rattle.proxy_core.specs.CoreState.{dialect}
 use Rattle.proxy_core.specs.CoreState.{IsOut}
@@ -10,7 +10,7 @@ use Rattle.proxy_core.specs.declared.proxy.Core.{Core}
 use Rattle.script_servers.specs.Servers.{caches_of, turn_of}
 use Rattle.script_servers.specs.declared.servers.ScriptServers.{ScriptServers}
 use Rattle.stepped_log.specs.Standing.{Kept, Stands, GoesOn, GoesOnFed, GoesOnGiven, tree_by}
-use Rattle.stepped_log.specs.Results.{CallResult, AreGiven, GoesOnBy}
+use Rattle.stepped_log.specs.Results.{CallResult, AreOfFirst, AreGiven, GoesOnBy}
 use Rattle.core_run.specs.Counting.{last_of}
 use Rattle.core_run.specs.Finding.{found_of}
 use Rattle.core_run.specs.declared.runner.Runner.{Runner}
@@ -23,6 +23,7 @@ kept_of runner servers =
       servers = servers;
       caches = caches_of servers;
       turn = turn_of servers;
+      out = runner.out.items;
       stamps = found_of runner.found;
       commands = runner.counts.tally.commands;
       stale = runner.counts.tally.stale;
@@ -43,18 +44,28 @@ pub record MovesBy (results : List CallResult) (old : Runner) (before : ScriptSe
 abbrev pub MovesByResults : Runner → ScriptServers → Runner → ScriptServers → Type 0
 MovesByResults old before new after = (results : List CallResult) × MovesBy results old before new after
 
--- one result, which is of a call of this server
-abbrev pub MovesByOne : ℕ → Runner → ScriptServers → Runner → ScriptServers → Type 0
-MovesByOne server old before new after = (r : CallResult) × (r.server ≡ server) × MovesBy (r ∷ []) old before new after
-
 -- at most one result, of a call of this server
 abbrev pub AreOfOne : ℕ → List CallResult → Type 0
 AreOfOne server [] = Unit {0}
 AreOfOne server (r ∷ []) = r.server ≡ server
 AreOfOne server (r ∷ s ∷ rs) = ⊥
 
+-- the results that come where one is asked of this server: in each log that stood before it is that of the first call that is out there, and there is none where none is out
+pub record AreAsked (server : ℕ) (old : Runner) (before : ScriptServers) (results : List CallResult) : Type 0 where
+  pub one : AreOfOne server results
+  pub first : (opening : ℕ → List ℕ → Option Item) (tree : ℕ → Route) (log : List (Entry dialect)) → Stands opening tree log (kept_of old before) → AreOfFirst server (out_of log server) results
+
+-- the same until a fault: it may not have come
+abbrev pub AreAskedYet : ℕ → Runner → ScriptServers → List CallResult → Type 0
+AreAskedYet server old before results = (results ≡ []) ⊎ AreAsked server old before results
+
+-- one result is asked of this server, and comes
+abbrev pub MovesByOne : ℕ → Runner → ScriptServers → Runner → ScriptServers → Type 0
+MovesByOne server old before new after = (r : CallResult) × AreAsked server old before (r ∷ []) × MovesBy (r ∷ []) old before new after
+
+-- or none is there to come
 abbrev pub MovesAt : ℕ → Runner → ScriptServers → Runner → ScriptServers → Type 0
-MovesAt server old before new after = (results : List CallResult) × AreOfOne server results × MovesBy results old before new after
+MovesAt server old before new after = (results : List CallResult) × AreAsked server old before results × MovesBy results old before new after
 
 -- the same, where a client said these bytes
 abbrev pub MovesFed : ℕ → List ℕ → Runner → ScriptServers → Runner → ScriptServers → Type 0

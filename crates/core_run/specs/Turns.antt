@@ -1,7 +1,15 @@
 -- Which call that is out has its result next. Source: mcgate's own.
-use Rattle.std.specs.Prelude.{◌≡◌, ◌⊎◌, ℕ, ◌≤◌, List, [], ◌∷◌, Option, Some, None, IfSome}
+use Rattle.std.specs.Prelude.{◌≡◌, ◌⊎◌, ℕ, ◌≤◌, false, List, [], ◌∷◌, Option, Some, None, IfSome, nat_eq}
 use Rattle.std.specs.List.{All}
 use Rattle.commands_under_way.specs.declared.ticket.Ticket.{Ticket}
+use Rattle.stepped_log.specs.Standing.{calls_at}
+use Rattle.core_run.specs.declared.runner.Runner.{Runner}
+
+-- the first of the calls that were out at this server is out no more
+pub record TakesFirst (server : ℕ) (ticket : Ticket) (old new : Runner) : Type 0 where
+  pub rest : new ≡ record old { out = new.out }
+  pub first : calls_at server old.out.items ≡ record { number = ticket.number; ask = ticket.ask; origin = ticket.origin } ∷ calls_at server new.out.items
+  pub others : (s : ℕ) → nat_eq server s ≡ false → calls_at s new.out.items ≡ calls_at s old.out.items
 
 -- a call is out at this server
 abbrev pub IsOutAt : ℕ → List Ticket → Type 0

@@ -1,12 +1,14 @@
 //! The core, what it can't know, and its calls at the servers of a script.
 
-ghost use Rattle.std.specs.Prelude.{◌≡◌, ℕ, ◌<◌, ◌≤◌, ◌+◌, ◌++◌, ◌∷◌, ◌↔◌, [], nat_eq, if◌then◌else◌, IsTrue, IfOk, IfErr, OnOk};
+ghost use Rattle.std.specs.Prelude.{◌≡◌, ℕ, ◌<◌, ◌≤◌, ◌+◌, ◌++◌, ◌∷◌, ◌↔◌, [], nat_eq, if◌then◌else◌, IsTrue, IfOk, IfErr, OnOk, MatchOption};
+ghost use Rattle.std.specs.List.{position};
 ghost use Rattle.script_servers.specs.declared.event.FleetFault.TheVariants.{NoMemory};
 ghost use Rattle.proxy_core.specs.CoreState.{IsOut};
 ghost use Rattle.proxy_core.specs.Polls.{Polls};
 ghost use Rattle.commands_under_way.specs.declared.sharing.Sharing.TheVariants.{Alone};
 ghost use Rattle.script_servers.specs.Servers.{count_of, turn_of, Answers};
 ghost use Rattle.stepped_log.specs.Laws.{stamp_shown, CountsPoll, CountsOne, IsBegin};
+ghost use Rattle.stepped_log.specs.Standing.{calls_at};
 ghost use Rattle.core_run.specs.Breaking.{fleet_fault_of, AreGivenAll};
 ghost use Rattle.core_run.specs.Finding.{found_of};
 ghost use Rattle.core_run.specs.Progressing.{both_gave};
@@ -132,9 +134,10 @@ fn lesser(one: Option<ServerId>, other: ServerId) -> ServerId
 }
 
 impl Runner {
-    ghost use Rattle.core_run.specs.Running.{kept_of, Moves, MovesByOne, MovesAt, MovesByResults, MovesFed, MovesGiven, IsLoadedBy, AreIdle, AreStalled, KeepStalled, IsAtRest, AreOfOne};
+    ghost use Rattle.core_run.specs.Running.{kept_of, Moves, MovesByOne, MovesAt, MovesByResults, MovesFed, MovesGiven, IsLoadedBy, AreIdle, AreStalled, KeepStalled, IsAtRest, AreAskedYet};
     ghost use Rattle.core_run.specs.Progressing.{TakesSo, LeavesSo, AreStill};
     ghost use Rattle.core_run.specs.Breaking.{IsLastBegun, StopsAt, StopsFed, StopsGiving, StopsAfter};
+    ghost use Rattle.core_run.specs.Turns.{TakesFirst};
 
     /// No client was opened; commands begin on this tree.
     pub fn new(alloc: Global, tree: Tree) -> Runner
@@ -246,6 +249,7 @@ impl Runner {
 
     // A call went out.
     fn put_out(&mut self, ticket: Ticket) -> Result<(), FleetFault>
+        ensures out { OnOk result (self.new.out.items ≡ self.old.out.items ++ ticket ∷ []) }
         ensures rest { self.new ≡ record self.old { out = self.new.out } }
         ensures fault { IfErr result (λ fault. fault ≡ NoMemory) }
     {
@@ -351,7 +355,9 @@ impl Runner {
     }
 
     // The place of the first call that is out at the server.
-    fn first_at(&self, server: ServerId) -> Option<usize> {
+    fn first_at(&self, server: ServerId) -> Option<usize>
+        ensures { result ≡ position (λ ticket. nat_eq ticket.server server) self.now.out.items }
+    {
         self.out
             .iter()
             .position(|ticket| ticket.server.number() == server.number())
@@ -359,13 +365,11 @@ impl Runner {
 
     // The first call that is out at the server is out no more.
     fn take_first(&mut self, server: ServerId) -> Option<Ticket>
-        ensures { self.new ≡ record self.old { out = self.new.out } }
+        ensures { MatchOption result ((self.new ≡ self.old) × (calls_at server self.old.out.items ≡ [])) (λ ticket. TakesFirst server ticket self.old self.new) }
     {
-        let at = self.first_at(server)?;
-        if at < self.out.len() {
-            Some(self.out.remove(at))
-        } else {
-            None
+        match self.first_at(server) {
+            None => None,
+            Some(at) => Some(self.out.remove(at)),
         }
     }
 
@@ -393,14 +397,14 @@ impl Runner {
         }
     }
 
-    // The call, which is one of this server, has its result.
+    // The call, which was the first that was out at this server, has its result.
     fn settle(
         &mut self,
         servers: &mut ScriptServers,
         ticket: Ticket,
         server: ServerId,
     ) -> Result<(), FleetFault>
-        ensures ok { OnOk result (MovesByOne server self.old servers.old self.new servers.new) }
+        ensures ok { OnOk result ((before : Runner) → TakesFirst server ticket before self.old → MovesByOne server before servers.old self.new servers.new) }
         ensures count { count_of servers.new ≡ count_of servers.old }
         ensures clients { self.new.clients ≡ self.old.clients }
         ensures err { IfErr result (λ fault. StopsGiving fault servers.old servers.new) }
@@ -451,7 +455,7 @@ impl Runner {
         ensures count { count_of servers.new ≡ count_of servers.old }
         ensures clients { OnOk result (self.new.clients ≡ self.old.clients) }
         ensures stalled { OnOk result (AreStalled self.new) }
-        ensures err { IfErr result (λ fault. StopsAfter (AreOfOne server) self.old servers.old fault servers.new) }
+        ensures err { IfErr result (λ fault. StopsAfter (AreAskedYet server self.old servers.old) self.old servers.old fault servers.new) }
     {
         self.give_first(servers, server)?;
         self.go_on()

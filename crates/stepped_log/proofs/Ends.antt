@@ -20,7 +20,7 @@ use Rattle.proxy_core.specs.CoreState.{dialect, nothing_beside, state_of, IsTake
 use Rattle.proxy_core.specs.Faults.{script_limits}
 use Rattle.proxy_core.specs.declared.limits.Limits.{Limits}
 use Rattle.commands_under_way.specs.declared.sharing.Sharing.TheVariants.{Alone}
-use Rattle.stepped_log.specs.Standing.{Kept, tree_by, Stands, IsBesides}
+use Rattle.stepped_log.specs.Standing.{Kept, tree_by, calls_at, Stands, IsBesides}
 use Rattle.stepped_log.specs.Laws.{IsBegin, Says}
 
 -- ---- the begin
@@ -39,6 +39,7 @@ stands_new tree k begin =
       unbroken = refl;
       holds = λ s key. refl;
       turn = sym begin.turn;
+      out = λ s. ap (calls_at s) (sym begin.out);
       known = λ n o own. absurd (cc);
       unknown = λ n lt. begin.stamps n;
       commands = begin.commands;
@@ -85,6 +86,7 @@ stands_loaded opening first loads log tree old new s step rest =
       unbroken = s.unbroken;
       holds = λ a key. s.holds a key ∙ ap (λ c. held_at c a key) (sym rest.servers.caches);
       turn = s.turn ∙ sym rest.servers.turn;
+      out = λ a. s.out a ∙ ap (calls_at a) (sym rest.out);
       known = λ n o own. subst (λ st. AreFound (calls_so_far (run_of log) n) (s.beside.found n) st) (sym (rest.found n)) (s.known n o own);
       unknown = λ n lt. rest.found n ∙ s.unknown n (subst (λ (m : ℕ). m < n) (ap (λ x. x.number) step.core_is) lt);
       commands = rest.counts.commands ∙ s.commands;

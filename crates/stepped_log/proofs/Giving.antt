@@ -8,6 +8,7 @@ use Rattle.script_servers.specs.Found.{AreFound}
 use Rattle.script_servers.specs.Caches.{held_at}
 use Rattle.route_tree.specs.Word.{tree_words}
 use Rattle.proxy_core.specs.CoreState.{dialect, bars_of, state_of}
+use Rattle.stepped_log.specs.Standing.{calls_at}
 use Rattle.stepped_log.specs.Laws.{GivesGoOn}
 use Rattle.stepped_log.proofs.PollsEntries.{same_words}
 
@@ -31,6 +32,7 @@ gives_go_on opening tree log client bytes old new stands step rest =
         unbroken = stands.unbroken;
         holds = λ s key. ap (λ h. h s key) same.holds ∙ stands.holds s key ∙ sym (ap (λ c. held_at c s key) rest.servers.caches);
         turn = same.turn ∙ stands.turn ∙ sym rest.servers.turn;
+        out = λ s. stands.out s ∙ ap (calls_at s) (sym rest.out);
         known = λ n o e.
             subst (λ f. AreFound (calls_so_far (run_of log) n) (f n) (new.stamps n)) (sym same.found)
             (subst (λ st. AreFound (calls_so_far (run_of log) n) (stands.beside.found n) st) (sym (rest.found n)) (stands.known n o e));

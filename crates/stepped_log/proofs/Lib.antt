@@ -6,3 +6,4 @@ pub mod ResultsFound
 pub mod Results
 pub mod Counted
 pub mod Giving
+pub mod Outs

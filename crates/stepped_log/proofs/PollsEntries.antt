@@ -20,7 +20,7 @@ use Rattle.proxy_core.specs.declared.note.Poll.TheVariants as polls
 use Rattle.proxy_core.specs.declared.proxy.Core.{Core}
 use Rattle.stepped_log.specs.Standing.{Kept, HasServers}
 use Rattle.stepped_log.specs.Laws.{CountsPoll, PollsGoOn}
-use Rattle.stepped_log.proofs.PollsTells.{Tells, besides, begins, shown_more, ends}
+use Rattle.stepped_log.proofs.PollsTells.{Tells, besides, sends, begins, shown_more, ends}
 
 -- the servers are as they were, whatever a poll answers
 servers_stay : (poll : Poll) (old new : Kept) → CountsPoll poll old new → HasServers old new
@@ -60,7 +60,7 @@ module _ (at : ℕ → List ℕ → Plan) (Bars : ℕ → Ask → ℕ → Ask �
     passed : (log : List (Entry dialect)) (client : ℕ) (message : Message) (next : dialect.Place) (second : List (Entry dialect)) (k : Kept) → second ≡ Passes client message next ∷ [] → Tells opening base found log k → Tells opening base found (second ++ log) k
     passed log client message next second k is t =
         subst (λ l. Tells opening base found (l ++ log) k) (sym is)
-        (record { served = t.served; unbroken = t.unbroken; known = t.known; items = t.items; commands = t.commands; stale = t.stale; last = t.last; later = t.later; streams = t.streams; given = t.given })
+        (record { served = t.served; unbroken = t.unbroken; out = t.out; known = t.known; items = t.items; commands = t.commands; stale = t.stale; last = t.last; later = t.later; streams = t.streams; given = t.given })
 
     -- what a poll answers tells what came of the log
     polled : (log : List (Entry dialect)) (client : ℕ) (poll : Poll) (second : List (Entry dialect)) (old new : Kept) → Follows (tree_words at) Bars opening (second ++ log) → IsPolled client poll second → CountsPoll poll old new → Tells opening base found log old → Tells opening base found (second ++ log) new
@@ -70,10 +70,7 @@ module _ (at : ℕ → List ℕ → Plan) (Bars : ℕ → Ask → ℕ → Ask �
     polled log client polls.Busy second old new f is counts t = subst (λ l. Tells opening base found (l ++ log) new) (sym is) (besides opening base found log old new counts t)
     polled log client polls.Own second old new f is counts t = passed log client is.0 is.1 second new is.3 (besides opening base found log old new counts t)
     polled log client polls.Refused second old new f is counts t = passed log client is.0 is.1 second new is.3 (besides opening base found log old new counts t)
-    polled log client (polls.Call ticket) second old new f is counts t =
-        let r = besides opening base found log old new counts t in
-        subst (λ l. Tells opening base found (l ++ log) new) (sym is)
-        (record { served = r.served; unbroken = r.unbroken; known = r.known; items = r.items; commands = r.commands; stale = r.stale; last = r.last; later = r.later; streams = r.streams; given = r.given })
+    polled log client (polls.Call ticket) second old new f is counts t = subst (λ l. Tells opening base found (l ++ log) new) (sym is) (sends opening base found log ticket old new counts t)
     polled log client (polls.Did note) second old new f is counts t =
         let ended = is.2 in
         let part = ended.0 in
@@ -125,6 +122,7 @@ polls_go_on opening tree log client poll old new stands p counts =
     let told : Tells opening log beside.found log old = record {
       served = stands.served;
       unbroken = stands.unbroken;
+      out = stands.out;
       known = stands.known;
       items = λ n o e. stands.leads.found n o (stands.leads.owner n ∙ e);
       commands = stands.commands;
@@ -149,6 +147,7 @@ polls_go_on opening tree log client poll old new stands p counts =
         unbroken = t.unbroken;
         holds = λ s key. ap (λ h. h s key) same.holds ∙ stands.holds s key ∙ sym (ap (λ c. held_at c s key) servers.caches);
         turn = same.turn ∙ stands.turn ∙ sym servers.turn;
+        out = t.out;
         known = λ n o e. subst (λ f. AreFound (calls_so_far (run_of (g.1 ++ log)) n) (f n) (new.stamps n)) (sym same.found) (t.known n o e);
         unknown = λ n high. unknown_stay poll old new counts n (stands.unknown n (let low = t.later in let now = leads.count in omega (arith, count, low, now, high)));
         commands = t.commands;

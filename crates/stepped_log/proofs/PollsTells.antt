@@ -15,7 +15,7 @@ use Rattle.mc_runs.specs.Log.{Part}
 use Rattle.mc_runs.specs.Stale.{is_delete_op, stale_since}
 use Rattle.mc_runs.specs.Sharing.{Event, under_way, calls_so_far, item_at, IsNewNumber, commands_in}
 use Rattle.mc_runs.specs.SharingStale.{is_acknowledged, last_gone, shown_item, tally_of}
-use Rattle.mc_runs.specs.Overlap.{Slot, Owner, Entry, Starts, Ends, Shows, run_of, owner_of, given_of, is_dropped, Follows}
+use Rattle.mc_runs.specs.Overlap.{Slot, Owner, Entry, Starts, Sends, Ends, Shows, Ticket as LogTicket, run_of, owner_of, out_of, given_of, is_dropped, Follows}
 use Rattle.mc_runs.specs.OverlapStream.{stream_of}
 use Rattle.mc_runs.proofs.Sharing.{new_calls}
 use Rattle.mc_runs.proofs.OverlapSteps.{owner_way}
@@ -24,10 +24,11 @@ use Rattle.script_servers.proofs.Found.{shown_found}
 use Rattle.route_tree.specs.Plan.{Plan}
 use Rattle.route_tree.specs.Word.{tree_words}
 use Rattle.route_tree.proofs.Showing.{replies_show_what_was_found}
+use Rattle.commands_under_way.specs.declared.ticket.Ticket.{Ticket}
 use Rattle.proxy_core.specs.CoreState.{dialect}
 use Rattle.proxy_core.specs.declared.note.Note.{Note}
-use Rattle.stepped_log.specs.Standing.{Kept, replied_in, broken_in, IsBesides}
-use Rattle.stepped_log.specs.Laws.{is_as_old, stamp_shown, CountsOne}
+use Rattle.stepped_log.specs.Standing.{Kept, calls_at, replied_in, broken_in, IsBesides}
+use Rattle.stepped_log.specs.Laws.{is_as_old, stamp_shown, CountsOne, SendsOne}
 
 -- ---- small facts
 
@@ -76,12 +77,28 @@ as_old_is None (Some item) = refl
 as_old_is (Some n) None = refl
 as_old_is (Some n) (Some item) = refl
 
+-- one more call, which is out at its server
+pub out_more : (s : ℕ) (tickets : List Ticket) (t : Ticket) → calls_at s (tickets ++ t ∷ []) ≡ cond (nat_eq t.server s) (calls_at s tickets ++ record { number = t.number; ask = t.ask; origin = t.origin } ∷ []) (calls_at s tickets)
+out_more s [] t = refl
+out_more s (u ∷ tickets) t =
+    ap (λ (ts : List LogTicket). cond (nat_eq u.server s) (one u ∷ ts) ts) (out_more s tickets t) ∙ by (nat_eq u.server s) (nat_eq t.server s) (one u) (one t) (calls_at s tickets)
+  where
+    one : Ticket → LogTicket
+    one v = record { number = v.number; ask = v.ask; origin = v.origin }
+
+    by : (a b : Bool) (x y : LogTicket) (ts : List LogTicket) → cond a (x ∷ cond b (ts ++ y ∷ []) ts) (cond b (ts ++ y ∷ []) ts) ≡ cond b (cond a (x ∷ ts) ts ++ y ∷ []) (cond a (x ∷ ts) ts)
+    by true true x y ts = refl
+    by true false x y ts = refl
+    by false true x y ts = refl
+    by false false x y ts = refl
+
 -- ---- what a log tells
 
--- of a log that came of another one: its clients are served, no command was broken off, what the calls of commands under way found is known, commands are counted, and no client said or was given more
+-- of a log that came of another one: its clients are served, no command was broken off, which calls are out and what the calls of commands under way found is known, commands are counted, and no client said or was given more
 pub record Tells (opening : ℕ → List ℕ → Option Item) (base : List (Entry dialect)) (found : ℕ → List (Option Item)) (log : List (Entry dialect)) (k : Kept) : Type 0 where
   pub served : (c : ℕ) → is_dropped log c ≡ false
   pub unbroken : broken_in (run_of log) ≡ 0
+  pub out : (s : ℕ) → out_of log s ≡ calls_at s k.out
   pub known : (n : ℕ) (o : Owner) → owner_of log n ≡ Some o → AreFound (calls_so_far (run_of log) n) (found n) (k.stamps n)
   pub items : (n : ℕ) (o : Owner) → owner_of log n ≡ Some o → (i : ℕ) (item : Item) → slice_get (found n) i ≡ Some (Some item) → item_at opening (run_of log) n i ≡ Some item
   pub commands : k.commands ≡ replied_in (run_of log)
@@ -98,6 +115,26 @@ module _ (opening : ℕ → List ℕ → Option Item) (base : List (Entry dialec
       record {
         served = t.served;
         unbroken = t.unbroken;
+        out = λ s. t.out s ∙ ap (calls_at s) (sym b.out);
+        known = λ n o e. subst (AreFound (calls_so_far (run_of log) n) (found n)) (sym (b.found n)) (t.known n o e);
+        items = t.items;
+        commands = b.counts.commands ∙ t.commands;
+        stale = b.counts.stale ∙ t.stale;
+        last = λ key. b.counts.last key ∙ t.last key;
+        later = t.later;
+        streams = t.streams;
+        given = t.given;
+      }
+
+  -- a call went out
+  pub sends : (log : List (Entry dialect)) (ticket : Ticket) (old new : Kept) → SendsOne ticket old new → Tells opening base found log old → Tells opening base found (Sends ticket.number ticket.server ticket.ask ticket.origin ∷ log) new
+  sends log ticket old new b t =
+      record {
+        served = t.served;
+        unbroken = t.unbroken;
+        out = λ s.
+            ap (λ (ts : List LogTicket). cond (nat_eq ticket.server s) (ts ++ record { number = ticket.number; ask = ticket.ask; origin = ticket.origin } ∷ []) ts) (t.out s) ∙ sym (out_more s old.out ticket)
+            ∙ ap (calls_at s) (sym b.out);
         known = λ n o e. subst (AreFound (calls_so_far (run_of log) n) (found n)) (sym (b.found n)) (t.known n o e);
         items = t.items;
         commands = b.counts.commands ∙ t.commands;
@@ -127,6 +164,7 @@ module _ (opening : ℕ → List ℕ → Option Item) (base : List (Entry dialec
       record {
         served = t.served;
         unbroken = t.unbroken;
+        out = t.out;
         known = λ n o e. begun_known n o e;
         items = λ n o e i item at. begun_items n o e i item at;
         commands = t.commands;
@@ -142,7 +180,7 @@ module _ (opening : ℕ → List ℕ → Option Item) (base : List (Entry dialec
   shown_more client [] log k t = t
   shown_more client (s ∷ shown) log k t =
       let r = shown_more client shown log k t in
-      record { served = r.served; unbroken = r.unbroken; known = r.known; items = r.items; commands = r.commands; stale = r.stale; last = r.last; later = r.later; streams = r.streams; given = r.given }
+      record { served = r.served; unbroken = r.unbroken; out = r.out; known = r.known; items = r.items; commands = r.commands; stale = r.stale; last = r.last; later = r.later; streams = r.streams; given = r.given }
 
   -- the stamp that is known of what a reply shows is that of the item which its call found
   stamp_is : (past : List Event) (number : ℕ) (from : Option ℕ) (reply : Answer) (stamps : List (Option ℕ)) → AreFound (calls_so_far past number) (found number) stamps → ((i : ℕ) (item : Item) → slice_get (found number) i ≡ Some (Some item) → item_at opening past number i ≡ Some item)
@@ -181,6 +219,7 @@ module _ (opening : ℕ → List ℕ → Option Item) (base : List (Entry dialec
         record {
           served = t.served;
           unbroken = t.unbroken;
+          out = λ s. t.out s ∙ ap (calls_at s) (sym counts.out);
           known = λ n o e. subst (AreFound (calls_so_far run n) (found n)) (sym (counts.stamps n)) (ended_known n o e);
           items = λ n o e i item at. ended_items n o e i item at;
           commands = counts.commands ∙ ap (λ m. m + 1) t.commands;

@@ -10,7 +10,7 @@ use Rattle.mc_runs.specs.Run.{Call, End, outcome_of}
 use Rattle.mc_runs.specs.Fleet.{StampIn}
 use Rattle.mc_runs.specs.Sharing.{Event, calls_so_far}
 use Rattle.mc_runs.specs.SharingFleet.{Fleet, AreLosses}
-use Rattle.mc_runs.specs.Overlap.{Entry, Happens, Frees, run_of, given_of}
+use Rattle.mc_runs.specs.Overlap.{Entry, Happens, Frees, Ticket as LogTicket, without, run_of, out_of, given_of}
 use Rattle.mc_runs.specs.OverlapState.{OverlapState, LeadsTo, found_after}
 use Rattle.mc_runs.specs.OverlapStream.{stream_of}
 use Rattle.script_servers.specs.Found.{stamp_given, AreFound, IsFound}
@@ -34,10 +34,10 @@ use Rattle.commands_under_way.specs.declared.command.Command.{Command}
 use Rattle.proxy_core.specs.declared.limits.Limits.{Limits}
 use Rattle.proxy_core.specs.declared.proxy.Core.{Core}
 use Rattle.commands_under_way.proofs.Commands.{some_command, no_command}
-use Rattle.stepped_log.specs.Standing.{Kept, Stands, GoesOn, CountsAsMany}
+use Rattle.stepped_log.specs.Standing.{Kept, calls_at, Stands, GoesOn, CountsAsMany}
 use Rattle.stepped_log.specs.Results.{NumberedCall, calls_of}
 use Rattle.stepped_log.specs.Laws.{ResultsGoOn}
-use Rattle.stepped_log.proofs.ResultsLosses.{bereft, happened, still_fits, losses_lead, IsAlike, alike_then, call_alike, losses_alike, calls_same, losses_of_none}
+use Rattle.stepped_log.proofs.ResultsLosses.{bereft, happened, still_fits, losses_lead, IsAlike, alike_then, call_alike, losses_alike, calls_same, out_same, losses_of_none}
 use Rattle.stepped_log.proofs.ResultsFound.{stamp_in_turn, found_if, same_last}
 
 -- what a server drops by itself is lost
@@ -158,7 +158,8 @@ module _ (opening : ℕ → List ℕ → Option Item) (tree : ℕ → Route) (lo
       number_is : new.core.number ≡ old.core.number
       number_is = leads_there.count ∙ alike.begun ∙ sym stands.leads.count
 
-      module _ (caches : new.caches ≡ caches_of after) (turn : new.turn ≡ old.turn + 1) (stamps : (n : ℕ) → new.stamps n ≡ cond (nat_eq number n) (old.stamps n ++ made.stamp ∷ []) (old.stamps n)) (counts : CountsAsMany old new) where
+      module _ (caches : new.caches ≡ caches_of after) (turn : new.turn ≡ old.turn + 1) (stamps : (n : ℕ) → new.stamps n ≡ cond (nat_eq number n) (old.stamps n ++ made.stamp ∷ []) (old.stamps n)) (counts : CountsAsMany old new)
+          (out : (s : ℕ) → calls_at s new.out ≡ cond (nat_eq server s) (without number (calls_at s old.out)) (calls_at s old.out)) where
         known_then : (n : ℕ) → AreFound (calls_so_far (run_of log) n) (stands.beside.found n) (old.stamps n) → AreFound (calls_so_far (run_of (Happens event ∷ past)) n) (now.found n) (new.stamps n)
         known_then n known =
             subst (λ (found : ℕ → List (Option Item)). AreFound (calls_so_far (run_of (Happens event ∷ past)) n) (found n) (new.stamps n)) (sym is.found)
@@ -169,6 +170,10 @@ module _ (opening : ℕ → List ℕ → Option Item) (tree : ℕ → Route) (lo
         unknown_then : (n : ℕ) → old.core.number < n → new.stamps n ≡ []
         unknown_then n lt =
             stamps n ∙ ap (λ z. cond z (old.stamps n ++ made.stamp ∷ []) (old.stamps n)) (has_begun old.core stands.beside stands.fits number a settles.was n lt) ∙ stands.unknown n lt
+
+        out_then : (s : ℕ) → out_of (Happens event ∷ past) s ≡ calls_at s new.out
+        out_then s =
+            ap (λ (ts : List LogTicket). cond (nat_eq server s) (without number ts) ts) (out_same (happened spills ++ log) step.call.lost step.call.losses s ∙ out_same log spills (are_spills server step.spilled) s ∙ stands.out s) ∙ sym (out s)
 
         stands_then : Stands opening tree (Happens event ∷ past) new
         stands_then =
@@ -183,6 +188,7 @@ module _ (opening : ℕ → List ℕ → Option Item) (tree : ℕ → Route) (lo
               holds = λ s key.
                   ap (λ (h : ℕ → List ℕ → Option Item). h s key) is.holds ∙ sym (step.call.holds s key) ∙ step.holds s key ∙ ap (λ l. held_at l s key) (sym caches);
               turn = is.turn ∙ ap (λ t. t + 1) stands.turn ∙ sym turn;
+              out = out_then;
               known = λ n o e. known_then n (stands.known n o (sym (alike.owner n) ∙ e));
               unknown = λ n lt. unknown_then n (subst (λ m. m < n) number_is lt);
               commands = counts.commands ∙ stands.commands ∙ sym alike.replied;
@@ -201,13 +207,13 @@ module _ (opening : ℕ → List ℕ → Option Item) (tree : ℕ → Route) (lo
         ∙ ap (λ (o : Outcome). record { number = number; call = record { server = server; ask = ask; origin = origin; outcome = o } } ∷ calls_of (run_of log)) (sym step.call.outcome)
 
     -- the losses named for the call and what its server dropped, and then its result
-    goes : new.caches ≡ caches_of after → new.turn ≡ old.turn + 1 → ((n : ℕ) → new.stamps n ≡ cond (nat_eq number n) (old.stamps n ++ made.stamp ∷ []) (old.stamps n)) → CountsAsMany old new → (g : GoesOn opening tree log new) × (calls_of (run_of (g.more ++ log)) ≡ record { number = number; call = record { server = server; ask = ask; origin = origin; outcome = made.outcome } } ∷ calls_of (run_of log))
+    goes : new.caches ≡ caches_of after → new.turn ≡ old.turn + 1 → ((n : ℕ) → new.stamps n ≡ cond (nat_eq number n) (old.stamps n ++ made.stamp ∷ []) (old.stamps n)) → CountsAsMany old new → ((s : ℕ) → calls_at s new.out ≡ cond (nat_eq server s) (without number (calls_at s old.out)) (calls_at s old.out)) → (g : GoesOn opening tree log new) × (calls_of (run_of (g.more ++ log)) ≡ record { number = number; call = record { server = server; ask = ask; origin = origin; outcome = made.outcome } } ∷ calls_of (run_of log))
     unfolding goes_on_as
-    goes caches turn stamps counts =
+    goes caches turn stamps counts out =
         let t = settles.goes met end (still_fits old.core spilled step.call.lost (still_fits old.core stands.beside spills stands.fits)) step.call.outcome step.call.ends in
         let none : t.1 ≡ [] = t.4 ∙ ap (λ z. cond z (Frees number ∷ []) []) served_is in (
           goes_on_as opening tree entries log (Happens event ∷ past) new (ap (λ (l : List (Entry dialect)). Happens event ∷ l) (append_assoc (happened step.call.lost) (happened spills) log)) alike
-              (stands_then t.0 t.1 t.2 t.3 none (t.5 opening past past_leads) t.6 caches turn stamps counts),
+              (stands_then t.0 t.1 t.2 t.3 none (t.5 opening past past_leads) t.6 caches turn stamps counts out),
           called,
         )
 
@@ -235,5 +241,6 @@ results_go_on opening tree log number server ask origin made before after old ne
     let step =
     answers_are_steps number (stamp_given (old.stamps number) number (origin_under a.job.frames.items OfClient)) (origin_under a.job.frames.items OfClient) before (server_in a.job.pending) (ask_under a.job.frames.items a.job.ask) made after
     (record { holds = stands.beside.holds; found = stands.beside.found }) answers (λ s k. stands.holds s k ∙ ap (λ l. held_at l s k) h.caches_were) (given opening tree log number made before after old new stands h.settles) in
-    let g = goes opening tree log number made before after old new stands h.settles step.0 step.1 h.caches_are (h.turn_is ∙ answers.turn_is ∙ ap (λ t. t + 1) (sym h.turn_was)) h.stamps h.counts in
+    let g = goes opening tree log number made before after old new stands h.settles step.0 step.1 h.caches_are (h.turn_is ∙ answers.turn_is ∙ ap (λ t. t + 1) (sym h.turn_was)) h.stamps h.counts
+    (λ s. h.out s ∙ ap (λ (t : ℕ). cond (nat_eq t s) (without number (calls_at s old.out)) (calls_at s old.out)) server_is) in
     record { goes = g.0; calls = g.1 ∙ ap (λ (n : NumberedCall). n ∷ calls_of (run_of log)) (sym (same_call number server (server_in a.job.pending) ask (ask_under a.job.frames.items a.job.ask) origin (origin_under a.job.frames.items OfClient) made.outcome server_is ask_is origin_is)) }

@@ -8,7 +8,7 @@ use Rattle.mc_runs.specs.Sharing.{Event, Begins, Calls, Replies, Breaks, Loses, 
 use Rattle.mc_runs.specs.SharingFleet.{after_losses, AreLosses}
 use Rattle.mc_runs.specs.SharingStale.{tally_of, last_gone}
 use Rattle.mc_runs.specs.ScriptLog.{lost_by}
-use Rattle.mc_runs.specs.Overlap.{Entry, Happens, run_of, given_of, is_dropped, owner_of}
+use Rattle.mc_runs.specs.Overlap.{Entry, Happens, run_of, given_of, is_dropped, owner_of, out_of}
 use Rattle.mc_runs.specs.OverlapState.{LeadsTo, Leads, IsLike, MayHappenNow, after}
 use Rattle.mc_runs.specs.OverlapStream.{stream_of}
 use Rattle.mc_runs.proofs.OverlapSteps.{walks_lead, leads_on}
@@ -21,7 +21,7 @@ use Rattle.script_servers.proofs.Losses.{same_event, same_held}
 use Rattle.route_tree.specs.Word.{tree_words}
 use Rattle.proxy_core.specs.declared.proxy.Core.{Core}
 use Rattle.proxy_core.specs.CoreState.{dialect, bars_of, Beside, Fits, state_of}
-use Rattle.stepped_log.specs.Standing.{replied_in, broken_in, GoesOn}
+use Rattle.stepped_log.specs.Standing.{calls_at, replied_in, broken_in, GoesOn}
 use Rattle.stepped_log.specs.Results.{calls_of}
 use Rattle.stepped_log.specs.Laws.{LossesGoOn}
 
@@ -135,6 +135,16 @@ losses_of_none log (Calls number server ask origin end ∷ es) are = absurd are
 losses_of_none log (Replies number key reply from ∷ es) are = absurd are
 losses_of_none log (Breaks number ∷ es) are = absurd are
 
+-- the same calls are out after losses
+pub out_same : (log : List (Entry dialect)) (lost : List Event) → AreLosses lost → (s : ℕ) → out_of (happened lost ++ log) s ≡ out_of log s
+out_same log [] are s = refl
+out_same log (Loses server key ∷ es) are s = out_same log es are s
+out_same log (Restarts server ∷ es) are s = out_same log es are s
+out_same log (Begins number ask ∷ es) are s = absurd are
+out_same log (Calls number server ask origin end ∷ es) are s = absurd are
+out_same log (Replies number key reply from ∷ es) are s = absurd are
+out_same log (Breaks number ∷ es) are s = absurd are
+
 -- what is named to be lost is a loss
 one_loss : (loss : Loss) → AreLosses (lost_by (told_of loss) ∷ [])
 one_loss (LostItem server key) = tt
@@ -159,6 +169,7 @@ losses_go_on opening tree log loss old new stands lost =
         unbroken = alike.broken ∙ stands.unbroken;
         holds = λ s key. same_held loss stands.beside.holds (held_at old.caches) s key (stands.holds s key) ∙ sym (same_event loss (held_at old.caches) s key) ∙ sym (lost.held s key);
         turn = stands.turn ∙ sym lost.turn;
+        out = λ s. out_same log (event ∷ []) are s ∙ stands.out s ∙ ap (calls_at s) (sym lost.out);
         known = λ n o e.
             subst (λ calls. AreFound calls (stands.beside.found n) (new.stamps n)) (sym (calls_same log (event ∷ []) are n))
             (subst (λ stamps. AreFound (calls_so_far (run_of log) n) (stands.beside.found n) stamps) (sym (lost.found n)) (stands.known n o (sym (alike.owner n) ∙ e)));

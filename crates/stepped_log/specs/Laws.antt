@@ -4,7 +4,7 @@ use Rattle.mc_types.specs.declared.ask.Ask.{Ask}
 use Rattle.mc_types.specs.declared.call.Origin.{Origin}
 use Rattle.mc_types.specs.Items.{Item}
 use Rattle.mc_runs.specs.Fleet.{after_event}
-use Rattle.mc_runs.specs.Overlap.{Entry, Follows, run_of}
+use Rattle.mc_runs.specs.Overlap.{Entry, Follows, run_of, without}
 use Rattle.mc_runs.specs.Sharing.{commands_in, calls_in, IsFreshByNumber}
 use Rattle.mc_runs.specs.SharingStale.{stale_in}
 use Rattle.mc_runs.specs.Cover.{IsCovered}
@@ -23,12 +23,13 @@ use Rattle.proxy_core.specs.Faults.{script_limits}
 use Rattle.proxy_core.specs.Polls.{Polls}
 use Rattle.proxy_core.specs.Settles.{IsCalled, Settles}
 use Rattle.commands_under_way.specs.declared.sharing.Sharing.TheVariants.{Alone}
+use Rattle.commands_under_way.specs.declared.ticket.Ticket.{Ticket}
 use Rattle.proxy_core.specs.declared.note.Note.{Note}
 use Rattle.proxy_core.specs.declared.note.Poll.{Poll}
 use Rattle.proxy_core.specs.declared.note.Poll.TheVariants as polls
 use Rattle.script_servers.specs.Caches.{held_at}
 use Rattle.stepped_log.specs.Results.{GoesOnBy}
-use Rattle.stepped_log.specs.Standing.{Kept, replied_in, broken_in, tree_by, Stands, GoesOn, GoesOnFed, GoesOnGiven, LeavesAsMuch, CountsAsMany, HasServers, FoundAsMuch, IsBesides}
+use Rattle.stepped_log.specs.Standing.{Kept, replied_in, broken_in, tree_by, calls_at, Stands, GoesOn, GoesOnFed, GoesOnGiven, LeavesAsMuch, CountsAsMany, HasServers, FoundAsMuch, IsBesides}
 
 -- ---- polls
 
@@ -50,13 +51,21 @@ pub record CountsOne (note : Note) (old new : Kept) : Type 0 where
   pub stale : new.stale ≡ old.stale + (if is_as_old (old.last note.ask.key) (stamp_shown (old.stamps note.number) note.from) then 1 else 0)
   pub last : (key : List ℕ) → new.last key ≡ (if bytes_eq note.ask.key key && note.acknowledged then Some note.number else old.last key)
   pub stamps : (n : ℕ) → new.stamps n ≡ (if nat_eq note.number n then [] else old.stamps n)
+  pub out : new.out ≡ old.out
+
+-- a call went out after those that are out
+pub record SendsOne (ticket : Ticket) (old new : Kept) : Type 0 where
+  pub servers : HasServers old new
+  pub counts : CountsAsMany old new
+  pub found : FoundAsMuch old new
+  pub out : new.out ≡ old.out ++ ticket ∷ []
 
 abbrev pub CountsPoll : Poll → Kept → Kept → Type 0
 CountsPoll (polls.Did note) old new = CountsOne note old new
 CountsPoll polls.Idle old new = IsBesides old new
 CountsPoll polls.Own old new = IsBesides old new
 CountsPoll polls.Refused old new = IsBesides old new
-CountsPoll (polls.Call ticket) old new = IsBesides old new
+CountsPoll (polls.Call ticket) old new = SendsOne ticket old new
 CountsPoll polls.Waiting old new = IsBesides old new
 CountsPoll polls.Queued old new = IsBesides old new
 CountsPoll polls.Busy old new = IsBesides old new
@@ -69,7 +78,7 @@ PollsGoOn =
 
 -- ---- results
 
--- a call that is out has the result that the servers of the script gave
+-- a call that is out has the result that the servers of the script gave, and is out no more
 pub record HasResult (number server : ℕ) (ask : Ask) (origin : Origin) (made : Made) (before after : ScriptServers) (old new : Kept) : Type 0 where
   pub called : IsCalled old.core number server ask origin
   pub caches_were : old.caches ≡ caches_of before
@@ -80,6 +89,7 @@ pub record HasResult (number server : ℕ) (ask : Ask) (origin : Origin) (made :
   pub turn_is : new.turn ≡ turn_of after
   pub stamps : (n : ℕ) → new.stamps n ≡ (if nat_eq number n then old.stamps n ++ made.stamp ∷ [] else old.stamps n)
   pub counts : CountsAsMany old new
+  pub out : (s : ℕ) → calls_at s new.out ≡ (if nat_eq server s then without number (calls_at s old.out) else calls_at s old.out)
 
 abbrev pub ResultsGoOn : Type 0
 ResultsGoOn =
@@ -95,6 +105,7 @@ pub record IsLost (loss : Loss) (old new : Kept) : Type 0 where
   pub turn : new.turn ≡ old.turn
   pub counts : CountsAsMany old new
   pub found : FoundAsMuch old new
+  pub out : new.out ≡ old.out
 
 abbrev pub LossesGoOn : Type 0
 LossesGoOn =
@@ -133,6 +144,7 @@ LoadsGoOn =
 pub record IsBegin (tree : Route) (k : Kept) : Type 0 where
   pub fresh : IsFreshCore tree script_limits k.core
   pub turn : k.turn ≡ 0
+  pub out : k.out ≡ []
   pub stamps : (n : ℕ) → k.stamps n ≡ []
   pub commands : k.commands ≡ 0
   pub stale : k.stale ≡ 0

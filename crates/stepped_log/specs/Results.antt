@@ -5,7 +5,7 @@ use Rattle.mc_types.specs.declared.call.Origin.{Origin}
 use Rattle.mc_types.specs.Items.{Item}
 use Rattle.mc_runs.specs.Run.{Call, outcome_of}
 use Rattle.mc_runs.specs.Sharing.{Event, Begins, Calls, Replies, Breaks, Loses, Restarts}
-use Rattle.mc_runs.specs.Overlap.{Entry, run_of}
+use Rattle.mc_runs.specs.Overlap.{Entry, Ticket as LogTicket, run_of}
 use Rattle.script_servers.specs.declared.event.Made.{Made}
 use Rattle.script_servers.specs.Servers.{Answers}
 use Rattle.script_servers.specs.declared.servers.ScriptServers.{ScriptServers}
@@ -21,6 +21,16 @@ pub record CallResult : Type 0 where
   pub origin : Origin
   pub stamp : ℕ
   pub made : Made
+
+-- the result is that of this call, which was out at this server
+pub record IsOfCall (server : ℕ) (call : LogTicket) (r : CallResult) : Type 0 where
+  pub server_is : r.server ≡ server
+  pub call_is : record { number = r.number; ask = r.ask; origin = r.origin } ≡ call
+
+-- of these calls that are out at a server, in order, the first has its result, and nothing else has one; where none is out there is none
+abbrev pub AreOfFirst : ℕ → List LogTicket → List CallResult → Type 0
+AreOfFirst server [] results = results ≡ []
+AreOfFirst server (call ∷ calls) results = (r : CallResult) × (results ≡ r ∷ []) × IsOfCall server call r
 
 -- a call of a command of this number
 pub record NumberedCall : Type 0 where

@@ -3,7 +3,7 @@ use Rattle.std.specs.Prelude.{◌≡◌, ℕ, ◌+◌, ◌<◌, false, List, [],
 use Rattle.mc_types.specs.Items.{Item}
 use Rattle.mc_runs.specs.Sharing.{Event, Begins, Calls, Replies, Breaks, Loses, Restarts, calls_so_far}
 use Rattle.mc_runs.specs.SharingStale.{tally_of, last_gone}
-use Rattle.mc_runs.specs.Overlap.{Owner, Entry, run_of, front_of, queue_of, output_of, owner_of, given_of, is_dropped}
+use Rattle.mc_runs.specs.Overlap.{Owner, Entry, Ticket as LogTicket, run_of, front_of, queue_of, output_of, owner_of, out_of, given_of, is_dropped}
 use Rattle.mc_runs.specs.OverlapState.{LeadsTo}
 use Rattle.mc_runs.specs.OverlapStream.{stream_of}
 use Rattle.cache_server.specs.Contents.{Contents}
@@ -13,17 +13,19 @@ use Rattle.script_servers.specs.declared.servers.ScriptServers.{ScriptServers}
 use Rattle.route_tree.specs.At.{tree_at}
 use Rattle.route_tree.specs.Route.{Route}
 use Rattle.route_tree.specs.Word.{tree_words}
+use Rattle.commands_under_way.specs.declared.ticket.Ticket.{Ticket}
 use Rattle.proxy_core.specs.Faults.{script_limits}
 use Rattle.proxy_core.specs.CoreState.{dialect, bars_of, Beside, Fits, state_of}
 use Rattle.proxy_core.specs.declared.proxy.Core.{Core}
 
--- what is kept beside the log: the core, the servers of the script, their caches, how many calls had their results, the stamps of what the calls of each command under way found, how many commands had their
--- replies and how many of these were stale, and the number of the last acknowledged delete of each key
+-- what is kept beside the log: the core, the servers of the script, their caches, how many calls had their results, the calls that are out in the order in which they went out, the stamps of what the calls of
+-- each command under way found, how many commands had their replies and how many of these were stale, and the number of the last acknowledged delete of each key
 pub record Kept : Type 0 where
   pub core : Core
   pub servers : ScriptServers
   pub caches : List Contents
   pub turn : ℕ
+  pub out : List Ticket
   pub stamps : ℕ → List (Option ℕ)
   pub commands : ℕ
   pub stale : ℕ
@@ -54,6 +56,14 @@ abbrev pub tree_by : Route → List (ℕ × Route) → ℕ → Route
 tree_by first [] n = first
 tree_by first (load ∷ loads) n = if nat_lt load.0 n then load.1 else tree_by first loads n
 
+-- those of these calls that are out at a server, in their order, as a log has them
+abbrev pub calls_at : ℕ → List Ticket → List LogTicket
+calls_at server [] = []
+calls_at server (ticket ∷ tickets) =
+    if nat_eq ticket.server server
+    then record { number = ticket.number; ask = ticket.ask; origin = ticket.origin } ∷ calls_at server tickets
+    else calls_at server tickets
+
 -- the log, with commands by these trees and servers that held these opening items, leads to the core and the servers as they are kept, for which every client is served and no command was broken off; and what is counted is what the log says
 pub record Stands (opening : ℕ → List ℕ → Option Item) (tree : ℕ → Route) (log : List (Entry dialect)) (k : Kept) : Type 0 where
   pub beside : Beside
@@ -65,6 +75,7 @@ pub record Stands (opening : ℕ → List ℕ → Option Item) (tree : ℕ → R
   pub unbroken : broken_in (run_of log) ≡ 0
   pub holds : (s : ℕ) (key : List ℕ) → beside.holds s key ≡ held_at k.caches s key
   pub turn : beside.turn ≡ k.turn
+  pub out : (s : ℕ) → out_of log s ≡ calls_at s k.out
   pub known : (n : ℕ) (o : Owner) → owner_of log n ≡ Some o → AreFound (calls_so_far (run_of log) n) (beside.found n) (k.stamps n)
   pub unknown : (n : ℕ) → k.core.number < n → k.stamps n ≡ []
   pub commands : k.commands ≡ replied_in (run_of log)
@@ -101,7 +112,7 @@ pub record GoesOnGiven (opening : ℕ → List ℕ → Option Item) (tree : ℕ 
   pub all : given_of (more ++ log) client ≡ output_of (more ++ log) client
   pub left : LeavesAsMuch log (more ++ log)
 
--- all is kept as it was but the core, the servers and what calls found
+-- all is kept as it was but the core, the servers, which calls are out and what calls found
 pub record CountsAsMany (old new : Kept) : Type 0 where
   pub commands : new.commands ≡ old.commands
   pub stale : new.stale ≡ old.stale
@@ -121,3 +132,4 @@ pub record IsBesides (old new : Kept) : Type 0 where
   pub servers : HasServers old new
   pub counts : CountsAsMany old new
   pub found : FoundAsMuch old new
+  pub out : new.out ≡ old.out
