@@ -74,14 +74,14 @@ some_number (Some n) h = (n, refl)
 some_number None h = absurd (cc)
 
 numbers_leak : NumbersLeak
-numbers_leak at opening key op kind s i j k h good1 good2 baited e f =
-    gaps_leak at opening (delete_of kind key) (read_of op key) s i j (answer_of op) good1 good2 (is_bait opening key op kind s k h baited) e f
+numbers_leak at Bars opening key op kind s i j k h good1 good2 baited e f =
+    gaps_leak at Bars opening (delete_of kind key) (read_of op key) s i j (answer_of op) good1 good2 (is_bait opening key op kind s k h baited) e f
 
 gaps_have_leaks : GapsHaveLeaks
-gaps_have_leaks at opening key op kind s k h good1 good2 baited direct1 direct2 takes leaves =
+gaps_have_leaks at Bars opening key op kind s k h good1 good2 baited direct1 direct2 takes leaves =
     let i = some_number (acks s (at 1 key)) (gaps_have_words.kept (at 1 key) s kind good1 direct1 leaves) in
     let j = some_number (finds op s (at 2 key)) (gaps_have_words.taken (at 2 key) op s good2 direct2 takes) in
-    (i.0, j.0, i.1, j.1, numbers_leak at opening key op kind s i.0 j.0 k h good1 good2 baited i.1 j.1)
+    (i.0, j.0, i.1, j.1, numbers_leak at Bars opening key op kind s i.0 j.0 k h good1 good2 baited i.1 j.1)
 
 pub bait_is_taken : BaitIsTaken
 bait_is_taken = record { numbers = numbers_leak; gaps = gaps_have_leaks }

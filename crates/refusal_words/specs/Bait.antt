@@ -49,17 +49,17 @@ IsBaited opening s key = (opening s key ≡ Some bait) × ((t : ℕ) → t ≢ s
 -- where both numbers are computed, the script leaks: all calls fail but the one that acknowledges, if there is one, and the one that shows
 abbrev pub NumbersLeak : Type 0
 NumbersLeak =
-    (at : ℕ → List ℕ → Plan) (opening : ℕ → List ℕ → Option Item) (key : List ℕ) (op : Op) (kind : Deleting) (s i j : ℕ)
+    (at : ℕ → List ℕ → Plan) (Bars : ℕ → Ask → ℕ → Ask → Type 0) (opening : ℕ → List ℕ → Option Item) (key : List ℕ) (op : Op) (kind : Deleting) (s i j : ℕ)
     → IsKey key → IsTaking op → IsGood (at 1 key) → IsGood (at 2 key) → IsBaited opening s key
-    → acks s (at 1 key) ≡ Some i → finds op s (at 2 key) ≡ Some j → LeaksIn at opening (delete_of kind key) (read_of op key) s i j (answer_of op)
+    → acks s (at 1 key) ≡ Some i → finds op s (at 2 key) ≡ Some j → LeaksIn at Bars opening (delete_of kind key) (read_of op key) s i j (answer_of op)
 
 -- for a real gap both are computed, an all-sync or a warm-up aside; and then a script leaks
 abbrev pub GapsHaveLeaks : Type 0
 GapsHaveLeaks =
-    (at : ℕ → List ℕ → Plan) (opening : ℕ → List ℕ → Option Item) (key : List ℕ) (op : Op) (kind : Deleting) (s : ℕ)
+    (at : ℕ → List ℕ → Plan) (Bars : ℕ → Ask → ℕ → Ask → Type 0) (opening : ℕ → List ℕ → Option Item) (key : List ℕ) (op : Op) (kind : Deleting) (s : ℕ)
     → IsKey key → IsTaking op → IsGood (at 1 key) → IsGood (at 2 key) → IsBaited opening s key
     → IsDirect Delete (at 1 key) → IsDirect op (at 2 key) → Takes (at 2 key) op s → (Clears (at 1 key) kind s → ⊥)
-    → (i j : ℕ) × (acks s (at 1 key) ≡ Some i) × (finds op s (at 2 key) ≡ Some j) × LeaksIn at opening (delete_of kind key) (read_of op key) s i j (answer_of op)
+    → (i j : ℕ) × (acks s (at 1 key) ≡ Some i) × (finds op s (at 2 key) ≡ Some j) × LeaksIn at Bars opening (delete_of kind key) (read_of op key) s i j (answer_of op)
 
 pub record BaitIsTaken : Type 0 where
   pub numbers : NumbersLeak
