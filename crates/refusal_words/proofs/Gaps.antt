@@ -34,5 +34,5 @@ module _ (P : Protocol) (at : ℕ → List ℕ → Plan) (Bars : ℕ → Ask →
   -- where both numbers are computed, the script leaks: this is `Some`
   pub numbers_have_script : (i j : ℕ) → acks s (at 1 key) ≡ Some i → finds op s (at 2 key) ≡ Some j → Leaks P (tree_words at) Bars opening (leaking_script s key i text1 j text2)
   numbers_have_script i j e f =
-      let h = bait_is_taken.numbers at Bars opening key op kind s i j k taking good1 good2 baited e f in
+      let h = (bait_is_taken Bars).numbers at opening key op kind s i j k taking good1 good2 baited e f in
       scripts_leak P (tree_words at) Bars opening s key i j text1 text2 (delete_of kind key) (read_of op key) h.front h.last h.back (answered s (read_of op key) (answer_of op) ∷ []) _ (answer_of op) _ _ m1 m2 p1 p2 begins one1 one2 (none_goes_on at) h.first h.first_are (last_answered s (delete_of kind key) h.last h.elsewhere) h.later h.later_are ((answer_of op, refl), tt) h.run h.leaks

@@ -191,8 +191,8 @@ module _ (at : ℕ → List ℕ → Plan) (Bars : ℕ → Ask → ℕ → Ask �
               let old = bait.old in omega arith;
         }
 
-pub gaps_leak : GapsLeak
-gaps_leak at Bars opening delete read s i j answer good1 good2 bait e f =
+pub gaps_leak : (Bars : ℕ → Ask → ℕ → Ask → Type 0) → GapsLeak Bars
+gaps_leak Bars at opening delete read s i j answer good1 good2 bait e f =
     let a = gaps_have_words.acked (at 1 delete.key) s i delete good1 bait.deletes bait.gone_fits e in
     let b = gaps_have_words.found (at 2 read.key) s j read answer good2 bait.fits bait.showing bait.done f in
     let z : 0 + j ≡ j = omega arith in

@@ -7,7 +7,7 @@ use Rattle.mc_types.specs.declared.answer.Answer.{Answer}
 use Rattle.mc_types.specs.declared.call.Outcome.{Outcome}
 use Rattle.mc_types.specs.declared.call.Outcome.TheVariants.{Answered, Failed}
 use Rattle.mc_types.specs.Items.{Item}
-use Rattle.mc_runs.specs.Run.{Call, Words}
+use Rattle.mc_runs.specs.Run.{Call, Words, outcome_of}
 use Rattle.mc_runs.specs.Sharing.{Event, Begins, Calls, Replies, under_way, calls_so_far, commands_in, MayCome, Run, IsFreshByNumber}
 use Rattle.mc_runs.specs.Protocol.{Protocol, IsStuck}
 use Rattle.mc_runs.specs.Log as said
@@ -276,8 +276,8 @@ module _ {P : Protocol} where
       pub named : (t : ℕ) → named_in new t ≡ named_in old t
 
     module _ (old : Lines P) (place : P.Place) (rests : Rests old place) (n : ℕ) (part : Part P) (text : List ℕ) (reply : Answer) (from : Option ℕ) (one : IsOneAsk P place text part.ask reply part.message part.next) (first : part.index ≡ 0) where
-      last : is_last part ≡ true
-      last = ap (λ i. nat_eq (i + 1) (length (P.asks_of part.message))) first ∙ ap (λ (l : List Ask). nat_eq 1 (length l)) one.asks
+      at_last : is_last part ≡ true
+      at_last = ap (λ i. nat_eq (i + 1) (length (P.asks_of part.message))) first ∙ ap (λ (l : List Ask). nat_eq 1 (length l)) one.asks
 
       abbrev l1 : Lines P
       l1 = Takes (Piece 0 text) ∷ old
@@ -294,7 +294,7 @@ module _ {P : Protocol} where
           (record { reads = one.reads; index = first; asks = ap (λ i. slice_get (P.asks_of part.message) i) first ∙ ap (λ (l : List Ask). slice_get l 0) one.asks; ready = refl })
 
       front_is : front_of (core_of l3) 0 ≡ record { place = part.next; index = 0; waits = false }
-      front_is = pick_true (is_last part) _ _ last
+      front_is = pick_true (is_last part) _ _ at_last
 
       begins : (n ≡ commands_in (run_of (core_of old)) + 1) → MayCome words Bars opening (run_of (core_of old)) (Begins n part.ask) → Busy old l3 n part text (Begins n part.ask ∷ run_of (core_of old))
       begins count may = record {
@@ -342,6 +342,10 @@ module _ {P : Protocol} where
           abbrev event : Event
           event = Calls n c.server c.ask c.origin (end_of n c.outcome)
 
+          -- the call as a run reads it back
+          abbrev read_back : Call
+          read_back = record { server = c.server; ask = c.ask; origin = c.origin; outcome = outcome_of (end_of n c.outcome) }
+
           abbrev sent : Lines P
           sent = Does (Sends n c.server c.ask c.origin) ∷ log
 
@@ -373,8 +377,8 @@ module _ {P : Protocol} where
               (subst (λ (p : Owner). words m p.ask (calls_so_far past m) r f) (sym mine.1)
               (subst (λ l. words m o.ask (calls_so_far l m) r f) busy.core.run_is word))) in
               let front = may.3 in
-              ends n may.0 (calls_so_far past n) _ front.0 r front.1 f front.2 here
-              (subst (λ l. words n may.0 l front.1 front.2) (append_assoc (calls_so_far past n) (_ ∷ []) front.0) front.3)
+              ends n may.0 (calls_so_far past n) read_back front.0 r front.1 f front.2 here
+              (subst (λ l. words n may.0 l front.1 front.2) (append_assoc (calls_so_far past n) (read_back ∷ []) front.0) front.3)
 
           still : (depth window : ℕ) (text_of : Ask → Answer → List ℕ) → IsStill tt (λ tree. words) Bars opening depth window text_of (λ log server key. ⊥) words core1
           still depth window text_of = record {
@@ -458,7 +462,7 @@ module _ {P : Protocol} where
         queued = ap (answered_in n reply) busy.core.queue ∙ pick_true (nat_eq n n) (slot ∷ []) (slot_of n part ∷ []) (eq-eqb n n refl)
 
         front_stays : front_of (core_of e3) 0 ≡ record { place = part.next; index = 0; waits = false }
-        front_stays = pick_true (is_last part) (front_of (core_of log) 0) _ last ∙ busy.core.front
+        front_stays = pick_true (is_last part) (front_of (core_of log) 0) _ at_last ∙ busy.core.front
 
         given_is : given_of (core_of e2) 0 ++ P.shown part.message part.index reply ≡ output_of (core_of e2) 0
         given_is = ap (λ l. l ++ P.shown part.message part.index reply) (busy.core.given 0)
@@ -470,7 +474,7 @@ module _ {P : Protocol} where
               settled = record {
                 stuck = by_client (λ d. IsStuck P (front_of (core_of e3) d).place) (subst (λ (q : Front P). IsStuck P q.place) (sym front_stays) one.stuck)
                     (λ d. subst (λ (q : Front P). IsStuck P q.place) (sym (pick_false (nat_eq 0 (suc d)) _ (front_of (core_of log) (suc d)) (not_zero d))) (busy.core.stuck (suc d)));
-                shown = by_client (λ d. queue_of (core_of e3) d ≡ []) (shown_first queued) (λ d. pick_false (nat_eq 0 (suc d)) _ (queue_of (core_of e1) (suc d)) (not_zero d) ∙ pick_false (nat_eq 0 (suc d)) _ (queue_of (core_of log) (suc d)) (not_zero d) ∙ busy.core.others d);
+                shown = by_client (λ d. queue_of (core_of e3) d ≡ []) (ap behind_head queued) (λ d. pick_false (nat_eq 0 (suc d)) _ (queue_of (core_of e1) (suc d)) (not_zero d) ∙ pick_false (nat_eq 0 (suc d)) _ (queue_of (core_of log) (suc d)) (not_zero d) ∙ busy.core.others d);
                 given = by_client (λ d. given_of (core_of e3) d ≡ output_of (core_of e3) d) given_is (λ d. pick_false (nat_eq 0 (suc d)) _ (given_of (core_of log) (suc d)) (not_zero d) ∙ busy.core.given (suc d) ∙ sym (pick_false (nat_eq 0 (suc d)) _ (output_of (core_of log) (suc d)) (not_zero d)));
                 free = λ m. ap (λ o. cond (nat_eq n m) None o) (busy.core.owner m) ∙ over_after (nat_eq n m) (record { client = 0; ask = part.ask });
               };
@@ -489,14 +493,12 @@ module _ {P : Protocol} where
           named = busy.named;
         }
           where
-            shown_first : {l : List (Slot P)} {x : Slot P} → l ≡ x ∷ [] → behind_head l ≡ []
-            shown_first e = ap behind_head e
             may_end : MayFollow words Bars opening (core_of log) (Ends 0 n part reply from)
             may_end = (
               subst (λ l. MayCome words Bars opening l (Replies n part.ask.key reply from)) (sym busy.core.run_is) may,
               busy.core.owner n ∙ pick_true (nat_eq n n) _ None (eq-eqb n n refl),
               ap (λ l. slot_in l n) busy.core.queue ∙ pick_true (nat_eq n n) (Some (slot_of n part)) None (eq-eqb n n refl),
-              (λ no. absurd (let e = last in cc)),
+              (λ no. absurd (let e = at_last in cc)),
               (λ s. ap (λ l. ticket_in l n) (busy.core.out s)),
               busy.core.served 0,
             )
@@ -510,7 +512,7 @@ module _ {P : Protocol} where
           let c = calls ends l3 begun front b first_run named1 in
           let d = calls ends (played_log n front l3) (played n front begun) back c run.1 (subst (λ m. AreNamed (named_in old) m back) (sym (played_made n front l3)) named2) in
           let log = played_log n back (played_log n front l3) in
-          (e3 log (played n back (played n front begun)) d run.0, ended log (played n back (played n front begun)) d run.0, (let m = played_made n back (played_log n front l3) in let k = played_made n front l3 in omega arith))
+          (e3 log (played n back (played n front begun)) d run.0, ended log (played n back (played n front begun)) d run.0, played_made n back (played_log n front l3) ∙ ap (λ m. m + length back) (played_made n front l3))
 
 -- ---- the whole script
 
@@ -589,34 +591,34 @@ module _ (P : Protocol) (words : Words) (Bars : ℕ → Ask → ℕ → Ask → 
       let d = commands_played 1 front (Begins 1 delete ∷ []) in
       let e = high in omega arith)
 
+  second : Run words Bars opening (shown (deleted [])) → (IsFreshByNumber opening (shown (deleted [])) → ⊥) → (log3 : Lines P) → Done words Bars opening log1 log3 text1 p1 (deleted (run_of (core_of log1))) → made_in log3 ≡ made_in log1 + length front + length last → Leaks P words Bars opening (leaking_script s key i text1 j text2)
+  second run leaks log3 d1 many =
+      let log4 : Lines P = fails_log j log3 in
+      let past4 : run_of (core_of log4) ≡ deleted [] = ap run_of (fails_core j log3) ∙ d1.run_is ∙ ap (λ l. deleted (run_of l)) (fails_core i log0) in
+      let count : 2 ≡ commands_in (run_of (core_of log4)) + 1 = (let c = ap commands_in past4 in let d = commands_played 1 last (played 1 front (Begins 1 delete ∷ [])) in let e = commands_played 1 front (Begins 1 delete ∷ []) in omega arith) in
+      let same : made_in log4 ≡ made_in log3 = fails_made j log3 in
+      let zero1 : made_in log1 ≡ 0 = fails_made i log0 in
+      let d2 = command words Bars opening log4 p1 (fails_rest words Bars opening j log3 p1 d1.rests) 2 part2 text2 reply2 from2 one2 refl ends back final count
+      (subst (λ l. Run words Bars opening (shown l)) (sym past4) run)
+      (tries_named (named_in log4) read.key (made_in log4) j back h2 (let e = j_is in omega arith) (λ t lt le. fails_named j log3 t (let z = same in let a = lt in omega arith) (let z = same in let a = le in omega arith)))
+      (answered_named (named_in log4) (made_in log4 + length back) final a2 (λ t lt. fails_other j log3 t (let z = same in let e = j_is in let a = lt in omega arith) ∙ d1.named t ∙ fails_other i log0 t (let z = same in let y = many in let w = zero1 in let v = i_is in let a = lt in omega arith))) in
+      let run_is : run_of (core_of d2.0) ≡ shown (deleted []) = d2.1.run_is ∙ ap shown past4 in
+      record {
+        log = d2.0;
+        script = d2.1.rests.script;
+        script_is = d2.1.script_is
+            ∙ ap (λ l. l ++ Piece 0 text2 ∷ []) (fails_script j log3 ∙ ap (λ l. l ++ map in_log (fail_lines j)) (d1.script_is ∙ ap (λ l. l ++ Piece 0 text1 ∷ []) (fails_script i log0)))
+            ∙ script_is;
+        fed = d2.1.rests.fed;
+        settled = d2.1.rests.core.settled;
+        replied = λ n low high.
+            let r = all_replied n low (subst (λ l. n ≤ commands_in l) run_is high) in
+            (r.0, r.1, subst (λ l. IsReplied l n r.0 r.1) (sym run_is) r.2);
+        leaks = λ fresh. leaks (subst (IsFreshByNumber opening) run_is fresh);
+      }
+
   pub scripts_leak : Run words Bars opening (shown (deleted [])) → (IsFreshByNumber opening (shown (deleted [])) → ⊥) → Leaks P words Bars opening (leaking_script s key i text1 j text2)
   scripts_leak run leaks =
       let run4 = run_before words Bars opening 2 back (Begins 2 read ∷ deleted []) (run_before words Bars opening 2 final (played 2 back (Begins 2 read ∷ deleted [])) run.1) in
       let d1 = first run4.1 in
-      second d1.0 d1.1 d1.2
-    where
-      second : (log3 : Lines P) → Done words Bars opening log1 log3 text1 p1 (deleted (run_of (core_of log1))) → made_in log3 ≡ made_in log1 + length front + length last → Leaks P words Bars opening (leaking_script s key i text1 j text2)
-      second log3 d1 many =
-          let log4 : Lines P = fails_log j log3 in
-          let past4 : run_of (core_of log4) ≡ deleted [] = ap run_of (fails_core j log3) ∙ d1.run_is ∙ ap (λ l. deleted (run_of l)) (fails_core i log0) in
-          let count : 2 ≡ commands_in (run_of (core_of log4)) + 1 = (let c = ap commands_in past4 in let d = commands_played 1 last (played 1 front (Begins 1 delete ∷ [])) in let e = commands_played 1 front (Begins 1 delete ∷ []) in omega arith) in
-          let same : made_in log4 ≡ made_in log3 = fails_made j log3 in
-          let zero1 : made_in log1 ≡ 0 = fails_made i log0 in
-          let d2 = command words Bars opening log4 p1 (fails_rest words Bars opening j log3 p1 d1.rests) 2 part2 text2 reply2 from2 one2 refl ends back final count
-          (subst (λ l. Run words Bars opening (shown l)) (sym past4) run)
-          (tries_named (named_in log4) read.key (made_in log4) j back h2 (let e = j_is in omega arith) (λ t lt le. fails_named j log3 t (let z = same in let a = lt in omega arith) (let z = same in let a = le in omega arith)))
-          (answered_named (named_in log4) (made_in log4 + length back) final a2 (λ t lt. fails_other j log3 t (let z = same in let e = j_is in let a = lt in omega arith) ∙ d1.named t ∙ fails_other i log0 t (let z = same in let y = many in let w = zero1 in let v = i_is in let a = lt in omega arith))) in
-          let run_is : run_of (core_of d2.0) ≡ shown (deleted []) = d2.1.run_is ∙ ap shown past4 in
-          record {
-            log = d2.0;
-            script = d2.1.rests.script;
-            script_is = d2.1.script_is
-                ∙ ap (λ l. l ++ Piece 0 text2 ∷ []) (fails_script j log3 ∙ ap (λ l. l ++ map in_log (fail_lines j)) (d1.script_is ∙ ap (λ l. l ++ Piece 0 text1 ∷ []) (fails_script i log0)))
-                ∙ script_is;
-            fed = d2.1.rests.fed;
-            settled = d2.1.rests.core.settled;
-            replied = λ n low high.
-                let r = all_replied n low (subst (λ l. n ≤ commands_in l) run_is high) in
-                (r.0, r.1, subst (λ l. IsReplied l n r.0 r.1) (sym run_is) r.2);
-            leaks = λ fresh. leaks (subst (IsFreshByNumber opening) run_is fresh);
-          }
+      second run leaks d1.0 d1.1 d1.2
