@@ -97,6 +97,11 @@ module _ (words : Words) (Bars : ℕ → Ask → ℕ → Ask → Type 0) (openin
   run_before n [] past r = r
   run_before n (c ∷ calls) past r = (run_before n calls (Calls n c.server c.ask c.origin (end_of n c.outcome) ∷ past) r).1
 
+-- a call that was out has its result
+back_in : (b : Bool) (n : ℕ) (ticket : Ticket) (tickets : List Ticket) → ticket.number ≡ n → tickets ≡ [] → cond b (without n (cond b (tickets ++ ticket ∷ []) tickets)) (cond b (tickets ++ ticket ∷ []) tickets) ≡ []
+back_in true n ticket tickets e f = ap (λ l. without n (l ++ ticket ∷ [])) f ∙ pick_true (nat_eq ticket.number n) [] (ticket ∷ []) (eq-eqb ticket.number n e)
+back_in false n ticket tickets e f = f
+
 -- no tree is ever loaded
 abbrev Lines : Protocol → Type 0
 Lines P = List (Line P (Unit {0}))
@@ -121,7 +126,7 @@ module _ {P : Protocol} where
   fails_script (suc n) log =
       ap (λ l. l ++ Fail (suc n) Before ∷ []) (fails_script n log)
       ∙ append_assoc (script_of log) (map in_log (fail_lines n)) (Fail (suc n) Before ∷ [])
-      ∙ ap (λ l. script_of log ++ l) (sym (map-append in_log (fail_lines n) (Fail (suc n) Before ∷ [])))
+      ∙ ap (λ l. script_of log ++ l) (sym (map-append in_log (fail_lines n) (said.Fail (suc n) Before ∷ [])))
 
   -- the turns that they name, and the others
   fails_named : (n : ℕ) (log : Lines P) (t : ℕ) → made_in log < t → t ≤ made_in log + n → named_in (fails_log n log) t ≡ Some Before
@@ -179,31 +184,26 @@ module _ {P : Protocol} where
   played_made n [] log = omega arith
   played_made n (c ∷ calls) log = let e = played_made n calls (Results n c.server c.ask c.origin (end_of n c.outcome) ∷ Does (Sends n c.server c.ask c.origin) ∷ log) in omega arith
 
-  -- the call has its result
-  back_in : (b : Bool) (n : ℕ) (ticket : Ticket) (tickets : List Ticket) → ticket.number ≡ n → tickets ≡ [] → cond b (without n (cond b (tickets ++ ticket ∷ []) tickets)) (cond b (tickets ++ ticket ∷ []) tickets) ≡ []
-  back_in true n ticket tickets e f = ap (λ l. without n (l ++ ticket ∷ [])) f ∙ pick_true (nat_eq ticket.number n) [] (ticket ∷ []) (eq-eqb ticket.number n e)
-  back_in false n ticket tickets e f = f
-
   module _ (words : Words) (Bars : ℕ → Ask → ℕ → Ask → Type 0) (opening : ℕ → List ℕ → Option Item) where
     abbrev Is : Lines P → Type 0
-    Is log = (depth window : ℕ) (text_of : Ask → Answer → List ℕ) → IsScript tt (λ tree. words) Bars opening depth window text_of (λ log server key. ⊥) log
+    Is log = (depth window : ℕ) (text_of : Ask → Answer → List ℕ) → IsScript (tt {0}) (λ tree. words) Bars opening depth window text_of (λ log server key. ⊥) log
 
     abbrev May : Lines P → Line P (Unit {0}) → Type 0
-    May log line = (depth window : ℕ) (text_of : Ask → Answer → List ℕ) → MayBe tt (λ tree. words) Bars opening depth window text_of (λ log server key. ⊥) log line
+    May log line = (depth window : ℕ) (text_of : Ask → Answer → List ℕ) → MayBe (tt {0}) (λ tree. words) Bars opening depth window text_of (λ log server key. ⊥) log line
 
     more : (log : Lines P) (line : Line P (Unit {0})) → May log line → Is log → Is (line ∷ log)
     more log line may is depth window text_of = (may depth window text_of, is depth window text_of)
 
-    pub record Rests (log : Lines P) (place : P.Place) : Type 0 where
-      pub core : RestsAt (core_of log) place
-      pub fed : (c : ℕ) → fed_of log c ≡ said_of log c
+    record Rests (log : Lines P) (place : P.Place) : Type 0 where
+      core : RestsAt (core_of log) place
+      fed : (c : ℕ) → fed_of log c ≡ said_of log c
       lost : (t : ℕ) → losses_of log t ≡ []
       script : Is log
 
     -- ---- the next event may be taken up
 
     module _ (depth window : ℕ) (text_of : Ask → Answer → List ℕ) where
-      over : (late : Option (Scripted (Unit {0}))) (core : List (Entry P)) → ((s : ℕ) → out_of core s ≡ []) → IsOver tt (λ tree. words) Bars opening depth window text_of (λ log server key. ⊥) late core
+      over : (late : Option (Scripted (Unit {0}))) (core : List (Entry P)) → ((s : ℕ) → out_of core s ≡ []) → IsOver (tt {0}) (λ tree. words) Bars opening depth window text_of (λ log server key. ⊥) late core
       over None core out = tt
       over (Some (Piece c b)) core out = out
       over (Some (Add c b)) core out = tt
@@ -215,7 +215,7 @@ module _ {P : Protocol} where
       over (Some (Moment m)) core out = tt
       over (Some (Reload t)) core out = tt
 
-      made : (now : Option (Scripted (Unit {0}))) (core : List (Entry P)) → ((s : ℕ) → out_of core s ≡ []) → IsMade tt (λ tree. words) Bars opening depth window text_of (λ log server key. ⊥) now core
+      made : (now : Option (Scripted (Unit {0}))) (core : List (Entry P)) → ((s : ℕ) → out_of core s ≡ []) → IsMade (tt {0}) (λ tree. words) Bars opening depth window text_of (λ log server key. ⊥) now core
       made None core out = tt
       made (Some (Piece c b)) core out = tt
       made (Some (Add c b)) core out = tt
@@ -227,7 +227,7 @@ module _ {P : Protocol} where
       made (Some (Moment m)) core out = tt
       made (Some (Reload t)) core out = tt
 
-      quiet : (core : List (Entry P)) → IsSettled core → IsQuiet tt (λ tree. words) Bars opening depth window text_of (λ log server key. ⊥) words core
+      quiet : (core : List (Entry P)) → IsSettled core → IsQuiet (tt {0}) (λ tree. words) Bars opening depth window text_of (λ log server key. ⊥) words core
       quiet core settled = (
         record {
           shown = λ c slot slots e. absurd (no_more (queue_of core c) slot slots (settled.shown c) e);
@@ -269,11 +269,11 @@ module _ {P : Protocol} where
       script : Is log
 
     -- what a piece with one command leaves
-    pub record Done (old new : Lines P) (text : List ℕ) (next : P.Place) (past : List Event) : Type 0 where
-      pub rests : Rests new next
-      pub run_is : run_of (core_of new) ≡ past
-      pub script_is : script_of new ≡ script_of old ++ Piece 0 text ∷ []
-      pub named : (t : ℕ) → named_in new t ≡ named_in old t
+    record Done (old new : Lines P) (text : List ℕ) (next : P.Place) (past : List Event) : Type 0 where
+      rests : Rests new next
+      run_is : run_of (core_of new) ≡ past
+      script_is : script_of new ≡ script_of old ++ Piece 0 text ∷ []
+      named : (t : ℕ) → named_in new t ≡ named_in old t
 
     module _ (old : Lines P) (place : P.Place) (rests : Rests old place) (n : ℕ) (part : Part P) (text : List ℕ) (reply : Answer) (from : Option ℕ) (one : IsOneAsk P place text part.ask reply part.message part.next) (first : part.index ≡ 0) where
       at_last : is_last part ≡ true
@@ -325,15 +325,15 @@ module _ {P : Protocol} where
       -- ---- a call
 
       module _ (ends : (m : ℕ) (ask : Ask) (front : List Call) (call : Call) (rest : List Call) (r1 r2 : Answer) (f1 f2 : Option ℕ) → words m ask front r1 f1 → words m ask (front ++ call ∷ rest) r2 f2 → ⊥) where
-        ends_as : (depth window : ℕ) (text_of : Ask → Answer → List ℕ) (ask : Ask) (name : Option Manner) (outcome : Outcome) → IsNamed name outcome → EndsAs tt (λ tree. words) Bars opening depth window text_of (λ log server key. ⊥) ask name (end_of n outcome)
-        ends_as depth window text_of ask name Failed is = subst (λ m. EndsAs tt (λ tree. words) Bars opening depth window text_of (λ log server key. ⊥) ask m (end_of n Failed)) (sym is) tt
-        ends_as depth window text_of ask name (Answered answer) is = subst (λ m. EndsAs tt (λ tree. words) Bars opening depth window text_of (λ log server key. ⊥) ask m (end_of n (Answered answer))) (sym is) tt
+        ends_as : (depth window : ℕ) (text_of : Ask → Answer → List ℕ) (ask : Ask) (name : Option Manner) (outcome : Outcome) → IsNamed name outcome → EndsAs {P = P} (tt {0}) (λ tree. words) Bars opening depth window text_of (λ log server key. ⊥) ask name (end_of n outcome)
+        ends_as depth window text_of ask name Failed is = subst (λ m. EndsAs {P = P} (tt {0}) (λ tree. words) Bars opening depth window text_of (λ log server key. ⊥) ask m (end_of n Failed)) (sym is) tt
+        ends_as depth window text_of ask name (Answered answer) is = subst (λ m. EndsAs {P = P} (tt {0}) (λ tree. words) Bars opening depth window text_of (λ log server key. ⊥) ask m (end_of n (Answered answer))) (sym is) tt
 
-        awaited : (depth window : ℕ) (text_of : Ask → Answer → List ℕ) (now late : Option (Scripted (Unit {0}))) (core : List (Entry P)) (server : ℕ) → ((now ≡ Some (Piece 0 text)) ⊎ (now ≡ None)) → late ≡ Some (Piece 0 text) → ((s : ℕ) → s < server → out_of core s ≡ []) → IsAwaited tt (λ tree. words) Bars opening depth window text_of (λ log server key. ⊥) now late core server
+        awaited : (depth window : ℕ) (text_of : Ask → Answer → List ℕ) (now late : Option (Scripted (Unit {0}))) (core : List (Entry P)) (server : ℕ) → ((now ≡ Some (Piece 0 text)) ⊎ (now ≡ None)) → late ≡ Some (Piece 0 text) → ((s : ℕ) → s < server → out_of core s ≡ []) → IsAwaited (tt {0}) (λ tree. words) Bars opening depth window text_of (λ log server key. ⊥) now late core server
         awaited depth window text_of now late core server (inl e) f h =
-            subst (λ a. IsAwaited tt (λ tree. words) Bars opening depth window text_of (λ log server key. ⊥) a late core server) (sym e) (subst (λ b. IsAwaited tt (λ tree. words) Bars opening depth window text_of (λ log server key. ⊥) (Some (Piece 0 text)) b core server) (sym f) h)
+            subst (λ a. IsAwaited (tt {0}) (λ tree. words) Bars opening depth window text_of (λ log server key. ⊥) a late core server) (sym e) (subst (λ b. IsAwaited (tt {0}) (λ tree. words) Bars opening depth window text_of (λ log server key. ⊥) (Some (Piece 0 text)) b core server) (sym f) h)
         awaited depth window text_of now late core server (inr e) f h =
-            subst (λ a. IsAwaited tt (λ tree. words) Bars opening depth window text_of (λ log server key. ⊥) a late core server) (sym e) (subst (λ b. IsAwaited tt (λ tree. words) Bars opening depth window text_of (λ log server key. ⊥) None b core server) (sym f) h)
+            subst (λ a. IsAwaited (tt {0}) (λ tree. words) Bars opening depth window text_of (λ log server key. ⊥) a late core server) (sym e) (subst (λ b. IsAwaited (tt {0}) (λ tree. words) Bars opening depth window text_of (λ log server key. ⊥) None b core server) (sym f) h)
 
         module _ (log : Lines P) (past : List Event) (busy : Busy old log n part text past) (c : Call) (may : MayCome words Bars opening past (Calls n c.server c.ask c.origin (end_of n c.outcome))) (name : IsNamed (named_in old (made_in log + 1)) c.outcome) where
           abbrev ticket : Ticket
@@ -380,7 +380,7 @@ module _ {P : Protocol} where
               ends n may.0 (calls_so_far past n) read_back front.0 r front.1 f front.2 here
               (subst (λ l. words n may.0 l front.1 front.2) (append_assoc (calls_so_far past n) (read_back ∷ []) front.0) front.3)
 
-          still : (depth window : ℕ) (text_of : Ask → Answer → List ℕ) → IsStill tt (λ tree. words) Bars opening depth window text_of (λ log server key. ⊥) words core1
+          still : (depth window : ℕ) (text_of : Ask → Answer → List ℕ) → IsStill (tt {0}) (λ tree. words) Bars opening depth window text_of (λ log server key. ⊥) words core1
           still depth window text_of = record {
             shown = by_client (λ d. (slot : Slot P) (slots : List (Slot P)) → queue_of core1 d ≡ slot ∷ slots → slot.reply ≡ None)
                 (λ slot slots e. ap (λ (s : Slot P). s.reply) (sym (same_head (queue_of core1 0) (slot_of n part) slot slots busy.core.queue e)))
@@ -424,7 +424,7 @@ module _ {P : Protocol} where
             served = busy.core.served;
           }
 
-          pub one_call : Busy old settled n part text (event ∷ past)
+          one_call : Busy old settled n part text (event ∷ past)
           one_call = record {
             core = subst (λ l. BusyAt (Happens event ∷ l) n part (event ∷ past)) (sym lost_none) settled_core;
             way = busy.way;
@@ -569,7 +569,7 @@ module _ (P : Protocol) (words : Words) (Bars : ℕ → Ask → ℕ → Ask → 
       (tries_named (named_in log1) delete.key (made_in log1) i front h1 (let e = i_is in omega arith) (λ t lt le. fails_named i log0 t (let z = zero1 in let a = lt in omega arith) (let z = zero1 in let a = le in omega arith)))
       (answered_named (named_in log1) (made_in log1 + length front) last a1 (λ t lt. fails_other i log0 t (let z = zero1 in let e = i_is in let a = lt in omega arith)))
 
-  script_is : ((((Hold s key (49 ∷ []) ∷ map in_log (fail_lines i)) ++ Piece 0 text1 ∷ []) ++ map in_log (fail_lines j)) ++ Piece 0 text2 ∷ []) ≡ map in_log (leaking_script s key i text1 j text2)
+  script_is : ◌≡◌ {A = List (Scripted (Unit {0}))} ((((Hold s key (49 ∷ []) ∷ map in_log (fail_lines i)) ++ Piece 0 text1 ∷ []) ++ map in_log (fail_lines j)) ++ Piece 0 text2 ∷ []) (map in_log (leaking_script s key i text1 j text2))
   script_is =
       let one = said.Hold s key (49 ∷ []) ∷ fail_lines i in
       let two = one ++ said.Piece 0 text1 ∷ [] in
