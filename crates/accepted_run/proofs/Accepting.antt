@@ -1,10 +1,7 @@
 -- From generations of trees to one run of the tree in use.
 use Rattle.std.proofs.Common.{◌≡◌, ℕ, zero, suc, ◌-◌, List, [], ◌∷◌, length, slice_get, take, Some, ◌∙◌, subst, arith}
 use Rattle.mc_runs.specs.Run.{IsFresh}
-use Rattle.mc_runs.specs.Log.{Shown, run_of}
 use Rattle.mc_runs.specs.Freshness.{RunsAreFresh}
-use Rattle.mc_runs.proofs.LogRuns.{runs}
-use Rattle.mc_runs.proofs.LogStale.{fresh_has_none}
 use Rattle.route_tree.specs.Route.{Route}
 use Rattle.route_tree.specs.Direct.{words_of}
 use Rattle.route_json.specs.Configuration.{Configuration}

@@ -1,7 +1,6 @@
 -- What a script does through trees that the gate was asked for, one after another. Source: mcgate's own.
 use Rattle.std.specs.Prelude.{◌≡◌, ℕ, Bool, true, false, List, [], ◌∷◌, ◌++◌, length, map, take, Option, Some, None}
 use Rattle.mc_runs.specs.Run.{IsFresh}
-use Rattle.mc_runs.specs.Log.{Shown, run_of}
 use Rattle.route_tree.specs.Route.{Route}
 use Rattle.route_json.specs.Configuration.{Configuration}
 use Rattle.route_json.specs.Servers.{Addresses}

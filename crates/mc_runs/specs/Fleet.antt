@@ -4,7 +4,6 @@ use Rattle.mc_types.specs.declared.ask.Ask.{Ask}
 use Rattle.mc_types.specs.declared.answer.Answer.{Answer}
 use Rattle.mc_types.specs.declared.call.Origin.{Origin}
 use Rattle.mc_types.specs.declared.call.Origin.TheVariants.{Client, CopyOf}
-use Rattle.mc_types.specs.declared.call.Outcome.TheVariants.{Failed}
 use Rattle.mc_types.specs.Items.{Item, after_call}
 use Rattle.mc_types.specs.Agree.{Agrees}
 use Rattle.mc_runs.specs.Run.{Call, End, Read, Unread, Never, outcome_of, Event, Begins, Calls, Replies, Loses, Restarts, held, IsNewNumber, IsFront, Run, IsOneAtATime}
@@ -72,10 +71,6 @@ pub record MakesCall (number : ℕ) (old : State) (call : Call) (new : State) : 
 abbrev pub MakesCalls : ℕ → State → List Call → State → Type 0
 MakesCalls number old [] new = new ≡ old
 MakesCalls number old (call ∷ calls) new = (mid : State) × MakesCall number old call mid × MakesCalls number mid calls new
-
--- a call that found no memory leaves what a failed call leaves, applied or not
-abbrev pub BreaksCall : ℕ → State → ℕ → Ask → Origin → State → Type 0
-BreaksCall number old server ask origin new = MakesCall number old (record { server = server; ask = ask; origin = origin; outcome = Failed }) new
 
 -- each call is on this key
 abbrev pub AreOn : List ℕ → List Call → Type 0

@@ -3,6 +3,7 @@ use Rattle.std.proofs.Common.{◌≡◌, ℕ, true, List, Option, Some, None, Is
 use Rattle.std.proofs.lemmas.Int.{ints}
 use Rattle.mc_types.specs.declared.ask.Op.{Op}
 use Rattle.mc_types.specs.declared.ask.Op.TheVariants.{Get, Gat, Set, Add, Replace, Append, Prepend, Cas, Delete, Incr, Decr, Touch}
+use Rattle.mc_types.specs.declared.ask.Ask.{Ask}
 use Rattle.mc_types.specs.KeyText.{IsKey}
 use Rattle.mc_types.specs.Agree.{Agrees}
 use Rattle.mc_types.specs.Asks.{IsAsk}
@@ -73,15 +74,15 @@ some_number : (o : Option ℕ) → IsSome o → (n : ℕ) × (o ≡ Some n)
 some_number (Some n) h = (n, refl)
 some_number None h = absurd (cc)
 
-numbers_leak : NumbersLeak
-numbers_leak at opening key op kind s i j k h good1 good2 baited e f =
-    gaps_leak at opening (delete_of kind key) (read_of op key) s i j (answer_of op) good1 good2 (is_bait opening key op kind s k h baited) e f
+numbers_leak : (Bars : ℕ → Ask → ℕ → Ask → Type 0) → NumbersLeak Bars
+numbers_leak Bars at opening key op kind s i j k h good1 good2 baited e f =
+    gaps_leak Bars at opening (delete_of kind key) (read_of op key) s i j (answer_of op) good1 good2 (is_bait opening key op kind s k h baited) e f
 
-gaps_have_leaks : GapsHaveLeaks
-gaps_have_leaks at opening key op kind s k h good1 good2 baited direct1 direct2 takes leaves =
+gaps_have_leaks : (Bars : ℕ → Ask → ℕ → Ask → Type 0) → GapsHaveLeaks Bars
+gaps_have_leaks Bars at opening key op kind s k h good1 good2 baited direct1 direct2 takes leaves =
     let i = some_number (acks s (at 1 key)) (gaps_have_words.kept (at 1 key) s kind good1 direct1 leaves) in
     let j = some_number (finds op s (at 2 key)) (gaps_have_words.taken (at 2 key) op s good2 direct2 takes) in
-    (i.0, j.0, i.1, j.1, numbers_leak at opening key op kind s i.0 j.0 k h good1 good2 baited i.1 j.1)
+    (i.0, j.0, i.1, j.1, numbers_leak Bars at opening key op kind s i.0 j.0 k h good1 good2 baited i.1 j.1)
 
-pub bait_is_taken : BaitIsTaken
-bait_is_taken = record { numbers = numbers_leak; gaps = gaps_have_leaks }
+pub bait_is_taken : (Bars : ℕ → Ask → ℕ → Ask → Type 0) → BaitIsTaken Bars
+bait_is_taken Bars = record { numbers = numbers_leak Bars; gaps = gaps_have_leaks Bars }

@@ -142,9 +142,6 @@ module _ (s : ℕ) (ask : Ask) (answer : Answer) (fits : Fits ask answer) (showi
       (front : List Call) × W b (front ++ answered s ask answer ∷ []) (record { reply = answer; from = Some (b + n) })
       × Each (IsTry ask.key) front × (length front ≡ n)
 
-  given_at : (k : ℕ) → Given
-  given_at k = record { reply = answer; from = Some k }
-
   shown_given : (b n : ℕ) → 0 ≡ n → (record { reply = answer; from = Some (b + n) }) ≡ given_by b (Answered answer)
   shown_given b n z =
       let q : Some (b + n) ≡ cond (shows answer) (Some b) None = ap Some (let e = z in omega arith) ∙ sym (pick_true (shows answer) (Some b) None showing) in

@@ -1,7 +1,6 @@
 -- Where both numbers are computed, there is a run of that script, and it isn't fresh.
-use Rattle.std.proofs.Common.{◌≡◌, ℕ, ◌+◌, ◌<◌, Bool, true, false, cond, List, [], ◌∷◌, ◌++◌, length, Option, Some, None, inl, inr, ⊎_elim, refl, sym, ap, ap₂, ◌∙◌, subst, arith, nat_eq, bytes_eq, append_assoc, append-nil}
+use Rattle.std.proofs.Common.{◌≡◌, ℕ, ◌+◌, ◌<◌, Bool, true, false, cond, List, [], ◌∷◌, ◌++◌, length, Option, Some, None, inl, inr, ⊎_elim, refl, sym, ap, ap₂, ◌∙◌, subst, arith, nat_eq, append_assoc, append-nil}
 use Rattle.std.proofs.lemmas.Bool.{eqb-true, eq-eqb}
-use Rattle.std.proofs.lemmas.Slice.Eq.{bytes_eq-Decides}
 use Rattle.mc_types.specs.declared.ask.Op.TheVariants.{Delete}
 use Rattle.mc_types.specs.declared.ask.Dialect.{Dialect}
 use Rattle.mc_types.specs.declared.ask.Dialect.TheVariants as dialects
@@ -13,7 +12,9 @@ use Rattle.mc_types.specs.Acknowledged.{says_gone}
 use Rattle.mc_types.specs.Agree.{Agrees, AgreesAs, AgreesHeld}
 use Rattle.mc_types.specs.Items.{Item}
 use Rattle.mc_runs.specs.Life.{Mark, held_in}
-use Rattle.mc_runs.specs.Run.{Call, Read, outcome_of, Event, Begins, Calls, Replies, marks_of, life_of, under_way, calls_so_far, held, item_at, EndsWell, IsNewNumber, IsFront, Run, IsAcknowledged, IsShown}
+use Rattle.mc_runs.specs.Run.{Call, Read, outcome_of, marks_of}
+use Rattle.mc_runs.specs.Sharing.{Event, Begins, Calls, Replies, life_of, under_way, calls_so_far, held, item_at, EndsWell, IsNewNumber, IsFront, Run, IsAcknowledged, IsShown}
+use Rattle.mc_runs.proofs.Sharing.{new_calls}
 use Rattle.route_tree.specs.Each.{Each}
 use Rattle.route_tree.specs.Plan.{Plan}
 use Rattle.route_tree.specs.Word.{answer_of_nothing, tree_words}
@@ -23,9 +24,6 @@ use Rattle.refusal_words.specs.Leaking.{end_of, played, deleted_run, leaking_run
 use Rattle.refusal_words.proofs.Trying.{pick_true, pick_false}
 use Rattle.refusal_words.proofs.Beside.{gaps_have_words}
 
-same_text : (k l : List ℕ) → k ≡ l → bytes_eq k l ≡ true
-same_text k l e = (bytes_eq-Decides k l).1 e
-
 same_end : (n : ℕ) (o : Outcome) → outcome_of (end_of n o) ≡ o
 same_end n (Answered answer) = refl
 same_end n Failed = refl
@@ -33,9 +31,6 @@ same_end n Failed = refl
 cond_same : {A : Type 0} (t : Bool) (a : A) → cond t a a ≡ a
 cond_same true a = refl
 cond_same false a = refl
-
-event_of : ℕ → Call → Event
-event_of n c = Calls n c.server c.ask c.origin (end_of n c.outcome)
 
 -- the call as a run reads it back
 abbrev read_back : ℕ → Call → Call
@@ -63,28 +58,41 @@ acked_played : (n k : ℕ) (delete : Ask) (calls : List Call) (past : List Event
 acked_played n k delete [] past h = h
 acked_played n k delete (c ∷ calls) past h = acked_played n k delete calls (Calls n c.server c.ask c.origin (end_of n c.outcome) ∷ past) (inr h)
 
+-- ---- no command is under way once the only one has its reply
+
+under_played : (n m : ℕ) (calls : List Call) (past : List Event) → under_way (played n calls past) m ≡ under_way past m
+under_played n m [] past = refl
+under_played n m (c ∷ calls) past = under_played n m calls (Calls n c.server c.ask c.origin (end_of n c.outcome) ∷ past)
+
+over_after : {A : Type 0} (t : Bool) (x : A) → cond t None (cond t (Some x) None) ≡ None
+over_after true x = refl
+over_after false x = refl
+
+none_deleted : (delete : Ask) (front last : List Call) (m : ℕ) → under_way (deleted_run delete front last) m ≡ None
+none_deleted delete front last m =
+    ap (λ (o : Option Ask). cond (nat_eq 1 m) None o) (under_played 1 m last (played 1 front (Begins 1 delete ∷ [])) ∙ under_played 1 m front (Begins 1 delete ∷ [])) ∙ over_after (nat_eq 1 m) delete
+
 -- ---- a command goes on by its word's calls
 
-module _ (at : ℕ → List ℕ → Plan) (opening : ℕ → List ℕ → Option Item) where
+module _ (at : ℕ → List ℕ → Plan) (Bars : ℕ → Ask → ℕ → Ask → Type 0) (opening : ℕ → List ℕ → Option Item) where
   -- the command has made these calls
   record Stage (past : List Event) (n : ℕ) (ask : Ask) (made : List Call) : Type 0 where
-    run : Run (tree_words at) opening past
-    under : under_way past ask.key ≡ Some (record { number = n; ask = ask })
-    so_far : calls_so_far past ask.key ≡ made
+    run : Run (tree_words at) Bars opening past
+    under : under_way past n ≡ Some ask
+    so_far : calls_so_far past n ≡ made
 
-  begins : (past : List Event) (n : ℕ) (ask : Ask) → Run (tree_words at) opening past → IsNewNumber n past → Stage (Begins n ask ∷ past) n ask []
-  begins past n ask run new =
-      let e = same_text ask.key ask.key refl in
-      record { run = (new, run); under = pick_true (bytes_eq ask.key ask.key) (Some (record { number = n; ask = ask })) (under_way past ask.key) e; so_far = pick_true (bytes_eq ask.key ask.key) [] (calls_so_far past ask.key) e }
+  begins : (past : List Event) (n : ℕ) (ask : Ask) → Run (tree_words at) Bars opening past → IsNewNumber n past → ((m : ℕ) → under_way past m ≡ None) → Stage (Begins n ask ∷ past) n ask []
+  begins past n ask run new none =
+      record { run = ((new, λ other client e same. absurd (let no = none other in cc)), run); under = pick_true (nat_eq n n) (Some ask) (under_way past n) (eq-eqb n n refl); so_far = new_calls n past new }
 
   step : (past : List Event) (n : ℕ) (ask : Ask) (made : List Call) (c : Call) → c.ask.key ≡ ask.key → Stage past n ask made → (rest : List Call) (reply : Answer) (from : Option ℕ) → tree_words at n ask ((made ++ c ∷ []) ++ rest) reply from → EndsWell opening past n c.server c.ask c.origin (end_of n c.outcome) → Stage (Calls n c.server c.ask c.origin (end_of n c.outcome) ∷ past) n ask (made ++ c ∷ [])
   step past n ask made c key st rest reply from word well =
-      let joined : calls_so_far past c.ask.key ++ read_back n c ∷ [] ≡ made ++ c ∷ [] = ap₂ (λ l x. l ++ x ∷ []) (ap (calls_so_far past) key ∙ st.so_far) (same_back n c) in
-      let front : IsFront (tree_words at) n ask (calls_so_far past c.ask.key ++ read_back n c ∷ []) = (rest, reply, from, subst (λ l. tree_words at n ask (l ++ rest) reply from) (sym joined) word) in
+      let joined : calls_so_far past n ++ read_back n c ∷ [] ≡ made ++ c ∷ [] = ap₂ (λ l x. l ++ x ∷ []) st.so_far (same_back n c) in
+      let front : IsFront (tree_words at) n ask (calls_so_far past n ++ read_back n c ∷ []) = (rest, reply, from, subst (λ l. tree_words at n ask (l ++ rest) reply from) (sym joined) word) in
       record {
-        run = ((ask, ap (under_way past) key ∙ st.under, front, well), st.run);
+        run = ((ask, st.under, key, front, well), st.run);
         under = st.under;
-        so_far = pick_true (bytes_eq c.ask.key ask.key) (calls_so_far past ask.key ++ read_back n c ∷ []) (calls_so_far past ask.key) (same_text c.ask.key ask.key key) ∙ ap₂ (λ l x. l ++ x ∷ []) st.so_far (same_back n c);
+        so_far = pick_true (nat_eq n n) (calls_so_far past n ++ read_back n c ∷ []) (calls_so_far past n) (eq-eqb n n refl) ∙ joined;
       }
 
   tries_go : (past : List Event) (n : ℕ) (ask : Ask) (made calls : List Call) → Each (IsTry ask.key) calls → Stage past n ask made → (rest : List Call) (reply : Answer) (from : Option ℕ) → tree_words at n ask ((made ++ calls) ++ rest) reply from → Stage (played n calls past) n ask (made ++ calls)
@@ -95,8 +103,8 @@ module _ (at : ℕ → List ℕ → Plan) (opening : ℕ → List ℕ → Option
       let st' = step past n ask made c h.0.0 st (calls ++ rest) reply from (subst (λ l. tree_words at n ask l reply from) (append_assoc (made ++ c ∷ []) calls rest) whole) (subst (λ o. EndsWell opening past n c.server c.ask c.origin (end_of n o)) (sym h.0.1) tt) in
       subst (Stage (played n (c ∷ calls) past) n ask) joined (tries_go (Calls n c.server c.ask c.origin (end_of n c.outcome) ∷ past) n ask (made ++ c ∷ []) calls h.1 st' rest reply from whole)
 
-  replies : (past : List Event) (n : ℕ) (ask : Ask) (made : List Call) → Stage past n ask made → (reply : Answer) (from : Option ℕ) → tree_words at n ask made reply from → Run (tree_words at) opening (Replies n ask.key reply from ∷ past)
-  replies past n ask made st reply from word = ((ask, st.under, subst (λ l. tree_words at n ask l reply from) (sym st.so_far) word), st.run)
+  replies : (past : List Event) (n : ℕ) (ask : Ask) (made : List Call) → Stage past n ask made → (reply : Answer) (from : Option ℕ) → tree_words at n ask made reply from → Run (tree_words at) Bars opening (Replies n ask.key reply from ∷ past)
+  replies past n ask made st reply from word = ((ask, st.under, refl, subst (λ l. tree_words at n ask l reply from) (sym st.so_far) word), st.run)
 
   -- ---- the two commands
 
@@ -126,7 +134,7 @@ module _ (at : ℕ → List ℕ → Plan) (opening : ℕ → List ℕ → Option
 
     deletes : (front last : List Call) → Each (IsTry delete.key) front → IsElsewhere s delete last → tree_words at 1 delete (front ++ last) nothing None → Deleted (played 1 last (played 1 front (Begins 1 delete ∷ []))) (front ++ last)
     deletes front last h (inl e) word =
-        let st = tries_go (Begins 1 delete ∷ []) 1 delete [] front h (begins [] 1 delete tt (omega arith)) last nothing None word in
+        let st = tries_go (Begins 1 delete ∷ []) 1 delete [] front h (begins [] 1 delete tt (omega arith) (λ m. refl)) last nothing None word in
         subst (λ l. Deleted (played 1 l (played 1 front (Begins 1 delete ∷ []))) (front ++ l)) (sym e)
         (record {
           stage = subst (Stage (played 1 front (Begins 1 delete ∷ [])) 1 delete) (sym (append-nil front)) st;
@@ -136,7 +144,7 @@ module _ (at : ℕ → List ℕ → Plan) (opening : ℕ → List ℕ → Option
     deletes front last h (inr more) word =
         let t = more.0 in
         let past = played 1 front (Begins 1 delete ∷ []) in
-        let st = tries_go (Begins 1 delete ∷ []) 1 delete [] front h (begins [] 1 delete tt (omega arith)) last nothing None word in
+        let st = tries_go (Begins 1 delete ∷ []) 1 delete [] front h (begins [] 1 delete tt (omega arith) (λ m. refl)) last nothing None word in
         let c = answered t delete nothing in
         let whole : tree_words at 1 delete ((front ++ c ∷ []) ++ []) nothing None = subst (λ l. tree_words at 1 delete l nothing None) (sym (append-nil (front ++ c ∷ []))) (subst (λ l. tree_words at 1 delete (front ++ l) nothing None) more.2 word) in
         let empty : held opening past t delete.key ≡ None = ap (λ l. held_in (opening t delete.key) l delete.key) (life_played 1 delete.key front (Begins 1 delete ∷ []) t h) ∙ bait.alone t more.1 in
@@ -148,14 +156,14 @@ module _ (at : ℕ → List ℕ → Plan) (opening : ℕ → List ℕ → Option
           new = (omega arith, new_played 2 1 front (Begins 1 delete ∷ []) (omega arith) (omega arith, omega arith));
         })
 
-    leaks_in : (front last back : List Call) (i j : ℕ) → tree_words at 1 delete (front ++ last) nothing None → Each (IsTry delete.key) front → length front ≡ i → IsElsewhere s delete last → tree_words at 2 read (back ++ answered s read answer ∷ []) answer (Some j) → Each (IsTry read.key) back → length back ≡ j → LeaksIn at opening delete read s i j answer
+    leaks_in : (front last back : List Call) (i j : ℕ) → tree_words at 1 delete (front ++ last) nothing None → Each (IsTry delete.key) front → length front ≡ i → IsElsewhere s delete last → tree_words at 2 read (back ++ answered s read answer ∷ []) answer (Some j) → Each (IsTry read.key) back → length back ≡ j → LeaksIn at Bars opening delete read s i j answer
     leaks_in front last back i j word h len else_where shown hb lenb =
         let d = deletes front last h else_where word in
         let past2 = played 1 last (played 1 front (Begins 1 delete ∷ [])) in
         let r3 = deleted_run delete front last in
-        let run3 : Run (tree_words at) opening r3 = replies past2 1 delete (front ++ last) d.stage nothing None word in
-        let acked3 : IsAcknowledged r3 1 delete = inl (refl, refl, d.stage.under, (bait.deletes, gone)) in
-        let st4 = begins r3 2 read run3 (omega arith, d.new) in
+        let run3 : Run (tree_words at) Bars opening r3 = replies past2 1 delete (front ++ last) d.stage nothing None word in
+        let acked3 : IsAcknowledged r3 1 delete = inl (refl, d.stage.under, (bait.deletes, gone)) in
+        let st4 = begins r3 2 read run3 (omega arith, d.new) (none_deleted delete front last) in
         let shown' : tree_words at 2 read (back ++ answered s read answer ∷ []) answer (Some (length back)) = subst (λ k. tree_words at 2 read (back ++ answered s read answer ∷ []) answer (Some k)) (sym lenb) shown in
         let st5 = tries_go (Begins 2 read ∷ r3) 2 read [] back hb st4 (answered s read answer ∷ []) answer (Some (length back)) shown' in
         let r5 = played 2 back (Begins 2 read ∷ r3) in
@@ -163,9 +171,8 @@ module _ (at : ℕ → List ℕ → Plan) (opening : ℕ → List ℕ → Option
         let c = answered s read answer in
         let st6 = step r5 2 read back c refl st5 [] answer (Some (length back)) (subst (λ l. tree_words at 2 read l answer (Some (length back))) (sym (append-nil (back ++ c ∷ []))) shown') (subst (Agrees read answer) (sym still) bait.agrees, refl) in
         let r6 = played 2 (c ∷ []) r5 in
-        let found : item_at opening r6 read.key (length back) ≡ Some bait.item =
-        pick_true (bytes_eq read.key read.key) (cond (nat_eq (length (calls_so_far r5 read.key)) (length back)) (held opening r5 s read.key) (item_at opening r5 read.key (length back))) (item_at opening r5 read.key (length back)) (same_text read.key read.key refl)
-        ∙ pick_true (nat_eq (length (calls_so_far r5 read.key)) (length back)) (held opening r5 s read.key) (item_at opening r5 read.key (length back)) (eq-eqb (length (calls_so_far r5 read.key)) (length back) (ap length st5.so_far))
+        let found : item_at opening r6 2 (length back) ≡ Some bait.item =
+        pick_true (nat_eq (length (calls_so_far r5 2)) (length back)) (held opening r5 s read.key) (item_at opening r5 2 (length back)) (eq-eqb (length (calls_so_far r5 2)) (length back) (ap length st5.so_far))
         ∙ still in
         record {
           front = front;
@@ -184,9 +191,9 @@ module _ (at : ℕ → List ℕ → Plan) (opening : ℕ → List ℕ → Option
               let old = bait.old in omega arith;
         }
 
-pub gaps_leak : GapsLeak
-gaps_leak at opening delete read s i j answer good1 good2 bait e f =
+pub gaps_leak : (Bars : ℕ → Ask → ℕ → Ask → Type 0) → GapsLeak Bars
+gaps_leak Bars at opening delete read s i j answer good1 good2 bait e f =
     let a = gaps_have_words.acked (at 1 delete.key) s i delete good1 bait.deletes bait.gone_fits e in
     let b = gaps_have_words.found (at 2 read.key) s j read answer good2 bait.fits bait.showing bait.done f in
     let z : 0 + j ≡ j = omega arith in
-    leaks_in at opening delete read s answer bait a.0 a.1 b.0 i j (bait.delete_is, a.2) a.3 a.4 a.5 (subst (λ k. tree_words at 2 read (b.0 ++ answered s read answer ∷ []) answer (Some k)) z (bait.read_is, b.1)) b.2 b.3
+    leaks_in at Bars opening delete read s answer bait a.0 a.1 b.0 i j (bait.delete_is, a.2) a.3 a.4 a.5 (subst (λ k. tree_words at 2 read (b.0 ++ answered s read answer ∷ []) answer (Some k)) z (bait.read_is, b.1)) b.2 b.3

@@ -47,20 +47,20 @@ abbrev pub IsBaited : (ℕ → List ℕ → Option Item) → ℕ → List ℕ �
 IsBaited opening s key = (opening s key ≡ Some bait) × ((t : ℕ) → t ≢ s → opening t key ≡ None)
 
 -- where both numbers are computed, the script leaks: all calls fail but the one that acknowledges, if there is one, and the one that shows
-abbrev pub NumbersLeak : Type 0
-NumbersLeak =
+abbrev pub NumbersLeak : (ℕ → Ask → ℕ → Ask → Type 0) → Type 0
+NumbersLeak Bars =
     (at : ℕ → List ℕ → Plan) (opening : ℕ → List ℕ → Option Item) (key : List ℕ) (op : Op) (kind : Deleting) (s i j : ℕ)
     → IsKey key → IsTaking op → IsGood (at 1 key) → IsGood (at 2 key) → IsBaited opening s key
-    → acks s (at 1 key) ≡ Some i → finds op s (at 2 key) ≡ Some j → LeaksIn at opening (delete_of kind key) (read_of op key) s i j (answer_of op)
+    → acks s (at 1 key) ≡ Some i → finds op s (at 2 key) ≡ Some j → LeaksIn at Bars opening (delete_of kind key) (read_of op key) s i j (answer_of op)
 
 -- for a real gap both are computed, an all-sync or a warm-up aside; and then a script leaks
-abbrev pub GapsHaveLeaks : Type 0
-GapsHaveLeaks =
+abbrev pub GapsHaveLeaks : (ℕ → Ask → ℕ → Ask → Type 0) → Type 0
+GapsHaveLeaks Bars =
     (at : ℕ → List ℕ → Plan) (opening : ℕ → List ℕ → Option Item) (key : List ℕ) (op : Op) (kind : Deleting) (s : ℕ)
     → IsKey key → IsTaking op → IsGood (at 1 key) → IsGood (at 2 key) → IsBaited opening s key
     → IsDirect Delete (at 1 key) → IsDirect op (at 2 key) → Takes (at 2 key) op s → (Clears (at 1 key) kind s → ⊥)
-    → (i j : ℕ) × (acks s (at 1 key) ≡ Some i) × (finds op s (at 2 key) ≡ Some j) × LeaksIn at opening (delete_of kind key) (read_of op key) s i j (answer_of op)
+    → (i j : ℕ) × (acks s (at 1 key) ≡ Some i) × (finds op s (at 2 key) ≡ Some j) × LeaksIn at Bars opening (delete_of kind key) (read_of op key) s i j (answer_of op)
 
-pub record BaitIsTaken : Type 0 where
-  pub numbers : NumbersLeak
-  pub gaps : GapsHaveLeaks
+pub record BaitIsTaken (Bars : ℕ → Ask → ℕ → Ask → Type 0) : Type 0 where
+  pub numbers : NumbersLeak Bars
+  pub gaps : GapsHaveLeaks Bars

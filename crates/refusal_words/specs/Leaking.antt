@@ -11,7 +11,8 @@ use Rattle.mc_types.specs.Fits.{Fits}
 use Rattle.mc_types.specs.Items.{Item}
 use Rattle.mc_types.specs.Rank.{rank_of}
 use Rattle.mc_types.specs.Shows.{shows}
-use Rattle.mc_runs.specs.Run.{Call, End, Read, Never, Event, Begins, Calls, Replies, Run, IsFresh}
+use Rattle.mc_runs.specs.Run.{Call, End, Read, Never}
+use Rattle.mc_runs.specs.Sharing.{Event, Begins, Calls, Replies, Run, IsFreshByNumber}
 use Rattle.route_tree.specs.Each.{Each}
 use Rattle.route_tree.specs.Plan.{Plan, IsGood}
 use Rattle.route_tree.specs.Word.{answer_of_nothing, tree_words}
@@ -36,8 +37,8 @@ abbrev pub leaking_run : (delete read : Ask) (front last back : List Call) (s : 
 leaking_run delete read front last back s answer =
     Replies 2 read.key answer (Some (length back)) ∷ played 2 (answered s read answer ∷ []) (played 2 back (Begins 2 read ∷ deleted_run delete front last))
 
--- a run of these words in which the first i calls of the delete and the first j of the read fail, not applied; a further call of the delete, if there is one, is of a server other than s, and answered that nothing is there; a further one of the read is of s, and shows what was there before the run. It isn't fresh
-pub record LeaksIn (at : ℕ → List ℕ → Plan) (opening : ℕ → List ℕ → Option Item) (delete read : Ask) (s i j : ℕ) (answer : Answer) : Type 0 where
+-- a run of these words, in which the first i calls of the delete and the first j of the read fail, not applied; a further call of the delete, if there is one, is of a server other than s, and answered that nothing is there; a further one of the read is of s, and shows what was there before the run. It isn't fresh
+pub record LeaksIn (at : ℕ → List ℕ → Plan) (Bars : ℕ → Ask → ℕ → Ask → Type 0) (opening : ℕ → List ℕ → Option Item) (delete read : Ask) (s i j : ℕ) (answer : Answer) : Type 0 where
   pub front : List Call
   pub last : List Call
   pub back : List Call
@@ -46,8 +47,12 @@ pub record LeaksIn (at : ℕ → List ℕ → Plan) (opening : ℕ → List ℕ 
   pub elsewhere : IsElsewhere s delete last
   pub later : Each (IsTry read.key) back
   pub later_are : length back ≡ j
-  pub run : Run (tree_words at) opening (leaking_run delete read front last back s answer)
-  pub leaks : IsFresh opening (leaking_run delete read front last back s answer) → ⊥
+  pub run : Run (tree_words at) Bars opening (leaking_run delete read front last back s answer)
+  pub leaks : IsFreshByNumber opening (leaking_run delete read front last back s answer) → ⊥
+
+-- each command has its key alone
+abbrev pub alone : ℕ → Ask → ℕ → Ask → Type 0
+alone number ask other client = Unit {0}
 
 -- what is asked of the two commands, and of what server s alone holds of the key
 pub record IsBait (opening : ℕ → List ℕ → Option Item) (delete read : Ask) (s : ℕ) (answer : Answer) : Type 0 where
@@ -65,9 +70,9 @@ pub record IsBait (opening : ℕ → List ℕ → Option Item) (delete read : As
   pub done : rank_of answer ≡ 0
   pub agrees : Agrees read answer (Some item)
 
--- where both numbers are computed, there is such a run; the trees of the two commands may differ
-abbrev pub GapsLeak : Type 0
-GapsLeak =
+-- where both numbers are computed, there is such a run, whichever commands bar one another; the trees of the two commands may differ
+abbrev pub GapsLeak : (ℕ → Ask → ℕ → Ask → Type 0) → Type 0
+GapsLeak Bars =
     (at : ℕ → List ℕ → Plan) (opening : ℕ → List ℕ → Option Item) (delete read : Ask) (s i j : ℕ) (answer : Answer)
     → IsGood (at 1 delete.key) → IsGood (at 2 read.key) → IsBait opening delete read s answer
-    → acks s (at 1 delete.key) ≡ Some i → finds read.op s (at 2 read.key) ≡ Some j → LeaksIn at opening delete read s i j answer
+    → acks s (at 1 delete.key) ≡ Some i → finds read.op s (at 2 read.key) ≡ Some j → LeaksIn at Bars opening delete read s i j answer

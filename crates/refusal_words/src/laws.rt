@@ -2,7 +2,7 @@
 
 ghost use Rattle.refusal_words.specs.Determined.{AreDetermined};
 ghost use Rattle.refusal_words.specs.Beside.{GapsHaveWords};
-ghost use Rattle.refusal_words.specs.Leaking.{GapsLeak};
+ghost use Rattle.refusal_words.specs.Leaking.{GapsLeak, alone};
 ghost use Rattle.refusal_words.specs.Bait.{BaitIsTaken};
 
 /// A word of a plain tree for an ask is determined by the outcomes of its calls.
@@ -16,12 +16,12 @@ pub fn gaps_have_words()
     ensures { GapsHaveWords }
 {}
 
-/// Where both numbers are computed, a run of that script isn't fresh.
+/// Where both numbers are computed, a run of that script, each command alone on its key, isn't fresh.
 pub fn gaps_leak()
-    ensures { GapsLeak }
+    ensures { GapsLeak alone }
 {}
 
 /// A gap has a script that leaks, an all-sync or a warm-up aside, by these very commands.
 pub fn bait_is_taken()
-    ensures { BaitIsTaken }
+    ensures { BaitIsTaken alone }
 {}

@@ -1,8 +1,9 @@
 -- What a refusal run is, and that a gap without an all-sync and a warm-up has one.
 use Rattle.std.proofs.Common.{◌≡◌, ℕ, ◌<◌, Bool, true, false, not, cond, nat_eq, List, [], length, map, Option, Some, None, IsSome, IfSome, inl, inr, refl, sym, ap, ◌∙◌, subst}
 use Rattle.mc_types.specs.declared.ask.Op.TheVariants.{Delete}
+use Rattle.mc_types.specs.declared.ask.Ask.{Ask}
 use Rattle.std.proofs.lemmas.Bool.{eq-eqb}
-use Rattle.std.proofs.lemmas.List.{length-map, length-replicate}
+use Rattle.std.proofs.lemmas.List.{length-replicate}
 use Rattle.mc_runs.specs.Log.{Scripted, Shown}
 use Rattle.mc_runs.specs.Overlap.{run_of}
 use Rattle.mc_runs.specs.Sharing.{AreAlone}
@@ -72,8 +73,11 @@ module _ (config : Configuration) (gap : Gap) (key : List ℕ) (f : Failures) (t
   abbrev events : List Scripted
   events = script_for gap.server key gap.op f.delete f.read
 
-  leaks : Leaks memcached_text (words_of config.tree) (opening_of events) events
-  leaks = numbers_have_script memcached_text (λ n k. tree_at config.tree k) (opening_of events) key gap.op kinds.Delete gap.server (delete_text key) (read_text gap.op key) (Whole (message_of (delete_of kinds.Delete key))) (Whole (message_of (read_of gap.op key))) (Stands Nothing []) (Stands Nothing []) first.is_key.key_is taking good good (baited gap.server key f.delete f.read (delete_text key) (read_text gap.op key)) quiet_start (one_delete key (answer_of_nothing (dialect_of kinds.Delete) Delete) first.is_key.key_is) (one_read gap.op key (answer_of gap.op) taking first.is_key.key_is) f.delete f.read numbers.0 numbers.1
+  abbrev bars : ℕ → Ask → ℕ → Ask → Type 0
+  bars = bars_by Alone (λ n k. tree_at config.tree k)
+
+  leaks : Leaks memcached_text (words_of config.tree) bars (opening_of events) events
+  leaks = numbers_have_script memcached_text (λ n k. tree_at config.tree k) bars (opening_of events) key gap.op kinds.Delete gap.server (delete_text key) (read_text gap.op key) (Whole (message_of (delete_of kinds.Delete key))) (Whole (message_of (read_of gap.op key))) (Stands Nothing []) (Stands Nothing []) first.is_key.key_is taking good good (baited gap.server key f.delete f.read (delete_text key) (read_text gap.op key)) quiet_start (one_delete key (answer_of_nothing (dialect_of kinds.Delete) Delete) first.is_key.key_is) (one_read gap.op key (answer_of gap.op) taking first.is_key.key_is) f.delete f.read numbers.0 numbers.1
 
   can_be : first_bad (length config.servers) events ≡ None
   can_be =

@@ -17,7 +17,9 @@ use Rattle.certificates.specs.Tables.{IsTable}
 use Rattle.fresh_gate.specs.declared.gap.Gap.{Gap}
 use Rattle.fresh_gate.specs.Gate.{IsGapAt}
 use Rattle.text_codec.specs.TextProtocol.{memcached_text}
+use Rattle.proxy_core.specs.Claims.{bars_by}
 use Rattle.proxy_core.specs.CoreState.{dialect}
+use Rattle.commands_under_way.specs.declared.sharing.Sharing.TheVariants.{Alone}
 use Rattle.script_servers.specs.declared.servers.ScriptServers.{ScriptServers}
 use Rattle.stepped_log.specs.Standing.{replied_in}
 use Rattle.stepped_run.specs.Driving.{said_in, IsSettled, FollowsBy}
@@ -55,10 +57,10 @@ pub record LeaksStepped (tree : Route) (events : List Scripted) : Type 0 where
   pub world : World events events log servers
   pub leaks : IsFreshByNumber (opening_of events) (run_of log) → ⊥
 
--- over the configuration's servers each of the events can be, so that the script can be driven; and it has a run of the tree that isn't fresh, of whole commands or as it is driven
+-- over the configuration's servers each of the events can be, so that the script can be driven; and it has a log, by the tree's words and with each command alone on its key, whose run isn't fresh: one of these events, whatever the servers' tables, or one as it is driven
 pub record IsShowing (config : Configuration) (events : List Scripted) : Type 0 where
   pub can_be : first_bad (length config.servers) events ≡ None
-  pub leaks : Leaks memcached_text (words_of config.tree) (opening_of events) events ⊎ LeaksStepped config.tree events
+  pub leaks : Leaks memcached_text (words_of config.tree) (bars_by Alone (λ n key. tree_at config.tree key)) (opening_of events) events ⊎ LeaksStepped config.tree events
 
 -- the script, over the first key that is tried and stands at the gap's place, can be driven and has a run that isn't fresh, none of whose commands is broken; the failed calls are those that it names, not applied. Where each call but one of the delete and one of the read can fail, so many do before it
 pub record IsRefusalRun (config : Configuration) (gap : Gap) (events : List Scripted) : Type 0 where
