@@ -3,17 +3,17 @@ use Rattle.std.specs.Prelude.{ℕ, Bool, true, false, not, ◌&&◌, ◌==◌, L
 use Rattle.mc_types.specs.Tokens.{Letter, LetterC, LetterF, LetterK, LetterS, LetterT, LetterV, LetterO, are_served}
 use Rattle.mc_types.specs.Asks.{Presence, Absent, Optional, Required, Shape, of_get, of_store, of_delete, of_count}
 use Rattle.mc_types.specs.declared.ask.Ask.{Ask}
-use Rattle.client_asks.specs.declared.asks.May.{May}
-use Rattle.client_asks.specs.declared.asks.May.TheVariants as may
+use Rattle.client_asks.specs.declared.asks.Occurs.{Occurs}
+use Rattle.client_asks.specs.declared.asks.Occurs.TheVariants as occurs
 use Rattle.client_asks.specs.declared.asks.Served.{Served}
 use Rattle.client_asks.specs.declared.asks.Served.TheVariants as served
 use Rattle.client_asks.specs.declared.asks.Fields.{Fields}
 
 -- whether a field stands in an ask
-abbrev pub presence_of : May → Presence
-presence_of may.Never = Absent
-presence_of may.Perhaps = Optional
-presence_of may.Always = Required
+abbrev pub presence_of : Occurs → Presence
+presence_of occurs.Never = Absent
+presence_of occurs.Perhaps = Optional
+presence_of occurs.Always = Required
 
 -- the return flags that are served
 abbrev pub letters_of : Served → List Letter

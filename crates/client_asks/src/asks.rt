@@ -5,13 +5,13 @@ ghost use Rattle.mc_types.specs.Asks.{IsAsk, AreInRange, IsExptime, data_limit, 
 ghost use Rattle.mc_types.specs.KeyText.{IsKey};
 ghost use Rattle.mc_types.specs.Tokens.{letter_of, same_letter, has_letter, wants, are_served};
 ghost use Rattle.client_asks.specs.Asks.{presence_of, letters_of, fields_of, flag_is, number_is, some_is, place_of, has_shape, has_shape_of};
-ghost use Rattle.client_asks.specs.declared.asks.May.TheVariants as may;
+ghost use Rattle.client_asks.specs.declared.asks.Occurs.TheVariants as occurs;
 
 use mc_types::{Ask, DATA_LIMIT, Dialect, Key, Op, Token};
 
 /// Whether a field stands in an ask.
 #[derive(Clone, Copy)]
-pub enum May {
+pub enum Occurs {
     Never,
     Perhaps,
     Always,
@@ -30,36 +30,36 @@ pub enum Served {
 /// Which fields an ask has.
 #[derive(Clone, Copy)]
 pub struct Fields {
-    pub with_cas: May,
-    pub flags: May,
-    pub exptime: May,
-    pub body: May,
-    pub cas: May,
-    pub delta: May,
+    pub with_cas: Occurs,
+    pub flags: Occurs,
+    pub exptime: Occurs,
+    pub body: Occurs,
+    pub cas: Occurs,
+    pub delta: Occurs,
     pub served: Served,
 }
 
 fn bare(served: Served) -> Fields
-    ensures { result ≡ record { with_cas = may.Never; flags = may.Never; exptime = may.Never; body = may.Never; cas = may.Never; delta = may.Never; served = served } }
+    ensures { result ≡ record { with_cas = occurs.Never; flags = occurs.Never; exptime = occurs.Never; body = occurs.Never; cas = occurs.Never; delta = occurs.Never; served = served } }
 {
     Fields {
-        with_cas: May::Never,
-        flags: May::Never,
-        exptime: May::Never,
-        body: May::Never,
-        cas: May::Never,
-        delta: May::Never,
+        with_cas: Occurs::Never,
+        flags: Occurs::Never,
+        exptime: Occurs::Never,
+        body: Occurs::Never,
+        cas: Occurs::Never,
+        delta: Occurs::Never,
         served,
     }
 }
 
 fn storing(served: Served) -> Fields
-    ensures { result ≡ record { with_cas = may.Never; flags = may.Always; exptime = may.Always; body = may.Always; cas = may.Never; delta = may.Never; served = served } }
+    ensures { result ≡ record { with_cas = occurs.Never; flags = occurs.Always; exptime = occurs.Always; body = occurs.Always; cas = occurs.Never; delta = occurs.Never; served = served } }
 {
     Fields {
-        flags: May::Always,
-        exptime: May::Always,
-        body: May::Always,
+        flags: Occurs::Always,
+        exptime: Occurs::Always,
+        body: Occurs::Always,
         ..bare(served)
     }
 }
@@ -69,26 +69,26 @@ fn classic_fields(op: Op) -> Fields
 {
     match op {
         Op::Get => Fields {
-            with_cas: May::Perhaps,
+            with_cas: Occurs::Perhaps,
             ..bare(Served::Nothing)
         },
         Op::Gat => Fields {
-            with_cas: May::Perhaps,
-            exptime: May::Always,
+            with_cas: Occurs::Perhaps,
+            exptime: Occurs::Always,
             ..bare(Served::Nothing)
         },
         Op::Set | Op::Add | Op::Replace | Op::Append | Op::Prepend => storing(Served::Nothing),
         Op::Cas => Fields {
-            cas: May::Always,
+            cas: Occurs::Always,
             ..storing(Served::Nothing)
         },
         Op::Delete => bare(Served::Nothing),
         Op::Incr | Op::Decr => Fields {
-            delta: May::Always,
+            delta: Occurs::Always,
             ..bare(Served::Nothing)
         },
         Op::Touch => Fields {
-            exptime: May::Always,
+            exptime: Occurs::Always,
             ..bare(Served::Nothing)
         },
     }
@@ -100,24 +100,24 @@ fn meta_fields(op: Op) -> Option<Fields>
     match op {
         Op::Get => Some(bare(Served::OfGet)),
         Op::Gat => Some(Fields {
-            exptime: May::Always,
+            exptime: Occurs::Always,
             ..bare(Served::OfGet)
         }),
         Op::Set | Op::Add | Op::Replace | Op::Append | Op::Prepend => Some(storing(
             Served::OfStore,
         )),
         Op::Cas => Some(Fields {
-            cas: May::Always,
+            cas: Occurs::Always,
             ..storing(Served::OfStore)
         }),
         Op::Delete => Some(Fields {
-            cas: May::Perhaps,
+            cas: Occurs::Perhaps,
             ..bare(Served::OfDelete)
         }),
         Op::Incr | Op::Decr => Some(Fields {
-            exptime: May::Perhaps,
-            cas: May::Perhaps,
-            delta: May::Always,
+            exptime: Occurs::Perhaps,
+            cas: Occurs::Perhaps,
+            delta: Occurs::Always,
             ..bare(Served::OfCount)
         }),
         Op::Touch => None,
@@ -134,33 +134,33 @@ fn table_fields(dialect: Dialect, op: Op) -> Option<Fields>
     }
 }
 
-fn flag_is(may: May, flag: bool) -> bool
-    ensures { result ≡ flag_is (presence_of may) flag }
+fn flag_is(occurs: Occurs, flag: bool) -> bool
+    ensures { result ≡ flag_is (presence_of occurs) flag }
 {
-    match may {
-        May::Never => !flag,
-        May::Perhaps => true,
-        May::Always => true,
+    match occurs {
+        Occurs::Never => !flag,
+        Occurs::Perhaps => true,
+        Occurs::Always => true,
     }
 }
 
-fn number_is(may: May, number: u64) -> bool
-    ensures { result ≡ number_is (presence_of may) number }
+fn number_is(occurs: Occurs, number: u64) -> bool
+    ensures { result ≡ number_is (presence_of occurs) number }
 {
-    match may {
-        May::Never => number == 0,
-        May::Perhaps => true,
-        May::Always => true,
+    match occurs {
+        Occurs::Never => number == 0,
+        Occurs::Perhaps => true,
+        Occurs::Always => true,
     }
 }
 
-fn some_is(may: May, some: bool) -> bool
-    ensures { result ≡ some_is (presence_of may) some }
+fn some_is(occurs: Occurs, some: bool) -> bool
+    ensures { result ≡ some_is (presence_of occurs) some }
 {
-    match may {
-        May::Never => !some,
-        May::Perhaps => true,
-        May::Always => some,
+    match occurs {
+        Occurs::Never => !some,
+        Occurs::Perhaps => true,
+        Occurs::Always => some,
     }
 }
 

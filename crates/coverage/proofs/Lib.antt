@@ -7,6 +7,6 @@ pub mod Showing
 pub mod Copying
 pub mod Finding
 pub mod SomeTaken
-pub mod SameStanding
+pub mod SamePossible
 pub mod TakenPools
 pub mod SurePools

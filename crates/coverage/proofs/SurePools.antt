@@ -11,7 +11,7 @@ use Rattle.route_tree.proofs.PlainTrees.{plain_for_chosen}
 use Rattle.coverage.specs.Computed.{fails, kept, kept_each, kept_first, kept_head, kept_policy}
 use Rattle.coverage.specs.Doubted.{doubts, doubts_each, doubts_first, doubts_head, doubts_policy, doubts_prefixes, with_doubted, doubted_pools}
 use Rattle.coverage.specs.Pools.{server_at}
-use Rattle.coverage.proofs.SameStanding.{same}
+use Rattle.coverage.proofs.SamePossible.{same}
 use Rattle.coverage.proofs.TakenPools.{pools_more, same_pool}
 
 -- ---- parts that are false

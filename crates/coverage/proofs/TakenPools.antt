@@ -12,7 +12,7 @@ use Rattle.route_tree.specs.Chosen.{chosen}
 use Rattle.route_tree.proofs.PlainTrees.{plain_for_chosen}
 use Rattle.coverage.specs.Computed.{is_get, taken, fails, hits_each, adds, shown, shown_each, shown_first, shown_some, shown_head, shown_policy, copied, copied_some, copied_first, copied_head, copied_policy, is_taken}
 use Rattle.coverage.specs.Pools.{has, server_at, servers_at, pools_of, pools_of_each, pools_of_some, pools_of_first, pools_of_head, pools_of_policy, pools_of_prefixes, has_pool, with_pool, distinct_after, sought_pools, taken_pools}
-use Rattle.coverage.proofs.SameStanding.{same, all_same}
+use Rattle.coverage.proofs.SamePossible.{same, all_same}
 
 pub has_append : (xs ys : List ℕ) (s : ℕ) → has (xs ++ ys) s ≡ (has xs s || has ys s)
 has_append [] ys s = refl

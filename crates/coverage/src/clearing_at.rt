@@ -6,7 +6,7 @@ ghost use Rattle.route_tree.specs.Form.{routes_of, policies_of};
 ghost use Rattle.route_tree.specs.At.{plain_for, plain_for_all, plain_for_policies};
 ghost use Rattle.coverage.specs.Computed.{cleared, fails, kept, kept_each, kept_first, kept_head, kept_policy};
 
-use crate::standing::standing;
+use crate::possible::possible_at;
 use crate::stores::is_op;
 use mc_types::{Op, ServerId};
 use route_tree::at::longest;
@@ -77,7 +77,7 @@ fn first_keeps_at(children: &[Tree], text: &[u8], hash: u32, server: ServerId) -
 fn fails_at(tree: &Tree, text: &[u8]) -> bool
     ensures { (hash : ℕ) → result ≡ fails Delete (plain_for hash text.now tree.now) }
 {
-    standing(tree, text, Op::Delete).fails
+    possible_at(tree, text, Op::Delete).fails
 }
 
 // The first child alone.

@@ -7,9 +7,9 @@ pub mod deleting;
 pub mod doubts;
 pub mod laws;
 pub mod pools;
+pub mod possible;
 pub mod prefixes;
 pub mod servers;
-pub mod standing;
 pub mod stores;
 pub mod taking;
 

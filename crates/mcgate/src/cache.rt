@@ -1,7 +1,7 @@
 //! `mcgate cache`: one cache server over TCP.
 
 use config_check::status::DONE;
-use program::cache_words::CacheJob;
+use program::cache_arguments::CacheJob;
 use program::ends::Stop;
 use std::io;
 use std::net::Net;

@@ -15,7 +15,7 @@ use program::ends::{
     Stop, decline, end_of, read_configuration, run_events, run_input, run_keys, run_over_tcp,
 };
 use program::input::text_of;
-use program::serve_words::ServeJob;
+use program::serve_arguments::ServeJob;
 use route_json::Config;
 use serve::{Judged, judge_text, serve};
 use std::alloc::AllocError;

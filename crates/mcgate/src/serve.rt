@@ -5,7 +5,7 @@ use crate::sharing::sharing_for;
 use config_check::checking::{print_fault, print_refused};
 use fresh_gate::{Accepted, judge};
 use program::ends::Stop;
-use program::serve_words::ServeJob;
+use program::serve_arguments::ServeJob;
 use route_json::{Config, read_config};
 use server_addresses::Servers;
 use std::alloc::{AllocError, Global};

@@ -7,7 +7,7 @@ use link_calls::LoadFault;
 use mc_types::ServerId;
 use program::ends::Stop;
 use program::input::text_of;
-use program::serve_words::ServeJob;
+use program::serve_arguments::ServeJob;
 use route_json::{Config, ConfigFault, read_config_after};
 use server_addresses::Servers;
 use std::alloc::{AllocError, Global};

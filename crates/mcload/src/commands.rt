@@ -14,6 +14,7 @@ const ZEROS: &[u8] = b"0000000000000000";
 // What ends the answer of a get.
 const END: &[u8] = b"\r\nEND\r\n";
 
+/// What a command does with its key.
 #[derive(Clone, Copy, PartialEq, Eq)]
 pub enum Kind {
     Get,

@@ -6,7 +6,7 @@ use Rattle.std.specs.declared.io.ErrorKind.TheVariants.{OutOfMemory}
 use Rattle.config_check.specs.Checking.{StopsUnwritten}
 use Rattle.config_check.specs.declared.status.RunFault.{RunFault}
 use Rattle.config_check.specs.declared.status.RunFault.TheVariants.{NoMemory, Writer, TooManyCalls}
-use Rattle.program.specs.Program.{IsBrokenOff, RunsBy}
+use Rattle.program.specs.Program.{IsBrokenOff, BreaksRunOff, RunsBy}
 use Rattle.program.specs.Stops.{stop_at, stop_by, calls_line, Ends}
 use Rattle.program.specs.declared.ends.Stop.{Stop}
 use Rattle.program.specs.declared.ends.Stop.TheVariants as stops
@@ -19,24 +19,24 @@ broken_at _ = tt
 pub broken_off : (stop : Stop) (k : ErrorKind) → stop ≡ stop_at k → IsBrokenOff stop
 broken_off stop k is = subst IsBrokenOff (sym is) (broken_at k)
 
-stopped_by : (old new : Option (List ℕ)) (fault : RunFault) → StopsUnwritten old new fault → IsBrokenOff (stop_by fault)
-stopped_by old new NoMemory kept = tt
+stopped_by : (old new : Option (List ℕ)) (fault : RunFault) → StopsUnwritten old new fault → BreaksRunOff (new ≡ old) ⊥ (stop_by fault)
+stopped_by old new NoMemory kept = kept
 stopped_by old new Writer kept = tt
 stopped_by old new TooManyCalls kept = absurd kept
 
--- what makes no calls has never too many
-pub stopped : (old new : Option (List ℕ)) (fault : RunFault) (stop : Stop) → stop ≡ stop_by fault → StopsUnwritten old new fault → IsBrokenOff stop
-stopped old new fault stop is kept = subst IsBrokenOff (sym is) (stopped_by old new fault kept)
+-- what makes no calls has never too many, and where memory was refused it wrote nothing
+pub stopped : (old new : Option (List ℕ)) (fault : RunFault) (stop : Stop) → stop ≡ stop_by fault → StopsUnwritten old new fault → BreaksRunOff (new ≡ old) ⊥ stop
+stopped old new fault stop is kept = subst (BreaksRunOff (new ≡ old) ⊥) (sym is) (stopped_by old new fault kept)
 
 -- a run that answered so ends so
-pub ran : (P : List ℕ → Option (List ℕ) → Option (List ℕ) → ℕ → Type 0) (O : List ℕ → Option (List ℕ) → Option (List ℕ) → Type 0) (text : List ℕ) (old new : Option (List ℕ)) (answer : ℕ) (result : Result ℕ Stop)
-    → Ends answer result → (answer ≤ 2 → P text old new answer) → (answer ≡ 5 → O text old new) → RunsBy P O text old new result
-ran P O text old new answer (Ok status) ends does too_many = subst (P text old new) (sym ends.0) (does ends.1)
-ran P O text old new answer (Err stops.Usage) ends does too_many = absurd ends
-ran P O text old new answer (Err (stops.Key fault)) ends does too_many = absurd ends
-ran P O text old new answer (Err stops.Memory) ends does too_many = tt
-ran P O text old new answer (Err stops.Device) ends does too_many = tt
-ran P O text old new answer (Err stops.Calls) ends does too_many = too_many ends
+pub ran : (P : List ℕ → Option (List ℕ) → Option (List ℕ) → ℕ → Type 0) (M O : List ℕ → Option (List ℕ) → Option (List ℕ) → Type 0) (text : List ℕ) (old new : Option (List ℕ)) (answer : ℕ) (result : Result ℕ Stop)
+    → Ends answer result → (answer ≤ 2 → P text old new answer) → (answer ≡ 3 → M text old new) → (answer ≡ 5 → O text old new) → RunsBy P M O text old new result
+ran P M O text old new answer (Ok status) ends does refused too_many = subst (P text old new) (sym ends.0) (does ends.1)
+ran P M O text old new answer (Err stops.Usage) ends does refused too_many = absurd ends
+ran P M O text old new answer (Err (stops.Key fault)) ends does refused too_many = absurd ends
+ran P M O text old new answer (Err stops.Memory) ends does refused too_many = refused ends
+ran P M O text old new answer (Err stops.Device) ends does refused too_many = tt
+ran P M O text old new answer (Err stops.Calls) ends does refused too_many = too_many ends
 
 pub never : (answer : ℕ) → answer ≤ 4 → answer ≡ 5 → ⊥
 never answer few five = omega (arith, few, five)

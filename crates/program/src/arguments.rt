@@ -4,9 +4,9 @@ ghost use Rattle.std.specs.Prelude.{◌≡◌};
 ghost use Rattle.clap.specs.Values.{kind_of};
 ghost use Rattle.program.specs.Stops.{arguments_fault_at};
 
-use crate::cache_words::{CacheJob, cache_command, cache_job};
-use crate::loopback_words::{loopback_command, loopback_job};
-use crate::serve_words::{ServeJob, serve_command, serve_job};
+use crate::cache_arguments::{CacheJob, cache_command, cache_job};
+use crate::loopback_arguments::{loopback_command, loopback_job};
+use crate::serve_arguments::{ServeJob, serve_command, serve_job};
 use clap::error::ErrorKind;
 use clap::{Arg, ArgAction, ArgMatches, Command, Error};
 use config_check::Form;

@@ -3,8 +3,8 @@
 ghost use Rattle.std.specs.Prelude.{◌≡◌, ◌≤◌, Ok, option_map};
 ghost use Rattle.script_text.specs.Script.{told_over};
 ghost use Rattle.std.specs.IoError.{error_kind};
-ghost use Rattle.program.specs.Program.{Answers, Runs, AnswersInput, RunsBy, AnswersBy, NeverOverruns, Declines, GivesConfig, ReadsConfig};
-ghost use Rattle.replay.specs.Replay.{ReplaysOver, Overran};
+ghost use Rattle.program.specs.Program.{Answers, Runs, AnswersInput, RunsBy, AnswersBy, NeverOverruns, SaysNothing, LoopMemoryRefused, Declines, GivesConfig, ReadsConfig};
+ghost use Rattle.replay.specs.Replay.{ReplaysOver, Overran, IsBrokenOff as IsCutShort};
 ghost use Rattle.key_places.specs.Finding.{FindsKeys};
 ghost use Rattle.loopback.specs.Running.{Runs as RunsOverTcp};
 ghost use Rattle.program.specs.Stops.{stop_at, stop_by, stop_of, key_line, calls_line, Ends, end_of};
@@ -201,7 +201,7 @@ pub fn run_input<W: Write>(
 }
 
 fn find_in_text<W: Write>(alloc: Global, keys: &[Key], text: &str, out: &mut W) -> Result<u8, Stop>
-    ensures { RunsBy (λ text old new status. FindsKeys text keys.now old new status) NeverOverruns text.now (W.contents out.old) (W.contents out.new) result }
+    ensures { RunsBy (λ text old new status. FindsKeys text keys.now old new status) SaysNothing NeverOverruns text.now (W.contents out.old) (W.contents out.new) result }
 {
     ended(run_where(alloc, text, keys, out))
 }
@@ -214,7 +214,7 @@ pub fn run_keys<W: Write>(
     input: Result<String, InputFault>,
     out: &mut W,
 ) -> Result<u8, Stop>
-    ensures { AnswersBy (λ text old new status. FindsKeys text keys.now old new status) NeverOverruns input (W.contents out.old) (W.contents out.new) result }
+    ensures { AnswersBy (λ text old new status. FindsKeys text keys.now old new status) SaysNothing NeverOverruns input (W.contents out.old) (W.contents out.new) result }
 {
     match input {
         Ok(text) => find_in_text(alloc, keys, text.as_str(), out),
@@ -261,7 +261,7 @@ fn replay_events<W: Write>(
     text: &str,
     out: &mut W,
 ) -> Result<u8, Stop>
-    ensures { RunsBy (λ text old new status. ReplaysOver any config text old new status) (λ text old new. Overran any (Ok (told_over config text)) old new) text.now (W.contents out.old) (W.contents out.new) result }
+    ensures { RunsBy (λ text old new status. ReplaysOver any config text old new status) (λ text old new. IsCutShort any (Ok (told_over config text)) old new) (λ text old new. Overran any (Ok (told_over config text)) old new) text.now (W.contents out.old) (W.contents out.new) result }
 {
     ended(run_replay_over(alloc, any, config, text, out))
 }
@@ -275,7 +275,7 @@ pub fn run_events<W: Write>(
     input: &Result<String, InputFault>,
     out: &mut W,
 ) -> Result<u8, Stop>
-    ensures { AnswersBy (λ text old new status. ReplaysOver any config text old new status) (λ text old new. Overran any (Ok (told_over config text)) old new) input.now (W.contents out.old) (W.contents out.new) result }
+    ensures { AnswersBy (λ text old new status. ReplaysOver any config text old new status) (λ text old new. IsCutShort any (Ok (told_over config text)) old new) (λ text old new. Overran any (Ok (told_over config text)) old new) input.now (W.contents out.old) (W.contents out.new) result }
 {
     match input {
         Ok(text) => replay_events(alloc, any, config, text.as_str(), out),
@@ -288,7 +288,7 @@ fn loop_text<R: Net + Clock + AllocGlobal, W: Write>(
     text: &str,
     out: &mut W,
 ) -> Result<u8, Stop>
-    ensures { RunsBy RunsOverTcp NeverOverruns text.now (W.contents out.old) (W.contents out.new) result }
+    ensures { RunsBy RunsOverTcp LoopMemoryRefused NeverOverruns text.now (W.contents out.old) (W.contents out.new) result }
 {
     ended(run_loopback(rt, text, out))
 }
@@ -300,7 +300,7 @@ pub fn run_over_tcp<R: Net + Clock + AllocGlobal, W: Write>(
     input: &Result<String, InputFault>,
     out: &mut W,
 ) -> Result<u8, Stop>
-    ensures { AnswersBy RunsOverTcp NeverOverruns input.now (W.contents out.old) (W.contents out.new) result }
+    ensures { AnswersBy RunsOverTcp LoopMemoryRefused NeverOverruns input.now (W.contents out.old) (W.contents out.new) result }
 {
     match input {
         Ok(text) => loop_text(rt, text.as_str(), out),

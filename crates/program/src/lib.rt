@@ -3,8 +3,8 @@
 
 pub mod arguments;
 pub mod bad_lines;
-pub mod cache_words;
+pub mod cache_arguments;
 pub mod ends;
 pub mod input;
-pub mod loopback_words;
-pub mod serve_words;
+pub mod loopback_arguments;
+pub mod serve_arguments;

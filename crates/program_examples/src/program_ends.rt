@@ -6,7 +6,7 @@ use program::arguments::{ArgumentsFault, Job, Task, read_arguments};
 use program::bad_lines::{bad_line_of_events, bad_line_of_task};
 use program::ends::{End, Stop, end_of, read_configuration, run_events, run_input};
 use program::input::text_of;
-use program::serve_words::ServeJob;
+use program::serve_arguments::ServeJob;
 use route_json::Config;
 use std::alloc::{AllocError, Global};
 use std::io;

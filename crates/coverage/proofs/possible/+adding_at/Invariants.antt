@@ -1,6 +1,6 @@
 use Rattle.route_tree.specs.RouteCode.{route_size, all_route_size, policies_route_size}
 use Rattle.route_tree.specs.Form.{routes_of, policies_of}
-use Rattle.coverage.proofs.standing.+adding_at.Given as goal
+use Rattle.coverage.proofs.possible.+adding_at.Given as goal
 
 abbrev pub decreases-adding_at : goal.decreases-adding_at
 decreases-adding_at l = route_size l.tree.now
