@@ -78,7 +78,8 @@ fn polled(poll: &Poll) -> Told {
         Poll::Refused => word("refused"),
         Poll::Call(ticket) => number("call ", ticket.number),
         Poll::Waiting => word("waiting"),
-        Poll::Queued | Poll::Busy => word("busy"),
+        Poll::Queued => word("queued"),
+        Poll::Busy => word("busy"),
         Poll::Did(note) => number("did ", note.number),
     }
 }
