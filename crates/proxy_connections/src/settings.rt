@@ -1,4 +1,4 @@
-//! How many and how long.
+//! How a proxy is set: how many clients, commands and calls, how long is waited, and how servers are asked.
 
 use proxy_core::Sharing;
 

@@ -1,4 +1,4 @@
-//! What of an end wants the system.
+//! The parts of an end that need the system: its poll, its listener, its links and its clock.
 
 use mio::net::TcpListener;
 use mio::{Events, Poll};
@@ -17,7 +17,7 @@ pub const LISTENER: usize = 1_000_000_000_000;
 /// What is told under a token from this one on is told of a link: its server's number is the rest.
 pub const LINKS: usize = 1_000_000_000;
 
-/// What of an end wants the system.
+/// The parts of an end that need the system.
 #[derive(Drop)]
 pub struct Parts {
     pub poll: Poll,
