@@ -1,5 +1,8 @@
 //! `mcgate serve`: the configuration is read and judged, and then served.
 
+ghost use Rattle.std.specs.Prelude.{IfOk};
+ghost use Rattle.mcgate.specs.Serves.{Begins};
+
 use crate::serving::{Serving, addresses_of, resolve};
 use crate::sharing::sharing_for;
 use config_check::checking::{print_fault, print_refused};
@@ -82,7 +85,9 @@ fn end_over<R: Net + Clock + AllocGlobal>(
     servable: Servable,
     addresses: &[Option<SocketAddr>],
     settings: Settings,
-) -> io::Result<ProxyEnd> {
+) -> io::Result<ProxyEnd>
+    ensures core { IfOk result (λ end. Begins servable settings end.core.value) }
+{
     let mut settings = settings;
     match servable {
         Servable::Accepted(accepted) => {
@@ -103,7 +108,9 @@ fn open<R: Net + Clock + AllocGlobal + Eprint>(
     job: &ServeJob<'_>,
     servable: Servable,
     servers: &Servers,
-) -> io::Result<ProxyEnd> {
+) -> io::Result<ProxyEnd>
+    ensures core { IfOk result (λ end. Begins servable job.now.settings end.core.value) }
+{
     let addresses = addresses_of(rt, servers, 0)?;
     match resolve(rt, job.listen) {
         Some(listen) => end_over(rt, listen, servable, addresses.as_slice(), job.settings),
@@ -116,7 +123,9 @@ fn start<R: Net + Clock + AllocGlobal + Eprint>(
     job: &ServeJob<'_>,
     servable: Servable,
     text: String,
-) -> io::Result<Serving> {
+) -> io::Result<Serving>
+    ensures core { IfOk result (λ serving. Begins servable job.now.settings serving.end.core.value) }
+{
     let servers = servable.servers(rt.alloc())?;
     let end = open(rt, job, servable, &servers)?;
     Serving::new(rt, end, servers, text)

@@ -1,5 +1,9 @@
 //! A proxy that runs: its turns, what is told of its servers, and the configurations that are loaded meanwhile.
 
+ghost use Rattle.std.specs.Prelude.{◌≡◌, IfOk};
+ghost use Rattle.proxy_connections.specs.CoreSteps.{GoesOn};
+ghost use Rattle.mcgate.specs.Serves.{Serves, MayLoad};
+
 use config_check::reload_lines::{write_kept, write_loaded, write_unchecked};
 use config_check::status::DONE;
 use fresh_gate::ReloadFault;
@@ -114,7 +118,9 @@ impl Serving {
         end: ProxyEnd,
         servers: Servers,
         text: String,
-    ) -> io::Result<Serving> {
+    ) -> io::Result<Serving>
+        ensures { IfOk result (λ serving. serving.end ≡ end) }
+    {
         Ok(Serving {
             end,
             servers,
@@ -148,13 +154,13 @@ impl Serving {
         rt: &R,
         job: &ServeJob<'_>,
         out: &mut W,
-    ) -> Result<u8, Stop> {
+    ) -> Result<u8, Stop>
+        ensures core { Serves self.old.end.core.value self.new.end.core.value }
+    {
         for _ in 0..job.turns.map_or(u64::MAX, u64::from) {
             self.turn(rt, job)?;
             self.tell_news(rt);
-            if self.is_due(rt, job)? {
-                self.look(rt, job, out)?;
-            }
+            self.look_if_due(rt, job, out)?;
         }
         Ok(DONE)
     }
@@ -165,7 +171,9 @@ impl Serving {
     }
 
     // One turn, which doesn't wait longer than until the file is to be read again.
-    fn turn<R: Net + Clock>(&mut self, rt: &R, job: &ServeJob<'_>) -> io::Result<()> {
+    fn turn<R: Net + Clock>(&mut self, rt: &R, job: &ServeJob<'_>) -> io::Result<()>
+        ensures core { GoesOn self.old.end.core.value self.new.end.core.value }
+    {
         self.turns = self.turns.saturating_add(1);
         let Some(reload_ms) = job.reload_ms else {
             return self.end.turn(rt);
@@ -175,7 +183,9 @@ impl Serving {
     }
 
     // Tells what happened to servers. Where it can't be told nothing else is done.
-    fn tell_news<R: Eprint>(&mut self, rt: &R) {
+    fn tell_news<R: Eprint>(&mut self, rt: &R)
+        ensures core { self.new.end.core ≡ self.old.end.core }
+    {
         for _ in 0..self.servers.len() {
             let Some((at, news)) = self.end.next_news() else {
                 return;
@@ -202,13 +212,30 @@ impl Serving {
         }
     }
 
+    // Reads the file again, if that is due.
+    fn look_if_due<R: Files + Input + Net + Clock + AllocGlobal + Eprint, W: Write>(
+        &mut self,
+        rt: &R,
+        job: &ServeJob<'_>,
+        out: &mut W,
+    ) -> Result<(), Stop>
+        ensures core { Serves self.old.end.core.value self.new.end.core.value }
+    {
+        if self.is_due(rt, job)? {
+            return self.look(rt, job, out);
+        }
+        Ok(())
+    }
+
     // Reads the file. A text that it hadn't before is loaded; where it can't be read nothing is done.
     fn look<R: Files + Input + Net + Clock + AllocGlobal + Eprint, W: Write>(
         &mut self,
         rt: &R,
         job: &ServeJob<'_>,
         out: &mut W,
-    ) -> Result<(), Stop> {
+    ) -> Result<(), Stop>
+        ensures core { Serves self.old.end.core.value self.new.end.core.value }
+    {
         self.turns = 0;
         self.since = Instant::now(rt)?;
         match text_of(rt, Some(job.file)) {
@@ -224,16 +251,30 @@ impl Serving {
         any: bool,
         text: String,
         out: &mut W,
-    ) -> Result<(), Stop> {
+    ) -> Result<(), Stop>
+        ensures core { Serves self.old.end.core.value self.new.end.core.value }
+    {
         if text.as_str() == self.text.as_str() {
             return Ok(());
         }
         self.text = text;
-        match read_after(rt.alloc(), &self.servers, self.text.as_str()) {
-            Ok((config, servers)) => self.load(rt, any, config, servers, out)?,
-            Err(fault) => print_fault(&fault, out)?,
-        }
+        self.load_text(rt, any, out)?;
         Ok(out.flush()?)
+    }
+
+    // Loads the configuration of the text, and prints what came of that, or why the text is none.
+    fn load_text<R: Net + AllocGlobal + Eprint, W: Write>(
+        &mut self,
+        rt: &R,
+        any: bool,
+        out: &mut W,
+    ) -> Result<(), Stop>
+        ensures core { Serves self.old.end.core.value self.new.end.core.value }
+    {
+        match read_after(rt.alloc(), &self.servers, self.text.as_str()) {
+            Ok((config, servers)) => self.load(rt, any, config, servers, out),
+            Err(fault) => print_fault(&fault, out),
+        }
     }
 
     // Loads a configuration of these servers, and prints what came of that.
@@ -244,7 +285,9 @@ impl Serving {
         config: Config,
         servers: Servers,
         out: &mut W,
-    ) -> Result<(), Stop> {
+    ) -> Result<(), Stop>
+        ensures core { MayLoad config self.old.end.core.value self.new.end.core.value }
+    {
         let known = u32::try_from(self.servers.len()).unwrap_or(u32::MAX);
         let addresses = addresses_of(rt, &servers, known)?;
         match self.end.load(config, addresses.as_slice()) {

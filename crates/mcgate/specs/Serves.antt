@@ -1,0 +1,28 @@
+-- How the core of a proxy that serves begins, and what is done to it. Source: mcgate's own.
+use Rattle.std.specs.Prelude.{◌≡◌, ℕ, ◌⊎◌}
+use Rattle.route_json.specs.Configuration.{Configuration}
+use Rattle.commands_under_way.specs.declared.sharing.Sharing.{Sharing}
+use Rattle.link_calls.specs.declared.any_core.AnyCore.{AnyCore}
+use Rattle.link_calls.specs.Cores.{IsLoaded}
+use Rattle.proxy_connections.specs.declared.settings.Settings.{Settings}
+use Rattle.proxy_connections.specs.CoreSteps.{Step, GoesBy}
+use Rattle.tcp_proxy.specs.Beginning.{BeginsFresh, BeginsUnchecked}
+use Rattle.mcgate.specs.declared.serve.Servable.{Servable}
+use Rattle.mcgate.specs.declared.serve.Servable.TheVariants as servables
+
+-- it is a new core on the trees that the gate accepted, or on the configuration's tree, of which no gate was asked
+abbrev pub BeginsBy : Servable → Settings → AnyCore → Type 0
+BeginsBy (servables.Accepted accepted) settings core = BeginsFresh accepted settings core
+BeginsBy (servables.Unchecked configuration) settings core = BeginsUnchecked configuration.tree settings core
+
+-- the same by these settings, but that commands may share their keys by another rule
+abbrev pub Begins : Servable → Settings → AnyCore → Type 0
+Begins servable settings core = (sharing : Sharing) × BeginsBy servable (record settings { sharing = sharing }) core
+
+-- turns and loads, one after another: any calls of it
+abbrev pub Serves : AnyCore → AnyCore → Type 0
+Serves old new = GoesBy (λ step. Unit {0}) old new
+
+-- nothing is done, or this configuration is loaded
+abbrev pub MayLoad : Configuration → AnyCore → AnyCore → Type 0
+MayLoad configuration old new = (new ≡ old) ⊎ ((generation : ℕ) × IsLoaded old configuration generation new)
