@@ -1,6 +1,7 @@
 //! `mcgate serve`: the configuration is read and judged, and then served.
 
-ghost use Rattle.std.specs.Prelude.{IfOk};
+ghost use Rattle.std.specs.Prelude.{IfOk, false};
+ghost use Rattle.mcgate.specs.Judging.{Judges, JudgesText};
 ghost use Rattle.mcgate.specs.Serves.{Begins};
 
 use crate::serving::{Serving, addresses_of, resolve};
@@ -45,7 +46,9 @@ impl Servable {
 }
 
 // The configuration, if the gate accepts it; else why not is printed, as `mcgate check` prints it before a script.
-fn judge_config<W: Write>(alloc: Global, config: Config, out: &mut W) -> Result<Judged, Stop> {
+fn judge_config<W: Write>(alloc: Global, config: Config, out: &mut W) -> Result<Judged, Stop>
+    ensures { Judges false config (W.contents out.old) (W.contents out.new) result }
+{
     match judge(alloc, config) {
         Ok(accepted) => Ok(Judged::Servable(Servable::Accepted(accepted))),
         Err(refused) => Ok(Judged::Printed(print_refused(&refused.config, &refused.reason, out)?)),
@@ -58,7 +61,9 @@ fn take_config<W: Write>(
     any: bool,
     config: Config,
     out: &mut W,
-) -> Result<Judged, Stop> {
+) -> Result<Judged, Stop>
+    ensures { Judges any config (W.contents out.old) (W.contents out.new) result }
+{
     if any {
         return Ok(Judged::Servable(Servable::Unchecked(config)));
     }
@@ -71,7 +76,9 @@ pub fn judge_text<W: Write>(
     any: bool,
     text: &str,
     out: &mut W,
-) -> Result<Judged, Stop> {
+) -> Result<Judged, Stop>
+    ensures { JudgesText any text.now (W.contents out.old) (W.contents out.new) result }
+{
     match read_config(alloc, text) {
         Ok(config) => take_config(alloc, any, config, out),
         Err(fault) => Ok(Judged::Printed(print_fault(text, &fault, out)?)),
