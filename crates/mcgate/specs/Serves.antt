@@ -3,10 +3,12 @@ use Rattle.std.specs.Prelude.{◌≡◌, ℕ, ◌⊎◌}
 use Rattle.route_json.specs.Configuration.{Configuration}
 use Rattle.commands_under_way.specs.declared.sharing.Sharing.{Sharing}
 use Rattle.link_calls.specs.declared.any_core.AnyCore.{AnyCore}
+use Rattle.link_calls.specs.declared.any_core.AnyCore.TheVariants as cores
 use Rattle.link_calls.specs.Cores.{IsLoaded}
 use Rattle.proxy_connections.specs.declared.settings.Settings.{Settings}
 use Rattle.proxy_connections.specs.CoreSteps.{Step, GoesBy}
 use Rattle.tcp_proxy.specs.Beginning.{BeginsFresh, BeginsUnchecked}
+use Rattle.tcp_proxy.specs.LogsGoOn.{LogsAreFresh}
 use Rattle.mcgate.specs.declared.serve.Servable.{Servable}
 use Rattle.mcgate.specs.declared.serve.Servable.TheVariants as servables
 
@@ -26,3 +28,15 @@ Serves old new = GoesBy (λ step. Unit {0}) old new
 -- nothing is done, or this configuration is loaded
 abbrev pub MayLoad : Configuration → AnyCore → AnyCore → Type 0
 MayLoad configuration old new = (new ≡ old) ⊎ ((generation : ℕ) × IsLoaded old configuration generation new)
+
+-- it began so, and turns and loads led to it
+pub record HasServed (servable : Servable) (settings : Settings) (core : AnyCore) : Type 0 where
+  pub began : AnyCore
+  pub begins : Begins servable settings began
+  pub serves : Serves began core
+
+-- where the gate accepted what is served, the core is one on accepted trees, and each log that may have led to it is fresh
+abbrev pub StaysFresh : Servable → AnyCore → Type 0
+StaysFresh (servables.Accepted accepted) (cores.Fresh fresh) = LogsAreFresh (cores.Fresh fresh)
+StaysFresh (servables.Accepted accepted) (cores.Unchecked core) = ⊥
+StaysFresh (servables.Unchecked configuration) core = Unit {0}

@@ -2,7 +2,7 @@
 
 ghost use Rattle.std.specs.Prelude.{IfOk, false};
 ghost use Rattle.mcgate.specs.Judging.{Judges, JudgesText};
-ghost use Rattle.mcgate.specs.Serves.{Begins};
+ghost use Rattle.mcgate.specs.Serves.{Begins, HasServed, StaysFresh};
 
 use crate::serving::{Serving, addresses_of, resolve};
 use crate::sharing::sharing_for;
@@ -138,6 +138,23 @@ fn start<R: Net + Clock + AllocGlobal + Eprint>(
     Serving::new(rt, end, servers, text)
 }
 
+// Serves a configuration to the end, and tells so. What it was then comes with how that was.
+fn serve_to_end<R: Files + Input + Net + Clock + AllocGlobal + Eprint, W: Write>(
+    rt: &R,
+    job: &ServeJob<'_>,
+    servable: Servable,
+    text: String,
+    out: &mut W,
+) -> io::Result<(Serving, Result<u8, Stop>)>
+    ensures served { IfOk result (λ ended. HasServed servable job.now.settings ended.0.end.core.value) }
+    ensures fresh { IfOk result (λ ended. StaysFresh servable ended.0.end.core.value) }
+{
+    let mut serving = start(rt, job, servable, text)?;
+    let ended = serving.tell_and_run(rt, job, out);
+    serving.logs_are_fresh();
+    Ok((serving, ended))
+}
+
 /// Serves a configuration, and tells so; `text` is that of its file. The answer is the exit status after the turns that were asked.
 ///
 /// [`Stop::Device`] comes where it can't listen there, or the system's wait or clock fails, and [`Stop::Memory`] where memory was
@@ -149,7 +166,6 @@ pub fn serve<R: Files + Input + Net + Clock + AllocGlobal + Eprint, W: Write>(
     text: String,
     out: &mut W,
 ) -> Result<u8, Stop> {
-    let mut serving = start(rt, &job, servable, text)?;
-    serving.tell_start(rt, &job)?;
-    serving.run(rt, &job, out)
+    let (_serving, ended) = serve_to_end(rt, &job, servable, text, out)?;
+    ended
 }

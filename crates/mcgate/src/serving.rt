@@ -2,6 +2,7 @@
 
 ghost use Rattle.std.specs.Prelude.{◌≡◌, IfOk};
 ghost use Rattle.proxy_connections.specs.CoreSteps.{GoesOn};
+ghost use Rattle.tcp_proxy.specs.LogsGoOn.{LogsAreFresh};
 ghost use Rattle.mcgate.specs.Serves.{Serves, MayLoad};
 
 use config_check::reload_lines::{write_kept, write_loaded, write_unchecked};
@@ -130,8 +131,29 @@ impl Serving {
         })
     }
 
-    /// Tells that it listens, and with a tree of which no gate was asked what that means.
-    pub fn tell_start<R: Eprint>(&self, rt: &R, job: &ServeJob<'_>) -> io::Result<()> {
+    /// Where the gate accepted its trees, each log that may have led to its core is fresh. A law: it does nothing.
+    pub fn logs_are_fresh(&self)
+        ensures { LogsAreFresh self.now.end.core.value }
+    {
+        self.end.logs_are_fresh();
+    }
+
+    /// Tells that it listens, and then turns it as often as is asked; what happens to servers is told, and the file is read again, when
+    /// that is due. The answer is the exit status.
+    pub fn tell_and_run<R: Files + Input + Net + Clock + AllocGlobal + Eprint, W: Write>(
+        &mut self,
+        rt: &R,
+        job: &ServeJob<'_>,
+        out: &mut W,
+    ) -> Result<u8, Stop>
+        ensures core { Serves self.old.end.core.value self.new.end.core.value }
+    {
+        self.tell_start(rt, job)?;
+        self.run(rt, job, out)
+    }
+
+    // Tells that it listens, and with a tree of which no gate was asked what that means.
+    fn tell_start<R: Eprint>(&self, rt: &R, job: &ServeJob<'_>) -> io::Result<()> {
         let address = self.end.local_addr()?;
         if job.any {
             eprintln!(rt;
@@ -147,9 +169,8 @@ impl Serving {
         Ok(())
     }
 
-    /// Turns it as often as is asked; what happens to servers is told, and the file is read again, when that is due. The answer is
-    /// the exit status.
-    pub fn run<R: Files + Input + Net + Clock + AllocGlobal + Eprint, W: Write>(
+    // Turns it so.
+    fn run<R: Files + Input + Net + Clock + AllocGlobal + Eprint, W: Write>(
         &mut self,
         rt: &R,
         job: &ServeJob<'_>,
