@@ -1,9 +1,9 @@
 //! A proxy that runs: its turns, what is told of its servers, and the configurations that are loaded meanwhile.
 
-ghost use Rattle.std.specs.Prelude.{◌≡◌, IfOk};
+ghost use Rattle.std.specs.Prelude.{◌≡◌, IfOk, string_bytes};
 ghost use Rattle.proxy_connections.specs.CoreSteps.{GoesOn};
 ghost use Rattle.tcp_proxy.specs.LogsGoOn.{LogsAreFresh};
-ghost use Rattle.mcgate.specs.Serves.{Serves, MayLoad};
+ghost use Rattle.mcgate.specs.Serves.{SaysAfter, Serves, MayLoad, MayLoadText};
 
 use config_check::reload_lines::{write_kept, write_loaded, write_unchecked};
 use config_check::status::DONE;
@@ -80,7 +80,9 @@ fn read_after(
     alloc: Global,
     servers: &Servers,
     text: &str,
-) -> Result<(Config, Servers), ConfigFault> {
+) -> Result<(Config, Servers), ConfigFault>
+    ensures { IfOk result (λ read. SaysAfter servers.now text.now read.0) }
+{
     let config = read_config_after(alloc, servers.copy(alloc)?, text)?;
     let servers = config.servers().copy(alloc)?;
     Ok((config, servers))
@@ -273,7 +275,7 @@ impl Serving {
         text: String,
         out: &mut W,
     ) -> Result<(), Stop>
-        ensures core { Serves self.old.end.core.value self.new.end.core.value }
+        ensures core { MayLoadText self.old.servers (string_bytes text) self.old.end.core.value self.new.end.core.value }
     {
         if text.as_str() == self.text.as_str() {
             return Ok(());
@@ -290,7 +292,7 @@ impl Serving {
         any: bool,
         out: &mut W,
     ) -> Result<(), Stop>
-        ensures core { Serves self.old.end.core.value self.new.end.core.value }
+        ensures core { MayLoadText self.old.servers (string_bytes self.old.text) self.old.end.core.value self.new.end.core.value }
     {
         match read_after(rt.alloc(), &self.servers, self.text.as_str()) {
             Ok((config, servers)) => self.load(rt, any, config, servers, out),
