@@ -1,5 +1,5 @@
 -- A turn and a load, each as what may be done to a core that serves, and what such a core stays.
-use Rattle.std.proofs.Common.{◌≡◌, ℕ, List, [], ◌∷◌, refl, inl, inr}
+use Rattle.std.proofs.Common.{ℕ, List, [], ◌∷◌, refl, inl, inr}
 use Rattle.route_json.specs.Servers.{Addresses}
 use Rattle.route_json.specs.Configuration.{Configuration}
 use Rattle.link_calls.specs.declared.any_core.AnyCore.{AnyCore}
