@@ -1,5 +1,9 @@
 //! `mcgate serve`: the configuration is read and judged, and then served.
 
+ghost use Rattle.std.specs.Prelude.{IfOk, false};
+ghost use Rattle.mcgate.specs.Judging.{Judges, JudgesText};
+ghost use Rattle.mcgate.specs.Serves.{Begins, HasServed, StaysFresh};
+
 use crate::serving::{Serving, addresses_of, resolve};
 use crate::sharing::sharing_for;
 use config_check::checking::{print_fault, print_refused};
@@ -42,7 +46,9 @@ impl Servable {
 }
 
 // The configuration, if the gate accepts it; else why not is printed, as `mcgate check` prints it before a script.
-fn judge_config<W: Write>(alloc: Global, config: Config, out: &mut W) -> Result<Judged, Stop> {
+fn judge_config<W: Write>(alloc: Global, config: Config, out: &mut W) -> Result<Judged, Stop>
+    ensures { Judges false config (W.contents out.old) (W.contents out.new) result }
+{
     match judge(alloc, config) {
         Ok(accepted) => Ok(Judged::Servable(Servable::Accepted(accepted))),
         Err(refused) => Ok(Judged::Printed(print_refused(&refused.config, &refused.reason, out)?)),
@@ -55,7 +61,9 @@ fn take_config<W: Write>(
     any: bool,
     config: Config,
     out: &mut W,
-) -> Result<Judged, Stop> {
+) -> Result<Judged, Stop>
+    ensures { Judges any config (W.contents out.old) (W.contents out.new) result }
+{
     if any {
         return Ok(Judged::Servable(Servable::Unchecked(config)));
     }
@@ -68,7 +76,9 @@ pub fn judge_text<W: Write>(
     any: bool,
     text: &str,
     out: &mut W,
-) -> Result<Judged, Stop> {
+) -> Result<Judged, Stop>
+    ensures { JudgesText any text.now (W.contents out.old) (W.contents out.new) result }
+{
     match read_config(alloc, text) {
         Ok(config) => take_config(alloc, any, config, out),
         Err(fault) => Ok(Judged::Printed(print_fault(text, &fault, out)?)),
@@ -82,7 +92,9 @@ fn end_over<R: Net + Clock + AllocGlobal>(
     servable: Servable,
     addresses: &[Option<SocketAddr>],
     settings: Settings,
-) -> io::Result<ProxyEnd> {
+) -> io::Result<ProxyEnd>
+    ensures core { IfOk result (λ end. Begins servable settings end.core.value) }
+{
     let mut settings = settings;
     match servable {
         Servable::Accepted(accepted) => {
@@ -103,7 +115,9 @@ fn open<R: Net + Clock + AllocGlobal + Eprint>(
     job: &ServeJob<'_>,
     servable: Servable,
     servers: &Servers,
-) -> io::Result<ProxyEnd> {
+) -> io::Result<ProxyEnd>
+    ensures core { IfOk result (λ end. Begins servable job.now.settings end.core.value) }
+{
     let addresses = addresses_of(rt, servers, 0)?;
     match resolve(rt, job.listen) {
         Some(listen) => end_over(rt, listen, servable, addresses.as_slice(), job.settings),
@@ -116,10 +130,29 @@ fn start<R: Net + Clock + AllocGlobal + Eprint>(
     job: &ServeJob<'_>,
     servable: Servable,
     text: String,
-) -> io::Result<Serving> {
+) -> io::Result<Serving>
+    ensures core { IfOk result (λ serving. Begins servable job.now.settings serving.end.core.value) }
+{
     let servers = servable.servers(rt.alloc())?;
     let end = open(rt, job, servable, &servers)?;
     Serving::new(rt, end, servers, text)
+}
+
+// Serves a configuration to the end, and tells so. What it was then comes with how that was.
+fn serve_to_end<R: Files + Input + Net + Clock + AllocGlobal + Eprint, W: Write>(
+    rt: &R,
+    job: &ServeJob<'_>,
+    servable: Servable,
+    text: String,
+    out: &mut W,
+) -> io::Result<(Serving, Result<u8, Stop>)>
+    ensures served { IfOk result (λ ended. HasServed servable job.now.settings ended.0.end.core.value) }
+    ensures fresh { IfOk result (λ ended. StaysFresh servable ended.0.end.core.value) }
+{
+    let mut serving = start(rt, job, servable, text)?;
+    let ended = serving.tell_and_run(rt, job, out);
+    serving.logs_are_fresh();
+    Ok((serving, ended))
 }
 
 /// Serves a configuration, and tells so; `text` is that of its file. The answer is the exit status after the turns that were asked.
@@ -133,7 +166,6 @@ pub fn serve<R: Files + Input + Net + Clock + AllocGlobal + Eprint, W: Write>(
     text: String,
     out: &mut W,
 ) -> Result<u8, Stop> {
-    let mut serving = start(rt, &job, servable, text)?;
-    serving.tell_start(rt, &job)?;
-    serving.run(rt, &job, out)
+    let (_serving, ended) = serve_to_end(rt, &job, servable, text, out)?;
+    ended
 }

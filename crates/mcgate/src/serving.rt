@@ -1,5 +1,10 @@
 //! A proxy that runs: its turns, what is told of its servers, and the configurations that are loaded meanwhile.
 
+ghost use Rattle.std.specs.Prelude.{◌≡◌, IfOk, string_bytes};
+ghost use Rattle.proxy_connections.specs.CoreSteps.{GoesOn};
+ghost use Rattle.tcp_proxy.specs.LogsGoOn.{LogsAreFresh};
+ghost use Rattle.mcgate.specs.Serves.{SaysAfter, Serves, MayLoad, MayLoadText};
+
 use config_check::reload_lines::{write_kept, write_loaded, write_unchecked};
 use config_check::status::DONE;
 use fresh_gate::ReloadFault;
@@ -75,7 +80,9 @@ fn read_after(
     alloc: Global,
     servers: &Servers,
     text: &str,
-) -> Result<(Config, Servers), ConfigFault> {
+) -> Result<(Config, Servers), ConfigFault>
+    ensures { IfOk result (λ read. SaysAfter servers.now text.now read.0) }
+{
     let config = read_config_after(alloc, servers.copy(alloc)?, text)?;
     let servers = config.servers().copy(alloc)?;
     Ok((config, servers))
@@ -114,7 +121,9 @@ impl Serving {
         end: ProxyEnd,
         servers: Servers,
         text: String,
-    ) -> io::Result<Serving> {
+    ) -> io::Result<Serving>
+        ensures { IfOk result (λ serving. serving.end ≡ end) }
+    {
         Ok(Serving {
             end,
             servers,
@@ -124,8 +133,29 @@ impl Serving {
         })
     }
 
-    /// Tells that it listens, and with a tree of which no gate was asked what that means.
-    pub fn tell_start<R: Eprint>(&self, rt: &R, job: &ServeJob<'_>) -> io::Result<()> {
+    /// Where the gate accepted its trees, each log that may have led to its core is fresh. A law: it does nothing.
+    pub fn logs_are_fresh(&self)
+        ensures { LogsAreFresh self.now.end.core.value }
+    {
+        self.end.logs_are_fresh();
+    }
+
+    /// Tells that it listens, and then turns it as often as is asked; what happens to servers is told, and the file is read again, when
+    /// that is due. The answer is the exit status.
+    pub fn tell_and_run<R: Files + Input + Net + Clock + AllocGlobal + Eprint, W: Write>(
+        &mut self,
+        rt: &R,
+        job: &ServeJob<'_>,
+        out: &mut W,
+    ) -> Result<u8, Stop>
+        ensures core { Serves self.old.end.core.value self.new.end.core.value }
+    {
+        self.tell_start(rt, job)?;
+        self.run(rt, job, out)
+    }
+
+    // Tells that it listens, and with a tree of which no gate was asked what that means.
+    fn tell_start<R: Eprint>(&self, rt: &R, job: &ServeJob<'_>) -> io::Result<()> {
         let address = self.end.local_addr()?;
         if job.any {
             eprintln!(rt;
@@ -141,20 +171,19 @@ impl Serving {
         Ok(())
     }
 
-    /// Turns it as often as is asked; what happens to servers is told, and the file is read again, when that is due. The answer is
-    /// the exit status.
-    pub fn run<R: Files + Input + Net + Clock + AllocGlobal + Eprint, W: Write>(
+    // Turns it so.
+    fn run<R: Files + Input + Net + Clock + AllocGlobal + Eprint, W: Write>(
         &mut self,
         rt: &R,
         job: &ServeJob<'_>,
         out: &mut W,
-    ) -> Result<u8, Stop> {
+    ) -> Result<u8, Stop>
+        ensures core { Serves self.old.end.core.value self.new.end.core.value }
+    {
         for _ in 0..job.turns.map_or(u64::MAX, u64::from) {
             self.turn(rt, job)?;
             self.tell_news(rt);
-            if self.is_due(rt, job)? {
-                self.look(rt, job, out)?;
-            }
+            self.look_if_due(rt, job, out)?;
         }
         Ok(DONE)
     }
@@ -165,7 +194,9 @@ impl Serving {
     }
 
     // One turn, which doesn't wait longer than until the file is to be read again.
-    fn turn<R: Net + Clock>(&mut self, rt: &R, job: &ServeJob<'_>) -> io::Result<()> {
+    fn turn<R: Net + Clock>(&mut self, rt: &R, job: &ServeJob<'_>) -> io::Result<()>
+        ensures core { GoesOn self.old.end.core.value self.new.end.core.value }
+    {
         self.turns = self.turns.saturating_add(1);
         let Some(reload_ms) = job.reload_ms else {
             return self.end.turn(rt);
@@ -175,7 +206,9 @@ impl Serving {
     }
 
     // Tells what happened to servers. Where it can't be told nothing else is done.
-    fn tell_news<R: Eprint>(&mut self, rt: &R) {
+    fn tell_news<R: Eprint>(&mut self, rt: &R)
+        ensures core { self.new.end.core ≡ self.old.end.core }
+    {
         for _ in 0..self.servers.len() {
             let Some((at, news)) = self.end.next_news() else {
                 return;
@@ -202,13 +235,30 @@ impl Serving {
         }
     }
 
+    // Reads the file again, if that is due.
+    fn look_if_due<R: Files + Input + Net + Clock + AllocGlobal + Eprint, W: Write>(
+        &mut self,
+        rt: &R,
+        job: &ServeJob<'_>,
+        out: &mut W,
+    ) -> Result<(), Stop>
+        ensures core { Serves self.old.end.core.value self.new.end.core.value }
+    {
+        if self.is_due(rt, job)? {
+            return self.look(rt, job, out);
+        }
+        Ok(())
+    }
+
     // Reads the file. A text that it hadn't before is loaded; where it can't be read nothing is done.
     fn look<R: Files + Input + Net + Clock + AllocGlobal + Eprint, W: Write>(
         &mut self,
         rt: &R,
         job: &ServeJob<'_>,
         out: &mut W,
-    ) -> Result<(), Stop> {
+    ) -> Result<(), Stop>
+        ensures core { Serves self.old.end.core.value self.new.end.core.value }
+    {
         self.turns = 0;
         self.since = Instant::now(rt)?;
         match text_of(rt, Some(job.file)) {
@@ -224,16 +274,30 @@ impl Serving {
         any: bool,
         text: String,
         out: &mut W,
-    ) -> Result<(), Stop> {
+    ) -> Result<(), Stop>
+        ensures core { MayLoadText self.old.servers (string_bytes text) self.old.end.core.value self.new.end.core.value }
+    {
         if text.as_str() == self.text.as_str() {
             return Ok(());
         }
         self.text = text;
-        match read_after(rt.alloc(), &self.servers, self.text.as_str()) {
-            Ok((config, servers)) => self.load(rt, any, config, servers, out)?,
-            Err(fault) => print_fault(&fault, out)?,
-        }
+        self.load_text(rt, any, out)?;
         Ok(out.flush()?)
+    }
+
+    // Loads the configuration of the text, and prints what came of that, or why the text is none.
+    fn load_text<R: Net + AllocGlobal + Eprint, W: Write>(
+        &mut self,
+        rt: &R,
+        any: bool,
+        out: &mut W,
+    ) -> Result<(), Stop>
+        ensures core { MayLoadText self.old.servers (string_bytes self.old.text) self.old.end.core.value self.new.end.core.value }
+    {
+        match read_after(rt.alloc(), &self.servers, self.text.as_str()) {
+            Ok((config, servers)) => self.load(rt, any, config, servers, out),
+            Err(fault) => print_fault(&fault, out),
+        }
     }
 
     // Loads a configuration of these servers, and prints what came of that.
@@ -244,7 +308,9 @@ impl Serving {
         config: Config,
         servers: Servers,
         out: &mut W,
-    ) -> Result<(), Stop> {
+    ) -> Result<(), Stop>
+        ensures core { MayLoad config self.old.end.core.value self.new.end.core.value }
+    {
         let known = u32::try_from(self.servers.len()).unwrap_or(u32::MAX);
         let addresses = addresses_of(rt, &servers, known)?;
         match self.end.load(config, addresses.as_slice()) {

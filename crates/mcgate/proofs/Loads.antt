@@ -1,0 +1,51 @@
+-- A turn and a load, each as what may be done to a core that serves, and what such a core stays.
+use Rattle.std.proofs.Common.{ℕ, List, [], ◌∷◌, refl, inl, inr}
+use Rattle.route_json.specs.Servers.{Addresses}
+use Rattle.route_json.specs.Configuration.{Configuration}
+use Rattle.link_calls.specs.declared.any_core.AnyCore.{AnyCore}
+use Rattle.link_calls.specs.declared.any_core.AnyCore.TheVariants as cores
+use Rattle.link_calls.specs.Cores.{IsKept}
+use Rattle.proxy_connections.specs.declared.settings.Settings.{Settings}
+use Rattle.proxy_connections.specs.CoreSteps.{Step, Opened, NotOpened, Fed, Polled, Stopped, Settled, Gave, Closed, LeftLine, Loaded, AreOf, IsOfTurn, GoesOn}
+use Rattle.proxy_connections.proofs.Walked.{still, walks_keep}
+use Rattle.tcp_proxy.specs.LogsGoOn.{LogsAreFresh}
+use Rattle.mcgate.specs.declared.serve.Servable.{Servable}
+use Rattle.mcgate.specs.declared.serve.Servable.TheVariants as servables
+use Rattle.mcgate.specs.Serves.{BeginsBy, SaysAfter, IsServed, Serves, MayLoad, MayLoadText, HasServed, StaysFresh}
+
+of_turn : (step : Step) → IsOfTurn step → IsServed step
+of_turn (Loaded configuration generation) is = absurd is
+of_turn (Opened client) is = tt
+of_turn (NotOpened fault) is = tt
+of_turn (Fed client piece) is = tt
+of_turn (Polled client poll) is = tt
+of_turn (Stopped client fault) is = tt
+of_turn (Settled number outcome) is = tt
+of_turn (Gave client bytes) is = tt
+of_turn (Closed client) is = tt
+of_turn (LeftLine client) is = tt
+
+each_of_turn : (steps : List Step) → AreOf IsOfTurn steps → AreOf IsServed steps
+each_of_turn [] kinds = tt
+each_of_turn (step ∷ steps) kinds = (of_turn step kinds.0, each_of_turn steps kinds.1)
+
+pub turned : {a b : AnyCore} → GoesOn a b → Serves a b
+turned g = record { steps = g.steps; kinds = each_of_turn g.steps g.kinds; walks = g.walks }
+
+by_load : (servers : Addresses) (text : List ℕ) (configuration : Configuration) (a b : AnyCore) → SaysAfter servers text configuration → MayLoad configuration a b → Serves a b
+by_load servers text configuration a b says (inl same) = still same
+by_load servers text configuration a b says (inr loaded) = record { steps = Loaded configuration loaded.0 ∷ []; kinds = ((servers, text, says), tt); walks = (a, refl, loaded.1) }
+
+pub by_text : (servers : Addresses) (text : List ℕ) (a b : AnyCore) → MayLoadText servers text a b → Serves a b
+by_text servers text a b (inl same) = still same
+by_text servers text a b (inr loaded) = by_load servers text loaded.0 a b loaded.1 loaded.2
+
+by_kind : (servable : Servable) (settings : Settings) (a b : AnyCore) → BeginsBy servable settings a → IsKept (λ x y. Unit {0}) a b → LogsAreFresh b → StaysFresh servable b
+by_kind (servables.Accepted accepted) settings (cores.Fresh a) (cores.Fresh b) begins kept fresh = fresh
+by_kind (servables.Accepted accepted) settings (cores.Fresh a) (cores.Unchecked b) begins kept fresh = kept
+by_kind (servables.Accepted accepted) settings (cores.Unchecked a) b begins kept fresh = absurd begins
+by_kind (servables.Unchecked configuration) settings a b begins kept fresh = tt
+
+pub stays_fresh : (servable : Servable) (settings : Settings) (core : AnyCore) → HasServed servable settings core → LogsAreFresh core → StaysFresh servable core
+stays_fresh servable settings core served fresh =
+    by_kind servable (record settings { sharing = served.begins.0 }) served.began core served.begins.1 (walks_keep served.serves.steps served.began core served.serves.walks) fresh

@@ -1,0 +1,66 @@
+-- How the core of a proxy that serves begins, and what is done to it. Source: mcgate's own.
+use Rattle.std.specs.Prelude.{◌≡◌, ℕ, ◌⊎◌, List, Ok}
+use Rattle.serde_json.specs.Read.{read}
+use Rattle.route_json.specs.Servers.{Addresses}
+use Rattle.route_json.specs.Configs.{read_after}
+use Rattle.route_json.specs.Configuration.{Configuration}
+use Rattle.commands_under_way.specs.declared.sharing.Sharing.{Sharing}
+use Rattle.link_calls.specs.declared.any_core.AnyCore.{AnyCore}
+use Rattle.link_calls.specs.declared.any_core.AnyCore.TheVariants as cores
+use Rattle.link_calls.specs.Cores.{IsLoaded}
+use Rattle.proxy_connections.specs.declared.settings.Settings.{Settings}
+use Rattle.proxy_connections.specs.CoreSteps.{Step, Opened, NotOpened, Fed, Polled, Stopped, Settled, Gave, Closed, LeftLine, Loaded, GoesBy}
+use Rattle.tcp_proxy.specs.Beginning.{BeginsFresh, BeginsUnchecked}
+use Rattle.tcp_proxy.specs.LogsGoOn.{LogsAreFresh}
+use Rattle.mcgate.specs.declared.serve.Servable.{Servable}
+use Rattle.mcgate.specs.declared.serve.Servable.TheVariants as servables
+
+-- it is a new core on the trees that the gate accepted, or on the configuration's tree, of which no gate was asked
+abbrev pub BeginsBy : Servable → Settings → AnyCore → Type 0
+BeginsBy (servables.Accepted accepted) settings core = BeginsFresh accepted settings core
+BeginsBy (servables.Unchecked configuration) settings core = BeginsUnchecked configuration.tree settings core
+
+-- the same by these settings, but that commands may share their keys by another rule
+abbrev pub Begins : Servable → Settings → AnyCore → Type 0
+Begins servable settings core = (sharing : Sharing) × BeginsBy servable (record settings { sharing = sharing }) core
+
+-- the text says this configuration, whose servers are numbered after these
+abbrev pub SaysAfter : Addresses → List ℕ → Configuration → Type 0
+SaysAfter servers text configuration = read_after servers (read text) ≡ Ok (configuration.tree, configuration.servers)
+
+-- any call of a turn, or a load of a configuration that some text says
+abbrev pub IsServed : Step → Type 0
+IsServed (Loaded configuration generation) = (servers : Addresses) × (text : List ℕ) × SaysAfter servers text configuration
+IsServed (Opened client) = Unit {0}
+IsServed (NotOpened fault) = Unit {0}
+IsServed (Fed client piece) = Unit {0}
+IsServed (Polled client poll) = Unit {0}
+IsServed (Stopped client fault) = Unit {0}
+IsServed (Settled number outcome) = Unit {0}
+IsServed (Gave client bytes) = Unit {0}
+IsServed (Closed client) = Unit {0}
+IsServed (LeftLine client) = Unit {0}
+
+-- turns and such loads, one after another
+abbrev pub Serves : AnyCore → AnyCore → Type 0
+Serves old new = GoesBy IsServed old new
+
+-- nothing is done, or this configuration is loaded
+abbrev pub MayLoad : Configuration → AnyCore → AnyCore → Type 0
+MayLoad configuration old new = (new ≡ old) ⊎ ((generation : ℕ) × IsLoaded old configuration generation new)
+
+-- nothing is done, or the configuration that this text says is loaded
+abbrev pub MayLoadText : Addresses → List ℕ → AnyCore → AnyCore → Type 0
+MayLoadText servers text old new = (new ≡ old) ⊎ ((configuration : Configuration) × SaysAfter servers text configuration × MayLoad configuration old new)
+
+-- it began so, and turns and loads led to it
+pub record HasServed (servable : Servable) (settings : Settings) (core : AnyCore) : Type 0 where
+  pub began : AnyCore
+  pub begins : Begins servable settings began
+  pub serves : Serves began core
+
+-- where the gate accepted what is served, the core is one on accepted trees, and each log that may have led to it is fresh
+abbrev pub StaysFresh : Servable → AnyCore → Type 0
+StaysFresh (servables.Accepted accepted) (cores.Fresh fresh) = LogsAreFresh (cores.Fresh fresh)
+StaysFresh (servables.Accepted accepted) (cores.Unchecked core) = ⊥
+StaysFresh (servables.Unchecked configuration) core = Unit {0}
