@@ -1,4 +1,4 @@
-//! Commands on trees: what a few calls come to, and how many commands a second go through a job over a fleet that answers from memory.
+//! Commands on trees: what a few calls come to, and how many commands a second go through a job, over servers that answer from memory.
 
 mod answering;
 mod counting;

@@ -1,14 +1,16 @@
 -- What may still come of a job, before and after a call.
-use Rattle.std.proofs.Common.{◌≡◌, ◌↔◌, ℕ, ◌+◌, List, [], ◌∷◌, refl, sym, ap, ◌∙◌, subst}
+use Rattle.std.proofs.Common.{◌≡◌, ◌↔◌, ℕ, ◌+◌, List, [], ◌∷◌, refl, sym, ap, ◌∙◌, subst, Result, Ok, Err, OnErr}
 use Rattle.mc_types.specs.declared.ask.Ask.{Ask}
 use Rattle.mc_types.specs.declared.call.Origin.{Origin}
 use Rattle.mc_types.specs.declared.call.Origin.TheVariants.{Client}
 use Rattle.mc_types.specs.declared.call.Outcome.{Outcome}
 use Rattle.mc_runs.specs.Run.{Call}
 use Rattle.mc_runs.specs.Single.{FitsOutcome}
-use Rattle.route_tree.specs.At.{plain_for}
-use Rattle.route_tree.specs.Route.{Route}
-use Rattle.route_tree.specs.Plan.{Server}
+use Rattle.key_hash.specs.Tag.{key_hash}
+use Rattle.route_tree.proofs.PlainTrees.{plan_plain}
+use Rattle.route_tree.specs.At.{plain_for, tree_at}
+use Rattle.route_tree.specs.Route.{Route, IsTree}
+use Rattle.route_tree.specs.Plan.{Server, IsPlan}
 use Rattle.route_tree.specs.Word.{Given, Gives, Word, given_by}
 use Rattle.route_job.specs.Given.{given_of}
 use Rattle.route_job.specs.Rest.{Comings, ask_under, origin_under}
@@ -19,6 +21,15 @@ use Rattle.route_job.specs.declared.frame.Frame.{Frame}
 use Rattle.route_job.specs.declared.frame.Pending.{Pending}
 use Rattle.route_job.specs.declared.frame.Pending.TheVariants.{Enter, Call as Calling, Back}
 use Rattle.route_job.proofs.Frames.{Later, under_later, sure_later, under_begins}
+
+-- the plain tree of a key keeps the limits
+pub good_at : (tree : Route) (key : List ℕ) → IsTree tree → IsPlan (tree_at tree key)
+good_at tree key is = plan_plain (key_hash key) key tree is
+
+-- what holds anyway holds after an error
+pub on_err : {T E : Type 0} {P : Type 0} (r : Result T E) → P → OnErr r P
+on_err (Ok x) p = tt
+on_err (Err e) p = p
 
 -- the next call of these frames and this pending, with this outcome
 abbrev pub call_in : List Frame → Ask → Pending → Outcome → Call

@@ -3,4 +3,3 @@ pub mod Parts
 pub mod Rest
 pub mod Settling
 pub mod Jobs
-pub mod Executing

@@ -4,12 +4,10 @@
 pub mod asks;
 pub mod done;
 pub mod entering;
-pub mod fleet;
 pub mod frame;
 pub mod job;
 pub mod returning;
 pub mod walk;
 
 pub use done::Done;
-pub use fleet::{Fleet, execute};
 pub use job::{Job, Step};

@@ -1,13 +1,9 @@
-//! A fleet that answers at once: one server always with an error, the others as servers that hold nothing.
+//! Servers that answer at once: one always with an error, the others as servers that hold nothing.
 
-ghost use Rattle.std.specs.Prelude.{◌≡◌, ◌+◌, ℕ};
 ghost use Rattle.mc_types.specs.Fits.{Fits};
-ghost use Rattle.mc_types.specs.declared.ask.Ask.{Ask};
-ghost use Rattle.mc_runs.specs.Run.{Call};
+ghost use Rattle.mc_runs.specs.Single.{FitsOutcome};
 
-use mc_types::{Answer, Ask, Dialect, ErrorText, Op, Origin, Outcome, OwnText, ServerId};
-use route_job::Fleet;
-use std::alloc::AllocError;
+use mc_types::{Answer, Ask, Dialect, ErrorText, Op, Outcome, OwnText, ServerId};
 
 /// Servers that hold nothing, and how often they were called.
 #[derive(Drop)]
@@ -41,30 +37,17 @@ fn error_answer(ask: &Ask) -> Answer
     Answer::ServerError(ErrorText::own(OwnText::OutOfMemory))
 }
 
-impl Fleet for Answering {
-    type Fault = AllocError;
-
-    ghost law = { λ _ _ _ _. Unit {0} };
-
-    ghost breaks = { λ _ _ _ _. Unit {0} };
-
-    ghost serves = { λ _ _ _. Unit {0} };
-
-    ghost failures = { λ _. 0 };
-
-    fn call(
-        &mut self,
-        _number: u64,
-        server: ServerId,
-        ask: &Ask,
-        _origin: Origin,
-    ) -> Result<Outcome, AllocError> {
+impl Answering {
+    /// What this server answers to the ask, at once.
+    pub fn call(&mut self, server: ServerId, ask: &Ask) -> Outcome
+        ensures { FitsOutcome ask.now result }
+    {
         self.calls = self.calls.saturating_add(1);
         let answer = if server.number() == DOWN {
             error_answer(ask)
         } else {
             answer_to(ask)
         };
-        Ok(Outcome::Answered(answer))
+        Outcome::Answered(answer)
     }
 }

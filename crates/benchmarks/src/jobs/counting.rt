@@ -3,32 +3,31 @@
 use crate::jobs::answering::Answering;
 use crate::jobs::trees::{OPERATIONS, all_sync, ask_of, failover, pool};
 use mc_types::{Ask, Key};
-use route_job::execute;
+use route_job::{Job, Step};
 use route_tree::Tree;
 use std::alloc::{AllocError, Global};
 use std::io;
 
-// Lets the end of a command go.
-fn serve(
-    alloc: Global,
-    tree: &Tree,
-    number: u64,
-    ask: Ask,
-    fleet: &mut Answering,
-) -> Result<(), AllocError> {
-    let _done = execute(alloc, tree, number, ask, fleet)?;
+// One command, call by call. Its end is let go.
+fn serve(alloc: Global, tree: &Tree, ask: Ask, servers: &mut Answering) -> Result<(), AllocError> {
+    let mut job = Job::new(alloc, tree, ask)?;
+    while let Step::Call { server, ask, .. } = job.next() {
+        let outcome = servers.call(server, ask);
+        job.take(alloc, outcome)?;
+    }
+    let _done = job.into_done();
     Ok(())
 }
 
 /// So many rounds of the operations on the key; how many calls they made.
 pub fn calls_of(alloc: Global, tree: &Tree, key: Key, rounds: u64) -> Result<u64, AllocError> {
-    let mut fleet = Answering { calls: 0 };
-    for number in 0..rounds {
+    let mut servers = Answering { calls: 0 };
+    for _ in 0..rounds {
         for op in OPERATIONS.iter() {
-            serve(alloc, tree, number, ask_of(alloc, key, *op), &mut fleet)?;
+            serve(alloc, tree, ask_of(alloc, key, *op), &mut servers)?;
         }
     }
-    Ok(fleet.calls)
+    Ok(servers.calls)
 }
 
 fn print_calls<R: AllocGlobal + Print>(

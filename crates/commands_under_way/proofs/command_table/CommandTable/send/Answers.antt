@@ -2,7 +2,7 @@ use Rattle.std.proofs.Common.{◌≡◌, ◌+◌, cond, nat_eq, Some, sym, ap, �
 use Rattle.std.specs.Map.{count_at}
 use Rattle.std.specs.HashMap.{WritesThrough}
 use Rattle.indexmap.specs.IndexMap.{get}
-use Rattle.route_job.proofs.Executing.{on_err}
+use Rattle.route_job.proofs.Jobs.{on_err}
 use Rattle.route_job.specs.Jobs.{server_in, IsCalling}
 use Rattle.commands_under_way.specs.declared.command.Command.{Command}
 use Rattle.commands_under_way.specs.declared.ticket.Ticket.{Ticket}
