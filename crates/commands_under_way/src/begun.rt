@@ -1,6 +1,6 @@
 //! A command as it begins, and its next call as it goes out.
 
-ghost use Rattle.std.specs.Prelude.{◌≡◌, ◌↔◌, ℕ, List, true, IfOk, OnErr};
+ghost use Rattle.std.specs.Prelude.{◌≡◌, ◌↔◌, List, true, IfOk, OnErr};
 ghost use Rattle.mc_types.specs.declared.call.Origin.TheVariants.{Client as OfClient};
 ghost use Rattle.mc_runs.specs.Run.{Call};
 ghost use Rattle.route_tree.specs.At.{tree_at};

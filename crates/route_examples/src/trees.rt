@@ -4,7 +4,7 @@ use example_tables::tellers::{between, halves, number_of, written_out};
 use mc_types::Key;
 use route_json::{ConfigFault, read_config};
 use route_tree::{Place, Tree};
-use std::alloc::{AllocError, Global};
+use std::alloc::Global;
 
 // The pool of all servers has the first name, so that it numbers them.
 fn pools() -> &'static str {

@@ -1,6 +1,6 @@
 //! How a command, or a part of it, may end without asking any further route.
-ghost use Rattle.std.specs.Prelude.{◌≡◌, None, IfOk};
-ghost use Rattle.route_tree.specs.Word.{given_by, answer_of_nothing, code_of_nothing, word_of_nothing, failing_reply, rank};
+ghost use Rattle.std.specs.Prelude.{◌≡◌, None};
+ghost use Rattle.route_tree.specs.Word.{given_by, answer_of_nothing, code_of_nothing, word_of_nothing, failing_reply};
 ghost use Rattle.route_job.specs.Given.{given_of};
 ghost use Rattle.route_job.specs.Parts.{worse, broken_reply};
 

@@ -1,6 +1,6 @@
 //! A command as a value: it shows its next call, and takes the outcome.
 
-ghost use Rattle.std.specs.Prelude.{◌≡◌, ◌↔◌, ◌+◌, ◌≤◌, ℕ, List, [], ◌∷◌, IfOk, OnOk, OnErr};
+ghost use Rattle.std.specs.Prelude.{◌≡◌, ◌↔◌, ◌+◌, ◌≤◌, List, [], ◌∷◌, IfOk, OnOk, OnErr};
 ghost use Rattle.mc_types.specs.declared.call.Origin.TheVariants.{Client};
 ghost use Rattle.mc_runs.specs.Run.{Call as CallMade};
 ghost use Rattle.mc_runs.specs.Single.{FitsOutcome};

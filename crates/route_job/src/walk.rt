@@ -1,9 +1,8 @@
 //! A command goes from route to route until a call is next or the whole has its reply.
 ghost use Rattle.std.specs.Prelude.{◌≡◌, ◌+◌, ◌≤◌, ℕ, List, [], ◌∷◌, ◌++◌, IfOk};
-ghost use Rattle.mc_types.specs.declared.call.Origin.TheVariants.{Client};
 ghost use Rattle.route_job.specs.Rest.{ask_in, origin_in, ask_under, origin_under};
 ghost use Rattle.route_job.specs.Settling.{put_down, Leads, IsAtRest, frames_work, pending_work};
-ghost use Rattle.route_job.specs.declared.frame.Pending.TheVariants.{Enter, Call as Calling, Back};
+ghost use Rattle.route_job.specs.declared.frame.Pending.TheVariants.{Enter, Back};
 
 use crate::done::Done;
 use crate::entering::enter;

@@ -1,7 +1,6 @@
-use Rattle.std.proofs.Common.{◌≡◌, sym, ◌∙◌, subst, arith, ap}
+use Rattle.std.proofs.Common.{sym, ◌∙◌, subst, arith, ap}
 use Rattle.route_tree.specs.At.{plain_for, plain_for_policies}
 use Rattle.route_tree.specs.Form.{policies_of}
-use Rattle.route_tree.specs.Levels.{chosen_plan}
 use Rattle.route_tree.specs.Plan.{count}
 use Rattle.route_tree.specs.Word.{Word, WordOfPolicy}
 use Rattle.route_job.specs.Parts.{SameAt}

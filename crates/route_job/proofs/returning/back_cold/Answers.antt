@@ -1,4 +1,4 @@
-use Rattle.std.proofs.Common.{◌≡◌, ◌∙◌, ap, ap₂, subst}
+use Rattle.std.proofs.Common.{◌≡◌, ◌∙◌, subst}
 use Rattle.route_tree.specs.At.{plain_for}
 use Rattle.route_tree.specs.Word.{Word, plain_get}
 use Rattle.route_tree.proofs.Gets.{get_names_hit}

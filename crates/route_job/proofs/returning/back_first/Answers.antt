@@ -1,8 +1,8 @@
-use Rattle.std.proofs.Common.{◌≤◌, ap, arith, subst}
+use Rattle.std.proofs.Common.{◌≤◌, ap, subst}
 use Rattle.route_tree.specs.After.{PartsAs}
 use Rattle.route_tree.specs.At.{plain_for, plain_for_all}
 use Rattle.route_job.specs.Given.{given_of}
-use Rattle.route_job.proofs.Children.{next_is, none_left_is, count_parts}
+use Rattle.route_job.proofs.Children.{next_is}
 use Rattle.route_job.proofs.returning.back_first.Goals as goal
 
 pub returns-in-Some-clause-same : goal.returns-in-Some-clause-same

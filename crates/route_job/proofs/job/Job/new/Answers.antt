@@ -1,4 +1,4 @@
-use Rattle.std.proofs.Common.{◌≡◌, ◌↔◌, ℕ, List, ap, ap₂, arith, ◌∙◌, subst}
+use Rattle.std.proofs.Common.{◌≡◌, ◌↔◌, List, ap, ap₂, arith, subst}
 use Rattle.mc_types.specs.declared.call.Origin.TheVariants.{Client}
 use Rattle.mc_runs.specs.Run.{Call}
 use Rattle.route_tree.specs.At.{plain_for, tree_at}
