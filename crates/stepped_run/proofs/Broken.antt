@@ -33,18 +33,18 @@ use Rattle.stepped_log.specs.Results.{CallResult, call_of, calls_of}
 use Rattle.stepped_log.specs.Standing.{Kept, Stands, GoesOn, GoesOnFed, tree_by}
 use Rattle.stepped_log.proofs.Counted.{none_more}
 use Rattle.core_run.specs.Breaking.{AreSpent, IsLastBegun, IsWithinOne, StopsAfter, StopsFed}
-use Rattle.core_run.specs.Running.{kept_of, AreOfOne, Moves, MovesFed, MovesByResults}
+use Rattle.core_run.specs.Running.{kept_of, AreOfOne, AreAskedYet, Moves, MovesFed, MovesByResults}
 use Rattle.core_run.specs.declared.runner.Runner.{Runner}
 use Rattle.core_run.proofs.Running.{stays}
 use Rattle.core_run.proofs.Breaking.{begun_spent}
-use Rattle.stepped_run.specs.Driving.{said_by, said_in, shown_to, AreHandedInTurn, AreThrough, AreMarked, IsSaid, HaveMade, HasWorldOf, RunsBy, StepsPart, AreSpentIn, EndsStepped}
+use Rattle.stepped_run.specs.Driving.{said_by, said_in, shown_to, AreHandedInTurn, AreThrough, HasNoResult, BringsResults, AreSteps, IsStepPart, AreMarked, IsSaid, HaveMade, HasWorldOf, RunsBy, StepsPart, AreSpentIn, EndsStepped}
 use Rattle.stepped_run.specs.World.{Changes, World}
-use Rattle.stepped_run.specs.Stepping.{HasCalls, FedBy, AreFit, GoesOnInPart, FedInPart, Befalls, BreaksOff, HandsSome, HasCome, HasStood, Loads, LoadsInPart, LoadsSome, StopsPart}
+use Rattle.stepped_run.specs.Stepping.{HasCalls, FedBy, AreFit, AreAskedBy, GoesOnInPart, FedInPart, Befalls, BreaksOff, HandsSome, HasCome, HasStood, Loads, LoadsInPart, LoadsSome, StopsPart}
 use Rattle.stepped_run.proofs.Direct.{fresh_if_direct}
 use Rattle.stepped_run.proofs.Come.{turn_on, come_on, come_ended, come_some, given_none, handed_none}
 use Rattle.stepped_run.proofs.Steps.{after_it, handed_on, nothing_fed, fed_more, fed_after, fed_results}
-use Rattle.stepped_run.proofs.Stood.{said_append, through_on, marked_on, marked_one}
-use Rattle.stepped_run.proofs.Worlds.{world_next, world_stays}
+use Rattle.stepped_run.proofs.Stood.{said_append, through_on, steps_on, marked_on, marked_one, here}
+use Rattle.stepped_run.proofs.Worlds.{world_next, world_stays, none_had, brought, brought_still}
 
 -- ---- results that are faults
 
@@ -122,6 +122,7 @@ piece_breaks client bytes a s t fault h =
       given = h.fed.given;
       come = inr refl;
       fit = tt;
+      asked = inr tt;
       goes = λ opening tree log stands. let p = h.fed.goes opening tree log stands in (in_part (Piece client bytes) client bytes h.said h.unsaid (λ c. refl) h.cut opening tree log (kept_of h.mid h.at) p.0, p.1);
       within = h.within;
       spent = h.spent;
@@ -136,6 +137,7 @@ add_breaks client bytes a s fault h =
       given = refl;
       come = inr refl;
       fit = refl;
+      asked = inr tt;
       goes = λ opening tree log stands.
           let g = h.moves s opening tree log stands in
           (in_part (Add client bytes) client bytes h.said h.unsaid (λ c. refl) h.cut opening tree log (kept_of h.mid s) g, none_more opening tree log (kept_of a s) (kept_of h.mid s) stands refl g.more g.stands);
@@ -149,7 +151,7 @@ abbrev in_quiet :
 in_quiet event says opening tree log k g =
     record { more = g.more; stands = g.stands; said = λ c. []; unsaid = λ c. []; cut = says; streams = λ c. g.streams c ∙ sym (append-nil (stream_of log c)); given = g.given }
 
-pub result_breaks : (server : ℕ) (a : Runner) (s t : ScriptServers) (fault : FleetFault) → StopsAfter (AreOfOne server) a s fault t → BreaksOff (Results server) a s fault t
+pub result_breaks : (server : ℕ) (a : Runner) (s t : ScriptServers) (fault : FleetFault) → StopsAfter (AreAskedYet server a s) a s fault t → BreaksOff (Results server) a s fault t
 result_breaks server a s t fault h =
     record {
       mid = h.mid;
@@ -157,11 +159,16 @@ result_breaks server a s t fault h =
       results = h.results;
       given = h.moves.given;
       come = inr refl;
-      fit = h.fit;
+      fit = of_one h.results h.fit;
+      asked = h.fit;
       goes = λ opening tree log stands. let q = h.moves.goes opening tree log stands in (in_quiet (Results server) (λ c. refl) opening tree log (kept_of h.mid h.at) q.goes, q.calls);
       within = h.within;
       spent = h.spent;
     }
+  where
+    of_one : (results : List CallResult) → AreAskedYet server a s results → AreOfOne server results
+    of_one results (inl none) = subst (AreOfOne server) (sym none) tt
+    of_one results (inr asked) = asked.one
 
 -- nothing was done of the event
 pub nothing_breaks : (event : Scripted) → AreFit event [] → (a : Runner) (s t : ScriptServers) (fault : FleetFault) → turn_of t ≡ turn_of s → AreSpent fault a.core s → BreaksOff event a s fault t
@@ -173,6 +180,7 @@ nothing_breaks event fit a s t fault same spent =
       given = refl;
       come = inl refl;
       fit = fit;
+      asked = inl refl;
       goes = λ opening tree log stands. (record { more = []; stands = stands; said = λ c. []; unsaid = λ c. said_by event c; cut = λ c. refl; streams = λ c. sym (append-nil (stream_of log c)); given = λ c. refl }, refl);
       within = inl same;
       spent = spent;
@@ -190,12 +198,20 @@ made_by : (log : List (Entry dialect)) (servers at : ScriptServers) → turn_of 
 made_by log servers at calls (inl same) = inl (same ∙ calls)
 made_by log servers at calls (inr one) = inr (one ∙ ap (λ (n : ℕ). n + 1) calls)
 
+-- the one event that had begun
+none_next : (event : Scripted) → ◌≡◌ {A = List Scripted} [] (event ∷ []) → ⊥
+none_next event e = cc
+
+one_next : (event next : Scripted) → event ∷ [] ≡ next ∷ [] → event ≡ next
+one_next event next e = cc
+
 module _ (first : Route) (refused : List Bool) (reloads : List Reload) (events : List Scripted) (law : StandingSays) where
   -- all of some events was done, of which the last may not have been handed out
   abbrev part_by :
       (loaded : ℕ) (left done next : List Scripted) (given : List Shown) (marks : List ℕ) (k : Kept) (servers : ScriptServers) → loaded ≤ length reloads → (h : HasCome first refused reloads events loaded left given k) → h.done ≡ done ++ next → length next ≤ 1
-      → AreThrough events (length done) h.log given → AreMarked events h.log given reloads marks → HaveMade h.log servers → StepsPart first refused reloads events given marks servers
-  part_by loaded left done next given marks k servers within h is one through marked made =
+      → AreThrough events (length done) h.log given → AreSteps events (length done) h.log given → ((event : Scripted) → next ≡ event ∷ [] → IsStepPart events done event h.log given) → AreMarked events h.log given reloads marks → HaveMade h.log servers
+      → StepsPart first refused reloads events given marks servers
+  part_by loaded left done next given marks k servers within h is one through steps begun marked made =
       let plans : ℕ → List ℕ → Plan = λ n key. tree_at (tree_by first h.loads n) key in
       let says = law (opening_of events) (tree_by first h.loads) h.log k h.stands in
       let run : RunsBy first h.loads events h.log = runs dialect (tree_words plans) (bars_by Alone plans) (opening_of events) h.log says.follows in
@@ -221,6 +237,8 @@ module _ (first : Route) (refused : List Bool) (reloads : List Reload) (events :
         given_is = h.given_is;
         order = h.order;
         through = inr through;
+        steps = steps;
+        begun = begun;
         marked = marked;
         run = run;
         direct = fresh_if_direct first refused reloads events loaded h.loads h.log within h.in_turn run;
@@ -230,10 +248,10 @@ module _ (first : Route) (refused : List Bool) (reloads : List Reload) (events :
 
   stops_by :
       (loaded : ℕ) (left done next : List Scripted) (given : List Shown) (marks : List ℕ) (k : Kept) (servers : ScriptServers) (fault : FleetFault) → loaded ≤ length reloads → (h : HasCome first refused reloads events loaded left given k) → h.done ≡ done ++ next → length next ≤ 1
-      → AreThrough events (length done) h.log given → AreMarked events h.log given reloads marks → turn_of servers ≡ k.turn → fault ≡ faults.NoMemory → StopsPart first refused reloads events given marks servers fault
-  stops_by loaded left done next given marks k servers fault within h is one through marked turn none =
+      → AreThrough events (length done) h.log given → AreSteps events (length done) h.log given → ((event : Scripted) → next ≡ event ∷ [] → IsStepPart events done event h.log given) → AreMarked events h.log given reloads marks → turn_of servers ≡ k.turn → fault ≡ faults.NoMemory → StopsPart first refused reloads events given marks servers fault
+  stops_by loaded left done next given marks k servers fault within h is one through steps begun marked turn none =
       record {
-        part = part_by loaded left done next given marks k servers within h is one through marked (inl (turn ∙ (law (opening_of events) (tree_by first h.loads) h.log k h.stands).calls));
+        part = part_by loaded left done next given marks k servers within h is one through steps begun marked (inl (turn ∙ (law (opening_of events) (tree_by first h.loads) h.log k h.stands).calls));
         spent = no_memory_spent fault none;
       }
 
@@ -242,7 +260,7 @@ module _ (first : Route) (refused : List Bool) (reloads : List Reload) (events :
       (left : List Scripted) (given : List Shown) (marks : List ℕ) (clients : ℕ) (servers : ScriptServers) (fault : FleetFault) → LoadsSome first refused reloads events left given marks clients servers → fault ≡ faults.NoMemory → StopsPart first refused reloads events given marks servers fault
   stops_between left given marks clients servers fault h none =
       let c = h.stood.come in
-      stops_by h.loaded left c.done [] given marks (kept_of h.runner servers) servers fault h.within c (sym (append-nil c.done)) (omega arith) h.stood.through h.marked refl none
+      stops_by h.loaded left c.done [] given marks (kept_of h.runner servers) servers fault h.within c (sym (append-nil c.done)) (omega arith) h.stood.through h.stood.steps (λ event e. absurd (none_next event e)) h.marked refl none
 
   -- an event was broken off
   pub stops_within :
@@ -283,6 +301,12 @@ module _ (first : Route) (refused : List Bool) (reloads : List Reload) (events :
           given_is = λ c. g.given c ∙ h.come.given_is c;
           order = handed_on given g.more log h.come.order;
           through = inr (λ n le. through_on events (take n events) g.more log given given [] (sym (append-nil given)) (h.through n le));
+          steps = steps_on events (length done) g.more log given given [] (sym (append-nil given)) h.steps;
+          begun = λ x e. subst (λ (y : Scripted). IsStepPart events done y after given) (one_next event x e)
+              (record {
+                before = through_on events done g.more log given given [] (sym (append-nil given)) (here first refused reloads events loaded (event ∷ left) given (kept_of a s) h.come h.settled);
+                brings = brings g.more m.asked p.1;
+              });
           marked = marked_on events g.more log given given [] (sym (append-nil given)) reloads marks h.marked;
           run = run;
           direct = fresh_if_direct first refused reloads events loaded h.come.loads after within turn run;
@@ -292,6 +316,10 @@ module _ (first : Route) (refused : List Bool) (reloads : List Reload) (events :
         spent = spent_in fault m.mid.core m.at after says.begun says.calls m.spent;
       }
     where
+      brings : (more : List (Entry dialect)) → (m.results ≡ []) ⊎ AreAskedBy event a s m.results → HasCalls m.results more h.come.log → HasNoResult h.come.log (more ++ h.come.log) ⊎ BringsResults event h.come.log (more ++ h.come.log)
+      brings more (inl none) calls = inl (none_had m.results more h.come.log none calls)
+      brings more (inr asked) calls = inr (brought event m.results a s (opening_of events) (tree_by first h.come.loads) more h.come.log h.come.stands m.fit asked calls)
+
       by : (more : List (Entry dialect)) → (m.results ≡ []) ⊎ Changes event s s → HasCalls m.results more h.come.log → HasWorldOf events h.come.done (event ∷ []) (more ++ h.come.log)
       by more (inl none) calls = (s, inl (world_stays events h.come.done h.come.log more s h.come.world (subst (λ (rs : List CallResult). HasCalls rs more h.come.log) none calls)))
       by more (inr changes) calls = (m.at, inr (world_next events h.come.done h.come.log more event m.results s s m.at h.come.world changes m.given m.fit calls))
@@ -310,6 +338,15 @@ module _ (first : Route) (refused : List Bool) (reloads : List Reload) (events :
       let o = (hands t opening tree (g.more ++ log) g.stands).1 in
       stops_by loaded left h.come.done (event ∷ []) after marks end.0 t fault within end.1 refl (omega arith)
       (λ n le. through_on events (take n events) o.more (g.more ++ log) given after o.longer.0 o.longer.1 (through_on events (take n events) g.more log given given [] (sym (append-nil given)) (h.through n le)))
+      (steps_on events (length h.come.done) o.more (g.more ++ log) given after o.longer.0 o.longer.1 (steps_on events (length h.come.done) g.more log given given [] (sym (append-nil given)) h.steps))
+      (λ x e. subst (λ (y : Scripted). IsStepPart events h.come.done y (o.more ++ (g.more ++ log)) after) (one_next event x e)
+      (record {
+        before = through_on events h.come.done o.more (g.more ++ log) given after o.longer.0 o.longer.1
+            (through_on events h.come.done g.more log given given [] (sym (append-nil given)) (here first refused reloads events loaded (event ∷ left) given (kept_of a s) h.come h.settled));
+        brings = inr
+            (brought_still event log (g.more ++ log) (o.more ++ (g.more ++ log)) (none_more opening tree (g.more ++ log) (kept_of b t) (kept_of (hands t opening tree (g.more ++ log) g.stands).0 t) g.stands refl o.more o.stands)
+            (brought event m.results a s opening tree g.more log h.come.stands m.fit m.asked (m.goes opening tree log h.come.stands).1));
+      }))
       (marked_on events o.more (g.more ++ log) given after o.longer.0 o.longer.1 reloads marks (marked_on events g.more log given given [] (sym (append-nil given)) reloads marks h.marked))
       refl none
 
@@ -330,6 +367,8 @@ module _ (first : Route) (refused : List Bool) (reloads : List Reload) (events :
       record {
         part = part_by (length reloads) [] h.come.done [] given marks (kept_of m.mid m.at) t (omega arith) mid (sym (append-nil h.come.done)) (omega arith)
             (λ n le. through_on events (take n events) g.more log given given [] (sym (append-nil given)) (h.through n le))
+            (steps_on events (length h.come.done) g.more log given given [] (sym (append-nil given)) h.steps)
+            (λ event e. absurd (none_next event e))
             (marked_on events g.more log given given [] (sym (append-nil given)) reloads marks h.marked)
             (made_by (g.more ++ log) t m.at says.calls m.within);
         spent = spent_in fault m.mid.core m.at (g.more ++ log) says.begun says.calls m.spent;
@@ -349,6 +388,8 @@ module _ (first : Route) (refused : List Bool) (reloads : List Reload) (events :
       let o = (hands t opening tree (g.more ++ log) g.stands).1 in
       stops_by (length reloads) [] h.come.done [] after marks end.0 t fault (omega arith) end.1 (sym (append-nil h.come.done)) (omega arith)
       (λ n le. through_on events (take n events) o.more (g.more ++ log) given after o.longer.0 o.longer.1 (through_on events (take n events) g.more log given given [] (sym (append-nil given)) (h.through n le)))
+      (steps_on events (length h.come.done) o.more (g.more ++ log) given after o.longer.0 o.longer.1 (steps_on events (length h.come.done) g.more log given given [] (sym (append-nil given)) h.steps))
+      (λ event e. absurd (none_next event e))
       (marked_on events o.more (g.more ++ log) given after o.longer.0 o.longer.1 reloads marks (marked_on events g.more log given given [] (sym (append-nil given)) reloads marks h.marked))
       refl none
 
@@ -393,6 +434,8 @@ nothing_done first refused reloads events t marks count s u fault none unmarked 
         given_is = given_none t none;
         order = handed_none t none;
         through = inl refl;
+        steps = λ n event lt at. absurd (omega (arith, lt));
+        begun = λ event e. absurd (none_next event e);
         marked = subst (AreMarked events [] (transcript_of t) reloads) (sym unmarked) (no_marks reloads);
         run = tt;
         direct = fresh_if_direct first refused reloads events 0 [] [] (omega arith) refl tt;

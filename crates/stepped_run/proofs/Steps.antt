@@ -26,7 +26,7 @@ use Rattle.core_run.proofs.Running.{given_then}
 use Rattle.core_run.specs.declared.runner.Runner.{Runner}
 use Rattle.stepped_run.specs.Driving.{said_by, shown_to, IsHanded, AreHandedInTurn}
 use Rattle.stepped_run.specs.World.{Changes}
-use Rattle.stepped_run.specs.Stepping.{HasCalls, FedBy, AreFit, IsHeard, LeavesBy, GoesOnSaid, Befalls, IsGivenAll, HandsOut, HandsSome}
+use Rattle.stepped_run.specs.Stepping.{HasCalls, FedBy, AreFit, AreAskedBy, IsHeard, LeavesBy, GoesOnSaid, Befalls, IsGivenAll, HandsOut, HandsSome}
 
 -- ---- bytes that a client says
 
@@ -142,6 +142,7 @@ piece_said client bytes a b s t m =
       results = m.results;
       given = m.given;
       fit = tt;
+      asked = tt;
       goes = λ opening tree log stands. let p = m.goes opening tree log stands in (said (Piece client bytes) client bytes (λ c. refl) opening tree log (kept_of b t) p.0 tt, p.1);
     }
 
@@ -154,6 +155,7 @@ add_said client bytes a b s m =
       results = [];
       given = refl;
       fit = refl;
+      asked = tt;
       goes = λ opening tree log stands.
           let g = m opening tree log stands in (said (Add client bytes) client bytes (λ c. refl) opening tree log (kept_of b s) g tt, none_more opening tree log (kept_of a s) (kept_of b s) stands refl g.more g.stands);
     }
@@ -172,7 +174,8 @@ result_asked server a b s t m =
       changes = refl;
       results = m.0;
       given = m.2.given;
-      fit = m.1;
+      fit = m.1.one;
+      asked = m.1;
       goes = λ opening tree log stands. let q = m.2.goes opening tree log stands in (quiet (Result server) (λ c. refl) opening tree log (kept_of b t) q.goes tt, q.calls);
     }
 
@@ -182,15 +185,16 @@ MovesQuietly event a s t =
     (opening : ℕ → List ℕ → Option Item) (tree : ℕ → Route) (log : List (Entry dialect)) → Stands opening tree log (kept_of a s) → (g : GoesOn opening tree log (kept_of a t)) × LeavesBy event log (g.more ++ log)
 
 -- an event that changes the servers, and for which no call has a result
-pub changed : (event : Scripted) → ((c : ℕ) → said_by event c ≡ []) → AreFit event [] → (a : Runner) (s t : ScriptServers) → turn_of t ≡ turn_of s → Changes event s t → MovesQuietly event a s t → Befalls event a s a t
+pub changed : (event : Scripted) → ((c : ℕ) → said_by event c ≡ []) → AreFit event [] → (a : Runner) (s t : ScriptServers) → AreAskedBy event a s [] → turn_of t ≡ turn_of s → Changes event s t → MovesQuietly event a s t → Befalls event a s a t
 unfolding quiet
-changed event says fit a s t turn changes m =
+changed event says fit a s t asked turn changes m =
     record {
       mid = t;
       changes = changes;
       results = [];
       given = refl;
       fit = fit;
+      asked = asked;
       goes = λ opening tree log stands.
           let p = m opening tree log stands in
           let g = p.0 in
@@ -210,6 +214,7 @@ stands_as opening tree log k servers st =
       unbroken = st.unbroken;
       holds = st.holds;
       turn = st.turn;
+      out = st.out;
       known = st.known;
       unknown = st.unknown;
       commands = st.commands;
@@ -237,13 +242,13 @@ stays_as event a s t same opening tree log stands = (
 -- nothing is put on servers any more
 pub held_before : (server : ℕ) (key content : List ℕ) (a : Runner) (s : ScriptServers) → Befalls (Hold server key content) a s a s
 held_before server key content a s =
-    changed (Hold server key content) (λ c. refl) refl a s s refl refl
+    changed (Hold server key content) (λ c. refl) refl a s s tt refl refl
     (λ opening tree log stands. (record { more = []; stands = stands; streams = λ c. refl; given = λ c. refl }, leaves_same (Hold server key content) log))
 
 -- a failure is named
 pub named : (turn : ℕ) (manner : Manner) (a : Runner) (s t : ScriptServers) → ((n : ℕ) → named_of t n ≡ cond (nat_eq (turn_of s + turn) n) (Some manner) (named_of s n)) → t ≡ record s { failures = t.failures } → Befalls (Fail turn manner) a s a t
 named turn manner a s t names rest =
-    changed (Fail turn manner) (λ c. refl) refl a s t (ap turn_of rest) (names, rest) (stays_as (Fail turn manner) a s t (ap (λ x. record (kept_of a x) { servers = t }) rest))
+    changed (Fail turn manner) (λ c. refl) refl a s t tt (ap turn_of rest) (names, rest) (stays_as (Fail turn manner) a s t (ap (λ x. record (kept_of a x) { servers = t }) rest))
 
 map_if : (b : Bool) (xs : List Loss) (loss : Loss) → map loss_of (cond b (xs ++ loss ∷ []) xs) ≡ cond b (map loss_of xs ++ loss_of loss ∷ []) (map loss_of xs)
 map_if true xs loss = map-append loss_of xs (loss ∷ [])
@@ -252,18 +257,18 @@ map_if false xs loss = refl
 -- a loss is named
 pub loss_named : (turn : ℕ) (loss : Loss) (a : Runner) (s t : ScriptServers) → ((n : ℕ) → lost_of t n ≡ cond (nat_eq (turn_of s + turn) n) (lost_of s n ++ loss ∷ []) (lost_of s n)) → t ≡ record s { losses = t.losses } → Befalls (At turn (loss_of loss)) a s a t
 loss_named turn loss a s t losses rest =
-    changed (At turn (loss_of loss)) (λ c. refl) refl a s t (ap turn_of rest) ((λ n. ap (map loss_of) (losses n) ∙ map_if (nat_eq (turn_of s + turn) n) (lost_of s n) loss), rest) (stays_as (At turn (loss_of loss)) a s t (ap (λ x. record (kept_of a x) { servers = t }) rest))
+    changed (At turn (loss_of loss)) (λ c. refl) refl a s t tt (ap turn_of rest) ((λ n. ap (map loss_of) (losses n) ∙ map_if (nat_eq (turn_of s + turn) n) (lost_of s n) loss), rest) (stays_as (At turn (loss_of loss)) a s t (ap (λ x. record (kept_of a x) { servers = t }) rest))
 
 -- the time changes
 pub timed : (moment : ℤ) (a : Runner) (s t : ScriptServers) → moment_of t ≡ moment → t ≡ record s { moment = t.moment } → Befalls (Moment moment) a s a t
-timed moment a s t now rest = changed (Moment moment) (λ c. refl) refl a s t (ap turn_of rest) (now, rest) (stays_as (Moment moment) a s t (ap (λ x. record (kept_of a x) { servers = t }) rest))
+timed moment a s t now rest = changed (Moment moment) (λ c. refl) refl a s t tt (ap turn_of rest) (now, rest) (stays_as (Moment moment) a s t (ap (λ x. record (kept_of a x) { servers = t }) rest))
 
 -- something is lost
 pub lost :
     LossesGoOn → (a : Runner) (s t : ScriptServers) (loss : Loss) → caches_of t ≡ after_loss (losing.loss_of loss) (caches_of s)
     → ((i : ℕ) (key : List ℕ) → held_at (caches_of t) i key ≡ after_event (losing.loss_of loss) (held_at (caches_of s)) i key) → t ≡ record s { caches = t.caches } → Befalls (Now (loss_of loss)) a s a t
 lost law a s t loss caches held rest =
-    changed (Now (loss_of loss)) (λ c. refl) refl a s t (ap turn_of rest) ((loss, refl, caches), rest)
+    changed (Now (loss_of loss)) (λ c. refl) refl a s t tt (ap turn_of rest) ((loss, refl, caches), rest)
     (λ opening tree log stands.
     law opening tree log loss (kept_of a s) (kept_of a t) stands (
     record {
@@ -273,6 +278,7 @@ lost law a s t loss caches held rest =
       turn = ap turn_of rest;
       counts = record { commands = refl; stale = refl; last = λ key. refl };
       found = λ n. refl;
+      out = refl;
     }
     ))
 

@@ -39,13 +39,15 @@ use Rattle.stepped_log.specs.Standing.{Kept, Stands, LeavesAsMuch, tree_by}
 use Rattle.stepped_log.specs.Laws.{StandingSays, NothingStands, IsBegin}
 use Rattle.core_run.specs.Running.{kept_of, MovesByResults, IsIdle, AreStalled, KeepStalled, IsAtRest}
 use Rattle.core_run.specs.declared.runner.Runner.{Runner}
-use Rattle.stepped_run.specs.Driving.{said_by, said_in, shown_to, may_be_out, leaves_out, IsDoneFor, IsSettled, IsThrough, AreThrough, IsMarked, AreMarked, one_loaded, trees_loaded, IsReached, CameSo, CameInTurn, RunsBy, DrivesStepped}
+use Rattle.stepped_run.specs.Driving.{said_by, said_in, shown_to, may_be_out, leaves_out, IsDoneFor, IsSettled, IsThrough, AreThrough, BringsResults, IsStep, AreSteps, IsMarked, AreMarked, one_loaded, trees_loaded, IsReached, CameSo, CameInTurn, RunsBy, DrivesStepped}
 use Rattle.stepped_run.specs.Holding.{put_all_on}
 use Rattle.stepped_run.specs.Stepping.{Befalls, LeavesBy, IsHeard, RestsAfter, IsGivenAll, HandsOutAll, HasCome, HasStood, TakesUp, Loads}
 use Rattle.stepped_run.specs.World.{World}
+use Rattle.stepped_log.proofs.Counted.{none_more}
 use Rattle.stepped_run.proofs.Direct.{fresh_if_direct}
 use Rattle.stepped_run.proofs.Messages.{each_written}
 use Rattle.stepped_run.proofs.Replied.{replied_unbroken}
+use Rattle.stepped_run.proofs.Worlds.{brought, brought_still}
 use Rattle.stepped_run.proofs.Come.{said_split, mark_count, come_on, come_ended, come_out, begins, next_left}
 
 -- ---- what is said in events, one after another
@@ -74,7 +76,7 @@ first_shown n given after rest c is within = ap (λ l. shown_to l c) (sym (take-
 longer_by : (given after rest : List Shown) → after ≡ given ++ rest → length given ≤ length after
 longer_by given after rest is = let e = ap length is ∙ length-append given rest in omega (arith, e)
 
-pub through_on : (events done : List Scripted) (more log : List (Entry dialect)) (given after rest : List Shown) → after ≡ given ++ rest → IsThrough events done log given → IsThrough events done (more ++ log) after
+abbrev pub through_on : (events done : List Scripted) (more log : List (Entry dialect)) (given after rest : List Shown) → after ≡ given ++ rest → IsThrough events done log given → IsThrough events done (more ++ log) after
 through_on events done more log given after rest is t =
     let within = t.within in
     let longer = longer_by given after rest is in
@@ -91,6 +93,19 @@ through_on events done more log given after rest is t =
       stalled = t.stalled;
       settled = t.settled;
     }
+
+pub step_on : (events done : List Scripted) (event : Scripted) (more log : List (Entry dialect)) (given after rest : List Shown) → after ≡ given ++ rest → IsStep events done event log given → IsStep events done event (more ++ log) after
+step_on events done event more log given after rest is s =
+    record {
+      before = through_on events done more log given after rest is s.before;
+      after = through_on events (done ++ event ∷ []) more log given after rest is s.after;
+      more = s.more;
+      goes = s.goes;
+      brings = s.brings;
+    }
+
+pub steps_on : (events : List Scripted) (count : ℕ) (more log : List (Entry dialect)) (given after rest : List Shown) → after ≡ given ++ rest → AreSteps events count log given → AreSteps events count (more ++ log) after
+steps_on events count more log given after rest is steps n event lt at = step_on events (take n events) event more log given after rest is (steps n event lt at)
 
 -- marks that are within what was handed out
 pub marked_on :
@@ -312,6 +327,7 @@ loads_one law refused reloads next shown n marks marks' r is a b place at same m
             world = come.world;
           };
           through = h.through;
+          steps = h.steps;
           settled = h.settled;
           stalled = λ c lt. subst (λ (x : Runner). IsStalled x.core c) (sym stays) (h.stalled c lt);
           heard = h.heard;
@@ -334,6 +350,7 @@ loads_one law refused reloads next shown n marks marks' r is a b place at same m
             world = come.world;
           };
           through = h.through;
+          steps = h.steps;
           settled = h.settled;
           stalled = λ c lt. keeps (ap (λ (l : Limits). l.sharing) come.stands.limits) c (h.stalled c lt);
           heard = h.heard;
@@ -363,7 +380,7 @@ stalled_or_unheard done count core unheard held c = elim (cases_lt c count) [
 
 module _ (first : Route) (refused : List Bool) (reloads : List Reload) (events : List Scripted) where
   -- the part of the log that is all of it
-  pub here :
+  abbrev pub here :
       (loaded : ℕ) (left : List Scripted) (given : List Shown) (k : Kept) (h : HasCome first refused reloads events loaded left given k) → ((c : ℕ) → (said_in h.done c ≡ []) ⊎ IsStalled k.core c) → (leaves_out false h.done ≡ false → IsSettled h.done h.log)
       → IsThrough events h.done h.log given
   here loaded left given k h stalled settled =
@@ -392,6 +409,32 @@ module _ (first : Route) (refused : List Bool) (reloads : List Reload) (events :
       last : length done < n → length (done ++ event ∷ []) ≡ n
       last lt = let e = length-append done (event ∷ []) in omega (arith, e, lt, le)
 
+  -- the event after those that are done
+  at_seam : (done left : List Scripted) (event : Scripted) → slice_get (done ++ event ∷ left) (length done) ≡ Some event
+  at_seam [] left event = refl
+  at_seam (first ∷ done) left event = at_seam done left event
+
+  same_event : (x y : Scripted) → Some x ≡ Some y → x ≡ y
+  same_event x y e = cc
+
+  -- so there are steps for one more event
+  steps_next : (done left : List Scripted) (event : Scripted) (log : List (Entry dialect)) (given : List Shown) → events ≡ (done ++ event ∷ []) ++ left → AreSteps events (length done) log given → IsStep events done event log given
+      → AreSteps events (length (done ++ event ∷ [])) log given
+  steps_next done left event log given is before now n x lt at = elim (cases_lt n (length done)) [
+    | inl few ↦ before n x few at
+    | inr le ↦ subst (λ (y : Scripted). IsStep events (take n events) y log given) (same_event event x (found (last le) ∙ at))
+        (subst (λ (l : List Scripted). IsStep events l event log given) (sym (first_done events done (event ∷ left) whole) ∙ ap (λ (m : ℕ). take m events) (last le)) now)
+  ]
+    where
+      last : length done ≤ n → length done ≡ n
+      last le = let e = length-append done (event ∷ []) in omega (arith, e, lt, le)
+
+      whole : events ≡ done ++ event ∷ left
+      whole = is ∙ append_assoc done (event ∷ []) left
+
+      found : length done ≡ n → Some event ≡ slice_get events n
+      found e = sym (at_seam done left event) ∙ ap (λ (l : List Scripted). slice_get l (length done)) (sym whole) ∙ ap (slice_get events) e
+
   pub stood_next :
       (loaded : ℕ) (event : Scripted) (left : List Scripted) (given after : List Shown) (marks : List ℕ) (a b d : Runner) (s t : ScriptServers) → Befalls event a s b t → IsHeard event a b → RestsAfter event a b
       → HandsOutAll given after b d → KeepStalled b d → d.clients ≡ b.clients
@@ -414,6 +457,17 @@ module _ (first : Route) (refused : List Bool) (reloads : List Reload) (events :
         through = through_next done left event (o.more ++ (g.more ++ log)) after end.done_is
             (λ n le. through_on events (take n events) o.more (g.more ++ log) given after o.longer.0 o.longer.1 (through_on events (take n events) g.more log given given [] (sym (append-nil given)) (h.through n le)))
             (here loaded left after (kept_of d t) end (stalled_or_unheard (done ++ event ∷ []) d.clients d.core (λ c le. unheard c (subst (λ (n : ℕ). n ≤ c) same le)) stalled) settled);
+        steps = steps_next done left event (o.more ++ (g.more ++ log)) after end.done_is
+            (steps_on events (length done) o.more (g.more ++ log) given after o.longer.0 o.longer.1 (steps_on events (length done) g.more log given given [] (sym (append-nil given)) h.steps))
+            (record {
+              before = through_on events done o.more (g.more ++ log) given after o.longer.0 o.longer.1
+                  (through_on events done g.more log given given [] (sym (append-nil given)) (here loaded (event ∷ left) given (kept_of a s) h.come (stalled_or_unheard done a.clients a.core h.heard h.stalled) h.settled));
+              after = here loaded left after (kept_of d t) end (stalled_or_unheard (done ++ event ∷ []) d.clients d.core (λ c le. unheard c (subst (λ (n : ℕ). n ≤ c) same le)) stalled) settled;
+              more = o.more ++ g.more;
+              goes = sym (append_assoc o.more g.more log);
+              brings = brought_still event log (g.more ++ log) (o.more ++ (g.more ++ log)) (none_more opening tree (g.more ++ log) (kept_of b t) (kept_of d t) g.stands refl o.more o.stands)
+                  (brought event m.results a s opening tree g.more log h.come.stands m.fit m.asked (m.goes opening tree log h.come.stands).1);
+            });
         settled = settled;
         stalled = stalled;
         heard = λ c le. unheard c (subst (λ (n : ℕ). n ≤ c) same le);
@@ -458,6 +512,8 @@ module _ (first : Route) (refused : List Bool) (reloads : List Reload) (events :
         order = end.order;
         through = λ n le. through_on events (take n events) o.more (g.more ++ log) given after o.longer.0 o.longer.1
             (through_on events (take n events) g.more log given given [] (sym (append-nil given)) (h.through n (subst (λ (l : List Scripted). n ≤ length l) (sym all) le)));
+        steps = subst (λ (l : List Scripted). AreSteps events (length l) (o.more ++ (g.more ++ log)) after) all
+            (steps_on events (length done) o.more (g.more ++ log) given after o.longer.0 o.longer.1 (steps_on events (length done) g.more log given given [] (sym (append-nil given)) h.steps));
         marked = marked_on events o.more (g.more ++ log) given after o.longer.0 o.longer.1 reloads marks (marked_on events g.more log given given [] (sym (append-nil given)) reloads marks h.marked);
         settled = settled;
         written = each_written (tree_words plans) (bars_by Alone plans) opening events end.log says.follows said settled;
@@ -520,6 +576,7 @@ begins_stood law first refused reloads events n a s t x marks begin nobody new p
     record {
       come = come;
       through = λ m le. subst (λ (l : List Scripted). IsThrough (map scripted_of events) l [] (transcript_of x)) (none_of m (map scripted_of events) le) (here first refused reloads (map scripted_of events) 0 (map scripted_of events) (transcript_of x) (kept_of a t) come (λ c. inl refl) (λ out. settled));
+      steps = λ m event lt at. absurd (omega (arith, lt));
       settled = λ out. settled;
       stalled = λ c lt. absurd (omega (arith, lt, nobody));
       heard = λ c le. refl;

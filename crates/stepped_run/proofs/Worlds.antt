@@ -1,14 +1,19 @@
--- The world of a log goes on by events and by results.
-use Rattle.std.proofs.Common.{◌≡◌, List, [], ◌∷◌, ◌++◌, map, refl, sym, ap, ◌∙◌, subst}
+-- The world of a log goes on by events and by results, and which results an event brings.
+use Rattle.std.proofs.Common.{◌≡◌, ℕ, List, [], ◌∷◌, ◌++◌, map, Option, refl, sym, ap, ◌∙◌, subst}
 use Rattle.std.proofs.lemmas.List.{map-append}
-use Rattle.mc_runs.specs.Overlap.{Entry, run_of}
+use Rattle.mc_types.specs.Items.{Item}
+use Rattle.mc_runs.specs.Overlap.{Entry, Ticket, run_of, out_of}
+use Rattle.route_tree.specs.Route.{Route}
 use Rattle.proxy_core.specs.CoreState.{dialect}
 use Rattle.fleet_run.specs.Scripted.{Scripted, Piece, Add, Result, Fail, Hold, At, Now, Moment}
 use Rattle.script_servers.specs.declared.servers.ScriptServers.{ScriptServers}
-use Rattle.stepped_log.specs.Results.{CallResult, NumberedCall, AreGiven, call_of, calls_of}
-use Rattle.core_run.specs.Running.{AreOfOne}
+use Rattle.stepped_log.specs.Results.{CallResult, AreOfFirst, NumberedCall, AreGiven, call_of, calls_of}
+use Rattle.stepped_log.specs.Standing.{Stands}
+use Rattle.core_run.specs.Running.{kept_of, AreOfOne}
+use Rattle.core_run.specs.declared.runner.Runner.{Runner}
+use Rattle.stepped_run.specs.Driving.{HasNoResult, FirstHasResult, BringsResults}
 use Rattle.stepped_run.specs.World.{Deed, Takes, Ends, Gives, Changes, LeadTo, AreMany, IsAwaited, AreInTurn, World, script_of, results_of}
-use Rattle.stepped_run.specs.Stepping.{HasCalls, AreFit}
+use Rattle.stepped_run.specs.Stepping.{HasCalls, AreFit, AreAskedBy}
 
 -- results after deeds, the latest first
 abbrev then_given : List CallResult → List Deed → List Deed
@@ -92,3 +97,50 @@ module _ (events done : List Scripted) (log more : List (Entry dialect)) where
   -- no call had its result
   pub world_stays : (servers : ScriptServers) → World events done log servers → calls_of (run_of (more ++ log)) ≡ calls_of (run_of log) → World events done (more ++ log) servers
   world_stays servers w same = record { deeds = w.deeds; script_is = w.script_is; lead = w.lead; in_turn = w.in_turn; calls = w.calls ∙ sym same }
+
+-- ---- which results an event brings
+
+-- none came
+pub none_had : (rs : List CallResult) (more log : List (Entry dialect)) → rs ≡ [] → HasCalls rs more log → HasNoResult log (more ++ log)
+none_had rs more log none has = has ∙ ap (λ (l : List CallResult). map call_of l ++ calls_of (run_of log)) none
+
+-- that of the first call came
+first_had : (server : ℕ) (calls : List Ticket) (rs : List CallResult) (more log : List (Entry dialect)) → AreOfFirst server calls rs → HasCalls rs more log → FirstHasResult server calls log (more ++ log)
+first_had server [] rs more log of has = none_had rs more log of has
+first_had server (call ∷ calls) rs more log of has =
+    let r = of.0 in
+    let outcome = r.made.outcome in
+    let past = calls_of (run_of log) in (
+      outcome,
+      has ∙ ap (λ (l : List CallResult). map call_of l ++ past) of.1
+          ∙ ap (λ (s : ℕ). record { number = r.number; call = record { server = s; ask = r.ask; origin = r.origin; outcome = outcome } } ∷ past) of.2.server_is
+          ∙ ap (λ (t : Ticket). record { number = t.number; call = record { server = server; ask = t.ask; origin = t.origin; outcome = outcome } } ∷ past) of.2.call_is,
+    )
+
+-- those that it asks for come
+pub brought :
+    (event : Scripted) (rs : List CallResult) (a : Runner) (s : ScriptServers) (opening : ℕ → List ℕ → Option Item) (tree : ℕ → Route) (more log : List (Entry dialect)) → Stands opening tree log (kept_of a s)
+    → AreFit event rs → AreAskedBy event a s rs → HasCalls rs more log → BringsResults event log (more ++ log)
+brought (Piece client bytes) rs a s opening tree more log stands fit asked has = tt
+brought (Add client bytes) rs a s opening tree more log stands fit asked has = none_had rs more log fit has
+brought (Result server) rs a s opening tree more log stands fit asked has = first_had server (out_of log server) rs more log (asked.first opening tree log stands) has
+brought (Fail turn manner) rs a s opening tree more log stands fit asked has = none_had rs more log fit has
+brought (Hold server key content) rs a s opening tree more log stands fit asked has = none_had rs more log fit has
+brought (At turn loss) rs a s opening tree more log stands fit asked has = none_had rs more log fit has
+brought (Now loss) rs a s opening tree more log stands fit asked has = none_had rs more log fit has
+brought (Moment moment) rs a s opening tree more log stands fit asked has = none_had rs more log fit has
+
+-- and where no call has its result later, the event brings the same
+first_still : (server : ℕ) (calls : List Ticket) (log mid after : List (Entry dialect)) → HasNoResult mid after → FirstHasResult server calls log mid → FirstHasResult server calls log after
+first_still server [] log mid after none h = none ∙ h
+first_still server (call ∷ calls) log mid after none h = (h.0, none ∙ h.1)
+
+pub brought_still : (event : Scripted) (log mid after : List (Entry dialect)) → HasNoResult mid after → BringsResults event log mid → BringsResults event log after
+brought_still (Piece client bytes) log mid after none h = tt
+brought_still (Add client bytes) log mid after none h = none ∙ h
+brought_still (Result server) log mid after none h = first_still server (out_of log server) log mid after none h
+brought_still (Fail turn manner) log mid after none h = none ∙ h
+brought_still (Hold server key content) log mid after none h = none ∙ h
+brought_still (At turn loss) log mid after none h = none ∙ h
+brought_still (Now loss) log mid after none h = none ∙ h
+brought_still (Moment moment) log mid after none h = none ∙ h

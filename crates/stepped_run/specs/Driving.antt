@@ -2,7 +2,8 @@
 use Rattle.std.specs.Prelude.{◌⊎◌, ◌≡◌, ℕ, zero, suc, ◌+◌, ◌<◌, ◌≤◌, ◌^◌, Bool, true, false, List, [], ◌∷◌, ◌++◌, length, map, take, Option, Some, None, slice_get, if◌then◌else◌, nat_eq}
 use Rattle.std.specs.List.{All}
 use Rattle.mc_runs.specs.Log.{Shown}
-use Rattle.mc_runs.specs.Overlap.{Entry, Follows, run_of, front_of, queue_of, output_of, given_of, owner_of}
+use Rattle.mc_types.specs.declared.call.Outcome.{Outcome}
+use Rattle.mc_runs.specs.Overlap.{Entry, Ticket, Follows, run_of, front_of, queue_of, output_of, given_of, owner_of, out_of}
 use Rattle.mc_runs.specs.Protocol.{IsStuck}
 use Rattle.mc_runs.specs.OverlapStream.{stream_of}
 use Rattle.mc_runs.specs.OverlapLaws.{WritesAll}
@@ -28,6 +29,7 @@ use Rattle.script_servers.specs.Limits.{last_turn}
 use Rattle.proxy_core.specs.declared.limits.TheConstants.{LAST_COMMAND}
 use Rattle.script_servers.specs.Servers.{turn_of}
 use Rattle.script_servers.specs.declared.servers.ScriptServers.{ScriptServers}
+use Rattle.stepped_log.specs.Results.{calls_of}
 use Rattle.stepped_log.specs.Standing.{Kept, Stands, replied_in, tree_by}
 use Rattle.stepped_run.specs.World.{World}
 
@@ -119,6 +121,46 @@ pub record IsThrough (events done : List Scripted) (log : List (Entry dialect)) 
 abbrev pub AreThrough : List Scripted → ℕ → List (Entry dialect) → List Shown → Type 0
 AreThrough events count log given = (n : ℕ) → n ≤ count → IsThrough events (take n events) log given
 
+-- ---- which results come
+
+-- no call had its result between two parts of the log
+abbrev pub HasNoResult : List (Entry dialect) → List (Entry dialect) → Type 0
+HasNoResult before after = calls_of (run_of after) ≡ calls_of (run_of before)
+
+-- of these calls that were out at a server before, in order, the first had its result, and no other call had one; where none was out none had
+abbrev pub FirstHasResult : ℕ → List Ticket → List (Entry dialect) → List (Entry dialect) → Type 0
+FirstHasResult server [] before after = HasNoResult before after
+FirstHasResult server (call ∷ calls) before after =
+    (outcome : Outcome) × (calls_of (run_of after) ≡ record { number = call.number; call = record { server = server; ask = call.ask; origin = call.origin; outcome = outcome } } ∷ calls_of (run_of before))
+
+-- a piece brings as many results as there are; where one is asked of a server, the first call that is out there has it; other events bring none
+abbrev pub BringsResults : Scripted → List (Entry dialect) → List (Entry dialect) → Type 0
+BringsResults (Piece client bytes) before after = Unit {0}
+BringsResults (Add client bytes) before after = HasNoResult before after
+BringsResults (Result server) before after = FirstHasResult server (out_of before server) before after
+BringsResults (Fail turn manner) before after = HasNoResult before after
+BringsResults (Hold server key content) before after = HasNoResult before after
+BringsResults (At turn loss) before after = HasNoResult before after
+BringsResults (Now loss) before after = HasNoResult before after
+BringsResults (Moment moment) before after = HasNoResult before after
+
+-- two parts of the log: one after the events before this one, and a later one after this one too, with what results it brings between them
+pub record IsStep (events done : List Scripted) (event : Scripted) (log : List (Entry dialect)) (given : List Shown) : Type 0 where
+  pub before : IsThrough events done log given
+  pub after : IsThrough events (done ++ event ∷ []) log given
+  pub more : List (Entry dialect)
+  pub goes : after.older ≡ more ++ before.older
+  pub brings : BringsResults event before.older after.older
+
+-- there are such parts for each of so many events
+abbrev pub AreSteps : List Scripted → ℕ → List (Entry dialect) → List Shown → Type 0
+AreSteps events count log given = (n : ℕ) (event : Scripted) → n < count → slice_get events n ≡ Some event → IsStep events (take n events) event log given
+
+-- the log may have gone on by this event, which may have brought its results
+pub record IsStepPart (events done : List Scripted) (event : Scripted) (log : List (Entry dialect)) (given : List Shown) : Type 0 where
+  pub before : IsThrough events done log given
+  pub brings : HasNoResult before.older log ⊎ BringsResults event before.older log
+
 -- ---- reloads' marks
 
 -- a part of the log, before a reload: clients had said what the events before its place say, and were given so many outputs; unless calls may be out nothing was left to do, so that these are all that there were
@@ -207,6 +249,7 @@ pub record DrivesStepped (first : Route) (refused : List Bool) (reloads : List R
   pub given_is : (c : ℕ) → given_of log c ≡ shown_to given c
   pub order : AreHandedInTurn given log
   pub through : AreThrough events (length events) log given
+  pub steps : AreSteps events (length events) log given
   pub marked : AreMarked events log given reloads marks
   pub settled : IsSettled events log
   pub written : (c : ℕ) → IsWritten first loads events log c
@@ -256,6 +299,8 @@ pub record StepsPart (first : Route) (refused : List Bool) (reloads : List Reloa
   pub given_is : (c : ℕ) → given_of log c ≡ shown_to given c
   pub order : AreHandedInTurn given log
   pub through : (log ≡ []) ⊎ AreThrough events (length done) log given
+  pub steps : AreSteps events (length done) log given
+  pub begun : (event : Scripted) → next ≡ event ∷ [] → IsStepPart events done event log given
   pub marked : AreMarked events log given reloads marks
   pub run : RunsBy first loads events log
   pub direct : IsFreshIfDirect first reloads events log

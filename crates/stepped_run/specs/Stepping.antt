@@ -17,10 +17,10 @@ use Rattle.stepped_log.specs.Standing.{Kept, Stands, GoesOnFed, LeavesAsMuch, tr
 use Rattle.script_servers.specs.declared.event.FleetFault.{FleetFault}
 use Rattle.script_servers.specs.declared.event.FleetFault.TheVariants.{Spent}
 use Rattle.core_run.specs.Breaking.{AreSpent, IsWithinOne}
-use Rattle.core_run.specs.Running.{kept_of, IsLoadedBy, AreOfOne, AreStalled, KeepStalled, IsAtRest}
+use Rattle.core_run.specs.Running.{kept_of, IsLoadedBy, AreOfOne, AreAsked, AreStalled, KeepStalled, IsAtRest}
 use Rattle.core_run.specs.declared.runner.Runner.{Runner}
 use Rattle.stepped_run.specs.World.{Changes, World}
-use Rattle.stepped_run.specs.Driving.{said_by, said_in, shown_to, AreHandedInTurn, trees_loaded, loaded_trees, CameInTurn, leaves_out, IsSettled, AreThrough, AreMarked, StepsPart, AreSpentIn}
+use Rattle.stepped_run.specs.Driving.{said_by, said_in, shown_to, AreHandedInTurn, trees_loaded, loaded_trees, CameInTurn, leaves_out, IsSettled, AreThrough, AreSteps, AreMarked, StepsPart, AreSpentIn}
 
 -- an event that asks clients nothing leaves as much to do as there was
 abbrev pub LeavesBy : Scripted → List (Entry dialect) → List (Entry dialect) → Type 0
@@ -62,6 +62,17 @@ AreFit (At turn loss) results = results ≡ []
 AreFit (Now loss) results = results ≡ []
 AreFit (Moment moment) results = results ≡ []
 
+-- where it asks a server for a result, they are those that come then
+abbrev pub AreAskedBy : Scripted → Runner → ScriptServers → List CallResult → Type 0
+AreAskedBy (Piece client bytes) old before results = Unit {0}
+AreAskedBy (Add client bytes) old before results = Unit {0}
+AreAskedBy (Result server) old before results = AreAsked server old before results
+AreAskedBy (Fail turn manner) old before results = Unit {0}
+AreAskedBy (Hold server key content) old before results = Unit {0}
+AreAskedBy (At turn loss) old before results = Unit {0}
+AreAskedBy (Now loss) old before results = Unit {0}
+AreAskedBy (Moment moment) old before results = Unit {0}
+
 -- the event changes the servers, and then they give the results that it asks for: each log that stood before goes on so
 pub record Befalls (event : Scripted) (old : Runner) (before : ScriptServers) (new : Runner) (after : ScriptServers) : Type 0 where
   pub mid : ScriptServers
@@ -69,6 +80,7 @@ pub record Befalls (event : Scripted) (old : Runner) (before : ScriptServers) (n
   pub results : List CallResult
   pub given : AreGiven results mid after
   pub fit : AreFit event results
+  pub asked : AreAskedBy event old before results
   pub goes : (opening : ℕ → List ℕ → Option Item) (tree : ℕ → Route) (log : List (Entry dialect)) → Stands opening tree log (kept_of old before) → (g : GoesOnSaid opening tree log event (kept_of new after)) × HasCalls results g.more log
 
 -- the log goes on, and clients said a beginning of what the event says
@@ -100,6 +112,7 @@ pub record BreaksOff (event : Scripted) (old : Runner) (before : ScriptServers) 
   pub given : AreGiven results before at
   pub come : (results ≡ []) ⊎ Changes event before before
   pub fit : AreFit event results
+  pub asked : (results ≡ []) ⊎ AreAskedBy event old before results
   pub goes : (opening : ℕ → List ℕ → Option Item) (tree : ℕ → Route) (log : List (Entry dialect)) → Stands opening tree log (kept_of old before) → (g : GoesOnInPart opening tree log event (kept_of mid at)) × HasCalls results g.more log
   pub within : IsWithinOne at after
   pub spent : AreSpent fault mid.core at
@@ -168,6 +181,7 @@ pub record HasCome (first : Route) (refused : List Bool) (reloads : List Reload)
 pub record HasStood (first : Route) (refused : List Bool) (reloads : List Reload) (events : List Scripted) (loaded : ℕ) (left : List Scripted) (given : List Shown) (marks : List ℕ) (clients : ℕ) (k : Kept) : Type 0 where
   pub come : HasCome first refused reloads events loaded left given k
   pub through : AreThrough events (length come.done) come.log given
+  pub steps : AreSteps events (length come.done) come.log given
   pub settled : leaves_out false come.done ≡ false → IsSettled come.done come.log
   pub stalled : (c : ℕ) → c < clients → IsStalled k.core c
   pub heard : (c : ℕ) → clients ≤ c → said_in come.done c ≡ []
