@@ -43,7 +43,7 @@ use Rattle.stepped_run.specs.Stepping.{HasCalls, FedBy, AreFit, AreAskedBy, Goes
 use Rattle.stepped_run.proofs.Direct.{fresh_if_direct}
 use Rattle.stepped_run.proofs.Come.{turn_on, come_on, come_ended, come_some, given_none, handed_none}
 use Rattle.stepped_run.proofs.Steps.{after_it, handed_on, nothing_fed, fed_more, fed_after, fed_results}
-use Rattle.stepped_run.proofs.Stood.{said_append, through_on, steps_on, marked_on, marked_one, here}
+use Rattle.stepped_run.proofs.Stood.{said_append, through_on, steps_on, marked_on, marked_one, stalled_or_unheard, here}
 use Rattle.stepped_run.proofs.Worlds.{world_next, world_stays, none_had, brought, brought_still}
 
 -- ---- results that are faults
@@ -304,7 +304,7 @@ module _ (first : Route) (refused : List Bool) (reloads : List Reload) (events :
           steps = steps_on events (length done) g.more log given given [] (sym (append-nil given)) h.steps;
           begun = λ x e. subst (λ (y : Scripted). IsStepPart events done y after given) (one_next event x e)
               (record {
-                before = through_on events done g.more log given given [] (sym (append-nil given)) (here first refused reloads events loaded (event ∷ left) given (kept_of a s) h.come h.settled);
+                before = through_on events done g.more log given given [] (sym (append-nil given)) (here first refused reloads events loaded (event ∷ left) given (kept_of a s) h.come (stalled_or_unheard h.come.done a.clients a.core h.heard h.stalled) h.settled);
                 brings = brings g.more m.asked p.1;
               });
           marked = marked_on events g.more log given given [] (sym (append-nil given)) reloads marks h.marked;
@@ -342,7 +342,7 @@ module _ (first : Route) (refused : List Bool) (reloads : List Reload) (events :
       (λ x e. subst (λ (y : Scripted). IsStepPart events h.come.done y (o.more ++ (g.more ++ log)) after) (one_next event x e)
       (record {
         before = through_on events h.come.done o.more (g.more ++ log) given after o.longer.0 o.longer.1
-            (through_on events h.come.done g.more log given given [] (sym (append-nil given)) (here first refused reloads events loaded (event ∷ left) given (kept_of a s) h.come h.settled));
+            (through_on events h.come.done g.more log given given [] (sym (append-nil given)) (here first refused reloads events loaded (event ∷ left) given (kept_of a s) h.come (stalled_or_unheard h.come.done a.clients a.core h.heard h.stalled) h.settled));
         brings = inr
             (brought_still event log (g.more ++ log) (o.more ++ (g.more ++ log)) (none_more opening tree (g.more ++ log) (kept_of b t) (kept_of (hands t opening tree (g.more ++ log) g.stands).0 t) g.stands refl o.more o.stands)
             (brought event m.results a s opening tree g.more log h.come.stands m.fit m.asked (m.goes opening tree log h.come.stands).1));

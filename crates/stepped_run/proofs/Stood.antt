@@ -372,7 +372,7 @@ stalled_after (Now loss) a b same held = subst AreStalled (sym same) held
 stalled_after (Moment moment) a b same held = subst AreStalled (sym same) held
 
 -- a client was opened, or said nothing
-stalled_or_unheard : (done : List Scripted) (count : ℕ) (core : Core) → ((c : ℕ) → count ≤ c → said_in done c ≡ []) → ((c : ℕ) → c < count → IsStalled core c) → (c : ℕ) → (said_in done c ≡ []) ⊎ IsStalled core c
+pub stalled_or_unheard : (done : List Scripted) (count : ℕ) (core : Core) → ((c : ℕ) → count ≤ c → said_in done c ≡ []) → ((c : ℕ) → c < count → IsStalled core c) → (c : ℕ) → (said_in done c ≡ []) ⊎ IsStalled core c
 stalled_or_unheard done count core unheard held c = elim (cases_lt c count) [
   | inl lt ↦ inr (held c lt)
   | inr le ↦ inl (unheard c le)
