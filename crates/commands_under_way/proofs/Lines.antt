@@ -127,11 +127,11 @@ joins_again lines place client key claim it at got same =
     let there : is_place client key it ≡ true = ap (is_place client key) got ∙ (position-Some (is_place client key) lines place it at).1 in
     let both = of_place (nat_eq it.client client) (pointwise nat_eq it.key key) there in
     let is : record { key = key; client = client; claim = claim } ≡ it =
-        λ i. record {
-          key = sym (same_text it.key key (sym both.1)) i;
-          client = sym (eqb-true it.client client both.0) i;
-          claim = record { clears = sym (one_bool it.claim.clears claim.clears (first _ _ same)) i; copies = sym (one_bool it.claim.copies claim.copies (second _ _ same)) i };
-        } in
+    λ i. record {
+      key = sym (same_text it.key key (sym both.1)) i;
+      client = sym (eqb-true it.client client both.0) i;
+      claim = record { clears = sym (one_bool it.claim.clears claim.clears (first _ _ same)) i; copies = sym (one_bool it.claim.copies claim.copies (second _ _ same)) i };
+    } in
     ap (λ (x : Standing). slice_set lines place x) (is ∙ got) ∙ set-get_or lines place it
   where
     of_place : (a b : Bool) → cond a b false ≡ true → (a ≡ true) × (b ≡ true)

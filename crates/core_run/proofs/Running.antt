@@ -237,8 +237,7 @@ resulted law server ask origin made stamp ticket old a b room s t takes called s
         one = refl;
         first = λ opening tree log stands.
             let tickets = stands.out server ∙ takes.first in
-            subst (λ (ts : List LogTicket). AreOfFirst server ts (r ∷ [])) (sym tickets)
-            (
+            subst (λ (ts : List LogTicket). AreOfFirst server ts (r ∷ [])) (sym tickets) (
               r,
               refl,
               record {

@@ -126,18 +126,24 @@ stalled_over core tree generation alone c (inl done) = inl done
 stalled_over core tree generation alone c (inr (held, inl later)) = inr (held, inl later)
 stalled_over core tree generation alone c (inr (held, inr (inl own, may))) = inr (held, inr (inl own, may))
 stalled_over core tree generation alone c (inr (held, inr (inr stands, may))) =
-    inr (held, inr (inr (
-    record {
-      ask = stands.ask;
-      next = stands.next;
-      waits = elim stands.waits [
-        | inl bars ↦ inl (ap (λ (k : Claim). is_barred stands.ask.key k core.commands) claim ∙ bars)
-        | inr before ↦ inr (ap (λ (k : Claim). is_behind c stands.ask.key k core.lines) claim ∙ before)
-      ];
-      core_is = ap (λ (lines : List Standing). record core { tree = tree; generation = generation; lines = lines })
-          (ap (λ (x : Core). x.lines) stands.core_is ∙ ap (λ (k : Claim). joined (record { claim = k; client = c; key = stands.ask.key }) core.lines) (sym claim));
-    }
-    ), may))
+    inr (
+      held,
+      inr (
+        inr (
+            record {
+              ask = stands.ask;
+              next = stands.next;
+              waits = elim stands.waits [
+                | inl bars ↦ inl (ap (λ (k : Claim). is_barred stands.ask.key k core.commands) claim ∙ bars)
+                | inr before ↦ inr (ap (λ (k : Claim). is_behind c stands.ask.key k core.lines) claim ∙ before)
+              ];
+              core_is = ap (λ (lines : List Standing). record core { tree = tree; generation = generation; lines = lines })
+                  (ap (λ (x : Core). x.lines) stands.core_is ∙ ap (λ (k : Claim). joined (record { claim = k; client = c; key = stands.ask.key }) core.lines) (sym claim));
+            }
+            ),
+        may,
+      ),
+    )
   where
     claim : claim_of (record core { tree = tree; generation = generation }) stands.ask ≡ claim_of core stands.ask
     claim = same_claim core tree generation alone stands.ask
