@@ -1,7 +1,9 @@
--- A turn and a load, each as what may be done to a core that serves, and what such a core stays.
-use Rattle.std.proofs.Common.{ℕ, List, [], ◌∷◌, refl, inl, inr}
+-- How the core of an end begins, a turn and a load as what may be done to it, and what it stays.
+use Rattle.std.proofs.Common.{◌≡◌, ℕ, List, [], ◌∷◌, Result, Ok, Err, refl, sym, subst, inl, inr}
+use Rattle.std.specs.Prelude.{IfOk}
 use Rattle.route_json.specs.Servers.{Addresses}
 use Rattle.route_json.specs.Configuration.{Configuration}
+use Rattle.commands_under_way.specs.declared.sharing.Sharing.{Sharing}
 use Rattle.link_calls.specs.declared.any_core.AnyCore.{AnyCore}
 use Rattle.link_calls.specs.declared.any_core.AnyCore.TheVariants as cores
 use Rattle.link_calls.specs.Cores.{IsKept}
@@ -11,7 +13,14 @@ use Rattle.proxy_connections.proofs.Walked.{still, walks_keep}
 use Rattle.tcp_proxy.specs.LogsGoOn.{LogsAreFresh}
 use Rattle.mcgate.specs.declared.serve.Servable.{Servable}
 use Rattle.mcgate.specs.declared.serve.Servable.TheVariants as servables
-use Rattle.mcgate.specs.Serves.{BeginsBy, SaysAfter, IsServed, Serves, MayLoad, MayLoadText, HasServed, StaysFresh}
+use Rattle.mcgate.specs.Serves.{BeginsBy, Begins, SaysAfter, IsServed, Serves, MayLoad, MayLoadText, HasServed, StaysFresh}
+
+-- an end that began by these settings but for its sharing
+pub begins_on :
+    {T E : Type 0} (core : T → AnyCore) (servable known : Servable) (settings : Settings) (sharing : Sharing) (r : Result T E) → servable ≡ known
+    → IfOk r (λ end. BeginsBy known (record settings { sharing = sharing }) (core end)) → IfOk r (λ end. Begins servable settings (core end))
+begins_on core servable known settings sharing (Ok end) is begins = subst (λ (x : Servable). Begins x settings (core end)) (sym is) (sharing, begins)
+begins_on core servable known settings sharing (Err fault) is begins = tt
 
 of_turn : (step : Step) → IsOfTurn step → IsServed step
 of_turn (Loaded configuration generation) is = absurd is

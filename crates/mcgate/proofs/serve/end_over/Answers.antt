@@ -1,0 +1,17 @@
+use Rattle.std.proofs.Common.{◌∙◌, subst}
+use Rattle.std.specs.Prelude.{IfOk}
+use Rattle.route_tree.specs.Route.{Route}
+use Rattle.tcp_proxy.specs.declared.proxy.ProxyEnd.{ProxyEnd}
+use Rattle.tcp_proxy.specs.Beginning.{BeginsUnchecked}
+use Rattle.mcgate.specs.declared.serve.Servable.TheVariants as servables
+use Rattle.mcgate.proofs.Loads.{begins_on}
+use Rattle.mcgate.proofs.serve.end_over.Goals as goal
+
+pub returns-in-Accepted : goal.returns-in-Accepted
+returns-in-Accepted g c = record { core = begins_on (λ (end : ProxyEnd). end.core.value) c.args.servable (servables.Accepted c.in-Accepted.accepted) c.args.settings c.sharing_for-settings.result c.new.result c.in-Accepted.is c.new.ensures.core }
+
+pub returns-in_ok-tree-in-Unchecked : goal.returns-in_ok-tree-in-Unchecked
+returns-in_ok-tree-in-Unchecked g c =
+    let sharing = c.sharing_for-settings-in-Unchecked.result in
+    let begins = subst (λ (tree : Route). IfOk c.unchecked.result (λ end. BeginsUnchecked tree (record c.args.settings { sharing = sharing }) end.core.value)) (c.in_ok-tree-in-Unchecked.ensures ∙ c.tree-in-Unchecked.ensures.tree) c.unchecked.ensures.core in
+    record { core = begins_on (λ (end : ProxyEnd). end.core.value) c.args.servable (servables.Unchecked c.in-Unchecked.config) c.args.settings sharing c.unchecked.result c.in-Unchecked.is begins }
