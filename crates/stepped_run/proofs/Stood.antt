@@ -70,10 +70,10 @@ first_done events done left is = ap (take (length done)) is ∙ take-append_seam
 
 -- ---- what a longer log and more outputs keep
 
-first_shown : (n : ℕ) (given after rest : List Shown) (c : ℕ) → after ≡ given ++ rest → n ≤ length given → shown_to (take n given) c ≡ shown_to (take n after) c
+pub first_shown : (n : ℕ) (given after rest : List Shown) (c : ℕ) → after ≡ given ++ rest → n ≤ length given → shown_to (take n given) c ≡ shown_to (take n after) c
 first_shown n given after rest c is within = ap (λ l. shown_to l c) (sym (take-append-le n given rest within) ∙ ap (take n) (sym is))
 
-longer_by : (given after rest : List Shown) → after ≡ given ++ rest → length given ≤ length after
+pub longer_by : (given after rest : List Shown) → after ≡ given ++ rest → length given ≤ length after
 longer_by given after rest is = let e = ap length is ∙ length-append given rest in omega (arith, e)
 
 abbrev pub through_on : (events done : List Scripted) (more log : List (Entry dialect)) (given after rest : List Shown) → after ≡ given ++ rest → IsThrough events done log given → IsThrough events done (more ++ log) after
