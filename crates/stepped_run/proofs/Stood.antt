@@ -362,7 +362,7 @@ loads_one law refused reloads next shown n marks marks' r is a b place at same m
 
 -- where nothing more could be done before an event, nothing can be done after it
 stalled_after : (event : Scripted) (a b : Runner) → RestsAfter event a b → AreStalled a → AreStalled b
-stalled_after (Piece client bytes) a b rest held c lt = inl (rest.idle c lt)
+stalled_after (Piece client bytes) a b rest held = λ c lt. inl (rest.idle c lt)
 stalled_after (Add client bytes) a b rest held = rest
 stalled_after (Result server) a b rest held = rest
 stalled_after (Fail turn manner) a b same held = subst AreStalled (sym same) held
