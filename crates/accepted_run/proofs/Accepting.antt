@@ -1,17 +1,7 @@
 -- From generations of trees to one run of the tree in use.
-use Rattle.std.proofs.Common.{◌≡◌, ℕ, zero, suc, ◌-◌, List, [], ◌∷◌, length, slice_get, take, Some, ◌∙◌, subst, arith}
-use Rattle.mc_runs.specs.Run.{IsFresh}
-use Rattle.mc_runs.specs.Freshness.{RunsAreFresh}
-use Rattle.route_tree.specs.Route.{Route}
-use Rattle.route_tree.specs.Direct.{words_of}
+use Rattle.std.proofs.Common.{◌≡◌, ℕ, zero, suc, List, [], ◌∷◌, slice_get, Some, subst}
 use Rattle.route_json.specs.Configuration.{Configuration}
-use Rattle.fresh_gate.specs.Sound.{AreGenerations, GenerationsAreFresh, IsLast, trees_of}
-use Rattle.fleet_run.specs.declared.script.Transcript.{Transcript}
-use Rattle.fleet_run.specs.declared.script.Report.{Report}
-use Rattle.fleet_run.specs.declared.script.DriveFault.{DriveFault}
-use Rattle.fleet_run.specs.declared.script.DriveFault.TheVariants.{BadEvent, NoMemory, Spent}
-use Rattle.fleet_run.specs.Scripted.{Scripted, transcript_of}
-use Rattle.fleet_run.specs.Opening.{opening_of}
+use Rattle.fresh_gate.specs.Sound.{IsLast, trees_of}
 use Rattle.accepted_run.specs.Reloads.{InUse}
 
 pub same_config : (xs : List Configuration) (c d : Configuration) → IsLast xs c → IsLast xs d → c ≡ d

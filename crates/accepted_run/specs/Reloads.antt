@@ -1,6 +1,5 @@
 -- What a script does through trees that the gate was asked for, one after another. Source: mcgate's own.
-use Rattle.std.specs.Prelude.{◌≡◌, ℕ, Bool, true, false, List, [], ◌∷◌, ◌++◌, length, map, take, Option, Some, None}
-use Rattle.mc_runs.specs.Run.{IsFresh}
+use Rattle.std.specs.Prelude.{◌≡◌, Bool, true, false, List, [], ◌∷◌, ◌++◌, length, map, Option, Some, None}
 use Rattle.route_tree.specs.Route.{Route}
 use Rattle.route_json.specs.Configuration.{Configuration}
 use Rattle.route_json.specs.Servers.{Addresses}
@@ -9,12 +8,7 @@ use Rattle.fresh_gate.specs.Reload.{AreKept, IsReloadFault}
 use Rattle.fresh_gate.specs.declared.reloading.ReloadFault.{ReloadFault}
 use Rattle.fresh_gate.specs.declared.reloading.ReloadFault.TheVariants as faults
 use Rattle.fleet_run.specs.declared.script.Reload.{Reload}
-use Rattle.fleet_run.specs.declared.script.Transcript.{Transcript}
-use Rattle.fleet_run.specs.declared.script.Report.{Report}
-use Rattle.fleet_run.specs.declared.script.DriveFault.{DriveFault}
-use Rattle.fleet_run.specs.declared.script.DriveFault.TheVariants.{BadEvent, NoMemory, Spent}
-use Rattle.fleet_run.specs.Scripted.{Scripted, transcript_of}
-use Rattle.fleet_run.specs.Opening.{opening_of}
+use Rattle.fleet_run.specs.declared.script.DriveFault.TheVariants.{NoMemory}
 use Rattle.accepted_run.specs.declared.judging.Loading.{Loading}
 use Rattle.accepted_run.specs.declared.judging.Loading.TheVariants.{Loaded, Refused}
 

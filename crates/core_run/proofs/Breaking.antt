@@ -1,20 +1,13 @@
 -- How far calls came that ended in a fault, one after another.
-use Rattle.std.proofs.Common.{◌≡◌, ℕ, ◌+◌, Bool, true, false, cond, nat_eq, List, [], ◌++◌, Result, Ok, Err, refl, sym, ◌∙◌, subst, inl, inr, arith, append-nil}
+use Rattle.std.proofs.Common.{◌≡◌, ℕ, ◌+◌, Bool, true, false, cond, nat_eq, List, [], ◌++◌, Result, Ok, Err, refl, sym, subst, inl, inr, arith, append-nil}
 use Rattle.std.specs.Prelude.{IfErr, IsErrAnd}
 use Rattle.mc_runs.specs.OverlapStream.{stream_of}
 use Rattle.script_servers.specs.declared.event.FleetFault.{FleetFault}
 use Rattle.script_servers.specs.declared.event.FleetFault.TheVariants.{NoMemory, Spent}
-use Rattle.proxy_core.specs.Faults.{OpenFault, FeedFault, OutputFault}
-use Rattle.proxy_core.specs.Polls.{PollFault}
-use Rattle.proxy_core.specs.Settles.{SettleFault}
-use Rattle.proxy_core.specs.declared.fault.CoreFault.{CoreFault}
 use Rattle.proxy_core.specs.declared.fault.CoreFault.TheVariants as faults
 use Rattle.proxy_core.specs.declared.proxy.Core.{Core}
-use Rattle.mc_types.specs.declared.call.Outcome.{Outcome}
-use Rattle.script_servers.specs.Servers.{turn_of}
 use Rattle.script_servers.specs.declared.servers.ScriptServers.{ScriptServers}
-use Rattle.stepped_log.specs.Results.{CallResult}
-use Rattle.core_run.specs.Breaking.{fleet_fault_of, IsLastBegun, AreGivenAll, AreSpent, StopsAt, StopsFed, StopsGiving, StopsAfter}
+use Rattle.core_run.specs.Breaking.{IsLastBegun, AreGivenAll, AreSpent, StopsAt, StopsFed, StopsGiving, StopsAfter}
 use Rattle.core_run.specs.Running.{Moves, MovesFed, MovesAt, MovesByResults, AreAskedYet}
 use Rattle.core_run.specs.declared.runner.Runner.{Runner}
 use Rattle.core_run.proofs.Running.{stays, then, fed_then, none_by, by_none, by_then, at_then}

@@ -1,11 +1,11 @@
 -- What polls of clients leave, one after another.
-use Rattle.std.proofs.Common.{◌≡◌, ℕ, ◌+◌, ◌<◌, inl, inr, arith, refl, sym, ap, ◌∙◌, subst}
+use Rattle.std.proofs.Common.{◌≡◌, ℕ, ◌+◌, ◌<◌, inl, inr, arith, sym, ap, ◌∙◌, subst}
 use Rattle.std.proofs.lemmas.Bool.{cases_lt}
-use Rattle.proxy_core.specs.Polls.{Polls, IsWhy, IsBusy, NoneGoesOn, NothingBegins, HasNoKey, MayAsk, IsStalled}
+use Rattle.proxy_core.specs.Polls.{Polls, IsWhy, IsBusy, NoneGoesOn, IsStalled}
 use Rattle.proxy_core.specs.declared.note.Poll.{Poll}
 use Rattle.proxy_core.specs.declared.note.Poll.TheVariants as polls
 use Rattle.proxy_core.specs.declared.proxy.Core.{Core}
-use Rattle.core_run.specs.Progressing.{both_gave, TakesSo, LeavesSo, AreStillBelow, AreStill}
+use Rattle.core_run.specs.Progressing.{both_gave, TakesSo, LeavesSo, AreStillBelow}
 use Rattle.core_run.specs.Running.{IsIdle, AreIdle, AreStalled}
 use Rattle.core_run.specs.declared.runner.Progress.{Progress}
 use Rattle.core_run.specs.declared.runner.Progress.TheVariants.{Idle, Waits, Moved}

@@ -1,6 +1,5 @@
 -- What calls of a runner make of a log, one after another.
-use Rattle.std.proofs.Common.{◌≡◌, ℕ, ◌+◌, ◌<◌, inl, inr, arith, cond, nat_eq, Bool, List, [], ◌∷◌, ◌++◌, map, Option, Some, Result, Ok, Err, refl, sym, ap, ◌∙◌, subst, append_assoc}
-use Rattle.std.proofs.lemmas.Bool.{cases_lt}
+use Rattle.std.proofs.Common.{◌≡◌, ℕ, ◌+◌, cond, nat_eq, Bool, List, [], ◌∷◌, ◌++◌, map, Option, Some, Result, Ok, Err, refl, sym, ap, ◌∙◌, subst, append_assoc}
 use Rattle.std.proofs.lemmas.List.{map-append}
 use Rattle.std.specs.Prelude.{OnOk, ℤ}
 use Rattle.mc_types.specs.declared.ask.Ask.{Ask}
@@ -33,7 +32,7 @@ use Rattle.stepped_log.proofs.Outs.{called_is_out}
 use Rattle.stepped_log.specs.Laws.{CountsPoll, PollsGoOn, ResultsGoOn, LoadsGoOn}
 use Rattle.core_run.specs.Counting.{last_of}
 use Rattle.core_run.specs.Finding.{found_of}
-use Rattle.core_run.specs.Running.{kept_of, Moves, MovesBy, AreAsked, MovesByOne, MovesAt, MovesByResults, MovesFed, IsLoadedBy}
+use Rattle.core_run.specs.Running.{kept_of, Moves, MovesBy, MovesByOne, MovesAt, MovesByResults, MovesFed, IsLoadedBy}
 use Rattle.core_run.specs.Turns.{TakesFirst}
 use Rattle.core_run.specs.declared.found.Found.{Found}
 use Rattle.core_run.specs.declared.runner.Runner.{Runner}

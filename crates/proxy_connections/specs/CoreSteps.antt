@@ -1,5 +1,5 @@
 -- What may happen to the core of a proxy, one call after another. Source: mcgate's own.
-use Rattle.std.specs.Prelude.{◌≡◌, ℕ, List, [], ◌∷◌, ◌++◌}
+use Rattle.std.specs.Prelude.{◌≡◌, ℕ, List, [], ◌∷◌}
 use Rattle.mc_types.specs.declared.call.Outcome.{Outcome}
 use Rattle.mc_types.specs.declared.call.Outcome.TheVariants.{Failed}
 use Rattle.mc_runs.specs.Overlap as log
@@ -9,7 +9,6 @@ use Rattle.proxy_core.specs.declared.note.Poll.{Poll}
 use Rattle.proxy_core.specs.Faults.{CanOpen, CanFeed, CanClose, OpenFault}
 use Rattle.proxy_core.specs.CoreState.{Opens, Feeds, Gives, Closes, LeavesLine, client_at, dropped_by}
 use Rattle.proxy_core.specs.Polls.{Polls, PollFault, Then, Perhaps, BeginsOne, IsPolled}
-use Rattle.fresh_core.specs.declared.fresh.FreshCore.{FreshCore}
 use Rattle.fresh_core.specs.Freshly.{GoesFreshly, fed}
 use Rattle.fresh_core.specs.Results.{PollStops}
 use Rattle.link_calls.specs.declared.any_core.AnyCore.{AnyCore}

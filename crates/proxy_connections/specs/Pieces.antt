@@ -1,7 +1,7 @@
 -- What a client's bytes are to the core. Source: mcgate's own.
 use Rattle.std.specs.Prelude.{◌≡◌, ℕ, List}
 use Rattle.link_calls.specs.declared.any_core.AnyCore.{AnyCore}
-use Rattle.proxy_connections.specs.CoreSteps.{Step, Fed, GoesBy}
+use Rattle.proxy_connections.specs.CoreSteps.{Fed, GoesBy}
 
 -- this piece was fed for this client, or nothing was done
 abbrev pub Takes : ℕ → List ℕ → AnyCore → AnyCore → Type 0

@@ -5,7 +5,7 @@ use Rattle.mc_types.specs.declared.answer.Answer.{Answer}
 use Rattle.mc_types.specs.declared.call.Outcome.{Outcome}
 use Rattle.mc_runs.specs.Run.{Call, End}
 use Rattle.mc_runs.specs.Overlap as log
-use Rattle.mc_runs.specs.Overlap.{Front, Entry, Slot, Happens, ticket_in, out_after}
+use Rattle.mc_runs.specs.Overlap.{Entry, Slot, Happens, ticket_in, out_after}
 use Rattle.mc_runs.specs.OverlapState.{Leads, Either}
 use Rattle.mc_runs.proofs.OverlapSteps.{walks_lead, leads_on}
 use Rattle.route_tree.specs.At.{tree_at}

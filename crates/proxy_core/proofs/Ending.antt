@@ -5,7 +5,7 @@ use Rattle.mc_types.specs.declared.answer.Answer.{Answer}
 use Rattle.mc_runs.specs.Run.{Call}
 use Rattle.mc_runs.specs.Log.{Part}
 use Rattle.mc_runs.specs.Overlap as log
-use Rattle.mc_runs.specs.Overlap.{Front, Slot, Owner, is_last, is_last_slot, after_end, slot_of, slot_in, answered_in, ticket_in}
+use Rattle.mc_runs.specs.Overlap.{Front, Slot, is_last, is_last_slot, after_end, slot_of, slot_in, answered_in, ticket_in}
 use Rattle.mc_runs.proofs.OverlapSteps.{walks_lead}
 use Rattle.request_parts.specs.Stream.{Place}
 use Rattle.text_codec.proofs.ReaderLaws.{reader_is}

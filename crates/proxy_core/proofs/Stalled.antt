@@ -1,9 +1,8 @@
 -- For whom nothing can be done without a result, nothing can be done still where a client's output is taken, or another tree comes.
-use Rattle.std.proofs.Common.{◌≡◌, ℕ, ◌<◌, ◌≤◌, Bool, true, false, List, [], length, Some, None, inl, inr, Option, MatchOption, refl, sym, ap, ◌∙◌, subst, nat_eq, slice_get}
+use Rattle.std.proofs.Common.{◌≡◌, ℕ, ◌<◌, ◌≤◌, Bool, true, false, List, length, Some, inl, inr, Option, MatchOption, refl, sym, ap, ◌∙◌, subst, nat_eq, slice_get}
 use Rattle.std.proofs.lemmas.Bool.{eqb-true}
 use Rattle.slab.specs.Slab as slab
 use Rattle.mc_types.specs.declared.ask.Ask.{Ask}
-use Rattle.mc_runs.specs.Log.{Part}
 use Rattle.mc_runs.specs.Overlap.{Front, IsNext}
 use Rattle.mc_runs.specs.Protocol.{IsStuck}
 use Rattle.request_parts.specs.Stream.{Place, Stands}
@@ -28,7 +27,7 @@ use Rattle.route_tree.specs.Route.{Route}
 use Rattle.proxy_core.specs.Claims.{claim_by, is_barred}
 use Rattle.proxy_core.specs.declared.proxy.Core.{Core}
 use Rattle.proxy_core.specs.CoreState.{client_at}
-use Rattle.proxy_core.specs.Polls.{ForClient, IsServed, IsDone, IsNextAsk, WaitsForOwn, StandsInLine, HasNoKey, NoneGoesOn, NothingBegins, MayAsk, IsStalled, claim_of}
+use Rattle.proxy_core.specs.Polls.{ForClient, IsServed, IsDone, IsNextAsk, StandsInLine, HasNoKey, NoneGoesOn, MayAsk, IsStalled, claim_of}
 use Rattle.proxy_core.specs.Resting.{AreHeldUp}
 use Rattle.proxy_core.specs.Steps.{Turns}
 

@@ -8,7 +8,7 @@ use Rattle.mc_types.specs.declared.call.Origin.TheVariants.{Client as OfClient}
 use Rattle.mc_types.specs.Items.{Item}
 use Rattle.mc_runs.specs.Run.{Call}
 use Rattle.mc_runs.specs.Overlap as log
-use Rattle.mc_runs.specs.Overlap.{Front, Slot, Ticket, Entry, Resets, ticket_in, without, slot_in, is_last_slot, start_front}
+use Rattle.mc_runs.specs.Overlap.{Slot, Ticket, Entry, Resets, ticket_in, without, slot_in, is_last_slot}
 use Rattle.mc_runs.specs.OverlapState.{OverlapState, LeadsTo, Leads}
 use Rattle.request_parts.specs.Stream.{Place}
 use Rattle.route_tree.specs.At.{tree_at}

@@ -3,7 +3,6 @@ use Rattle.std.specs.Prelude.{◌≡◌, ℕ, true, false, [], ◌∷◌, Option
 use Rattle.mc_types.specs.declared.answer.Answer.{Answer}
 use Rattle.mc_runs.specs.Log.{Part}
 use Rattle.mc_runs.specs.Overlap as log
-use Rattle.mc_runs.specs.Overlap.{Front, Entry, Happens}
 use Rattle.route_job.specs.Jobs.{Comes}
 use Rattle.core_client.specs.declared.client.Pending.{Pending}
 use Rattle.core_client.specs.declared.client.Client.{Client}

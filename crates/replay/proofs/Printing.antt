@@ -1,6 +1,6 @@
 -- From the script that was read to what its text says, and from what a drive did to what was printed of it.
-use Rattle.std.proofs.Common.{◌≡◌, ℕ, ◌+◌, ◌-◌, ◌≤◌, arith, ◌<◌, ◌++◌, Bool, true, false, List, [], ◌∷◌, length, map, take, drop, get_or, slice_get, zero, suc, Option, Some, None, Result, Ok, Err, refl, sym, ap, ◌∙◌, subst, inl, inr, append_assoc}
-use Rattle.std.specs.Prelude.{IsSome, IfOk, IfErr, ◌⊎◌}
+use Rattle.std.proofs.Common.{◌≡◌, ℕ, ◌+◌, ◌-◌, ◌≤◌, arith, ◌<◌, ◌++◌, Bool, false, List, [], ◌∷◌, length, map, take, drop, get_or, slice_get, zero, suc, Option, Some, None, Result, Ok, Err, refl, sym, ap, ◌∙◌, subst, inl, inr, append_assoc}
+use Rattle.std.specs.Prelude.{IsSome, IfOk, ◌⊎◌}
 use Rattle.std.specs.Io.KnownBytes.{Appends}
 use Rattle.std.proofs.Math.Seq.{drop-cons}
 use Rattle.std.proofs.lemmas.List.{length-map, take_all, drop_all, take-map, drop-map}
@@ -15,10 +15,9 @@ use Rattle.fleet_run.specs.declared.script.Output.{Output}
 use Rattle.fleet_run.specs.Reloads.{AreInOrder}
 use Rattle.fleet_run.specs.declared.script.Reload.{Reload}
 use Rattle.fleet_run.specs.declared.script.Report.{Report}
-use Rattle.fleet_run.specs.declared.script.Transcript.{Transcript}
 use Rattle.fleet_run.specs.declared.script.DriveFault.{DriveFault}
 use Rattle.fleet_run.specs.declared.script.DriveFault.TheVariants as faults
-use Rattle.fleet_run.specs.Scripted.{Scripted, Shown, shown_by, scripted_of, transcript_of}
+use Rattle.fleet_run.specs.Scripted.{Scripted, Shown, shown_by, scripted_of}
 use Rattle.fleet_run.specs.Bad.{first_bad}
 use Rattle.fresh_gate.specs.Gate.{IsCertified}
 use Rattle.fresh_gate.specs.Sound.{IsLast, AreGenerations, trees_of}
@@ -29,7 +28,7 @@ use Rattle.accepted_run.specs.Reloads.{InUse, AreChained, AreJudged, Judges, is_
 use Rattle.config_check.specs.Checking.{PrintsRefused, StopsUnwritten}
 use Rattle.config_check.specs.declared.status.RunFault.{RunFault}
 use Rattle.config_check.specs.declared.status.RunFault.TheVariants.{NoMemory, Writer, TooManyCalls}
-use Rattle.replay.specs.Replay.{ReplaysTold, RunsScript, RunsGood, BreaksTreeOff, BreaksScriptOff, BreaksOff, Wrote, BrokeOff, run_fault_of, AreLoadings, HasReloads, events_of, reloads_of, servers_of, load_line, load_lines, with_loads, transcript_lines}
+use Rattle.replay.specs.Replay.{ReplaysTold, RunsScript, RunsGood, BreaksTreeOff, BreaksScriptOff, BreaksOff, BrokeOff, run_fault_of, AreLoadings, HasReloads, events_of, reloads_of, servers_of, load_line, load_lines, with_loads}
 
 pub both_written : (old mid new : Option (List ℕ)) (a b : List ℕ) → Appends old mid a → Appends mid new b → Appends old new (a ++ b)
 both_written None mid new a b x y = tt

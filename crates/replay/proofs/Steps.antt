@@ -1,11 +1,10 @@
 -- From what a drive did to what was printed of it.
-use Rattle.std.proofs.Common.{◌≡◌, ℕ, ◌≤◌, ◌++◌, arith, Bool, true, false, List, [], length, map, Option, Result, refl, sym, ap, ◌∙◌, subst, inr}
+use Rattle.std.proofs.Common.{◌≡◌, ℕ, ◌≤◌, ◌++◌, arith, Bool, true, false, List, [], length, map, Option, Result, sym, ap, ◌∙◌, subst, inr}
 use Rattle.std.specs.Prelude.{IfOk, IfErr, OnOk}
 use Rattle.std.specs.Io.KnownBytes.{Appends}
 use Rattle.std.proofs.lemmas.List.{length-map, length-replicate}
 use Rattle.route_json.specs.Configuration.{Configuration}
 use Rattle.script_text.specs.Printed.{report_line}
-use Rattle.script_text.specs.Script.{servers_known}
 use Rattle.script_text.specs.declared.configured.ConfiguredScript.{ConfiguredScript}
 use Rattle.cache_server.specs.Contents.{empty}
 use Rattle.script_servers.specs.Limits.{capacity}
@@ -23,7 +22,7 @@ use Rattle.accepted_run.specs.Reloads.{is_refused}
 use Rattle.accepted_run.specs.Stepped.{StepsFreshly, StepsPartFreshly, EndsSteps}
 use Rattle.config_check.specs.declared.status.RunFault.{RunFault}
 use Rattle.config_check.specs.declared.status.RunFault.TheVariants.{NoMemory, Writer, TooManyCalls}
-use Rattle.replay.specs.Replay.{RunsEvents, PrintsPart, PrintsSpent, BreaksTreeOff, Wrote, BrokeOff, AreLoadings, HasReloads, reloads_of, servers_of, transcript_lines}
+use Rattle.replay.specs.Replay.{RunsEvents, PrintsPart, BreaksTreeOff, Wrote, BrokeOff, AreLoadings, HasReloads, reloads_of, servers_of, transcript_lines}
 use Rattle.replay.proofs.Printing.{first_few}
 
 true_is_not_false : true ≡ false → ⊥

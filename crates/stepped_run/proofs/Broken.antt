@@ -1,5 +1,5 @@
 -- What was done until a fault: within an event, where all of it could not be handed out, or where reloads could not be loaded.
-use Rattle.std.proofs.Common.{◌≡◌, ℕ, ◌+◌, ◌<◌, ◌≤◌, Bool, true, false, cond, nat_eq, List, [], ◌∷◌, ◌++◌, length, map, take, drop, slice_get, Option, Some, Result, Ok, Err, inl, inr, refl, sym, ap, ◌∙◌, subst, arith, append_assoc, append-nil}
+use Rattle.std.proofs.Common.{◌≡◌, ℕ, ◌+◌, ◌<◌, ◌≤◌, Bool, true, false, cond, nat_eq, List, [], ◌∷◌, ◌++◌, length, take, slice_get, Option, Some, Result, Ok, Err, inl, inr, refl, sym, ap, ◌∙◌, subst, arith, append_assoc, append-nil}
 use Rattle.std.specs.Prelude.{◌⊎◌, ◌^◌, IfErr}
 use Rattle.std.proofs.lemmas.List.{append_cancel_right}
 use Rattle.mc_types.specs.Items.{Item}
@@ -13,31 +13,28 @@ use Rattle.script_servers.specs.declared.event.FleetFault.{FleetFault}
 use Rattle.script_servers.specs.declared.event.FleetFault.TheVariants as faults
 use Rattle.proxy_core.specs.Claims.{bars_by}
 use Rattle.proxy_core.specs.CoreState.{dialect}
-use Rattle.proxy_core.specs.declared.limits.TheConstants.{LAST_COMMAND}
 use Rattle.proxy_core.specs.declared.proxy.Core.{Core}
 use Rattle.commands_under_way.specs.declared.sharing.Sharing.TheVariants.{Alone}
 use Rattle.route_tree.specs.At.{tree_at}
 use Rattle.route_tree.specs.Plan.{Plan}
 use Rattle.route_tree.specs.Route.{Route}
 use Rattle.route_tree.specs.Word.{tree_words}
-use Rattle.fleet_run.specs.declared.script.Event.{Event}
-use Rattle.fleet_run.specs.declared.script.Output.{Output}
 use Rattle.fleet_run.specs.declared.script.Reload.{Reload}
 use Rattle.fleet_run.specs.declared.script.Transcript.{Transcript}
 use Rattle.fleet_run.specs.Opening.{opening_of}
-use Rattle.fleet_run.specs.Scripted.{Scripted, Manner, Piece, Add, Result as Results, Fail, Hold, At, Now, Moment, scripted_of, shown_by, transcript_of, fault_of}
+use Rattle.fleet_run.specs.Scripted.{Scripted, Piece, Add, Result as Results, transcript_of, fault_of}
 use Rattle.script_servers.specs.Servers.{turn_of, IsNew}
 use Rattle.script_servers.specs.declared.servers.ScriptServers.{ScriptServers}
 use Rattle.stepped_log.specs.Laws.{StandingSays}
-use Rattle.stepped_log.specs.Results.{CallResult, call_of, calls_of}
-use Rattle.stepped_log.specs.Standing.{Kept, Stands, GoesOn, GoesOnFed, tree_by}
+use Rattle.stepped_log.specs.Results.{CallResult}
+use Rattle.stepped_log.specs.Standing.{Kept, GoesOn, GoesOnFed, tree_by}
 use Rattle.stepped_log.proofs.Counted.{none_more}
-use Rattle.core_run.specs.Breaking.{AreSpent, IsLastBegun, IsWithinOne, StopsAfter, StopsFed}
+use Rattle.core_run.specs.Breaking.{AreSpent, IsWithinOne, StopsAfter, StopsFed}
 use Rattle.core_run.specs.Running.{kept_of, AreOfOne, AreAskedYet, Moves, MovesFed, MovesByResults}
 use Rattle.core_run.specs.declared.runner.Runner.{Runner}
 use Rattle.core_run.proofs.Running.{stays}
 use Rattle.core_run.proofs.Breaking.{begun_spent}
-use Rattle.stepped_run.specs.Driving.{said_by, said_in, shown_to, AreHandedInTurn, AreThrough, HasNoResult, BringsResults, AreSteps, IsStepPart, AreMarked, IsSaid, HaveMade, HasWorldOf, RunsBy, StepsPart, AreSpentIn, EndsStepped}
+use Rattle.stepped_run.specs.Driving.{said_by, said_in, AreThrough, HasNoResult, BringsResults, AreSteps, IsStepPart, AreMarked, HaveMade, HasWorldOf, RunsBy, StepsPart, AreSpentIn, EndsStepped}
 use Rattle.stepped_run.specs.World.{Changes, World}
 use Rattle.stepped_run.specs.Stepping.{HasCalls, FedBy, AreFit, AreAskedBy, GoesOnInPart, FedInPart, Befalls, BreaksOff, HandsSome, HasCome, HasStood, Loads, LoadsInPart, LoadsSome, StopsPart}
 use Rattle.stepped_run.proofs.Direct.{fresh_if_direct}

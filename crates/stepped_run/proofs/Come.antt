@@ -8,19 +8,12 @@ use Rattle.std.proofs.lemmas.Option.{slice_get-get_or}
 use Rattle.mc_runs.specs.Log.{Shown}
 use Rattle.mc_runs.specs.Overlap.{Entry}
 use Rattle.mc_runs.specs.OverlapStream.{stream_of}
-use Rattle.mc_runs.proofs.OverlapRuns.{runs}
 use Rattle.cache_server.specs.Contents.{empty}
 use Rattle.script_servers.specs.Limits.{capacity}
 use Rattle.script_servers.specs.Caches.{held_at}
-use Rattle.script_servers.specs.declared.event.FleetFault.{FleetFault}
 use Rattle.script_servers.specs.declared.event.FleetFault.TheVariants as faults
-use Rattle.proxy_core.specs.Claims.{bars_by}
 use Rattle.proxy_core.specs.CoreState.{dialect}
-use Rattle.commands_under_way.specs.declared.sharing.Sharing.TheVariants.{Alone}
-use Rattle.route_tree.specs.At.{tree_at}
-use Rattle.route_tree.specs.Plan.{Plan}
 use Rattle.route_tree.specs.Route.{Route}
-use Rattle.route_tree.specs.Word.{tree_words}
 use Rattle.fleet_run.specs.declared.script.Event.{Event}
 use Rattle.fleet_run.specs.declared.script.Output.{Output}
 use Rattle.fleet_run.specs.declared.script.Reload.{Reload}
@@ -28,14 +21,14 @@ use Rattle.fleet_run.specs.declared.script.Transcript.{Transcript}
 use Rattle.fleet_run.specs.Bad.{first_bad}
 use Rattle.fleet_run.specs.Opening.{opening_of}
 use Rattle.fleet_run.specs.Reloads.{is_refused, AreInOrder}
-use Rattle.fleet_run.specs.Scripted.{Scripted, scripted_of, shown_by, transcript_of, fault_of}
+use Rattle.fleet_run.specs.Scripted.{Scripted, scripted_of, shown_by, transcript_of}
 use Rattle.script_servers.specs.Servers.{caches_of, turn_of, moment_of, named_of, lost_of, IsNew}
 use Rattle.script_servers.specs.declared.servers.ScriptServers.{ScriptServers}
 use Rattle.stepped_log.specs.Standing.{Kept, Stands, tree_by}
-use Rattle.stepped_log.specs.Laws.{StandingSays, NothingStands, IsBegin}
+use Rattle.stepped_log.specs.Laws.{NothingStands, IsBegin}
 use Rattle.core_run.specs.Running.{kept_of, MovesByResults}
 use Rattle.core_run.specs.declared.runner.Runner.{Runner}
-use Rattle.stepped_run.specs.Driving.{said_by, said_in, shown_to, AreHandedInTurn, AreThrough, IsReached, CameSo, CameInTurn, StepsPart, EndsStepped, AreMarks}
+use Rattle.stepped_run.specs.Driving.{said_by, said_in, shown_to, AreHandedInTurn, IsReached, CameSo, CameInTurn, AreMarks}
 use Rattle.stepped_run.specs.Holding.{put_all_on}
 use Rattle.stepped_run.specs.Stepping.{Befalls, HandsOut, HandsSome, HasCome, IsDue}
 use Rattle.stepped_log.proofs.Counted.{none_more}

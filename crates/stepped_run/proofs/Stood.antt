@@ -39,7 +39,7 @@ use Rattle.stepped_log.specs.Standing.{Kept, Stands, LeavesAsMuch, tree_by}
 use Rattle.stepped_log.specs.Laws.{StandingSays, NothingStands, IsBegin}
 use Rattle.core_run.specs.Running.{kept_of, MovesByResults, IsIdle, AreStalled, KeepStalled, IsAtRest}
 use Rattle.core_run.specs.declared.runner.Runner.{Runner}
-use Rattle.stepped_run.specs.Driving.{said_by, said_in, shown_to, may_be_out, leaves_out, IsDoneFor, IsSettled, IsThrough, AreThrough, BringsResults, IsStep, AreSteps, IsMarked, AreMarked, one_loaded, trees_loaded, IsReached, CameSo, CameInTurn, RunsBy, DrivesStepped}
+use Rattle.stepped_run.specs.Driving.{said_by, said_in, shown_to, may_be_out, leaves_out, IsDoneFor, IsSettled, IsThrough, AreThrough, IsStep, AreSteps, IsMarked, AreMarked, one_loaded, trees_loaded, IsReached, CameSo, CameInTurn, RunsBy, DrivesStepped}
 use Rattle.stepped_run.specs.Holding.{put_all_on}
 use Rattle.stepped_run.specs.Stepping.{Befalls, LeavesBy, IsHeard, RestsAfter, IsGivenAll, HandsOutAll, HasCome, HasStood, TakesUp, Loads}
 use Rattle.stepped_run.specs.World.{World}

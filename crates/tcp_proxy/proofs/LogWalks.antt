@@ -1,10 +1,10 @@
 -- Each log that may have led to a core goes on by each call of a walk.
-use Rattle.std.proofs.Common.{◌≡◌, ℕ, List, [], ◌∷◌, ◌++◌, Option, ◌⊎◌, inl, inr, refl, sym, ap, ◌∙◌, subst}
+use Rattle.std.proofs.Common.{◌≡◌, ℕ, List, [], ◌∷◌, ◌++◌, Option, ◌⊎◌, inl, inr, refl, sym, subst}
 use Rattle.mc_types.specs.Items.{Item}
 use Rattle.mc_types.specs.declared.call.Origin.TheVariants.{Client as OfClient}
 use Rattle.mc_types.specs.declared.call.Outcome.{Outcome}
 use Rattle.mc_runs.specs.Overlap.{Entry, Happens}
-use Rattle.mc_runs.specs.Run.{End, outcome_of}
+use Rattle.mc_runs.specs.Run.{outcome_of}
 use Rattle.route_job.specs.Rest.{ask_under, origin_under}
 use Rattle.route_job.specs.Jobs.{server_in}
 use Rattle.proxy_core.specs.declared.fault.CoreFault.{CoreFault}

@@ -1,6 +1,5 @@
 -- When nothing is left to do for a proxy until something comes. Source: mcgate's own.
 use Rattle.std.specs.Prelude.{◌≡◌, ℕ, ◌≤◌, true, []}
-use Rattle.tcp_proxy.specs.declared.proxy.Accepting.{Accepting}
 use Rattle.tcp_proxy.specs.declared.proxy.Accepting.TheVariants as accepting
 use Rattle.tcp_proxy.specs.declared.proxy.ProxyEnd.{ProxyEnd}
 use Rattle.proxy_connections.specs.Links.{calls_out}

@@ -1,4 +1,4 @@
-use Rattle.std.proofs.Common.{◌≡◌, ℕ, List, [], arith, length, map, None, inr, refl, sym, ap, ◌∙◌, subst}
+use Rattle.std.proofs.Common.{◌≡◌, ℕ, List, [], arith, length, map, None, inr, ◌∙◌, subst}
 use Rattle.fleet_run.specs.declared.script.Reload.{Reload}
 use Rattle.fleet_run.specs.Bad.{first_bad}
 use Rattle.fleet_run.specs.Scripted.{scripted_of, transcript_of}

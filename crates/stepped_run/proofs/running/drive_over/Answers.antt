@@ -6,7 +6,6 @@ use Rattle.fleet_run.specs.Reloads.{AreInOrder}
 use Rattle.fleet_run.specs.Scripted.{scripted_of, shown_by, transcript_of}
 use Rattle.fleet_run.proofs.BadEvents.{good_here, not_here}
 use Rattle.script_servers.specs.Servers.{count_of}
-use Rattle.core_run.specs.Running.{kept_of}
 use Rattle.fleet_run.specs.declared.script.Transcript.{Transcript}
 use Rattle.std.proofs.lemmas.List.{length-map, drop-map}
 use Rattle.stepped_run.proofs.Come.{all_came, marks_on, marks_none, on_ok_so}

@@ -1,6 +1,5 @@
 use Rattle.std.proofs.Common.{ap}
 use Rattle.fleet_run.specs.Scripted.{transcript_of}
-use Rattle.core_run.specs.Running.{kept_of}
 use Rattle.core_run.specs.declared.tally.Tally.{Tally}
 use Rattle.core_run.proofs.Breaking.{passed}
 use Rattle.stepped_run.proofs.Broken.{stops_ending, stops_last}
