@@ -22,8 +22,11 @@ returns-in-Ok-Idle g c = record { core = from c.deref_mut.ensures.value (by_poll
 pub returns-in-Ok-Waiting : goal.returns-in-Ok-Waiting
 returns-in-Ok-Waiting g c = record { core = from c.deref_mut.ensures.value (by_poll c.args.id c.poll.result c.deref_mut.result.now c.poll.new.self c.poll.ensures.ok c.poll.ensures.err c.poll.ensures.fresh c.poll.ensures.stops) }
 
-pub returns-in-Ok-Busy : goal.returns-in-Ok-Busy
-returns-in-Ok-Busy g c = record { core = from c.deref_mut.ensures.value (by_poll c.args.id c.poll.result c.deref_mut.result.now c.poll.new.self c.poll.ensures.ok c.poll.ensures.err c.poll.ensures.fresh c.poll.ensures.stops) }
+pub returns-in-Ok-Queued : goal.returns-in-Ok-Queued
+returns-in-Ok-Queued g c = record { core = from c.deref_mut.ensures.value (by_poll c.args.id c.poll.result c.deref_mut.result.now c.poll.new.self c.poll.ensures.ok c.poll.ensures.err c.poll.ensures.fresh c.poll.ensures.stops) }
+
+pub returns-in-Ok-Queued-2 : goal.returns-in-Ok-Queued-2
+returns-in-Ok-Queued-2 g c = record { core = from c.deref_mut.ensures.value (by_poll c.args.id c.poll.result c.deref_mut.result.now c.poll.new.self c.poll.ensures.ok c.poll.ensures.err c.poll.ensures.fresh c.poll.ensures.stops) }
 
 pub returns-in-Err-NoMemory : goal.returns-in-Err-NoMemory
 returns-in-Err-NoMemory g c = record { core = and_stood (from c.deref_mut.ensures.value (by_poll c.args.id c.poll.result c.deref_mut.result.now c.poll.new.self c.poll.ensures.ok c.poll.ensures.err c.poll.ensures.fresh c.poll.ensures.stops)) c.end_client.ensures.core }
