@@ -1,14 +1,14 @@
 -- The first call that is out at a server: its place, and what is left without it.
-use Rattle.std.proofs.Common.{◌≡◌, ℕ, zero, suc, ◌<◌, ◌≤◌, Bool, true, false, cond, nat_eq, nat_lt, List, [], ◌∷◌, length, get_or, Some, None, refl, sym, ap, ◌∙◌, subst, arith}
-use Rattle.std.specs.List.{position, position_or_len, remove}
-use Rattle.std.proofs.lemmas.Bool.{eqb-true, ltb-false}
+use Rattle.std.proofs.Common.{◌≡◌, ℕ, zero, suc, ◌<◌, ◌≤◌, Bool, true, false, cond, nat_eq, nat_lt, List, [], ◌∷◌, length, get_or, Some, None, inl, inr, refl, sym, ap, ◌∙◌, subst, arith}
+use Rattle.std.specs.List.{All, position, position_or_len, remove}
+use Rattle.std.proofs.lemmas.Bool.{eqb-true, ltb-false, ne_eqb}
 use Rattle.std.proofs.lemmas.List.Quantifiers.{position-Some}
 use Rattle.std.proofs.lemmas.List.Sums.{fails_before_first}
 use Rattle.mc_runs.specs.Overlap.{Ticket as LogTicket, without}
 use Rattle.script_servers.proofs.Places.{same}
 use Rattle.commands_under_way.specs.declared.ticket.Ticket.{Ticket}
 use Rattle.stepped_log.specs.Standing.{calls_at}
-use Rattle.core_run.specs.Turns.{TakesFirst}
+use Rattle.core_run.specs.Turns.{TakesFirst, IsOutAt}
 use Rattle.core_run.specs.declared.runner.Runner.{Runner}
 
 -- the call, as a log has it
@@ -73,3 +73,23 @@ left_out server t a b takes s = by (nat_eq server s) refl
     by : (x : Bool) → nat_eq server s ≡ x → calls_at s b.out.items ≡ cond x (without t.number (calls_at s a.out.items)) (calls_at s a.out.items)
     by true e = subst (λ (n : ℕ). calls_at n b.out.items ≡ without t.number (calls_at n a.out.items)) (eqb-true server s e) here
     by false e = takes.others s e
+
+-- ---- the least server
+
+nothing_left : (b : Bool) (x : LogTicket) (ts : List LogTicket) → cond b (x ∷ ts) ts ≡ [] → ts ≡ []
+nothing_left true x ts e = absurd (cc)
+nothing_left false x ts e = e
+
+something_is : (x : LogTicket) (ts : List LogTicket) → x ∷ ts ≡ [] → ⊥
+something_is x ts e = cc
+
+-- where one is out a call is there
+pub is_there_one : (server : ℕ) (xs : List Ticket) → IsOutAt server xs → calls_at server xs ≡ [] → ⊥
+is_there_one server [] out none = absurd out
+is_there_one server (x ∷ xs) (inl e) none =
+    something_is (out_call x) (calls_at server xs) (sym (ap (λ (b : Bool). cond b (out_call x ∷ calls_at server xs) (calls_at server xs)) (ap (λ (n : ℕ). nat_eq n server) e ∙ same server)) ∙ none)
+is_there_one server (x ∷ xs) (inr out) none = is_there_one server xs out (nothing_left (nat_eq x.server server) (out_call x) (calls_at server xs) none)
+
+-- none is out at a lesser one
+pub none_below : (server s : ℕ) (xs : List Ticket) → s < server → All (λ (t : Ticket). server ≤ t.server) xs → calls_at s xs ≡ []
+none_below server s xs less all = none_there s xs (λ k t lt. ne_eqb (get_or xs k t).server s (λ same. let le = all k t lt in absurd (omega (arith, le, less, same))))

@@ -1,5 +1,5 @@
 -- What calls of a runner make of a log, one after another.
-use Rattle.std.proofs.Common.{◌≡◌, ℕ, ◌+◌, cond, nat_eq, Bool, List, [], ◌∷◌, ◌++◌, map, Option, Some, Result, Ok, Err, refl, sym, ap, ◌∙◌, subst, append_assoc}
+use Rattle.std.proofs.Common.{◌≡◌, ℕ, ◌+◌, ◌<◌, cond, nat_eq, Bool, List, [], ◌∷◌, ◌++◌, map, Option, Some, Result, Ok, Err, refl, sym, ap, ◌∙◌, subst, append_assoc, append-nil}
 use Rattle.std.proofs.lemmas.List.{map-append}
 use Rattle.std.specs.Prelude.{OnOk, ℤ}
 use Rattle.mc_types.specs.declared.ask.Ask.{Ask}
@@ -33,10 +33,10 @@ use Rattle.stepped_log.specs.Laws.{CountsPoll, PollsGoOn, ResultsGoOn, LoadsGoOn
 use Rattle.core_run.specs.Counting.{last_of}
 use Rattle.core_run.specs.Finding.{found_of}
 use Rattle.core_run.specs.Running.{kept_of, Moves, MovesBy, MovesByOne, MovesAt, MovesByResults, MovesFed, IsLoadedBy}
-use Rattle.core_run.specs.Turns.{TakesFirst}
+use Rattle.core_run.specs.Turns.{TakesFirst, IsLeast, IsNextResult, AreInTurn, MovesInTurn}
 use Rattle.core_run.specs.declared.found.Found.{Found}
 use Rattle.core_run.specs.declared.runner.Runner.{Runner}
-use Rattle.core_run.proofs.Firsts.{out_call, left_out}
+use Rattle.core_run.proofs.Firsts.{out_call, left_out, is_there_one, none_below}
 
 -- nothing was done
 pub stays : (a : Runner) (s : ScriptServers) → Moves a s a s
@@ -271,3 +271,74 @@ none_asked server a b s stayed none = (
   record { one = tt; first = λ opening tree log stands. subst (λ (ts : List LogTicket). AreOfFirst server ts []) (sym (stands.out server ∙ none)) refl },
   subst (λ (r : Runner). MovesBy [] a s r s) (sym stayed) (none_by a a s (stays a s)),
 )
+
+-- ---- results in their turn
+
+-- what a longer log keeps
+in_turn_on : (rs : List CallResult) (newer more log : List (Entry dialect)) → AreInTurn rs more log → AreInTurn rs (newer ++ more) log
+in_turn_on [] newer more log h = tt
+in_turn_on (r ∷ rs) newer more log h = (newer ++ h.0, h.1, ap (λ l. newer ++ l) h.2 ∙ sym (append_assoc newer h.0 h.1), h.3, h.4, h.5)
+
+in_turn_then :
+    (later first : List CallResult) (more front log : List (Entry dialect)) → calls_of (run_of (front ++ log)) ≡ map call_of first ++ calls_of (run_of log) → AreInTurn later more (front ++ log) → AreInTurn first front log
+    → AreInTurn (later ++ first) (more ++ front) log
+in_turn_then [] first more front log had h g = in_turn_on first more front log g
+in_turn_then (r ∷ later) first more front log had h g =
+    let joined = append_assoc h.1 front log in (
+      h.0,
+      h.1 ++ front,
+      ap (λ l. l ++ front) h.2 ∙ append_assoc h.0 h.1 front,
+      ap (λ es. calls_of (run_of es)) joined ∙ h.3 ∙ ap (λ (cs : List NumberedCall). map call_of later ++ cs) had ∙ sym (append_assoc (map call_of later) (map call_of first) (calls_of (run_of log)))
+          ∙ ap (λ (cs : List NumberedCall). cs ++ calls_of (run_of log)) (sym (map-append call_of later first)),
+      subst (IsNextResult r) (sym joined) h.4,
+      in_turn_then later first h.1 front log had h.5 g,
+    )
+
+-- one after another
+pub turns_then : (a b d : Runner) (s t u : ScriptServers) → MovesInTurn a s b t → MovesInTurn b t d u → MovesInTurn a s d u
+unfolding by_goes_then goes_then
+turns_then a b d s t u m n =
+    record {
+      results = n.results ++ m.results;
+      moves = record {
+        given = given_then n.results m.results s t u m.moves.given n.moves.given;
+        goes = λ opening tree log stands.
+            let g = m.moves.goes opening tree log stands in
+            by_goes_then opening tree log n.results m.results (kept_of b t) (kept_of d u) g (n.moves.goes opening tree (g.goes.more ++ log) g.goes.stands);
+      };
+      in_turn = λ opening tree log stands.
+          let g = m.moves.goes opening tree log stands in
+          let h = n.moves.goes opening tree (g.goes.more ++ log) g.goes.stands in
+          in_turn_then n.results m.results h.goes.more g.goes.more log g.calls (n.in_turn opening tree (g.goes.more ++ log) g.goes.stands) (m.in_turn opening tree log stands);
+    }
+
+-- no result came
+pub turns_none : (a b : Runner) (s : ScriptServers) → Moves a s b s → MovesInTurn a s b s
+turns_none a b s m = record { results = []; moves = none_by a b s m; in_turn = λ opening tree log stands. tt }
+
+-- the first call that was out at the least server had its result
+pub turns_given : (server : ℕ) (a b : Runner) (s t : ScriptServers) → IsLeast (Some server) a.out.items → MovesAt server a s b t → MovesInTurn a s b t
+turns_given server a b s t least m = record { results = m.0; moves = m.2; in_turn = λ opening tree log stands. by opening tree log stands (m.2.goes opening tree log stands).goes.more (out_of log server) refl (m.1.first opening tree log stands) }
+  where
+    by :
+        (opening : ℕ → List ℕ → Option Item) (tree : ℕ → Route) (log : List (Entry dialect)) → Stands opening tree log (kept_of a s) → (more : List (Entry dialect)) (calls : List LogTicket) → out_of log server ≡ calls → AreOfFirst server calls m.0
+        → AreInTurn m.0 more log
+    by opening tree log stands more [] is of = absurd (is_there_one server a.out.items least.0 (sym (stands.out server) ∙ is))
+    by opening tree log stands more (call ∷ calls) is of =
+        let r = of.0 in
+        let at = of.2.server_is in
+        subst (λ (rs : List CallResult). AreInTurn rs more log) (sym of.1) (
+          more,
+          [],
+          sym (append-nil more),
+          refl,
+          record {
+            first = subst (λ (n : ℕ). AreOfFirst n (out_of log n) (r ∷ [])) (sym at) (subst (λ (ts : List LogTicket). AreOfFirst server ts (r ∷ [])) (sym is) (r, refl, of.2));
+            least = λ n less. stands.out n ∙ none_below server n a.out.items (subst (λ (k : ℕ). n < k) at less) least.1;
+          },
+          tt,
+        )
+
+-- so each log goes on by results
+pub by_turns : (a b : Runner) (s t : ScriptServers) → MovesInTurn a s b t → MovesByResults a s b t
+by_turns a b s t m = (m.results, m.moves)

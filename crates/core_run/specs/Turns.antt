@@ -1,8 +1,15 @@
 -- Which call that is out has its result next. Source: mcgate's own.
-use Rattle.std.specs.Prelude.{◌≡◌, ◌⊎◌, ℕ, ◌≤◌, false, List, [], ◌∷◌, Option, Some, None, IfSome, nat_eq}
+use Rattle.std.specs.Prelude.{◌≡◌, ◌⊎◌, ℕ, ◌<◌, ◌≤◌, false, List, [], ◌∷◌, ◌++◌, map, Option, Some, None, IfSome, nat_eq}
 use Rattle.std.specs.List.{All}
+use Rattle.mc_types.specs.Items.{Item}
+use Rattle.mc_runs.specs.Overlap.{Entry, run_of, out_of}
+use Rattle.route_tree.specs.Route.{Route}
 use Rattle.commands_under_way.specs.declared.ticket.Ticket.{Ticket}
-use Rattle.stepped_log.specs.Standing.{calls_at}
+use Rattle.proxy_core.specs.CoreState.{dialect}
+use Rattle.script_servers.specs.declared.servers.ScriptServers.{ScriptServers}
+use Rattle.stepped_log.specs.Results.{CallResult, AreOfFirst, call_of, calls_of}
+use Rattle.stepped_log.specs.Standing.{calls_at, Stands}
+use Rattle.core_run.specs.Running.{kept_of, MovesBy}
 use Rattle.core_run.specs.declared.runner.Runner.{Runner}
 
 -- the first of the calls that were out at this server is out no more
@@ -26,3 +33,23 @@ pub record IsLesser (one : Option ℕ) (other server : ℕ) : Type 0 where
   pub within : server ≤ other
   pub below : IfSome one (λ s. server ≤ s)
   pub is : (server ≡ other) ⊎ (one ≡ Some server)
+
+-- ---- results in their turn
+
+-- after this log the result is the next one: of the first call that is out at its server, where none is out at a lesser one
+pub record IsNextResult (r : CallResult) (log : List (Entry dialect)) : Type 0 where
+  pub first : AreOfFirst r.server (out_of log r.server) (r ∷ [])
+  pub least : (s : ℕ) → s < r.server → out_of log s ≡ []
+
+-- the log went on by these entries with these results, the latest first, each of them the next one in the part of the log that stood before it
+abbrev pub AreInTurn : List CallResult → List (Entry dialect) → List (Entry dialect) → Type 0
+AreInTurn [] more log = Unit {0}
+AreInTurn (r ∷ rs) more log =
+    (later earlier : List (Entry dialect)) × (more ≡ later ++ earlier) × (calls_of (run_of (earlier ++ log)) ≡ map call_of rs ++ calls_of (run_of log)) × IsNextResult r (earlier ++ log) × AreInTurn rs earlier log
+
+-- the servers gave some results, and each log that stood before goes on by them, each in its turn
+pub record MovesInTurn (old : Runner) (before : ScriptServers) (new : Runner) (after : ScriptServers) : Type 0 where
+  pub results : List CallResult
+  pub moves : MovesBy results old before new after
+  pub in_turn :
+      (opening : ℕ → List ℕ → Option Item) (tree : ℕ → Route) (log : List (Entry dialect)) (stands : Stands opening tree log (kept_of old before)) → AreInTurn results (moves.goes opening tree log stands).goes.more log

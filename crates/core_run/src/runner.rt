@@ -134,10 +134,10 @@ fn lesser(one: Option<ServerId>, other: ServerId) -> ServerId
 }
 
 impl Runner {
-    ghost use Rattle.core_run.specs.Running.{kept_of, Moves, MovesByOne, MovesAt, MovesByResults, MovesFed, MovesGiven, IsLoadedBy, AreIdle, AreStalled, KeepStalled, IsAtRest, AreAskedYet};
+    ghost use Rattle.core_run.specs.Running.{kept_of, Moves, MovesByOne, MovesAt, MovesFed, MovesGiven, IsLoadedBy, AreIdle, AreStalled, KeepStalled, IsAtRest, AreAskedYet};
     ghost use Rattle.core_run.specs.Progressing.{TakesSo, LeavesSo, AreStill};
     ghost use Rattle.core_run.specs.Breaking.{IsLastBegun, StopsAt, StopsFed, StopsGiving, StopsAfter};
-    ghost use Rattle.core_run.specs.Turns.{TakesFirst};
+    ghost use Rattle.core_run.specs.Turns.{TakesFirst, MovesInTurn};
 
     /// No client was opened; commands begin on this tree.
     pub fn new(alloc: Global, tree: Tree) -> Runner
@@ -476,7 +476,7 @@ impl Runner {
     /// All that can be done is done, and each call that is out has its result, that of the least server first, until none is out: then
     /// nothing is left to do for any client. The errors are those of [`settle_first`](Runner::settle_first).
     pub fn settle_all(&mut self, servers: &mut ScriptServers) -> Result<(), FleetFault>
-        ensures ok { OnOk result (MovesByResults self.old servers.old self.new servers.new) }
+        ensures ok { OnOk result (MovesInTurn self.old servers.old self.new servers.new) }
         ensures count { count_of servers.new ≡ count_of servers.old }
         ensures none { OnOk result (self.new.out.items ≡ []) }
         ensures clients { OnOk result (self.new.clients ≡ self.old.clients) }
