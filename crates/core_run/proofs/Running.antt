@@ -275,11 +275,11 @@ none_asked server a b s stayed none = (
 -- ---- results in their turn
 
 -- what a longer log keeps
-in_turn_on : (rs : List CallResult) (newer more log : List (Entry dialect)) → AreInTurn rs more log → AreInTurn rs (newer ++ more) log
+pub in_turn_on : (rs : List CallResult) (newer more log : List (Entry dialect)) → AreInTurn rs more log → AreInTurn rs (newer ++ more) log
 in_turn_on [] newer more log h = tt
 in_turn_on (r ∷ rs) newer more log h = (newer ++ h.0, h.1, ap (λ l. newer ++ l) h.2 ∙ sym (append_assoc newer h.0 h.1), h.3, h.4, h.5)
 
-in_turn_then :
+pub in_turn_then :
     (later first : List CallResult) (more front log : List (Entry dialect)) → calls_of (run_of (front ++ log)) ≡ map call_of first ++ calls_of (run_of log) → AreInTurn later more (front ++ log) → AreInTurn first front log
     → AreInTurn (later ++ first) (more ++ front) log
 in_turn_then [] first more front log had h g = in_turn_on first more front log g

@@ -34,14 +34,14 @@ use Rattle.core_run.specs.Running.{kept_of, AreOfOne, AreAskedYet, Moves, MovesF
 use Rattle.core_run.specs.declared.runner.Runner.{Runner}
 use Rattle.core_run.proofs.Running.{stays}
 use Rattle.core_run.proofs.Breaking.{begun_spent}
-use Rattle.stepped_run.specs.Driving.{said_by, said_in, AreThrough, HasNoResult, BringsResults, AreSteps, IsStepPart, AreMarked, HaveMade, HasWorldOf, RunsBy, StepsPart, AreSpentIn, EndsStepped}
+use Rattle.stepped_run.specs.Driving.{said_by, said_in, AreThrough, HasNoResult, BringsSome, AreSteps, IsStepPart, AreMarked, HaveMade, HasWorldOf, RunsBy, StepsPart, AreSpentIn, EndsStepped}
 use Rattle.stepped_run.specs.World.{Changes, World}
 use Rattle.stepped_run.specs.Stepping.{HasCalls, FedBy, AreFit, AreAskedBy, GoesOnInPart, FedInPart, Befalls, BreaksOff, HandsSome, HasCome, HasStood, Loads, LoadsInPart, LoadsSome, StopsPart}
 use Rattle.stepped_run.proofs.Direct.{fresh_if_direct}
 use Rattle.stepped_run.proofs.Come.{turn_on, come_on, come_ended, come_some, given_none, handed_none}
 use Rattle.stepped_run.proofs.Steps.{after_it, handed_on, nothing_fed, fed_more, fed_after, fed_results}
 use Rattle.stepped_run.proofs.Stood.{said_append, through_on, steps_on, marked_on, marked_one, stalled_or_unheard, here}
-use Rattle.stepped_run.proofs.Worlds.{world_next, world_stays, none_had, brought, brought_still}
+use Rattle.stepped_run.proofs.Worlds.{world_next, world_stays, none_had, brought, brought_some, some_brought, brought_still}
 
 -- ---- results that are faults
 
@@ -313,9 +313,9 @@ module _ (first : Route) (refused : List Bool) (reloads : List Reload) (events :
         spent = spent_in fault m.mid.core m.at after says.begun says.calls m.spent;
       }
     where
-      brings : (more : List (Entry dialect)) → (m.results ≡ []) ⊎ AreAskedBy event a s m.results → HasCalls m.results more h.come.log → HasNoResult h.come.log (more ++ h.come.log) ⊎ BringsResults event h.come.log (more ++ h.come.log)
+      brings : (more : List (Entry dialect)) → (m.results ≡ []) ⊎ AreAskedBy event a s m.results → HasCalls m.results more h.come.log → HasNoResult h.come.log (more ++ h.come.log) ⊎ BringsSome event h.come.log (more ++ h.come.log)
       brings more (inl none) calls = inl (none_had m.results more h.come.log none calls)
-      brings more (inr asked) calls = inr (brought event m.results a s (opening_of events) (tree_by first h.come.loads) more h.come.log h.come.stands m.fit asked calls)
+      brings more (inr asked) calls = inr (brought_some event m.results a s (opening_of events) (tree_by first h.come.loads) more h.come.log h.come.stands m.fit asked calls)
 
       by : (more : List (Entry dialect)) → (m.results ≡ []) ⊎ Changes event s s → HasCalls m.results more h.come.log → HasWorldOf events h.come.done (event ∷ []) (more ++ h.come.log)
       by more (inl none) calls = (s, inl (world_stays events h.come.done h.come.log more s h.come.world (subst (λ (rs : List CallResult). HasCalls rs more h.come.log) none calls)))
@@ -341,8 +341,8 @@ module _ (first : Route) (refused : List Bool) (reloads : List Reload) (events :
         before = through_on events h.come.done o.more (g.more ++ log) given after o.longer.0 o.longer.1
             (through_on events h.come.done g.more log given given [] (sym (append-nil given)) (here first refused reloads events loaded (event ∷ left) given (kept_of a s) h.come (stalled_or_unheard h.come.done a.clients a.core h.heard h.stalled) h.settled));
         brings = inr
-            (brought_still event log (g.more ++ log) (o.more ++ (g.more ++ log)) (none_more opening tree (g.more ++ log) (kept_of b t) (kept_of (hands t opening tree (g.more ++ log) g.stands).0 t) g.stands refl o.more o.stands)
-            (brought event m.results a s opening tree g.more log h.come.stands m.fit m.asked (m.goes opening tree log h.come.stands).1));
+            (some_brought event log (o.more ++ (g.more ++ log)) (brought_still event log (g.more ++ log) o.more (none_more opening tree (g.more ++ log) (kept_of b t) (kept_of (hands t opening tree (g.more ++ log) g.stands).0 t) g.stands refl o.more o.stands)
+            (brought event m.results a s opening tree g.more log h.come.stands m.fit m.asked (m.goes opening tree log h.come.stands).1 (m.turns opening tree log h.come.stands))));
       }))
       (marked_on events o.more (g.more ++ log) given after o.longer.0 o.longer.1 reloads marks (marked_on events g.more log given given [] (sym (append-nil given)) reloads marks h.marked))
       refl none

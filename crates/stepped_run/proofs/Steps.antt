@@ -22,11 +22,12 @@ use Rattle.stepped_log.specs.Results.{CallResult, NumberedCall, call_of, calls_o
 use Rattle.stepped_log.specs.Standing.{Kept, Stands, GoesOn, GoesOnFed, GoesOnGiven, LeavesAsMuch}
 use Rattle.stepped_log.proofs.Counted.{none_more}
 use Rattle.core_run.specs.Running.{kept_of, Moves, MovesAt, MovesByResults, MovesFed, MovesGiven}
-use Rattle.core_run.proofs.Running.{given_then}
+use Rattle.core_run.specs.Turns.{AreInTurn, MovesInTurn}
+use Rattle.core_run.proofs.Running.{given_then, in_turn_then}
 use Rattle.core_run.specs.declared.runner.Runner.{Runner}
 use Rattle.stepped_run.specs.Driving.{said_by, shown_to, IsHanded, AreHandedInTurn}
 use Rattle.stepped_run.specs.World.{Changes}
-use Rattle.stepped_run.specs.Stepping.{HasCalls, FedBy, AreFit, AreAskedBy, IsHeard, LeavesBy, GoesOnSaid, Befalls, IsGivenAll, HandsOut, HandsSome}
+use Rattle.stepped_run.specs.Stepping.{HasCalls, FedBy, FedInTurn, TakesTurns, AreFit, AreAskedBy, IsHeard, LeavesBy, GoesOnSaid, Befalls, IsGivenAll, HandsOut, HandsSome}
 
 -- ---- bytes that a client says
 
@@ -122,6 +123,36 @@ fed_results client bytes a b d s t m n =
           );
     }
 
+-- ---- results in their turn
+
+pub turn_nothing : (client : ℕ) (a b : Runner) (s : ScriptServers) → Moves a s b s → FedInTurn client [] a s b s
+unfolding nothing_fed fed_by_none
+turn_nothing client a b s m = record { fed = nothing_fed client a b s m; in_turn = λ opening tree log stands. tt }
+
+pub turn_more : (client : ℕ) (first second : List ℕ) (a b d : Runner) (s t u : ScriptServers) → FedInTurn client first a s b t → FedInTurn client second b t d u → FedInTurn client (first ++ second) a s d u
+unfolding fed_more
+turn_more client first second a b d s t u m n =
+    record {
+      fed = fed_more client first second a b d s t u m.fed n.fed;
+      in_turn = λ opening tree log stands.
+          let p = m.fed.goes opening tree log stands in
+          let g = p.0 in
+          let h = (n.fed.goes opening tree (g.more ++ log) g.stands).0 in
+          in_turn_then n.fed.results m.fed.results h.more g.more log p.1 (n.in_turn opening tree (g.more ++ log) g.stands) (m.in_turn opening tree log stands);
+    }
+
+pub turn_results : (client : ℕ) (bytes : List ℕ) (a b d : Runner) (s t : ScriptServers) → MovesFed client bytes a s b s → MovesInTurn b s d t → FedInTurn client bytes a s d t
+unfolding fed_results
+turn_results client bytes a b d s t m n =
+    record {
+      fed = fed_results client bytes a b d s t m (n.results, n.moves);
+      in_turn = λ opening tree log stands.
+          let g = m opening tree log stands in
+          let h = (n.moves.goes opening tree (g.more ++ log) g.stands).goes in
+          subst (λ (rs : List CallResult). AreInTurn rs (h.more ++ g.more) log) (append-nil n.results)
+          (in_turn_then n.results [] h.more g.more log (none_more opening tree log (kept_of a s) (kept_of b s) stands refl g.more g.stands) (n.in_turn opening tree (g.more ++ log) g.stands) tt);
+    }
+
 -- a cut, and what is left
 pub cut_joins : (bytes before rest cut more : List ℕ) (n : ℕ) → bytes ≡ before ++ rest → cut ≡ take n rest → more ≡ drop n rest → bytes ≡ (before ++ cut) ++ more
 cut_joins bytes before rest cut more n is front back =
@@ -133,17 +164,18 @@ said : (event : Scripted) (client : ℕ) (bytes : List ℕ) → ((c : ℕ) → s
 said event client bytes says opening tree log k g left =
     record { more = g.more; stands = g.stands; streams = λ c. g.streams c ∙ after_it (nat_eq client c) (stream_of log c) bytes ∙ ap (λ xs. stream_of log c ++ xs) (sym (says c)); given = g.given; left = left }
 
-pub piece_said : (client : ℕ) (bytes : List ℕ) (a b : Runner) (s t : ScriptServers) → FedBy client bytes a s b t → Befalls (Piece client bytes) a s b t
+pub piece_said : (client : ℕ) (bytes : List ℕ) (a b : Runner) (s t : ScriptServers) → FedInTurn client bytes a s b t → Befalls (Piece client bytes) a s b t
 unfolding said
 piece_said client bytes a b s t m =
     record {
       mid = s;
       changes = refl;
-      results = m.results;
-      given = m.given;
+      results = m.fed.results;
+      given = m.fed.given;
       fit = tt;
       asked = tt;
-      goes = λ opening tree log stands. let p = m.goes opening tree log stands in (said (Piece client bytes) client bytes (λ c. refl) opening tree log (kept_of b t) p.0 tt, p.1);
+      goes = λ opening tree log stands. let p = m.fed.goes opening tree log stands in (said (Piece client bytes) client bytes (λ c. refl) opening tree log (kept_of b t) p.0 tt, p.1);
+      turns = m.in_turn;
     }
 
 pub add_said : (client : ℕ) (bytes : List ℕ) (a b : Runner) (s : ScriptServers) → MovesFed client bytes a s b s → Befalls (Add client bytes) a s b s
@@ -158,6 +190,7 @@ add_said client bytes a b s m =
       asked = tt;
       goes = λ opening tree log stands.
           let g = m opening tree log stands in (said (Add client bytes) client bytes (λ c. refl) opening tree log (kept_of b s) g tt, none_more opening tree log (kept_of a s) (kept_of b s) stands refl g.more g.stands);
+      turns = λ opening tree log stands. tt;
     }
 
 -- an event that says nothing
@@ -177,12 +210,24 @@ result_asked server a b s t m =
       fit = m.1.one;
       asked = m.1;
       goes = λ opening tree log stands. let q = m.2.goes opening tree log stands in (quiet (Result server) (λ c. refl) opening tree log (kept_of b t) q.goes tt, q.calls);
+      turns = λ opening tree log stands. tt;
     }
 
 -- each log goes on, and clients have as much to do as the event leaves them
 abbrev MovesQuietly : Scripted → Runner → ScriptServers → ScriptServers → Type 0
 MovesQuietly event a s t =
     (opening : ℕ → List ℕ → Option Item) (tree : ℕ → Route) (log : List (Entry dialect)) → Stands opening tree log (kept_of a s) → (g : GoesOn opening tree log (kept_of a t)) × LeavesBy event log (g.more ++ log)
+
+-- none comes in no turn
+no_turns : (event : Scripted) (more log : List (Entry dialect)) → TakesTurns event [] more log
+no_turns (Piece client bytes) more log = tt
+no_turns (Add client bytes) more log = tt
+no_turns (Result server) more log = tt
+no_turns (Fail turn manner) more log = tt
+no_turns (Hold server key content) more log = tt
+no_turns (At turn loss) more log = tt
+no_turns (Now loss) more log = tt
+no_turns (Moment moment) more log = tt
 
 -- an event that changes the servers, and for which no call has a result
 pub changed : (event : Scripted) → ((c : ℕ) → said_by event c ≡ []) → AreFit event [] → (a : Runner) (s t : ScriptServers) → AreAskedBy event a s [] → turn_of t ≡ turn_of s → Changes event s t → MovesQuietly event a s t → Befalls event a s a t
@@ -199,6 +244,7 @@ changed event says fit a s t asked turn changes m =
           let p = m opening tree log stands in
           let g = p.0 in
           (quiet event says opening tree log (kept_of a t) g p.1, none_more opening tree log (kept_of a s) (kept_of a t) stands turn g.more g.stands);
+      turns = λ opening tree log stands. no_turns event (m opening tree log stands).0.more log;
     }
 
 -- a log stands whatever servers that hold the same are kept

@@ -465,8 +465,8 @@ module _ (first : Route) (refused : List Bool) (reloads : List Reload) (events :
               after = here loaded left after (kept_of d t) end (stalled_or_unheard (done ++ event ∷ []) d.clients d.core (λ c le. unheard c (subst (λ (n : ℕ). n ≤ c) same le)) stalled) settled;
               more = o.more ++ g.more;
               goes = sym (append_assoc o.more g.more log);
-              brings = brought_still event log (g.more ++ log) (o.more ++ (g.more ++ log)) (none_more opening tree (g.more ++ log) (kept_of b t) (kept_of d t) g.stands refl o.more o.stands)
-                  (brought event m.results a s opening tree g.more log h.come.stands m.fit m.asked (m.goes opening tree log h.come.stands).1);
+              brings = brought_still event log (g.more ++ log) o.more (none_more opening tree (g.more ++ log) (kept_of b t) (kept_of d t) g.stands refl o.more o.stands)
+                  (brought event m.results a s opening tree g.more log h.come.stands m.fit m.asked (m.goes opening tree log h.come.stands).1 (m.turns opening tree log h.come.stands));
             });
         settled = settled;
         stalled = stalled;

@@ -1,5 +1,5 @@
 -- The world of a log goes on by events and by results, and which results an event brings.
-use Rattle.std.proofs.Common.{◌≡◌, ℕ, List, [], ◌∷◌, ◌++◌, map, Option, refl, sym, ap, ◌∙◌, subst}
+use Rattle.std.proofs.Common.{◌≡◌, ℕ, List, [], ◌∷◌, ◌++◌, map, Option, refl, sym, ap, ◌∙◌, subst, append_assoc}
 use Rattle.std.proofs.lemmas.List.{map-append}
 use Rattle.mc_types.specs.Items.{Item}
 use Rattle.mc_runs.specs.Overlap.{Entry, Ticket, run_of, out_of}
@@ -11,9 +11,10 @@ use Rattle.stepped_log.specs.Results.{CallResult, AreOfFirst, NumberedCall, AreG
 use Rattle.stepped_log.specs.Standing.{Stands}
 use Rattle.core_run.specs.Running.{kept_of, AreOfOne}
 use Rattle.core_run.specs.declared.runner.Runner.{Runner}
-use Rattle.stepped_run.specs.Driving.{HasNoResult, FirstHasResult, BringsResults}
+use Rattle.stepped_run.specs.Driving.{HasNoResult, FirstHasResult, BringsResults, BringsSome}
 use Rattle.stepped_run.specs.World.{Deed, Takes, Ends, Gives, Changes, LeadTo, AreMany, IsAwaited, AreInTurn, World, script_of, results_of}
-use Rattle.stepped_run.specs.Stepping.{HasCalls, AreFit, AreAskedBy}
+use Rattle.core_run.proofs.Running.{in_turn_on}
+use Rattle.stepped_run.specs.Stepping.{HasCalls, AreFit, AreAskedBy, TakesTurns}
 
 -- results after deeds, the latest first
 abbrev then_given : List CallResult → List Deed → List Deed
@@ -117,30 +118,55 @@ first_had server (call ∷ calls) rs more log of has =
           ∙ ap (λ (t : Ticket). record { number = t.number; call = record { server = server; ask = t.ask; origin = t.origin; outcome = outcome } } ∷ past) of.2.call_is,
     )
 
+-- those that it asks for come, of a piece in whichever turn
+pub brought_some :
+    (event : Scripted) (rs : List CallResult) (a : Runner) (s : ScriptServers) (opening : ℕ → List ℕ → Option Item) (tree : ℕ → Route) (more log : List (Entry dialect)) → Stands opening tree log (kept_of a s)
+    → AreFit event rs → AreAskedBy event a s rs → HasCalls rs more log → BringsSome event log (more ++ log)
+brought_some (Piece client bytes) rs a s opening tree more log stands fit asked has = tt
+brought_some (Add client bytes) rs a s opening tree more log stands fit asked has = none_had rs more log fit has
+brought_some (Result server) rs a s opening tree more log stands fit asked has = first_had server (out_of log server) rs more log (asked.first opening tree log stands) has
+brought_some (Fail turn manner) rs a s opening tree more log stands fit asked has = none_had rs more log fit has
+brought_some (Hold server key content) rs a s opening tree more log stands fit asked has = none_had rs more log fit has
+brought_some (At turn loss) rs a s opening tree more log stands fit asked has = none_had rs more log fit has
+brought_some (Now loss) rs a s opening tree more log stands fit asked has = none_had rs more log fit has
+brought_some (Moment moment) rs a s opening tree more log stands fit asked has = none_had rs more log fit has
+
 -- those that it asks for come
 pub brought :
     (event : Scripted) (rs : List CallResult) (a : Runner) (s : ScriptServers) (opening : ℕ → List ℕ → Option Item) (tree : ℕ → Route) (more log : List (Entry dialect)) → Stands opening tree log (kept_of a s)
-    → AreFit event rs → AreAskedBy event a s rs → HasCalls rs more log → BringsResults event log (more ++ log)
-brought (Piece client bytes) rs a s opening tree more log stands fit asked has = tt
-brought (Add client bytes) rs a s opening tree more log stands fit asked has = none_had rs more log fit has
-brought (Result server) rs a s opening tree more log stands fit asked has = first_had server (out_of log server) rs more log (asked.first opening tree log stands) has
-brought (Fail turn manner) rs a s opening tree more log stands fit asked has = none_had rs more log fit has
-brought (Hold server key content) rs a s opening tree more log stands fit asked has = none_had rs more log fit has
-brought (At turn loss) rs a s opening tree more log stands fit asked has = none_had rs more log fit has
-brought (Now loss) rs a s opening tree more log stands fit asked has = none_had rs more log fit has
-brought (Moment moment) rs a s opening tree more log stands fit asked has = none_had rs more log fit has
+    → AreFit event rs → AreAskedBy event a s rs → HasCalls rs more log → TakesTurns event rs more log → BringsResults event log (more ++ log)
+brought (Piece client bytes) rs a s opening tree more log stands fit asked has turns = record { results = rs; more = more; goes = refl; calls = has; in_turn = turns }
+brought (Add client bytes) rs a s opening tree more log stands fit asked has turns = brought_some (Add client bytes) rs a s opening tree more log stands fit asked has
+brought (Result server) rs a s opening tree more log stands fit asked has turns = brought_some (Result server) rs a s opening tree more log stands fit asked has
+brought (Fail turn manner) rs a s opening tree more log stands fit asked has turns = brought_some (Fail turn manner) rs a s opening tree more log stands fit asked has
+brought (Hold server key content) rs a s opening tree more log stands fit asked has turns = brought_some (Hold server key content) rs a s opening tree more log stands fit asked has
+brought (At turn loss) rs a s opening tree more log stands fit asked has turns = brought_some (At turn loss) rs a s opening tree more log stands fit asked has
+brought (Now loss) rs a s opening tree more log stands fit asked has turns = brought_some (Now loss) rs a s opening tree more log stands fit asked has
+brought (Moment moment) rs a s opening tree more log stands fit asked has turns = brought_some (Moment moment) rs a s opening tree more log stands fit asked has
+
+-- so they do where it isn't said in which turn
+pub some_brought : (event : Scripted) (before after : List (Entry dialect)) → BringsResults event before after → BringsSome event before after
+some_brought (Piece client bytes) before after h = tt
+some_brought (Add client bytes) before after h = h
+some_brought (Result server) before after h = h
+some_brought (Fail turn manner) before after h = h
+some_brought (Hold server key content) before after h = h
+some_brought (At turn loss) before after h = h
+some_brought (Now loss) before after h = h
+some_brought (Moment moment) before after h = h
 
 -- and where no call has its result later, the event brings the same
 first_still : (server : ℕ) (calls : List Ticket) (log mid after : List (Entry dialect)) → HasNoResult mid after → FirstHasResult server calls log mid → FirstHasResult server calls log after
 first_still server [] log mid after none h = none ∙ h
 first_still server (call ∷ calls) log mid after none h = (h.0, none ∙ h.1)
 
-pub brought_still : (event : Scripted) (log mid after : List (Entry dialect)) → HasNoResult mid after → BringsResults event log mid → BringsResults event log after
-brought_still (Piece client bytes) log mid after none h = tt
-brought_still (Add client bytes) log mid after none h = none ∙ h
-brought_still (Result server) log mid after none h = first_still server (out_of log server) log mid after none h
-brought_still (Fail turn manner) log mid after none h = none ∙ h
-brought_still (Hold server key content) log mid after none h = none ∙ h
-brought_still (At turn loss) log mid after none h = none ∙ h
-brought_still (Now loss) log mid after none h = none ∙ h
-brought_still (Moment moment) log mid after none h = none ∙ h
+pub brought_still : (event : Scripted) (log mid newer : List (Entry dialect)) → HasNoResult mid (newer ++ mid) → BringsResults event log mid → BringsResults event log (newer ++ mid)
+brought_still (Piece client bytes) log mid newer none h =
+    record { results = h.results; more = newer ++ h.more; goes = ap (λ l. newer ++ l) h.goes ∙ sym (append_assoc newer h.more log); calls = none ∙ h.calls; in_turn = in_turn_on h.results newer h.more log h.in_turn }
+brought_still (Add client bytes) log mid newer none h = none ∙ h
+brought_still (Result server) log mid newer none h = first_still server (out_of log server) log mid (newer ++ mid) none h
+brought_still (Fail turn manner) log mid newer none h = none ∙ h
+brought_still (Hold server key content) log mid newer none h = none ∙ h
+brought_still (At turn loss) log mid newer none h = none ∙ h
+brought_still (Now loss) log mid newer none h = none ∙ h
+brought_still (Moment moment) log mid newer none h = none ∙ h

@@ -29,7 +29,8 @@ use Rattle.script_servers.specs.Limits.{last_turn}
 use Rattle.proxy_core.specs.declared.limits.TheConstants.{LAST_COMMAND}
 use Rattle.script_servers.specs.Servers.{turn_of}
 use Rattle.script_servers.specs.declared.servers.ScriptServers.{ScriptServers}
-use Rattle.stepped_log.specs.Results.{calls_of}
+use Rattle.stepped_log.specs.Results.{CallResult, call_of, calls_of}
+use Rattle.core_run.specs.Turns.{AreInTurn}
 use Rattle.stepped_log.specs.Standing.{Kept, Stands, replied_in, tree_by}
 use Rattle.stepped_run.specs.World.{World}
 
@@ -133,9 +134,17 @@ FirstHasResult server [] before after = HasNoResult before after
 FirstHasResult server (call ∷ calls) before after =
     (outcome : Outcome) × (calls_of (run_of after) ≡ record { number = call.number; call = record { server = server; ask = call.ask; origin = call.origin; outcome = outcome } } ∷ calls_of (run_of before))
 
--- a piece brings as many results as there are; where one is asked of a server, the first call that is out there has it; other events bring none
+-- between them results came in their turn, each that of the first call that was out at the least server at which one was
+pub record HasTurns (before after : List (Entry dialect)) : Type 0 where
+  pub results : List CallResult
+  pub more : List (Entry dialect)
+  pub goes : after ≡ more ++ before
+  pub calls : calls_of (run_of after) ≡ map call_of results ++ calls_of (run_of before)
+  pub in_turn : AreInTurn results more before
+
+-- a piece brings as many results as there are, in their turn; where one is asked of a server, the first call that is out there has it; other events bring none
 abbrev pub BringsResults : Scripted → List (Entry dialect) → List (Entry dialect) → Type 0
-BringsResults (Piece client bytes) before after = Unit {0}
+BringsResults (Piece client bytes) before after = HasTurns before after
 BringsResults (Add client bytes) before after = HasNoResult before after
 BringsResults (Result server) before after = FirstHasResult server (out_of before server) before after
 BringsResults (Fail turn manner) before after = HasNoResult before after
@@ -143,6 +152,17 @@ BringsResults (Hold server key content) before after = HasNoResult before after
 BringsResults (At turn loss) before after = HasNoResult before after
 BringsResults (Now loss) before after = HasNoResult before after
 BringsResults (Moment moment) before after = HasNoResult before after
+
+-- the same where a fault came before they all had: in which turn those of a piece came isn't said
+abbrev pub BringsSome : Scripted → List (Entry dialect) → List (Entry dialect) → Type 0
+BringsSome (Piece client bytes) before after = Unit {0}
+BringsSome (Add client bytes) before after = HasNoResult before after
+BringsSome (Result server) before after = FirstHasResult server (out_of before server) before after
+BringsSome (Fail turn manner) before after = HasNoResult before after
+BringsSome (Hold server key content) before after = HasNoResult before after
+BringsSome (At turn loss) before after = HasNoResult before after
+BringsSome (Now loss) before after = HasNoResult before after
+BringsSome (Moment moment) before after = HasNoResult before after
 
 -- two parts of the log: one after the events before this one, and a later one after this one too, with what results it brings between them
 pub record IsStep (events done : List Scripted) (event : Scripted) (log : List (Entry dialect)) (given : List Shown) : Type 0 where
@@ -159,7 +179,7 @@ AreSteps events count log given = (n : ℕ) (event : Scripted) → n < count →
 -- the log may have gone on by this event, which may have brought its results
 pub record IsStepPart (events done : List Scripted) (event : Scripted) (log : List (Entry dialect)) (given : List Shown) : Type 0 where
   pub before : IsThrough events done log given
-  pub brings : HasNoResult before.older log ⊎ BringsResults event before.older log
+  pub brings : HasNoResult before.older log ⊎ BringsSome event before.older log
 
 -- ---- reloads' marks
 

@@ -17,6 +17,7 @@ use Rattle.stepped_log.specs.Standing.{Kept, Stands, GoesOnFed, LeavesAsMuch, tr
 use Rattle.script_servers.specs.declared.event.FleetFault.{FleetFault}
 use Rattle.script_servers.specs.declared.event.FleetFault.TheVariants.{Spent}
 use Rattle.core_run.specs.Breaking.{AreSpent, IsWithinOne}
+use Rattle.core_run.specs.Turns.{AreInTurn}
 use Rattle.core_run.specs.Running.{kept_of, IsLoadedBy, AreOfOne, AreAsked, AreStalled, KeepStalled, IsAtRest}
 use Rattle.core_run.specs.declared.runner.Runner.{Runner}
 use Rattle.stepped_run.specs.World.{Changes, World}
@@ -51,6 +52,12 @@ pub record FedBy (client : ℕ) (bytes : List ℕ) (old : Runner) (before : Scri
   pub given : AreGiven results before after
   pub goes : (opening : ℕ → List ℕ → Option Item) (tree : ℕ → Route) (log : List (Entry dialect)) → Stands opening tree log (kept_of old before) → (g : GoesOnFed opening tree log client bytes (kept_of new after)) × HasCalls results g.more log
 
+-- the same, and the results come in their turn
+pub record FedInTurn (client : ℕ) (bytes : List ℕ) (old : Runner) (before : ScriptServers) (new : Runner) (after : ScriptServers) : Type 0 where
+  pub fed : FedBy client bytes old before new after
+  pub in_turn :
+      (opening : ℕ → List ℕ → Option Item) (tree : ℕ → Route) (log : List (Entry dialect)) (stands : Stands opening tree log (kept_of old before)) → AreInTurn fed.results (fed.goes opening tree log stands).0.more log
+
 -- which results an event asks for
 abbrev pub AreFit : Scripted → List CallResult → Type 0
 AreFit (Piece client bytes) results = Unit {0}
@@ -73,6 +80,17 @@ AreAskedBy (At turn loss) old before results = Unit {0}
 AreAskedBy (Now loss) old before results = Unit {0}
 AreAskedBy (Moment moment) old before results = Unit {0}
 
+-- those of a piece come in their turn
+abbrev pub TakesTurns : Scripted → List CallResult → List (Entry dialect) → List (Entry dialect) → Type 0
+TakesTurns (Piece client bytes) results more log = AreInTurn results more log
+TakesTurns (Add client bytes) results more log = Unit {0}
+TakesTurns (Result server) results more log = Unit {0}
+TakesTurns (Fail turn manner) results more log = Unit {0}
+TakesTurns (Hold server key content) results more log = Unit {0}
+TakesTurns (At turn loss) results more log = Unit {0}
+TakesTurns (Now loss) results more log = Unit {0}
+TakesTurns (Moment moment) results more log = Unit {0}
+
 -- the event changes the servers, and then they give the results that it asks for: each log that stood before goes on so
 pub record Befalls (event : Scripted) (old : Runner) (before : ScriptServers) (new : Runner) (after : ScriptServers) : Type 0 where
   pub mid : ScriptServers
@@ -82,6 +100,7 @@ pub record Befalls (event : Scripted) (old : Runner) (before : ScriptServers) (n
   pub fit : AreFit event results
   pub asked : AreAskedBy event old before results
   pub goes : (opening : ℕ → List ℕ → Option Item) (tree : ℕ → Route) (log : List (Entry dialect)) → Stands opening tree log (kept_of old before) → (g : GoesOnSaid opening tree log event (kept_of new after)) × HasCalls results g.more log
+  pub turns : (opening : ℕ → List ℕ → Option Item) (tree : ℕ → Route) (log : List (Entry dialect)) (stands : Stands opening tree log (kept_of old before)) → TakesTurns event results (goes opening tree log stands).0.more log
 
 -- the log goes on, and clients said a beginning of what the event says
 pub record GoesOnInPart (opening : ℕ → List ℕ → Option Item) (tree : ℕ → Route) (log : List (Entry dialect)) (event : Scripted) (k : Kept) : Type 0 where

@@ -7,7 +7,7 @@ ghost use Rattle.fleet_run.specs.Scripted.{Scripted, Now, Moment, loss_of, scrip
 ghost use Rattle.script_servers.specs.Servers.{count_of};
 ghost use Rattle.core_run.specs.Breaking.{StopsFed};
 ghost use Rattle.core_run.specs.Running.{MovesFed, AreStalled, KeepStalled, IsAtRest};
-ghost use Rattle.stepped_run.specs.Stepping.{FedBy, FedInPart, Befalls, BreaksOff, IsHeard, RestsAfter, HandsOut, HandsOutAll, HandsSome};
+ghost use Rattle.stepped_run.specs.Stepping.{FedInTurn, FedInPart, Befalls, BreaksOff, IsHeard, RestsAfter, HandsOut, HandsOutAll, HandsSome};
 
 use core_run::Runner;
 use fleet_run::{Event, Output, PIECE_CUT, Transcript};
@@ -21,7 +21,7 @@ fn serve(
     client: usize,
     bytes: &[u8],
 ) -> Result<(), FleetFault>
-    ensures ok { OnOk result (FedBy client bytes.now runner.old servers.old runner.new servers.new) }
+    ensures ok { OnOk result (FedInTurn client bytes.now runner.old servers.old runner.new servers.new) }
     ensures count { count_of servers.new ≡ count_of servers.old }
     ensures clients { OnOk result (runner.new.clients ≡ runner.old.clients) }
     ensures rest { OnOk result (IsAtRest runner.new) }
@@ -38,7 +38,7 @@ fn piece(
     client: usize,
     bytes: &[u8],
 ) -> Result<(), FleetFault>
-    ensures ok { OnOk result (FedBy client bytes.now runner.old servers.old runner.new servers.new) }
+    ensures ok { OnOk result (FedInTurn client bytes.now runner.old servers.old runner.new servers.new) }
     ensures count { count_of servers.new ≡ count_of servers.old }
     ensures opened { OnOk result ((client < runner.new.clients) × (runner.old.clients ≤ runner.new.clients)) }
     ensures rest { OnOk result (IsAtRest runner.new) }

@@ -1,6 +1,6 @@
 use Rattle.std.proofs.Common.{◌≡◌, ◌<◌, ◌≤◌, ◌++◌, ℕ, List, length}
 use Rattle.script_servers.specs.Servers.{count_of}
-use Rattle.stepped_run.specs.Stepping.{FedBy}
+use Rattle.stepped_run.specs.Stepping.{FedInTurn}
 use Rattle.stepped_run.proofs.events.piece.Given as goal
 
 abbrev pub decreases-loop-rest : goal.decreases-loop-rest
@@ -8,7 +8,7 @@ decreases-loop-rest l = length l.rest
 
 abbrev pub invariant-loop-rest : goal.invariant-loop-rest
 invariant-loop-rest l = record {
-  fed : (before : List ℕ) × (l.fn.bytes ≡ before ++ l.rest) × FedBy l.fn.client before l.fn.runner l.fn.servers l.runner l.servers;
+  fed : (before : List ℕ) × (l.fn.bytes ≡ before ++ l.rest) × FedInTurn l.fn.client before l.fn.runner l.fn.servers l.runner l.servers;
   count : count_of l.servers ≡ count_of l.fn.servers;
   opened : (l.fn.client < l.runner.clients) × (l.fn.runner.clients ≤ l.runner.clients);
 }
