@@ -1,6 +1,6 @@
 -- Each row of the table, answered in the meta dialect, fits its ask, agrees with what is held, and leaves what the definition of a call says.
 use Rattle.std.proofs.lemmas.Int.{ints}
-use Rattle.std.proofs.Common.{◌≡◌, ℕ, ◌+◌, ◌-◌, ◌<◌, ◌≤◌, ◌^◌, min, ℤ, pos, negsuc, ◌≤ℤ◌, ◌<ℤ◌, Bool, true, false, cond, ◌&&◌, List, [], ◌∷◌, ◌++◌, length, Option, Some, None, is_some, IsSome, IfSome, refl, sym, ap, subst, ◌∙◌, arith, ltb, append-nil}
+use Rattle.std.proofs.Common.{◌≡◌, ℕ, ◌+◌, ◌-◌, ◌<◌, ◌≤◌, ◌^◌, Bool, true, false, cond, ◌&&◌, List, [], ◌∷◌, ◌++◌, length, Option, Some, None, is_some, IsSome, IfSome, refl, sym, ap, subst, ◌∙◌, arith, ltb, append-nil}
 use Rattle.std.specs.Bool.{then_some}
 use Rattle.std.specs.Fmt.{decimal}
 use Rattle.mc_text.specs.Number.{number_below}
@@ -24,13 +24,13 @@ use Rattle.mc_types.specs.declared.answer.Answer.TheVariants as answers
 use Rattle.cache_server.specs.declared.item.CacheItem.{CacheItem}
 use Rattle.cache_server.specs.declared.item.Entry.{Entry}
 use Rattle.cache_server.specs.declared.decision.Change.{Change}
-use Rattle.cache_server.specs.declared.decision.Change.TheVariants.{Leaves, Removes, Renews, Stores}
+use Rattle.cache_server.specs.declared.decision.Change.TheVariants.{Leaves, Renews, Stores}
 use Rattle.cache_server.specs.declared.decision.Decision.{Decision}
 use Rattle.cache_server.specs.declared.decision.Verdict.TheVariants.{OutOfMemory}
 use Rattle.cache_server.specs.Expiry.{ttl_of, expiry_after}
 use Rattle.cache_server.specs.Contents.{next_number}
 use Rattle.cache_server.specs.Sound.{IsItem, IsEntry, IsChange}
-use Rattle.cache_server.specs.Table.{meta_answer, done_answer, fields_of, bare, left_by, finds, begun, renewed, joins, counts_to, is_other, where_absent, where_held}
+use Rattle.cache_server.specs.Table.{meta_answer, done_answer, fields_of, left_by, finds, begun, renewed, joins, counts_to, is_other, where_absent, where_held}
 use Rattle.cache_server.specs.Held.{item_of}
 use Rattle.cache_server.proofs.TableLemmas.{counted_below}
 use Rattle.cache_server.proofs.ChangeLemmas.{left, shown}

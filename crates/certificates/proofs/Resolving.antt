@@ -2,7 +2,7 @@
 use Rattle.std.proofs.Common.{◌≡◌, ℕ, ◌%◌, Bool, true, false, cond, ◌&&◌, List, [], Option, Some, None, refl, sym, ap, ap₂, ◌∙◌}
 use Rattle.std.specs.Int.{◌∣◌}
 use Rattle.route_tree.specs.Plan as plan
-use Rattle.route_tree.specs.Plan.{Plan, Plans, PlanPolicies}
+use Rattle.route_tree.specs.Plan.{Plan}
 use Rattle.route_tree.specs.Each.{Each}
 use Rattle.route_tree.specs.Route.{Route, Routes, Policies, Prefixes, Pool, Server, Null, Failing, AllSync, Failover, MissFailover, WarmUp, ByOperation, ByPrefix, End, More, Otherwise, Policy, Wildcard, Prefix}
 use Rattle.route_tree.specs.At.{begins, is_longer, plain_for, plain_for_all, plain_for_policies, plain_for_prefixes}

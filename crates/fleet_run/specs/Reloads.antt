@@ -1,5 +1,5 @@
 -- When reloads come, and which tree is in use after them. Source: mcgate's own.
-use Rattle.std.specs.Prelude.{◌≡◌, ℕ, zero, suc, ◌≤◌, Bool, true, false, List, [], ◌∷◌, length, Option, Some, None, slice_get}
+use Rattle.std.specs.Prelude.{ℕ, zero, suc, ◌≤◌, Bool, true, false, List, [], ◌∷◌, length, Option, Some, None, slice_get}
 use Rattle.route_tree.specs.Route.{Route}
 use Rattle.fleet_run.specs.declared.script.Reload.{Reload}
 

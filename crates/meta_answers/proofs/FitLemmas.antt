@@ -1,25 +1,20 @@
 -- What a line says fits its ask.
 use Rattle.std.proofs.lemmas.Int.{ints}
-use Rattle.std.proofs.Common.{◌≡◌, ℕ, ◌+◌, ◌^◌, ◌<◌, ◌≤◌, ℤ, pos, negsuc, ◌≤ℤ◌, ◌<ℤ◌, Bool, true, false, not, ltb, eqb, ◌&&◌, List, [], ◌∷◌, length, Option, Some, None, is_some, IfSome, IsSome, refl, sym, ap, subst, ◌∙◌, arith}
+use Rattle.std.proofs.Common.{◌≡◌, ℕ, ◌+◌, ◌^◌, ◌<◌, ◌≤◌, pos, negsuc, Bool, true, false, not, ltb, eqb, ◌&&◌, List, [], ◌∷◌, length, Option, Some, None, is_some, IfSome, refl, arith}
 use Rattle.std.specs.Prelude.{codes, option_map, if◌then◌else◌}
 use Rattle.std.specs.Option.{option_and_then}
 use Rattle.std.specs.Str.{bytes_eq}
 use Rattle.std.specs.Str.Parse.{digits_value}
 use Rattle.std.proofs.lemmas.Bool.{cond_both, ltb-true}
 use Rattle.mc_text.specs.Number.{number_below, is_number}
-use Rattle.mc_types.specs.Asks.{data_limit, HasShapeOf, meta_shape, of_delete}
-use Rattle.mc_types.specs.Tokens.{wants, are_served, LetterC, LetterF, LetterK, LetterS, LetterT, LetterV}
-use Rattle.mc_types.specs.Fits.{AreFieldsInRange, IsTtl, StandAs, AreBare, IsSizeOf, IsNumberText, FitsMetaFetch, FitsMetaStore, FitsMetaDelete, FitsMetaCount, FitsMetaCode}
-use Rattle.mc_types.specs.declared.token.Token.{Token}
+use Rattle.mc_types.specs.Asks.{data_limit}
+use Rattle.mc_types.specs.Tokens.{wants, LetterC, LetterF, LetterK, LetterS, LetterT, LetterV}
+use Rattle.mc_types.specs.Fits.{AreFieldsInRange, IsTtl, StandAs}
 use Rattle.mc_types.specs.declared.token.Token.TheVariants as tokens
-use Rattle.mc_types.specs.declared.ask.Op.{Op}
-use Rattle.mc_types.specs.declared.ask.Op.TheVariants.{Get, Gat, Set, Add, Replace, Append, Prepend, Cas, Delete, Incr, Decr, Touch}
 use Rattle.mc_types.specs.declared.ask.Ask.{Ask}
 use Rattle.mc_types.specs.declared.answer.Code.{Code}
 use Rattle.mc_types.specs.declared.answer.Code.TheVariants.{Hd, Va, En, Ns, Ex, Nf}
-use Rattle.mc_types.specs.declared.answer.Fields.{Fields}
 use Rattle.meta_answers.specs.declared.told.Told.{Told}
-use Rattle.meta_answers.specs.declared.line.ValueLine.{ValueLine}
 use Rattle.meta_answers.specs.declared.line.MetaLine.{MetaLine}
 use Rattle.meta_answers.specs.declared.line.MetaLine.TheVariants.{Done, Value, Other}
 use Rattle.meta_answers.specs.Told.{none_told, fields_told}

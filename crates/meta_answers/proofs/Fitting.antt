@@ -1,8 +1,8 @@
 -- What a line says fits the ask, code by code.
-use Rattle.std.proofs.Common.{◌≡◌, ℕ, ◌<◌, ◌≤◌, ◌^◌, Bool, true, false, not, eqb, ◌&&◌, List, [], ◌∷◌, length, Option, Some, None, is_some, IfSome, IsSome, refl, sym, ap, subst, ◌∙◌, arith}
+use Rattle.std.proofs.Common.{◌≡◌, ℕ, ◌^◌, Bool, true, false, not, eqb, ◌&&◌, List, [], ◌∷◌, length, Option, Some, None, is_some, refl, sym, subst, ◌∙◌}
 use Rattle.std.proofs.lemmas.Bool.{eqb-true}
 use Rattle.mc_text.specs.Number.{number_below}
-use Rattle.mc_types.specs.Asks.{data_limit, HasShapeOf, meta_shape, of_delete}
+use Rattle.mc_types.specs.Asks.{HasShapeOf, meta_shape, of_delete}
 use Rattle.mc_types.specs.Tokens.{wants, are_served, LetterC, LetterF, LetterS, LetterT, LetterV}
 use Rattle.mc_types.specs.Fits.{AreFieldsInRange, StandAs, AreBare, IsSizeOf, IsNumberText, FitsMetaCode}
 use Rattle.mc_types.specs.declared.token.Token.{Token}
@@ -13,10 +13,9 @@ use Rattle.mc_types.specs.declared.ask.Ask.{Ask}
 use Rattle.mc_types.specs.declared.answer.Code.{Code}
 use Rattle.mc_types.specs.declared.answer.Code.TheVariants.{Hd, Va, En, Ns, Ex, Nf}
 use Rattle.mc_types.specs.declared.answer.Fields.{Fields}
-use Rattle.meta_answers.specs.declared.told.Told.{Told}
 use Rattle.meta_answers.specs.Told.{none_told, fields_told}
-use Rattle.meta_answers.specs.Line.{takes, is_count, all_stand, is_size}
-use Rattle.meta_answers.proofs.FitLemmas.{both, IsTold, is_bare, told_stand, told_range}
+use Rattle.meta_answers.specs.Line.{takes, is_count, is_size}
+use Rattle.meta_answers.proofs.FitLemmas.{is_bare}
 
 second : (a b : Bool) → (a && b) ≡ true → b ≡ true
 second true b e = e

@@ -1,5 +1,5 @@
 -- The line of a fitting meta answer is read back.
-use Rattle.std.proofs.Common.{◌≡◌, ℕ, ◌+◌, ◌<◌, ◌≤◌, ◌^◌, Bool, true, false, not, eqb, ◌&&◌, List, [], ◌∷◌, length, Option, Some, None, is_some, IfSome, IsSome, refl, sym, ap, subst, ◌∙◌, arith}
+use Rattle.std.proofs.Common.{◌≡◌, ℕ, ◌+◌, ◌≤◌, ◌^◌, Bool, true, false, not, eqb, ◌&&◌, List, [], ◌∷◌, length, Option, Some, None, is_some, IfSome, refl, sym, ap, subst, ◌∙◌, arith}
 use Rattle.std.specs.Prelude.{codes, decimal}
 use Rattle.std.proofs.lemmas.Bool.{eq-eqb}
 use Rattle.mc_text.specs.Number.{number_below}
@@ -16,8 +16,6 @@ use Rattle.mc_types.specs.declared.answer.Code.{Code}
 use Rattle.mc_types.specs.declared.answer.Code.TheVariants.{Hd, Va, En, Ns, Ex, Nf}
 use Rattle.mc_types.specs.declared.answer.Fields.{Fields}
 use Rattle.meta_answers.specs.declared.told.Told.{Told}
-use Rattle.meta_answers.specs.declared.line.ValueLine.{ValueLine}
-use Rattle.meta_answers.specs.declared.line.MetaLine.{MetaLine}
 use Rattle.meta_answers.specs.declared.line.MetaLine.TheVariants.{Done, Value, Other}
 use Rattle.meta_answers.specs.Told.{none_told, fields_told}
 use Rattle.meta_answers.specs.Tokens.{with_words}

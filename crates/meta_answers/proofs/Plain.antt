@@ -1,9 +1,8 @@
 -- The words of a meta answer's line hold no byte below 33, and the line is short.
 use Rattle.std.proofs.lemmas.Int.{ints}
-use Rattle.std.proofs.Common.{◌≡◌, ℕ, zero, suc, ◌+◌, ◌^◌, ◌<◌, ◌≤◌, ℤ, pos, negsuc, Bool, true, false, cond, not, eqb, leb, ◌&&◌, ◌||◌, List, [], ◌∷◌, ◌++◌, length, Option, Some, None, IfSome, All, refl, sym, ap, subst, ◌∙◌, arith, inl, inr}
+use Rattle.std.proofs.Common.{◌≡◌, ℕ, suc, ◌+◌, ◌^◌, ◌<◌, ◌≤◌, ℤ, pos, negsuc, Bool, true, false, not, eqb, leb, ◌||◌, List, [], ◌∷◌, ◌++◌, length, Option, Some, None, IfSome, All, refl, ap, ◌∙◌, arith, inl, inr}
 use Rattle.std.specs.Prelude.{codes, decimal, FitsSigned}
 use Rattle.std.specs.Fmt.{signed_decimal}
-use Rattle.std.specs.List.{AllByRecursion}
 use Rattle.std.proofs.lemmas.Bool.{cases_lt, lt-ltb, leb-true}
 use Rattle.std.proofs.lemmas.Fmt.{length-decimal-le}
 use Rattle.std.proofs.lemmas.List.{length-append}
@@ -12,9 +11,9 @@ use mir.Syntax.{w64}
 use Rattle.mc_text.specs.Spelling.{spaced}
 use Rattle.mc_text.proofs.Spaced.{IsPlain, ArePlain, all_plain, literal, decimal_word, signed_word}
 use Rattle.mc_types.specs.KeyText.{IsKey, is_key_byte}
-use Rattle.mc_types.specs.OpaqueText.{IsOpaque, is_opaque_byte}
+use Rattle.mc_types.specs.OpaqueText.{is_opaque_byte}
 use Rattle.mc_types.specs.Asks.{data_limit}
-use Rattle.mc_types.specs.Tokens.{Letter, LetterC, LetterF, LetterK, LetterS, LetterT, LetterV, LetterO, wants, are_served, letter_of}
+use Rattle.mc_types.specs.Tokens.{Letter, LetterC, LetterF, LetterK, LetterS, LetterT, LetterO, wants, are_served}
 use Rattle.mc_types.specs.Fits.{AreFieldsInRange, IsTtl}
 use Rattle.mc_types.specs.declared.token.Token.{Token}
 use Rattle.mc_types.specs.declared.token.Token.TheVariants.{Cas, Flags, Key, Size, Ttl, Value, Opaque}
@@ -23,7 +22,7 @@ use Rattle.mc_types.specs.declared.answer.Code.TheVariants.{Hd, Va, En, Ns, Ex, 
 use Rattle.mc_types.specs.declared.answer.Fields.{Fields}
 use Rattle.meta_answers.specs.Fitting.{AreTexts}
 use Rattle.meta_answers.specs.Line.{code_word}
-use Rattle.meta_answers.specs.Spelling.{number_token, ttl_token, token_words, tokens_words, len_words, led}
+use Rattle.meta_answers.specs.Spelling.{number_token, ttl_token, tokens_words, len_words, led}
 use Rattle.meta_answers.proofs.FitLemmas.{both}
 use Rattle.meta_answers.proofs.Pieces.{led-append, spaced-led}
 use Rattle.meta_answers.proofs.TokensBack.{once_only}

@@ -1,7 +1,6 @@
 -- What holds of the lines of meta answers, for every ask.
-use Rattle.std.specs.Prelude.{◌≡◌, ℕ, Bool, true, List, ◌++◌, Option, Some, None, is_some, IfSome, length}
+use Rattle.std.specs.Prelude.{List}
 use Rattle.std.specs.List.{AllByRecursion}
-use Rattle.mc_text.specs.Number.{number_below}
 use Rattle.mc_types.specs.OpaqueText.{IsOpaque}
 use Rattle.mc_types.specs.declared.token.Token.{Token}
 use Rattle.mc_types.specs.declared.token.Token.TheVariants as tokens

@@ -12,7 +12,6 @@ use Rattle.mc_types.specs.declared.ask.Ask.{Ask}
 use Rattle.mc_types.specs.declared.answer.Code.{Code}
 use Rattle.mc_types.specs.declared.answer.Code.TheVariants.{Hd, Va, En, Ns, Ex, Nf}
 use Rattle.meta_answers.specs.declared.told.Told.{Told}
-use Rattle.meta_answers.specs.declared.line.ValueLine.{ValueLine}
 use Rattle.meta_answers.specs.declared.line.MetaLine.{MetaLine}
 use Rattle.meta_answers.specs.declared.line.MetaLine.TheVariants.{Done, Value, Other}
 use Rattle.meta_answers.specs.Told.{none_told}

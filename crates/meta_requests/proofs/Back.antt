@@ -1,6 +1,6 @@
 -- What was written is read back, as the one ask that it is.
 use Rattle.std.proofs.Common.{◌≡◌, ℕ, suc, ◌+◌, ◌^◌, ◌<◌, ◌≤◌, Bool, true, false, not, ◌&&◌, List, [], ◌∷◌, ◌++◌, length, Option, Some, None, Ok, refl, sym, ap, subst, ◌∙◌, All, arith}
-use Rattle.std.specs.Prelude.{ℤ, pos, negsuc, IfSome, IsSome, map, codes, decimal, unwrap_or, FitsSigned}
+use Rattle.std.specs.Prelude.{ℤ, pos, negsuc, IfSome, IsSome, codes, decimal, unwrap_or, FitsSigned}
 use Rattle.std.specs.Fmt.{signed_decimal}
 use Rattle.std.specs.List.{AllByRecursion}
 use mir.Syntax.{w64}
@@ -11,10 +11,10 @@ use Rattle.std.proofs.lemmas.List.Elements.{All-cons}
 use Rattle.mc_text.specs.Spelling.{line_of}
 use Rattle.mc_text.proofs.Spaced.{IsPlain, literal, decimal_word, signed_word, all_plain}
 use Rattle.mc_types.specs.KeyText.{IsKey}
-use Rattle.mc_types.specs.OpaqueText.{IsOpaque, is_opaque_byte}
+use Rattle.mc_types.specs.OpaqueText.{is_opaque_byte}
 use Rattle.mc_types.specs.Tokens.{Letter, LetterC, LetterF, LetterK, LetterS, LetterT, LetterV, LetterO, has_letter, wants, are_served}
 use Rattle.mc_types.specs.Tokens as served
-use Rattle.mc_types.specs.Asks.{IsAsk, IsExptime, HasShape, HasShapeOf, shape_of, data_limit, of_get, of_store, of_delete, of_count}
+use Rattle.mc_types.specs.Asks.{IsExptime, HasShape, HasShapeOf, shape_of, data_limit, of_get, of_store, of_delete, of_count}
 use Rattle.mc_types.specs.Asks as shapes
 use Rattle.mc_types.specs.declared.token.Token.{Token}
 use Rattle.mc_types.specs.declared.token.Token.TheVariants as tokens
@@ -22,18 +22,17 @@ use Rattle.mc_types.specs.declared.ask.Ask.{Ask}
 use Rattle.mc_types.specs.declared.ask.Op.{Op}
 use Rattle.mc_types.specs.declared.ask.Op.TheVariants as ops
 use Rattle.mc_types.specs.declared.ask.Dialect.{Dialect}
-use Rattle.mc_types.specs.declared.ask.Dialect.TheVariants.{Meta}
-use Rattle.request_parts.specs.Tests.{Word, ◌>>=◌, fitting, block_text}
+use Rattle.request_parts.specs.Tests.{Word, ◌>>=◌}
 use Rattle.request_parts.specs.Message.{Served}
 use Rattle.request_parts.proofs.Tokens.{IsToken, AreTokens, fits, key_token, decimal_token, key_back, small_back, begins_plain, begins_block}
 use Rattle.meta_requests.specs.declared.command.Kind.{Kind}
 use Rattle.meta_requests.specs.declared.command.Kind.TheVariants.{Get, Store, Delete, Count}
 use Rattle.meta_requests.specs.declared.command.Values.{Values}
 use Rattle.meta_requests.specs.Flags.{values_of, tokens_in, flags_of, mode_of, is_some}
-use Rattle.meta_requests.specs.Order.{order_of, sets, mixes, comparing}
+use Rattle.meta_requests.specs.Order.{order_of, mixes, comparing}
 use Rattle.meta_requests.specs.Grammar.{meta_grammar}
 use Rattle.meta_requests.specs.Message.{Begins}
-use Rattle.meta_requests.specs.Spelling.{kind_of, kind_word, mode_letter, mode_word, token_word, token_words, cas_words, exptime_words, value_words, flag_words, length_words, block_by, line_words, length_for, order_for}
+use Rattle.meta_requests.specs.Spelling.{kind_of, kind_word, mode_letter, mode_word, token_word, token_words, cas_words, exptime_words, value_words, flag_words, block_by, line_words, order_for}
 use Rattle.meta_requests.specs.Asks.{IsText, IsMetaAsk, get_op, store_op, ask_by, asks_by, is_quiet}
 use Rattle.meta_requests.specs.ReadBack.{AsksAreReadBack, MessagesAreOneAsk}
 use Rattle.meta_requests.proofs.ServedLemmas.{served_by}

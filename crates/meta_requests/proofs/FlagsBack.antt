@@ -1,5 +1,5 @@
 -- The flags of a spelled ask are let through, and say what the ask says.
-use Rattle.std.proofs.Common.{◌≡◌, ℕ, ◌+◌, ◌^◌, ◌<◌, ◌≤◌, Bool, true, false, not, eqb, ◌||◌, ◌&&◌, List, [], ◌∷◌, ◌++◌, length, Option, Some, None, Ok, refl, sym, ap, ◌∙◌, append_assoc}
+use Rattle.std.proofs.Common.{◌≡◌, ℕ, ◌+◌, ◌^◌, Bool, true, false, not, eqb, ◌||◌, ◌&&◌, List, [], ◌∷◌, ◌++◌, length, Option, Some, Ok, refl, sym, ap, ◌∙◌, append_assoc}
 use Rattle.std.specs.List.{AllByRecursion, list_all}
 use Rattle.std.proofs.lemmas.Bool.{and_parts, le-leb, ne_eqb, eq-eqb}
 use Rattle.std.proofs.lemmas.List.{append-nil}
@@ -13,7 +13,7 @@ use Rattle.mc_types.specs.declared.token.Token.TheVariants as tokens
 use Rattle.request_parts.specs.Tests.{Word, ◌>>=◌}
 use Rattle.meta_requests.specs.declared.command.Kind.{Kind}
 use Rattle.meta_requests.specs.declared.command.Values.{Values}
-use Rattle.meta_requests.specs.Flags.{letter_of, text_of, is_served, stands_in, has_value, is_opaque, flag_of, flags_of, says, read_in, values_of, tokens_in, wanted, mode_of}
+use Rattle.meta_requests.specs.Flags.{letter_of, text_of, is_served, stands_in, has_value, is_opaque, flag_of, flags_of, read_in, values_of, tokens_in, wanted, mode_of}
 use Rattle.meta_requests.specs.Spelling.{token_word, token_words}
 use Rattle.meta_requests.specs.Asks.{IsText}
 use Rattle.meta_requests.proofs.SeenLemmas.{stands-more, else_none}

@@ -1,5 +1,5 @@
 -- A line is read as what it means.
-use Rattle.std.proofs.Common.{◌≡◌, ℕ, ◌+◌, ◌-◌, ◌≤◌, List, [], ◌++◌, length, take, drop, Option, Some, Ok, refl, sym, ap, subst, ◌∙◌, arith}
+use Rattle.std.proofs.Common.{◌≡◌, ℕ, ◌+◌, ◌-◌, List, [], ◌++◌, length, take, drop, Some, Ok, refl, sym, ap, subst, ◌∙◌, arith}
 use Rattle.std.proofs.lemmas.List.{length-append, take_at}
 use Rattle.mc_text.specs.Line.{TakesLine, without_cr}
 use Rattle.mc_text.specs.Word.{words, text_at}
@@ -16,7 +16,7 @@ use Rattle.meta_requests.specs.declared.command.Read.{Read}
 use Rattle.meta_requests.specs.declared.command.Read.TheVariants as reads
 use Rattle.meta_requests.specs.declared.command.Request.{Request}
 use Rattle.meta_requests.specs.Flags.{values_of}
-use Rattle.meta_requests.specs.Order.{Order, Asking, order_of}
+use Rattle.meta_requests.specs.Order.{Order, order_of}
 use Rattle.meta_requests.specs.Places.{order_in, flags_in, AreFlags, LiesIn}
 use Rattle.meta_requests.specs.Grammar.{meta_grammar, block_len}
 use Rattle.meta_requests.specs.Message.{Message, Begins, Reads, IsMeant, IsPlaced, meaning, message_in, command_block_len}

@@ -1,17 +1,15 @@
 -- One flag more.
-use Rattle.std.proofs.Common.{◌≡◌, ◌≢◌, ℕ, suc, ◌+◌, ◌<◌, ◌≤◌, Bool, true, false, not, eqb, ◌||◌, List, [], ◌∷◌, ◌++◌, length, drop, get_or, set, replicate, Option, Some, None, Result, Ok, Err, refl, sym, ap, subst, ◌∙◌, append_assoc, arith, inl, inr}
+use Rattle.std.proofs.Common.{◌≡◌, ℕ, ◌+◌, ◌<◌, ◌≤◌, Bool, true, false, eqb, ◌||◌, List, [], ◌∷◌, ◌++◌, length, drop, get_or, set, replicate, Option, Some, None, refl, sym, ap, ◌∙◌, append_assoc, arith, inl, inr}
 use Rattle.std.specs.List.{list_any}
 use Rattle.std.proofs.lemmas.Bool.{cases_eq, ne_eqb, eq-eqb}
 use Rattle.std.proofs.lemmas.List.{length-set, get_or-set_same, get_or-set_other, get_or-replicate, length-replicate}
 use Rattle.std.proofs.lemmas.List.Folds.{list_any-append}
 use Rattle.mc_text.specs.Word.{words, text_at, IsNextWord}
 use Rattle.mc_text.specs.declared.word.Span.{Span}
-use Rattle.request_parts.specs.declared.refusal.RefusalReason.{RefusalReason}
-use Rattle.request_parts.specs.declared.refusal.RefusalReason.TheVariants.{FlagNotServed, FlagTwice, BadToken}
 use Rattle.request_parts.specs.Tests.{Word, ◌>>=◌}
 use Rattle.meta_requests.specs.declared.command.Kind.{Kind}
 use Rattle.meta_requests.specs.declared.command.Values.{Values}
-use Rattle.meta_requests.specs.Flags.{letter_of, text_of, is_served, stands_in, has_value, flag_of, flags_of, or_else, says, read_in, values_of, value_more}
+use Rattle.meta_requests.specs.Flags.{letter_of, stands_in, flags_of, or_else, says, read_in, values_of, value_more}
 use Rattle.meta_requests.specs.Places.{HasSeen, Passes}
 
 -- no letter was seen

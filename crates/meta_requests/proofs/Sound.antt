@@ -1,6 +1,6 @@
 -- The ask of a message that is served is well formed.
 use Rattle.std.proofs.Common.{◌≡◌, ℕ, ◌^◌, ◌<◌, ◌≤◌, Bool, true, false, eqb, ◌||◌, List, [], ◌∷◌, length, Option, Some, None, Result, Ok, Err, refl, sym, ap, subst, ◌∙◌, arith, inl, inr}
-use Rattle.std.specs.Prelude.{ℤ, pos, IfSome, IsSome, unwrap_or, if◌then◌else◌}
+use Rattle.std.specs.Prelude.{ℤ, pos, IfSome, unwrap_or, if◌then◌else◌}
 use Rattle.std.specs.List.{AllByRecursion}
 use Rattle.std.proofs.lemmas.Bool.{cases_Bool}
 use Rattle.std.proofs.lemmas.Int.{ints}
@@ -9,14 +9,14 @@ use Rattle.mc_text.specs.declared.word.Span.{Span}
 use Rattle.mc_text.specs.Number.{number_below, signed_number}
 use Rattle.mc_types.specs.KeyText.{IsKey}
 use Rattle.mc_types.specs.Tokens.{are_served}
-use Rattle.mc_types.specs.Asks.{IsAsk, IsExptime, AreInRange, data_limit, of_get, of_store, of_delete, of_count}
+use Rattle.mc_types.specs.Asks.{IsAsk, IsExptime, data_limit, of_get, of_store, of_count}
 use Rattle.mc_types.specs.declared.token.Token.{Token}
 use Rattle.mc_types.specs.declared.ask.Ask.{Ask}
 use Rattle.mc_types.specs.declared.ask.Op.{Op}
 use Rattle.mc_types.specs.declared.ask.Op.TheVariants as ops
 use Rattle.request_parts.specs.declared.refusal.RefusalReason.{RefusalReason}
 use Rattle.request_parts.specs.declared.refusal.RefusalReason.TheVariants.{FlagNotServed}
-use Rattle.request_parts.specs.Tests.{Word, ◌>>=◌, key_of, u32_of, fitting}
+use Rattle.request_parts.specs.Tests.{Word, ◌>>=◌, key_of, u32_of}
 use Rattle.request_parts.specs.Message.{Served, Refusal}
 use Rattle.request_parts.proofs.Ranges.{passed, is_ok, a_key, below_limit, signed, fits}
 use Rattle.request_parts.proofs.Sound.{IsServed, served_sound}
@@ -33,10 +33,10 @@ use Rattle.meta_requests.specs.Flags.{letter_of, text_of, or_else, says, read_in
 use Rattle.meta_requests.specs.Order.{Order, Asking, OfItself, asking, storing, noop, mixes, comparing, ordered_by, order_of}
 use Rattle.meta_requests.specs.Places.{order_in, flags_in, LiesIn}
 use Rattle.meta_requests.specs.Grammar.{meta_grammar, block_len}
-use Rattle.meta_requests.specs.Message.{Begins, IsReadFrom, message_in}
-use Rattle.meta_requests.specs.Asks.{ask_by, asks_by, asks_of, IsText, IsMetaAsk, get_op, store_op, bare_ask}
+use Rattle.meta_requests.specs.Message.{Begins, IsReadFrom}
+use Rattle.meta_requests.specs.Asks.{ask_by, asks_by, IsText, IsMetaAsk, get_op, store_op, bare_ask}
 use Rattle.meta_requests.specs.Laws.{AsksAreWellFormed}
-use Rattle.meta_requests.proofs.ServedLemmas.{served_by, AreServed, are_let_through}
+use Rattle.meta_requests.proofs.ServedLemmas.{served_by, are_let_through}
 
 -- the data of `ms` isn't too long
 abbrev pub IsShort : Option ℕ → Type 0

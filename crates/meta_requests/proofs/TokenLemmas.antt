@@ -1,6 +1,5 @@
 -- The return flags of a line, one after another.
 use Rattle.std.proofs.Common.{◌≡◌, ℕ, List, [], ◌∷◌, ◌++◌, drop, Some, None, refl, sym, ap, ◌∙◌, append_assoc}
-use Rattle.std.specs.List.{filter_map}
 use Rattle.mc_text.specs.Word.{words, text_at, IsNextWord}
 use Rattle.mc_text.specs.declared.word.Span.{Span}
 use Rattle.mc_types.specs.declared.token.Token.{Token}

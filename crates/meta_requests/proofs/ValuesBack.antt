@@ -1,5 +1,5 @@
 -- The flags with a value of a spelled ask, and what they say.
-use Rattle.std.proofs.Common.{◌≡◌, ℕ, ◌^◌, ◌<◌, true, false, List, [], ◌∷◌, ◌++◌, Option, Some, None, refl, arith}
+use Rattle.std.proofs.Common.{◌≡◌, ℕ, ◌^◌, ◌<◌, false, [], ◌∷◌, ◌++◌, Option, Some, None, refl, arith}
 use Rattle.std.specs.Prelude.{ℤ, IfSome, decimal}
 use Rattle.std.specs.Fmt.{signed_decimal}
 use Rattle.mc_text.specs.Number.{number_below, signed_number}

@@ -1,5 +1,5 @@
 -- What a meta message asks. Source: memcached's protocol.txt, "Meta Commands": the modes, and what a flag that is left out stands for.
-use Rattle.std.specs.Prelude.{◌≡◌, ℕ, ℤ, pos, Bool, true, false, List, [], ◌∷◌, Option, Some, None, unwrap_or}
+use Rattle.std.specs.Prelude.{◌≡◌, ℕ, ℤ, pos, Bool, false, List, [], ◌∷◌, Option, Some, None, unwrap_or}
 use Rattle.std.specs.List.{AllByRecursion}
 use Rattle.mc_types.specs.OpaqueText.{IsOpaque}
 use Rattle.mc_types.specs.Asks.{IsAsk}

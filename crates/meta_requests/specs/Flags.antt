@@ -1,5 +1,5 @@
 -- The flags of a meta line: which are served, in which order they are tested, and what they say. Source: memcached's protocol.txt, "Meta Commands"; which of its flags are served, that none may stand twice, the order of the tests and the length of `O` are mcgate's own.
-use Rattle.std.specs.Prelude.{◌≡◌, ℕ, ◌^◌, ◌&&◌, ◌||◌, ℤ, Bool, true, false, not, List, [], ◌∷◌, ◌++◌, length, drop, Option, Some, None, Result, Ok, Err, nat_le, ◌==◌, if◌then◌else◌, slice_index, codes}
+use Rattle.std.specs.Prelude.{ℕ, ◌^◌, ◌&&◌, ◌||◌, Bool, true, false, not, List, [], ◌∷◌, ◌++◌, length, drop, Option, Some, None, Result, Ok, Err, nat_le, ◌==◌, if◌then◌else◌, slice_index, codes}
 use Rattle.std.specs.List.{list_all, list_any, filter_map}
 use Rattle.mc_text.specs.Number.{number_below, signed_number}
 use Rattle.mc_types.specs.declared.limits.TheConstants.{OPAQUE_LIMIT}

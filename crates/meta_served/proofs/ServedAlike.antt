@@ -5,12 +5,11 @@ use Rattle.mc_types.specs.declared.ask.Op.{Op}
 use Rattle.mc_types.specs.declared.ask.Op.TheVariants.{Get, Gat, Set, Add, Replace, Append, Prepend, Cas, Delete, Incr, Decr, Touch}
 use Rattle.mc_types.specs.declared.ask.Dialect.{Dialect}
 use Rattle.mc_types.specs.declared.ask.Dialect.TheVariants.{Classic, Meta}
-use Rattle.mc_types.specs.declared.answer.Answer.{Answer}
 use Rattle.text_codec.specs.Replies.{shows_values}
 use Rattle.cache_server.specs.declared.item.Entry.{Entry}
 use Rattle.cache_server.specs.declared.decision.Decision.{Decision}
-use Rattle.cache_server.specs.Contents.{Contents, held}
-use Rattle.cache_server.specs.Table.{where_absent, where_held, decided, settled, decided_in, changed, left_by, meta_answer, classic_answer, answer_in, Serves}
+use Rattle.cache_server.specs.Contents.{held}
+use Rattle.cache_server.specs.Table.{where_absent, where_held, decided, settled, decided_in, changed, left_by, meta_answer, classic_answer, answer_in}
 use Rattle.meta_asks.specs.Form.{is_retrieval, wanted, meta_form}
 use Rattle.meta_asks.specs.Reading.{SaysSame}
 use Rattle.meta_served.specs.Alike.{MetaGetsAreServedAlike}

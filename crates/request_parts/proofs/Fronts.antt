@@ -1,10 +1,9 @@
 -- A stream begins with one line, and no message begins where none is whole.
 use Rattle.std.proofs.Common.{◌≡◌, ◌≢◌, ℕ, zero, suc, ◌+◌, ◌-◌, ◌≤◌, List, [], ◌∷◌, ◌++◌, length, take, drop, get_or, All, Option, Some, None, refl, sym, ap, subst, ◌∙◌, arith, inl, inr}
 use Rattle.std.proofs.lemmas.Bool.{cases_lt}
-use Rattle.std.proofs.lemmas.List.{length-append, length-take, drop-take, get_or-take}
+use Rattle.std.proofs.lemmas.List.{length-append, length-take, drop-take}
 use Rattle.std.proofs.Math.Seq.{get_or-append_seam}
-use Rattle.std.proofs.lemmas.List.Elements.{All-tail}
-use Rattle.mc_text.specs.Line.{IsOneLine, IsLine, IsOpen, IsTooLong, TakesLine, without_cr, LF}
+use Rattle.mc_text.specs.Line.{IsLine, IsOpen, IsTooLong, TakesLine, without_cr, LF}
 use Rattle.mc_text.specs.Word.{text_at}
 use Rattle.mc_text.proofs.Stays.{one_line, not_too_long}
 use Rattle.mc_text.specs.declared.word.Span.{Span}

@@ -6,15 +6,13 @@ use Rattle.std.proofs.lemmas.Bool.{cases_Bool}
 use Rattle.std.proofs.lemmas.List.{append-nil}
 use Rattle.serde_json.specs.Data.{Data, null, boolean, number, string, array, object, Members}
 use Rattle.serde_json.specs.Find.{get}
-use Rattle.route_tree.specs.Route.{Route}
 use Rattle.route_names.specs.declared.holders.Holder.TheVariants as holders
 use Rattle.server_addresses.specs.ServerTexts.{server_in}
-use Rattle.route_json.specs.declared.pools.WeightedServer.{WeightedServer}
-use Rattle.route_json.specs.Fault.{Fault, BadField, EmptyPool, TooManyServers}
+use Rattle.route_json.specs.Fault.{Fault}
 use Rattle.route_json.specs.Fields.{only, value_or, list_or, object_or}
-use Rattle.route_json.specs.Servers.{Addresses, numbered_at, numbered, server_or, server_of_text}
+use Rattle.route_json.specs.Servers.{Addresses, numbered_at, numbered, server_or}
 use Rattle.route_json.specs.Pools.{server_of, few_slots, servers_in, pool_list, pool_object, pool_of, pools_in}
-use Rattle.route_json.specs.Reading.{Reading, then_read, ◌>>=◌, give, fail, pure, each, named, members, values}
+use Rattle.route_json.specs.Reading.{Reading, then_read, ◌>>=◌, pure, each, named, members, values}
 use Rattle.route_json.specs.Configs.{tree_of, object_after, config_after, read_after}
 
 -- the list begins with the one before it

@@ -5,7 +5,7 @@ use Rattle.std.proofs.Math.Nat.{mod-mod_of_dvd}
 use Rattle.std.specs.Prelude.{slice_index}
 use Rattle.std.proofs.lemmas.Bool.{eqb-true, eq-eqb}
 use Rattle.route_tree.specs.Plan as plan
-use Rattle.route_tree.specs.Plan.{Plan, Plans, PlanPolicies}
+use Rattle.route_tree.specs.Plan.{Plan}
 use Rattle.route_tree.specs.Route.{Route, Routes, Policies, Prefixes, Pool, Server, Null, Failing, AllSync, Failover, MissFailover, WarmUp, ByOperation, ByPrefix, End, More, Otherwise, Policy, Wildcard, Prefix, IsGood, AreGood, ArePoliciesGood, ArePrefixesGood, IsTree}
 use Rattle.route_tree.specs.At.{begins, is_longer, best_or, plain_for, plain_for_all, plain_for_policies, plain_for_prefixes}
 use Rattle.route_tree.specs.Each.{Each}

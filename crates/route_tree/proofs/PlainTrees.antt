@@ -1,7 +1,7 @@
 -- What is left of a tree is a plain tree, and what is left of a selector is what is left of the route that it chooses.
 use Rattle.std.proofs.Common.{◌≡◌, ℕ, ◌+◌, ◌<◌, ◌≤◌, max, Bool, true, false, cond, ◌&&◌, List, Option, Some, None, refl, ap, ◌∙◌, arith}
 use Rattle.route_tree.specs.Plan as plan
-use Rattle.route_tree.specs.Plan.{Plan, Plans, PlanPolicies}
+use Rattle.route_tree.specs.Plan.{Plan}
 use Rattle.route_tree.specs.Route.{Route, Routes, Policies, Prefixes, Pool, Server, Null, Failing, AllSync, Failover, MissFailover, WarmUp, ByOperation, ByPrefix, End, More, Otherwise, Policy, Wildcard, Prefix, IsNotEmpty, IsGood, AreGood, ArePoliciesGood, ArePrefixesGood, IsTree, depth, depth_of_all, depth_of_policies, depth_of_prefixes, count, count_of_all, count_of_policies, count_of_prefixes}
 use Rattle.route_tree.specs.At.{begins, is_longer, plain_for, plain_for_all, plain_for_policies, plain_for_prefixes}
 use Rattle.route_tree.specs.RouteCode.{route_size, prefixes_route_size}

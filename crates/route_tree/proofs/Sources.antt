@@ -1,5 +1,5 @@
 -- Each call of a word asks what a server takes, and a copy is of an item that an earlier call was answered.
-use Rattle.std.proofs.Common.{◌≡◌, ℕ, zero, suc, ◌+◌, ◌≤◌, List, [], ◌∷◌, ◌++◌, length, Option, Some, None, MatchOption, ◌⊎◌, inl, inr, ⊎_elim, refl, sym, ap, ◌∙◌, subst, arith, append_assoc, append-nil, length-append, pos}
+use Rattle.std.proofs.Common.{◌≡◌, ℕ, zero, suc, ◌+◌, ◌≤◌, List, [], ◌∷◌, ◌++◌, length, Option, Some, None, MatchOption, ◌⊎◌, inl, inr, ⊎_elim, refl, sym, ap, ◌∙◌, subst, arith, append_assoc, append-nil, length-append}
 use Rattle.mc_types.specs.KeyText.{IsKey}
 use Rattle.mc_types.specs.Asks.{IsAsk, data_limit}
 use Rattle.mc_types.specs.Fits.{IsAnswer}
@@ -14,7 +14,7 @@ use Rattle.mc_runs.specs.Run.{Call}
 use Rattle.mc_runs.specs.Cover.{IsAnswerOf}
 use Rattle.route_tree.specs.Operation.{same_op}
 use Rattle.route_tree.specs.Plan.{Plan, Plans, PlanPolicies, Server, Null, Failing, AllSync, Failover, MissFailover, WarmUp, ByOperation, End, More, Otherwise, Policy}
-use Rattle.route_tree.specs.Word.{Given, rank, plain_get, refill, is_plain_get, Word, WordOfAll, WordOfFirst, WordOfHead, WordOfPolicy, Gives, AfterRefill, Refilled, AfterWarm, AfterCold, WarmUpWord}
+use Rattle.route_tree.specs.Word.{Given, rank, plain_get, refill, is_plain_get, Word, WordOfAll, WordOfFirst, WordOfHead, WordOfPolicy, AfterRefill, Refilled, AfterWarm, AfterCold, WarmUpWord}
 use Rattle.route_tree.specs.Sources.{IsFormed, IsSourced, AreAsked, CallsAreAsked}
 use Rattle.route_tree.proofs.Parts.{match_bool, if_get}
 use Rattle.route_tree.proofs.Showing.{IsFound, Found, Finds, get_front, get_back, answer_there, finds}

@@ -10,7 +10,7 @@ use Rattle.mc_types.specs.Agree.{Agrees}
 use Rattle.mc_runs.specs.Run.{End, Read, Unread, Never, outcome_of}
 use Rattle.mc_runs.specs.Fleet.{StampIn}
 use Rattle.mc_runs.specs.Single.{FitsOutcome}
-use Rattle.mc_runs.specs.Sharing.{Event, Begins, Replies, Breaks, Loses, Restarts, after_event}
+use Rattle.mc_runs.specs.Sharing.{Event, Begins, Replies, Breaks, Loses, Restarts}
 use Rattle.mc_runs.specs.Sharing as run
 use Rattle.mc_runs.specs.SharingFleet.{Fleet, after_losses, AreLosses}
 use Rattle.mc_runs.specs.ScriptLog.{lost_by}

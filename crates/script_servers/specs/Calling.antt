@@ -5,7 +5,7 @@ use Rattle.mc_types.specs.declared.answer.Answer.{Answer}
 use Rattle.mc_types.specs.declared.call.Outcome.TheVariants.{Answered, Failed}
 use Rattle.mc_runs.specs.Run.{End, Read, Unread, Never, outcome_of}
 use Rattle.mc_runs.specs.Protocol.{silence}
-use Rattle.mc_runs.specs.ScriptLog.{Manner, Before, After, Junk, Cut}
+use Rattle.mc_runs.specs.ScriptLog.{Manner, Cut}
 use Rattle.mc_runs.specs.ScriptLog as script
 use Rattle.cache_server.specs.Contents.{Contents, at_moment}
 use Rattle.cache_server.specs.Table.{Applies}

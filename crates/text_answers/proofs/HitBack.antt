@@ -18,7 +18,6 @@ use Rattle.mc_types.specs.declared.ask.Op.{Op}
 use Rattle.mc_types.specs.declared.ask.Dialect.TheVariants.{Classic}
 use Rattle.mc_types.specs.declared.ask.Op.TheVariants.{Get, Gat}
 use Rattle.mc_types.specs.declared.answer.Answer.TheVariants as answers
-use Rattle.mc_types.specs.declared.answer.Answer.TheVariants.{Stored, NotStored, Exists, NotFound, Deleted, Touched, Number, Miss, Meta, ClientError, Error, ServerError}
 use Rattle.text_answers.specs.declared.line_kinds.FirstLine.{FirstLine}
 use Rattle.text_answers.specs.declared.line_kinds.FirstLine.TheVariants.{Hit}
 use Rattle.text_answers.specs.declared.line_kinds.HitLine.{HitLine}

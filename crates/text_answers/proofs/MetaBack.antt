@@ -1,9 +1,7 @@
 -- A meta answer is read back.
-use Rattle.std.proofs.Common.{◌≡◌, ℕ, ◌+◌, ◌<◌, ◌≤◌, Bool, true, false, List, [], ◌∷◌, ◌++◌, length, Option, Some, None, is_some, refl, sym, ap, subst, ◌∙◌, append_assoc, append-nil, arith}
+use Rattle.std.proofs.Common.{◌≡◌, ℕ, ◌+◌, ◌<◌, Bool, true, false, List, [], ◌∷◌, ◌++◌, length, Option, Some, None, is_some, refl, sym, ap, subst, ◌∙◌, append_assoc, append-nil, arith}
 use Rattle.std.specs.Prelude.{codes, decimal}
-use Rattle.std.specs.List.{AllByRecursion}
 use Rattle.std.proofs.lemmas.List.{length-append}
-use Rattle.mc_text.specs.Line.{IsOneLine, CR, LF}
 use Rattle.mc_text.specs.Word.{words}
 use Rattle.mc_text.specs.Spelling.{spaced, line_of}
 use Rattle.mc_text.proofs.Spaced.{IsPlain, ArePlain, literal, plain_words, plain_line, plain_lines, words-spaced, spaced_line}
@@ -11,7 +9,6 @@ use Rattle.mc_types.specs.KeyText.{IsKey}
 use Rattle.mc_types.specs.Asks.{HasShapeOf, Shape, meta_shape}
 use Rattle.mc_types.specs.Tokens.{Letter, are_served}
 use Rattle.mc_types.specs.Fits.{AreFieldsInRange, FitsMetaCode}
-use Rattle.mc_types.specs.declared.ask.Op.{Op}
 use Rattle.mc_types.specs.declared.ask.Ask.{Ask}
 use Rattle.mc_types.specs.declared.ask.Dialect.TheVariants as dialects
 use Rattle.mc_types.specs.declared.answer.Code.{Code}
@@ -26,7 +23,7 @@ use Rattle.meta_answers.specs.declared.line.MetaLine.TheVariants as lines
 use Rattle.meta_answers.specs.Fitting.{AreTexts}
 use Rattle.meta_answers.specs.Told.{none_told, fields_told}
 use Rattle.meta_answers.specs.Line.{code_word, is_count, meta_said}
-use Rattle.meta_answers.specs.Spelling.{tokens_words, len_words, meta_words, data_block, meta_spelling}
+use Rattle.meta_answers.specs.Spelling.{tokens_words, meta_words, meta_spelling}
 use Rattle.meta_answers.proofs.TokensBack.{telling_all}
 use Rattle.meta_answers.proofs.LineBack.{done_back, value_back, bare_back, is_data_of, va_number, va_stands}
 use Rattle.meta_answers.proofs.Plain.{words_plain, words_short}

@@ -1,22 +1,21 @@
 -- What a line says to a meta ask fits it.
-use Rattle.std.proofs.Common.{◌≡◌, ℕ, ◌+◌, ◌^◌, ◌≤◌, Bool, true, false, ◌&&◌, List, [], ◌∷◌, length, Option, Some, None, is_some, IfSome, refl, sym, subst, ◌∙◌, arith}
+use Rattle.std.proofs.Common.{◌≡◌, ℕ, ◌^◌, ◌≤◌, Bool, true, false, List, [], ◌∷◌, length, Option, Some, None, is_some, IfSome, refl, sym, subst, ◌∙◌, arith}
 use Rattle.std.specs.Prelude.{codes}
 use Rattle.std.specs.Str.{bytes_eq}
 use Rattle.std.proofs.lemmas.Bool.{cond_both}
 use Rattle.mc_text.specs.Number.{number_below}
 use Rattle.mc_text.specs.Word.{words}
 use Rattle.mc_types.specs.Asks.{data_limit, HasShapeOf, shape_of, meta_shape}
-use Rattle.mc_types.specs.Fits.{FitsIn, FitsMeta, FitsMetaCode, IsAnswer, IsErrorText, AreFieldsInRange}
+use Rattle.mc_types.specs.Fits.{FitsIn, FitsMeta, IsAnswer, IsErrorText}
 use Rattle.mc_types.specs.declared.ask.Ask.{Ask}
 use Rattle.mc_types.specs.declared.ask.Dialect.{Dialect}
 use Rattle.mc_types.specs.declared.ask.Dialect.TheVariants as dialects
-use Rattle.mc_types.specs.declared.answer.Code.TheVariants.{Hd, Va}
 use Rattle.mc_types.specs.declared.answer.Answer.{Answer}
 use Rattle.mc_types.specs.declared.answer.Answer.TheVariants as answers
 use Rattle.meta_answers.specs.declared.line.MetaLine.{MetaLine}
 use Rattle.meta_answers.specs.declared.line.MetaLine.TheVariants as lines
 use Rattle.meta_answers.specs.Told.{none_told, fields_told}
-use Rattle.meta_answers.specs.Line.{is_count, meta_said}
+use Rattle.meta_answers.specs.Line.{meta_said}
 use Rattle.meta_answers.proofs.FitLemmas.{IsLineOf, said_is, told_stand, told_range}
 use Rattle.meta_answers.proofs.Fitting.{none_bare, none_range, hd_fits, bare_fits, va_fits}
 use Rattle.text_answers.specs.declared.line_kinds.FirstLine.{FirstLine}

@@ -2,7 +2,7 @@
 use Rattle.std.proofs.Common.{◌≡◌, ℕ, true, false, List, [], ◌∷◌, Option, Some, None, refl, sym}
 use Rattle.std.specs.Prelude.{ℤ, pos, IsSome, unwrap_or}
 use Rattle.mc_types.specs.Tokens.{are_served}
-use Rattle.mc_types.specs.Asks.{IsAsk, IsExptime, HasShape, HasShapeOf, shape_of, AreInRange, data_limit, classic_shape}
+use Rattle.mc_types.specs.Asks.{HasShape, classic_shape}
 use Rattle.mc_types.specs.Asks as shapes
 use Rattle.mc_types.specs.declared.token.Token.{Token}
 use Rattle.mc_types.specs.declared.ask.Ask.{Ask}

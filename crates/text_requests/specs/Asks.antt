@@ -1,5 +1,5 @@
 -- What a message asks, one ask for each key. Source: memcached's protocol.txt, the lines of each command.
-use Rattle.std.specs.Prelude.{◌≡◌, ℕ, ◌+◌, ◌≤◌, ℤ, Bool, true, false, List, [], ◌∷◌, Option, Some, None, map, take, drop}
+use Rattle.std.specs.Prelude.{◌≡◌, ℕ, ◌+◌, ◌≤◌, ℤ, Bool, false, List, [], ◌∷◌, Option, Some, None, map, take, drop}
 use Rattle.mc_text.specs.Word.{words}
 use Rattle.mc_types.specs.Asks.{IsAsk}
 use Rattle.mc_types.specs.declared.ask.Op.{Op}

@@ -1,5 +1,5 @@
 -- A tree has no more routes than its limit counts.
-use Rattle.std.proofs.Common.{ℕ, ◌+◌, ◌^◌, ◌<◌, ◌≤◌, arith}
+use Rattle.std.proofs.Common.{◌+◌, ◌^◌, ◌<◌, ◌≤◌, arith}
 use Rattle.route_tree.specs.Route.{Route, Routes, Policies, Prefixes, Pool, Server, Null, Failing, AllSync, Failover, MissFailover, WarmUp, ByOperation, ByPrefix, End, More, Otherwise, Policy, Wildcard, Prefix, count, count_of_all, count_of_policies, count_of_prefixes, IsTree}
 use Rattle.tree_picture.specs.Nodes.{nodes, nodes_of_all, nodes_of_policies, nodes_of_prefixes}
 

@@ -1,6 +1,5 @@
 use Rattle.std.proofs.Common.{◌≡◌, ◌≤◌, ◌-◌, length, drop}
 use Rattle.mc_text.specs.Word.{words}
-use Rattle.return_flags.specs.Wanted.{wanted_of}
 use Rattle.meta_answers.specs.Told.{none_told}
 use Rattle.meta_answers.specs.Tokens.{with_words}
 use Rattle.meta_answers.proofs.token.tokens_told.Given as goal

@@ -1,4 +1,4 @@
-use Rattle.std.proofs.Common.{ℕ, ◌-◌, length}
+use Rattle.std.proofs.Common.{◌-◌, length}
 use Rattle.meta_requests.proofs.SeenLemmas.{IsAt}
 use Rattle.meta_requests.proofs.flags.flags.Given as goal
 

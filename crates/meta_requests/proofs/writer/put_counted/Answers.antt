@@ -1,6 +1,6 @@
 use Rattle.std.proofs.Common.{◌≡◌, ◌∙◌, ℕ, List, ◌++◌, ◌∷◌, [], ap, decimal}
 use Rattle.std.proofs.lemmas.Result.{on_ok_weaker}
-use Rattle.meta_requests.specs.Spelling.{led, cas_words, exptime_words, mode_letter, mode_word}
+use Rattle.meta_requests.specs.Spelling.{led, cas_words, exptime_words, mode_word}
 use Rattle.meta_requests.proofs.WriteLemmas.{led-four}
 use Rattle.meta_requests.proofs.writer.put_counted.Goals as goal
 

@@ -1,4 +1,4 @@
-use Rattle.std.proofs.Common.{sym, ◌∙◌, arith}
+use Rattle.std.proofs.Common.{arith}
 use Rattle.script_servers.specs.declared.event.Loss.TheVariants.{Item, Restart}
 use Rattle.script_servers.proofs.CacheLosses.{item_contents, item_held, all_contents, all_held, beyond_contents, beyond_held}
 use Rattle.script_servers.proofs.losing.lose_one.Goals as goal

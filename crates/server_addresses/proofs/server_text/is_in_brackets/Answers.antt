@@ -1,4 +1,4 @@
-use Rattle.std.proofs.Common.{◌≡◌, ◌&&◌, ◌∙◌, sym, ap, ap₂, codes, true, Bool, nat_eq}
+use Rattle.std.proofs.Common.{◌≡◌, ◌&&◌, ◌∙◌, sym, ap, codes, true, Bool, nat_eq}
 use Rattle.std.specs.List.{starts_with, ends_with}
 use Rattle.std.proofs.lemmas.Str.Pattern.{starts_text, ends_text}
 use Rattle.server_addresses.proofs.server_text.is_in_brackets.Goals as goal

@@ -1,7 +1,4 @@
-use Rattle.std.proofs.Common.{◌≡◌, subst}
-use Rattle.meta_requests.specs.declared.command.Command.{Command}
 use Rattle.meta_requests.specs.declared.command.Command.TheVariants as commands
-use Rattle.meta_requests.specs.Places.{order_in}
 use Rattle.meta_requests.proofs.Sound.{request_sound, made}
 use Rattle.meta_requests.proofs.command.Request.ask.Goals as goal
 
