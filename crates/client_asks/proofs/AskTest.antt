@@ -1,14 +1,12 @@
 -- An ask that passes the test is one that a client can write.
-use Rattle.std.proofs.Common.{◌≡◌, ℕ, true, false, cond, List, Option, Some, None, refl, subst}
-use Rattle.std.specs.Prelude.{Bool, Result, Ok, Err, is_some, length, nat_lt, position, ◌==◌, ◌&&◌}
+use Rattle.std.proofs.Common.{◌≡◌, ℕ, ◌<◌, true, false, List, Option, Some, None, refl, ap, arith}
+use Rattle.std.specs.Prelude.{Bool, IsTrue, ◌↔◌, not, is_some, length, ◌==◌, ◌&&◌}
+use Rattle.std.specs.Cmp.Derive.{both_true}
 use Rattle.std.proofs.lemmas.List.{nil_from_length}
 use Rattle.std.proofs.lemmas.Bool.{eqb-true, and_parts}
-use Rattle.mc_types.specs.Fault.{read_key, read_bytes}
-use Rattle.mc_types.specs.KeyText.{IsKey, is_bad_byte}
-use Rattle.mc_types.specs.declared.key.KeyFault.TheVariants.{Empty, TooLong}
-use Rattle.mc_types.specs.declared.limits.TheConstants.{KEY_LIMIT}
+use Rattle.mc_types.specs.KeyText.{IsKey}
 use Rattle.mc_types.specs.Tokens.{Letter, LetterC, LetterF, LetterK, LetterS, LetterT, LetterV, LetterO, same_letter, are_served}
-use Rattle.mc_types.specs.Asks.{AreInRange, Presence, Absent, Optional, Required, Shape, FlagIs, NumberIs, OptionIs, BytesAre, HasShape, HasShapeOf, shape_of, IsAsk}
+use Rattle.mc_types.specs.Asks.{AreInRange, Presence, Absent, Optional, Required, Shape, FlagIs, NumberIs, OptionIs, BytesAre, HasShape, HasShapeOf, shape_of, data_limit, IsAsk}
 use Rattle.mc_types.specs.declared.ask.Ask.{Ask}
 use Rattle.client_asks.specs.Asks.{place_of, flag_is, number_is, some_is, has_shape, has_shape_of}
 
@@ -56,26 +54,49 @@ shape_of_ok : (ask : Ask) (shape : Option Shape) → has_shape_of ask shape ≡ 
 shape_of_ok ask None e = absurd cc
 shape_of_ok ask (Some shape) e = shape_ok ask shape e
 
-pub ask_is : (ask : Ask) → IsKey ask.key → AreInRange ask → has_shape_of ask (shape_of ask.dialect ask.op) ≡ true → IsAsk ask
-ask_is ask key ranges e = record { key = key; ranges = ranges; shape = shape_of_ok ask (shape_of ask.dialect ask.op) e }
+flag_back : (p : Presence) (flag : Bool) → FlagIs p flag → flag_is p flag ≡ true
+flag_back Absent flag e = ap not e
+flag_back Optional flag e = refl
+flag_back Required flag e = refl
 
-not_err : {A B : Type 0} (b : Bool) (fault : B) (rest : Result A B) (x : A) → cond b (Err fault) rest ≡ Ok x → rest ≡ Ok x
-not_err true fault rest x e = absurd cc
-not_err false fault rest x e = e
+number_back : (p : Presence) (n : ℕ) → NumberIs p n → number_is p n ≡ true
+number_back Absent n e = ap (λ m. m == 0) e
+number_back Optional n e = refl
+number_back Required n e = refl
 
-bytes_are : (text key : List ℕ) (at : Option ℕ) → read_bytes text at ≡ Ok key → key ≡ text
-bytes_are text key None e = cc
-bytes_are text key (Some at) e = absurd cc
+some_back : {A : Type 0} (p : Presence) (o : Option A) → OptionIs p o → some_is p (is_some o) ≡ true
+some_back Absent o e = ap (λ p. not (is_some p)) e
+some_back Optional o e = refl
+some_back Required o e = e
 
--- what was read as a key is the text
-pub read_is : (text key : List ℕ) → read_key text ≡ Ok key → key ≡ text
-read_is text key e =
-    bytes_are text key (position is_bad_byte text)
-    (not_err (nat_lt KEY_LIMIT (length text)) TooLong (read_bytes text (position is_bad_byte text)) key
-    (not_err (length text == 0) Empty (cond (nat_lt KEY_LIMIT (length text)) (Err TooLong) (read_bytes text (position is_bad_byte text))) key e))
+bytes_back : (p : Presence) (bytes : List ℕ) → BytesAre p bytes → number_is p (length bytes) ≡ true
+bytes_back Absent bytes e = ap (λ l. length l == 0) e
+bytes_back Optional bytes e = refl
+bytes_back Required bytes e = refl
 
-pub key_is : (text key : List ℕ) → read_key text ≡ Ok key → IsKey key → IsKey text
-key_is text key e is = subst IsKey (read_is text key e) is
+shape_back : (ask : Ask) (shape : Shape) → HasShape ask shape → has_shape ask shape ≡ true
+shape_back ask shape h =
+    both_true (flag_back shape.with_cas ask.with_cas h.with_cas)
+    (both_true (number_back shape.flags ask.flags h.flags)
+    (both_true (some_back shape.exptime ask.exptime h.exptime)
+    (both_true (bytes_back shape.body ask.body h.body)
+    (both_true (some_back shape.cas ask.cas h.cas)
+    (both_true (number_back shape.delta ask.delta h.delta) h.tokens)))))
+
+shape_of_back : (ask : Ask) (shape : Option Shape) → HasShapeOf ask shape → has_shape_of ask shape ≡ true
+shape_of_back ask None h = absurd h
+shape_of_back ask (Some shape) h = shape_back ask shape h
+
+-- an ask whose key is one and whose numbers are in range is one that a client can write exactly where it has the fields of its operation
+pub test_is : (ask : Ask) → IsKey ask.key → AreInRange ask → IsTrue (has_shape_of ask (shape_of ask.dialect ask.op)) ↔ IsAsk ask
+test_is ask key ranges = (
+  (λ e. record { key = key; ranges = ranges; shape = shape_of_ok ask (shape_of ask.dialect ask.op) e }),
+  (λ is. shape_of_back ask (shape_of ask.dialect ask.op) is.shape),
+)
+
+-- one with too much data is none
+pub too_long : (ask : Ask) → data_limit < length ask.body → IsTrue false ↔ IsAsk ask
+too_long ask lt = ((λ e. absurd (cc e)), (λ is. absurd (omega (arith, lt, is.ranges.body))))
 
 -- letters are the same where their places are
 pub place_same : (a b : Letter) → (place_of a == place_of b) ≡ same_letter a b

@@ -1,13 +1,13 @@
 //! Whether an ask is one that a client can write.
 
-ghost use Rattle.std.specs.Prelude.{◌≡◌, ◌≤◌, ◌<◌, ◌^◌, IsTrue, IfSome, option_map, length};
+ghost use Rattle.std.specs.Prelude.{◌≡◌, ◌≤◌, ◌<◌, ◌^◌, ◌↔◌, IsTrue, IfSome, option_map, length};
 ghost use Rattle.mc_types.specs.Asks.{IsAsk, AreInRange, IsExptime, data_limit, classic_shape, meta_shape, shape_of};
 ghost use Rattle.mc_types.specs.KeyText.{IsKey};
 ghost use Rattle.mc_types.specs.Tokens.{letter_of, same_letter, has_letter, wants, are_served};
 ghost use Rattle.client_asks.specs.Asks.{presence_of, letters_of, fields_of, flag_is, number_is, some_is, place_of, has_shape, has_shape_of};
 ghost use Rattle.client_asks.specs.declared.asks.Occurs.TheVariants as occurs;
 
-use mc_types::{Ask, DATA_LIMIT, Dialect, Key, Op, Token};
+use mc_types::{Ask, DATA_LIMIT, Dialect, Op, Token};
 
 /// Whether a field stands in an ask.
 #[derive(Clone, Copy)]
@@ -265,24 +265,15 @@ fn has_shape(ask: &Ask) -> bool
     }
 }
 
-#[tactic(auto, using(crate::proofs::AskTest::key_is))]
-fn has_key(ask: &Ask) -> bool
-    ensures { IsTrue result → IsKey ask.now.key }
-{
-    match Key::read(ask.key.as_bytes()) {
-        Ok(_) => true,
-        Err(_) => false,
-    }
-}
-
 /// Whether the ask is one that a client can write. Each ask of the core is, so a link tests it and no condition on tickets is kept.
-#[tactic(auto, using(crate::proofs::AskTest::ask_is))]
+#[tactic(auto, using(crate::proofs::AskTest::too_long))]
 pub fn is_ask(ask: &Ask) -> bool
-    ensures { IsTrue result → IsAsk ask.now }
+    ensures { IsTrue result ↔ IsAsk ask.now }
 {
     if ask.body.len() > DATA_LIMIT as usize {
         return false;
     }
+    ask.key.bytes_are_a_key();
     ask.numbers_in_range();
-    has_key(ask) && has_shape(ask)
+    has_shape(ask)
 }

@@ -1,3 +1,4 @@
+pub mod Bodies
 pub mod Padded
 pub mod KeyText
 pub mod Inverse

@@ -2,26 +2,37 @@
 
 ghost use Rattle.std.specs.Prelude.{◌≡◌, [], IfOk, length};
 
+use bytes::Bytes;
 use std::alloc::{AllocError, Global};
 use std::marker::Model;
 use std::rc::RcSlice;
+
+// Where the bytes are.
+#[derive(Drop)]
+enum Held {
+    // There are none.
+    Nothing,
+    // In memory of their own.
+    Own(RcSlice<u8>),
+    // In the buffer that they came in, which lasts as long as they do.
+    Cut(Bytes),
+}
 
 /// The data of an item: bytes that are shared and never changed.
 ///
 /// An empty body takes no memory, and a copy shares the bytes of its source.
 #[derive(Drop)]
 pub struct Body {
-    shared: Option<RcSlice<u8>>,
+    held: Held,
 }
 
 impl Model for Body {
-    ghost use Rattle.std.specs.Prelude.{List, ℕ, []};
-    ghost use Rattle.std.specs.Option.{option_map_or};
-    ghost use Rattle.std.specs.Rc.{rc_slice_items};
+    ghost use Rattle.std.specs.Prelude.{List, ℕ};
+    ghost use Rattle.mc_types.specs.Bodies.{bytes_held};
 
     ghost Value = { List ℕ };
 
-    ghost view = { λ b. option_map_or rc_slice_items b.shared [] };
+    ghost view = { λ b. bytes_held b.held };
 }
 
 impl Body {
@@ -29,7 +40,9 @@ impl Body {
     pub fn empty() -> Body
         ensures { result ≡ [] }
     {
-        Body { shared: None }
+        Body {
+            held: Held::Nothing,
+        }
     }
 
     /// A copy of the bytes. The only error is running out of memory, never for an empty slice.
@@ -40,7 +53,7 @@ impl Body {
             return Ok(Body::empty());
         }
         Ok(Body {
-            shared: Some(RcSlice::from_slice(alloc, bytes)?),
+            held: Held::Own(RcSlice::from_slice(alloc, bytes)?),
         })
     }
 
@@ -49,17 +62,27 @@ impl Body {
         ensures { IfOk result (λ body. body ≡ bytes.items) }
     {
         Ok(Body {
-            shared: Some(RcSlice::from_vec(bytes)?),
+            held: Held::Own(RcSlice::from_vec(bytes)?),
         })
+    }
+
+    /// These bytes, which are shared with the buffer that they came in: all of it lasts as long as the body does. It takes no memory.
+    pub fn cut(bytes: Bytes) -> Body
+        ensures { result ≡ bytes }
+    {
+        Body {
+            held: Held::Cut(bytes),
+        }
     }
 
     /// The bytes.
     pub fn as_slice(&self) -> &[u8]
         ensures { result.now ≡ self.now }
     {
-        match &self.shared {
-            None => b"".as_slice(),
-            Some(bytes) => bytes.as_slice(),
+        match &self.held {
+            Held::Nothing => b"".as_slice(),
+            Held::Own(bytes) => bytes.as_slice(),
+            Held::Cut(bytes) => bytes.as_slice(),
         }
     }
 
@@ -74,11 +97,11 @@ impl Body {
     pub fn copy(&self) -> Result<Body, AllocError>
         ensures { IfOk result (λ body. body ≡ self.now) }
     {
-        match &self.shared {
-            None => Ok(Body::empty()),
-            Some(bytes) => Ok(Body {
-                shared: Some(bytes.clone()?),
-            }),
-        }
+        let held = match &self.held {
+            Held::Nothing => Held::Nothing,
+            Held::Own(bytes) => Held::Own(bytes.clone()?),
+            Held::Cut(bytes) => Held::Cut(bytes.clone()?),
+        };
+        Ok(Body { held })
     }
 }

@@ -101,6 +101,13 @@ impl Key {
         }
     }
 
+    /// Its bytes are those of a key. It does nothing.
+    pub fn bytes_are_a_key(&self)
+        ensures { IsKey self.now }
+    {
+        let _len = self.len;
+    }
+
     /// The bytes of the key.
     pub fn as_bytes(&self) -> &[u8]
         ensures { result.now ≡ self.now }
