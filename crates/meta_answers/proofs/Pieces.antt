@@ -1,12 +1,12 @@
 -- The pieces that a line is written in.
 use Rattle.std.proofs.Common.{◌≡◌, ℕ, List, [], ◌∷◌, ◌++◌, length, take, refl, sym, ap, ◌∙◌, append_assoc, append-nil}
 use Rattle.std.specs.Prelude.{codes}
-use Rattle.mc_text.specs.Spelling.{spaced}
+use Rattle.mc_text.specs.Spelling.{spaced, line_of}
 use Rattle.mc_types.specs.declared.ask.Ask.{Ask}
 use Rattle.mc_types.specs.declared.answer.Code.{Code}
 use Rattle.mc_types.specs.declared.answer.Fields.{Fields}
 use Rattle.meta_answers.specs.Line.{code_word}
-use Rattle.meta_answers.specs.Spelling.{tokens_words, len_words, data_block, meta_spelling, led}
+use Rattle.meta_answers.specs.Spelling.{tokens_words, len_words, meta_words, led}
 
 pub led-append : (a b : List (List ℕ)) → led (a ++ b) ≡ led a ++ led b
 led-append [] b = refl
@@ -20,16 +20,16 @@ spaced-led w (o ∷ ws) = ap (λ (t : List ℕ). w ++ 32 ∷ t) (spaced-led o ws
 pub one_more : (out old all : List ℕ) (x y : List (List ℕ)) → out ++ led (x ++ y) ≡ old ++ all → (out ++ led x) ++ led y ≡ old ++ all
 one_more out old all x y e = append_assoc out (led x) (led y) ∙ ap (λ (t : List ℕ). out ++ t) (sym (led-append x y)) ∙ e
 
-regroup : (old w x y e d : List ℕ) → ((((old ++ w) ++ x) ++ y) ++ e) ++ d ≡ old ++ (((w ++ (x ++ y)) ++ e) ++ d)
-regroup old w x y e d = simp append_assoc
+regroup : (old w x y e : List ℕ) → (((old ++ w) ++ x) ++ y) ++ e ≡ old ++ ((w ++ (x ++ y)) ++ e)
+regroup old w x y e = simp append_assoc
 
-pieces : (old w e d : List ℕ) (x y : List (List ℕ)) → ((((old ++ w) ++ led x) ++ led y) ++ e) ++ d ≡ old ++ ((spaced (w ∷ (x ++ y)) ++ e) ++ d)
-pieces old w e d x y = regroup old w (led x) (led y) e d ∙ ap (λ (t : List ℕ). old ++ ((t ++ e) ++ d)) (ap (λ (t : List ℕ). w ++ t) (sym (led-append x y)) ∙ sym (spaced-led w (x ++ y)))
+pieces : (old w e : List ℕ) (x y : List (List ℕ)) → (((old ++ w) ++ led x) ++ led y) ++ e ≡ old ++ (spaced (w ∷ (x ++ y)) ++ e)
+pieces old w e x y = regroup old w (led x) (led y) e ∙ ap (λ (t : List ℕ). old ++ (t ++ e)) (ap (λ (t : List ℕ). w ++ t) (sym (led-append x y)) ∙ sym (spaced-led w (x ++ y)))
 
--- a meta answer as it is written, piece by piece
-pub meta_pieces : (old : List ℕ) (ask : Ask) (code : Code) (fields : Fields)
-    → ((((old ++ code_word code) ++ led (len_words fields.body)) ++ led (tokens_words ask.key fields ask.tokens)) ++ codes "\r\n") ++ data_block fields.body ≡ old ++ meta_spelling ask code fields
-meta_pieces old ask code fields = pieces old (code_word code) (codes "\r\n") (data_block fields.body) (len_words fields.body) (tokens_words ask.key fields ask.tokens)
+-- the line of a meta answer as it is written, piece by piece
+pub line_pieces : (old : List ℕ) (ask : Ask) (code : Code) (fields : Fields)
+    → (((old ++ code_word code) ++ led (len_words fields.body)) ++ led (tokens_words ask.key fields ask.tokens)) ++ codes "\r\n" ≡ old ++ line_of (meta_words ask code fields)
+line_pieces old ask code fields = pieces old (code_word code) (codes "\r\n") (len_words fields.body) (tokens_words ask.key fields ask.tokens)
 
 -- what begins with more than this begins with this
 pub begins : (a s x : List ℕ) → take (length (a ++ s)) x ≡ a ++ s → take (length a) x ≡ a

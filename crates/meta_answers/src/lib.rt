@@ -9,4 +9,4 @@ mod writer;
 
 pub use line::{MetaLine, ValueLine, meta_line};
 pub use told::Told;
-pub use writer::put_meta;
+pub use writer::{put_meta, put_meta_line};

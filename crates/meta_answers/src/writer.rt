@@ -2,12 +2,14 @@
 
 ghost use Rattle.std.specs.Prelude.{◌≡◌, ◌++◌, ◌∷◌, [], take, length, OnOk, OnErr, decimal};
 ghost use Rattle.std.specs.Fmt.{signed_decimal};
+ghost use Rattle.mc_text.specs.Spelling.{line_of};
 ghost use Rattle.meta_answers.specs.Spelling.{
   number_token,
   ttl_token,
   token_words,
   tokens_words,
   len_words,
+  meta_words,
   data_block,
   meta_spelling,
   led,
@@ -118,11 +120,31 @@ fn put_block(body: &Option<Body>, out: &mut BytesMut) -> Result<(), AllocError>
     out.extend_from_slice(b"\r\n")
 }
 
-/// Appends a meta answer: its code, the length of its data where it has some, the return tokens in the order of the ask's
-/// flags, and the data. One space stands between two words.
+/// Appends the line of a meta answer: its code, the length of its data where it has some, and the return tokens in the order of the ask's
+/// flags. One space stands between two words.
 ///
 /// `k` and `O` stand on the line where they were asked for, and `c`, `f`, `s` and `t` where their field is set too. The only
 /// error is running out of memory: then a part may stand after what the buffer held.
+///
+/// Source: memcached's protocol.txt, "Meta Commands".
+pub fn put_meta_line(
+    ask: &Ask,
+    code: Code,
+    fields: &Fields,
+    out: &mut BytesMut,
+) -> Result<(), AllocError>
+    ensures ok { OnOk result (out.new.items ≡ out.old.items ++ line_of (meta_words ask.now code fields.now)) }
+    ensures err { OnErr result (take (length out.old.items) out.new.items ≡ out.old.items) }
+{
+    out.extend_from_slice(code_word(code))?;
+    put_len(&fields.body, out)?;
+    put_tokens(ask.key.as_bytes(), fields, ask.tokens.as_slice(), out)?;
+    out.extend_from_slice(b"\r\n")?;
+    Ok(())
+}
+
+/// Appends a meta answer: its line, as [`put_meta_line`] does, and its data where it has some. The only error is running out of memory:
+/// then a part may stand after what the buffer held.
 ///
 /// Source: memcached's protocol.txt, "Meta Commands".
 pub fn put_meta(
@@ -134,9 +156,6 @@ pub fn put_meta(
     ensures ok { OnOk result (out.new.items ≡ out.old.items ++ meta_spelling ask.now code fields.now) }
     ensures err { OnErr result (take (length out.old.items) out.new.items ≡ out.old.items) }
 {
-    out.extend_from_slice(code_word(code))?;
-    put_len(&fields.body, out)?;
-    put_tokens(ask.key.as_bytes(), fields, ask.tokens.as_slice(), out)?;
-    out.extend_from_slice(b"\r\n")?;
+    put_meta_line(ask, code, fields, out)?;
     put_block(&fields.body, out)
 }

@@ -5,15 +5,15 @@ use Rattle.std.proofs.lemmas.List.{append-nil}
 use Rattle.mc_text.specs.Spelling.{spaced, line_of}
 use Rattle.text_answers.specs.Spelling.{cas_words, cas_text}
 
-regroup : (old v s k f n c e body : List ℕ) → ((((old ++ (v ++ (s ++ (k ++ (s ++ (f ++ (s ++ n))))))) ++ c) ++ e) ++ body) ++ e ≡ old ++ ((v ++ (s ++ (k ++ (s ++ (f ++ (s ++ (n ++ c))))))) ++ e ++ body ++ e)
-regroup old v s k f n c e body = simp append_assoc
+regroup : (old v s k f n c e : List ℕ) → ((old ++ (v ++ (s ++ (k ++ (s ++ (f ++ (s ++ n))))))) ++ c) ++ e ≡ old ++ ((v ++ (s ++ (k ++ (s ++ (f ++ (s ++ (n ++ c))))))) ++ e)
+regroup old v s k f n c e = simp append_assoc
 
--- a block as it is written, piece by piece
-pub block_pieces : (k f n body old : List ℕ) (cas : Option ℕ)
-    → ((((old ++ spaced (codes "VALUE" ∷ k ∷ f ∷ n ∷ [])) ++ cas_text cas) ++ codes "\r\n") ++ body) ++ codes "\r\n" ≡ old ++ (line_of (codes "VALUE" ∷ k ∷ f ∷ n ∷ cas_words cas) ++ body ++ codes "\r\n")
-block_pieces k f n body old None =
-    subst (λ (t : List ℕ). ((((old ++ spaced (codes "VALUE" ∷ k ∷ f ∷ n ∷ [])) ++ []) ++ codes "\r\n") ++ body) ++ codes "\r\n" ≡ old ++ ((codes "VALUE" ++ 32 ∷ (k ++ 32 ∷ (f ++ 32 ∷ t))) ++ codes "\r\n" ++ body ++ codes "\r\n")) (append-nil n) (regroup old (codes "VALUE") (32 ∷ []) k f n [] (codes "\r\n") body)
-block_pieces k f n body old (Some m) = regroup old (codes "VALUE") (32 ∷ []) k f n (32 ∷ decimal m) (codes "\r\n") body
+-- the first line of a hit as it is written, piece by piece
+pub hit_pieces : (k f n old : List ℕ) (cas : Option ℕ)
+    → ((old ++ spaced (codes "VALUE" ∷ k ∷ f ∷ n ∷ [])) ++ cas_text cas) ++ codes "\r\n" ≡ old ++ line_of (codes "VALUE" ∷ k ∷ f ∷ n ∷ cas_words cas)
+hit_pieces k f n old None =
+    subst (λ (t : List ℕ). ((old ++ spaced (codes "VALUE" ∷ k ∷ f ∷ n ∷ [])) ++ []) ++ codes "\r\n" ≡ old ++ ((codes "VALUE" ++ 32 ∷ (k ++ 32 ∷ (f ++ 32 ∷ t))) ++ codes "\r\n")) (append-nil n) (regroup old (codes "VALUE") (32 ∷ []) k f n [] (codes "\r\n"))
+hit_pieces k f n old (Some m) = regroup old (codes "VALUE") (32 ∷ []) k f n (32 ∷ decimal m) (codes "\r\n")
 
 -- what begins with more than this begins with this
 pub begins : (a s x : List ℕ) → take (length (a ++ s)) x ≡ a ++ s → take (length a) x ≡ a

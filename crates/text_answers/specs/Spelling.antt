@@ -1,7 +1,7 @@
 -- The one spelling of an answer to an ask. Source: memcached's protocol.txt, what is said of the answers of each command; that a line has one space between two words is mcgate's own.
 use Rattle.std.specs.Prelude.{ℕ, List, [], ◌∷◌, ◌++◌, Option, Some, None, length, codes, decimal}
 use Rattle.mc_text.specs.Spelling.{line_of}
-use Rattle.meta_answers.specs.Spelling.{meta_spelling}
+use Rattle.meta_answers.specs.Spelling.{meta_words, meta_spelling}
 use Rattle.mc_types.specs.declared.ask.Ask.{Ask}
 use Rattle.mc_types.specs.declared.answer.Answer.{Answer}
 use Rattle.mc_types.specs.declared.answer.Answer.TheVariants.{Stored, NotStored, Exists, NotFound, Deleted, Touched, Number, Hit, Miss, Meta, ClientError, Error, ServerError}
@@ -16,15 +16,30 @@ abbrev pub cas_text : Option ℕ → List ℕ
 cas_text None = []
 cas_text (Some cas) = 32 ∷ decimal cas
 
+-- a hit's first line, which tells of so many bytes of data
+abbrev pub hit_line : List ℕ → ℕ → ℕ → Option ℕ → List ℕ
+hit_line key flags len cas = line_of (codes "VALUE" ∷ key ∷ decimal flags ∷ decimal len ∷ cas_words cas)
+
 -- a hit's first line, its data and their end
 abbrev pub block_of : List ℕ → ℕ → List ℕ → Option ℕ → List ℕ
-block_of key flags body cas =
-    line_of (codes "VALUE" ∷ key ∷ decimal flags ∷ decimal (length body) ∷ cas_words cas) ++ body ++ codes "\r\n"
+block_of key flags body cas = hit_line key flags (length body) cas ++ body ++ codes "\r\n"
 
 -- what an answer adds to the reply to a get of several keys: a hit its block, every other nothing
 abbrev pub value_of : Ask → Answer → List ℕ
 value_of ask (Hit flags body cas) = block_of ask.key flags body cas
 value_of ask _ = []
+
+-- the data that an answer shows
+abbrev pub data_of : Answer → Option (List ℕ)
+data_of (Hit flags body cas) = Some body
+data_of (Meta code fields) = fields.body
+data_of _ = None
+
+-- the line before them
+abbrev pub data_line : Ask → Answer → List ℕ
+data_line ask (Hit flags body cas) = hit_line ask.key flags (length body) cas
+data_line ask (Meta code fields) = line_of (meta_words ask code fields)
+data_line ask _ = []
 
 -- how the reply to a get ends
 abbrev pub end_text : List ℕ

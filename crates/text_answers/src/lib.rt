@@ -9,4 +9,4 @@ pub mod reader;
 pub mod writer;
 
 pub use reader::{AnswerRead, read_answer};
-pub use writer::{write_answer, write_end, write_value};
+pub use writer::{data_of, write_answer, write_data_line, write_end, write_value};

@@ -1,6 +1,6 @@
 //! The one spelling of each answer.
 
-ghost use Rattle.std.specs.Prelude.{◌≡◌, ◌++◌, ◌∷◌, [], take, length, OnOk, OnErr, decimal, codes};
+ghost use Rattle.std.specs.Prelude.{◌≡◌, ◌++◌, ◌∷◌, [], take, length, OnOk, OnErr, option_map, decimal, codes};
 ghost use Rattle.mc_text.specs.Spelling.{spaced, line_of};
 ghost use Rattle.text_answers.specs.Spelling.{
   spelling_of,
@@ -8,13 +8,16 @@ ghost use Rattle.text_answers.specs.Spelling.{
   end_text,
   error_line,
   cas_text,
+  hit_line,
   block_of,
+  data_of,
+  data_line,
 };
 
 use bytes::BytesMut;
 use itoa::Buffer;
-use mc_types::{Answer, Ask};
-use meta_answers::put_meta;
+use mc_types::{Answer, Ask, Body};
+use meta_answers::{put_meta, put_meta_line};
 use std::alloc::AllocError;
 
 fn put_number(number: u64, out: &mut BytesMut) -> Result<(), AllocError>
@@ -51,6 +54,22 @@ fn put_hit(key: &[u8], flags: u32, len: usize, out: &mut BytesMut) -> Result<(),
     out.extend_from_slice(buffer.format(len).as_bytes())
 }
 
+fn put_hit_line(
+    key: &[u8],
+    flags: u32,
+    len: usize,
+    cas: Option<u64>,
+    out: &mut BytesMut,
+) -> Result<(), AllocError>
+    ensures ok { OnOk result (out.new.items ≡ out.old.items ++ hit_line key.now flags len cas) }
+    ensures err { OnErr result (take (length out.old.items) out.new.items ≡ out.old.items) }
+{
+    put_hit(key, flags, len, out)?;
+    put_cas(cas, out)?;
+    out.extend_from_slice(b"\r\n")?;
+    Ok(())
+}
+
 fn put_block(
     key: &[u8],
     flags: u32,
@@ -61,11 +80,10 @@ fn put_block(
     ensures ok { OnOk result (out.new.items ≡ out.old.items ++ block_of key.now flags body.now cas) }
     ensures err { OnErr result (take (length out.old.items) out.new.items ≡ out.old.items) }
 {
-    put_hit(key, flags, body.len(), out)?;
-    put_cas(cas, out)?;
-    out.extend_from_slice(b"\r\n")?;
+    put_hit_line(key, flags, body.len(), cas, out)?;
     out.extend_from_slice(body)?;
-    out.extend_from_slice(b"\r\n")
+    out.extend_from_slice(b"\r\n")?;
+    Ok(())
 }
 
 fn put_error(word: &[u8], text: &[u8], out: &mut BytesMut) -> Result<(), AllocError>
@@ -147,6 +165,48 @@ pub fn write_value(ask: &Ask, answer: &Answer, out: &mut BytesMut) -> Result<(),
 {
     let len = out.len();
     let written = put_value(ask, answer, out);
+    if written.is_err() {
+        out.truncate(len);
+    }
+    written
+}
+
+/// The data that an answer shows, if it shows some.
+pub fn data_of(answer: &Answer) -> Option<&Body>
+    ensures { option_map (λ body. body.now) result ≡ data_of answer.now }
+{
+    match answer {
+        Answer::Hit { body, .. } => Some(body),
+        Answer::Meta(_, fields) => fields.body.as_ref(),
+        _ => None,
+    }
+}
+
+fn put_data_line(ask: &Ask, answer: &Answer, out: &mut BytesMut) -> Result<(), AllocError>
+    ensures ok { OnOk result (out.new.items ≡ out.old.items ++ data_line ask.now answer.now) }
+    ensures err { OnErr result (take (length out.old.items) out.new.items ≡ out.old.items) }
+{
+    match answer {
+        Answer::Hit { flags, body, cas } => {
+            put_hit_line(ask.key.as_bytes(), *flags, body.len(), *cas, out)
+        }
+        Answer::Meta(code, fields) => put_meta_line(ask, *code, fields, out),
+        _ => Ok(()),
+    }
+}
+
+/// Appends the line that stands before the data of an answer: that of a hit, or of a meta answer. Nothing is appended for any other
+/// answer.
+///
+/// The only error is running out of memory, which leaves the buffer as it was.
+///
+/// Source: memcached's protocol.txt, "Retrieval command" and "Meta Get".
+pub fn write_data_line(ask: &Ask, answer: &Answer, out: &mut BytesMut) -> Result<(), AllocError>
+    ensures ok { OnOk result (out.new.items ≡ out.old.items ++ data_line ask.now answer.now) }
+    ensures err { OnErr result (out.new.items ≡ out.old.items) }
+{
+    let len = out.len();
+    let written = put_data_line(ask, answer, out);
     if written.is_err() {
         out.truncate(len);
     }
