@@ -1,5 +1,5 @@
 -- The pieces that a line is written in.
-use Rattle.std.proofs.Common.{◌≡◌, ℕ, List, [], ◌∷◌, ◌++◌, length, take, refl, sym, ap, ◌∙◌, append_assoc, append-nil}
+use Rattle.std.proofs.Common.{◌≡◌, ℕ, List, [], ◌∷◌, ◌++◌, refl, sym, ap, ◌∙◌, append_assoc, append-nil}
 use Rattle.std.specs.Prelude.{codes}
 use Rattle.mc_text.specs.Spelling.{spaced, line_of}
 use Rattle.mc_types.specs.declared.ask.Ask.{Ask}
@@ -30,13 +30,3 @@ pieces old w e x y = regroup old w (led x) (led y) e ∙ ap (λ (t : List ℕ). 
 pub line_pieces : (old : List ℕ) (ask : Ask) (code : Code) (fields : Fields)
     → (((old ++ code_word code) ++ led (len_words fields.body)) ++ led (tokens_words ask.key fields ask.tokens)) ++ codes "\r\n" ≡ old ++ line_of (meta_words ask code fields)
 line_pieces old ask code fields = pieces old (code_word code) (codes "\r\n") (len_words fields.body) (tokens_words ask.key fields ask.tokens)
-
--- what begins with more than this begins with this
-pub begins : (a s x : List ℕ) → take (length (a ++ s)) x ≡ a ++ s → take (length a) x ≡ a
-begins [] s x e = refl
-begins (b ∷ a) s [] e = absurd cc
-begins (b ∷ a) s (c ∷ x) e =
-    let heads : c ≡ b = cc in
-    let tails : take (length (a ++ s)) x ≡ a ++ s = cc in
-    let rest = begins a s x tails in
-    cc

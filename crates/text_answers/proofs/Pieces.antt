@@ -1,5 +1,5 @@
 -- The pieces that a line is written in.
-use Rattle.std.proofs.Common.{◌≡◌, ℕ, List, [], ◌∷◌, ◌++◌, length, take, Option, Some, None, refl, subst, append_assoc}
+use Rattle.std.proofs.Common.{◌≡◌, ℕ, List, [], ◌∷◌, ◌++◌, Option, Some, None, subst, append_assoc}
 use Rattle.std.specs.Prelude.{codes, decimal}
 use Rattle.std.proofs.lemmas.List.{append-nil}
 use Rattle.mc_text.specs.Spelling.{spaced, line_of}
@@ -14,13 +14,3 @@ pub hit_pieces : (k f n old : List ℕ) (cas : Option ℕ)
 hit_pieces k f n old None =
     subst (λ (t : List ℕ). ((old ++ spaced (codes "VALUE" ∷ k ∷ f ∷ n ∷ [])) ++ []) ++ codes "\r\n" ≡ old ++ ((codes "VALUE" ++ 32 ∷ (k ++ 32 ∷ (f ++ 32 ∷ t))) ++ codes "\r\n")) (append-nil n) (regroup old (codes "VALUE") (32 ∷ []) k f n [] (codes "\r\n"))
 hit_pieces k f n old (Some m) = regroup old (codes "VALUE") (32 ∷ []) k f n (32 ∷ decimal m) (codes "\r\n")
-
--- what begins with more than this begins with this
-pub begins : (a s x : List ℕ) → take (length (a ++ s)) x ≡ a ++ s → take (length a) x ≡ a
-begins [] s x e = refl
-begins (b ∷ a) s [] e = absurd cc
-begins (b ∷ a) s (c ∷ x) e =
-    let heads : c ≡ b = cc in
-    let tails : take (length (a ++ s)) x ≡ a ++ s = cc in
-    let rest = begins a s x tails in
-    cc
