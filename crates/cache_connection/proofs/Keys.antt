@@ -1,41 +1,28 @@
 -- The asks of a message, one after another.
-use Rattle.std.proofs.Common.{◌≡◌, ℕ, ℤ, zero, suc, ◌+◌, ◌<◌, ◌≤◌, Bool, true, false, List, [], ◌∷◌, ◌++◌, length, drop, Option, Some, None, inl, inr, refl, sym, ap, ◌∙◌, subst, arith, append_assoc, append-nil, length-append, slice_get, ◌||◌, nat_eq}
+use Rattle.std.proofs.Common.{◌≡◌, ℕ, ℤ, ◌+◌, ◌<◌, Bool, true, false, List, [], ◌∷◌, ◌++◌, length, drop, Option, Some, inl, inr, refl, sym, ap, ◌∙◌, subst, arith, append_assoc, append-nil, length-append, slice_get, ◌||◌, nat_eq}
 use Rattle.std.proofs.lemmas.Bool.{eq-eqb, cases_eq}
 use Rattle.mc_types.specs.declared.ask.Ask.{Ask}
 use Rattle.mc_types.specs.declared.answer.Answer.{Answer}
 use Rattle.mc_runs.specs.Stream.{Done, written, written_from, NoneEnds, LastEnds, IsWhole}
 use Rattle.request_parts.specs.declared.skip.Skip.TheVariants.{Nothing}
 use Rattle.client_requests.specs.declared.request.Request.{Request}
-use Rattle.client_requests.specs.Message.{Message, IsReadFrom, message_in, used_of}
-use Rattle.client_requests.specs.declared.request.Asks.{Asks}
-use Rattle.client_requests.specs.Asks.{asks_of, quiet_of, IsWalk, counted, request_of, taken_of}
+use Rattle.client_requests.specs.Message.{Message, message_in, used_of}
+use Rattle.client_requests.specs.Asks.{asks_of, quiet_of}
 use Rattle.request_parts.specs.Stream.{Place, Stands}
 use Rattle.client_requests.specs.Stream.{after_message}
-use Rattle.request_parts.proofs.Streams.{used_within}
-use Rattle.client_requests.specs.Both.{both_grammar}
 use Rattle.text_codec.specs.Held.{held_at}
 use Rattle.text_codec.specs.Replies.{is_failure, is_last, shown_text}
 use Rattle.text_codec.specs.TextProtocol.{Said, Whole, memcached_text, ReadsNext, shown_by, shown_of, ends_at}
 use Rattle.connections.specs.declared.connection.Connection.{Connection}
-use Rattle.connections.specs.Steps.{output_of, held_len, GoesTo}
+use Rattle.connections.specs.Fronts.{IsFront}
+use Rattle.connections.specs.Steps.{output_of, GoesTo, place_after, Shows}
+use Rattle.connections.proofs.Fronts.{reads_front}
+use Rattle.connections.proofs.Shorter.{next_len}
+use Rattle.connections.proofs.Requests.{request_after}
 use Rattle.cache_server.specs.Contents.{Contents}
 use Rattle.cache_connection.specs.Serving.{AnswersAsk, AnswersEach, BreaksOff}
-use Rattle.connections.specs.Steps.{place_after, Shows}
-use Rattle.cache_connection.specs.Steps.{message_at, IsFront, IsOnWay, IsAskAt, ServesAsk, ServesKey, StopsAtKey, HasBegun, ServesFront}
-use Rattle.connections.proofs.Shorter.{fewer}
-use Rattle.connections.proofs.Requests.{request_after}
+use Rattle.cache_connection.specs.Steps.{message_at, IsOnWay, IsAskAt, ServesAsk, ServesKey, StopsAtKey, HasBegun, ServesFront}
 use Rattle.cache_connection.proofs.Joined.{serves_one}
-
--- what a request uses is held
-pub used_held : (x : Connection) (request : Request) → IsFront x request → used_of request ≤ length (held_at x.stream)
-used_held x request front = used_within both_grammar (held_at x.stream) (message_at x request) (used_of request) front.read.begins
-
--- a request at the front is the next message
-pub reads_front : (x : Connection) (request : Request) → IsFront x request → ReadsNext x.stream (Whole (message_at x request)) (after_message (message_at x request) (drop (used_of request) (held_at x.stream)))
-reads_front x request front =
-    let m = message_at x request in
-    let next : Place = after_message m (drop (used_of request) (held_at x.stream)) in
-    subst (λ (p : Place). ReadsNext p (Whole m) next) (sym front.place) (used_of request, front.read.begins, refl)
 
 -- one ask was answered and shown
 pub serves_ask : (moment : ℤ) (old new : Connection) (request : Request) (i : ℕ) (ask : Ask) (contents contents' : Contents) (reply : Answer) (used : ℕ) (quiet last ended : Bool)
@@ -51,33 +38,8 @@ serves_ask moment old new request i ask contents contents' reply used quiet last
       reply = reply;
       answered = answered;
       ended_is = shows.ended_is ∙ ap (λ (l : Bool). is_failure reply || l) last_is;
-      goes = subst (λ (l : List ℕ). GoesTo old place l new) text (shows.goes (held_at old.stream) at.front.place);
+      goes = subst (λ (l : List ℕ). GoesTo old place l new) text (shows.goes (held_at old.stream) at.front.stands);
     }
-
--- the walk's next ask is the one that is served
-pub ask_at : (x : Connection) (request : Request) (asks : Asks) (i : ℕ) (bytes : List ℕ) (next : Option Ask) (ask : Ask) → IsOnWay x request asks i → bytes ≡ held_at x.stream → next ≡ Some ask
-    → next ≡ slice_get (asks_of (message_in bytes (request_of asks))) (taken_of asks) → IsAskAt x request i ask
-ask_at x request asks i bytes next ask way bytes_are is value =
-    let at : slice_get (asks_of (message_at x request)) i ≡ Some ask =
-    subst (λ (n : ℕ). slice_get (asks_of (message_at x request)) n ≡ Some ask) way.taken
-    (subst (λ (r : Request). slice_get (asks_of (message_at x r)) (taken_of asks) ≡ Some ask) way.request_is
-    (subst (λ (b : List ℕ). slice_get (asks_of (message_in b (request_of asks))) (taken_of asks) ≡ Some ask) bytes_are (sym value ∙ is))) in
-    record { front = way.front; at = at; there = way.there }
-
-none_past : {A : Type 0} (xs : List A) (i : ℕ) → slice_get xs i ≡ None → i < length xs → ⊥
-none_past [] i e lt = omega (arith, lt)
-none_past (x ∷ xs) zero e lt = cc
-none_past (x ∷ xs) (suc i) e lt = none_past xs i e (omega (arith, lt))
-
--- and there is one
-pub ask_there : (x : Connection) (request : Request) (asks : Asks) (i : ℕ) (bytes : List ℕ) (next : Option Ask) → IsOnWay x request asks i → bytes ≡ held_at x.stream → next ≡ None
-    → next ≡ slice_get (asks_of (message_in bytes (request_of asks))) (taken_of asks) → ⊥
-ask_there x request asks i bytes next way bytes_are is value =
-    none_past (asks_of (message_at x request)) i
-    (subst (λ (n : ℕ). slice_get (asks_of (message_at x request)) n ≡ None) way.taken
-    (subst (λ (r : Request). slice_get (asks_of (message_at x r)) (taken_of asks) ≡ None) way.request_is
-    (subst (λ (b : List ℕ). slice_get (asks_of (message_in b (request_of asks))) (taken_of asks) ≡ None) bytes_are (sym value ∙ is))))
-    way.there
 
 right_false : (a b : Bool) → (a || b) ≡ false → b ≡ false
 right_false true b e = absurd (cc)
@@ -95,25 +57,22 @@ not_last reply i n last is none lt =
     true_is_not_false : true ≡ false → ⊥
     true_is_not_false e = cc
 
--- where the message isn't done, the walk has come to the next ask
-pub way_on : (moment : ℤ) (x y : Connection) (request : Request) (asks asks' : Asks) (i : ℕ) (bytes : List ℕ) (next : Option Ask) (ask : Ask) (contents contents' : Contents) (ended : Bool)
-    → IsOnWay x request asks i → bytes ≡ held_at x.stream → next ≡ Some ask → request_of asks' ≡ request_of asks → taken_of asks' ≡ counted next (taken_of asks) → IsWalk bytes asks'
-    → ServesAsk moment x request i ask contents ended y contents' → ended ≡ false → IsOnWay y request asks' (i + 1)
-way_on moment x y request asks asks' i bytes next ask contents contents' ended way bytes_are is request_is taken walk served e =
+-- where the message isn't done, the next ask is next
+way_on : (moment : ℤ) (x y : Connection) (request : Request) (i : ℕ) (ask : Ask) (contents contents' : Contents) (ended : Bool) → IsOnWay x request i → ServesAsk moment x request i ask contents ended y contents' → ended ≡ false → IsOnWay y request (i + 1)
+way_on moment x y request i ask contents contents' ended way served e =
     let stays : y.stream ≡ x.stream = served.goes.place_is ∙ stays_after ended x (drop (used_of request) (held_at x.stream)) e in
-    let held : held_at x.stream ≡ held_at y.stream = ap held_at (sym stays) in
-    let front : IsFront y request = record {
-      place = subst (λ (p : Place). p ≡ Stands Nothing (held_at p)) (sym stays) way.front.place;
-      read = subst (λ (b : List ℕ). IsReadFrom b request) held way.front.read;
-    } in
     record {
-      front = front;
-      walk = subst (λ (b : List ℕ). IsWalk b asks') (bytes_are ∙ held) walk;
-      request_is = request_is ∙ way.request_is;
-      taken = taken ∙ ap (λ (o : Option Ask). counted o (taken_of asks)) is ∙ ap (λ (n : ℕ). n + 1) way.taken;
-      there = subst (λ (b : List ℕ). i + 1 < length (asks_of (message_in b request))) held
+      front = subst (λ (p : Place). IsFront p request) (sym stays) way.front;
+      there = subst (λ (p : Place). i + 1 < length (asks_of (message_in (held_at p) request))) (sym stays)
           (not_last served.reply i (length (asks_of (message_at x request))) (is_last (asks_of (message_at x request)) i) refl (sym served.ended_is ∙ e) way.there);
     }
+
+-- the ask was served
+pub serves_key : (moment : ℤ) (x z y : Connection) (request : Request) (i : ℕ) (ask : Ask) (contents contents' : Contents) (ended : Bool) → z ≡ x → IsOnWay x request i → slice_get (asks_of (message_at x request)) i ≡ Some ask
+    → ServesAsk moment z request i ask contents ended y contents' → ServesKey moment x request i contents ended y contents'
+serves_key moment x z y request i ask contents contents' ended same way at told =
+    let served : ServesAsk moment x request i ask contents ended y contents' = subst (λ (w : Connection). ServesAsk moment w request i ask contents ended y contents') same told in
+    record { ask = ask; at = record { front = way.front; at = at; there = way.there }; served = served; way = way_on moment x y request i ask contents contents' ended way served }
 
 answers_more : (moment : ℤ) (asks : List Ask) (c d e : Contents) (replies : List Answer) (ask : Ask) (reply : Answer) → AnswersEach moment asks c replies d → slice_get asks (length replies) ≡ Some ask → AnswersAsk moment ask d reply e → AnswersEach moment asks c (replies ++ reply ∷ []) e
 answers_more moment [] c d e [] ask reply each at one = absurd (cc)
@@ -169,8 +128,8 @@ place_same : (ended : Bool) (x y : Connection) (used : ℕ) → x.stream ≡ y.s
 place_same true x y used e = ap (λ (p : Place). Stands Nothing (drop used (held_at p))) e
 place_same false x y used e = e
 
-adds : (moment : ℤ) (old x y : Connection) (request : Request) (asks' : Asks) (i : ℕ) (c d e : Contents) (ended : Bool) → HasBegun moment old request c i x d → ServesKey moment x request i d ended y asks' e → Adds moment old request c i ended y e
-adds moment old x y request asks' i c d e ended b k =
+adds : (moment : ℤ) (old x y : Connection) (request : Request) (i : ℕ) (c d e : Contents) (ended : Bool) → HasBegun moment old request c i x d → ServesKey moment x request i d ended y e → Adds moment old request c i ended y e
+adds moment old x y request i c d e ended b k =
     let m : Message = message_at old request in
     let same : message_at x request ≡ m = ap (λ (p : Place). message_in (held_at p) request) b.stays in
     let count : i ≡ 0 + length b.replies = let n = b.count in omega (arith, n) in
@@ -191,9 +150,9 @@ adds moment old x y request asks' i c d e ended b k =
     }
 
 -- the message isn't done with it
-pub begins_more : (moment : ℤ) (old x y : Connection) (request : Request) (asks' : Asks) (i : ℕ) (c d e : Contents) (ended : Bool) → HasBegun moment old request c i x d → ServesKey moment x request i d ended y asks' e → ended ≡ false → HasBegun moment old request c (i + 1) y e
-begins_more moment old x y request asks' i c d e ended b k goes =
-    let a = adds moment old x y request asks' i c d e ended b k in
+pub begins_more : (moment : ℤ) (old x y : Connection) (request : Request) (i : ℕ) (c d e : Contents) (ended : Bool) → HasBegun moment old request c i x d → ServesKey moment x request i d ended y e → ended ≡ false → HasBegun moment old request c (i + 1) y e
+begins_more moment old x y request i c d e ended b k goes =
+    let a = adds moment old x y request i c d e ended b k in
     let n = a.count in
     record {
       replies = a.replies ++ a.reply ∷ [];
@@ -209,9 +168,9 @@ ended_after true x rest e = refl
 ended_after false x rest e = absurd (cc)
 
 -- the message is done with it
-pub begins_last : (moment : ℤ) (old x y : Connection) (request : Request) (asks' : Asks) (i : ℕ) (c d e : Contents) (ended : Bool) → IsFront old request → HasBegun moment old request c i x d → ServesKey moment x request i d ended y asks' e → ended ≡ true → ServesFront moment old c y e
-begins_last moment old x y request asks' i c d e ended front b k ends =
-    let a = adds moment old x y request asks' i c d e ended b k in
+pub begins_last : (moment : ℤ) (old x y : Connection) (request : Request) (i : ℕ) (c d e : Contents) (ended : Bool) → IsFront old.stream request → HasBegun moment old request c i x d → ServesKey moment x request i d ended y e → ended ≡ true → ServesFront moment old c y e
+begins_last moment old x y request i c d e ended front b k ends =
+    let a = adds moment old x y request i c d e ended b k in
     let m : Message = message_at old request in
     let rest : List ℕ = drop (used_of request) (held_at old.stream) in
     let same : message_at x request ≡ m = ap (λ (p : Place). message_in (held_at p) request) b.stays in
@@ -219,23 +178,24 @@ begins_last moment old x y request asks' i c d e ended front b k ends =
     let place : y.stream ≡ Stands Nothing rest = a.place_is ∙ ended_after ended old rest ends in
     let next : after_message m rest ≡ y.stream = request_after (held_at old.stream) request rest i k.ask at ∙ sym place in
     let done : Done memcached_text = record { message = Whole m; replies = a.replies ++ a.reply ∷ [] } in
+    let reads : ReadsNext old.stream (Whole m) y.stream = subst (ReadsNext old.stream (Whole m)) next (reads_front old.stream request front) in
     record {
       goes = record {
         text = written memcached_text (Whole m) (a.replies ++ a.reply ∷ []);
-        serves = serves_one moment old.stream y.stream c e done (subst (ReadsNext old.stream (Whole m)) next (reads_front old request front))
+        serves = serves_one moment old.stream y.stream c e done reads
             (whole_by (Whole m) a.replies a.reply (last_more (Whole m) 0 a.replies a.reply a.none (sym a.ended_is ∙ ends))) a.answered;
         output_is = a.output_is ∙ ap (λ (l : List ℕ). output_of old ++ l) (sym (written_is (Whole m) a.replies a.reply));
       };
-      shorter = subst (λ (p : Place). length (held_at p) < held_len old) (sym place) (fewer (held_at old.stream) m (used_of request) front.read.begins);
+      shorter = next_len old.stream (Whole m) y.stream reads;
     }
 
 -- running out of memory at the next ask breaks the message off
-pub begins_stops : (moment : ℤ) (old x : Connection) (request : Request) (i : ℕ) (c d e : Contents) → IsFront old request → HasBegun moment old request c i x d → StopsAtKey moment x request i d e → BreaksOff moment old.stream c e
+pub begins_stops : (moment : ℤ) (old x : Connection) (request : Request) (i : ℕ) (c d e : Contents) → IsFront old.stream request → HasBegun moment old request c i x d → StopsAtKey moment x request i d e → BreaksOff moment old.stream c e
 begins_stops moment old x request i c d e front b stops =
     let m : Message = message_at old request in
     let next : Place = after_message m (drop (used_of request) (held_at old.stream)) in
     let same : message_at x request ≡ m = ap (λ (p : Place). message_in (held_at p) request) b.stays in
-    let reads = reads_front old request front in
+    let reads = reads_front old.stream request front in
     elim stops [
       | inl none ↦ record { said = Whole m; next = next; reads = reads; answers = b.replies; left = d; answered = b.answered; new_is = inl none }
       | inr key ↦ elim key.2 [

@@ -4,15 +4,13 @@ use Rattle.mc_types.specs.declared.ask.Ask.{Ask}
 use Rattle.mc_types.specs.declared.answer.Answer.{Answer}
 use Rattle.mc_runs.specs.Protocol.{IsStuck}
 use Rattle.mc_runs.specs.Stream.{written_from, NoneEnds}
-use Rattle.request_parts.specs.declared.skip.Skip.TheVariants.{Nothing}
 use Rattle.client_requests.specs.declared.request.Request.{Request}
-use Rattle.client_requests.specs.declared.request.Asks.{Asks}
-use Rattle.client_requests.specs.Message.{Message, IsReadFrom, message_in, used_of}
-use Rattle.client_requests.specs.Asks.{asks_of, IsWalk, request_of, taken_of}
-use Rattle.request_parts.specs.Stream.{Stands}
+use Rattle.client_requests.specs.Message.{Message, message_in, used_of}
+use Rattle.client_requests.specs.Asks.{asks_of}
 use Rattle.text_codec.specs.Held.{held_at}
 use Rattle.text_codec.specs.TextProtocol.{Whole, memcached_text, shown_of, ends_at}
 use Rattle.connections.specs.declared.connection.Connection.{Connection}
+use Rattle.connections.specs.Fronts.{IsFront}
 use Rattle.connections.specs.Steps.{output_of, held_len, place_after, GoesTo}
 use Rattle.cache_server.specs.Contents.{Contents, at_moment}
 use Rattle.cache_connection.specs.Serving.{AnswersAsk, AnswersEach, ServesTo}
@@ -21,22 +19,14 @@ use Rattle.cache_connection.specs.Serving.{AnswersAsk, AnswersEach, ServesTo}
 abbrev pub message_at : Connection → Request → Message
 message_at x request = message_in (held_at x.stream) request
 
--- the request stands at the connection's front
-pub record IsFront (x : Connection) (request : Request) : Type 0 where
-  pub place : x.stream ≡ Stands Nothing (held_at x.stream)
-  pub read : IsReadFrom (held_at x.stream) request
-
--- a walk over its asks that has come to the i-th one, which is there
-pub record IsOnWay (x : Connection) (request : Request) (asks : Asks) (i : ℕ) : Type 0 where
-  pub front : IsFront x request
-  pub walk : IsWalk (held_at x.stream) asks
-  pub request_is : request_of asks ≡ request
-  pub taken : taken_of asks ≡ i
+-- the request stands at the connection's front, and its i-th ask is next
+pub record IsOnWay (x : Connection) (request : Request) (i : ℕ) : Type 0 where
+  pub front : IsFront x.stream request
   pub there : i < length (asks_of (message_at x request))
 
 -- the i-th ask of the request at the front
 pub record IsAskAt (x : Connection) (request : Request) (i : ℕ) (ask : Ask) : Type 0 where
-  pub front : IsFront x request
+  pub front : IsFront x.stream request
   pub at : slice_get (asks_of (message_at x request)) i ≡ Some ask
   pub there : i < length (asks_of (message_at x request))
 
@@ -51,14 +41,14 @@ pub record ServesAsk (moment : ℤ) (old : Connection) (request : Request) (i : 
 abbrev pub StopsAtAsk : ℤ → Ask → Contents → Contents → Type 0
 StopsAtAsk moment ask old new = ((reply : Answer) × AnswersAsk moment ask old reply new) ⊎ (new ≡ at_moment (nat_abs moment) old)
 
--- the walk's next ask was served
-pub record ServesKey (moment : ℤ) (old : Connection) (request : Request) (i : ℕ) (contents : Contents) (ended : Bool) (new : Connection) (asks' : Asks) (contents' : Contents) : Type 0 where
+-- the i-th ask was served
+pub record ServesKey (moment : ℤ) (old : Connection) (request : Request) (i : ℕ) (contents : Contents) (ended : Bool) (new : Connection) (contents' : Contents) : Type 0 where
   pub ask : Ask
   pub at : IsAskAt old request i ask
   pub served : ServesAsk moment old request i ask contents ended new contents'
-  pub way : ended ≡ false → IsOnWay new request asks' (i + 1)
+  pub way : ended ≡ false → IsOnWay new request (i + 1)
 
--- running out of memory at the walk's next ask, or before it
+-- running out of memory at the i-th ask, or before it
 abbrev pub StopsAtKey : ℤ → Connection → Request → ℕ → Contents → Contents → Type 0
 StopsAtKey moment x request i old new =
     (new ≡ old) ⊎ ((ask : Ask) × (slice_get (asks_of (message_at x request)) i ≡ Some ask) × StopsAtAsk moment ask old new)

@@ -2,18 +2,18 @@
 
 // What a client sent is served, message by message and key by key.
 
-ghost use Rattle.std.specs.Prelude.{◌≡◌, ◌+◌, ◌<◌, ◌≤◌, length, IfOk, OnOk, OnErr};
+ghost use Rattle.std.specs.Prelude.{IfOk, OnOk, OnErr};
 ghost use Rattle.mc_types.specs.Asks.{IsAsk};
 ghost use Rattle.cache_connection.specs.Serving.{BreaksOff, Stops};
-ghost use Rattle.cache_connection.specs.Steps.{IsFront, IsOnWay, IsAskAt, ServesAsk, StopsAtAsk, ServesKey, StopsAtKey, ServesFront, ServesAll};
+ghost use Rattle.cache_connection.specs.Steps.{IsOnWay, IsAskAt, ServesAsk, StopsAtAsk, ServesKey, StopsAtKey, ServesFront, ServesAll};
 
 use crate::moment::Moment;
 use crate::reply::reply_to;
 use cache_server::Cache;
-use connections::Connection;
+use connections::{Connection, Front};
 use mc_types::{Answer, Ask};
 use std::alloc::{AllocError, Global};
-use text_codec::{Asks, Read, Request};
+use text_codec::Request;
 
 // A drop that is a call keeps the proof of a caller short.
 fn drop_answer(_answer: Answer) {}
@@ -42,29 +42,26 @@ fn serve_ask(
     shown
 }
 
-// The next key of the request at the front: whether the request is done with its reply.
+// The key of this number of the request at the front: whether the request is done with its reply.
 fn serve_key(
     alloc: Global,
     connection: &mut Connection,
     request: &Request,
     index: usize,
-    asks: &mut Asks,
     cache: &mut Cache,
     moment: Moment,
 ) -> Result<bool, AllocError>
-    requires { IsOnWay connection.old request.now asks.old index }
-    ensures ok { IfOk result (λ ended. ServesKey moment.seconds connection.old request.now index cache.old ended connection.new asks.new cache.new) }
+    requires { IsOnWay connection.old request.now index }
+    ensures ok { IfOk result (λ ended. ServesKey moment.seconds connection.old request.now index cache.old ended connection.new cache.new) }
     ensures err { OnErr result (StopsAtKey moment.seconds connection.old request.now index cache.old cache.new) }
 {
-    let Some(ask) = asks.next(alloc, connection.stream.held())? else {
-        unreachable!();
-    };
+    let ask = connection.stream.ask(alloc, request, index)?;
     let served = serve_ask(connection, request, index, &ask, cache, moment);
     drop_ask(ask);
     served
 }
 
-// A request at the front: its keys in order, up to the reply that ends it.
+// A request at the front: its keys in order, up to the reply that ends it, which is that of its last key at the latest.
 fn serve_request(
     alloc: Global,
     connection: &mut Connection,
@@ -72,21 +69,16 @@ fn serve_request(
     cache: &mut Cache,
     moment: Moment,
 ) -> Result<(), AllocError>
-    requires { IsFront connection.old request.now }
+    requires { IsOnWay connection.old request.now 0 }
     ensures ok { OnOk result (ServesFront moment.seconds connection.old cache.old connection.new cache.new) }
     ensures err { OnErr result (BreaksOff moment.seconds connection.old.stream cache.old cache.new) }
 {
-    let count = request.asks();
-    if count == 0 {
-        connection.answer_own(request.own(), request.used())?;
-        return Ok(());
+    for index in 0..request.asks() {
+        if serve_key(alloc, connection, request, index, cache, moment)? {
+            return Ok(());
+        }
     }
-    let mut asks = request.walk();
-    let mut index = 0;
-    while !serve_key(alloc, connection, request, index, &mut asks, cache, moment)? {
-        index += 1;
-    }
-    Ok(())
+    unreachable!()
 }
 
 /// All messages that are complete are answered by the cache at this moment, into the connection's output.
@@ -101,11 +93,12 @@ pub fn serve(
     ensures err { OnErr result (Stops moment.seconds connection.old.stream cache.old cache.new) }
 {
     loop {
-        match connection.stream.read() {
-            Read::More => return Ok(()),
-            Read::TooLong => connection.refuse_long_line()?,
-            Read::Refused { why, used, skip } => connection.refuse(why, used, skip)?,
-            Read::Request(request) => serve_request(alloc, connection, &request, cache, moment)?,
+        match connection.stream.front() {
+            Front::Nothing => return Ok(()),
+            Front::Passing(read) => {
+                connection.pass(read)?;
+            }
+            Front::Keys(request) => serve_request(alloc, connection, &request, cache, moment)?,
         }
     }
 }

@@ -1,46 +1,25 @@
 -- What stands at the front of a connection's stream, and where it stands after it.
-use Rattle.std.proofs.Common.{◌≡◌, ℕ, ◌<◌, ◌≤◌, List, [], ◌∷◌, length, Option, Some, None, refl, ap, arith, slice_get}
+use Rattle.std.proofs.Common.{◌≡◌, ℕ, ◌≤◌, List, length, drop, Some, refl, sym, ap, ◌∙◌, subst, slice_get}
 use Rattle.mc_types.specs.declared.ask.Ask.{Ask}
 use Rattle.mc_runs.specs.Protocol.{IsStuck}
-use Rattle.request_parts.specs.declared.proxy_command.ProxyCommand.{ProxyCommand}
-use Rattle.request_parts.specs.declared.proxy_command.ProxyCommand.TheVariants.{Version, Quit, Noop}
 use Rattle.request_parts.specs.declared.refusal.RefusalReason.{RefusalReason}
 use Rattle.request_parts.specs.declared.skip.Skip.{Skip}
 use Rattle.request_parts.specs.declared.skip.Skip.TheVariants.{Nothing, Bytes, ThroughNewline}
+use Rattle.request_parts.specs.Message.{Refusal}
+use Rattle.request_parts.specs.Stream.{Place, Stands, Closed}
+use Rattle.request_parts.proofs.Streams.{used_within}
 use Rattle.text_requests.specs.Order.{Retrieval, Storage, Swapping, Deletion, Touching, Counting, OfItself}
 use Rattle.meta_requests.specs.Order as metas
 use Rattle.client_requests.specs.declared.reader.Read.{Read}
 use Rattle.client_requests.specs.declared.reader.Read.TheVariants as reads
 use Rattle.client_requests.specs.declared.request.Request.{Request}
-use Rattle.client_requests.specs.Both.{Order, Classic, Meta, own_by}
-use Rattle.client_requests.specs.Message.{Reads}
+use Rattle.client_requests.specs.Both.{Order, Classic, Meta, both_grammar}
+use Rattle.client_requests.specs.Message.{Message, Reads, IsReadFrom, message_in, used_of}
 use Rattle.client_requests.specs.Asks.{asks_by}
-use Rattle.client_requests.specs.Stream.{after_order}
-use Rattle.request_parts.specs.Stream.{Place, Stands, Closed}
+use Rattle.client_requests.specs.Stream.{after_order, after_message}
 use Rattle.text_codec.specs.Held.{held_at, IsReadAt}
-use Rattle.text_codec.specs.TextProtocol.{Whole, LongLine, memcached_text}
-use Rattle.connections.specs.declared.connection.Connection.{Connection}
-use Rattle.connections.specs.Steps.{held_len}
-use Rattle.request_parts.specs.Stream.{after_own}
-
--- nothing is in a list of length 0
-pub empty_is : (asks : List Ask) → length asks ≡ 0 → asks ≡ []
-empty_is [] e = refl
-empty_is (ask ∷ asks) e = absurd (omega arith)
-
--- after what mcgate itself was asked no more is held
-pub own_len : (own : Option ProxyCommand) (rest : List ℕ) → length (held_at (after_own own rest)) ≤ length rest
-own_len None rest = omega arith
-own_len (Some Version) rest = omega arith
-own_len (Some Quit) rest = omega arith
-own_len (Some Noop) rest = omega arith
-
--- fewer bytes are held after a message
-pub shorter_by : (old new : Connection) (held rest : List ℕ) (place : Place) → old.stream ≡ Stands Nothing held → new.stream ≡ place → length (held_at place) ≤ length rest → length rest < length held → held_len new < held_len old
-shorter_by old new held rest place at goes within less =
-    let a : held_len new ≡ length (held_at place) = ap (λ (p : Place). length (held_at p)) goes in
-    let b : held_len old ≡ length held = ap (λ (p : Place). length (held_at p)) at in
-    omega (arith, a, b)
+use Rattle.text_codec.specs.TextProtocol.{Whole, LongLine, ReadsNext, memcached_text}
+use Rattle.connections.specs.Fronts.{IsFront}
 
 -- a request with an ask is no `quit`: after it the stream goes on
 pub served_after : (order : Order) (block rest : List ℕ) (i : ℕ) (ask : Ask) → slice_get (asks_by order block) i ≡ Some ask → after_order order rest ≡ Stands Nothing rest
@@ -53,10 +32,6 @@ served_after (Classic (Touching key exptime quiet)) block rest i ask e = refl
 served_after (Classic (Counting up key delta quiet)) block rest i ask e = refl
 served_after (Meta (metas.OfItself own)) block rest i ask e = absurd (cc)
 served_after (Meta (metas.Asking kind key n flags)) block rest i ask e = refl
-
--- after what mcgate itself was asked
-pub own_after : (order : Order) (rest : List ℕ) → after_order order rest ≡ after_own (own_by order) rest
-own_after order rest = refl
 
 -- where something is read, the stream stands before it
 pub read_front : (place : Place) (read : Read) → IsReadAt place read → (read ≡ reads.More → ⊥) → (held : List ℕ) × (place ≡ Stands Nothing held) × Reads held read
@@ -81,3 +56,30 @@ more_stuck (Stands Nothing held) is LongLine next r = is.0 r.0
 more_stuck (Stands (Bytes n) held) is said next r = r
 more_stuck (Stands ThroughNewline held) is said next r = r
 more_stuck Closed is said next r = r
+
+-- a request that was read stands at the front
+pub front_is : (place : Place) (request : Request) → IsReadAt place (reads.Request request) → IsFront place request
+front_is place request is =
+    let f = read_front place (reads.Request request) is (request_is_some request) in
+    let held : f.0 ≡ held_at place = sym (ap held_at f.1) in
+    record {
+      stands = f.1 ∙ ap (λ (l : List ℕ). Stands Nothing l) held;
+      read = subst (λ (l : List ℕ). IsReadFrom l request) held f.2;
+    }
+
+-- it is the next message
+pub reads_front : (place : Place) (request : Request) → IsFront place request → ReadsNext place (Whole (message_in (held_at place) request)) (after_message (message_in (held_at place) request) (drop (used_of request) (held_at place)))
+reads_front place request front =
+    let held = held_at place in
+    let m : Message = message_in held request in
+    subst (λ (p : Place). ReadsNext p (Whole m) (after_message m (drop (used_of request) held))) (sym front.stands) (used_of request, front.read.begins, refl)
+
+-- what it uses is held
+pub used_held : (place : Place) (request : Request) → IsFront place request → used_of request ≤ length (held_at place)
+used_held place request front = used_within both_grammar (held_at place) (message_in (held_at place) request) (used_of request) front.read.begins
+
+-- and so is what a refused message uses
+pub used_refused : (place : Place) (why : RefusalReason) (used : ℕ) (skip : Skip) → IsReadAt place (reads.Refused why used skip) → used ≤ length (held_at place)
+used_refused place why used skip is =
+    let f = read_front place (reads.Refused why used skip) is (refused_is_some why used skip) in
+    subst (λ (p : Place). used ≤ length (held_at p)) (sym f.1) (used_within both_grammar f.0 (Refusal why skip) used f.2)

@@ -1,3 +1,5 @@
+pub mod ClientStreams
 pub mod Shorter
 pub mod Fronts
 pub mod Requests
+pub mod Passing

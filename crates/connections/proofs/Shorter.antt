@@ -1,14 +1,19 @@
 -- After a message fewer bytes are held.
-use Rattle.std.proofs.Common.{◌≡◌, ℕ, ◌<◌, ◌≤◌, true, false, eqb, List, [], ◌∷◌, length, drop, refl, arith, inl, inr, length-drop}
+use Rattle.std.proofs.Common.{◌≡◌, ℕ, ◌<◌, ◌≤◌, true, false, eqb, List, [], ◌∷◌, length, drop, Option, Some, None, refl, ap, arith, inl, inr, length-drop}
 use Rattle.std.proofs.lemmas.Bool.{cases_lt, lt-ltb, le-ltb}
 use Rattle.mc_text.specs.Line.{LF}
+use Rattle.request_parts.specs.declared.proxy_command.ProxyCommand.{ProxyCommand}
+use Rattle.request_parts.specs.declared.proxy_command.ProxyCommand.TheVariants.{Version, Quit, Noop}
 use Rattle.request_parts.specs.declared.skip.Skip.{Skip}
 use Rattle.request_parts.specs.declared.skip.Skip.TheVariants.{Nothing, Bytes, ThroughNewline}
-use Rattle.request_parts.specs.Stream.{skipped, through_newline}
+use Rattle.request_parts.specs.Message.{Served, Refusal}
+use Rattle.request_parts.specs.Stream.{Place, Stands, Closed, skipped, through_newline, after_own}
 use Rattle.request_parts.proofs.Streams.{some_taken, fewer_left}
-use Rattle.client_requests.specs.Both.{both_grammar}
+use Rattle.client_requests.specs.Both.{both_grammar, own_by}
 use Rattle.client_requests.specs.Message.{Message, Begins}
+use Rattle.client_requests.specs.Stream.{after_message}
 use Rattle.text_codec.specs.Held.{held_at}
+use Rattle.text_codec.specs.TextProtocol.{Said, Whole, LongLine, ReadsNext}
 
 -- a message takes a byte at least
 pub takes_some : (bytes : List ℕ) (message : Message) (used : ℕ) → Begins bytes message used → 1 ≤ used
@@ -34,3 +39,28 @@ skipped_len (Bytes n) bytes =
       | inl lt ↦ rw (lt-ltb (length bytes) n lt) (omega arith)
       | inr ge ↦ rw (le-ltb (length bytes) n ge) (omega (arith, length-drop n bytes))
     ]
+
+own_len : (own : Option ProxyCommand) (rest : List ℕ) → length (held_at (after_own own rest)) ≤ length rest
+own_len None rest = omega arith
+own_len (Some Version) rest = omega arith
+own_len (Some Quit) rest = omega arith
+own_len (Some Noop) rest = omega arith
+
+after_len : (message : Message) (rest : List ℕ) → length (held_at (after_message message rest)) ≤ length rest
+after_len (Served order block) rest = own_len (own_by order) rest
+after_len (Refusal why skip) rest = skipped_len skip rest
+
+-- so fewer bytes are held at the place after a message
+pub next_len : (place : Place) (message : Said) (next : Place) → ReadsNext place message next → length (held_at next) < length (held_at place)
+next_len (Stands Nothing held) (Whole message) next r =
+    let at : length (held_at next) ≡ length (held_at (after_message message (drop r.0 held))) = ap (λ (p : Place). length (held_at p)) r.2 in
+    let within = after_len message (drop r.0 held) in
+    let less = fewer held message r.0 r.1 in
+    omega (arith, at, within, less)
+next_len (Stands Nothing held) LongLine next r =
+    let at : length (held_at next) ≡ 0 = ap (λ (p : Place). length (held_at p)) r.1 in
+    let long = r.0.long in
+    omega (arith, at, long)
+next_len (Stands (Bytes n) held) said next r = absurd r
+next_len (Stands ThroughNewline held) said next r = absurd r
+next_len Closed said next r = absurd r

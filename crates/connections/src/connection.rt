@@ -2,25 +2,23 @@
 
 ghost use Rattle.std.specs.Prelude.{◌≡◌, ◌≤◌, ℕ, List, [], false, drop, length, OnOk, OnErr, IfOk};
 ghost use Rattle.request_parts.specs.declared.skip.Skip.TheVariants.{Nothing};
-ghost use Rattle.request_parts.specs.Stream.{Stands, Closed, skipped, extended};
-ghost use Rattle.text_codec.specs.Held.{held_at};
-ghost use Rattle.text_codec.specs.Replies.{refusal_text, long_line_text, shown_text};
-ghost use Rattle.text_codec.specs.TextProtocol.{own_passed};
+ghost use Rattle.request_parts.specs.Stream.{Stands, extended};
+ghost use Rattle.text_codec.specs.Held.{held_at, IsReadAt};
+ghost use Rattle.text_codec.specs.Replies.{shown_text};
+ghost use Rattle.connections.specs.Fronts.{AsksNone, PassesMessage};
 ghost use Rattle.connections.specs.Steps.{output_of, GoesTo, Shows};
-ghost use Rattle.request_parts.specs.Stream.{after_own};
 
+use crate::client_stream::ClientStream;
+use crate::front::{Passed, pass};
 use bytes::BytesMut;
 use mc_types::{Answer, Ask};
 use std::alloc::{AllocError, Global};
-use text_codec::{
-    ProxyCommand, RefusalReason, Skip, TextStream, ends_message, write_long_line, write_own,
-    write_part, write_refusal,
-};
+use text_codec::{Read, ends_message, write_part};
 
 /// One client: the bytes that it sent and that were not done yet, and the output that it was not given yet.
 #[derive(Drop)]
 pub struct Connection {
-    pub stream: TextStream,
+    pub stream: ClientStream,
     pub output: BytesMut,
 }
 
@@ -31,7 +29,7 @@ impl Connection {
         ensures output { output_of result ≡ [] }
     {
         Connection {
-            stream: TextStream::new(alloc),
+            stream: ClientStream::new(alloc),
             output: BytesMut::new(alloc),
         }
     }
@@ -44,43 +42,15 @@ impl Connection {
         self.stream.feed(piece)
     }
 
-    /// A refused message is answered and done. The only error is running out of memory, which leaves the connection as it was.
-    pub fn refuse(&mut self, why: RefusalReason, used: usize, skip: Skip) -> Result<(), AllocError>
-        requires { used ≤ length (held_at self.old.stream) }
-        ensures ok { OnOk result ((held : List ℕ) → self.old.stream ≡ Stands Nothing held → GoesTo self.old (skipped skip (drop used held)) (refusal_text why) self.new) }
+    /// The message that was read at the front, which asks no server, is answered and done. The only error is running out of
+    /// memory, which leaves the connection as it was.
+    pub fn pass(&mut self, read: Read) -> Result<Passed, AllocError>
+        requires read { IsReadAt self.old.stream read }
+        requires asks { AsksNone self.old.stream read }
+        ensures ok { IfOk result (λ passed. PassesMessage self.old.stream (output_of self.old) passed self.new.stream (output_of self.new)) }
         ensures err { OnErr result (GoesTo self.old self.old.stream [] self.new) }
     {
-        write_refusal(why, &mut self.output)?;
-        self.stream.pass_refused(used, skip);
-        Ok(())
-    }
-
-    /// A line that is too long is answered, and nothing is read any more. The only error is running out of memory, which
-    /// leaves the connection as it was.
-    pub fn refuse_long_line(&mut self) -> Result<(), AllocError>
-        ensures ok { OnOk result (GoesTo self.old Closed long_line_text self.new) }
-        ensures err { OnErr result (GoesTo self.old self.old.stream [] self.new) }
-    {
-        write_long_line(&mut self.output)?;
-        self.stream.close();
-        Ok(())
-    }
-
-    /// A message that asks mcgate itself, or nothing, is answered and done. The only error is running out of memory, which
-    /// leaves the connection as it was.
-    pub fn answer_own(&mut self, own: Option<ProxyCommand>, used: usize) -> Result<(), AllocError>
-        requires { used ≤ length (held_at self.old.stream) }
-        ensures ok { OnOk result ((held : List ℕ) → self.old.stream ≡ Stands Nothing held → GoesTo self.old (after_own own (drop used held)) (own_passed own) self.new) }
-        ensures err { OnErr result (GoesTo self.old self.old.stream [] self.new) }
-    {
-        if let Some(own) = own {
-            write_own(own, &mut self.output)?;
-        }
-        self.stream.pass_request(used);
-        if let Some(ProxyCommand::Quit) = own {
-            self.stream.close();
-        }
-        Ok(())
+        pass(read, &mut self.stream, &mut self.output)
     }
 
     // The reply to a key of a message is shown, and another key is next.

@@ -1,6 +1,10 @@
-//! One client's connection: its stream, its output, and how each step changes them.
+//! One client's connection: its stream and what stands at its front, its output, and how each step changes them.
 #![tactic(auto)]
 
+pub mod client_stream;
 pub mod connection;
+pub mod front;
 
+pub use client_stream::ClientStream;
 pub use connection::Connection;
+pub use front::{Front, Passed, pass};

@@ -1,4 +1,3 @@
-pub mod ClientStreams
 pub mod Fronts
 pub mod Places
 pub mod Resting

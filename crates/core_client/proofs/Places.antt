@@ -22,7 +22,7 @@ use Rattle.core_client.specs.declared.client.Client.{Client}
 use Rattle.core_client.specs.ClientState.{dialect, front_by}
 use Rattle.core_client.specs.declared.client.Pending.{Pending}
 use Rattle.core_client.specs.Replying.{GoesOn, pending_in, replied_in, IsAnswered, is_numbered, replied}
-use Rattle.core_client.proofs.Fronts.{reads_front}
+use Rattle.connections.proofs.Fronts.{reads_front}
 
 some_ask : (asks : List Ask) (i : ℕ) → i < length asks → (ask : Ask) × (slice_get asks i ≡ Some ask)
 some_ask asks i lt = by (slice_get_cases asks i).1

@@ -16,13 +16,12 @@ use Rattle.client_requests.specs.Stream.{after_message}
 use Rattle.text_codec.specs.Held.{held_at, IsReadAt}
 use Rattle.text_codec.specs.TextProtocol.{Said, Whole, LongLine, ReadsNext, asks_in}
 use Rattle.text_codec.proofs.ReaderLaws.{reader_is}
-use Rattle.connections.proofs.Fronts.{read_front, refused_is_some, long_is_some, more_stuck}
+use Rattle.connections.specs.Fronts.{AsksNone}
+use Rattle.connections.proofs.Fronts.{read_front, refused_is_some, long_is_some, more_stuck, front_is, reads_front}
 use Rattle.core_client.specs.declared.client.Client.{Client}
 use Rattle.core_client.specs.declared.client.Pending.{Pending}
 use Rattle.core_client.specs.ClientState.{dialect, front_by}
-use Rattle.core_client.specs.Fronts.{AsksNone}
 use Rattle.core_client.specs.Nexts.{IsLater}
-use Rattle.core_client.proofs.Fronts.{front_is, reads_front}
 
 -- the message that was read
 abbrev pub IsRead : Place → Read → Said → Type 0

@@ -4,19 +4,15 @@ use Rattle.mc_types.specs.declared.ask.Ask.{Ask}
 use Rattle.mc_runs.specs.Log.{Part}
 use Rattle.mc_runs.specs.Overlap.{Front, IsNext, after_start, slot_of}
 use Rattle.request_parts.specs.declared.skip.Skip.TheVariants.{Nothing}
-use Rattle.request_parts.specs.Message.{Served, Refusal}
 use Rattle.request_parts.specs.Stream.{Place, Stands}
-use Rattle.client_requests.specs.declared.reader.Read.{Read}
-use Rattle.client_requests.specs.declared.reader.Read.TheVariants as reads
 use Rattle.client_requests.specs.declared.request.Request.{Request}
 use Rattle.client_requests.specs.Message.{IsReadFrom, message_in}
 use Rattle.client_requests.specs.Asks.{asks_of}
 use Rattle.text_codec.specs.Held.{held_at}
-use Rattle.text_codec.specs.TextProtocol.{Whole, LongLine}
+use Rattle.connections.specs.declared.front.Passed.{Passed}
+use Rattle.connections.specs.Fronts.{told_of}
 use Rattle.core_client.specs.declared.client.Client.{Client}
 use Rattle.core_client.specs.declared.client.Pending.{Pending}
-use Rattle.core_client.specs.declared.answering.Passed.{Passed}
-use Rattle.core_client.specs.declared.answering.Passed.TheVariants.{Own, Refused}
 use Rattle.core_client.specs.ClientState.{dialect, Message, front_by, IsSlot}
 
 -- nothing of it changes
@@ -27,22 +23,6 @@ pub record Stays (x y : Client) : Type 0 where
   pub queue : y.queue.items ≡ x.queue.items
   pub output : y.output.items ≡ x.output.items
   pub dropped : y.dropped ≡ x.dropped
-
--- its reader goes to this place, before the first key there, and its output goes on by these bytes
-pub record GoesTo (x : Client) (place : Place) (more : List ℕ) (y : Client) : Type 0 where
-  pub stream : y.stream ≡ place
-  pub index : y.index ≡ 0
-  pub waits : y.waits ≡ false
-  pub queue : y.queue.items ≡ x.queue.items
-  pub output : y.output.items ≡ x.output.items ++ more
-  pub dropped : y.dropped ≡ x.dropped
-
--- a message was read that asks no server
-abbrev pub AsksNone : Place → Read → Type 0
-AsksNone place reads.More = ⊥
-AsksNone place reads.TooLong = Unit {0}
-AsksNone place (reads.Refused why used skip) = Unit {0}
-AsksNone place (reads.Request request) = asks_of (message_in (held_at place) request) ≡ []
 
 -- a client without commands under way passed a message that asks no server
 pub record PassesOne (x : Client) (message : Message) (next : Place) (y : Client) : Type 0 where
@@ -56,12 +36,6 @@ pub record PassesOne (x : Client) (message : Message) (next : Place) (y : Client
   pub waits : y.waits ≡ false
   pub output : y.output.items ≡ x.output.items ++ dialect.passed message
   pub dropped : y.dropped ≡ x.dropped
-
--- what is told of a message that asks no server: mcgate's own, or refused
-abbrev pub told_of : Message → Passed
-told_of (Whole (Served order block)) = Own
-told_of (Whole (Refusal why skip)) = Refused
-told_of LongLine = Refused
 
 -- a message that asks no server was passed, and is told so
 pub record PassesFront (x : Client) (passed : Passed) (y : Client) : Type 0 where

@@ -1,5 +1,4 @@
 pub mod ClientState
-pub mod ClientStreams
 pub mod Clients
 pub mod Fronts
 pub mod Heads

@@ -11,11 +11,12 @@ use Rattle.client_requests.specs.declared.request.Request.{Request}
 use Rattle.client_requests.specs.Message.{IsReadFrom, message_in}
 use Rattle.client_requests.specs.Asks.{asks_of}
 use Rattle.text_codec.specs.Held.{IsReadAt, held_at}
+use Rattle.connections.specs.Fronts.{AsksNone}
 use Rattle.core_client.specs.declared.client.Client.{Client}
 use Rattle.core_client.specs.declared.nexts.Next.{Next}
 use Rattle.core_client.specs.declared.nexts.Next.TheVariants as nexts
 use Rattle.core_client.specs.ClientState.{dialect, Message, front_by}
-use Rattle.core_client.specs.Fronts.{AsksNone, IsAskAt}
+use Rattle.core_client.specs.Fronts.{IsAskAt}
 
 -- nothing is under way for the client, which is served, and this was read at its front: a message that asks no server
 pub record IsPassing (read : Read) (x : Client) : Type 0 where

@@ -3,9 +3,9 @@
 ghost use Rattle.std.specs.Prelude.{◌≡◌, ◌++◌, false, ◌↔◌, IsTrue, OnOk, OnErr, IfOk};
 ghost use Rattle.core_client.specs.Clients.{has_own, IsNew, IsEnded, TakesPiece, LosesOutput};
 
-use crate::client_stream::ClientStream;
 use bytes::BytesMut;
 use commands_under_way::SharedAsk;
+use connections::ClientStream;
 use mc_types::{Answer, Key};
 use std::alloc::{AllocError, Global};
 use std::collections::VecDeque;

@@ -3,13 +3,10 @@
 
 pub mod answering;
 pub mod client;
-pub mod client_stream;
 pub mod heads;
 pub mod nexts;
 pub mod replying;
 pub mod starting;
 
-pub use answering::Passed;
 pub use client::{Client, Pending};
-pub use client_stream::ClientStream;
 pub use nexts::Next;

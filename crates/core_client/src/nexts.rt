@@ -6,11 +6,12 @@ ghost use Rattle.text_codec.specs.Held.{IsReadAt, held_at};
 ghost use Rattle.client_requests.specs.Message.{message_in};
 ghost use Rattle.client_requests.specs.Asks.{asks_of};
 ghost use Rattle.client_requests.specs.declared.reader.Read.TheVariants.{More, Request as Requests};
+ghost use Rattle.connections.specs.Fronts.{AsksNone};
 ghost use Rattle.core_client.specs.Nexts.{CanAsk, CanBegin, IsNextOf};
-ghost use Rattle.core_client.specs.Fronts.{AsksNone};
 
 use crate::client::{Client, Pending};
 use commands_under_way::SharedAsk;
+use connections::Front;
 use std::alloc::{AllocError, Global};
 use std::collections::VecDeque;
 use text_codec::{Read, Request};
@@ -79,17 +80,10 @@ impl Client {
         requires { self.now.dropped ≡ false }
         ensures { IsNextOf depth self.now result }
     {
-        match self.stream.read() {
-            Read::More => self.nothing(),
-            Read::TooLong => self.passing(Read::TooLong),
-            Read::Refused { why, used, skip } => self.passing(Read::Refused { why, used, skip }),
-            Read::Request(request) => {
-                if request.asks() == 0 {
-                    self.passing(Read::Request(request))
-                } else {
-                    self.key_of(depth, request)
-                }
-            }
+        match self.stream.front() {
+            Front::Nothing => self.nothing(),
+            Front::Passing(read) => self.passing(read),
+            Front::Keys(request) => self.key_of(depth, request),
         }
     }
 

@@ -6,9 +6,10 @@ ghost use Rattle.core_client.specs.Replying.{GoesOn, is_numbered, IsAnswered, Ha
 ghost use Rattle.core_client.specs.declared.replying.Place.{Place as PlaceOf};
 
 use crate::client::{Client, Pending};
+use connections::Front;
 use mc_types::Answer;
 use std::collections::VecDeque;
-use text_codec::{Read, Request, ends_message};
+use text_codec::{Request, ends_message};
 
 /// Where a reply goes: the place of its command, and where that isn't of its message's last key, the request at the front.
 #[derive(Clone, Copy)]
@@ -69,17 +70,16 @@ impl Client {
         ensures some { IfSome result (λ request. IsAnswered self.now request) }
         ensures none { IfNone result (HasKeyAtFront self.now → ⊥) }
     {
-        match self.stream.read() {
-            Read::Request(request) => {
+        match self.stream.front() {
+            Front::Nothing => None,
+            Front::Passing(_read) => None,
+            Front::Keys(request) => {
                 if self.index < request.asks() {
                     Some(request)
                 } else {
                     None
                 }
             }
-            Read::More => None,
-            Read::TooLong => None,
-            Read::Refused { .. } => None,
         }
     }
 

@@ -16,7 +16,7 @@ use Rattle.route_tree.specs.At.{tree_at}
 use Rattle.route_tree.specs.Route.{IsTree}
 use Rattle.route_tree.specs.Word.{Given, Word, tree_words}
 use Rattle.route_job.specs.Jobs.{Comes, IsDone}
-use Rattle.core_client.specs.declared.answering.Passed.{Passed}
+use Rattle.connections.specs.declared.front.Passed.{Passed}
 use Rattle.core_client.specs.declared.client.Client.{Client}
 use Rattle.commands_under_way.specs.declared.command.Command.{Command}
 use Rattle.proxy_core.specs.declared.proxy.Core.{Core}

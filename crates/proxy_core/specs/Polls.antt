@@ -8,7 +8,7 @@ use Rattle.mc_runs.specs.Overlap.{Slot, Entry, Starts, Sends, Ends, Shows, Passe
 use Rattle.mc_runs.specs.Protocol.{IsStuck}
 use Rattle.request_parts.specs.Stream.{Place}
 use Rattle.client_requests.specs.declared.request.Request.{Request}
-use Rattle.core_client.specs.declared.answering.Passed.{Passed}
+use Rattle.connections.specs.declared.front.Passed.{Passed}
 use Rattle.core_client.specs.declared.client.Client.{Client}
 use Rattle.proxy_core.specs.declared.fault.CoreFault.{CoreFault}
 use Rattle.proxy_core.specs.declared.fault.CoreFault.TheVariants as faults
@@ -16,7 +16,7 @@ use Rattle.proxy_core.specs.declared.limits.TheConstants.{LAST_COMMAND}
 use Rattle.proxy_core.specs.declared.proxy.Core.{Core}
 use Rattle.route_job.specs.Jobs.{IsCalling}
 use Rattle.commands_under_way.specs.declared.command.Command.{Command}
-use Rattle.core_client.specs.declared.answering.Passed.TheVariants.{Own, Refused}
+use Rattle.connections.specs.declared.front.Passed.TheVariants.{Own, Refused}
 use Rattle.commands_under_way.specs.declared.turns.Turn.TheVariants.{Full}
 use Rattle.proxy_core.specs.declared.note.Note.{Note}
 use Rattle.proxy_core.specs.declared.note.Poll.{Poll}
@@ -25,7 +25,8 @@ use Rattle.proxy_core.specs.Settles.{freed, HasNoIdle}
 use Rattle.commands_under_way.specs.declared.ticket.Ticket.{Ticket}
 use Rattle.core_client.specs.ClientState.{dialect, Message, output_by, dropped_by}
 use Rattle.proxy_core.specs.CoreState.{client_at, command_at, GoesBy}
-use Rattle.core_client.specs.Fronts.{told_of, IsAskAt}
+use Rattle.connections.specs.Fronts.{told_of}
+use Rattle.core_client.specs.Fronts.{IsAskAt}
 use Rattle.route_tree.specs.At.{tree_at}
 use Rattle.commands_under_way.specs.declared.claim.Claim.{Claim}
 use Rattle.proxy_core.specs.Claims.{claim_by, is_barred}

@@ -23,7 +23,8 @@ use crate::note::Poll;
 use crate::proxy::Core;
 use commands_under_way::begun::{command_of, drop_ask, drop_command};
 use commands_under_way::{Claim, Command, SharedAsk, Ticket, Turn, turn_of};
-use core_client::{Next, Passed};
+use connections::Passed;
+use core_client::Next;
 use mc_types::Key;
 use text_codec::{Read, Request};
 

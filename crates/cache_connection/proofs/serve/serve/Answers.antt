@@ -1,46 +1,22 @@
-use Rattle.std.proofs.Common.{sym, subst, ◌≤◌, length}
-use Rattle.client_requests.specs.declared.reader.Read.TheVariants as reads
-use Rattle.request_parts.specs.Message.{Refusal}
-use Rattle.request_parts.specs.Stream.{Place}
-use Rattle.request_parts.proofs.Streams.{used_within}
-use Rattle.client_requests.specs.Both.{both_grammar}
-use Rattle.text_codec.specs.Held.{held_at}
-use Rattle.connections.proofs.Fronts.{read_front, refused_is_some, long_is_some, more_stuck}
-use Rattle.cache_connection.proofs.Fronts.{refused_done, long_line_done, front_is, goes_more}
+use Rattle.connections.proofs.Fronts.{more_stuck}
+use Rattle.cache_connection.proofs.Fronts.{passed_done, first_next, goes_more}
 use Rattle.cache_connection.proofs.serve.serve.Goals as goal
 
-pub returns-in-More-clause-ok : goal.returns-in-More-clause-ok
-returns-in-More-clause-ok c = record { goes = c.loop-connection.invariant; stuck = more_stuck c.loop-connection.connection.stream c.in-More.ensures }
-
-pub loop-connection-preserved-in-Continue-1 : goal.loop-connection-preserved-in-Continue-1
-loop-connection-preserved-in-Continue-1 c =
-    let x = c.loop-connection.connection in
-    let front = read_front x.stream reads.TooLong c.in-TooLong.ensures long_is_some in
-    goes_more c.args.moment.seconds c.args.connection.now x c.refuse_long_line.new.self c.args.cache.now c.loop-connection.cache c.loop-connection.cache c.loop-connection.invariant
-    (long_line_done c.args.moment.seconds x c.refuse_long_line.new.self c.loop-connection.cache front.0 front.1 front.2 c.in_ok-refuse_long_line-in-TooLong.ensures.ok)
-
-pub refuse-requires : goal.refuse-requires
-refuse-requires c =
-    let x = c.loop-connection.connection in
-    let front = read_front x.stream _ c.in-Refused.ensures (refused_is_some c.in-Refused.why c.in-Refused.used c.in-Refused.skip) in
-    subst (λ (p : Place). c.in-Refused.used ≤ length (held_at p)) (sym front.1) (used_within both_grammar front.0 (Refusal c.in-Refused.why c.in-Refused.skip) c.in-Refused.used front.2)
-
-pub loop-connection-smaller-in-Continue-branch-2 : goal.loop-connection-smaller-in-Continue-branch-2
-loop-connection-smaller-in-Continue-branch-2 c =
-    let x = c.loop-connection.connection in
-    let front = read_front x.stream _ c.in-Refused.ensures (refused_is_some c.in-Refused.why c.in-Refused.used c.in-Refused.skip) in
-    (refused_done c.args.moment.seconds x c.refuse.new.self c.loop-connection.cache front.0 c.in-Refused.why c.in-Refused.used c.in-Refused.skip front.1 front.2 (c.in_ok-refuse-in-Refused.ensures.ok front.0 front.1)).shorter
-
-pub loop-connection-preserved-in-Continue-branch-2 : goal.loop-connection-preserved-in-Continue-branch-2
-loop-connection-preserved-in-Continue-branch-2 c =
-    let x = c.loop-connection.connection in
-    let front = read_front x.stream _ c.in-Refused.ensures (refused_is_some c.in-Refused.why c.in-Refused.used c.in-Refused.skip) in
-    goes_more c.args.moment.seconds c.args.connection.now x c.refuse.new.self c.args.cache.now c.loop-connection.cache c.loop-connection.cache c.loop-connection.invariant
-    (refused_done c.args.moment.seconds x c.refuse.new.self c.loop-connection.cache front.0 c.in-Refused.why c.in-Refused.used c.in-Refused.skip front.1 front.2 (c.in_ok-refuse-in-Refused.ensures.ok front.0 front.1))
+pub returns-in-Nothing-clause-ok : goal.returns-in-Nothing-clause-ok
+returns-in-Nothing-clause-ok c = record { goes = c.loop-read.invariant; stuck = more_stuck c.loop-read.connection.stream c.in-Nothing.ensures }
 
 pub serve_request-requires : goal.serve_request-requires
-serve_request-requires c = front_is c.loop-connection.connection c.in-Request.request c.in-Request.ensures
+serve_request-requires c = first_next c.loop-read.connection c.in-Keys.request c.in-Keys.ensures.0 c.in-Keys.ensures.1
 
-pub loop-connection-preserved : goal.loop-connection-preserved
-loop-connection-preserved c =
-    goes_more c.args.moment.seconds c.args.connection.now c.loop-connection.connection c.serve_request.new.connection c.args.cache.now c.loop-connection.cache c.serve_request.new.cache c.loop-connection.invariant c.in_ok-serve_request-in-Request.ensures.ok
+pub loop-read-smaller-in_ok-pass-in-Passing : goal.loop-read-smaller-in_ok-pass-in-Passing
+loop-read-smaller-in_ok-pass-in-Passing c = (passed_done c.args.moment.seconds c.loop-read.connection c.pass.new.self c.loop-read.cache c.in_ok-pass-in-Passing.field-0 c.in_ok-pass-in-Passing.ensures.ok).shorter
+
+pub loop-read-preserved-in_ok-pass-in-Passing : goal.loop-read-preserved-in_ok-pass-in-Passing
+loop-read-preserved-in_ok-pass-in-Passing c =
+    let x = c.loop-read.connection in
+    goes_more c.args.moment.seconds c.args.connection.now x c.pass.new.self c.args.cache.now c.loop-read.cache c.loop-read.cache c.loop-read.invariant
+    (passed_done c.args.moment.seconds x c.pass.new.self c.loop-read.cache c.in_ok-pass-in-Passing.field-0 c.in_ok-pass-in-Passing.ensures.ok)
+
+pub loop-read-preserved : goal.loop-read-preserved
+loop-read-preserved c =
+    goes_more c.args.moment.seconds c.args.connection.now c.loop-read.connection c.serve_request.new.connection c.args.cache.now c.loop-read.cache c.serve_request.new.cache c.loop-read.invariant c.in_ok-serve_request-in-Keys.ensures.ok

@@ -1,12 +1,13 @@
 use Rattle.std.proofs.Common.{ℕ, ◌+◌, ◌≤◌, length, sym, ap, subst, nat_eq}
 use Rattle.std.proofs.lemmas.Result.{IfOk-weaker}
 use Rattle.text_codec.specs.Held.{held_at}
-use Rattle.cache_connection.proofs.Keys.{serves_ask, used_held}
+use Rattle.connections.proofs.Fronts.{used_held}
+use Rattle.cache_connection.proofs.Keys.{serves_ask}
 use Rattle.cache_connection.proofs.serve.serve_ask.Goals as goal
 
 pub show-shown-requires : goal.show-shown-requires
 show-shown-requires c =
-    subst (λ (n : ℕ). n ≤ length (held_at c.args.connection.now.stream)) (sym c.used.ensures) (used_held c.args.connection.now c.args.request.now c.requires.at.front)
+    subst (λ (n : ℕ). n ≤ length (held_at c.args.connection.now.stream)) (sym c.used.ensures) (used_held c.args.connection.now.stream c.args.request.now c.requires.at.front)
 
 pub returns-clause-ok : goal.returns-clause-ok
 returns-clause-ok c =

@@ -1,6 +1,7 @@
 use Rattle.std.proofs.Common.{ℕ, ◌≤◌, length, refl, sym, subst}
 use Rattle.text_codec.specs.Held.{held_at}
-use Rattle.core_client.proofs.Fronts.{used_held, begins_key}
+use Rattle.connections.proofs.Fronts.{used_held}
+use Rattle.core_client.proofs.Fronts.{begins_key}
 use Rattle.core_client.proofs.client.Client.begin.Goals as goal
 
 pub move_on-requires : goal.move_on-requires

@@ -4,7 +4,7 @@ use Rattle.request_parts.specs.declared.skip.Skip.TheVariants.{Nothing}
 use Rattle.request_parts.specs.Stream.{Stands}
 use Rattle.text_codec.specs.Held.{held_at}
 use Rattle.text_codec.specs.Replies.{is_failure}
-use Rattle.core_client.proofs.Fronts.{used_held}
+use Rattle.connections.proofs.Fronts.{used_held}
 use Rattle.core_client.proofs.Places.{went_on}
 use Rattle.core_client.proofs.client.Client.go_on.Goals as goal
 

@@ -12,9 +12,9 @@ use Rattle.client_requests.specs.Message.{message_in, used_of}
 use Rattle.client_requests.specs.Asks.{asks_of, counted, request_of, taken_of}
 use Rattle.client_requests.proofs.RequestLaws.{read_still, walk_still}
 use Rattle.text_codec.specs.Held.{held_at, IsReadAt}
-use Rattle.core_client.specs.declared.client_stream.Walk.{Walk}
-use Rattle.core_client.specs.ClientStreams.{IsWalkAt, IsKept}
-use Rattle.core_client.proofs.Fronts.{front_is}
+use Rattle.connections.specs.declared.client_stream.Walk.{Walk}
+use Rattle.connections.specs.ClientStreams.{IsWalkAt, IsKept}
+use Rattle.connections.proofs.Fronts.{front_is}
 
 -- it goes on when more has come
 pub still_kept : (place : Place) (more : List ℕ) (walk : Option Walk) → IsKept place walk → IsKept (extended place more) walk

@@ -1,6 +1,6 @@
 use Rattle.std.specs.Prelude.{◌≡◌, ◌≤◌, ◌-◌}
-use Rattle.core_client.specs.ClientStreams.{IsWalkAt}
-use Rattle.core_client.proofs.client_stream.Walk.go_to.Given as goal
+use Rattle.connections.specs.ClientStreams.{IsWalkAt}
+use Rattle.connections.proofs.client_stream.Walk.go_to.Given as goal
 
 abbrev pub invariant-loop-self : goal.invariant-loop-self
 invariant-loop-self l = record {

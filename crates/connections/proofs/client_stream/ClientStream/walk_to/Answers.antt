@@ -6,8 +6,8 @@ use Rattle.client_requests.specs.declared.request.Request.{Request}
 use Rattle.client_requests.specs.Message.{message_in}
 use Rattle.client_requests.specs.Asks.{asks_of}
 use Rattle.text_codec.specs.Held.{held_at}
-use Rattle.core_client.proofs.ClientStreams.{same_asks}
-use Rattle.core_client.proofs.client_stream.ClientStream.walk_to.Goals as goal
+use Rattle.connections.proofs.ClientStreams.{same_asks}
+use Rattle.connections.proofs.client_stream.ClientStream.walk_to.Goals as goal
 
 pub go_to-requires-clause-there : goal.go_to-requires-clause-there
 go_to-requires-clause-there c =

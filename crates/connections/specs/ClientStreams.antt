@@ -4,7 +4,7 @@ use Rattle.client_requests.specs.Asks.{IsWalk, request_of, taken_of}
 use Rattle.client_requests.specs.declared.reader.Read.TheVariants.{Request as Requests}
 use Rattle.request_parts.specs.Stream.{Place}
 use Rattle.text_codec.specs.Held.{held_at, IsReadAt}
-use Rattle.core_client.specs.declared.client_stream.Walk.{Walk}
+use Rattle.connections.specs.declared.client_stream.Walk.{Walk}
 
 -- a walk over the asks of the request that is read at a place
 pub record IsWalkAt (place : Place) (walk : Walk) : Type 0 where

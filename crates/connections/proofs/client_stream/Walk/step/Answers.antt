@@ -2,8 +2,8 @@ use Rattle.std.proofs.Common.{ℕ, List, ap, subst, ◌∙◌}
 use Rattle.client_requests.specs.Message.{message_in}
 use Rattle.client_requests.specs.Asks.{asks_of, counted, IsWalk}
 use Rattle.text_codec.specs.Held.{held_at}
-use Rattle.core_client.proofs.ClientStreams.{counted_one, next_is}
-use Rattle.core_client.proofs.client_stream.Walk.step.Goals as goal
+use Rattle.connections.proofs.ClientStreams.{counted_one, next_is}
+use Rattle.connections.proofs.client_stream.Walk.step.Goals as goal
 
 pub returns-clause-at : goal.returns-clause-at
 returns-clause-at c =

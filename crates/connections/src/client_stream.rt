@@ -7,7 +7,7 @@ ghost use Rattle.client_requests.specs.Message.{message_in};
 ghost use Rattle.client_requests.specs.Asks.{asks_of, IsClientAsk};
 ghost use Rattle.client_requests.specs.declared.reader.Read.TheVariants.{Request as Requests};
 ghost use Rattle.text_codec.specs.Held.{held_at, IsReadAt};
-ghost use Rattle.core_client.specs.ClientStreams.{IsWalkAt, IsKept};
+ghost use Rattle.connections.specs.ClientStreams.{IsWalkAt, IsKept};
 
 use mc_types::Ask;
 use std::alloc::{AllocError, Global};
@@ -32,7 +32,7 @@ pub struct ClientStream {
 
 impl Model for ClientStream {
     ghost use Rattle.request_parts.specs.Stream.{Place};
-    ghost use Rattle.core_client.specs.ClientStreams.{IsKept};
+    ghost use Rattle.connections.specs.ClientStreams.{IsKept};
 
     ghost Value = { Place };
 
