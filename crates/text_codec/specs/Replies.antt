@@ -106,6 +106,21 @@ part_text last ask reply =
 abbrev pub shown_text : Bool → Bool → Ask → Answer → List ℕ
 shown_text quiet last ask reply = if is_hidden quiet ask reply then [] else part_text last ask reply
 
+-- the reply shows its data after their line: a hit, or a meta answer to a meta ask
+abbrev pub shows_data : Bool → Answer → Bool
+shows_data shows (answers.Hit flags body cas) = true
+shows_data shows (answers.Meta code fields) = not shows
+shows_data shows _ = false
+
+-- `END` stands after the data: of a hit, but for one that has further keys after it
+abbrev pub has_end : Bool → Bool → Answer → Bool
+has_end shows last (answers.Hit flags body cas) = if shows then last else true
+has_end shows last _ = false
+
+-- what stands after the data of a reply
+abbrev pub after_data : Bool → Ask → Answer → List ℕ
+after_data last ask reply = codes "\r\n" ++ (if has_end (shows_values ask.dialect ask.op) last reply then end_text else [])
+
 -- the i-th ask is the last one
 abbrev pub is_last : List Ask → ℕ → Bool
 is_last asks i = i + 1 == length asks

@@ -10,11 +10,13 @@
 
 pub mod laws;
 pub mod replies;
+pub mod sending;
 pub mod stream;
 
 pub use client_requests::{Asks, Read, Request, read_request, write_ask};
 pub use mc_text::{Line, line};
 pub use replies::{ends_message, write_long_line, write_own, write_part, write_refusal};
 pub use request_parts::{ProxyCommand, RefusalReason, Skip};
+pub use sending::send_part;
 pub use stream::TextStream;
 pub use text_answers::{AnswerRead, read_answer, write_answer, write_end, write_value};

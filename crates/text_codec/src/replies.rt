@@ -11,7 +11,7 @@ use std::alloc::AllocError;
 use text_answers::{write_answer, write_end, write_value};
 
 // Whether the reply is a value, and has `END` after the last key.
-fn shows_values(dialect: Dialect, op: Op) -> bool
+pub(crate) fn shows_values(dialect: Dialect, op: Op) -> bool
     ensures { result ≡ shows_values dialect op }
 {
     match (dialect, op) {
@@ -41,7 +41,7 @@ fn hidden_answer(op: Op, reply: &Answer) -> bool
     }
 }
 
-fn is_hidden(quiet: bool, ask: &Ask, reply: &Answer) -> bool
+pub(crate) fn is_hidden(quiet: bool, ask: &Ask, reply: &Answer) -> bool
     ensures { result ≡ is_hidden quiet ask.now reply.now }
 {
     quiet
