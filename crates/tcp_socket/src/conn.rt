@@ -1,9 +1,12 @@
-//! The stream of an end and its two buffers: a read goes after what is held, a write takes from the front of what is to be sent.
+//! The stream of an end, what is held of it and what is to be sent: a read goes after what is held, a write takes from the front of what is
+//! to be sent.
 
 ghost use Rattle.std.specs.Prelude.{◌≡◌, false, ◌↔◌, ◌<◌, ◌≤◌, ◌⊎◌, [], length, drop, IsTrue, IfOk, OnOk, OnErr};
+ghost use Rattle.send_buffer.specs.Sending.{bytes_of};
 ghost use Rattle.tcp_socket.specs.Ends.{Reads, Sends};
 
 use bytes::BytesMut;
+use send_buffer::SendBuffer;
 use std::alloc::{AllocError, Global};
 use std::io::{ErrorKind, Read, Write};
 use std::{io, mem};
@@ -59,7 +62,7 @@ pub struct Conn<S: Drop> {
     // Where what is held goes when it has to move. What stands in it is of no account.
     other: BytesMut,
     /// What is to be sent.
-    pub unsent: BytesMut,
+    pub unsent: SendBuffer,
     pub limits: Limits,
     /// Whether a read may give something. A report of the system sets it.
     pub readable: bool,
@@ -112,7 +115,7 @@ impl<S: Read + Write + Drop> Conn<S> {
     pub fn new(alloc: Global, stream: S, limits: Limits) -> Conn<S>
         ensures stream { result.stream ≡ stream }
         ensures held { result.held.items ≡ [] }
-        ensures unsent { result.unsent.items ≡ [] }
+        ensures unsent { bytes_of result.unsent ≡ [] }
         ensures limits { result.limits ≡ limits }
         ensures flags { (IsTrue result.readable × IsTrue result.writable) × (result.closing ≡ false) }
     {
@@ -120,7 +123,7 @@ impl<S: Read + Write + Drop> Conn<S> {
             stream,
             held: BytesMut::new(alloc),
             other: BytesMut::new(alloc),
-            unsent: BytesMut::new(alloc),
+            unsent: SendBuffer::new(alloc),
             limits,
             readable: true,
             writable: true,
@@ -130,7 +133,7 @@ impl<S: Read + Write + Drop> Conn<S> {
 
     /// Whether what is to be sent is a backlog.
     pub fn has_backlog(&self) -> bool
-        ensures { IsTrue result ↔ (self.now.limits.unsent ≤ length self.now.unsent.items) }
+        ensures { IsTrue result ↔ (self.now.limits.unsent ≤ length (bytes_of self.now.unsent)) }
     {
         self.unsent.len() >= self.limits.unsent
     }
@@ -202,23 +205,24 @@ impl<S: Read + Write + Drop> Conn<S> {
         }
     }
 
-    /// One write of what is to be sent: exactly what the stream took goes from its front. `writable` is cleared where the stream said
-    /// that it takes nothing now.
+    /// One write of the first bytes that are to be sent, as many as lie together: exactly what the stream took goes from their front, and
+    /// more may be to be sent where it took them all. `writable` is cleared where the stream said that it takes nothing now.
     ///
     /// Source: mcgate's own.
     pub fn send_once(&mut self) -> Sent
-        ensures sent { Sends self.old.unsent.items (S.contents self.old.stream) result self.new.unsent.items (S.contents self.new.stream) }
+        ensures sent { Sends (bytes_of self.old.unsent) (S.contents self.old.stream) result (bytes_of self.new.unsent) (S.contents self.new.stream) }
         ensures held { self.new.held ≡ self.old.held }
         ensures rest { self.new.limits ≡ self.old.limits }
         ensures flags { (self.new.readable ≡ self.old.readable) × (self.new.closing ≡ self.old.closing) }
     {
-        if self.unsent.is_empty() {
+        let front = self.unsent.front();
+        if front.is_empty() {
             return Sent::Nothing;
         }
-        match self.stream.write(self.unsent.as_slice()) {
+        match self.stream.write(front) {
             Ok(0) => Sent::Failed,
             Ok(count) => {
-                take_front(&mut self.unsent, count);
+                self.unsent.advance(count);
                 Sent::Bytes
             }
             Err(error) => self.sent_at(pause_of(&error)),
@@ -237,18 +241,20 @@ impl<S: Read + Write + Drop> Conn<S> {
     /// Buffers in which nothing stands give their room back, where it is more than so many bytes.
     pub fn give_back(&mut self, alloc: Global, kept: usize)
         ensures held { self.new.held.items ≡ self.old.held.items }
-        ensures unsent { self.new.unsent.items ≡ self.old.unsent.items }
+        ensures unsent { bytes_of self.new.unsent ≡ bytes_of self.old.unsent }
         ensures rest { self.new ≡ record self.old { held = self.new.held; other = self.new.other; unsent = self.new.unsent } }
     {
         self.other.clear();
         give_back(alloc, kept, &mut self.held);
         give_back(alloc, kept, &mut self.other);
-        give_back(alloc, kept, &mut self.unsent);
+        self.unsent.give_back(kept);
     }
 
-    /// Whether a buffer has more room than so many bytes.
+    /// Whether a buffer has more room than so many bytes, or what is to be sent has room for many pieces.
     pub fn has_room_above(&self, kept: usize) -> bool {
-        self.held.capacity() > kept || self.other.capacity() > kept || self.unsent.capacity() > kept
+        self.held.capacity() > kept
+            || self.other.capacity() > kept
+            || self.unsent.has_room_above(kept)
     }
 
     fn sent_at(&mut self, pause: Pause) -> Sent

@@ -1,0 +1,15 @@
+-- The bytes that are to be sent. Source: mcgate's own.
+use Rattle.std.specs.Prelude.{ℕ, List, ◌++◌, drop}
+use Rattle.std.specs.List.{flat_map}
+use Rattle.send_buffer.specs.declared.piece.Piece.{Piece}
+use Rattle.send_buffer.specs.declared.piece.Piece.TheVariants.{Text, Data}
+use Rattle.send_buffer.specs.declared.buffer.SendBuffer.{SendBuffer}
+
+-- what of a piece is still to be sent
+abbrev pub bytes_in : Piece → List ℕ
+bytes_in (Text text) = text.items
+bytes_in (Data body sent) = drop sent body
+
+-- all that is to be sent: each piece in its order, and then the text
+abbrev pub bytes_of : SendBuffer → List ℕ
+bytes_of buffer = flat_map bytes_in buffer.pieces.items ++ buffer.text.items
