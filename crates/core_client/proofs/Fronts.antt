@@ -1,5 +1,7 @@
 -- A message at a client's front that was passed, or a key of it that began.
 use Rattle.std.proofs.Common.{◌≡◌, ℕ, ◌+◌, Bool, true, false, List, [], ◌∷◌, ◌++◌, length, drop, None, refl, sym, ap, ◌∙◌, subst, nat_eq, if◌then◌else◌}
+use Rattle.send_buffer.specs.Sending.{bytes_of}
+use Rattle.send_buffer.proofs.Growing.{text_grew}
 use Rattle.mc_types.specs.declared.ask.Ask.{Ask}
 use Rattle.mc_runs.specs.Log.{Part}
 use Rattle.mc_runs.specs.Overlap.{Front}
@@ -20,9 +22,9 @@ use Rattle.core_client.specs.ClientState.{dialect}
 use Rattle.core_client.specs.Fronts.{PassesFront, IsAskAt, MovesOn, BeginsKey}
 
 -- a message that asks no server
-pub passes_front : (x y : Client) (passed : Passed) → x.dropped ≡ false → x.queue.items ≡ [] → PassesMessage x.stream x.output.items passed y.stream y.output.items
-    → y.index ≡ 0 → y.waits ≡ false → y.queue ≡ x.queue → y.dropped ≡ x.dropped → PassesFront x passed y
-passes_front x y passed served none p index waits queue dropped =
+pub passes_front : (x y : Client) (passed : Passed) → x.dropped ≡ false → x.queue.items ≡ [] → PassesMessage x.stream x.output.text.items passed y.stream y.output.text.items
+    → y.output.pieces.items ≡ x.output.pieces.items → y.index ≡ 0 → y.waits ≡ false → y.queue ≡ x.queue → y.dropped ≡ x.dropped → PassesFront x passed y
+passes_front x y passed served none p pieces index waits queue dropped =
     record {
       message = p.message;
       next = p.next;
@@ -35,7 +37,7 @@ passes_front x y passed served none p index waits queue dropped =
         stream = p.place_is;
         index = index;
         waits = waits;
-        output = p.output_is;
+        output = text_grew x.output y.output (passed_text p.message) pieces p.output_is;
         dropped = dropped;
       };
       told = p.told;
@@ -44,7 +46,7 @@ passes_front x y passed served none p index waits queue dropped =
 -- the next key of the message at the front began, and the client moved on
 pub begins_key : (x z y : Client) (request : Request) (ask : Ask) (number count used : ℕ) (quiet : Bool) → IsAskAt x request ask → x.waits ≡ false
     → count ≡ length (asks_of (message_in (held_at x.stream) request)) → used ≡ used_of request → quiet ≡ quiet_of (message_in (held_at x.stream) request)
-    → z.stream ≡ x.stream → z.index ≡ x.index → z.output.items ≡ x.output.items → z.dropped ≡ x.dropped
+    → z.stream ≡ x.stream → z.index ≡ x.index → bytes_of z.output ≡ bytes_of x.output → z.dropped ≡ x.dropped
     → z.queue.items ≡ x.queue.items ++ record { ask = ask; reply = None; number = number; quiet = quiet; last = nat_eq (x.index + 1) count } ∷ []
     → ((held : List ℕ) → z.stream ≡ Stands Nothing held → MovesOn (nat_eq (x.index + 1) count) z (drop used held) y)
     → BeginsKey x ask number y

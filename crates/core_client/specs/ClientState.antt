@@ -1,5 +1,6 @@
 -- What a client of the core and its commands stand for in the log of all that happened. Source: mcgate's own.
 use Rattle.std.specs.Prelude.{◌≡◌, ℕ, Bool, false, List, [], Option, Some, None, slice_get}
+use Rattle.send_buffer.specs.Sending.{bytes_of}
 use Rattle.mc_runs.specs.Protocol.{Protocol}
 use Rattle.mc_runs.specs.Overlap.{Front, Slot, is_last_slot, start_front}
 use Rattle.client_requests.specs.Asks.{quiet_of}
@@ -25,7 +26,7 @@ front_by (Some x) = record { place = x.stream; index = x.index; waits = x.waits 
 
 abbrev pub output_by : Option Client → List ℕ
 output_by None = []
-output_by (Some x) = x.output.items
+output_by (Some x) = bytes_of x.output
 
 abbrev pub dropped_by : Option Client → Bool
 dropped_by None = false

@@ -2,6 +2,7 @@
 use Rattle.std.specs.Prelude.{◌≡◌, ℕ, Bool, true, false, List, [], is_none, if◌then◌else◌, nat_eq, ◌⊎◌}
 use Rattle.std.specs.Cmp.Lexicographic.{pointwise}
 use Rattle.std.specs.List.{list_any}
+use Rattle.send_buffer.specs.Sending.{bytes_of}
 use Rattle.request_parts.specs.declared.skip.Skip.TheVariants.{Nothing}
 use Rattle.request_parts.specs.Stream.{Stands, Closed, extended}
 use Rattle.core_client.specs.declared.client.Pending.{Pending}
@@ -13,7 +14,7 @@ pub record IsNew (x : Client) : Type 0 where
   pub index : x.index ≡ 0
   pub waits : x.waits ≡ false
   pub queue : x.queue.items ≡ []
-  pub output : x.output.items ≡ []
+  pub output : bytes_of x.output ≡ []
   pub dropped : x.dropped ≡ false
 
 -- nothing is read of it any more
@@ -26,7 +27,7 @@ pub record TakesPiece (x : Client) (bytes : List ℕ) (y : Client) : Type 0 wher
   pub index : y.index ≡ x.index
   pub waits : y.waits ≡ x.waits
   pub queue : y.queue.items ≡ x.queue.items
-  pub output : y.output.items ≡ x.output.items
+  pub output : bytes_of y.output ≡ bytes_of x.output
   pub dropped : y.dropped ≡ x.dropped
 
 -- its output is taken, and nothing else of it changes
@@ -35,7 +36,7 @@ pub record LosesOutput (x y : Client) : Type 0 where
   pub index : y.index ≡ x.index
   pub waits : y.waits ≡ x.waits
   pub queue : y.queue.items ≡ x.queue.items
-  pub output : y.output.items ≡ []
+  pub output : bytes_of y.output ≡ []
   pub dropped : y.dropped ≡ x.dropped
 
 -- a command without a reply is on this key

@@ -1,5 +1,6 @@
 -- What stands at a client's front, and what is changed of one client where it is passed, or a key of it begins. Source: mcgate's own.
 use Rattle.std.specs.Prelude.{◌≡◌, ℕ, ◌<◌, Bool, true, false, List, [], ◌∷◌, ◌++◌, length, Some, slice_get, if◌then◌else◌}
+use Rattle.send_buffer.specs.Sending.{bytes_of}
 use Rattle.mc_types.specs.declared.ask.Ask.{Ask}
 use Rattle.mc_runs.specs.Log.{Part}
 use Rattle.mc_runs.specs.Overlap.{Front, IsNext, after_start, slot_of}
@@ -21,7 +22,7 @@ pub record Stays (x y : Client) : Type 0 where
   pub index : y.index ≡ x.index
   pub waits : y.waits ≡ x.waits
   pub queue : y.queue.items ≡ x.queue.items
-  pub output : y.output.items ≡ x.output.items
+  pub output : bytes_of y.output ≡ bytes_of x.output
   pub dropped : y.dropped ≡ x.dropped
 
 -- a client without commands under way passed a message that asks no server
@@ -34,7 +35,7 @@ pub record PassesOne (x : Client) (message : Message) (next : Place) (y : Client
   pub stream : y.stream ≡ next
   pub index : y.index ≡ 0
   pub waits : y.waits ≡ false
-  pub output : y.output.items ≡ x.output.items ++ dialect.passed message
+  pub output : bytes_of y.output ≡ bytes_of x.output ++ dialect.passed message
   pub dropped : y.dropped ≡ x.dropped
 
 -- a message that asks no server was passed, and is told so
@@ -59,7 +60,7 @@ front_after last x rest = if last then record { place = Stands Nothing rest; ind
 pub record MovesOn (last : Bool) (x : Client) (rest : List ℕ) (y : Client) : Type 0 where
   pub front : front_by (Some y) ≡ front_after last x rest
   pub queue : y.queue.items ≡ x.queue.items
-  pub output : y.output.items ≡ x.output.items
+  pub output : bytes_of y.output ≡ bytes_of x.output
   pub dropped : y.dropped ≡ x.dropped
 
 -- the next key of the message at the front began: its reply is waited for
@@ -71,6 +72,6 @@ pub record BeginsKey (x : Client) (ask : Ask) (number : ℕ) (y : Client) : Type
   pub next : IsNext (front_by (Some x)) part
   pub front : front_by (Some y) ≡ after_start (front_by (Some x)) part
   pub queue : y.queue.items ≡ x.queue.items ++ pending ∷ []
-  pub output : y.output.items ≡ x.output.items
+  pub output : bytes_of y.output ≡ bytes_of x.output
   pub dropped : y.dropped ≡ x.dropped
   pub slot : IsSlot pending (slot_of number part)

@@ -1,5 +1,6 @@
 -- What stands at the head of a client's commands, and what is changed of one client where it is shown. Source: mcgate's own.
 use Rattle.std.specs.Prelude.{◌≡◌, ℕ, Bool, true, false, List, [], ◌∷◌, ◌++◌, Some, None}
+use Rattle.send_buffer.specs.Sending.{bytes_of}
 use Rattle.mc_types.specs.declared.answer.Answer.{Answer}
 use Rattle.text_codec.specs.Replies.{shown_text}
 use Rattle.core_client.specs.declared.client.Client.{Client}
@@ -17,7 +18,7 @@ pub record ShowsHead (x : Client) (pending : Pending) (reply : Answer) (y : Clie
   pub replied : pending.reply ≡ Some reply
   pub served : x.dropped ≡ false
   pub queue : y.queue.items ≡ rest
-  pub output : y.output.items ≡ x.output.items ++ shown_text pending.quiet pending.last pending.ask reply
+  pub output : bytes_of y.output ≡ bytes_of x.output ++ shown_text pending.quiet pending.last pending.ask reply
   pub stream : y.stream ≡ x.stream
   pub index : y.index ≡ x.index
   pub waits : y.waits ≡ x.waits

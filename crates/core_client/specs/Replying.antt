@@ -1,5 +1,6 @@
 -- What is changed of one client where the reply of one of its commands comes. Source: mcgate's own.
 use Rattle.std.specs.Prelude.{◌≡◌, ℕ, ◌+◌, ◌<◌, Bool, true, false, List, [], ◌∷◌, Option, Some, None, if◌then◌else◌, length, nat_eq, position, slice_get, slice_set}
+use Rattle.send_buffer.specs.Sending.{bytes_of}
 use Rattle.mc_types.specs.declared.answer.Answer.{Answer}
 use Rattle.mc_types.specs.declared.ask.Ask.{Ask}
 use Rattle.mc_runs.specs.Overlap.{Front}
@@ -85,5 +86,5 @@ HasNoPlace x number = (pending : Pending) → HasPlace x number pending → ⊥
 pub record Answers (x : Client) (at : ℕ) (last : Bool) (reply : Answer) (y : Client) : Type 0 where
   pub queue : (pending : Pending) → slice_get x.queue.items at ≡ Some pending → y.queue.items ≡ slice_set x.queue.items at (replied reply pending)
   pub front : GoesOn last x reply y
-  pub output : y.output.items ≡ x.output.items
+  pub output : bytes_of y.output ≡ bytes_of x.output
   pub dropped : y.dropped ≡ x.dropped

@@ -21,7 +21,7 @@ impl Client {
         ensures ok { IfOk result (λ passed. PassesFront self.old passed self.new) }
         ensures err { OnErr result (Stays self.old self.new) }
     {
-        let passed = pass(read, &mut self.stream, &mut self.output)?;
+        let passed = pass(read, &mut self.stream, &mut self.output.text)?;
         self.index = 0;
         self.waits = false;
         Ok(passed)

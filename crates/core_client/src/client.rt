@@ -1,15 +1,15 @@
 //! One client of the core, and its commands whose replies were not shown yet.
 
 ghost use Rattle.std.specs.Prelude.{◌≡◌, ◌++◌, false, ◌↔◌, IsTrue, OnOk, OnErr, IfOk};
+ghost use Rattle.send_buffer.specs.Sending.{bytes_of};
 ghost use Rattle.core_client.specs.Clients.{has_own, IsNew, IsEnded, TakesPiece, LosesOutput};
 
-use bytes::BytesMut;
 use commands_under_way::SharedAsk;
 use connections::ClientStream;
 use mc_types::{Answer, Key};
+use send_buffer::SendBuffer;
 use std::alloc::{AllocError, Global};
 use std::collections::VecDeque;
-use std::mem;
 
 /// A command of a client whose reply was not shown yet.
 #[derive(Drop)]
@@ -28,7 +28,7 @@ pub struct Pending {
 #[derive(Drop)]
 pub struct Client {
     pub stream: ClientStream,
-    pub output: BytesMut,
+    pub output: SendBuffer,
     pub queue: VecDeque<Pending>,
     /// Which key of the message at the front is next.
     pub index: usize,
@@ -36,12 +36,6 @@ pub struct Client {
     pub waits: bool,
     /// Whether nothing is done for it any more, as memory was refused.
     pub dropped: bool,
-}
-
-fn copied(alloc: Global, bytes: &[u8]) -> Result<Vec<u8>, AllocError>
-    ensures { IfOk result (λ copy. copy.items ≡ bytes.now) }
-{
-    bytes.to_vec(alloc)
 }
 
 // Whether one of these without a reply is on the key.
@@ -58,7 +52,7 @@ impl Client {
     {
         Client {
             stream: ClientStream::new(alloc),
-            output: BytesMut::new(alloc),
+            output: SendBuffer::new(alloc),
             queue: VecDeque::new(alloc),
             index: 0,
             waits: false,
@@ -88,29 +82,23 @@ impl Client {
         self.stream.feed(piece)
     }
 
-    /// The output so far goes after what stands in `out`, and is then empty. Where nothing stands in `out` they are exchanged, so that no byte is copied.
-    /// The only error is running out of memory, which leaves both as they were.
-    pub fn move_output(&mut self, out: &mut BytesMut) -> Result<(), AllocError>
-        ensures bytes { OnOk result (out.new.items ≡ out.old.items ++ self.old.output.items) }
+    /// The output so far goes after what is to be sent there, and is then empty. Shared data aren't copied, and where nothing is to be sent
+    /// there the two are exchanged. The only error is running out of memory, which leaves both as they were.
+    pub fn move_output(&mut self, out: &mut SendBuffer) -> Result<(), AllocError>
+        ensures bytes { OnOk result (bytes_of out.new ≡ bytes_of out.old ++ bytes_of self.old.output) }
         ensures ok { OnOk result (LosesOutput self.old self.new) }
-        ensures err { OnErr result ((self.new ≡ self.old) × (out.new.items ≡ out.old.items)) }
+        ensures err { OnErr result ((self.new ≡ self.old) × (bytes_of out.new ≡ bytes_of out.old)) }
     {
-        if out.is_empty() {
-            mem::swap(&mut self.output, out);
-            return Ok(());
-        }
-        out.extend_from_slice(self.output.as_slice())?;
-        self.output.clear();
-        Ok(())
+        self.output.move_to(out)
     }
 
     /// The output so far, a copy, which is then empty. The only error is running out of memory, which leaves the client as it was.
     pub fn take_output(&mut self, alloc: Global) -> Result<Vec<u8>, AllocError>
-        ensures bytes { IfOk result (λ bytes. bytes.items ≡ self.old.output.items) }
+        ensures bytes { IfOk result (λ bytes. bytes.items ≡ bytes_of self.old.output) }
         ensures ok { OnOk result (LosesOutput self.old self.new) }
         ensures err { OnErr result (self.new ≡ self.old) }
     {
-        let bytes = copied(alloc, self.output.as_slice())?;
+        let bytes = self.output.to_vec(alloc)?;
         self.output.clear();
         Ok(bytes)
     }

@@ -1,25 +1,26 @@
 //! Replies at the head of a client's commands are shown.
 
 ghost use Rattle.std.specs.Prelude.{◌≡◌, MatchBool, false, IfOk, OnErr, drop};
+ghost use Rattle.send_buffer.specs.Sending.{bytes_of};
 ghost use Rattle.core_client.specs.Fronts.{Stays};
 ghost use Rattle.core_client.specs.Heads.{WritesReply, ShowsOne};
 
 use crate::client::{Client, Pending};
-use bytes::BytesMut;
+use send_buffer::SendBuffer;
 use std::alloc::AllocError;
 use std::collections::VecDeque;
-use text_codec::write_part;
+use text_codec::send_part;
 
 // What its reply shows is written, if it has one: whether it has.
-fn write_reply(pending: &Pending, output: &mut BytesMut) -> Result<bool, AllocError>
-    ensures ok { IfOk result (λ shown. WritesReply pending.now output.old.items shown output.new.items) }
+fn write_reply(pending: &Pending, output: &mut SendBuffer) -> Result<bool, AllocError>
+    ensures ok { IfOk result (λ shown. WritesReply pending.now (bytes_of output.old) shown (bytes_of output.new)) }
     ensures same { IfOk result (λ shown. MatchBool shown (Unit {0}) (output.new ≡ output.old)) }
-    ensures err { OnErr result (output.new.items ≡ output.old.items) }
+    ensures err { OnErr result (bytes_of output.new ≡ bytes_of output.old) }
 {
     match &pending.reply {
         None => Ok(false),
         Some(reply) => {
-            write_part(
+            send_part(
                 pending.quiet,
                 pending.last,
                 pending.ask.get(),

@@ -4,6 +4,7 @@ use Rattle.std.proofs.lemmas.Bool.{eqb-true, eq-eqb}
 use Rattle.std.specs.Prelude.{IsSome, ◌≢◌, MatchBool}
 use Rattle.std.specs.List.{list_any}
 use Rattle.std.specs.Map as assoc
+use Rattle.send_buffer.specs.Sending.{bytes_of}
 use Rattle.slab.proofs.SlabLemmas.{Updates-with_value}
 use Rattle.slab.specs.Slab as slab
 use Rattle.mc_runs.specs.Overlap as log
@@ -120,7 +121,7 @@ same_at_front x y (slot ∷ []) t h = λ waits. let a = h (sym t.waits ∙ waits
 same_at_front x y (slot ∷ next ∷ slots) t h = same_at_front x y (next ∷ slots) t h
 
 -- its output was taken
-pub gives : (old new : Core) (client : ℕ) (x y : Client) (bytes : List ℕ) → Turns old new client (Some x) (Some y) → bytes ≡ x.output.items → LosesOutput x y → Gives old client bytes new
+pub gives : (old new : Core) (client : ℕ) (x y : Client) (bytes : List ℕ) → Turns old new client (Some x) (Some y) → bytes ≡ bytes_of x.output → LosesOutput x y → Gives old client bytes new
 gives old new client x y bytes t taken p = (
   taken ∙ ap output_by (sym t.was),
   λ beside fits. (

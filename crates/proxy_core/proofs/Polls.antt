@@ -3,6 +3,7 @@ use Rattle.std.proofs.Common.{◌≡◌, ◌↔◌, ℕ, ◌+◌, ◌<◌, Bool,
 use Rattle.std.proofs.lemmas.Bool.{eqb-true, eq-eqb}
 use Rattle.std.proofs.lemmas.List.{map-append}
 use Rattle.std.specs.Prelude.{IsTrue, Result, Ok, Err, OnOk, OnErr, IfOk, IfErr, is_err}
+use Rattle.send_buffer.specs.Sending.{bytes_of}
 use Rattle.mc_types.specs.Asks.{IsAsk}
 use Rattle.mc_types.specs.Acknowledged.{Acknowledges}
 use Rattle.mc_types.specs.declared.answer.Answer.{Answer}
@@ -273,7 +274,7 @@ shown_goes old new client x y true t served p = (
     less : (a b : ℕ) (rest : List Pending) (q : Pending) → b ≡ length (q ∷ rest) → a ≡ length rest → a < b
     less a b rest q e f = omega (arith, e, f)
 shown_goes old new client x y false t served p = (
-  still_goes old new client x y t (record { stream = ap (λ (z : Client). z.stream) p.1; index = ap (λ (z : Client). z.index) p.1; waits = ap (λ (z : Client). z.waits) p.1; queue = ap (λ (z : Client). z.queue.items) p.1; output = ap (λ (z : Client). z.output.items) p.1; dropped = ap (λ (z : Client). z.dropped) p.1 }),
+  still_goes old new client x y t (record { stream = ap (λ (z : Client). z.stream) p.1; index = ap (λ (z : Client). z.index) p.1; waits = ap (λ (z : Client). z.waits) p.1; queue = ap (λ (z : Client). z.queue.items) p.1; output = ap (λ (z : Client). bytes_of z.output) p.1; dropped = ap (λ (z : Client). z.dropped) p.1 }),
   subst (λ o. MatchOption o ⊥ IsServed) (sym t.is) (ap (λ (z : Client). z.dropped) p.1 ∙ served),
   subst (λ o. MatchOption o ⊥ (λ z. HasNoReply z.queue.items)) (sym t.is) (subst (λ (z : Client). HasNoReply z.queue.items) (sym p.1) p.0),
 )

@@ -1,6 +1,7 @@
 -- A reply that the core wrote for the head of a client's commands is one that is shown.
 use Rattle.std.proofs.Common.{◌≡◌, ℕ, zero, suc, ◌<◌, Bool, true, false, cond, List, [], ◌∷◌, ◌++◌, Some, None, refl, sym, ap, ◌∙◌, subst, nat_eq, slice_get}
 use Rattle.std.proofs.lemmas.Bool.{eqb-true}
+use Rattle.send_buffer.specs.Sending.{bytes_of}
 use Rattle.mc_types.specs.declared.ask.Ask.{Ask}
 use Rattle.mc_types.specs.declared.answer.Answer.{Answer}
 use Rattle.mc_runs.specs.Overlap.{Slot, Shows, slot_in, behind_head}
@@ -65,7 +66,7 @@ module _ (old new : Core) (client : ℕ) (x y : Client) (pending : Pending) (rep
       let slot = cut.0 in
       let is : queue client ≡ slot ∷ cut.1 = cut.2 in
       let has : slot.reply ≡ Some reply = cut.3.reply ∙ p.replied in
-      let text : y.output.items ≡ x.output.items ++ shown_of slot.message slot.index reply = p.output ∙ ap (λ l. x.output.items ++ l) (sym (slot_shown pending slot reply cut.3)) in
+      let text : bytes_of y.output ≡ bytes_of x.output ++ shown_of slot.message slot.index reply = p.output ∙ ap (λ l. bytes_of x.output ++ l) (sym (slot_shown pending slot reply cut.3)) in
       let here : IsQueue (client_at new client) (behind_head (queue client)) =
       subst (λ o. IsQueue o (behind_head (queue client))) (sym t.is)
       (subst (λ l. AreSlots y.queue.items (behind_head l) × IsAtFront y (behind_head l) × IsWaitedFor y.waits (behind_head l)) (sym is) (subst (λ l. AreSlots l cut.1) (sym p.queue) cut.4, behind_front x y slot cut.1 reply has p.stream p.index p.waits (subst (IsAtFront x) is mine.1), subst (λ w. IsWaitedFor w cut.1) (sym p.waits) (subst (IsWaitedFor x.waits) is mine.2).1)) in (

@@ -1,5 +1,6 @@
 -- What changes in the core when a command of a client has its reply, nothing is done for a client any more, and a command of such a client is broken off; that each of these is a step of the core is a law. Source: mcgate's own.
 use Rattle.std.specs.Prelude.{◌≡◌, ℕ, true, false, [], ◌∷◌, Option, Some, None, if◌then◌else◌, nat_eq}
+use Rattle.send_buffer.specs.Sending.{bytes_of}
 use Rattle.mc_types.specs.declared.answer.Answer.{Answer}
 use Rattle.mc_runs.specs.Log.{Part}
 use Rattle.mc_runs.specs.Overlap as log
@@ -25,7 +26,7 @@ pub record Ends (old new : Core) (number : ℕ) (a : Command) (x y : Client) (pe
   pub there : pending_in number x.queue.items ≡ Some pending
   pub queue : y.queue.items ≡ replied_in number reply x.queue.items
   pub front : GoesOn pending.last x reply y
-  pub output : y.output.items ≡ x.output.items
+  pub output : bytes_of y.output ≡ bytes_of x.output
   pub dropped : y.dropped ≡ x.dropped
   pub commands : (n : ℕ) → command_at new n ≡ (if nat_eq number n then None else command_at old n)
   pub tree : new.tree ≡ old.tree
@@ -38,7 +39,7 @@ pub record Drops (x y : Client) : Type 0 where
   pub index : y.index ≡ x.index
   pub waits : y.waits ≡ x.waits
   pub queue : y.queue.items ≡ x.queue.items
-  pub output : y.output.items ≡ x.output.items
+  pub output : bytes_of y.output ≡ bytes_of x.output
   pub dropped : y.dropped ≡ true
 
 -- a command of such a client, of which no call is out, is broken off

@@ -1,5 +1,6 @@
 -- What changes in the core when a command of a client begins, its call goes out and has its result, and its reply is shown; that each of these is a step of the core is a law. Source: mcgate's own.
 use Rattle.std.specs.Prelude.{◌≡◌, ◌↔◌, ℕ, ◌+◌, true, false, List, [], ◌∷◌, ◌++◌, Option, Some, if◌then◌else◌, nat_eq}
+use Rattle.send_buffer.specs.Sending.{bytes_of}
 use Rattle.mc_types.specs.Asks.{IsAsk}
 use Rattle.mc_types.specs.declared.answer.Answer.{Answer}
 use Rattle.mc_types.specs.declared.call.Outcome.{Outcome}
@@ -51,7 +52,7 @@ pub record Begins (old new : Core) (client : ℕ) (x y : Client) (part : Part di
   -- the client goes on, with one command more
   pub front : front_by (Some y) ≡ after_start (front_by (Some x)) part
   pub queue : y.queue.items ≡ x.queue.items ++ pending ∷ []
-  pub output : y.output.items ≡ x.output.items
+  pub output : bytes_of y.output ≡ bytes_of x.output
   pub dropped : y.dropped ≡ x.dropped
   pub slot : IsSlot pending (slot_of (old.number + 1) part)
   -- the command is under way, and no call of it is out

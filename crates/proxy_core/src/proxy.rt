@@ -88,12 +88,12 @@ impl Core {
     /// nothing could be done without a result, nothing can be done still.
     ///
     /// `NoClient`; `NoMemory`.
-    pub fn move_output(&mut self, client: usize, out: &mut BytesMut) -> Result<(), CoreFault>
-        ensures bytes { OnOk result (out.new.items ≡ out.old.items ++ output_by (client_at self.old client)) }
+    pub fn move_output(&mut self, client: usize, out: &mut SendBuffer) -> Result<(), CoreFault>
+        ensures bytes { OnOk result (bytes_of out.new ≡ bytes_of out.old ++ output_by (client_at self.old client)) }
         ensures ok { OnOk result (Gives self.old client (output_by (client_at self.old client)) self.new) }
         ensures stalled { OnOk result ((c : ℕ) → IsStalled self.old c → IsStalled self.new c) }
         ensures err { IfErr result (λ fault. OutputFault self.old client fault × (self.new ≡ self.old)) }
-        ensures out { OnErr result (out.new.items ≡ out.old.items) }
+        ensures out { OnErr result (bytes_of out.new ≡ bytes_of out.old) }
         ensures lines { self.new.lines ≡ self.old.lines }
     {
         match self.clients.get_mut(client) {

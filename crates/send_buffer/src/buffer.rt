@@ -1,6 +1,7 @@
 //! Pieces, and then text.
 
-ghost use Rattle.std.specs.Prelude.{◌≡◌, ◌<◌, ◌≤◌, ◌==◌, ◌++◌, [], length, drop, min, OnOk, OnErr, IfOk};
+ghost use Rattle.std.specs.Prelude.{◌≡◌, ◌+◌, ◌<◌, ◌≤◌, ◌==◌, ◌++◌, [], length, drop, min, OnOk, OnErr, IfOk};
+ghost use Rattle.std.specs.VecDeque.{deque_len, deque_capacity};
 ghost use Rattle.bytes.specs.Unread.{IsChunkOf};
 ghost use Rattle.send_buffer.specs.Sending.{bytes_of};
 
@@ -62,18 +63,18 @@ impl SendBuffer {
         self.text.clear();
     }
 
-    // The text so far becomes a piece, where there is some.
-    fn end_text(&mut self) -> Result<(), AllocError>
+    // The text so far becomes a piece, where there is some, in the room that was made for it.
+    fn end_text(&mut self)
+        requires { deque_len self.old.pieces < deque_capacity self.old.pieces }
         ensures bytes { bytes_of self.new ≡ bytes_of self.old }
-        ensures text { OnOk result (self.new.text.items ≡ []) }
+        ensures text { self.new.text.items ≡ [] }
+        ensures len { deque_len self.new.pieces ≤ deque_len self.old.pieces + 1 }
+        ensures room { deque_capacity self.new.pieces ≡ deque_capacity self.old.pieces }
     {
-        if self.text.is_empty() {
-            return Ok(());
-        }
-        self.pieces.reserve(1)?;
         let text = mem::replace(&mut self.text, BytesMut::new(self.alloc));
-        self.pieces.push_back_reserved(Piece::Text(text));
-        Ok(())
+        if !text.is_empty() {
+            self.pieces.push_back_reserved(Piece::Text(text));
+        }
     }
 
     /// An empty text, which takes no memory.
@@ -95,24 +96,22 @@ impl SendBuffer {
     {
         let body = body.copy()?;
         self.pieces.reserve(2)?;
-        let text = mem::replace(&mut self.text, after);
-        if !text.is_empty() {
-            self.pieces.push_back_reserved(Piece::Text(text));
-        }
+        self.end_text();
         self.pieces
             .push_back_reserved(Piece::Data { body, sent: 0 });
+        self.text = after;
         Ok(())
     }
 
     /// All that is to be sent here goes after what is to be sent there. No byte is copied, unless it is text alone here and something is to
     /// be sent there. Where nothing is, the two are swapped, so that the room of the other text is used here.
     ///
-    /// The only error is running out of memory; then both have the bytes that they had.
+    /// The only error is running out of memory; then there is the same to be sent there, and here all is as it was.
     ///
     /// Source: mcgate's own.
     pub fn move_to(&mut self, out: &mut SendBuffer) -> Result<(), AllocError>
         ensures ok { OnOk result ((bytes_of out.new ≡ bytes_of out.old ++ bytes_of self.old) × (bytes_of self.new ≡ [])) }
-        ensures err { OnErr result ((bytes_of out.new ≡ bytes_of out.old) × (bytes_of self.new ≡ bytes_of self.old)) }
+        ensures err { OnErr result ((bytes_of out.new ≡ bytes_of out.old) × (self.new ≡ self.old)) }
     {
         if out.is_empty() {
             mem::swap(self, out);
@@ -123,8 +122,11 @@ impl SendBuffer {
             self.text.clear();
             return Ok(());
         }
-        out.end_text()?;
-        out.pieces.append(&mut self.pieces)?;
+        out.pieces.reserve(self.pieces.len().saturating_add(1))?;
+        out.end_text();
+        let Ok(()) = out.pieces.append(&mut self.pieces) else {
+            unreachable!();
+        };
         mem::swap(&mut self.text, &mut out.text);
         Ok(())
     }
