@@ -9,7 +9,7 @@ use mc_types::{Ask, Dialect};
 use meta_asks::{DialectRead, read_dialect, read_in_meta, write_in_meta, write_noop};
 use std::alloc::{AllocError, Global};
 use std::test::Fail;
-use text_codec::{Read, read_request};
+use text_codec::{Read, Received, read_request};
 
 // The first ask of a client's request.
 fn first_ask(alloc: Global, bytes: &[u8]) -> Result<Option<Ask>, AllocError>
@@ -46,7 +46,7 @@ fn is_read(alloc: Global, ask: Ask, bytes: &[u8], want: &[u8]) -> Result<bool, A
     requires { IsAsk ask }
 {
     let mut out = BytesMut::new(alloc);
-    let read = read_in_meta(alloc, &ask, bytes)?;
+    let read = read_in_meta(alloc, &ask, &Received::copied(bytes))?;
     put_read(&ask, &read, &mut out)?;
     Ok(out.as_slice() == want)
 }

@@ -9,7 +9,7 @@ use crate::form::{is_retrieval, meta_form};
 use mc_types::{Answer, Ask, Code, Fields};
 use std::alloc::{AllocError, Global};
 use text_answers::laws::spelled_answers_fit;
-use text_codec::{AnswerRead, read_answer};
+use text_codec::{AnswerRead, Received, read_received};
 
 fn hit_of(fields: Fields) -> Answer
     requires flags { IsSome fields.flags }
@@ -41,32 +41,32 @@ fn classic_of(told: Answer) -> Answer
 }
 
 // What the bytes say to the form, which is dropped.
-fn read_form(alloc: Global, form: Ask, bytes: &[u8]) -> Result<AnswerRead, AllocError>
-    ensures reads { IfOk result (Reads form bytes.now) }
-    ensures within { IfOk result (LiesWithin bytes.now) }
+fn read_form(alloc: Global, form: Ask, received: &Received) -> Result<AnswerRead, AllocError>
+    ensures reads { IfOk result (Reads form received.now) }
+    ensures within { IfOk result (LiesWithin received.now) }
 {
-    read_answer(alloc, &form, bytes)
+    read_received(alloc, &form, received)
 }
 
 /// Reads the answer to an ask that [`crate::write_in_meta`] wrote, at the front of the bytes that a server sent, as the answer to the
 /// ask itself: of a classic get `VA` is a hit, with the cas number where it was asked for, `EN` a miss, and an error line that line.
-/// What [`read_answer`] takes for cut or foreign of the meta form is cut or foreign.
+/// What [`read_received`] takes for cut or foreign of the meta form is cut or foreign.
 ///
 /// The only error is running out of memory.
 ///
 /// Source: memcached's protocol.txt, "Meta Get"; what is foreign is mcgate's own.
 #[tactic(auto, using(crate::proofs::Answers::reads_as_it_is, crate::proofs::Answers::told_fits))]
-pub fn read_in_meta(alloc: Global, ask: &Ask, bytes: &[u8]) -> Result<AnswerRead, AllocError>
+pub fn read_in_meta(alloc: Global, ask: &Ask, received: &Received) -> Result<AnswerRead, AllocError>
     requires { IsAsk ask.now }
-    ensures reads { IfOk result (ReadsInMeta ask.now bytes.now) }
-    ensures within { IfOk result (LiesWithin bytes.now) }
+    ensures reads { IfOk result (ReadsInMeta ask.now received.now) }
+    ensures within { IfOk result (LiesWithin received.now) }
 {
     spelled_answers_fit();
     if !is_retrieval(ask) {
-        return read_answer(alloc, ask, bytes);
+        return read_received(alloc, ask, received);
     }
     let form = meta_form(alloc, ask)?;
-    match read_form(alloc, form, bytes)? {
+    match read_form(alloc, form, received)? {
         AnswerRead::More => Ok(AnswerRead::More),
         AnswerRead::Foreign => Ok(AnswerRead::Foreign),
         AnswerRead::Answer(told, used) => Ok(AnswerRead::Answer(classic_of(told), used)),

@@ -85,6 +85,20 @@ value_there line rest le end is fields used are two = (
   ap (λ (n : ℕ). line.len + n) two,
 )
 
+-- the same of a hit
+pub hit_there : (hit : HitLine) (rest : List ℕ) → hit.len ≤ length rest → (used : ℕ) → IsBlockEnd (take (length rest - hit.len) (drop hit.len rest)) used
+    → (body : List ℕ) → body ≡ take hit.len rest → Follows (Hit hit) rest (answers.Hit hit.flags body hit.cas) (hit.len + used)
+hit_there hit rest le used end body is = (
+  take hit.len rest,
+  drop hit.len rest,
+  used,
+  ap (λ (t : List ℕ). answers.Hit hit.flags t hit.cas) is,
+  length-take-le hit.len rest le,
+  sym (take-append-drop hit.len rest),
+  subst (λ (t : List ℕ). IsBlockEnd t used) (rest_is rest hit.len) end,
+  refl,
+)
+
 pub not_cut_value : (line : ValueLine) (rest : List ℕ) → (¬ IsCutDataEnd (take (length rest - line.len) (drop line.len rest))) → ¬ IsCutAfter (Value line) rest
 not_cut_value line rest not_cut cut = not_cut (subst IsCutDataEnd (sym (rest_is rest line.len)) cut)
 
@@ -158,6 +172,12 @@ pub read_is : (ask : Ask) (bytes : List ℕ) (end used : ℕ) → TakesLine byte
     → ReadsAfter s (take (length bytes - used) (drop used bytes)) r → result ≡ further used r → Reads ask bytes result
 read_is ask bytes end used t s s-is r result h e =
     subst (Reads ask bytes) (sym e) (go ask bytes end used t r (subst (λ (x : FirstLine). ReadsAfter x (take (length bytes - used) (drop used bytes)) r) s-is h))
+
+-- the same where what follows the line is there by itself
+pub read_on : (ask : Ask) (bytes : List ℕ) (end used : ℕ) → TakesLine bytes end used → (s : FirstLine) → s ≡ kind_of_line ask (take end bytes) → (rest : List ℕ) → rest ≡ drop used bytes → (r result : AnswerRead)
+    → ReadsAfter s rest r → result ≡ further used r → Reads ask bytes result
+read_on ask bytes end used t s s-is rest rest-is r result h e =
+    read_is ask bytes end used t s s-is r result (subst (λ (x : List ℕ). ReadsAfter s x r) (rest-is ∙ sym (rest_is bytes used)) h) e
 
 -- an answer lies within the bytes that spell it
 end_within : (bytes : List ℕ) (used : ℕ) → IsBlockEnd bytes used → used ≤ length bytes

@@ -1,3 +1,4 @@
+pub mod Sources
 pub mod Spelling
 pub mod Table
 pub mod FirstLine

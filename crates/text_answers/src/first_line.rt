@@ -136,7 +136,7 @@ fn word_answer(op: Op, word: &[u8]) -> Option<Answer>
     }
 }
 
-fn data_len(word: &[u8]) -> Option<usize>
+pub fn data_len(word: &[u8]) -> Option<usize>
     ensures { result ≡ number_below (data_limit + 1) word.now }
 {
     match number(word)? {

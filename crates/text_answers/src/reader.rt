@@ -7,9 +7,10 @@ ghost use Rattle.text_answers.specs.FirstLine.{kind_of_line};
 use crate::block_end::{Ends, block_end, data_end};
 use crate::first_line::read_first_line;
 use crate::line_kinds::{FirstLine, HitLine};
+use crate::received::Received;
 use mc_text::number::number;
 use mc_text::{Line, line};
-use mc_types::{Answer, Ask, Body, Code};
+use mc_types::{Answer, Ask, Code};
 use meta_answers::ValueLine;
 use std::alloc::{AllocError, Global};
 
@@ -24,19 +25,20 @@ pub enum AnswerRead {
     Foreign,
 }
 
-fn hit_after(alloc: Global, hit: HitLine, rest: &[u8]) -> Result<AnswerRead, AllocError>
+fn hit_after(alloc: Global, hit: HitLine, rest: &Received) -> Result<AnswerRead, AllocError>
     ensures { IfOk result (ReadsAfter (FirstLine.Hit hit) rest.now) }
 {
-    if rest.len() < hit.len {
+    let bytes = rest.bytes();
+    if bytes.len() < hit.len {
         return Ok(AnswerRead::More);
     }
-    match block_end(&rest[hit.len..]) {
+    match block_end(&bytes[hit.len..]) {
         Ends::Open => Ok(AnswerRead::More),
         Ends::Bad => Ok(AnswerRead::Foreign),
         Ends::Whole(used) => {
             let answer = Answer::Hit {
                 flags: hit.flags,
-                body: Body::from_slice(alloc, &rest[..hit.len])?,
+                body: rest.data(alloc, hit.len)?,
                 cas: hit.cas,
             };
             Ok(AnswerRead::Answer(answer, hit.len + used))
@@ -50,28 +52,28 @@ fn is_data(is_number: bool, body: &[u8]) -> bool
     !is_number || number(body).is_some()
 }
 
-fn value_after(alloc: Global, line: ValueLine, rest: &[u8]) -> Result<AnswerRead, AllocError>
+fn value_after(alloc: Global, line: ValueLine, rest: &Received) -> Result<AnswerRead, AllocError>
     ensures { IfOk result (ReadsAfter (FirstLine.Value line) rest.now) }
 {
-    if rest.len() < line.len {
+    let bytes = rest.bytes();
+    if bytes.len() < line.len {
         return Ok(AnswerRead::More);
     }
-    match data_end(&rest[line.len..]) {
+    match data_end(&bytes[line.len..]) {
         Ends::Bad => Ok(AnswerRead::Foreign),
         Ends::Open => Ok(AnswerRead::More),
         Ends::Whole(used) => {
-            let body = &rest[..line.len];
-            if !is_data(line.is_number, body) {
+            if !is_data(line.is_number, &bytes[..line.len]) {
                 return Ok(AnswerRead::Foreign);
             }
-            let fields = line.told.fields(Some(Body::from_slice(alloc, body)?));
+            let fields = line.told.fields(Some(rest.data(alloc, line.len)?));
             let answer = Answer::Meta(Code::Va, fields);
             Ok(AnswerRead::Answer(answer, line.len + used))
         }
     }
 }
 
-fn after_line(alloc: Global, first: FirstLine, rest: &[u8]) -> Result<AnswerRead, AllocError>
+fn after_line(alloc: Global, first: FirstLine, rest: &Received) -> Result<AnswerRead, AllocError>
     ensures { IfOk result (ReadsAfter first rest.now) }
 {
     match first {
@@ -92,24 +94,38 @@ fn after_line(alloc: Global, first: FirstLine, rest: &[u8]) -> Result<AnswerRead
 ///
 /// [`AnswerRead::Foreign`] comes where no answer begins so, whatever follows: another answer than the table has, a second
 /// `VALUE`, more than 1,048,576 bytes of data, a line of more than 65,535 bytes. The only error is running out of memory; the
-/// data of a hit are copied once, and only when the answer is whole.
+/// data of a hit are copied once, or shared with the buffer that they came in ([`Received`]), and only when the answer is whole.
 ///
 /// Source: memcached's protocol.txt, what is said of the answers of each command, and "Meta Commands"; the limits and what
 /// is foreign are mcgate's own.
-pub fn read_answer(alloc: Global, ask: &Ask, bytes: &[u8]) -> Result<AnswerRead, AllocError>
-    ensures reads { IfOk result (Reads ask.now bytes.now) }
-    ensures within { IfOk result (LiesWithin bytes.now) }
+pub fn read_received(
+    alloc: Global,
+    ask: &Ask,
+    received: &Received,
+) -> Result<AnswerRead, AllocError>
+    ensures reads { IfOk result (Reads ask.now received.now) }
+    ensures within { IfOk result (LiesWithin received.now) }
 {
+    let bytes = received.bytes();
     match line(bytes) {
         Line::More => Ok(AnswerRead::More),
         Line::TooLong => Ok(AnswerRead::Foreign),
         Line::At { end, used } => {
             let first = read_first_line(alloc, ask, &bytes[..end])?;
-            Ok(match after_line(alloc, first, &bytes[used..])? {
+            let rest = received.after(used);
+            Ok(match after_line(alloc, first, &rest)? {
                 AnswerRead::Answer(answer, more) => AnswerRead::Answer(answer, used + more),
                 AnswerRead::More => AnswerRead::More,
                 AnswerRead::Foreign => AnswerRead::Foreign,
             })
         }
     }
+}
+
+/// The same of bytes whose data are copied.
+pub fn read_answer(alloc: Global, ask: &Ask, bytes: &[u8]) -> Result<AnswerRead, AllocError>
+    ensures reads { IfOk result (Reads ask.now bytes.now) }
+    ensures within { IfOk result (LiesWithin bytes.now) }
+{
+    read_received(alloc, ask, &Received::copied(bytes))
 }

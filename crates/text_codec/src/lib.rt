@@ -5,7 +5,7 @@
 //! | | from a client | to a server | from a server | to a client |
 //! |---|---|---|---|---|
 //! | requests | [`read_request`], in pieces [`TextStream`] | [`write_ask`] | | |
-//! | answers | | | [`read_answer`] | [`write_part`], [`write_own`], [`write_refusal`], [`write_long_line`] |
+//! | answers | | | [`read_answer`], [`read_received`] | [`write_part`], [`write_own`], [`write_refusal`], [`write_long_line`] |
 #![tactic(auto)]
 
 pub mod laws;
@@ -19,4 +19,7 @@ pub use replies::{ends_message, write_long_line, write_own, write_part, write_re
 pub use request_parts::{ProxyCommand, RefusalReason, Skip};
 pub use sending::send_part;
 pub use stream::TextStream;
-pub use text_answers::{AnswerRead, read_answer, write_answer, write_end, write_value};
+pub use text_answers::{
+    AnswerRead, Received, SHARED_FROM, large_len, read_answer, read_received, write_answer,
+    write_end, write_value,
+};

@@ -10,10 +10,7 @@ use bytes::BytesMut;
 use mc_types::{Answer, Ask, Body};
 use send_buffer::SendBuffer;
 use std::alloc::AllocError;
-use text_answers::{data_of, write_data_line, write_end};
-
-// From so many bytes on data are shared: a piece of its own costs more than to copy fewer.
-const SHARED_FROM: usize = 16_384;
+use text_answers::{SHARED_FROM, data_of, write_data_line, write_end};
 
 fn shows_data(shows: bool, reply: &Answer) -> bool
     ensures { result ≡ shows_data shows reply.now }
@@ -86,7 +83,8 @@ fn send_data(
     pushed
 }
 
-/// Appends what [`write_part`] does, to what is to be sent. Data of 16,384 bytes and more aren't copied: they are shared with the reply.
+/// Appends what [`write_part`] does, to what is to be sent. Data of [`SHARED_FROM`] bytes or more aren't copied: they are
+/// shared with the reply.
 ///
 /// The only error is running out of memory, which leaves what is to be sent as it was.
 ///

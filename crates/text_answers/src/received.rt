@@ -1,0 +1,121 @@
+//! Bytes that a server sent, and perhaps the shared buffer that they stand in.
+
+ghost use Rattle.std.specs.Prelude.{◌≡◌, ◌<◌, ◌≤◌, ◌+◌, IfOk, drop, length, take};
+
+use bytes::Bytes;
+use mc_types::Body;
+use std::alloc::{AllocError, Global};
+use std::marker::Model;
+
+/// From so many bytes on, the data of an answer are shared in place of being copied: with the buffer that they came in, where they are
+/// read, and with what is to be sent, where they are shown.
+///
+/// Shorter data are copied sooner than shared, and would keep all of the buffer that they came in for as long as they last.
+pub const SHARED_FROM: usize = 16_384;
+
+// Where the bytes are.
+#[derive(Drop)]
+enum Source<'a> {
+    // Somewhere; data are copied from there.
+    Copied(&'a [u8]),
+    // In this shared buffer, from this place on.
+    Shared(&'a Bytes, usize),
+}
+
+/// Bytes that a server sent, and perhaps the shared buffer that they stand in. Contracts see the bytes.
+#[derive(Drop)]
+pub struct Received<'a> {
+    source: Source<'a>,
+}
+
+// What stands from this place on.
+fn rest_of(bytes: &[u8], at: usize) -> &[u8]
+    ensures { result.now ≡ drop at bytes.now }
+{
+    if at >= bytes.len() {
+        return b"".as_slice();
+    }
+    bytes.split_at(at).1
+}
+
+// The place after so many bytes that stand from another place on.
+fn place_after(bytes: &Bytes, at: usize, count: usize) -> usize
+    requires { count ≤ length (drop at bytes.now) }
+    ensures { result ≡ at + count }
+{
+    if at >= bytes.len() {
+        return at;
+    }
+    at + count
+}
+
+// So many bytes from this place on, as data that share them.
+fn cut_at(bytes: &Bytes, at: usize, len: usize) -> Result<Body, AllocError>
+    requires { (0 < len) × (len ≤ length (drop at bytes.now)) }
+    ensures { IfOk result (λ body. body ≡ take len (drop at bytes.now)) }
+{
+    let end = place_after(bytes, at, len);
+    Ok(Body::cut(bytes.slice(at..end)?))
+}
+
+impl<'a> Model for Received<'a> {
+    ghost use Rattle.std.specs.Prelude.{List, ℕ};
+    ghost use Rattle.text_answers.specs.Sources.{bytes_from};
+
+    ghost Value = { List ℕ };
+
+    ghost view = { λ r. bytes_from r.source };
+}
+
+impl<'a> Received<'a> {
+    /// These bytes, whose data are copied.
+    pub fn copied(bytes: &'a [u8]) -> Received<'a>
+        ensures { result ≡ bytes.now }
+    {
+        Received {
+            source: Source::Copied(bytes),
+        }
+    }
+
+    /// These bytes, whose data are shared where they are [`SHARED_FROM`] bytes or more.
+    pub fn shared(bytes: &'a Bytes) -> Received<'a>
+        ensures { result ≡ bytes.now }
+    {
+        Received {
+            source: Source::Shared(bytes, 0),
+        }
+    }
+
+    /// The bytes.
+    pub fn bytes(&self) -> &[u8]
+        ensures { result.now ≡ self.now }
+    {
+        match &self.source {
+            Source::Copied(bytes) => bytes,
+            Source::Shared(bytes, at) => rest_of(bytes.as_slice(), *at),
+        }
+    }
+
+    // What stands after so many of them.
+    pub(crate) fn after(&self, count: usize) -> Received<'a>
+        requires { count ≤ length self.now }
+        ensures { result ≡ drop count self.now }
+    {
+        let source = match &self.source {
+            Source::Copied(bytes) => Source::Copied(rest_of(bytes, count)),
+            Source::Shared(bytes, at) => Source::Shared(bytes, place_after(bytes, *at, count)),
+        };
+        Received { source }
+    }
+
+    // The first so many of them, as data. The only error is running out of memory.
+    pub(crate) fn data(&self, alloc: Global, len: usize) -> Result<Body, AllocError>
+        requires { len ≤ length self.now }
+        ensures { IfOk result (λ body. body ≡ take len self.now) }
+    {
+        match &self.source {
+            Source::Shared(bytes, at) if len >= SHARED_FROM => cut_at(bytes, *at, len),
+            _ => Body::from_slice(alloc, &self.bytes()[..len]),
+        }
+    }
+}
