@@ -231,7 +231,7 @@ impl<'a> Run<'a> {
         }
         let command = self.plan.next();
         let asked = self.tally.begin(command, self.now);
-        self.wire.write(&mut peer.conn.unsent, command)?;
+        self.wire.write(&mut peer.conn.unsent.text, command)?;
         if peer.asked.push_back(asked).is_err() {
             return Err(Stop::Failed);
         }
