@@ -1,6 +1,7 @@
 //! The core with the configurations by which its commands run.
 
 ghost use Rattle.std.specs.Prelude.{◌≡◌, ◌<◌, [], ◌∷◌, ◌++◌, ◌↔◌, IsTrue, IfOk, IfErr, OnOk, OnErr, option_map};
+ghost use Rattle.send_buffer.specs.Sending.{bytes_of};
 ghost use Rattle.mc_runs.specs.Overlap as log;
 ghost use Rattle.proxy_core.specs.Faults.{IsClosed, CanOpen, CanFeed, CanClose, OpenFault, FeedFault, OutputFault, CloseFault};
 ghost use Rattle.fresh_gate.specs.Reload.{KeepsNumbers};
@@ -13,13 +14,13 @@ ghost use Rattle.fresh_core.specs.Freshly.{IsNew, GoesFreshly, fed};
 ghost use Rattle.fresh_core.specs.Reloading.{LoadsFreshly, IsRefused};
 ghost use Rattle.fresh_core.specs.Results.{PollStops, SettlesFreshly, SettleStops};
 
-use bytes::BytesMut;
 use fresh_gate::{Accepted, ReloadFault};
 use mc_types::{Ask, Outcome};
 use proxy_core::limits::LAST_GENERATION;
 use proxy_core::{Core, CoreFault, Limits, Poll, Ticket};
 use route_json::Config;
 use route_tree::Tree;
+use send_buffer::SendBuffer;
 use std::alloc::{AllocError, Global};
 
 /// A core whose commands run by trees that the gate accepted, each by the one that was loaded when it began.
@@ -65,11 +66,11 @@ impl FreshCore {
     }
 
     /// As `Core::move_output`.
-    pub fn move_output(&mut self, client: usize, out: &mut BytesMut) -> Result<(), CoreFault>
-        ensures bytes { OnOk result (out.new.items ≡ out.old.items ++ output_by (client_at self.old.core client)) }
+    pub fn move_output(&mut self, client: usize, out: &mut SendBuffer) -> Result<(), CoreFault>
+        ensures bytes { OnOk result (bytes_of out.new ≡ bytes_of out.old ++ output_by (client_at self.old.core client)) }
         ensures ok { OnOk result (Gives self.old.core client (output_by (client_at self.old.core client)) self.new.core) }
         ensures err { IfErr result (λ fault. OutputFault self.old.core client fault × (self.new ≡ self.old)) }
-        ensures out { OnErr result (out.new.items ≡ out.old.items) }
+        ensures out { OnErr result (bytes_of out.new ≡ bytes_of out.old) }
         ensures accepted { self.new.accepted ≡ self.old.accepted }
         ensures fresh { OnOk result (GoesFreshly self.old (λ entries. entries ≡ log.Gives client (output_by (client_at self.old.core client)) ∷ []) self.new) }
     {

@@ -1,6 +1,7 @@
 //! The core of a proxy: of trees that the gate accepted, or of any trees.
 
 ghost use Rattle.std.specs.Prelude.{◌≡◌, ◌++◌, ◌↔◌, [], ◌∷◌, IsTrue, IfOk, IfErr, OnOk, OnErr, option_map};
+ghost use Rattle.send_buffer.specs.Sending.{bytes_of};
 ghost use Rattle.mc_runs.specs.Overlap as log;
 ghost use Rattle.proxy_core.specs.Faults.{IsClosed, CanOpen, CanFeed, CanClose, OpenFault, FeedFault, OutputFault, CloseFault};
 ghost use Rattle.proxy_core.specs.CoreState.{Opens, Feeds, Gives, Closes, LeavesLine, Reloads, client_at, dropped_by, output_by};
@@ -12,12 +13,12 @@ ghost use Rattle.fresh_core.specs.Results.{PollStops};
 ghost use Rattle.fresh_core.specs.Reloading.{LoadsFreshly};
 ghost use Rattle.link_calls.specs.Cores.{core_of, IsKept, IsSettled, IsLoaded};
 
-use bytes::BytesMut;
 use fresh_core::FreshCore;
 use fresh_gate::ReloadFault;
 use mc_types::{Ask, Outcome};
 use proxy_core::{Core, CoreFault, Poll, Ticket};
 use route_json::Config;
+use send_buffer::SendBuffer;
 use std::alloc::Global;
 
 /// The core of a proxy.
@@ -101,11 +102,11 @@ impl AnyCore {
     }
 
     /// As `Core::move_output`.
-    pub fn move_output(&mut self, client: usize, out: &mut BytesMut) -> Result<(), CoreFault>
-        ensures bytes { OnOk result (out.new.items ≡ out.old.items ++ output_by (client_at (core_of self.old) client)) }
+    pub fn move_output(&mut self, client: usize, out: &mut SendBuffer) -> Result<(), CoreFault>
+        ensures bytes { OnOk result (bytes_of out.new ≡ bytes_of out.old ++ output_by (client_at (core_of self.old) client)) }
         ensures ok { OnOk result (Gives (core_of self.old) client (output_by (client_at (core_of self.old) client)) (core_of self.new)) }
         ensures err { IfErr result (λ fault. OutputFault (core_of self.old) client fault × (self.new ≡ self.old)) }
-        ensures out { OnErr result (out.new.items ≡ out.old.items) }
+        ensures out { OnErr result (bytes_of out.new ≡ bytes_of out.old) }
         ensures fresh { OnOk result (IsKept (λ old new. GoesFreshly old (λ entries. entries ≡ log.Gives client (output_by (client_at old.core client)) ∷ []) new) self.old self.new) }
     {
         match self {

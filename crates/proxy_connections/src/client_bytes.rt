@@ -1,6 +1,7 @@
 //! A client's bytes: read, given to the core, shown by it and sent.
 
 ghost use Rattle.std.specs.Prelude.{◌≡◌, ◌++◌, OnOk, OnErr};
+ghost use Rattle.send_buffer.specs.Sending.{bytes_of};
 ghost use Rattle.proxy_core.specs.CoreState.{client_at, output_by};
 ghost use Rattle.link_calls.specs.Cores.{core_of};
 ghost use Rattle.proxy_connections.specs.CoreSteps.{GoesOn};
@@ -58,8 +59,8 @@ pub fn feed_held(core: &mut AnyCore, id: usize, client: &mut Client)
 /// What the core has for the client goes after what is to be sent. How many bytes that is.
 pub fn show(core: &mut AnyCore, id: usize, client: &mut Client) -> Result<usize, CoreFault>
     ensures core { GoesOn core.old core.new }
-    ensures bytes { OnOk result (client.new.conn.unsent.items ≡ client.old.conn.unsent.items ++ output_by (client_at (core_of core.old) id)) }
-    ensures kept { OnErr result (client.new.conn.unsent.items ≡ client.old.conn.unsent.items) }
+    ensures bytes { OnOk result (bytes_of client.new.conn.unsent ≡ bytes_of client.old.conn.unsent ++ output_by (client_at (core_of core.old) id)) }
+    ensures kept { OnErr result (bytes_of client.new.conn.unsent ≡ bytes_of client.old.conn.unsent) }
 {
     let unsent = client.conn.unsent.len();
     core.move_output(id, &mut client.conn.unsent)?;

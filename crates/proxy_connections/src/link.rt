@@ -228,7 +228,7 @@ impl Link {
         self.awaits_dialect = dialect == ServerDialect::Auto;
         self.dialect = first_dialect(dialect);
         if self.awaits_dialect {
-            write_noop(&mut conn.unsent)?;
+            write_noop(&mut conn.unsent.text)?;
         }
         self.conn = Some(conn);
         self.opened = now;

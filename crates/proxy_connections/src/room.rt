@@ -1,6 +1,7 @@
 //! The room of buffers, and whether they keep it.
 
 use bytes::BytesMut;
+use send_buffer::SendBuffer;
 use std::alloc::Global;
 
 /// An empty buffer with more room than this isn't kept by its end, in bytes.
@@ -17,7 +18,7 @@ pub fn give_back(alloc: Global, held: &mut BytesMut, input: &mut BytesMut) {
     *held = BytesMut::new(alloc);
 }
 
-/// Whether a buffer is empty and has much room.
-pub fn has_spare(buffer: &BytesMut) -> bool {
-    buffer.is_empty() && buffer.capacity() > KEPT_ROOM
+/// Whether nothing is to be sent, and there is much room for text.
+pub fn has_spare(buffer: &SendBuffer) -> bool {
+    buffer.is_empty() && buffer.text.capacity() > KEPT_ROOM
 }

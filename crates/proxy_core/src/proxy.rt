@@ -2,6 +2,7 @@
 
 ghost use Rattle.slab.specs.Slab.{get};
 ghost use Rattle.std.specs.Prelude.{◌≡◌, ℕ, ◌++◌, ◌↔◌, IsTrue, IfOk, IfErr, OnOk, OnErr};
+ghost use Rattle.send_buffer.specs.Sending.{bytes_of};
 ghost use Rattle.proxy_core.specs.CoreState.{IsFresh, IsOut, Opens, Feeds, Gives, Closes, LeavesLine, Reloads, client_at};
 ghost use Rattle.core_client.specs.ClientState.{output_by};
 ghost use Rattle.proxy_core.specs.Polls.{IsStalled};
@@ -11,11 +12,11 @@ ghost use Rattle.proxy_core.specs.Faults.{IsClosed, CanOpen, CanFeed, CanClose, 
 use crate::fault::{CoreFault, ReloadFault};
 use crate::feeding::feed_within;
 use crate::limits::{LAST_GENERATION, Limits};
-use bytes::BytesMut;
 use commands_under_way::owned::has_commands;
 use commands_under_way::{CommandTable, KeyLines};
 use core_client::Client;
 use route_tree::Tree;
+use send_buffer::SendBuffer;
 use slab::Slab;
 use std::alloc::Global;
 

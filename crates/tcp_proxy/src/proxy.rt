@@ -26,6 +26,7 @@ use proxy_connections::{
 use proxy_core::{CoreFault, Poll as Polled, Ticket};
 use route_json::Config;
 use route_tree::Tree;
+use send_buffer::SendBuffer;
 use std::alloc::{AllocError, Global};
 use std::io;
 use std::io::ErrorKind;
@@ -80,7 +81,7 @@ pub struct ProxyEnd {
     // What is read of a client comes here first: a client that is idle keeps no room for it.
     input: BytesMut,
     // Buffers with much room that clients had: replies are written into one of them where one is there.
-    spares: Vec<BytesMut>,
+    spares: Vec<SendBuffer>,
     // When spare buffers, and those of links, give their room back, if they have much.
     spare_until: Option<u64>,
     links: Vec<Link>,
@@ -1071,7 +1072,7 @@ impl ProxyEnd {
         let Some(conn) = link.conn.as_mut() else {
             return Some(call);
         };
-        match link.calls.begin(call, &mut conn.unsent) {
+        match link.calls.begin(call, &mut conn.unsent.text) {
             Ok(()) => None,
             Err(call) => Some(call),
         }
@@ -1117,7 +1118,7 @@ impl ProxyEnd {
     }
 
     // The core, which has nothing for the client, writes into this buffer from now on. What it wrote into so far is spare.
-    fn exchange_room(&mut self, id: usize, buffer: BytesMut)
+    fn exchange_room(&mut self, id: usize, buffer: SendBuffer)
         ensures core { GoesOn self.old.core.value self.new.core.value }
     {
         let mut buffer = buffer;
@@ -1140,17 +1141,17 @@ impl ProxyEnd {
         ensures core { GoesOn self.old.core.value self.new.core.value }
     {
         if is_lent {
-            self.exchange_room(id, BytesMut::new(self.alloc));
+            self.exchange_room(id, SendBuffer::new(self.alloc));
         }
     }
 
     // The buffer is spare, if it is empty and has much room.
-    fn keep_spare(&mut self, buffer: BytesMut)
+    fn keep_spare(&mut self, buffer: SendBuffer)
         ensures core { self.new.core ≡ self.old.core }
     {
         let mut buffer = buffer;
         buffer.clear();
-        let room = buffer.capacity();
+        let room = buffer.text.capacity();
         if room > KEPT_ROOM && room <= SPARE_ROOM && self.spares.len() < SPARES {
             let _ = self.spares.push(buffer);
             self.note_room(false, true);
@@ -1167,7 +1168,7 @@ impl ProxyEnd {
         if !has_spare(&client.conn.unsent) {
             return;
         }
-        let unsent = std::mem::replace(&mut client.conn.unsent, BytesMut::new(self.alloc));
+        let unsent = std::mem::replace(&mut client.conn.unsent, SendBuffer::new(self.alloc));
         self.keep_spare(unsent);
     }
 
