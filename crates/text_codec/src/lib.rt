@@ -5,7 +5,7 @@
 //! | | from a client | to a server | from a server | to a client |
 //! |---|---|---|---|---|
 //! | requests | [`read_request`], in pieces [`TextStream`] | [`write_ask`] | | |
-//! | answers | | | [`read_answer`], [`read_received`] | [`write_part`], [`write_own`], [`write_refusal`], [`write_long_line`] |
+//! | answers | | | [`read_answer`], [`read_received`] | [`write_part`], [`send_part`], [`write_own`], [`write_refusal`], [`write_long_line`] |
 #![tactic(auto)]
 
 pub mod laws;
