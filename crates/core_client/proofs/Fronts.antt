@@ -12,7 +12,7 @@ use Rattle.client_requests.specs.Message.{Message, message_in, used_of}
 use Rattle.client_requests.specs.Asks.{asks_of, quiet_of}
 use Rattle.client_requests.specs.Stream.{after_message}
 use Rattle.text_codec.specs.Held.{held_at}
-use Rattle.text_codec.specs.TextProtocol.{Whole}
+use Rattle.text_codec.specs.TextProtocol.{passed_text, Whole}
 use Rattle.connections.specs.declared.front.Passed.{Passed}
 use Rattle.connections.specs.Fronts.{PassesMessage}
 use Rattle.connections.proofs.Fronts.{reads_front}

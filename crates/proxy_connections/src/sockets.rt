@@ -55,7 +55,7 @@ pub fn send(conn: &mut Conn<TcpStream>) -> bool {
         if !conn.writable {
             return true;
         }
-        match conn.send_once() {
+        match conn.send_parts() {
             Sent::Bytes => {}
             Sent::Nothing => return true,
             Sent::Failed => return false,

@@ -3,13 +3,15 @@
 ghost use Rattle.std.specs.Prelude.{◌≡◌, ◌+◌, ◌<◌, ◌≤◌, ◌==◌, ◌++◌, [], length, drop, min, OnOk, OnErr, IfOk};
 ghost use Rattle.std.specs.VecDeque.{deque_len, deque_capacity};
 ghost use Rattle.bytes.specs.Unread.{IsChunkOf};
-ghost use Rattle.send_buffer.specs.Sending.{bytes_of};
+ghost use Rattle.std.specs.Io.Slices.{io_slices_bytes};
+ghost use Rattle.send_buffer.specs.Sending.{bytes_of, part_at, Begins};
 
 use crate::piece::Piece;
 use bytes::BytesMut;
 use mc_types::Body;
 use std::alloc::{AllocError, Global};
 use std::collections::VecDeque;
+use std::io::IoSlice;
 use std::mem;
 
 // Pieces for which room is kept where nothing is to be sent.
@@ -154,6 +156,33 @@ impl SendBuffer {
             }
         }
         self.text.as_slice()
+    }
+
+    // What stands at this place: a piece, the text after all pieces, or nothing.
+    #[tactic(auto, using(crate::proofs::Parts::text_at, crate::proofs::Parts::past_all))]
+    fn part(&self, at: usize) -> &[u8]
+        ensures { result.now ≡ part_at at self.now.pieces.items self.now.text.items }
+    {
+        if let Some(piece) = self.pieces.get(at) {
+            return piece.as_slice();
+        }
+        if at == self.pieces.len() {
+            self.text.as_slice()
+        } else {
+            b"".as_slice()
+        }
+    }
+
+    /// The first pieces that are to be sent, as many as one write takes. They may be empty only where a piece is.
+    pub fn parts(&self) -> [IoSlice<'_>; 4]
+        ensures { Begins (io_slices_bytes result) (bytes_of self.now) }
+    {
+        [
+            IoSlice::new(self.part(0)),
+            IoSlice::new(self.part(1)),
+            IoSlice::new(self.part(2)),
+            IoSlice::new(self.part(3)),
+        ]
     }
 
     /// So many of the first bytes are sent. A piece that is used up goes, and text that is used up is room again.

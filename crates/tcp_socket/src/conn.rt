@@ -1,11 +1,12 @@
 //! The stream of an end, what is held of it and what is to be sent: a read goes after what is held, a write takes from the front of what is
 //! to be sent.
 
-ghost use Rattle.std.specs.Prelude.{◌≡◌, false, ◌↔◌, ◌<◌, ◌≤◌, ◌⊎◌, [], length, drop, IsTrue, IfOk, OnOk, OnErr};
+ghost use Rattle.std.specs.Prelude.{◌≡◌, false, ◌↔◌, ◌<◌, ◌≤◌, ◌⊎◌, [], length, drop, None, IsTrue, IfOk, OnOk, OnErr};
 ghost use Rattle.send_buffer.specs.Sending.{bytes_of};
 ghost use Rattle.tcp_socket.specs.Ends.{Reads, Sends};
 
 use bytes::BytesMut;
+use mio::net::TcpStream;
 use send_buffer::SendBuffer;
 use std::alloc::{AllocError, Global};
 use std::io::{ErrorKind, Read, Write};
@@ -221,12 +222,20 @@ impl<S: Read + Write + Drop> Conn<S> {
         }
         match self.stream.write(front) {
             Ok(0) => Sent::Failed,
-            Ok(count) => {
-                self.unsent.advance(count);
-                Sent::Bytes
-            }
+            Ok(count) => self.sent(count),
             Err(error) => self.sent_at(pause_of(&error)),
         }
+    }
+
+    // The stream took so many of the first bytes.
+    fn sent(&mut self, count: usize) -> Sent
+        requires { count ≤ length (bytes_of self.old.unsent) }
+        ensures unsent { bytes_of self.new.unsent ≡ drop count (bytes_of self.old.unsent) }
+        ensures sent { result ≡ Sent.Bytes }
+        ensures rest { self.new ≡ record self.old { unsent = self.new.unsent } }
+    {
+        self.unsent.advance(count);
+        Sent::Bytes
     }
 
     /// So many bytes of what is held are done with.
@@ -268,6 +277,28 @@ impl<S: Read + Write + Drop> Conn<S> {
             }
             Pause::Interrupted => Sent::Nothing,
             Pause::Failure => Sent::Failed,
+        }
+    }
+}
+
+impl Conn<TcpStream> {
+    /// One write of the first pieces that are to be sent, up to four of them: exactly what the stream took goes from their front. `writable`
+    /// is cleared where the stream said that it takes nothing now.
+    ///
+    /// Source: mcgate's own.
+    pub fn send_parts(&mut self) -> Sent
+        ensures sent { Sends (bytes_of self.old.unsent) None result (bytes_of self.new.unsent) None }
+        ensures held { self.new.held ≡ self.old.held }
+        ensures rest { self.new.limits ≡ self.old.limits }
+        ensures flags { (self.new.readable ≡ self.old.readable) × (self.new.closing ≡ self.old.closing) }
+    {
+        if self.unsent.pieces.is_empty() {
+            return self.send_once();
+        }
+        match self.stream.write_vectored(&self.unsent.parts()) {
+            Ok(0) => self.send_once(),
+            Ok(count) => self.sent(count),
+            Err(error) => self.sent_at(pause_of(&error)),
         }
     }
 }

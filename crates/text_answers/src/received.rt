@@ -10,8 +10,7 @@ use std::marker::Model;
 /// From so many bytes on, the data of an answer are shared in place of being copied: with the buffer that they came in, where they are
 /// read, and with what is to be sent, where they are shown.
 ///
-/// Shorter data are copied sooner than shared: each piece that is to be sent is a write of its own. They would keep all of the buffer that
-/// they came in, too, for as long as they last.
+/// Shorter data are copied sooner than shared, and would keep all of the buffer that they came in for as long as they last.
 pub const SHARED_FROM: usize = 65_536;
 
 // Where the bytes are.
