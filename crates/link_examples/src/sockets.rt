@@ -5,7 +5,8 @@ ghost use Rattle.std.specs.Io.{ReadsAtMost, WritesAtMost};
 ghost use Rattle.std.specs.Io.KnownBytes.{ReadConsumes, WriteAppends, Keeps};
 
 use example_tables::playing::{Stage, cut, first_line, plain, play_lines, shown, yes_or_no};
-use std::alloc::Global;
+use mc_types::Body;
+use std::alloc::{AllocError, Global};
 use std::io;
 use std::io::{ErrorKind, Read, Write};
 use std::test::Fail;
@@ -54,6 +55,26 @@ writable => no
 send => bytes
 unsent => nothing
 taken => END\r\n
+
+Data that are shared go between the texts round them, and each write goes on where the one before it ended.
+nothing in turns 8 9 2 9 9
+write VALUE a 0 3\r\n
+share abc
+write \r\nEND\r\n
+unsent => VALUE a 0 3\r\nabc\r\nEND\r\n
+send => bytes
+unsent => 0 3\r\nabc\r\nEND\r\n
+send => bytes
+unsent => abc\r\nEND\r\n
+send => bytes
+unsent => c\r\nEND\r\n
+backlog => yes
+send => bytes
+unsent => \r\nEND\r\n
+send => bytes
+unsent => nothing
+backlog => no
+taken => VALUE a 0 3\r\nabc\r\nEND\r\n
 
 A stream that takes nothing has failed.
 nothing in turns 0
@@ -164,6 +185,12 @@ fn sent_word(sent: Sent) -> &'static str {
 }
 
 impl End<'_> {
+    fn share(&mut self, text: &str) -> Result<(), AllocError> {
+        let text = plain(self.alloc, text)?;
+        let body = Body::from_slice(self.alloc, text.as_bytes())?;
+        self.conn.unsent.push_data(&body)
+    }
+
     // Events that give nothing.
     fn set(&mut self, verb: &str, text: &str) -> Result<&'static str, Fail> {
         match verb {
@@ -176,7 +203,9 @@ impl End<'_> {
             "write" => self
                 .conn
                 .unsent
+                .text
                 .extend_from_slice(plain(self.alloc, text)?.as_bytes())?,
+            "share" => self.share(text)?,
             _ => return Err("no such event")?,
         }
         Ok("")
@@ -200,7 +229,10 @@ impl Stage for End<'_> {
         let (verb, text) = cut(event);
         match verb {
             "held" => shown(self.alloc, self.conn.held.as_slice()),
-            "unsent" => shown(self.alloc, self.conn.unsent.as_slice()),
+            "unsent" => {
+                let bytes = self.conn.unsent.to_vec(self.alloc)?;
+                shown(self.alloc, bytes.as_slice())
+            }
             "taken" => shown(self.alloc, self.conn.stream.taken.as_slice()),
             _ => Ok(self.word(verb, text)?.to_string(self.alloc)?),
         }

@@ -51,7 +51,7 @@ impl ClientEnd {
         if self.is_ended {
             return Ok(());
         }
-        self.conn.unsent.extend_from_slice(piece)
+        self.conn.unsent.text.extend_from_slice(piece)
     }
 
     /// Sends what the connection takes now. The answer is how many bytes that were.

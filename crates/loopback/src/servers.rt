@@ -136,7 +136,7 @@ impl ServerEnd {
             self.is_late = true;
             return Ok(true);
         }
-        self.is_last = break_answer(&mut link.conn.unsent, failing)?;
+        self.is_last = break_answer(&mut link.conn.unsent.text, failing)?;
         Ok(false)
     }
 
