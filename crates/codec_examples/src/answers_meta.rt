@@ -27,8 +27,8 @@ fn tokens(alloc: Global, letters: &[u8]) -> Result<Tokens, AllocError> {
     Ok(tokens)
 }
 
-// A meta ask for the key `a` with these return flags; `O` is `O7`.
-fn ask(alloc: Global, op: Op, letters: &[u8]) -> Result<Ask, Fail> {
+/// A meta ask for the key `a` with these return flags; `O` is `O7`.
+pub fn meta_ask(alloc: Global, op: Op, letters: &[u8]) -> Result<Ask, Fail> {
     let key = Key::read(b"a").ok().ok_or("a is a key")?;
     Ok(Ask::bare(Dialect::Meta, op, key, tokens(alloc, letters)?))
 }
@@ -74,7 +74,7 @@ fn is_read(read: &AnswerRead, want: Code, want_cas: Option<u64>, want_used: usiz
 #[test]
 fn meta_answers_read(rt: HostRuntime) -> Result<(), Fail> {
     let alloc = rt.alloc();
-    let ask = ask(alloc, Op::Add, b"c")?;
+    let ask = meta_ask(alloc, Op::Add, b"c")?;
     let bare = read_answer(alloc, &ask, b"NS\r\n")?;
     assert!(rt; is_read(&bare, Code::Ns, None, 4));
     let dropped = read_answer(alloc, &ask, b"NS c0\r\n")?;
@@ -90,7 +90,7 @@ fn meta_answers_read(rt: HostRuntime) -> Result<(), Fail> {
 #[test]
 fn tokens_in_any_order(rt: HostRuntime) -> Result<(), Fail> {
     let alloc = rt.alloc();
-    let ask = ask(alloc, Op::Set, b"ckO")?;
+    let ask = meta_ask(alloc, Op::Set, b"ckO")?;
     for line in [
         b"HD c4 ka O7\r\n".as_slice(),
         b"HD c4 O7 ka\r\n".as_slice(),
@@ -110,7 +110,7 @@ fn tokens_in_any_order(rt: HostRuntime) -> Result<(), Fail> {
 #[test]
 fn data_with_every_token(rt: HostRuntime) -> Result<(), Fail> {
     let alloc = rt.alloc();
-    let ask = ask(alloc, Op::Get, b"svftckO")?;
+    let ask = meta_ask(alloc, Op::Get, b"svftckO")?;
     let want = b"VA 2 s2 f5 t-1 c1 ka O7\r\nhi\r\n".as_slice();
     assert!(rt; reads(alloc, &ask, want, want)?);
     assert!(rt; wants_more(alloc, &ask, want)?);
@@ -143,7 +143,7 @@ fn foreign_meta_answers(rt: HostRuntime) -> Result<(), Fail> {
         (Op::Incr, b"".as_slice(), b"EN\r\n".as_slice()),
         (Op::Set, b"".as_slice(), b"STORED\r\n".as_slice()),
     ] {
-        let ask = ask(alloc, op, letters)?;
+        let ask = meta_ask(alloc, op, letters)?;
         assert!(rt; reads(alloc, &ask, line, b"foreign")?);
     }
     Ok(())
@@ -169,7 +169,7 @@ fn bare_meta_answers(rt: HostRuntime) -> Result<(), Fail> {
         (Op::Decr, b"EX\r\n".as_slice()),
         (Op::Get, b"CLIENT_ERROR bad\r\n".as_slice()),
     ] {
-        let ask = ask(alloc, op, b"")?;
+        let ask = meta_ask(alloc, op, b"")?;
         assert!(rt; reads(alloc, &ask, line, line)?);
     }
     Ok(())

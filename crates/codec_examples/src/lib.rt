@@ -7,6 +7,8 @@ mod answers_classic;
 #[cfg(test)]
 mod answers_meta;
 #[cfg(test)]
+mod large_answers;
+#[cfg(test)]
 mod meta_forms;
 #[cfg(test)]
 mod streams;

@@ -17,7 +17,7 @@ use proxy_core::Ticket;
 use std::alloc::{AllocError, AllocFailed, Global};
 use std::collections::VecDeque;
 use text_answers::laws::spelled_answers_fit;
-use text_codec::{AnswerRead, read_answer, write_ask};
+use text_codec::{AnswerRead, Received, read_received, write_ask};
 
 /// A call that went out to a server.
 #[derive(Drop)]
@@ -79,25 +79,25 @@ fn read_in(
     dialect: Dialect,
     alloc: Global,
     ask: &Ask,
-    bytes: &[u8],
+    received: &Received,
 ) -> Result<AnswerRead, AllocError>
     requires { IsAsk ask.now }
-    ensures { IfOk result (IsReadFor dialect ask.now bytes.now) }
+    ensures { IfOk result (IsReadFor dialect ask.now received.now) }
 {
     spelled_answers_fit();
     match dialect {
-        Dialect::Classic => read_answer(alloc, ask, bytes),
-        Dialect::Meta => read_in_meta(alloc, ask, bytes),
+        Dialect::Classic => read_received(alloc, ask, received),
+        Dialect::Meta => read_in_meta(alloc, ask, received),
     }
 }
 
-fn read_for(dialect: Dialect, alloc: Global, ask: &Ask, bytes: &[u8]) -> AnswerRead
-    ensures { IsReadFor dialect ask.now bytes.now result }
+fn read_for(dialect: Dialect, alloc: Global, ask: &Ask, received: &Received) -> AnswerRead
+    ensures { IsReadFor dialect ask.now received.now result }
 {
     if !is_ask(ask) {
         return AnswerRead::Foreign;
     }
-    match read_in(dialect, alloc, ask, bytes) {
+    match read_in(dialect, alloc, ask, received) {
         Ok(read) => read,
         Err(_) => AnswerRead::Foreign,
     }
@@ -110,13 +110,13 @@ fn read_next(
     alloc: Global,
     core: &AnyCore,
     number: u64,
-    bytes: &[u8],
+    received: &Received,
 ) -> AnswerRead
-    ensures { IsReadNext dialect (core_of core.now) number bytes.now result }
+    ensures { IsReadNext dialect (core_of core.now) number received.now result }
 {
     match core.asked(number) {
         None => AnswerRead::Foreign,
-        Some(ask) => read_for(dialect, alloc, ask, bytes),
+        Some(ask) => read_for(dialect, alloc, ask, received),
     }
 }
 
@@ -208,13 +208,13 @@ impl LinkCalls {
     /// asked: nothing else is, and the core goes on by that alone. Without one nothing has changed.
     ///
     /// Source: mcgate's own.
-    pub fn settle_next(&mut self, core: &mut AnyCore, bytes: &[u8]) -> Next
-        ensures { SettlesNext self.old.sent.items bytes.now core.old result self.new.sent.items core.new }
+    pub fn settle_next(&mut self, core: &mut AnyCore, received: &Received) -> Next
+        ensures { SettlesNext self.old.sent.items received.now core.old result self.new.sent.items core.new }
     {
         let Some((number, dialect)) = self.first_asked() else {
             return Next::Foreign;
         };
-        match read_next(dialect, self.alloc, core, number, bytes) {
+        match read_next(dialect, self.alloc, core, number, received) {
             AnswerRead::More => Next::More,
             AnswerRead::Foreign => Next::Foreign,
             AnswerRead::Answer(answer, used) => {

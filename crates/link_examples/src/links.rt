@@ -11,6 +11,7 @@ use proxy_core::{Limits, Poll, Sharing, Ticket};
 use route_json::read_config;
 use std::alloc::Global;
 use std::test::Fail;
+use text_codec::Received;
 
 fn texts() -> &'static str {
     r"An answer is taken for the oldest call, and what is none is foreign.
@@ -159,7 +160,8 @@ impl Link {
         let bytes = plain(self.alloc, text)?;
         next_text(
             self.alloc,
-            self.calls.settle_next(&mut self.core, bytes.as_bytes()),
+            self.calls
+                .settle_next(&mut self.core, &Received::copied(bytes.as_bytes())),
         )
     }
 

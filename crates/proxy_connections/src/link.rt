@@ -21,6 +21,9 @@ const LIMITS: Limits = Limits {
     unsent: 1_048_576,
 };
 
+// One read has room for so many bytes, besides what is missing of an answer with large data.
+const LINK_READ: usize = 65_536;
+
 // Of each link news are told once in so many milliseconds at most.
 const NEWS_MS: u64 = 1_000;
 
@@ -72,6 +75,8 @@ pub struct Link {
     held_until: u64,
     /// How many reads in a row brought no whole answer.
     pub vain_reads: u32,
+    /// How many bytes the answer takes whose begin is held, where it has large data and its first line told so.
+    pub awaited: Option<usize>,
     pub is_ready: bool,
     pub has_output: bool,
     /// What happened last, if that wasn't told yet.
@@ -99,6 +104,7 @@ impl Link {
             failures: 0,
             held_until: 0,
             vain_reads: 0,
+            awaited: None,
             is_ready: false,
             has_output: false,
             news: None,
@@ -233,8 +239,25 @@ impl Link {
         self.conn = Some(conn);
         self.opened = now;
         self.vain_reads = 0;
+        self.awaited = None;
         self.is_connected = false;
         Ok(())
+    }
+
+    /// For how many bytes the next read makes room: for the rest of an answer with large data too, so that it comes into one buffer of
+    /// its size.
+    pub fn read_room(&self) -> usize
+        ensures { 0 < result }
+    {
+        let Some(conn) = &self.conn else {
+            return LINK_READ;
+        };
+        match self.awaited {
+            Some(len) => len
+                .saturating_sub(conn.held.len())
+                .saturating_add(LINK_READ),
+            None => LINK_READ,
+        }
     }
 
     /// What its server tells of its dialects is taken from its bytes, where that is still to come and whole. Whether it can be that.

@@ -21,7 +21,7 @@ use mio::{Events, Poll, Token};
 use proxy_connections::{
     Cause, Client, Clients, KEPT_ROOM, Link, LinkNews, Settings, Tally, connect, fail_all,
     feed_held, give_back, has_spare, note, read_once, send, send_once, settle_held, show,
-    turn_away, use_held, vain, watch_stream,
+    turn_away, vain, watch_stream,
 };
 use proxy_core::{CoreFault, Poll as Polled, Ticket};
 use route_json::Config;
@@ -34,8 +34,6 @@ use std::net::{Net, SocketAddr};
 use std::rt::Clock;
 use std::time::{Duration, Instant};
 use tcp_socket::{Got, Ready};
-
-const LINK_READ: usize = 65_536;
 
 // So many things are done for a client before the next one's turn.
 const POLLS: usize = 128;
@@ -681,13 +679,14 @@ impl ProxyEnd {
         let Some(link) = self.links.get_mut(at) else {
             return Ok(None);
         };
+        let room = link.read_room();
         let Some(conn) = link.conn.as_mut() else {
             return Ok(None);
         };
         if !conn.readable {
             return Ok(None);
         }
-        match conn.read_once(LINK_READ)? {
+        match conn.read_once(room)? {
             Got::Nothing => Ok(vain(link.has_read(false, self.settings.polls))),
             Got::Ended => Ok(Some(Cause::Closed)),
             Got::Failed => Ok(Some(Cause::Broken)),
@@ -733,16 +732,16 @@ impl ProxyEnd {
         let Some(conn) = link.conn.as_mut() else {
             return Ok(None);
         };
-        let (used, is_kept) = settle_held(
+        let answers = settle_held(
             &mut link.calls,
             self.core.as_mut(),
             &mut self.clients,
             &mut self.is_freed,
-            conn.held.as_slice(),
+            conn,
         )?;
-        use_held(conn, used);
-        let has_failed = link.has_read(has_answered || used > 0, self.settings.polls);
-        if !is_kept {
+        link.awaited = answers.awaited;
+        let has_failed = link.has_read(has_answered || answers.has_settled, self.settings.polls);
+        if !answers.is_kept {
             return Ok(Some(Cause::Foreign));
         }
         Ok(vain(has_failed))

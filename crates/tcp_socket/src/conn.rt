@@ -102,11 +102,12 @@ fn take_front(buffer: &mut BytesMut, count: usize)
     }
 }
 
-// The room of a buffer goes back where nothing stands in it, and it is more than so many bytes.
+// The room of a buffer goes back where nothing stands in it, and it is more than so many bytes. What was cut off and is gone again is room
+// of it too.
 fn give_back(alloc: Global, kept: usize, buffer: &mut BytesMut)
     ensures { buffer.new.items ≡ buffer.old.items }
 {
-    if buffer.is_empty() && buffer.capacity() > kept {
+    if buffer.is_empty() && buffer.try_reclaim(kept.saturating_add(1)) {
         *buffer = BytesMut::new(alloc);
     }
 }

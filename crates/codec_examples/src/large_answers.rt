@@ -1,0 +1,80 @@
+//! Answers with large data, which share the buffer that they came in.
+
+use crate::answers_classic::ask;
+use crate::answers_meta::{meta_ask, put_read};
+use bytes::{Bytes, BytesMut};
+use mc_types::{Ask, Op};
+use std::alloc::{AllocError, Global};
+use std::test::Fail;
+use text_answers::{AnswerRead, Received, large_len, read_received};
+
+// An answer of this head and this end, with 20,000 bytes of data, in a buffer that may be shared.
+fn answer_text(alloc: Global, head: &[u8], end: &[u8]) -> Result<Bytes, AllocError> {
+    let mut out = BytesMut::new(alloc);
+    out.extend_from_slice(head)?;
+    out.extend_from_slice(b"<")?;
+    out.resize(head.len().saturating_add(19_999), b'x')?;
+    out.extend_from_slice(b">")?;
+    out.extend_from_slice(end)?;
+    out.freeze_to(out.len())
+}
+
+fn used_by(read: &AnswerRead) -> usize {
+    match read {
+        AnswerRead::Answer(_, used) => *used,
+        _ => 0,
+    }
+}
+
+// What was read, as it is written, and how many bytes spell it.
+fn written(alloc: Global, ask: &Ask, received: &Received) -> Result<(BytesMut, usize), AllocError> {
+    let mut out = BytesMut::new(alloc);
+    let read = read_received(alloc, ask, received)?;
+    put_read(ask, &read, &mut out)?;
+    Ok((out, used_by(&read)))
+}
+
+// Whether the bytes are read as the answer that they spell, or as what else is named, whether the data are copied or shared.
+fn is_read(alloc: Global, ask: &Ask, bytes: &Bytes, want: &[u8]) -> Result<bool, AllocError> {
+    let (copied, used) = written(alloc, ask, &Received::copied(bytes.as_slice()))?;
+    let (shared, used_too) = written(alloc, ask, &Received::shared(bytes))?;
+    Ok(copied.as_slice() == want && shared.as_slice() == want && used == used_too)
+}
+
+// Whether an answer of this head and this end is read alike, wants more where it is cut in its head, and is as long as its head tells.
+fn is_alike(alloc: Global, ask: &Ask, head: &[u8], end: &[u8]) -> Result<bool, AllocError> {
+    let bytes = answer_text(alloc, head, end)?;
+    for len in 0..head.len() {
+        let cut = bytes.slice(0..len.min(bytes.len()))?;
+        if large_len(cut.as_slice()).is_some() || !is_read(alloc, ask, &cut, b"more")? {
+            return Ok(false);
+        }
+    }
+    Ok(large_len(head) == Some(bytes.len()) && is_read(alloc, ask, &bytes, bytes.as_slice())?)
+}
+
+#[test]
+fn large_data_are_shared_and_read_alike(rt: HostRuntime) -> Result<(), Fail> {
+    let alloc = rt.alloc();
+    let get = ask(alloc, Op::Get, false)?;
+    assert!(rt; is_alike(alloc, &get, b"VALUE k 5 20000\r\n", b"\r\nEND\r\n")?);
+    let meta_get = meta_ask(alloc, Op::Get, b"v")?;
+    assert!(rt; is_alike(alloc, &meta_get, b"VA 20000\r\n", b"\r\n")?);
+    Ok(())
+}
+
+#[test]
+fn small_answers_have_no_large_len(rt: HostRuntime) -> Result<(), Fail> {
+    for line in [
+        b"VALUE k 5 16383\r\n".as_slice(),
+        b"VALUE k 5 1048577\r\n".as_slice(),
+        b"VA 16383\r\n".as_slice(),
+        b"HD\r\n".as_slice(),
+        b"STORED\r\n".as_slice(),
+    ] {
+        assert_eq!(rt; large_len(line), None);
+    }
+    assert_eq!(rt; large_len(b"VALUE k 5 16384\r\n"), Some(16_408));
+    assert_eq!(rt; large_len(b"VA 1048576 f5\r\n"), Some(1_048_593));
+    Ok(())
+}
