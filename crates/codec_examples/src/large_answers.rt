@@ -3,17 +3,19 @@
 use crate::answers_classic::ask;
 use crate::answers_meta::{meta_ask, put_read};
 use bytes::{Bytes, BytesMut};
-use mc_types::{Ask, Op};
+use mc_types::{Answer, Ask, Body, Code, Fields, Op};
+use send_buffer::SendBuffer;
 use std::alloc::{AllocError, Global};
 use std::test::Fail;
 use text_answers::{AnswerRead, Received, large_len, read_received};
+use text_codec::{send_part, write_part};
 
-// An answer of this head and this end, with 20,000 bytes of data, in a buffer that may be shared.
+// An answer of this head and this end, with 100,000 bytes of data, in a buffer that may be shared.
 fn answer_text(alloc: Global, head: &[u8], end: &[u8]) -> Result<Bytes, AllocError> {
     let mut out = BytesMut::new(alloc);
     out.extend_from_slice(head)?;
     out.extend_from_slice(b"<")?;
-    out.resize(head.len().saturating_add(19_999), b'x')?;
+    out.resize(head.len().saturating_add(99_999), b'x')?;
     out.extend_from_slice(b">")?;
     out.extend_from_slice(end)?;
     out.freeze_to(out.len())
@@ -57,24 +59,52 @@ fn is_alike(alloc: Global, ask: &Ask, head: &[u8], end: &[u8]) -> Result<bool, A
 fn large_data_are_shared_and_read_alike(rt: HostRuntime) -> Result<(), Fail> {
     let alloc = rt.alloc();
     let get = ask(alloc, Op::Get, false)?;
-    assert!(rt; is_alike(alloc, &get, b"VALUE k 5 20000\r\n", b"\r\nEND\r\n")?);
+    assert!(rt; is_alike(alloc, &get, b"VALUE k 5 100000\r\n", b"\r\nEND\r\n")?);
     let meta_get = meta_ask(alloc, Op::Get, b"v")?;
-    assert!(rt; is_alike(alloc, &meta_get, b"VA 20000\r\n", b"\r\n")?);
+    assert!(rt; is_alike(alloc, &meta_get, b"VA 100000\r\n", b"\r\n")?);
     Ok(())
 }
 
 #[test]
 fn small_answers_have_no_large_len(rt: HostRuntime) -> Result<(), Fail> {
     for line in [
-        b"VALUE k 5 16383\r\n".as_slice(),
+        b"VALUE k 5 65535\r\n".as_slice(),
         b"VALUE k 5 1048577\r\n".as_slice(),
-        b"VA 16383\r\n".as_slice(),
+        b"VA 65535\r\n".as_slice(),
         b"HD\r\n".as_slice(),
         b"STORED\r\n".as_slice(),
     ] {
         assert_eq!(rt; large_len(line), None);
     }
-    assert_eq!(rt; large_len(b"VALUE k 5 16384\r\n"), Some(16_408));
+    assert_eq!(rt; large_len(b"VALUE k 5 65536\r\n"), Some(65_560));
     assert_eq!(rt; large_len(b"VA 1048576 f5\r\n"), Some(1_048_593));
+    Ok(())
+}
+
+// Whether what is to be sent of a reply is what is written of it, with its data in a piece of their own.
+fn is_sent_alike(alloc: Global, ask: &Ask, reply: &Answer, last: bool) -> Result<bool, AllocError> {
+    let mut written = BytesMut::new(alloc);
+    write_part(false, last, ask, reply, &mut written)?;
+    let mut sent = SendBuffer::new(alloc);
+    send_part(false, last, ask, reply, &mut sent)?;
+    Ok(!sent.pieces.is_empty() && sent.to_vec(alloc)?.as_slice() == written.as_slice())
+}
+
+#[test]
+fn large_data_are_sent_as_they_are_written(rt: HostRuntime) -> Result<(), Fail> {
+    let alloc = rt.alloc();
+    let body = Body::from_slice(alloc, answer_text(alloc, b"", b"")?.as_slice())?;
+    let get = ask(alloc, Op::Get, false)?;
+    let hit = Answer::Hit {
+        flags: 5,
+        body: body.copy()?,
+        cas: None,
+    };
+    assert!(rt; is_sent_alike(alloc, &get, &hit, true)?);
+    assert!(rt; is_sent_alike(alloc, &get, &hit, false)?);
+    let meta_get = meta_ask(alloc, Op::Get, b"v")?;
+    let mut fields = Fields::none();
+    fields.body = Some(body);
+    assert!(rt; is_sent_alike(alloc, &meta_get, &Answer::Meta(Code::Va, fields), true)?);
     Ok(())
 }

@@ -188,7 +188,9 @@ impl End<'_> {
     fn share(&mut self, text: &str) -> Result<(), AllocError> {
         let text = plain(self.alloc, text)?;
         let body = Body::from_slice(self.alloc, text.as_bytes())?;
-        self.conn.unsent.push_data(&body)
+        self.conn
+            .unsent
+            .push_data(&body, self.conn.unsent.new_text())
     }
 
     // Events that give nothing.
