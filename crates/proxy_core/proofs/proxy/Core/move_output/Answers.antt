@@ -1,4 +1,5 @@
 use Rattle.std.proofs.Common.{sym, ap, ◌∙◌, ◌++◌}
+use Rattle.send_buffer.specs.Sending.{bytes_of}
 use Rattle.proxy_core.specs.CoreState.{client_at}
 use Rattle.core_client.specs.ClientState.{output_by}
 use Rattle.proxy_core.proofs.Clients.{written, gives}
@@ -6,7 +7,7 @@ use Rattle.proxy_core.proofs.Stalled.{still_stalled}
 use Rattle.proxy_core.proofs.proxy.Core.move_output.Goals as goal
 
 pub returns-in-Ok-clause-bytes : goal.returns-in-Ok-clause-bytes
-returns-in-Ok-clause-bytes c = c.in-Ok.ensures.bytes ∙ ap (λ l. c.args.out.now.items ++ output_by l) c.in-Some.ensures.value
+returns-in-Ok-clause-bytes c = c.in-Ok.ensures.bytes ∙ ap (λ l. bytes_of c.args.out.now ++ output_by l) c.in-Some.ensures.value
 
 pub returns-in-Ok-clause-ok : goal.returns-in-Ok-clause-ok
 returns-in-Ok-clause-ok c =
