@@ -106,11 +106,20 @@ enum Front {
     Foreign,
 }
 
+// Whether the answer in front may have large data, by its first bytes: after `VA` a length of five digits follows at once. Among many small
+// answers no further word of them is read for that.
+fn may_be_large(held: &[u8]) -> bool {
+    match held {
+        [b'V', b'A', b' ', _, _, _, _, digit, ..] => digit.is_ascii_digit(),
+        _ => held.starts_with(b"VALUE "),
+    }
+}
+
 // How many bytes the answer in front takes, where it has large data and so many are there.
 fn large_front(held: &[u8]) -> Option<usize>
     ensures { IfSome result (λ len. len ≤ length held.now) }
 {
-    if held.len() < SHARED_FROM {
+    if held.len() < SHARED_FROM || !may_be_large(held) {
         return None;
     }
     let len = large_len(held)?;
