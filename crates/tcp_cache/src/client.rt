@@ -4,6 +4,7 @@ ghost use Rattle.std.specs.Prelude.{◌≡◌, true, false, [], ◌<◌, ◌≤�
 ghost use Rattle.request_parts.specs.declared.skip.Skip.TheVariants.{Nothing};
 ghost use Rattle.request_parts.specs.Stream.{Stands, extended};
 ghost use Rattle.cache_connection.specs.Serving.{Feeds, Stops};
+ghost use Rattle.send_buffer.specs.Sending.{bytes_of};
 ghost use Rattle.tcp_cache.specs.Serving.{Serves, ServesOn, StopsIn, StopsOn, IsServed};
 
 use crate::clock::Moment;
@@ -103,7 +104,7 @@ impl<S: Read + Write + Drop> Client<S> {
     // the most that is served after a backlog.
     fn serve_piece(&mut self, cache: &mut Cache, moment: Moment) -> Result<(), AllocError>
         requires { 0 < length self.old.conn.held.items }
-        ensures ok { OnOk result (Serves moment.seconds self.old.conn.held.items self.old.conn.unsent.items self.old.served cache.old self.new.conn.held.items self.new.conn.unsent.items self.new.served cache.new) }
+        ensures ok { OnOk result (Serves moment.seconds self.old.conn.held.items (bytes_of self.old.conn.unsent) self.old.served cache.old self.new.conn.held.items (bytes_of self.new.conn.unsent) self.new.served cache.new) }
         ensures err { OnErr result (StopsIn moment.seconds self.old.conn.held.items self.old.served cache.old cache.new) }
         ensures shorter { OnOk result (length self.new.conn.held.items < length self.old.conn.held.items) }
         ensures limits { self.new.conn.limits ≡ self.old.conn.limits }
@@ -116,7 +117,7 @@ impl<S: Read + Write + Drop> Client<S> {
             &self.conn.held.as_slice()[..count],
         )?;
         self.conn.use_held(count);
-        let added = self.conn.unsent.extend_from_slice(text.as_slice());
+        let added = self.conn.unsent.text.extend_from_slice(text.as_slice());
         drop_text(text);
         added
     }
@@ -124,7 +125,7 @@ impl<S: Read + Write + Drop> Client<S> {
     // Whether a piece is to be served.
     fn may_serve(&self) -> bool
         ensures left { result ≡ true → 0 < length self.now.conn.held.items }
-        ensures done { result ≡ false → IsServed self.now.conn.limits.unsent self.now.conn.held.items self.now.conn.unsent.items self.now.served }
+        ensures done { result ≡ false → IsServed self.now.conn.limits.unsent self.now.conn.held.items (bytes_of self.now.conn.unsent) self.now.served }
     {
         !self.conn.held.is_empty() && !self.conn.has_backlog() && !self.served.is_closed()
     }
@@ -136,9 +137,9 @@ impl<S: Read + Write + Drop> Client<S> {
     ///
     /// Source: mcgate's own.
     pub fn serve(&mut self, cache: &mut Cache, moment: Moment) -> Result<(), AllocError>
-        ensures ok { OnOk result (ServesOn moment.seconds self.old.conn.held.items self.old.conn.unsent.items self.old.served cache.old self.new.conn.held.items self.new.conn.unsent.items self.new.served cache.new) }
-        ensures all { OnOk result (IsServed self.old.conn.limits.unsent self.new.conn.held.items self.new.conn.unsent.items self.new.served) }
-        ensures err { OnErr result (StopsOn moment.seconds self.old.conn.held.items self.old.conn.unsent.items self.old.served cache.old cache.new) }
+        ensures ok { OnOk result (ServesOn moment.seconds self.old.conn.held.items (bytes_of self.old.conn.unsent) self.old.served cache.old self.new.conn.held.items (bytes_of self.new.conn.unsent) self.new.served cache.new) }
+        ensures all { OnOk result (IsServed self.old.conn.limits.unsent self.new.conn.held.items (bytes_of self.new.conn.unsent) self.new.served) }
+        ensures err { OnErr result (StopsOn moment.seconds self.old.conn.held.items (bytes_of self.old.conn.unsent) self.old.served cache.old cache.new) }
         ensures limits { self.new.conn.limits ≡ self.old.conn.limits }
     {
         pieces_are_one();

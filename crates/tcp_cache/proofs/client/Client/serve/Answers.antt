@@ -1,4 +1,5 @@
 use Rattle.std.proofs.Common.{◌∙◌}
+use Rattle.send_buffer.specs.Sending.{bytes_of}
 use Rattle.tcp_cache.proofs.Joined.{serves_after}
 use Rattle.tcp_cache.proofs.client.Client.serve.Goals as goal
 
@@ -7,5 +8,5 @@ loop-moment-preserved g c =
     let s = c.args.self.now in
     let a = c.loop-moment.self in
     let b = c.serve_piece.new.self in
-    let joined = serves_after c.pieces_are_one.ensures c.args.moment.seconds s.conn.held.items s.conn.unsent.items s.served c.args.cache.now a.conn.held.items a.conn.unsent.items a.served c.loop-moment.cache b.conn.held.items b.conn.unsent.items b.served c.serve_piece.new.cache c.loop-moment.invariant.0 c.in_ok-serve_piece.ensures.ok in
+    let joined = serves_after c.pieces_are_one.ensures c.args.moment.seconds s.conn.held.items (bytes_of s.conn.unsent) s.served c.args.cache.now a.conn.held.items (bytes_of a.conn.unsent) a.served c.loop-moment.cache b.conn.held.items (bytes_of b.conn.unsent) b.served c.serve_piece.new.cache c.loop-moment.invariant.0 c.in_ok-serve_piece.ensures.ok in
     (joined, c.serve_piece.ensures.limits ∙ c.loop-moment.invariant.1)
