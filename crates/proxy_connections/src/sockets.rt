@@ -46,19 +46,18 @@ pub fn use_held(conn: &mut Conn<TcpStream>, count: usize) {
     conn.use_held(count);
 }
 
-// So many writes are made at once at most.
+// So many writes are made at once at most, and one more for each piece that is to be sent.
 const WRITES: usize = 64;
 
-/// Sends what the connection takes. Whether it stands still.
+/// Sends what the connection takes, all of it where it takes all: the system tells of its socket only when that changes. Whether it
+/// stands still.
 pub fn send(conn: &mut Conn<TcpStream>) -> bool {
-    for _ in 0..WRITES {
-        if !conn.writable {
+    for _ in 0..conn.unsent.pieces.len().saturating_add(WRITES) {
+        if !conn.writable || conn.unsent.is_empty() {
             return true;
         }
-        match conn.send_parts() {
-            Sent::Bytes => {}
-            Sent::Nothing => return true,
-            Sent::Failed => return false,
+        if conn.send_parts() == Sent::Failed {
+            return false;
         }
     }
     true
