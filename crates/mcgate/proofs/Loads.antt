@@ -3,6 +3,7 @@ use Rattle.std.proofs.Common.{◌≡◌, ℕ, List, [], ◌∷◌, Result, Ok, E
 use Rattle.std.specs.Prelude.{IfOk}
 use Rattle.route_json.specs.Servers.{Addresses}
 use Rattle.route_json.specs.Configuration.{Configuration}
+use Rattle.route_tree.specs.Route.{Route}
 use Rattle.commands_under_way.specs.declared.sharing.Sharing.{Sharing}
 use Rattle.link_calls.specs.declared.any_core.AnyCore.{AnyCore}
 use Rattle.link_calls.specs.declared.any_core.AnyCore.TheVariants as cores
@@ -13,14 +14,16 @@ use Rattle.proxy_connections.proofs.Walked.{still, walks_keep}
 use Rattle.tcp_proxy.specs.LogsGoOn.{LogsAreFresh}
 use Rattle.mcgate.specs.declared.serve.Servable.{Servable}
 use Rattle.mcgate.specs.declared.serve.Servable.TheVariants as servables
-use Rattle.mcgate.specs.Serves.{BeginsBy, Begins, SaysAfter, IsServed, Serves, MayLoad, MayLoadText, HasServed, StaysFresh}
+use Rattle.mcgate.specs.Sharing.{sharing_for}
+use Rattle.mcgate.specs.Serves.{HasTree, BeginsBy, Begins, SaysAfter, IsServed, Serves, MayLoad, MayLoadText, HasServed, StaysFresh}
 
--- an end that began by these settings but for its sharing
+-- an end that began by these settings but for its sharing, which is that of its tree
 pub begins_on :
-    {T E : Type 0} (core : T → AnyCore) (servable known : Servable) (settings : Settings) (sharing : Sharing) (r : Result T E) → servable ≡ known
+    {T E : Type 0} (core : T → AnyCore) (servable known : Servable) (settings : Settings) (sharing : Sharing) (tree : Route) (r : Result T E) → servable ≡ known → HasTree known tree → sharing ≡ sharing_for tree
     → IfOk r (λ end. BeginsBy known (record settings { sharing = sharing }) (core end)) → IfOk r (λ end. Begins servable settings (core end))
-begins_on core servable known settings sharing (Ok end) is begins = subst (λ (x : Servable). Begins x settings (core end)) (sym is) (sharing, begins)
-begins_on core servable known settings sharing (Err fault) is begins = tt
+begins_on core servable known settings sharing tree (Ok end) is has sharing_is begins =
+    subst (λ (x : Servable). Begins x settings (core end)) (sym is) (tree, has, subst (λ (s : Sharing). BeginsBy known (record settings { sharing = s }) (core end)) sharing_is begins)
+begins_on core servable known settings sharing tree (Err fault) is has sharing_is begins = tt
 
 of_turn : (step : Step) → IsOfTurn step → IsServed step
 of_turn (Loaded configuration generation) is = absurd is
@@ -57,4 +60,4 @@ by_kind (servables.Unchecked configuration) settings a b begins kept fresh = tt
 
 pub stays_fresh : (servable : Servable) (settings : Settings) (core : AnyCore) → HasServed servable settings core → LogsAreFresh core → StaysFresh servable core
 stays_fresh servable settings core served fresh =
-    by_kind servable (record settings { sharing = served.begins.0 }) served.began core served.begins.1 (walks_keep served.serves.steps served.began core served.serves.walks) fresh
+    by_kind servable (record settings { sharing = sharing_for served.begins.0 }) served.began core served.begins.2 (walks_keep served.serves.steps served.began core served.serves.walks) fresh

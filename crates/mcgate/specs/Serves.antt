@@ -4,7 +4,8 @@ use Rattle.serde_json.specs.Read.{read}
 use Rattle.route_json.specs.Servers.{Addresses}
 use Rattle.route_json.specs.Configs.{read_after}
 use Rattle.route_json.specs.Configuration.{Configuration}
-use Rattle.commands_under_way.specs.declared.sharing.Sharing.{Sharing}
+use Rattle.route_tree.specs.Route.{Route}
+use Rattle.fresh_gate.specs.Sound.{IsLast}
 use Rattle.link_calls.specs.declared.any_core.AnyCore.{AnyCore}
 use Rattle.link_calls.specs.declared.any_core.AnyCore.TheVariants as cores
 use Rattle.link_calls.specs.Cores.{IsLoaded}
@@ -12,6 +13,7 @@ use Rattle.proxy_connections.specs.declared.settings.Settings.{Settings}
 use Rattle.proxy_connections.specs.CoreSteps.{Step, Opened, NotOpened, Fed, Polled, Stopped, Settled, Gave, Closed, LeftLine, Loaded, GoesBy}
 use Rattle.tcp_proxy.specs.Beginning.{BeginsFresh, BeginsUnchecked}
 use Rattle.tcp_proxy.specs.LogsGoOn.{LogsAreFresh}
+use Rattle.mcgate.specs.Sharing.{sharing_for}
 use Rattle.mcgate.specs.declared.serve.Servable.{Servable}
 use Rattle.mcgate.specs.declared.serve.Servable.TheVariants as servables
 
@@ -20,9 +22,14 @@ abbrev pub BeginsBy : Servable → Settings → AnyCore → Type 0
 BeginsBy (servables.Accepted accepted) settings core = BeginsFresh accepted settings core
 BeginsBy (servables.Unchecked configuration) settings core = BeginsUnchecked configuration.tree settings core
 
--- the same by these settings, but that commands may share their keys by another rule
+-- this is its tree: of configurations that the gate accepted, that of the last one
+abbrev pub HasTree : Servable → Route → Type 0
+HasTree (servables.Accepted accepted) tree = (configuration : Configuration) × IsLast accepted configuration × (tree ≡ configuration.tree)
+HasTree (servables.Unchecked configuration) tree = tree ≡ configuration.tree
+
+-- the same by these settings, but that commands share their keys by the rule for its tree
 abbrev pub Begins : Servable → Settings → AnyCore → Type 0
-Begins servable settings core = (sharing : Sharing) × BeginsBy servable (record settings { sharing = sharing }) core
+Begins servable settings core = (tree : Route) × HasTree servable tree × BeginsBy servable (record settings { sharing = sharing_for tree }) core
 
 -- the text says this configuration, whose servers are numbered after these
 abbrev pub SaysAfter : Addresses → List ℕ → Configuration → Type 0
