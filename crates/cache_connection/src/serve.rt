@@ -11,14 +11,14 @@ use crate::moment::Moment;
 use crate::reply::reply_to;
 use cache_server::Cache;
 use connections::{Connection, Front};
-use mc_types::{Answer, Ask};
+use mc_types::{Answer, Ask, SharedAsk};
 use std::alloc::{AllocError, Global};
 use text_codec::Request;
 
 // A drop that is a call keeps the proof of a caller short.
 fn drop_answer(_answer: Answer) {}
 
-fn drop_ask(_ask: Ask) {}
+fn drop_ask(_ask: SharedAsk) {}
 
 // One ask of the request at the front: whether the request is done with its reply.
 fn serve_ask(
@@ -55,8 +55,8 @@ fn serve_key(
     ensures ok { IfOk result (λ ended. ServesKey moment.seconds connection.old request.now index cache.old ended connection.new cache.new) }
     ensures err { OnErr result (StopsAtKey moment.seconds connection.old request.now index cache.old cache.new) }
 {
-    let ask = connection.stream.ask(alloc, request, index)?;
-    let served = serve_ask(connection, request, index, &ask, cache, moment);
+    let ask = connection.stream.ask(alloc, None, request, index)?;
+    let served = serve_ask(connection, request, index, ask.get(), cache, moment);
     drop_ask(ask);
     served
 }

@@ -5,7 +5,7 @@ ghost use Rattle.meta_requests.specs.Asks as meta_asks;
 ghost use Rattle.client_requests.specs.Message.{IsReadFrom, message_in, used_of};
 ghost use Rattle.client_requests.specs.Asks.{asks_of, quiet_of, own_of, request_of, taken_of, counted, IsWalk, IsClientAsk};
 
-use mc_types::Ask;
+use mc_types::{Ask, SharedAsk};
 use request_parts::ProxyCommand;
 use std::alloc::{AllocError, Global};
 
@@ -89,17 +89,29 @@ impl Request {
         }
     }
 
-    /// The ask of this number, counted from 0: a copy. It walks over the keys before it; a walk over all asks is
-    /// `walk`. The only error is running out of memory.
-    pub fn ask(&self, alloc: Global, bytes: &[u8], i: usize) -> Result<Ask, AllocError>
+    /// The ask of this number, counted from 0: a copy, in the memory of the spare one where nobody else holds that. It walks over the keys
+    /// before it; a walk over all asks is `walk`. The only error is running out of memory.
+    pub fn ask(
+        &self,
+        alloc: Global,
+        spare: Option<SharedAsk>,
+        bytes: &[u8],
+        i: usize,
+    ) -> Result<SharedAsk, AllocError>
         requires read { IsReadFrom bytes.now self.now }
         requires there { i < length (asks_of (message_in bytes.now self.now)) }
         ensures value { IfOk result (λ ask. slice_get (asks_of (message_in bytes.now self.now)) i ≡ Some ask) }
         ensures ask { IfOk result IsClientAsk }
     {
         match self {
-            Request::Classic(request) => request.ask(alloc, bytes, i),
-            Request::Meta(request) => request.ask(alloc, bytes, i),
+            Request::Classic(request) => {
+                let ask = request.ask(alloc, bytes, i)?;
+                SharedAsk::reusing(alloc, spare, ask)
+            }
+            Request::Meta(request) => {
+                let ask = request.ask(alloc, bytes, i)?;
+                SharedAsk::reusing(alloc, spare, ask)
+            }
         }
     }
 }

@@ -1,5 +1,5 @@
 -- Commands of a client of which no call is out, by where they stand in the map.
-use Rattle.std.proofs.Common.{◌≡◌, ℕ, suc, ◌+◌, Bool, true, false, cond, not, nat_lt, List, [], ◌∷◌, length, map, Option, Some, None, option_map, position, slice_get, IfNone, refl, sym, ap, ◌∙◌, subst, arith}
+use Rattle.std.proofs.Common.{◌≡◌, ℕ, suc, ◌+◌, Bool, true, false, cond, not, nat_lt, List, [], ◌∷◌, length, map, Option, Some, None, option_map, position, slice_get, refl, sym, ap, ◌∙◌, subst, arith}
 use Rattle.std.specs.List.{position_or_len}
 use Rattle.std.specs.Map as assoc
 use Rattle.std.proofs.lemmas.Bool.{ltb-true, lt-ltb, ltb-false, le-ltb}
@@ -64,7 +64,3 @@ found_entry test es i key y e at =
   where
     some : {X : Type 0} {x z : X} → ◌≡◌ {A = Option X} (Some x) (Some z) → x ≡ z
     some e = cc
-
-pub on_none : {X : Type 0} {P : Type 0} (o : Option X) → P → IfNone o P
-on_none None p = p
-on_none (Some x) p = tt

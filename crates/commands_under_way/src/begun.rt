@@ -12,10 +12,8 @@ ghost use Rattle.commands_under_way.specs.Begun.{IsBegun, ticket_of};
 use crate::claim::Claim;
 use crate::command::Command;
 use crate::held_job::HeldJob;
-use crate::same::is_same;
-use crate::shared::SharedAsk;
 use crate::ticket::Ticket;
-use mc_types::Ask;
+use mc_types::SharedAsk;
 use route_job::{Job, Step};
 use route_tree::Tree;
 use std::alloc::{AllocError, Global};
@@ -26,8 +24,8 @@ pub fn drop_ask(_ask: SharedAsk) {}
 /// The same of a command.
 pub fn drop_command(_command: Command) {}
 
-// A job of a copy of the ask.
-fn job_of(alloc: Global, tree: &Tree, ask: &Ask) -> Result<HeldJob, AllocError>
+// A job of the ask, which it shares.
+fn job_of(alloc: Global, tree: &Tree, ask: &SharedAsk) -> Result<HeldJob, AllocError>
     ensures { IfOk result (λ job. (calls : List Call) (given : Given) → Comes job calls given ↔ Word (tree_at tree.now ask.now.key) ask.now OfClient 0 calls given) }
 {
     let ask = ask.copy()?;
@@ -48,7 +46,7 @@ pub fn command_of(
 {
     let _form = tree.form();
     let kept = ask.copy()?;
-    match job_of(alloc, tree, ask.get()) {
+    match job_of(alloc, tree, ask) {
         Ok(job) => Ok(Command {
             job,
             ask: kept,
@@ -63,23 +61,8 @@ pub fn command_of(
     }
 }
 
-// This ask: the command's own, shared, where that says the same, as it mostly does. Else it is a copy.
-fn shared_as(alloc: Global, own: &SharedAsk, ask: &Ask) -> Result<SharedAsk, AllocError>
-    ensures { IfOk result (λ shared. shared ≡ ask.now) }
-{
-    if is_same(own.get(), ask) {
-        return own.copy();
-    }
-    SharedAsk::new(alloc, ask.copy()?)
-}
-
-// The call that the job shows, of a command that asks this.
-fn ticket_of(
-    alloc: Global,
-    number: u64,
-    own: &SharedAsk,
-    job: &HeldJob,
-) -> Result<Ticket, AllocError>
+// The call that the job shows.
+fn ticket_of(number: u64, job: &HeldJob) -> Result<Ticket, AllocError>
     requires { IsCalling job.now }
     ensures { IfOk result (λ ticket. ticket ≡ ticket_of number job.now) }
 {
@@ -89,7 +72,7 @@ fn ticket_of(
             ask,
             origin,
         } => Ok(Ticket {
-            ask: shared_as(alloc, own, ask)?,
+            ask: ask.copy()?,
             number,
             origin,
             server,
@@ -99,14 +82,15 @@ fn ticket_of(
 }
 
 impl Command {
-    /// Its next call, which is out then. The only error is running out of memory, which leaves the command as it was.
-    pub fn send(&mut self, alloc: Global, number: u64) -> Result<Ticket, AllocError>
+    /// Its next call, which is out then. The only error is running out of memory, which leaves the command as it was; it takes none, and
+    /// is refused only where the count of the ask's sharers is full.
+    pub fn send(&mut self, number: u64) -> Result<Ticket, AllocError>
         requires { IsCalling self.old.job }
         ensures ticket { IfOk result (λ ticket. ticket ≡ ticket_of number self.old.job) }
         ensures out { IfOk result (λ ticket. self.new ≡ record self.old { is_out = true }) }
         ensures err { OnErr result (self.new ≡ self.old) }
     {
-        let ticket = ticket_of(alloc, number, &self.ask, &self.job)?;
+        let ticket = ticket_of(number, &self.job)?;
         self.is_out = true;
         Ok(ticket)
     }

@@ -10,9 +10,8 @@ ghost use Rattle.commands_under_way.specs.Outcomes.{TakesOutcome, asked_by, IsOu
 
 use crate::claim::Claim;
 use crate::held_job::HeldJob;
-use crate::shared::SharedAsk;
 use crate::ticket::OutCall;
-use mc_types::{Ask, Key, Outcome, ServerId};
+use mc_types::{Ask, Key, Outcome, ServerId, SharedAsk};
 use route_job::Step;
 use std::alloc::{AllocError, Global};
 
@@ -77,7 +76,7 @@ impl Command {
             return None;
         }
         match self.job.next() {
-            Step::Call { ask, .. } => Some(ask),
+            Step::Call { ask, .. } => Some(ask.get()),
             Step::Done(_) => None,
         }
     }
@@ -95,7 +94,7 @@ impl Command {
                 ask,
                 origin,
             } => Some(OutCall {
-                ask,
+                ask: ask.get(),
                 origin,
                 server,
             }),

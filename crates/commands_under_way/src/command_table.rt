@@ -179,8 +179,8 @@ impl CommandTable {
     }
 
     /// The next call of the command of this number, which is out then. The only error is running out of memory, which leaves
-    /// all commands as they were.
-    pub fn send(&mut self, alloc: Global, number: u64) -> Result<Ticket, AllocError>
+    /// all commands as they were; it is refused only where the count of the ask's sharers is full.
+    pub fn send(&mut self, number: u64) -> Result<Ticket, AllocError>
         requires { IsAtCall self.old number }
         ensures ok { IfOk result (λ ticket. CallsOut self.old number ticket self.new) }
         ensures err { OnErr result (self.new ≡ self.old) }
@@ -188,7 +188,7 @@ impl CommandTable {
         let Some(command) = self.by_number.get_mut(&number) else {
             unreachable!();
         };
-        let ticket = command.send(alloc, number)?;
+        let ticket = command.send(number)?;
         let is_counted = count_one(ticket.server.number(), &mut self.at_server);
         self.is_counted = both(self.is_counted, is_counted);
         Ok(ticket)

@@ -12,7 +12,7 @@ use route_job::{Done, Job, Step};
 use std::alloc::{AllocError, Global};
 use std::marker::Model;
 
-/// A job on the heap. A job by value is some five hundred bytes, and a command goes through many hands.
+/// A job on the heap. A job by value is some two hundred bytes, and a command goes through many hands.
 #[derive(Drop)]
 pub struct HeldJob {
     job: Box<Job>,

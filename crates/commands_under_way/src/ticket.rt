@@ -2,8 +2,7 @@
 
 ghost use Rattle.std.specs.Prelude.{◌≡◌};
 
-use crate::shared::SharedAsk;
-use mc_types::{Ask, Origin, ServerId};
+use mc_types::{Ask, Origin, ServerId, SharedAsk};
 
 /// A call that is out: the command's next call, which nobody else has. It is handed back with its outcome.
 #[derive(Drop)]

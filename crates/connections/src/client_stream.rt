@@ -9,7 +9,7 @@ ghost use Rattle.client_requests.specs.declared.reader.Read.TheVariants.{Request
 ghost use Rattle.text_codec.specs.Held.{held_at, IsReadAt};
 ghost use Rattle.connections.specs.ClientStreams.{IsWalkAt, IsKept};
 
-use mc_types::Ask;
+use mc_types::{Ask, SharedAsk};
 use std::alloc::{AllocError, Global};
 use std::marker::Model;
 use text_codec::{Asks, Read, Request, Skip, TextStream};
@@ -86,7 +86,12 @@ impl Walk {
     }
 
     // The ask that it stands at.
-    fn ask(&self, alloc: Global, stream: &TextStream) -> Result<Ask, AllocError>
+    fn ask(
+        &self,
+        alloc: Global,
+        spare: Option<SharedAsk>,
+        stream: &TextStream,
+    ) -> Result<SharedAsk, AllocError>
         requires at { IsWalkAt stream.now self.now }
         requires there { self.now.taken < length (asks_of (message_in (held_at stream.now) self.now.request)) }
         ensures value { IfOk result (λ ask. slice_get (asks_of (message_in (held_at stream.now) self.now.request)) self.now.taken ≡ Some ask) }
@@ -94,7 +99,7 @@ impl Walk {
     {
         let mut asks = self.asks;
         match asks.next(alloc, stream.held())? {
-            Some(ask) => Ok(ask),
+            Some(ask) => SharedAsk::reusing(alloc, spare, ask),
             None => unreachable!(),
         }
     }
@@ -157,7 +162,13 @@ impl ClientStream {
     }
 
     // The same of a request of several keys: the walk that led to the ask is kept.
-    fn walk_to(&mut self, alloc: Global, request: &Request, i: usize) -> Result<Ask, AllocError>
+    fn walk_to(
+        &mut self,
+        alloc: Global,
+        spare: Option<SharedAsk>,
+        request: &Request,
+        i: usize,
+    ) -> Result<SharedAsk, AllocError>
         requires read { IsReadAt self.old (Requests request.now) }
         requires there { i < length (asks_of (message_in (held_at self.old) request.now)) }
         ensures value { IfOk result (λ ask. slice_get (asks_of (message_in (held_at self.old) request.now)) i ≡ Some ask) }
@@ -166,14 +177,21 @@ impl ClientStream {
     {
         let mut walk = self.walk_before(request, i);
         walk.go_to(alloc, &self.stream, i)?;
-        let ask = walk.ask(alloc, &self.stream)?;
+        let ask = walk.ask(alloc, spare, &self.stream)?;
         self.walk = Some(walk);
         Ok(ask)
     }
 
-    /// The ask of this number, counted from 0, of the request at the front: a copy. All asks of a request together, where they are asked for in
-    /// their order, take time linear in its bytes. The only error is running out of memory.
-    pub fn ask(&mut self, alloc: Global, request: &Request, i: usize) -> Result<Ask, AllocError>
+    /// The ask of this number, counted from 0, of the request at the front: a copy, in the memory of the spare one where nobody else holds
+    /// that. All asks of a request together, where they are asked for in their order, take time linear in its bytes. The only error is running
+    /// out of memory.
+    pub fn ask(
+        &mut self,
+        alloc: Global,
+        spare: Option<SharedAsk>,
+        request: &Request,
+        i: usize,
+    ) -> Result<SharedAsk, AllocError>
         requires read { IsReadAt self.old (Requests request.now) }
         requires there { i < length (asks_of (message_in (held_at self.old) request.now)) }
         ensures value { IfOk result (λ ask. slice_get (asks_of (message_in (held_at self.old) request.now)) i ≡ Some ask) }
@@ -181,9 +199,9 @@ impl ClientStream {
         ensures same { self.new ≡ self.old }
     {
         if request.asks() == 1 {
-            return request.ask(alloc, self.stream.held(), i);
+            return request.ask(alloc, spare, self.stream.held(), i);
         }
-        self.walk_to(alloc, request, i)
+        self.walk_to(alloc, spare, request, i)
     }
 
     /// A request of so many bytes is done.

@@ -4,9 +4,8 @@ ghost use Rattle.std.specs.Prelude.{◌≡◌, ◌++◌, false, ◌↔◌, IsTru
 ghost use Rattle.send_buffer.specs.Sending.{bytes_of};
 ghost use Rattle.core_client.specs.Clients.{has_own, IsNew, IsEnded, TakesPiece, LosesOutput};
 
-use commands_under_way::SharedAsk;
 use connections::ClientStream;
-use mc_types::{Answer, Key};
+use mc_types::{Answer, Key, SharedAsk};
 use send_buffer::SendBuffer;
 use std::alloc::{AllocError, Global};
 use std::collections::VecDeque;

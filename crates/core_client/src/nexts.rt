@@ -10,8 +10,8 @@ ghost use Rattle.connections.specs.Fronts.{AsksNone};
 ghost use Rattle.core_client.specs.Nexts.{CanAsk, CanBegin, IsNextOf};
 
 use crate::client::{Client, Pending};
-use commands_under_way::SharedAsk;
 use connections::Front;
+use mc_types::SharedAsk;
 use std::alloc::{AllocError, Global};
 use std::collections::VecDeque;
 use text_codec::{Read, Request};
@@ -87,14 +87,19 @@ impl Client {
         }
     }
 
-    /// The ask of the next key of the request at its front. The only error is running out of memory.
-    pub fn next_ask(&mut self, alloc: Global, request: &Request) -> Result<SharedAsk, AllocError>
+    /// The ask of the next key of the request at its front, in the memory of the spare one where nobody else holds that. The only error is
+    /// running out of memory.
+    pub fn next_ask(
+        &mut self,
+        alloc: Global,
+        spare: Option<SharedAsk>,
+        request: &Request,
+    ) -> Result<SharedAsk, AllocError>
         requires { CanAsk request.now self.old }
         ensures begins { IfOk result (λ ask. CanBegin request.now ask self.old) }
         ensures asks { IfOk result IsAsk }
         ensures same { self.new ≡ self.old }
     {
-        let ask = self.stream.ask(alloc, request, self.index)?;
-        SharedAsk::new(alloc, ask)
+        self.stream.ask(alloc, spare, request, self.index)
     }
 }

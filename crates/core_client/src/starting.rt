@@ -7,7 +7,7 @@ ghost use Rattle.text_codec.specs.Held.{held_at};
 ghost use Rattle.core_client.specs.Fronts.{Stays, IsAskAt, MovesOn, BeginsKey};
 
 use crate::client::{Client, Pending};
-use commands_under_way::SharedAsk;
+use mc_types::SharedAsk;
 use std::alloc::AllocError;
 use std::collections::VecDeque;
 use text_codec::Request;

@@ -5,8 +5,8 @@ ghost use Rattle.route_tree.specs.Route as route;
 
 use fresh_core::FreshCore;
 use fresh_gate::judge;
-use mc_types::{Ask, Dialect, Key, Op, Origin, Outcome, ServerId, Tokens};
-use proxy_core::{Core, CoreFault, Limits, Poll, SharedAsk, Sharing, Ticket};
+use mc_types::{Ask, Dialect, Key, Op, Origin, Outcome, ServerId, SharedAsk, Tokens};
+use proxy_core::{Core, CoreFault, Limits, Poll, Sharing, Ticket};
 use route_json::{Config, read_config};
 use route_tree::{Tree, TreeForm};
 use std::alloc::{AllocError, Global};

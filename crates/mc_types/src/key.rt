@@ -69,18 +69,6 @@ pub fn first_bad_byte(text: &[u8]) -> Option<usize>
     text.iter().position(|byte| is_bad_byte(*byte))
 }
 
-fn key_of(text: &[u8]) -> Key
-    requires { IsKey text.now }
-    ensures { result ≡ text.now }
-{
-    let mut bytes = [0; KEY_LIMIT];
-    bytes[..text.len()].copy_from_slice(text);
-    Key {
-        len: text.len() as u8,
-        bytes,
-    }
-}
-
 impl Key {
     ghost use Rattle.mc_types.specs.Fault.{read_key};
 
@@ -97,7 +85,20 @@ impl Key {
         }
         match first_bad_byte(text) {
             Some(at) => Err(KeyFault::BadByte(at)),
-            None => Ok(key_of(text)),
+            None => Ok(Key::of_text(text)),
+        }
+    }
+
+    /// The key of a text that is one: its bytes aren't tested again. It takes no memory.
+    pub fn of_text(text: &[u8]) -> Key
+        requires { IsKey text.now }
+        ensures { result ≡ text.now }
+    {
+        let mut bytes = [0; KEY_LIMIT];
+        bytes[..text.len()].copy_from_slice(text);
+        Key {
+            len: text.len() as u8,
+            bytes,
         }
     }
 

@@ -8,6 +8,7 @@ pub mod call;
 pub mod error_text;
 pub mod key;
 pub mod limits;
+pub mod shared;
 pub mod token;
 
 pub use answer::{Answer, Code, Fields};
@@ -17,4 +18,5 @@ pub use call::{Origin, Outcome, ServerId};
 pub use error_text::{ErrorText, OwnText};
 pub use key::{Key, KeyFault};
 pub use limits::{DATA_LIMIT, ERROR_TEXT_LIMIT, KEY_LIMIT, OPAQUE_LIMIT, SCRIPT_CLIENTS};
+pub use shared::SharedAsk;
 pub use token::{Opaque, Token, Tokens};

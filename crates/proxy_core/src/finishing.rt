@@ -10,8 +10,8 @@ ghost use Rattle.proxy_core.specs.Finishing.{CanEnd, IsNote};
 use crate::fault::CoreFault;
 use crate::note::Note;
 use crate::proxy::Core;
-use commands_under_way::{Command, SharedAsk};
-use mc_types::Answer;
+use commands_under_way::Command;
+use mc_types::{Answer, SharedAsk};
 use route_job::Done;
 
 // How a command ended whose job is done.

@@ -13,7 +13,7 @@ pub mod polling;
 pub mod proxy;
 pub mod results;
 
-pub use commands_under_way::{Claim, Command, OutCall, SharedAsk, Sharing, Ticket};
+pub use commands_under_way::{Claim, Command, OutCall, Sharing, Ticket};
 pub use fault::{CoreFault, ReloadFault};
 pub use limits::Limits;
 pub use note::{Note, Poll};

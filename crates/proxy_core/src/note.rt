@@ -1,6 +1,7 @@
 //! What is told of a command that ended, and of what was done for a client.
 
-use commands_under_way::{SharedAsk, Ticket};
+use commands_under_way::Ticket;
+use mc_types::SharedAsk;
 
 /// A command that ended: its number, its ask, whether it was a delete that was acknowledged, and the number of the call whose item
 /// its reply shows, if it shows one.

@@ -22,10 +22,10 @@ use crate::looking::{Ready, first_full, first_ready};
 use crate::note::Poll;
 use crate::proxy::Core;
 use commands_under_way::begun::{command_of, drop_ask, drop_command};
-use commands_under_way::{Claim, Command, SharedAsk, Ticket, Turn, turn_of};
+use commands_under_way::{Claim, Command, Ticket, Turn, turn_of};
 use connections::Passed;
 use core_client::Next;
-use mc_types::Key;
+use mc_types::{Key, SharedAsk};
 use text_codec::{Read, Request};
 
 impl Core {
@@ -121,7 +121,7 @@ impl Core {
         ensures err { IfErr result (λ fault. StopsFirst client self.old fault self.new) }
         ensures still { StandsStill self.old self.new }
     {
-        match self.commands.send(self.alloc, number) {
+        match self.commands.send(number) {
             Ok(ticket) => Ok(ticket),
             Err(_) => Err(CoreFault::NoMemory),
         }

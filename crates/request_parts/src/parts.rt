@@ -92,8 +92,5 @@ pub fn key_at(bytes: &[u8], word: Span) -> Key
     requires key { IsKey (text_at bytes.now word) }
     ensures { result ≡ text_at bytes.now word }
 {
-    match Key::read(&bytes[word.start..word.end]) {
-        Ok(key) => key,
-        Err(_) => unreachable!(),
-    }
+    Key::of_text(&bytes[word.start..word.end])
 }

@@ -8,7 +8,9 @@ ghost use Rattle.mc_runs.specs.Single.{FitsOutcome};
 
 use crate::trees::tree_of;
 use example_tables::tellers::{Teller, halves, push_number, push_word, wrong};
-use mc_types::{Answer, Ask, Body, Dialect, Key, Op, Origin, Outcome, ServerId, Tokens};
+use mc_types::{
+    Answer, Ask, Body, Dialect, Key, Op, Origin, Outcome, ServerId, SharedAsk, Tokens,
+};
 use route_job::{Job, Step};
 use route_json::ConfigFault;
 use route_names::op_of;
@@ -251,8 +253,8 @@ fn step(alloc: Global, job: &mut Job, letter: u8, out: &mut String) -> Result<()
             ask,
             origin,
         } => {
-            push_call(out, server, ask.op, origin)?;
-            outcome_of(alloc, ask, letter)?
+            push_call(out, server, ask.get().op, origin)?;
+            outcome_of(alloc, ask.get(), letter)?
         }
         Step::Done(_) => return push_word(out, "done too early"),
     };
@@ -266,7 +268,7 @@ fn push_next(out: &mut String, job: &Job) -> Result<(), AllocError> {
             server,
             ask,
             origin,
-        } => push_call(out, server, ask.op, origin),
+        } => push_call(out, server, ask.get().op, origin),
         Step::Done(done) => push_end(out, &done.reply, done.from),
     }
 }
@@ -288,6 +290,10 @@ fn ask_of(alloc: Global, key: Key, op: Op, with_cas: bool) -> Ask {
     ask
 }
 
+fn job_of(alloc: Global, tree: &Tree, ask: Ask) -> Result<Job, AllocError> {
+    Job::new(alloc, tree, SharedAsk::new(alloc, ask)?)
+}
+
 // A command of the key `a`; its hash is e40c292c, which is 0 modulo 2 and 1 modulo 3.
 fn told_by(
     alloc: Global,
@@ -298,7 +304,7 @@ fn told_by(
 ) -> Result<String, AllocError> {
     match Key::read(b"a") {
         Ok(key) => {
-            let mut job = Job::new(alloc, tree, ask_of(alloc, key, op, with_cas))?;
+            let mut job = job_of(alloc, tree, ask_of(alloc, key, op, with_cas))?;
             told_of(alloc, &mut job, letters)
         }
         Err(_) => "a is no key".to_string(alloc),
@@ -352,14 +358,14 @@ fn fail_next(alloc: Global, job: &mut Job) -> Result<(), Fail> {
     Ok(())
 }
 
-// The tree takes two requests for memory, and the command none: with the third request refused it still passes.
+// The tree takes two requests for memory and the ask one, and the command none: with the fourth request refused it still passes.
 #[test]
 fn a_command_of_a_pool_takes_no_memory(rt: HostRuntime) -> Result<(), Fail> {
     let alloc = rt.alloc();
     let pool = vec![in alloc; ServerId::new(5), ServerId::new(6)]?;
     let tree = Tree::new(alloc, TreeForm::Pool(pool))?;
     let key = Key::read(b"a").ok().ok_or("a is a key")?;
-    let mut job = Job::new(alloc, &tree, ask_of(alloc, key, Op::Get, false))?;
+    let mut job = job_of(alloc, &tree, ask_of(alloc, key, Op::Get, false))?;
     assert!(rt; next_server(&job) == Some(ServerId::new(5)));
     fail_next(alloc, &mut job)?;
     assert!(rt; next_server(&job).is_none());

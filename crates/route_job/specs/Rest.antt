@@ -20,8 +20,8 @@ abbrev pub ask_in : Frame → Ask → Ask
 ask_in (All rest worst) ask = ask
 ask_in (First rest limit) ask = ask
 ask_in (Cold sides) ask = ask
-ask_in (Warm sides first get) ask = get.value
-ask_in (Refill sides from_warm from add) ask = add.value
+ask_in (Warm sides first get) ask = get
+ask_in (Refill sides from_warm from add) ask = add
 
 -- whose data that ask carries
 abbrev pub origin_in : Frame → Origin → Origin

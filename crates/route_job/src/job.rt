@@ -13,14 +13,14 @@ use crate::done::{Done, broken_done, done_by};
 use crate::frame::{Frame, Pending};
 use crate::walk::{ask_under, origin_under, settle};
 use key_hash::key_hash;
-use mc_types::{Ask, Origin, Outcome, ServerId};
+use mc_types::{Origin, Outcome, ServerId, SharedAsk};
 use route_tree::Tree;
 use std::alloc::{AllocError, Global};
 
 /// One client command on a tree, stepped by the outcomes of its calls.
 ///
 /// It borrows nothing: what it needs of the tree it shares, so it can be kept while another tree takes that one's place. No
-/// part of the tree and not the ask is copied. A command that calls one server takes no memory.
+/// part of the tree and no ask is copied. A command that calls one server takes no memory.
 ///
 /// A job in whose `take` memory was refused is broken: it calls nothing more, and its reply is the error line
 /// `SERVER_ERROR out of memory storing object`, whatever its calls were answered. Its owner drops it.
@@ -28,7 +28,7 @@ use std::alloc::{AllocError, Global};
 /// Source: mcgate's own.
 #[derive(Drop)]
 pub struct Job {
-    ask: Ask,
+    ask: SharedAsk,
     hash: u32,
     frames: Vec<Frame>,
     pending: Pending,
@@ -42,7 +42,7 @@ pub enum Step<'b> {
     /// This call.
     Call {
         server: ServerId,
-        ask: &'b Ask,
+        ask: &'b SharedAsk,
         origin: Origin,
     },
     /// Nothing more: the command ended so.
@@ -54,10 +54,10 @@ impl Job {
 
     /// The command on this tree for this ask: what may come of it are the words of the key's plain tree. The only error:
     /// memory was refused.
-    pub fn new(alloc: Global, tree: &Tree, ask: Ask) -> Result<Job, AllocError>
+    pub fn new(alloc: Global, tree: &Tree, ask: SharedAsk) -> Result<Job, AllocError>
         ensures { IfOk result (λ job. (calls : List CallMade) (given : Given) → Comes job calls given ↔ Word (tree_at tree.now ask.key) ask Client 0 calls given) }
     {
-        let hash = key_hash(&ask.key);
+        let hash = key_hash(ask.key());
         let _form = tree.form();
         let mut frames = Vec::new(alloc);
         let root = tree.copy()?;

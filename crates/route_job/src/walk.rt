@@ -8,12 +8,12 @@ use crate::done::Done;
 use crate::entering::enter;
 use crate::frame::{Advance, Frame, Pending};
 use crate::returning::back;
-use mc_types::{Ask, Origin};
+use mc_types::{Origin, SharedAsk};
 use route_tree::Tree;
 use std::alloc::{AllocError, Global};
 
 // What is asked within the frame.
-fn ask_in<'b>(frame: &'b Frame, ask: &'b Ask) -> &'b Ask
+fn ask_in<'b>(frame: &'b Frame, ask: &'b SharedAsk) -> &'b SharedAsk
     ensures { result.now ≡ ask_in frame.now ask.now }
 {
     match frame {
@@ -24,7 +24,7 @@ fn ask_in<'b>(frame: &'b Frame, ask: &'b Ask) -> &'b Ask
 }
 
 /// What is asked within the frames.
-pub fn ask_under<'b>(frames: &'b [Frame], ask: &'b Ask) -> &'b Ask
+pub fn ask_under<'b>(frames: &'b [Frame], ask: &'b SharedAsk) -> &'b SharedAsk
     ensures { result.now ≡ ask_under frames.now ask.now }
 {
     match frames {
@@ -64,14 +64,14 @@ fn put_down(frames: &mut Vec<Frame>, frame: Option<Frame>) -> Result<(), AllocEr
 }
 
 // A tree is entered within the frames.
-fn go_in(hash: u32, ask: &Ask, frames: &mut Vec<Frame>, tree: Tree) -> Result<Pending, AllocError>
+fn go_in(hash: u32, ask: &SharedAsk, frames: &mut Vec<Frame>, tree: Tree) -> Result<Pending, AllocError>
     ensures leads { IfOk result (λ pending. (b : ℕ) → Leads hash ask.now.key b ask.now frames.old.items (Enter tree) frames.new.items pending) }
     ensures less { IfOk result (λ pending. frames_work hash ask.now.key frames.new.items + pending_work hash ask.now.key pending + 1 ≤ frames_work hash ask.now.key frames.old.items + pending_work hash ask.now.key (Enter tree)) }
 {
     let advance = enter(
         hash,
-        ask.key.as_bytes(),
-        ask_under(frames.as_slice(), ask),
+        ask.key().as_bytes(),
+        ask_under(frames.as_slice(), ask).get(),
         &tree,
     )?;
     let Advance { frame, pending } = advance;
@@ -82,7 +82,7 @@ fn go_in(hash: u32, ask: &Ask, frames: &mut Vec<Frame>, tree: Tree) -> Result<Pe
 // The reply is given to this frame, which was the inmost.
 fn go_back(
     alloc: Global,
-    ask: &Ask,
+    ask: &SharedAsk,
     frames: &mut Vec<Frame>,
     frame: Frame,
     done: Done,
@@ -90,7 +90,7 @@ fn go_back(
     ensures leads { IfOk result (λ pending. (hash : ℕ) (text : List ℕ) (b : ℕ) → Leads hash text b ask.now (frames.old.items ++ frame ∷ []) (Back done) frames.new.items pending) }
     ensures less { IfOk result (λ pending. (hash : ℕ) (text : List ℕ) → frames_work hash text frames.new.items + pending_work hash text pending + 1 ≤ frames_work hash text (frames.old.items ++ frame ∷ []) + pending_work hash text (Back done)) }
 {
-    let advance = back(alloc, ask_under(frames.as_slice(), ask), frame, done)?;
+    let advance = back(alloc, ask_under(frames.as_slice(), ask).get(), frame, done)?;
     let Advance { frame, pending } = advance;
     put_down(frames, frame)?;
     Ok(pending)
@@ -100,7 +100,7 @@ fn go_back(
 pub fn settle(
     alloc: Global,
     hash: u32,
-    ask: &Ask,
+    ask: &SharedAsk,
     frames: &mut Vec<Frame>,
     pending: Pending,
 ) -> Result<Pending, AllocError>

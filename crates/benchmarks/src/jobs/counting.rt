@@ -2,7 +2,7 @@
 
 use crate::jobs::answering::Answering;
 use crate::jobs::trees::{OPERATIONS, all_sync, ask_of, failover, pool};
-use mc_types::{Ask, Key};
+use mc_types::{Ask, Key, SharedAsk};
 use route_job::{Job, Step};
 use route_tree::Tree;
 use std::alloc::{AllocError, Global};
@@ -10,9 +10,9 @@ use std::io;
 
 // One command, call by call. Its end is let go.
 fn serve(alloc: Global, tree: &Tree, ask: Ask, servers: &mut Answering) -> Result<(), AllocError> {
-    let mut job = Job::new(alloc, tree, ask)?;
+    let mut job = Job::new(alloc, tree, SharedAsk::new(alloc, ask)?)?;
     while let Step::Call { server, ask, .. } = job.next() {
-        let outcome = servers.call(server, ask);
+        let outcome = servers.call(server, ask.get());
         job.take(alloc, outcome)?;
     }
     let _done = job.into_done();

@@ -1,6 +1,7 @@
 use Rattle.std.proofs.Common.{sym, nat_eq}
 use Rattle.commands_under_way.specs.Owned.{is_idle}
-use Rattle.commands_under_way.proofs.Idle.{none, found_entry, on_none}
+use Rattle.mc_types.proofs.Options.{on_none}
+use Rattle.commands_under_way.proofs.Idle.{none, found_entry}
 use Rattle.commands_under_way.proofs.owned.first_idle.Goals as goal
 
 pub returns-in_err-place-clause-none : goal.returns-in_err-place-clause-none

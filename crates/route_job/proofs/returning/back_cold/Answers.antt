@@ -6,5 +6,5 @@ use Rattle.route_job.proofs.returning.back_cold.Goals as goal
 
 pub returns-clause-sure : goal.returns-clause-sure
 returns-clause-sure c = λ hash text origin b calls given w.
-    let e : c.in_ok-get.get.value ≡ plain_get c.args.ask.now = c.in_ok-get.ensures.ok ∙ c.plain_get_of.ensures in
+    let e : c.in_ok-get.get ≡ plain_get c.args.ask.now = c.in_ok-get.ensures ∙ c.plain_get_of.ensures in
     get_names_hit (plain_for hash text c.in_ok-warm.warm) c.args.ask.now origin b calls given (subst (λ a. Word (plain_for hash text c.in_ok-warm.warm) a origin b calls given) e w)

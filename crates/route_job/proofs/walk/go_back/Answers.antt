@@ -5,8 +5,8 @@ use Rattle.route_job.proofs.walk.go_back.Goals as goal
 
 pub returns-clause-leads : goal.returns-clause-leads
 returns-clause-leads c = λ hash text.
-    went_back hash text c.args.frames.now.items c.put_down.new.frames.items c.args.ask.now c.ask_under.result.now c.args.frame c.args.done c.in_ok-advance.advance.frame c.in_ok-advance.advance.pending
-    (c.ask_under.ensures ∙ ap (λ l. ask_under l c.args.ask.now) c.as_slice.ensures.value) c.in_ok-put_down.ensures (c.in_ok-advance.ensures.same hash text) (c.in_ok-advance.ensures.sure hash text)
+    went_back hash text c.args.frames.now.items c.put_down.new.frames.items c.args.ask.now c.get.result.now c.args.frame c.args.done c.in_ok-advance.advance.frame c.in_ok-advance.advance.pending
+    (c.get.ensures ∙ c.ask_under.ensures ∙ ap (λ l. ask_under l c.args.ask.now) c.as_slice.ensures.value) c.in_ok-put_down.ensures (c.in_ok-advance.ensures.same hash text) (c.in_ok-advance.ensures.sure hash text)
 
 pub returns-clause-less : goal.returns-clause-less
 returns-clause-less c = λ hash text.

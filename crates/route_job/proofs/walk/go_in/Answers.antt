@@ -12,15 +12,15 @@ use Rattle.route_job.proofs.walk.go_in.Goals as goal
 pub returns-clause-leads : goal.returns-clause-leads
 returns-clause-leads c =
     let h = c.args.hash in
-    let a = c.ask_under.result.now in
+    let a = c.get.result.now in
     went_in h c.args.ask.now.key c.args.frames.now.items c.put_down.new.frames.items c.args.ask.now a c.args.tree c.in_ok-advance.advance.frame c.in_ok-advance.advance.pending
-    (c.ask_under.ensures ∙ ap (λ l. ask_under l c.args.ask.now) c.as_slice.ensures.value) c.in_ok-put_down.ensures
-    (subst (λ t. (origin : Origin) (b : ℕ) → SameAt b (Word (plain_for h t c.args.tree) a origin) (AdvanceOf h t c.in_ok-advance.advance a origin)) c.as_bytes.ensures c.in_ok-advance.ensures.same)
-    (subst (λ t. (origin : Origin) (b : ℕ) → IsSure h t c.in_ok-advance.advance a origin b) c.as_bytes.ensures c.in_ok-advance.ensures.sure)
+    (c.get.ensures ∙ c.ask_under.ensures ∙ ap (λ l. ask_under l c.args.ask.now) c.as_slice.ensures.value) c.in_ok-put_down.ensures
+    (subst (λ t. (origin : Origin) (b : ℕ) → SameAt b (Word (plain_for h t c.args.tree) a origin) (AdvanceOf h t c.in_ok-advance.advance a origin)) (c.as_bytes.ensures ∙ c.key.ensures) c.in_ok-advance.ensures.same)
+    (subst (λ t. (origin : Origin) (b : ℕ) → IsSure h t c.in_ok-advance.advance a origin b) (c.as_bytes.ensures ∙ c.key.ensures) c.in_ok-advance.ensures.sure)
 
 pub returns-clause-less : goal.returns-clause-less
 returns-clause-less c =
     let h = c.args.hash in
     let k = work_down h c.args.ask.now.key c.args.frames.now.items c.put_down.new.frames.items c.in_ok-advance.advance.frame c.in_ok-advance.advance.pending c.in_ok-put_down.ensures in
-    let l = subst (λ t. advance_work h t c.in_ok-advance.advance + 1 ≤ 3 * count (plain_for h t c.args.tree)) c.as_bytes.ensures c.in_ok-advance.ensures.less in
+    let l = subst (λ t. advance_work h t c.in_ok-advance.advance + 1 ≤ 3 * count (plain_for h t c.args.tree)) (c.as_bytes.ensures ∙ c.key.ensures) c.in_ok-advance.ensures.less in
     omega (arith, k, l)

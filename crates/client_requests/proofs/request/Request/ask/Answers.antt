@@ -1,4 +1,7 @@
-use Rattle.client_requests.proofs.RequestLaws.{classic_read, meta_read, ok_as}
+use Rattle.std.proofs.Common.{sym, subst}
+use Rattle.std.proofs.lemmas.Result.{IfOk-weaker}
+use Rattle.client_requests.specs.Asks.{IsClientAsk}
+use Rattle.client_requests.proofs.RequestLaws.{classic_read, meta_read, of_classic}
 use Rattle.client_requests.proofs.request.Request.ask.Goals as goal
 
 pub ask-requires-clause-read : goal.ask-requires-clause-read
@@ -8,4 +11,4 @@ pub ask-requires-in-Meta-clause-read : goal.ask-requires-in-Meta-clause-read
 ask-requires-in-Meta-clause-read c = meta_read c.args.bytes.now c.in-Meta.request (rw c.in-Meta.is at c.requires.read)
 
 pub returns-in-Classic-clause-ask : goal.returns-in-Classic-clause-ask
-returns-in-Classic-clause-ask c = ok_as _ c.ask.ensures.ask
+returns-in-Classic-clause-ask c = IfOk-weaker c.reusing.result _ _ (λ ask same. subst IsClientAsk (sym same) (of_classic c.in_ok-ask.ask c.in_ok-ask.ensures.ask)) c.reusing.ensures

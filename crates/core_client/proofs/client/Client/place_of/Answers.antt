@@ -3,7 +3,7 @@ use Rattle.std.proofs.lemmas.Option.{slice_get_read}
 use Rattle.std.specs.Prelude.{Bool, None, Some}
 use Rattle.core_client.specs.declared.client.Pending.{Pending as PendingOf}
 use Rattle.core_client.specs.Replying.{IsOnward}
-use Rattle.commands_under_way.proofs.Idle.{on_none}
+use Rattle.mc_types.proofs.Options.{on_none}
 use Rattle.core_client.proofs.Places.{there_at, none_there, some_pending}
 use Rattle.core_client.proofs.client.Client.place_of.Goals as goal
 

@@ -1,4 +1,5 @@
-use Rattle.std.proofs.Common.{◌≡◌, ◌↔◌, List, ap, ap₂, arith, subst}
+use Rattle.std.proofs.Common.{◌≡◌, ◌↔◌, ◌∙◌, List, ap, ap₂, arith, subst}
+use Rattle.key_hash.specs.Tag.{key_hash}
 use Rattle.mc_types.specs.declared.call.Origin.TheVariants.{Client}
 use Rattle.mc_runs.specs.Run.{Call}
 use Rattle.route_tree.specs.At.{plain_for, tree_at}
@@ -26,5 +27,5 @@ returns c =
     let h = c.key_hash-hash.result in
     let key = c.args.ask.key in
     let is = new_is h key c.new-frames.result.items c.settle.new.frames.items c.args.ask c.in_ok-root.root c.in_ok-pending.pending c.new-frames.ensures.items c.in_ok-pending.ensures.leads in
-    let e : plain_for h key c.in_ok-root.root ≡ tree_at c.args.tree.now key = ap₂ (λ n t. plain_for n key t) c.key_hash-hash.ensures c.in_ok-root.ensures in
+    let e : plain_for h key c.in_ok-root.root ≡ tree_at c.args.tree.now key = ap₂ (λ n t. plain_for n key t) (c.key_hash-hash.ensures ∙ ap key_hash c.key.ensures) c.in_ok-root.ensures in
     subst (λ (p : Plan). (calls : List Call) (given : Given) → Comings h key c.settle.new.frames.items c.args.ask Client c.in_ok-pending.pending 0 calls given ↔ Word p c.args.ask Client 0 calls given) e is.0

@@ -2,7 +2,8 @@
 
 ghost use Rattle.std.specs.Prelude.{◌≡◌, IfOk};
 
-use mc_types::{Ask, Key};
+use crate::ask::Ask;
+use crate::key::Key;
 use std::alloc::{AllocError, Global};
 use std::marker::Model;
 use std::rc::Rc;
@@ -28,6 +29,26 @@ impl SharedAsk {
     {
         let ask = Rc::new(alloc, ask)?;
         Ok(SharedAsk { ask })
+    }
+
+    /// This ask, in the memory of a spare one where there is one that nobody else holds. The only error is running out of memory.
+    pub fn reusing(
+        alloc: Global,
+        spare: Option<SharedAsk>,
+        ask: Ask,
+    ) -> Result<SharedAsk, AllocError>
+        ensures { IfOk result (λ shared. shared ≡ ask) }
+    {
+        let Some(mut spare) = spare else {
+            return SharedAsk::new(alloc, ask);
+        };
+        match Rc::get_mut(&mut spare.ask) {
+            Some(held) => {
+                *held = ask;
+                Ok(spare)
+            }
+            None => SharedAsk::new(alloc, ask),
+        }
     }
 
     /// The ask.
