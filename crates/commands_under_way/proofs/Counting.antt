@@ -1,5 +1,5 @@
 -- How counts of commands change where one comes, goes or is another.
-use Rattle.std.proofs.Common.{◌≡◌, ℕ, ◌+◌, ◌-◌, Bool, true, false, cond, if◌then◌else◌, ◌||◌, nat_lt, nat_eq, List, [], ◌∷◌, ◌++◌, Option, Some, None, position, refl, sym, ap, ◌∙◌, subst, arith}
+use Rattle.std.proofs.Common.{◌≡◌, ℕ, ◌+◌, ◌-◌, Bool, true, false, cond, not, if◌then◌else◌, ◌||◌, nat_lt, nat_eq, List, [], ◌∷◌, ◌++◌, Option, Some, None, position, refl, sym, ap, ◌∙◌, subst, arith}
 use Rattle.std.specs.Prelude.{slice_index_or, IsSome}
 use Rattle.std.specs.HashMap.{HashMap, get_by, WritesThrough}
 use Rattle.std.proofs.lemmas.Map.Steps.{set_value_same}
@@ -8,7 +8,7 @@ use Rattle.std.specs.Cmp.{IsEquivalence}
 use Rattle.std.specs.Cmp.Lexicographic.{pointwise, nat_list_eq_equiv}
 use Rattle.std.specs.List.{list_any, sum_by, count_by}
 use Rattle.std.specs.Map.{keys_of, values_of, lookup, set_value, count_at}
-use Rattle.std.proofs.lemmas.Bool.{eqb-true, lt-ltb}
+use Rattle.std.proofs.lemmas.Bool.{eqb-true, eq-eqb, lt-ltb}
 use Rattle.std.proofs.lemmas.List.{get_or-map}
 use Rattle.std.proofs.lemmas.List.Sums.{sum_by-cons, sum_by-swap_remove}
 use Rattle.std.proofs.lemmas.Map.Entries.{sum_by-set_value}
@@ -20,7 +20,7 @@ use Rattle.route_job.specs.Jobs.{server_in, IsCalling}
 use Rattle.commands_under_way.specs.declared.command.Command.{Command}
 use Rattle.commands_under_way.specs.Out.{is_call, has_call_out}
 use Rattle.commands_under_way.specs.Claims.{clears_key, copies_key}
-use Rattle.commands_under_way.specs.Counts.{SetsCount, SetsCountWhere, is_called, AreCounted}
+use Rattle.commands_under_way.specs.Counts.{SetsCountAt, SetsCountWhere, is_called, is_without_call, HasAllCallsOut, AreCounted}
 use Rattle.commands_under_way.proofs.Commands.{is_call_true}
 
 abbrev weight : Bool → ℕ
@@ -115,11 +115,63 @@ same_at : (s q : ℕ) → nat_eq s q ≡ true → (xs : List Command) → count_
 same_at s q e xs = ap (λ n. count_by (is_called n) xs) (eqb-true s q e)
 
 -- a command of which no call is out is at no server
-idle_called : (a : Command) → a.is_out ≡ false → (s : ℕ) → is_called s a ≡ false
-idle_called a idle s = λ i. cond (cond (idle i) (is_call a.job.pending) false) (nat_eq (server_in a.job.pending) s) false
+idle_called : (a : Command) → has_call_out a ≡ false → (s : ℕ) → is_called s a ≡ false
+idle_called a idle s = ap (λ b. cond b (nat_eq (server_in a.job.pending) s) false) idle
 
 out_called : (a : Command) → has_call_out a ≡ true → (s : ℕ) → is_called s a ≡ nat_eq (server_in a.job.pending) s
 out_called a out s = ap (λ b. cond b (nat_eq (server_in a.job.pending) s) false) out
+
+-- it isn't out, or was not sent
+pub unsent : (a : Command) → a.is_out ≡ false → has_call_out a ≡ false
+unsent a idle = ap (λ b. cond b (is_call a.job.pending) false) idle
+
+same_of : (s q : ℕ) → nat_eq s q ≡ true → (xs : List Command) → count_by (is_without_call s) xs ≡ count_by (is_without_call q) xs
+same_of s q e xs = ap (λ n. count_by (is_without_call n) xs) (eqb-true s q e)
+
+-- it counts for its client
+idle_without : (a : Command) → has_call_out a ≡ false → (q : ℕ) → weight (is_without_call q a) ≡ weight (nat_eq a.client q)
+idle_without a idle q = ap (λ b. weight (cond (nat_eq a.client q) (not b) false)) idle ∙ by (nat_eq a.client q)
+  where
+    by : (b : Bool) → weight (cond b true false) ≡ weight b
+    by true = refl
+    by false = refl
+
+-- and one of which a call is out doesn't
+out_without : (a : Command) → has_call_out a ≡ true → (q : ℕ) → weight (is_without_call q a) ≡ 0
+out_without a out q = ap (λ b. weight (cond (nat_eq a.client q) (not b) false)) out ∙ by (nat_eq a.client q)
+  where
+    by : (b : Bool) → weight (cond b false false) ≡ 0
+    by true = refl
+    by false = refl
+
+-- where none passes, no one that is found does
+none_passes : {X : Type 0} (p : X → Bool) (t : ℕ → Bool) (es : List (ℕ × X)) (x : X) → list_any p (values_of es) ≡ false → lookup t es ≡ Some x → p x ≡ false
+none_passes p t [] x none at = none_found at
+none_passes {X} p t (e ∷ es) x none at =
+    (elim (t e.0) as (λ b. cond b (Some e.1) (lookup t es) ≡ Some x → p x ≡ false) [
+      | true ↦ λ here. ap p (sym (some here)) ∙ first (p e.1) none
+      | false ↦ λ here. none_passes p t es x (rest (p e.1) none) here
+    ]) at
+  where
+    some : {x y : X} → ◌≡◌ {A = Option X} (Some x) (Some y) → x ≡ y
+    some e = cc
+
+    first : (b : Bool) → (b || list_any p (values_of es)) ≡ false → b ≡ false
+    first true e = e
+    first false e = refl
+
+    rest : (b : Bool) → (b || list_any p (values_of es)) ≡ false → list_any p (values_of es) ≡ false
+    rest true e = absurd cc
+    rest false e = e
+
+-- where no command of the client is without a call, each has its call out
+pub all_out : {S : Type 0} (client : ℕ) (commands : indexmap.IndexMap ℕ Command S) → list_any (is_without_call client) (indexmap.values commands) ≡ false → HasAllCallsOut client commands
+all_out client commands none n a was own = by (nat_eq a.client client) (has_call_out a) (eq-eqb a.client client own) (none_passes (is_without_call client) (nat_eq n) commands.entries a none was)
+  where
+    by : (b c : Bool) → b ≡ true → cond b (not c) false ≡ false → c ≡ true
+    by true true e h = refl
+    by true false e h = absurd cc
+    by false c e h = absurd cc
 
 none_more : (a b n : ℕ) (x : Bool) → x ≡ false → a ≡ b + weight x → n ≡ b → n ≡ a
 none_more a b n x e h was = let w : weight x ≡ 0 = ap weight e in omega (arith, w, h, was)
@@ -156,31 +208,43 @@ clears command = command.claim.clears
 abbrev copies : Command → Bool
 copies command = command.claim.copies
 
-module _ {S T U : Type 0} (old new : indexmap.IndexMap ℕ Command S) (clearing copying : indexmap.IndexMap (List ℕ) ℕ T) (calls : indexmap.IndexMap ℕ ℕ U) (number : ℕ) (a : Command) (counted : AreCounted old clearing copying calls) where
+module _ {S T : Type 0} (old new : indexmap.IndexMap ℕ Command S) (clearing copying : indexmap.IndexMap (List ℕ) ℕ T) (calls waiting : List ℕ) (number : ℕ) (a : Command) (counted : AreCounted old clearing copying calls waiting) where
+  abbrev at_place : List ℕ → ℕ → ℕ
+  at_place counts q = slice_index_or counts q 0
+
   -- a command more, of which no call is out
   pub counted_put :
-      (clearing' copying' : indexmap.IndexMap (List ℕ) ℕ T) → a.is_out ≡ false → new.entries ≡ old.entries ++ (number, a) ∷ []
+      (clearing' copying' : indexmap.IndexMap (List ℕ) ℕ T) (waiting' : List ℕ) → a.is_out ≡ false → new.entries ≡ old.entries ++ (number, a) ∷ []
       → SetsCountWhere a.claim.clears (pointwise nat_eq) a.ask.key (count_at (indexmap.get (pointwise nat_eq) clearing) a.ask.key + 1) clearing clearing'
-      → SetsCountWhere a.claim.copies (pointwise nat_eq) a.ask.key (count_at (indexmap.get (pointwise nat_eq) copying) a.ask.key + 1) copying copying' → AreCounted new clearing' copying' calls
-  counted_put clearing' copying' idle entries clears_one copies_one =
+      → SetsCountWhere a.claim.copies (pointwise nat_eq) a.ask.key (count_at (indexmap.get (pointwise nat_eq) copying) a.ask.key + 1) copying copying' → SetsCountAt a.client (slice_index_or waiting a.client 0 + 1) waiting waiting'
+      → AreCounted new clearing' copying' calls waiting'
+  counted_put clearing' copying' waiting' idle entries clears_one copies_one waits =
       let grows : (p : Command → Bool) → count_by p (indexmap.values new) ≡ count_by p (indexmap.values old) + weight (p a) = λ p. ap (λ es. count_by p (values_of es)) entries ∙ count_last p old.entries number a in
+      let none = unsent a idle in
       record {
         clears = claimed_more clears clearing clearing' a (indexmap.values old) (indexmap.values new) counted.clears clears_one (λ q. grows (clears_key q));
         copies = claimed_more copies copying copying' a (indexmap.values old) (indexmap.values new) counted.copies copies_one (λ q. grows (copies_key q));
-        at = λ s. none_more (count_by (is_called s) (indexmap.values new)) (count_by (is_called s) (indexmap.values old)) (count_at (indexmap.get nat_eq calls) s) (is_called s a) (idle_called a idle s) (grows (is_called s)) (counted.at s);
+        at = λ s. none_more (count_by (is_called s) (indexmap.values new)) (count_by (is_called s) (indexmap.values old)) (at_place calls s) (is_called s a) (idle_called a none s) (grows (is_called s)) (counted.at s);
+        without =
+            one_more nat_eq is_without_call same_of (at_place waiting) (at_place waiting') a.client (indexmap.values old) (indexmap.values new) counted.without waits
+            (λ q. grows (is_without_call q) ∙ ap (λ n. count_by (is_without_call q) (indexmap.values old) + n) (idle_without a none q));
       }
 
   -- a command less, of which no call is out
   pub counted_gone :
-      (clearing' copying' : indexmap.IndexMap (List ℕ) ℕ T) → lookup (nat_eq number) old.entries ≡ Some a → a.is_out ≡ false → new.entries ≡ swap_remove_entry (nat_eq number) old.entries
+      (clearing' copying' : indexmap.IndexMap (List ℕ) ℕ T) (waiting' : List ℕ) → lookup (nat_eq number) old.entries ≡ Some a → has_call_out a ≡ false → new.entries ≡ swap_remove_entry (nat_eq number) old.entries
       → SetsCountWhere a.claim.clears (pointwise nat_eq) a.ask.key (count_at (indexmap.get (pointwise nat_eq) clearing) a.ask.key - 1) clearing clearing'
-      → SetsCountWhere a.claim.copies (pointwise nat_eq) a.ask.key (count_at (indexmap.get (pointwise nat_eq) copying) a.ask.key - 1) copying copying' → AreCounted new clearing' copying' calls
-  counted_gone clearing' copying' was idle entries clears_one copies_one =
+      → SetsCountWhere a.claim.copies (pointwise nat_eq) a.ask.key (count_at (indexmap.get (pointwise nat_eq) copying) a.ask.key - 1) copying copying' → SetsCountAt a.client (slice_index_or waiting a.client 0 - 1) waiting waiting'
+      → AreCounted new clearing' copying' calls waiting'
+  counted_gone clearing' copying' waiting' was idle entries clears_one copies_one waited =
       let falls : (p : Command → Bool) → count_by p (indexmap.values new) + weight (p a) ≡ count_by p (indexmap.values old) = λ p. ap (λ es. count_by p (values_of es) + weight (p a)) entries ∙ count_gone p (nat_eq number) old.entries a was in
       record {
         clears = claimed_less clears clearing clearing' a (indexmap.values old) (indexmap.values new) counted.clears clears_one (λ q. falls (clears_key q));
         copies = claimed_less copies copying copying' a (indexmap.values old) (indexmap.values new) counted.copies copies_one (λ q. falls (copies_key q));
-        at = λ s. none_less (count_by (is_called s) (indexmap.values new)) (count_by (is_called s) (indexmap.values old)) (count_at (indexmap.get nat_eq calls) s) (is_called s a) (idle_called a idle s) (falls (is_called s)) (counted.at s);
+        at = λ s. none_less (count_by (is_called s) (indexmap.values new)) (count_by (is_called s) (indexmap.values old)) (at_place calls s) (is_called s a) (idle_called a idle s) (falls (is_called s)) (counted.at s);
+        without =
+            one_less nat_eq is_without_call same_of (at_place waiting) (at_place waiting') a.client (indexmap.values old) (indexmap.values new) counted.without waited
+            (λ q. ap (λ n. count_by (is_without_call q) (indexmap.values new) + n) (sym (idle_without a idle q)) ∙ falls (is_without_call q));
       }
 
   module _ (b : Command) (was : lookup (nat_eq number) old.entries ≡ Some a) (entries : new.entries ≡ set_value (nat_eq number) old.entries b) where
@@ -200,35 +264,46 @@ module _ {S T U : Type 0} (old new : indexmap.IndexMap ℕ Command S) (clearing 
     copies_stays : b.ask ≡ a.ask → b.claim ≡ a.claim → (key : List ℕ) → count_at (indexmap.get (pointwise nat_eq) copying) key ≡ count_by (copies_key key) (indexmap.values new)
     copies_stays ask claim key = stays (copies_key key) (λ i. if (claim i).copies then pointwise nat_eq (ask i).key key else false) (count_at (indexmap.get (pointwise nat_eq) copying) key) (counted.copies key)
 
+    -- what is counted where it passes for one more kind, or for one less
+    comes : (p : ℕ → Command → Bool) (k : ℕ) → ((q : ℕ) → weight (p q a) ≡ 0) → ((q : ℕ) → weight (p q b) ≡ weight (nat_eq k q)) → (q : ℕ) → count_by (p q) (indexmap.values new) ≡ count_by (p q) (indexmap.values old) + weight (nat_eq k q)
+    comes p k none one q = let step = changes (p q) in let before = none q in let after = one q in omega (arith, step, before, after)
+
+    goes : (p : ℕ → Command → Bool) (k : ℕ) → ((q : ℕ) → weight (p q a) ≡ weight (nat_eq k q)) → ((q : ℕ) → weight (p q b) ≡ 0) → (q : ℕ) → count_by (p q) (indexmap.values new) + weight (nat_eq k q) ≡ count_by (p q) (indexmap.values old)
+    goes p k one none q = let step = changes (p q) in let before = one q in let after = none q in omega (arith, step, before, after)
+
     -- its call goes out
     pub counted_sent :
-        (calls' : indexmap.IndexMap ℕ ℕ U) → b.ask ≡ a.ask → b.claim ≡ a.claim → a.is_out ≡ false → b.is_out ≡ true → b.job ≡ a.job → IsCalling a.job → SetsCount nat_eq (server_in a.job.pending) (count_at (indexmap.get nat_eq calls) (server_in a.job.pending) + 1) calls calls' → AreCounted new clearing copying calls'
-    counted_sent calls' ask claim idle out job calling sets =
+        (calls' waiting' : List ℕ) → b.ask ≡ a.ask → b.claim ≡ a.claim → a.is_out ≡ false → b.is_out ≡ true → b.job ≡ a.job → IsCalling a.job → SetsCountAt (server_in a.job.pending) (slice_index_or calls (server_in a.job.pending) 0 + 1) calls calls'
+        → SetsCountAt a.client (slice_index_or waiting a.client 0 - 1) waiting waiting' → AreCounted new clearing copying calls' waiting'
+    counted_sent calls' waiting' ask claim idle out job calling sets waited =
         let s = server_in a.job.pending in
+        let none = unsent a idle in
         let b_out : has_call_out b ≡ true = (λ i. cond (out i) (is_call (job i).pending) false) ∙ is_call_true a.job.pending calling in
-        let grows : (q : ℕ) → count_by (is_called q) (indexmap.values new) ≡ count_by (is_called q) (indexmap.values old) + weight (nat_eq s q) = λ q.
-        let step = changes (is_called q) in
-        let none : weight (is_called q a) ≡ 0 = ap (λ x. weight x) (idle_called a idle q) in
-        let one : weight (is_called q b) ≡ weight (nat_eq s q) = ap (λ x. weight x) (out_called b b_out q) ∙ (λ i. cond (nat_eq (server_in (job i).pending) q) 1 0) in
-        omega (arith, step, none, one) in
         record {
           clears = clears_stays ask claim;
           copies = copies_stays ask claim;
-          at = one_more nat_eq is_called same_at (count_at (indexmap.get nat_eq calls)) (count_at (indexmap.get nat_eq calls')) s (indexmap.values old) (indexmap.values new) counted.at sets grows;
+          at =
+              one_more nat_eq is_called same_at (at_place calls) (at_place calls') s (indexmap.values old) (indexmap.values new) counted.at sets
+              (comes is_called s (λ q. ap (λ x. weight x) (idle_called a none q)) (λ q. ap (λ x. weight x) (out_called b b_out q) ∙ (λ i. cond (nat_eq (server_in (job i).pending) q) 1 0)));
+          without =
+              one_less nat_eq is_without_call same_of (at_place waiting) (at_place waiting') a.client (indexmap.values old) (indexmap.values new) counted.without waited
+              (goes is_without_call a.client (idle_without a none) (out_without b b_out));
         }
 
     -- its call has its outcome
     pub counted_taken :
-        (calls' : indexmap.IndexMap ℕ ℕ U) → b.ask ≡ a.ask → b.claim ≡ a.claim → has_call_out a ≡ true → b.is_out ≡ false → SetsCount nat_eq (server_in a.job.pending) (count_at (indexmap.get nat_eq calls) (server_in a.job.pending) - 1) calls calls' → AreCounted new clearing copying calls'
-    counted_taken calls' ask claim out idle sets =
+        (calls' waiting' : List ℕ) → b.ask ≡ a.ask → b.claim ≡ a.claim → has_call_out a ≡ true → b.is_out ≡ false → SetsCountAt (server_in a.job.pending) (slice_index_or calls (server_in a.job.pending) 0 - 1) calls calls'
+        → SetsCountAt b.client (slice_index_or waiting b.client 0 + 1) waiting waiting' → AreCounted new clearing copying calls' waiting'
+    counted_taken calls' waiting' ask claim out idle sets waits =
         let s = server_in a.job.pending in
-        let falls : (q : ℕ) → count_by (is_called q) (indexmap.values new) + weight (nat_eq s q) ≡ count_by (is_called q) (indexmap.values old) = λ q.
-        let step = changes (is_called q) in
-        let none : weight (is_called q b) ≡ 0 = ap (λ x. weight x) (idle_called b idle q) in
-        let one : weight (is_called q a) ≡ weight (nat_eq s q) = ap (λ x. weight x) (out_called a out q) in
-        omega (arith, step, none, one) in
+        let none = unsent b idle in
         record {
           clears = clears_stays ask claim;
           copies = copies_stays ask claim;
-          at = one_less nat_eq is_called same_at (count_at (indexmap.get nat_eq calls)) (count_at (indexmap.get nat_eq calls')) s (indexmap.values old) (indexmap.values new) counted.at sets falls;
+          at =
+              one_less nat_eq is_called same_at (at_place calls) (at_place calls') s (indexmap.values old) (indexmap.values new) counted.at sets
+              (goes is_called s (λ q. ap (λ x. weight x) (out_called a out q)) (λ q. ap (λ x. weight x) (idle_called b none q)));
+          without =
+              one_more nat_eq is_without_call same_of (at_place waiting) (at_place waiting') b.client (indexmap.values old) (indexmap.values new) counted.without waits
+              (comes is_without_call b.client (out_without a out) (idle_without b none));
         }

@@ -1,5 +1,5 @@
--- How many commands under way clear each key, and how many copy to it, and how many calls are out at each server. Source: mcgate's own.
-use Rattle.std.specs.Prelude.{◌≡◌, ℕ, Bool, true, false, List, if◌then◌else◌, nat_eq, count_by}
+-- How many commands under way clear each key, and how many copy to it, how many calls are out at each server, and how many commands of each client have none out. Source: mcgate's own.
+use Rattle.std.specs.Prelude.{◌≡◌, ℕ, Bool, true, false, not, List, Some, if◌then◌else◌, nat_eq, count_by, slice_index_or}
 use Rattle.std.specs.Cmp.Lexicographic.{pointwise}
 use Rattle.std.specs.Map.{count_at}
 use Rattle.std.specs.declared.hash.FoldHasher.{FoldHasher}
@@ -27,8 +27,21 @@ abbrev pub SetsCountWhere : Bool → {K S : Type 0} → (K → K → Bool) → K
 SetsCountWhere true eq key n old new = SetsCount eq key n old new
 SetsCountWhere false eq key n old new = new ≡ old
 
--- the counts are those of the commands
-pub record AreCounted {S T U : Type 0} (commands : map.IndexMap ℕ Command S) (clearing copying : map.IndexMap (List ℕ) ℕ T) (calls : map.IndexMap ℕ ℕ U) : Type 0 where
+-- at this place there are so many now, and at all else as many as before
+abbrev pub SetsCountAt : ℕ → ℕ → List ℕ → List ℕ → Type 0
+SetsCountAt place n old new = (q : ℕ) → slice_index_or new q 0 ≡ (if nat_eq place q then n else slice_index_or old q 0)
+
+-- the command is this client's, and no call of it is out
+abbrev pub is_without_call : ℕ → Command → Bool
+is_without_call client command = if nat_eq command.client client then not (has_call_out command) else false
+
+-- each command of this client has its call out
+abbrev pub HasAllCallsOut : ℕ → {S : Type 0} → map.IndexMap ℕ Command S → Type 0
+HasAllCallsOut client commands = (n : ℕ) (command : Command) → map.get nat_eq commands n ≡ Some command → command.client ≡ client → has_call_out command ≡ true
+
+-- the counts are those of the commands: at each place of `calls` as many as are out at that server, at each of `waiting` as many as that client has without a call
+pub record AreCounted {S T : Type 0} (commands : map.IndexMap ℕ Command S) (clearing copying : map.IndexMap (List ℕ) ℕ T) (calls waiting : List ℕ) : Type 0 where
   pub clears : (key : List ℕ) → count_at (map.get (pointwise nat_eq) clearing) key ≡ count_by (clears_key key) (map.values commands)
   pub copies : (key : List ℕ) → count_at (map.get (pointwise nat_eq) copying) key ≡ count_by (copies_key key) (map.values commands)
-  pub at : (server : ℕ) → count_at (map.get nat_eq calls) server ≡ count_by (is_called server) (map.values commands)
+  pub at : (server : ℕ) → slice_index_or calls server 0 ≡ count_by (is_called server) (map.values commands)
+  pub without : (client : ℕ) → slice_index_or waiting client 0 ≡ count_by (is_without_call client) (map.values commands)

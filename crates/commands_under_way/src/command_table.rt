@@ -1,12 +1,13 @@
 //! The commands that have begun and have not ended.
 
-ghost use Rattle.std.specs.Prelude.{◌≡◌, ◌+◌, ◌++◌, ◌∷◌, [], ℕ, true, false, Some, None, if◌then◌else◌, nat_eq, IfOk, OnOk, OnErr, IsSome, option_copied};
+ghost use Rattle.std.specs.Prelude.{◌≡◌, ◌+◌, ◌++◌, ◌∷◌, [], ℕ, true, false, not, Some, None, if◌then◌else◌, nat_eq, IfOk, OnOk, OnErr, IsSome, option_copied};
 ghost use Rattle.std.specs.List.{list_any};
 ghost use Rattle.indexmap.specs.IndexMap.{get, values, index_map_len, IsEmpty};
 ghost use Rattle.mc_runs.specs.Single.{FitsOutcome};
 ghost use Rattle.route_job.specs.Rest.{ask_under};
 ghost use Rattle.commands_under_way.specs.Begun.{HasRoom, Puts};
 ghost use Rattle.commands_under_way.specs.Claims.{clears_key, copies_key, is_barred};
+ghost use Rattle.commands_under_way.specs.Counts.{is_without_call, HasAllCallsOut};
 ghost use Rattle.commands_under_way.specs.Ready.{calls_at};
 ghost use Rattle.commands_under_way.specs.Out.{has_call_out};
 ghost use Rattle.commands_under_way.specs.Tables.{IsAtCall, CallsOut, IsCallerOf, TakesAt};
@@ -14,7 +15,8 @@ ghost use Rattle.commands_under_way.specs.Tables.{IsAtCall, CallsOut, IsCallerOf
 use crate::begun::drop_command;
 use crate::claim::Claim;
 use crate::command::Command;
-use crate::counts::{count_of, count_one, count_where, uncount_kept, uncount_where};
+use crate::counts::{count_of, count_where, uncount_where};
+use crate::places::CountsByPlace;
 use crate::ticket::Ticket;
 use indexmap::IndexMap;
 use mc_types::{Key, Outcome, ServerId};
@@ -23,14 +25,16 @@ use std::marker::Model;
 
 /// The commands that have begun and have not ended, by number.
 ///
-/// How many of them clear each key, how many copy to it, and how many calls of them are out at each server, is counted beside
-/// them, so that none of it is asked of all of them. Where memory was refused for a count, it is, from then on.
+/// How many of them clear each key, how many copy to it, how many calls of them are out at each server, and how many of each
+/// client have no call out, is counted beside them, so that none of it is asked of all of them. Where memory was refused for a
+/// count, it is, from then on.
 #[derive(Drop)]
 pub struct CommandTable {
     by_number: IndexMap<u64, Command>,
     clearing: IndexMap<Key, usize>,
     copying: IndexMap<Key, usize>,
-    at_server: IndexMap<u32, usize>,
+    at_server: CountsByPlace,
+    waiting: CountsByPlace,
     is_counted: bool,
 }
 
@@ -48,7 +52,7 @@ impl Model for CommandTable {
 
     ghost view = { λ t. t.by_number };
 
-    ghost invariant = { λ t. t.is_counted ≡ true → AreCounted t.by_number t.clearing t.copying t.at_server };
+    ghost invariant = { λ t. t.is_counted ≡ true → AreCounted t.by_number t.clearing t.copying t.at_server t.waiting };
 }
 
 // Whether no command had the number. One that had is let go.
@@ -97,6 +101,13 @@ fn any_copies(key: &Key, commands: &IndexMap<u64, Command>) -> bool
     commands.values().any(|command| command.claim.copies && *command.ask.key() == *key)
 }
 
+// Whether no call of one of this client's is out, by looking at each command.
+fn any_without_call(client: usize, commands: &IndexMap<u64, Command>) -> bool
+    ensures { result ≡ list_any (is_without_call client) (values commands.now) }
+{
+    commands.values().any(|command| command.client == client && !command.has_call_out())
+}
+
 // How many calls are out at the server, by looking at each command.
 fn all_at(server: ServerId, commands: &IndexMap<u64, Command>) -> usize
     ensures { result ≡ calls_at server commands.now }
@@ -116,7 +127,8 @@ impl CommandTable {
             by_number: IndexMap::new(alloc),
             clearing: IndexMap::new(alloc),
             copying: IndexMap::new(alloc),
-            at_server: IndexMap::new(alloc),
+            at_server: CountsByPlace::new(alloc),
+            waiting: CountsByPlace::new(alloc),
             is_counted: true,
         }
     }
@@ -159,8 +171,12 @@ impl CommandTable {
         let claim = command.claim;
         let clears = count_where(claim.clears, command.ask.key(), &mut self.clearing);
         let copies = count_where(claim.copies, command.ask.key(), &mut self.copying);
+        let waits = self.waiting.count_one(command.client);
         let is_new = put_new(number, command, &mut self.by_number);
-        self.is_counted = both(both(self.is_counted, is_new), both(clears, copies));
+        self.is_counted = both(
+            both(self.is_counted, is_new),
+            both(both(clears, copies), waits),
+        );
     }
 
     /// Takes the command of this number out. It takes no memory.
@@ -171,10 +187,14 @@ impl CommandTable {
     {
         let command = self.by_number.swap_remove(&number)?;
         let claim = command.claim;
-        let is_idle = !command.is_out;
+        let is_idle = !command.has_call_out();
         let clears = uncount_where(claim.clears, command.ask.key(), &mut self.clearing);
         let copies = uncount_where(claim.copies, command.ask.key(), &mut self.copying);
-        self.is_counted = both(both(self.is_counted, is_idle), both(clears, copies));
+        let waited = self.waiting.uncount_one(command.client);
+        self.is_counted = both(
+            both(self.is_counted, is_idle),
+            both(both(clears, copies), waited),
+        );
         Some(command)
     }
 
@@ -189,8 +209,10 @@ impl CommandTable {
             unreachable!();
         };
         let ticket = command.send(number)?;
-        let is_counted = count_one(ticket.server.number(), &mut self.at_server);
-        self.is_counted = both(self.is_counted, is_counted);
+        let client = command.client;
+        let is_out = self.at_server.count_one(ticket.server.number() as usize);
+        let waited = self.waiting.uncount_one(client);
+        self.is_counted = both(self.is_counted, both(is_out, waited));
         Ok(ticket)
     }
 
@@ -217,8 +239,10 @@ impl CommandTable {
         };
         let server = command.server();
         let taken = command.take(alloc, outcome);
-        let is_counted = uncount_kept(server.number(), &mut self.at_server);
-        self.is_counted = both(self.is_counted, is_counted);
+        let client = command.client;
+        let was_out = self.at_server.uncount_one(server.number() as usize);
+        let waits = self.waiting.count_one(client);
+        self.is_counted = both(self.is_counted, both(was_out, waits));
         taken
     }
 
@@ -257,9 +281,29 @@ impl CommandTable {
         ensures { result ≡ calls_at server self.now }
     {
         if self.is_counted {
-            count_of(&server.number(), &self.at_server)
+            self.at_server.count_of(server.number() as usize)
         } else {
             all_at(server, &self.by_number)
         }
+    }
+
+    // Whether no call of a command of this client is out.
+    fn has_without_call(&self, client: usize) -> bool
+        ensures { result ≡ list_any (is_without_call client) (values self.now) }
+    {
+        if self.is_counted {
+            0 < self.waiting.count_of(client)
+        } else {
+            any_without_call(client, &self.by_number)
+        }
+    }
+
+    /// Whether each command of this client has its call out, so that none of them can go on. It takes no memory, and looks at no
+    /// command.
+    pub fn is_all_out(&self, client: usize) -> bool
+        ensures exact { result ≡ not (list_any (is_without_call client) (values self.now)) }
+        ensures out { result ≡ true → HasAllCallsOut client self.now }
+    {
+        !self.has_without_call(client)
     }
 }

@@ -1,4 +1,4 @@
-//! How many there are of each kind: commands that clear each key or copy to it, calls out at each server.
+//! How many there are of each kind: commands that clear each key, or copy to it.
 
 ghost use Rattle.std.specs.Prelude.{◌≡◌, ◌+◌, ◌-◌, true};
 ghost use Rattle.std.specs.Map.{count_at};
@@ -75,21 +75,5 @@ pub fn uncount_one<K: Eq + Hash + Copy + Drop>(key: K, counts: &mut IndexMap<K, 
             true
         }
         count => counts.insert(key, count - 1).is_ok(),
-    }
-}
-
-/// There is one less of it, which is kept where none is left: for what comes again. Whether that is counted.
-pub fn uncount_kept<K: Eq + Hash + Copy + Drop>(key: K, counts: &mut IndexMap<K, usize>) -> bool
-    ensures { result ≡ true → SetsCount K.eq key (count_at (get K.eq counts.old) key - 1) counts.old counts.new }
-{
-    let Some(count) = counts.get_mut(&key) else {
-        return false;
-    };
-    match count.checked_sub(1) {
-        None => false,
-        Some(fewer) => {
-            *count = fewer;
-            true
-        }
     }
 }

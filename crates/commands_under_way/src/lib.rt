@@ -10,6 +10,7 @@ pub mod held_job;
 pub mod key_lines;
 pub mod laws;
 pub mod owned;
+pub mod places;
 pub mod sharing;
 pub mod ticket;
 pub mod turns;

@@ -307,6 +307,10 @@ impl Core {
         ensures some { IfSome result (λ ready. IsReady client self.now.limits.window self.now.commands ready) }
         ensures none { IfNone result (NoneGoesOn self.now client) }
     {
+        // Where each has its call out, as mostly where the next command can begin, none is looked up.
+        if self.commands.is_all_out(client) {
+            return None;
+        }
         match self.clients.get(client) {
             None => unreachable!(),
             Some(x) => first_ready(client, self.limits.window, &x.queue, &self.commands),

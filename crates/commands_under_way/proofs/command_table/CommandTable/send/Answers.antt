@@ -1,12 +1,12 @@
-use Rattle.std.proofs.Common.{◌≡◌, ◌+◌, cond, nat_eq, Some, sym, ap, ◌∙◌, subst}
-use Rattle.std.specs.Map.{count_at}
+use Rattle.std.proofs.Common.{◌≡◌, ◌+◌, ◌-◌, cond, nat_eq, Some, sym, ap, ◌∙◌, subst}
+use Rattle.std.specs.Prelude.{slice_index_or}
 use Rattle.std.specs.HashMap.{WritesThrough}
 use Rattle.indexmap.specs.IndexMap.{get}
 use Rattle.route_job.proofs.Jobs.{on_err}
 use Rattle.route_job.specs.Jobs.{server_in, IsCalling}
 use Rattle.commands_under_way.specs.declared.command.Command.{Command}
 use Rattle.commands_under_way.specs.declared.ticket.Ticket.{Ticket}
-use Rattle.commands_under_way.specs.Counts.{SetsCount, AreCounted}
+use Rattle.commands_under_way.specs.Counts.{SetsCountAt, AreCounted}
 use Rattle.commands_under_way.proofs.Commands.{some_command}
 use Rattle.commands_under_way.proofs.Counting.{same_map, written, counted_sent}
 use Rattle.commands_under_way.proofs.command_table.CommandTable.send.Goals as goal
@@ -17,7 +17,7 @@ invariant_of-self c = λ on.
     let x = c.send.new.self in
     let table = c.self.inside in
     let through = subst (λ w. WritesThrough nat_eq (nat_eq c.args.number) table.by_number w (c.get_mut.follows.lender x)) c.in_err-ticket.ensures.err (c.get_mut.follows.holds x) in
-    subst (λ m. AreCounted m table.clearing table.copying table.at_server) (sym (same_map nat_eq (nat_eq c.args.number) table.by_number (c.get_mut.follows.lender x) a (sym c.in-Some.ensures.value) through)) (c.self.invariant on)
+    subst (λ m. AreCounted m table.clearing table.copying table.at_server table.waiting) (sym (same_map nat_eq (nat_eq c.args.number) table.by_number (c.get_mut.follows.lender x) a (sym c.in-Some.ensures.value) through)) (c.self.invariant on)
 
 pub returns-in_err-ticket-clause-err : goal.returns-in_err-ticket-clause-err
 returns-in_err-ticket-clause-err c =
@@ -33,12 +33,14 @@ invariant_of-self-2 c = λ e.
     let x = c.send.new.self in
     let table = c.self.inside in
     let on = c.both-self-inside.ensures e in
+    let counts = c.both.ensures on.1 in
     let same : a ≡ c.requires.command = some_command (c.in-Some.ensures.value ∙ ap (λ m. get nat_eq m c.args.number) c.self.view_is ∙ c.requires.was) in
     let out = c.in_ok-ticket.ensures.out in
     let server : c.number.result ≡ server_in a.job.pending = c.number.ensures ∙ ap (λ (t : Ticket). t.server) c.in_ok-ticket.ensures.ticket in
-    counted_sent table.by_number (c.get_mut.follows.lender x) table.clearing table.copying table.at_server c.args.number a (c.self.invariant on.0) x (sym c.in-Some.ensures.value) (c.get_mut.follows.holds x).0
-    c.count_one-is_counted.new.counts (ap (λ (b : Command). b.ask) out) (ap (λ (b : Command). b.claim) out) (ap (λ (b : Command). b.is_out) same ∙ c.requires.idle) (ap (λ (b : Command). b.is_out) out) (ap (λ (b : Command). b.job) out) (subst (λ (b : Command). IsCalling b.job) (sym same) c.requires.calling)
-    (subst (λ s. SetsCount nat_eq s (count_at (get nat_eq table.at_server) s + 1) table.at_server c.count_one-is_counted.new.counts) server (c.count_one-is_counted.ensures on.1))
+    counted_sent table.by_number (c.get_mut.follows.lender x) table.clearing table.copying table.at_server table.waiting c.args.number a (c.self.invariant on.0) x (sym c.in-Some.ensures.value) (c.get_mut.follows.holds x).0
+    c.count_one-is_out.new.self c.uncount_one-waited.new.self (ap (λ (b : Command). b.ask) out) (ap (λ (b : Command). b.claim) out) (ap (λ (b : Command). b.is_out) same ∙ c.requires.idle) (ap (λ (b : Command). b.is_out) out) (ap (λ (b : Command). b.job) out)
+    (subst (λ (b : Command). IsCalling b.job) (sym same) c.requires.calling) (subst (λ s. SetsCountAt s (slice_index_or table.at_server s 0 + 1) table.at_server c.count_one-is_out.new.self) server (c.count_one-is_out.ensures counts.0))
+    (subst (λ s. SetsCountAt s (slice_index_or table.waiting s 0 - 1) table.waiting c.uncount_one-waited.new.self) (ap (λ (b : Command). b.client) out) (c.uncount_one-waited.ensures counts.1))
 
 pub returns-clause-ok : goal.returns-clause-ok
 returns-clause-ok c =

@@ -1,10 +1,10 @@
 use Rattle.std.proofs.Common.{◌≡◌, ◌-◌, true, cond, nat_eq, Some, sym, ap, ◌∙◌, subst}
-use Rattle.std.specs.Map.{count_at}
+use Rattle.std.specs.Prelude.{slice_index_or}
 use Rattle.indexmap.specs.IndexMap.{get}
 use Rattle.route_job.specs.Jobs.{server_in}
 use Rattle.commands_under_way.specs.declared.command.Command.{Command}
 use Rattle.commands_under_way.specs.Out.{has_call_out}
-use Rattle.commands_under_way.specs.Counts.{SetsCount}
+use Rattle.commands_under_way.specs.Counts.{SetsCountAt}
 use Rattle.commands_under_way.proofs.Commands.{some_command}
 use Rattle.commands_under_way.proofs.Counting.{written, counted_taken}
 use Rattle.commands_under_way.proofs.command_table.CommandTable.take.Goals as goal
@@ -15,11 +15,12 @@ invariant_of-self c = λ e.
     let b = c.take-taken.new.self in
     let table = c.self.inside in
     let on = c.both-self-inside.ensures e in
+    let counts = c.both.ensures on.1 in
     let same : c.requires.out.0 ≡ a = some_command (sym (c.in-Some.ensures.value ∙ ap (λ m. get nat_eq m c.args.number) c.self.view_is ∙ c.requires.out.1)) in
     let server : c.number.result ≡ server_in a.job.pending = c.number.ensures ∙ c.server-server.ensures in
-    counted_taken table.by_number (c.get_mut.follows.lender b) table.clearing table.copying table.at_server c.args.number a (c.self.invariant on.0) b (sym c.in-Some.ensures.value) (c.get_mut.follows.holds b).0
-    c.uncount_kept-is_counted.new.counts c.take-taken.ensures.ask c.take-taken.ensures.claim (subst (λ (d : Command). has_call_out d ≡ true) same c.requires.out.2) c.take-taken.ensures.idle
-    (subst (λ s. SetsCount nat_eq s (count_at (get nat_eq table.at_server) s - 1) table.at_server c.uncount_kept-is_counted.new.counts) server (c.uncount_kept-is_counted.ensures on.1))
+    counted_taken table.by_number (c.get_mut.follows.lender b) table.clearing table.copying table.at_server table.waiting c.args.number a (c.self.invariant on.0) b (sym c.in-Some.ensures.value) (c.get_mut.follows.holds b).0
+    c.uncount_one-was_out.new.self c.count_one-waits.new.self c.take-taken.ensures.ask c.take-taken.ensures.claim (subst (λ (d : Command). has_call_out d ≡ true) same c.requires.out.2) c.take-taken.ensures.idle
+    (subst (λ s. SetsCountAt s (slice_index_or table.at_server s 0 - 1) table.at_server c.uncount_one-was_out.new.self) server (c.uncount_one-was_out.ensures counts.0)) (c.count_one-waits.ensures counts.1)
 
 pub returns : goal.returns
 returns c =

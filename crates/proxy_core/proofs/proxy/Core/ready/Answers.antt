@@ -1,8 +1,27 @@
-use Rattle.std.proofs.Common.{MatchOption, subst}
+use Rattle.std.proofs.Common.{◌≡◌, ℕ, false, List, [], ◌∷◌, Option, Some, None, MatchOption, inl, refl, subst}
+use Rattle.indexmap.specs.IndexMap as map
+use Rattle.commands_under_way.specs.Counts.{HasAllCallsOut}
+use Rattle.commands_under_way.specs.declared.command.Command.{Command}
 use Rattle.core_client.specs.declared.client.Client.{Client}
+use Rattle.core_client.specs.declared.client.Pending.{Pending}
+use Rattle.proxy_core.specs.CoreState.{client_at}
 use Rattle.proxy_core.specs.Resting.{AreHeldUp}
 use Rattle.proxy_core.proofs.Resting.{if_none}
 use Rattle.proxy_core.proofs.proxy.Core.ready.Goals as goal
+
+-- where each command of the client has its call out, none of those whose reply hasn't come can go on
+all_held : {S : Type 0} (client window : ℕ) (commands : map.IndexMap ℕ Command S) → HasAllCallsOut client commands → (ps : List Pending) → AreHeldUp client window commands ps
+all_held client window commands out [] = tt
+all_held client window commands out (pending ∷ rest) = (λ _. inl (λ a was own. out pending.number a was own), all_held client window commands out rest)
+
+client_held : {S : Type 0} (client window : ℕ) (commands : map.IndexMap ℕ Command S) → HasAllCallsOut client commands → (o : Option Client) → MatchOption o ⊥ (λ x. x.dropped ≡ false) → MatchOption o ⊥ (λ x. AreHeldUp client window commands x.queue.items)
+client_held client window commands out None served = served
+client_held client window commands out (Some x) served = all_held client window commands out x.queue.items
+
+pub returns-then-is_all_out-clause-none : goal.returns-then-is_all_out-clause-none
+returns-then-is_all_out-clause-none c =
+    let core = c.args.self.now in
+    (c.requires, client_held c.args.client core.limits.window core.commands (c.if-is_all_out.ensures.out refl) (client_at core c.args.client) c.requires)
 
 pub returns-clause-none : goal.returns-clause-none
 returns-clause-none c =
