@@ -114,10 +114,6 @@ messages_are_one_ask ask h = go ask.dialect refl
     go dialects.Meta d = meta_back.messages_are_one_ask ask (meta_ask ask d h)
 
 -- what came of a classic walk
-pub ok_as : {E : Type 0} (r : Result Ask E) → IfOk r IsClassicAsk → IfOk r IsClientAsk
-ok_as (Ok ask) h = of_classic ask h
-ok_as (Err e) h = tt
-
 some_as : (next : Option Ask) → IfSome next IsClassicAsk → IfSome next IsClientAsk
 some_as None h = tt
 some_as (Some ask) h = of_classic ask h

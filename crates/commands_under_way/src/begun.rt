@@ -24,18 +24,25 @@ pub fn drop_ask(_ask: SharedAsk) {}
 /// The same of a command.
 pub fn drop_command(_command: Command) {}
 
-// A job of the ask, which it shares.
-fn job_of(alloc: Global, tree: &Tree, ask: &SharedAsk) -> Result<HeldJob, AllocError>
+// A job of the ask, which it shares, in the room of another where one is given.
+fn job_of(
+    alloc: Global,
+    room: Option<HeldJob>,
+    tree: &Tree,
+    ask: &SharedAsk,
+) -> Result<HeldJob, AllocError>
     ensures { IfOk result (λ job. (calls : List Call) (given : Given) → Comes job calls given ↔ Word (tree_at tree.now ask.now.key) ask.now OfClient 0 calls given) }
 {
     let ask = ask.copy()?;
     let job = Job::new(alloc, tree, ask)?;
-    HeldJob::new(alloc, job)
+    HeldJob::reusing(alloc, room, job)
 }
 
-/// A command of a client for this ask with this claim, as it begins on this tree. The only error is running out of memory.
+/// A command of a client for this ask with this claim, as it begins on this tree, with its job in the room of another where one is
+/// given. The only error is running out of memory.
 pub fn command_of(
     alloc: Global,
+    room: Option<HeldJob>,
     tree: &Tree,
     client: usize,
     ask: &SharedAsk,
@@ -46,7 +53,7 @@ pub fn command_of(
 {
     let _form = tree.form();
     let kept = ask.copy()?;
-    match job_of(alloc, tree, ask) {
+    match job_of(alloc, room, tree, ask) {
         Ok(job) => Ok(Command {
             job,
             ask: kept,

@@ -1,9 +1,13 @@
 //! The commands that have begun and have not ended.
 
-ghost use Rattle.std.specs.Prelude.{◌≡◌, ◌+◌, ◌++◌, ◌∷◌, [], ℕ, true, false, not, Some, None, if◌then◌else◌, nat_eq, IfOk, OnOk, OnErr, IsSome, option_copied};
+ghost use Rattle.std.specs.Prelude.{◌≡◌, ◌+◌, ◌++◌, ◌∷◌, [], ◌↔◌, ℕ, List, true, false, not, Some, None, if◌then◌else◌, nat_eq, IfOk, OnOk, OnErr, IsSome, option_copied};
 ghost use Rattle.std.specs.List.{list_any};
 ghost use Rattle.indexmap.specs.IndexMap.{get, values, index_map_len, IsEmpty};
+ghost use Rattle.mc_runs.specs.Run.{Call as CallMade};
 ghost use Rattle.mc_runs.specs.Single.{FitsOutcome};
+ghost use Rattle.route_tree.specs.Word.{Given};
+ghost use Rattle.route_job.specs.Given.{given_of};
+ghost use Rattle.route_job.specs.Jobs.{Comes, IsDone};
 ghost use Rattle.route_job.specs.Rest.{ask_under};
 ghost use Rattle.commands_under_way.specs.Begun.{HasRoom, Puts};
 ghost use Rattle.commands_under_way.specs.Claims.{clears_key, copies_key, is_barred};
@@ -17,9 +21,12 @@ use crate::claim::Claim;
 use crate::command::Command;
 use crate::counts::{count_of, count_where, uncount_where};
 use crate::places::CountsByPlace;
+use crate::held_job::HeldJob;
+use crate::spares::Spares;
 use crate::ticket::Ticket;
 use indexmap::IndexMap;
-use mc_types::{Key, Outcome, ServerId};
+use mc_types::{Key, Outcome, ServerId, SharedAsk};
+use route_job::Done;
 use std::alloc::{AllocError, Global};
 use std::marker::Model;
 
@@ -27,7 +34,7 @@ use std::marker::Model;
 ///
 /// How many of them clear each key, how many copy to it, how many calls of them are out at each server, and how many of each
 /// client have no call out, is counted beside them, so that none of it is asked of all of them. Where memory was refused for a
-/// count, it is, from then on.
+/// count, it is, from then on. The memory of those that ended is kept for those that begin.
 #[derive(Drop)]
 pub struct CommandTable {
     by_number: IndexMap<u64, Command>,
@@ -36,6 +43,7 @@ pub struct CommandTable {
     at_server: CountsByPlace,
     waiting: CountsByPlace,
     is_counted: bool,
+    spares: Spares,
 }
 
 impl Model for CommandTable {
@@ -130,7 +138,39 @@ impl CommandTable {
             at_server: CountsByPlace::new(alloc),
             waiting: CountsByPlace::new(alloc),
             is_counted: true,
+            spares: Spares::new(alloc),
         }
+    }
+
+    /// An ask that a command had, if one is kept, for [`SharedAsk::reusing`]. It takes no memory.
+    pub fn take_ask(&mut self) -> Option<SharedAsk>
+        ensures { self.new ≡ self.old }
+    {
+        self.spares.take_ask()
+    }
+
+    /// The room of a job that ended, if one is kept, for [`crate::begun::command_of`]. It takes no memory.
+    pub fn take_room(&mut self) -> Option<HeldJob>
+        ensures { self.new ≡ self.old }
+    {
+        self.spares.take_job()
+    }
+
+    /// An ask that is let go is kept, where few data are in it and not many are kept, until nobody else holds it.
+    pub fn keep_ask(&mut self, ask: &SharedAsk)
+        ensures { self.new ≡ self.old }
+    {
+        self.spares.keep_ask(ask);
+    }
+
+    /// How the command of this ask and this job ended, which isn't among these any more. Their memory is kept for others.
+    pub fn end(&mut self, alloc: Global, ask: &SharedAsk, job: HeldJob) -> Done
+        requires { IsDone job }
+        ensures done { (calls : List CallMade) (given : Given) → Comes job calls given ↔ ((calls ≡ []) × (given ≡ given_of result)) }
+        ensures same { self.new ≡ self.old }
+    {
+        self.keep_ask(ask);
+        self.spares.end_job(alloc, job)
     }
 
     /// How many there are. It takes no memory.

@@ -7,10 +7,11 @@ ghost use Rattle.route_tree.specs.Word.{Given};
 ghost use Rattle.route_job.specs.Given.{given_of};
 ghost use Rattle.route_job.specs.Jobs.{Comes, call_of, IsNext, IsCalling, IsDone};
 
-use mc_types::Outcome;
+use mc_types::{Outcome, SharedAsk};
 use route_job::{Done, Job, Step};
 use std::alloc::{AllocError, Global};
 use std::marker::Model;
+use std::mem::replace;
 
 /// A job on the heap. A job by value is some two hundred bytes, and a command goes through many hands.
 #[derive(Drop)]
@@ -40,6 +41,23 @@ impl HeldJob {
         Ok(HeldJob { job })
     }
 
+    /// This job, in the room of another where one is given. The only error is running out of memory, where none is.
+    pub fn reusing(
+        alloc: Global,
+        room: Option<HeldJob>,
+        job: Job,
+    ) -> Result<HeldJob, AllocError>
+        ensures { IfOk result (λ held. held ≡ job) }
+    {
+        match room {
+            None => HeldJob::new(alloc, job),
+            Some(mut held) => {
+                *held.job = job;
+                Ok(held)
+            }
+        }
+    }
+
     /// As `Job::next`.
     pub fn next(&self) -> Step<'_>
         ensures { IsNext self.now result }
@@ -54,6 +72,15 @@ impl HeldJob {
         ensures rest { OnOk result ((calls : List CallMade) (given : Given) → Comes self.new calls given ↔ Comes self.old (call_of self.old outcome ∷ calls) given) }
     {
         self.job.take(alloc, outcome)
+    }
+
+    /// As `Job::into_done`, and the job's room, which holds nothing of the command any more, but this ask. It takes no memory.
+    pub fn end(mut self, alloc: Global, blank: SharedAsk) -> (Done, HeldJob)
+        requires { IsDone self }
+        ensures { (calls : List CallMade) (given : Given) → Comes self calls given ↔ ((calls ≡ []) × (given ≡ given_of result.0)) }
+    {
+        let job = replace(&mut *self.job, Job::broken(alloc, blank));
+        (job.into_done(), self)
     }
 
     /// As `Job::into_done`.

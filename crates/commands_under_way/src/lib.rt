@@ -12,6 +12,7 @@ pub mod laws;
 pub mod owned;
 pub mod places;
 pub mod sharing;
+pub mod spares;
 pub mod ticket;
 pub mod turns;
 

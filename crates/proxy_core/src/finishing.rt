@@ -10,15 +10,17 @@ ghost use Rattle.proxy_core.specs.Finishing.{CanEnd, IsNote};
 use crate::fault::CoreFault;
 use crate::note::Note;
 use crate::proxy::Core;
-use commands_under_way::Command;
+use commands_under_way::{Command, CommandTable};
 use mc_types::{Answer, SharedAsk};
 use route_job::Done;
+use std::alloc::Global;
 
-// How a command ended whose job is done.
-fn done_of(command: Command) -> (SharedAsk, Done)
+// How a command ended whose job is done, which isn't among the commands any more. Its memory is kept for others.
+fn done_of(alloc: Global, command: Command, commands: &mut CommandTable) -> (SharedAsk, Done)
     requires { IsDone command.job }
     ensures ask { result.0 ≡ command.ask }
     ensures done { Comes command.job [] (given_of result.1) }
+    ensures same { commands.new ≡ commands.old }
 {
     let Command {
         job,
@@ -27,7 +29,7 @@ fn done_of(command: Command) -> (SharedAsk, Done)
         claim: _claim,
         is_out: _is_out,
     } = command;
-    let done = job.into_done();
+    let done = commands.end(alloc, &ask, job);
     (ask, done)
 }
 
@@ -58,7 +60,7 @@ impl Core {
         let Some(command) = self.commands.remove(number) else {
             unreachable!();
         };
-        let (ask, done) = done_of(command);
+        let (ask, done) = done_of(self.alloc, command, &mut self.commands);
         let (note, reply) = note_of(number, ask, done);
         match self.clients.get_mut(client) {
             None => unreachable!(),

@@ -103,7 +103,8 @@ impl Core {
         ensures err { IfErr result (λ fault. StopsFirst client self.old fault self.new) }
         ensures kept { OnErr result (self.new.lines ≡ self.old.lines) }
     {
-        match command_of(self.alloc, &self.tree, client, &ask, claim) {
+        let room = self.commands.take_room();
+        match command_of(self.alloc, room, &self.tree, client, &ask, claim) {
             Ok(command) => self.begin_command(client, request, ask, command),
             Err(_) => {
                 drop_ask(ask);
@@ -201,6 +202,14 @@ impl Core {
         }
     }
 
+    // An ask that doesn't begin now is let go, and its memory kept.
+    fn let_go(&mut self, ask: SharedAsk)
+        ensures { self.new ≡ self.old }
+    {
+        self.commands.keep_ask(&ask);
+        drop_ask(ask);
+    }
+
     // The ask of the next key of the request at the client's front.
     fn next_ask(&mut self, client: usize, request: &Request) -> Result<SharedAsk, CoreFault>
         requires { ForClient self.old client (CanAsk request.now) }
@@ -209,9 +218,10 @@ impl Core {
         ensures err { IfErr result (λ fault. fault ≡ NoMemory) }
         ensures same { self.new ≡ self.old }
     {
+        let spare = self.commands.take_ask();
         match self.clients.get_mut(client) {
             None => unreachable!(),
-            Some(x) => match x.next_ask(self.alloc, request) {
+            Some(x) => match x.next_ask(self.alloc, spare, request) {
                 Ok(ask) => Ok(ask),
                 Err(_) => Err(CoreFault::NoMemory),
             },
@@ -245,7 +255,7 @@ impl Core {
         ensures err { IfErr result (λ fault. ReadFault self.old client fault self.new) }
     {
         let joined = self.lines.join(client, ask.key(), claim);
-        drop_ask(ask);
+        self.let_go(ask);
         match joined {
             Ok(true) => Ok(Poll::Queued),
             Ok(false) => Ok(Poll::Busy),
@@ -268,7 +278,7 @@ impl Core {
         ensures err { IfErr result (λ fault. ReadFault self.old client fault self.new) }
     {
         if self.has_own(client, ask.key()) {
-            drop_ask(ask);
+            self.let_go(ask);
             return Ok(Poll::Busy);
         }
         let claim = Claim::of(self.limits.sharing, ask.get(), &self.tree);

@@ -71,6 +71,19 @@ impl Job {
         })
     }
 
+    /// A job of this ask that calls nothing, and ends as a broken one. It takes no memory.
+    pub fn broken(alloc: Global, ask: SharedAsk) -> Job
+        ensures { IsBroken result }
+    {
+        Job {
+            ask,
+            hash: 0,
+            frames: Vec::new(alloc),
+            pending: Pending::Back(broken_done()),
+            made: 0,
+        }
+    }
+
     /// The next call, or how the command ended. It takes no memory.
     pub fn next(&self) -> Step<'_>
         ensures { IsNext self.now result }

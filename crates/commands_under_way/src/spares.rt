@@ -1,0 +1,112 @@
+//! Memory of commands that ended, for those that begin.
+
+ghost use Rattle.std.specs.Prelude.{◌≡◌, ◌↔◌, List, []};
+ghost use Rattle.mc_runs.specs.Run.{Call as CallMade};
+ghost use Rattle.route_tree.specs.Word.{Given};
+ghost use Rattle.route_job.specs.Given.{given_of};
+ghost use Rattle.route_job.specs.Jobs.{Comes, IsDone};
+
+use crate::held_job::HeldJob;
+use mc_types::{Ask, Dialect, Key, Op, SharedAsk, Tokens};
+use route_job::Done;
+use std::alloc::Global;
+use std::collections::VecDeque;
+
+// So many asks and so many jobs are kept at most: more than are under way together for a while.
+const SPARES: usize = 256;
+
+// An ask with more data isn't kept.
+const SPARE_DATA: usize = 4_096;
+
+/// Asks and jobs of commands that ended, whose memory is used again.
+#[derive(Drop)]
+pub struct Spares {
+    asks: VecDeque<SharedAsk>,
+    jobs: Vec<HeldJob>,
+    // What a job that is kept holds in place of its ask.
+    blank: Option<SharedAsk>,
+}
+
+// A drop that is a call keeps the proof of a caller short.
+fn drop_ask(_ask: SharedAsk) {}
+
+fn drop_job(_job: HeldJob) {}
+
+fn blank_ask(alloc: Global) -> Option<SharedAsk> {
+    let key = Key::read(b"-").ok()?;
+    SharedAsk::new(
+        alloc,
+        Ask::bare(Dialect::Classic, Op::Get, key, Tokens::new(alloc)),
+    )
+    .ok()
+}
+
+// The same ask once more, if it may be shared once more.
+fn copy_of(ask: &SharedAsk) -> Option<SharedAsk> {
+    ask.copy().ok()
+}
+
+impl Spares {
+    /// None. It takes no memory.
+    pub fn new(alloc: Global) -> Spares {
+        Spares {
+            asks: VecDeque::new(alloc),
+            jobs: Vec::new(alloc),
+            blank: None,
+        }
+    }
+
+    /// The ask that was kept first, if one is kept: others may hold it still. It takes no memory.
+    pub fn take_ask(&mut self) -> Option<SharedAsk> {
+        self.asks.pop_front()
+    }
+
+    /// A job's room, if one is kept. It takes no memory.
+    pub fn take_job(&mut self) -> Option<HeldJob> {
+        self.jobs.pop()
+    }
+
+    /// The ask of a command that ended is kept, where it holds few data and not many are kept. Where memory was refused it isn't.
+    pub fn keep_ask(&mut self, ask: &SharedAsk) {
+        if self.asks.len() >= SPARES || ask.get().body.len() > SPARE_DATA {
+            return;
+        }
+        if let Some(ask) = copy_of(ask) {
+            if let Err(refused) = self.asks.push_back(ask) {
+                drop_ask(refused.value);
+            }
+        }
+    }
+
+    // The ask that jobs which are kept hold.
+    fn blank(&mut self, alloc: Global) -> Option<SharedAsk> {
+        if self.blank.is_none() {
+            self.blank = blank_ask(alloc);
+        }
+        copy_of(self.blank.as_ref()?)
+    }
+
+    fn keep_job(&mut self, job: HeldJob) {
+        if let Err(refused) = self.jobs.push(job) {
+            drop_job(refused.value);
+        }
+    }
+
+    /// How the command of this job ended. Its room is kept, where not many are.
+    pub fn end_job(&mut self, alloc: Global, job: HeldJob) -> Done
+        requires { IsDone job }
+        ensures { (calls : List CallMade) (given : Given) → Comes job calls given ↔ ((calls ≡ []) × (given ≡ given_of result)) }
+    {
+        if self.jobs.len() >= SPARES {
+            return job.into_done();
+        }
+        match self.blank(alloc) {
+            None => job.into_done(),
+            Some(blank) => {
+                let (done, room) = job.end(alloc, blank);
+                self.keep_job(room);
+                done
+            }
+        }
+    }
+}
