@@ -18,3 +18,4 @@ pub mod Broken
 pub mod Outcomes
 pub mod Resting
 pub mod Stalled
+pub mod AtOnce

@@ -16,7 +16,7 @@ use Rattle.mc_runs.proofs.OverlapSteps.{walks_lead}
 use Rattle.route_tree.specs.At.{tree_at}
 use Rattle.route_tree.specs.Route.{IsTree}
 use Rattle.route_tree.specs.Word.{Given, Word, tree_words}
-use Rattle.route_job.specs.Jobs.{Comes, IsDone}
+use Rattle.route_job.specs.Jobs.{Comes, IsCalling, IsDone}
 use Rattle.connections.specs.declared.front.Passed.{Passed}
 use Rattle.core_client.specs.declared.client.Client.{Client}
 use Rattle.commands_under_way.specs.declared.command.Command.{Command}
@@ -33,7 +33,7 @@ use Rattle.proxy_core.specs.Steps.{Turns}
 use Rattle.core_client.specs.Fronts.{Stays, PassesFront, BeginsKey}
 use Rattle.commands_under_way.specs.Ready.{IsIdle}
 use Rattle.commands_under_way.specs.Begun.{IsBegun, ticket_of}
-use Rattle.proxy_core.specs.Polls.{ForClient, IsPassed, IsNothing, HasBegun, BeginsAt, CanSend, IsSent, IsEnded, IsServed, AreShown, IsShown, queue_len, ShowsNext, StopsFirst, StopsAfter, IsBelowDepth, BeginsBelow, MayAsk, NoneGoesOn, IsNextAsk, bars, stands_before, StandsStill, StandsInLine, Acts, Polls, IsPolled, IsActed, IsWhy, SoEnded, SoFar, ReadFault, Perhaps, BeginsOne, DropsAll, StopsAt}
+use Rattle.proxy_core.specs.Polls.{ForClient, IsPassed, IsNothing, HasBegun, BeginsAt, CanSend, IsTicketOf, IsSent, IsEnded, IsServed, AreShown, IsShown, queue_len, ShowsNext, StopsFirst, StopsAfter, IsBelowDepth, BeginsBelow, MayAsk, NoneGoesOn, IsNextAsk, bars, stands_before, StandsStill, StandsInLine, Acts, Polls, IsPolled, IsActed, IsWhy, SoEnded, SoFar, ReadFault, Perhaps, BeginsOne, DropsAll, StopsAt}
 use Rattle.proxy_core.specs.Settles.{freed}
 use Rattle.commands_under_way.specs.Lines as line
 use Rattle.commands_under_way.proofs.Lines.{others_again}
@@ -47,7 +47,7 @@ use Rattle.proxy_core.specs.Claims.{claim_by, is_barred}
 use Rattle.core_client.specs.Clients.{has_own}
 use Rattle.proxy_core.proofs.Clients.{on_its_way_kept, stays, command_stays, still_fits, owners}
 use Rattle.proxy_core.proofs.Slots.{same_held}
-use Rattle.commands_under_way.proofs.Commands.{some_command}
+use Rattle.commands_under_way.proofs.Commands.{some_command, is_call_true}
 use Rattle.proxy_core.proofs.Passing.{passes}
 use Rattle.proxy_core.proofs.Beginning.{begins}
 use Rattle.proxy_core.proofs.Sending.{sends}
@@ -194,6 +194,15 @@ pub sent_goes : (old new : Core) (number : ℕ) (can : CanSend old number) (tick
 sent_goes old new number can ticket is commands clients tree limits number_is =
     goes_as old new (λ entries. entries ≡ (let t = ticket_of number can.command.job in Sends t.number t.server t.ask t.origin ∷ [])) (IsSent ticket) (λ entries e. e ∙ ap (λ (t : Ticket). Sends t.number t.server t.ask t.origin ∷ []) (sym is))
     (sends old new number can.command (record { was = can.was; idle = can.idle; calling = can.calling; commands = commands; clients = clients; tree = tree; limits = limits; number_is = number_is }))
+
+-- and is out then
+pub sent_out : (new : Core) (number : ℕ) (a : Command) (ticket : Ticket) → IsCalling a.job → ticket ≡ ticket_of number a.job → command_at new number ≡ Some (record a { is_out = true }) → IsTicketOf new ticket
+sent_out new number a ticket calling is now =
+    record {
+      command = record a { is_out = true };
+      was = ap (λ (t : Ticket). command_at new t.number) is ∙ now;
+      is = record { out = is_call_true a.job.pending calling; server_is = ap (λ (t : Ticket). t.server) is; ask_is = ap (λ (t : Ticket). t.ask) is; origin_is = ap (λ (t : Ticket). t.origin) is };
+    }
 
 -- what holds after an error, and after none
 pub when_err : {A E : Type 0} (r : Result A E) (P : Type 0) → is_err r ≡ true → OnErr r P → P
@@ -374,7 +383,7 @@ pub why_of : (old new : Core) (client : ℕ) (poll : Poll) → IsActed client po
 why_of old new client polls.Idle h = absurd h
 why_of old new client polls.Own h = absurd h
 why_of old new client polls.Refused h = absurd h
-why_of old new client (polls.Call ticket) h = tt
+why_of old new client (polls.Call ticket) h = h
 why_of old new client polls.Waiting h = absurd h
 why_of old new client polls.Queued h = (h.0, inl (h.1, h.2))
 why_of old new client polls.Busy h = absurd h

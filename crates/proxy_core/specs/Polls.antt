@@ -21,7 +21,7 @@ use Rattle.commands_under_way.specs.declared.turns.Turn.TheVariants.{Full}
 use Rattle.proxy_core.specs.declared.note.Note.{Note}
 use Rattle.proxy_core.specs.declared.note.Poll.{Poll}
 use Rattle.proxy_core.specs.declared.note.Poll.TheVariants as polls
-use Rattle.proxy_core.specs.Settles.{freed, HasNoIdle}
+use Rattle.proxy_core.specs.Settles.{freed, HasNoIdle, IsCalled}
 use Rattle.commands_under_way.specs.declared.ticket.Ticket.{Ticket}
 use Rattle.core_client.specs.ClientState.{dialect, Message, output_by, dropped_by}
 use Rattle.proxy_core.specs.CoreState.{client_at, command_at, GoesBy}
@@ -90,6 +90,10 @@ pub record CanSend (core : Core) (number : ℕ) : Type 0 where
   pub was : command_at core number ≡ Some command
   pub idle : command.is_out ≡ false
   pub calling : IsCalling command.job
+
+-- the call of this ticket is out
+abbrev pub IsTicketOf : Core → Ticket → Type 0
+IsTicketOf core ticket = IsCalled core ticket.number ticket.server ticket.ask ticket.origin
 
 -- this call went out
 abbrev pub IsSent : Ticket → List (Entry dialect) → Type 0
@@ -229,12 +233,12 @@ IsQueued old client new = (HasNoRoom new client × ForClient new client HasComma
 abbrev pub IsStalled : Core → ℕ → Type 0
 IsStalled core client = ForClient core client IsDone ⊎ (NoneGoesOn core client × (NothingBegins core client ⊎ (HasNoKey core client × MayAsk core client)))
 
--- what holds after an answer: why nothing can be done, or that no reply is left to be shown
+-- what holds after an answer: why nothing can be done, that the call that is handed out is out, or that no reply is left to be shown
 abbrev pub IsWhy : Core → ℕ → Poll → Core → Type 0
 IsWhy old client polls.Idle new = (new ≡ old) × ForClient old client IsDone
 IsWhy old client polls.Own new = Unit {0}
 IsWhy old client polls.Refused new = Unit {0}
-IsWhy old client (polls.Call ticket) new = Unit {0}
+IsWhy old client (polls.Call ticket) new = IsTicketOf new ticket
 IsWhy old client polls.Waiting new = (new ≡ old) × NoneGoesOn old client × NothingBegins old client
 IsWhy old client polls.Queued new = NoneGoesOn new client × IsQueued old client new
 IsWhy old client polls.Busy new = (new ≡ old) × NoneGoesOn old client × IsBusy old client
@@ -245,7 +249,7 @@ abbrev pub IsActed : ℕ → Poll → Core → Type 0
 IsActed client polls.Idle new = ⊥
 IsActed client polls.Own new = ⊥
 IsActed client polls.Refused new = ⊥
-IsActed client (polls.Call ticket) new = Unit {0}
+IsActed client (polls.Call ticket) new = IsTicketOf new ticket
 IsActed client polls.Waiting new = ⊥
 IsActed client polls.Queued new = NoneGoesOn new client × HasNoRoom new client × ForClient new client HasCommand
 IsActed client polls.Busy new = ⊥

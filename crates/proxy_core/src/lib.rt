@@ -12,9 +12,11 @@ pub mod note;
 pub mod polling;
 pub mod proxy;
 pub mod results;
+pub mod serving;
 
 pub use commands_under_way::{Claim, Command, OutCall, Sharing, Ticket};
 pub use fault::{CoreFault, ReloadFault};
 pub use limits::Limits;
-pub use note::{Note, Poll};
+pub use note::{Note, Poll, ServedOne};
 pub use proxy::Core;
+pub use serving::Servers;

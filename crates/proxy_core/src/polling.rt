@@ -10,7 +10,7 @@ ghost use Rattle.core_client.specs.Clients.{has_own};
 ghost use Rattle.commands_under_way.specs.Begun.{IsBegun};
 ghost use Rattle.commands_under_way.specs.Ready.{IsTurn};
 ghost use Rattle.proxy_core.specs.Finishing.{CanEnd};
-ghost use Rattle.proxy_core.specs.Polls.{ForClient, IsPassed, StopsFirst, BeginsAt, CanSend, IsSent, IsServed, DropsOne, DropsAll, Acts, SoEnded, StopsAfter, IsAtLast, NoneGoesOn, NothingBegins, MayAsk, IsNextAsk, bars, stands_before, claim_of, StandsStill, Polls, ReadFault, PollFault};
+ghost use Rattle.proxy_core.specs.Polls.{ForClient, IsPassed, StopsFirst, BeginsAt, CanSend, IsTicketOf, IsSent, IsServed, DropsOne, DropsAll, Acts, SoEnded, StopsAfter, IsAtLast, NoneGoesOn, NothingBegins, MayAsk, IsNextAsk, bars, stands_before, claim_of, StandsStill, Polls, ReadFault, PollFault};
 ghost use Rattle.core_client.specs.Nexts.{IsPassing, CanBegin, CanAskBelow, CanAsk, IsNextOf};
 ghost use Rattle.proxy_core.specs.declared.fault.CoreFault.TheVariants.{NoMemory};
 ghost use Rattle.proxy_core.specs.Resting.{goes_on, IsReady};
@@ -119,6 +119,7 @@ impl Core {
         requires can { CanSend self.old number }
         ensures number { IfOk result (λ ticket. ticket.number ≡ number) }
         ensures ok { IfOk result (λ ticket. GoesBy self.old (IsSent ticket) self.new) }
+        ensures out { IfOk result (λ ticket. IsTicketOf self.new ticket) }
         ensures err { IfErr result (λ fault. StopsFirst client self.old fault self.new) }
         ensures still { StandsStill self.old self.new }
     {
@@ -415,7 +416,8 @@ impl Core {
     ///
     /// Where it is `Waiting`, `Busy` or `Queued`, none of its commands that have no reply yet can go on: each has its call out, or waits
     /// for its server. Where it is `Waiting`, nothing at its front can be done either. `Idle`, `Waiting` and `Busy` leave the core as it
-    /// was. After `Did` each reply that could be shown was.
+    /// was. After `Did` each reply that could be shown was. After `Call` the ticket's call is out in the core, as [`called`](Core::called)
+    /// shows it, until it is settled.
     ///
     /// `NoClient`. `Spent` where the last number that there is was given out: the core is as it was. `NoMemory`: nothing is
     /// done for the client any more, whose output so far is kept, which stands in no line, and whose commands of which no call is out
