@@ -12,7 +12,7 @@ use crate::any_core::AnyCore;
 use bytes::BytesMut;
 use client_asks::is_ask;
 use mc_types::{Ask, Dialect, Outcome};
-use meta_asks::{read_in_meta, write_in_meta};
+use meta_asks::{MetaForms, read_in_meta, write_in_meta};
 use proxy_core::Ticket;
 use std::alloc::{AllocError, AllocFailed, Global};
 use std::collections::VecDeque;
@@ -47,6 +47,8 @@ pub enum Next {
 pub struct LinkCalls {
     alloc: Global,
     sent: VecDeque<SentCall>,
+    // Those of the last gets that were asked in the meta dialect.
+    forms: MetaForms,
 }
 
 /// A call that could not go out has failed.
@@ -60,6 +62,7 @@ pub fn fail_call(core: &mut AnyCore, ticket: Ticket)
 fn write_in(
     dialect: Dialect,
     alloc: Global,
+    forms: &mut MetaForms,
     ask: &Ask,
     out: &mut BytesMut,
 ) -> Result<(), AllocError>
@@ -69,7 +72,7 @@ fn write_in(
 {
     match dialect {
         Dialect::Classic => write_ask(ask, out),
-        Dialect::Meta => write_in_meta(alloc, ask, out),
+        Dialect::Meta => write_in_meta(alloc, forms, ask, out),
     }
 }
 
@@ -78,6 +81,7 @@ fn write_in(
 fn read_in(
     dialect: Dialect,
     alloc: Global,
+    forms: &mut MetaForms,
     ask: &Ask,
     received: &Received,
 ) -> Result<AnswerRead, AllocError>
@@ -87,17 +91,23 @@ fn read_in(
     spelled_answers_fit();
     match dialect {
         Dialect::Classic => read_received(alloc, ask, received),
-        Dialect::Meta => read_in_meta(alloc, ask, received),
+        Dialect::Meta => read_in_meta(alloc, forms, ask, received),
     }
 }
 
-fn read_for(dialect: Dialect, alloc: Global, ask: &Ask, received: &Received) -> AnswerRead
+fn read_for(
+    dialect: Dialect,
+    alloc: Global,
+    forms: &mut MetaForms,
+    ask: &Ask,
+    received: &Received,
+) -> AnswerRead
     ensures { IsReadFor dialect ask.now received.now result }
 {
     if !is_ask(ask) {
         return AnswerRead::Foreign;
     }
-    match read_in(dialect, alloc, ask, received) {
+    match read_in(dialect, alloc, forms, ask, received) {
         Ok(read) => read,
         Err(_) => AnswerRead::Foreign,
     }
@@ -108,6 +118,7 @@ fn read_for(dialect: Dialect, alloc: Global, ask: &Ask, received: &Received) -> 
 fn read_next(
     dialect: Dialect,
     alloc: Global,
+    forms: &mut MetaForms,
     core: &AnyCore,
     number: u64,
     received: &Received,
@@ -116,7 +127,7 @@ fn read_next(
 {
     match core.asked(number) {
         None => AnswerRead::Foreign,
-        Some(ask) => read_for(dialect, alloc, ask, received),
+        Some(ask) => read_for(dialect, alloc, forms, ask, received),
     }
 }
 
@@ -128,6 +139,7 @@ impl LinkCalls {
         LinkCalls {
             alloc,
             sent: VecDeque::new(alloc),
+            forms: MetaForms::new(),
         }
     }
 
@@ -175,7 +187,14 @@ impl LinkCalls {
         let len = out.len();
         let dialect = call.dialect;
         if !is_ask(call.ticket.ask.get())
-            || write_in(dialect, self.alloc, call.ticket.ask.get(), out).is_err()
+            || write_in(
+                dialect,
+                self.alloc,
+                &mut self.forms,
+                call.ticket.ask.get(),
+                out,
+            )
+            .is_err()
         {
             return Err(call);
         }
@@ -207,6 +226,9 @@ impl LinkCalls {
     /// The first of the calls that are out is settled by its answer, where the bytes begin with one, in the dialect in which it was
     /// asked: nothing else is, and the core goes on by that alone. Without one nothing has changed.
     ///
+    /// Of the gets that were asked in the meta dialect the first takes memory for its form, and the first `gets` does; later ones are read
+    /// by the form that is kept.
+    ///
     /// Source: mcgate's own.
     pub fn settle_next(&mut self, core: &mut AnyCore, received: &Received) -> Next
         ensures { SettlesNext self.old.sent.items received.now core.old result self.new.sent.items core.new }
@@ -214,7 +236,7 @@ impl LinkCalls {
         let Some((number, dialect)) = self.first_asked() else {
             return Next::Foreign;
         };
-        match read_next(dialect, self.alloc, core, number, received) {
+        match read_next(dialect, self.alloc, &mut self.forms, core, number, received) {
             AnswerRead::More => Next::More,
             AnswerRead::Foreign => Next::Foreign,
             AnswerRead::Answer(answer, used) => {

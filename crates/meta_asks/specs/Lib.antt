@@ -1,4 +1,5 @@
 pub mod Form
 pub mod Reading
 pub mod Learning
+pub mod Kept
 pub mod Laws

@@ -5,6 +5,7 @@ ghost use Rattle.mc_types.specs.Asks.{IsAsk};
 ghost use Rattle.client_requests.specs.Spelling.{spelling_of};
 ghost use Rattle.meta_asks.specs.Form.{is_retrieval, wanted, meta_form, in_meta, get_end};
 
+use crate::kept::MetaForms;
 use bytes::BytesMut;
 use mc_types::{Ask, Body, Dialect, Op, Token, Tokens};
 use std::alloc::{AllocError, Global};
@@ -89,23 +90,19 @@ fn write_get(ask: &Ask, out: &mut BytesMut) -> Result<(), AllocError>
     written
 }
 
-// The form is written and dropped.
-fn write_form(form: Ask, out: &mut BytesMut) -> Result<(), AllocError>
-    requires { IsAsk form }
-    ensures ok { OnOk result (out.new.items ≡ out.old.items ++ spelling_of form) }
-    ensures err { OnErr result (out.new.items ≡ out.old.items) }
-{
-    write_ask(&form, out)
-}
-
 /// Appends what a server is asked that speaks the meta dialect: for a classic get its meta form, `mg K k f v`, with `c` for `gets`
 /// and `T` for `gat`, and for any other ask what [`write_ask`] does.
 ///
-/// The only error is running out of memory, which leaves the buffer as it was.
+/// The only error is running out of memory, which leaves the buffer as it was. Memory is taken for a form only where none of its kind
+/// is kept.
 ///
 /// Source: memcached's protocol.txt, "Meta Get"; the order of the flags is mcgate's own.
-#[tactic(auto, using(crate::proofs::Forms::form_is_ask))]
-pub fn write_in_meta(alloc: Global, ask: &Ask, out: &mut BytesMut) -> Result<(), AllocError>
+pub fn write_in_meta(
+    alloc: Global,
+    forms: &mut MetaForms,
+    ask: &Ask,
+    out: &mut BytesMut,
+) -> Result<(), AllocError>
     requires { IsAsk ask.now }
     ensures ok { OnOk result (out.new.items ≡ out.old.items ++ spelling_of (in_meta ask.now)) }
     ensures err { OnErr result (out.new.items ≡ out.old.items) }
@@ -116,6 +113,5 @@ pub fn write_in_meta(alloc: Global, ask: &Ask, out: &mut BytesMut) -> Result<(),
     if ask.exptime.is_none() {
         return write_get(ask, out);
     }
-    let form = meta_form(alloc, ask)?;
-    write_form(form, out)
+    forms.write(alloc, ask, out)
 }

@@ -7,9 +7,11 @@
 
 pub mod dialect;
 pub mod form;
+pub mod kept;
 pub mod laws;
 pub mod reader;
 
 pub use dialect::{DialectRead, read_dialect, write_noop};
 pub use form::write_in_meta;
+pub use kept::MetaForms;
 pub use reader::read_in_meta;

@@ -2,10 +2,11 @@
 
 ghost use Rattle.std.specs.Prelude.{IsSome, IfOk};
 ghost use Rattle.mc_types.specs.Asks.{IsAsk};
-ghost use Rattle.text_answers.specs.Reading.{Reads, LiesWithin};
+ghost use Rattle.text_answers.specs.Reading.{LiesWithin};
 ghost use Rattle.meta_asks.specs.Reading.{IsHitOf, SaysSame, IsTold, ReadsInMeta};
 
-use crate::form::{is_retrieval, meta_form};
+use crate::form::is_retrieval;
+use crate::kept::MetaForms;
 use mc_types::{Answer, Ask, Code, Fields};
 use std::alloc::{AllocError, Global};
 use text_answers::laws::spelled_answers_fit;
@@ -40,23 +41,21 @@ fn classic_of(told: Answer) -> Answer
     }
 }
 
-// What the bytes say to the form, which is dropped.
-fn read_form(alloc: Global, form: Ask, received: &Received) -> Result<AnswerRead, AllocError>
-    ensures reads { IfOk result (Reads form received.now) }
-    ensures within { IfOk result (LiesWithin received.now) }
-{
-    read_received(alloc, &form, received)
-}
-
 /// Reads the answer to an ask that [`crate::write_in_meta`] wrote, at the front of the bytes that a server sent, as the answer to the
 /// ask itself: of a classic get `VA` is a hit, with the cas number where it was asked for, `EN` a miss, and an error line that line.
 /// What [`read_received`] takes for cut or foreign of the meta form is cut or foreign.
 ///
-/// The only error is running out of memory.
+/// The only error is running out of memory. Memory is taken for the form only where none of its kind is kept, so after the first answer
+/// to a get and the first to a `gets` none is.
 ///
 /// Source: memcached's protocol.txt, "Meta Get"; what is foreign is mcgate's own.
 #[tactic(auto, using(crate::proofs::Answers::reads_as_it_is, crate::proofs::Answers::told_fits))]
-pub fn read_in_meta(alloc: Global, ask: &Ask, received: &Received) -> Result<AnswerRead, AllocError>
+pub fn read_in_meta(
+    alloc: Global,
+    forms: &mut MetaForms,
+    ask: &Ask,
+    received: &Received,
+) -> Result<AnswerRead, AllocError>
     requires { IsAsk ask.now }
     ensures reads { IfOk result (ReadsInMeta ask.now received.now) }
     ensures within { IfOk result (LiesWithin received.now) }
@@ -65,8 +64,7 @@ pub fn read_in_meta(alloc: Global, ask: &Ask, received: &Received) -> Result<Ans
     if !is_retrieval(ask) {
         return read_received(alloc, ask, received);
     }
-    let form = meta_form(alloc, ask)?;
-    match read_form(alloc, form, received)? {
+    match forms.read(alloc, ask, received)? {
         AnswerRead::More => Ok(AnswerRead::More),
         AnswerRead::Foreign => Ok(AnswerRead::Foreign),
         AnswerRead::Answer(told, used) => Ok(AnswerRead::Answer(classic_of(told), used)),
