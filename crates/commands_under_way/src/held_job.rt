@@ -42,11 +42,7 @@ impl HeldJob {
     }
 
     /// This job, in the room of another where one is given. The only error is running out of memory, where none is.
-    pub fn reusing(
-        alloc: Global,
-        room: Option<HeldJob>,
-        job: Job,
-    ) -> Result<HeldJob, AllocError>
+    pub fn reusing(alloc: Global, room: Option<HeldJob>, job: Job) -> Result<HeldJob, AllocError>
         ensures { IfOk result (λ held. held ≡ job) }
     {
         match room {

@@ -8,9 +8,7 @@ ghost use Rattle.mc_runs.specs.Single.{FitsOutcome};
 
 use crate::trees::tree_of;
 use example_tables::tellers::{Teller, halves, push_number, push_word, wrong};
-use mc_types::{
-    Answer, Ask, Body, Dialect, Key, Op, Origin, Outcome, ServerId, SharedAsk, Tokens,
-};
+use mc_types::{Answer, Ask, Body, Dialect, Key, Op, Origin, Outcome, ServerId, SharedAsk, Tokens};
 use route_job::{Job, Step};
 use route_json::ConfigFault;
 use route_names::op_of;

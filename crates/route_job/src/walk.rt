@@ -64,7 +64,12 @@ fn put_down(frames: &mut Vec<Frame>, frame: Option<Frame>) -> Result<(), AllocEr
 }
 
 // A tree is entered within the frames.
-fn go_in(hash: u32, ask: &SharedAsk, frames: &mut Vec<Frame>, tree: Tree) -> Result<Pending, AllocError>
+fn go_in(
+    hash: u32,
+    ask: &SharedAsk,
+    frames: &mut Vec<Frame>,
+    tree: Tree,
+) -> Result<Pending, AllocError>
     ensures leads { IfOk result (λ pending. (b : ℕ) → Leads hash ask.now.key b ask.now frames.old.items (Enter tree) frames.new.items pending) }
     ensures less { IfOk result (λ pending. frames_work hash ask.now.key frames.new.items + pending_work hash ask.now.key pending + 1 ≤ frames_work hash ask.now.key frames.old.items + pending_work hash ask.now.key (Enter tree)) }
 {
