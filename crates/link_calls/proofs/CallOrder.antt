@@ -1,5 +1,5 @@
 -- What an answer that was read says of the core's call.
-use Rattle.std.proofs.Common.{◌≡◌, ℕ, true, cond, List, [], ◌∷◌, Option, Some, None, refl, sym, ap, ◌∙◌, subst}
+use Rattle.std.proofs.Common.{◌≡◌, ℕ, true, false, cond, List, [], ◌∷◌, Option, Some, None, refl, sym, ap, ◌∙◌, subst}
 use Rattle.mc_types.specs.Asks.{IsAsk}
 use Rattle.mc_types.specs.Fits.{Fits}
 use Rattle.mc_types.specs.declared.ask.Ask.{Ask}
@@ -12,6 +12,7 @@ use Rattle.text_answers.specs.Laws.{SpelledAnswersFit}
 use Rattle.text_answers.specs.Reading.{Reads}
 use Rattle.text_answers.specs.declared.reader.AnswerRead.{AnswerRead}
 use Rattle.text_answers.specs.declared.reader.AnswerRead.TheVariants as reads
+use Rattle.meta_asks.specs.Form.{is_retrieval}
 use Rattle.meta_asks.specs.Reading.{ReadsInMeta}
 use Rattle.route_job.specs.Rest.{ask_under}
 use Rattle.commands_under_way.specs.declared.command.Command.{Command}
@@ -20,6 +21,7 @@ use Rattle.proxy_core.specs.CoreState.{has_call_out}
 use Rattle.proxy_core.specs.Settles.{FitsCall, asked, asked_by}
 use Rattle.link_calls.specs.declared.any_core.AnyCore.{AnyCore}
 use Rattle.link_calls.specs.Cores.{IsSettled}
+use Rattle.link_calls.specs.Dialects.{asked_in}
 use Rattle.link_calls.specs.declared.calls.SentCall.{SentCall}
 use Rattle.link_calls.specs.Calls.{IsReadFor, IsReadNext, first_asked, FitsFirst, SettlesFirst}
 
@@ -63,3 +65,7 @@ popped old new call core core' outcome e settled = subst (λ xs. SettlesFirst xs
 
 pub fits_popped : (old new : List SentCall) (call : SentCall) (core : Core) (outcome : Outcome) → old ≡ call ∷ new → FitsFirst old core outcome → FitsCall core call.ticket.number outcome
 fits_popped old new call core outcome e fits = subst (λ xs. FitsFirst xs core outcome) e fits
+
+-- what is no classic get is asked as it is
+pub asked_else : (ask : Ask) → is_retrieval ask ≡ false → asked_in Meta ask ≡ ask
+asked_else ask e = rw e refl

@@ -1,1 +1,2 @@
 pub mod CallOrder
+pub mod StoreLines

@@ -1,3 +1,4 @@
 pub mod Cores
 pub mod Dialects
 pub mod Calls
+pub mod Sending

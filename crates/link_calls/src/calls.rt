@@ -3,21 +3,25 @@
 ghost use Rattle.std.specs.Prelude.{◌≡◌, [], ◌∷◌, ◌++◌, ◌↔◌, IsTrue, OnOk, OnErr, IfOk, IfErr, length, option_map};
 ghost use Rattle.mc_types.specs.Asks.{IsAsk};
 ghost use Rattle.client_requests.specs.Spelling.{spelling_of};
+ghost use Rattle.send_buffer.specs.Sending.{bytes_of};
+ghost use Rattle.mc_types.specs.declared.ask.Dialect.TheVariants.{Meta};
 ghost use Rattle.link_calls.specs.Dialects.{asked_in};
 ghost use Rattle.link_calls.specs.Cores.{core_of, IsSettled};
 ghost use Rattle.link_calls.specs.Calls.{IsReadFor, IsReadNext, first_asked, FitsFirst, SettlesFirst, SettlesNext};
 ghost use Rattle.mc_types.specs.declared.call.Outcome.TheVariants.{Failed};
 
 use crate::any_core::AnyCore;
-use bytes::BytesMut;
+use crate::sending::send_ask;
 use client_asks::is_ask;
 use mc_types::{Ask, Dialect, Outcome};
+use meta_asks::form::is_retrieval;
 use meta_asks::{MetaForms, read_in_meta, write_in_meta};
 use proxy_core::Ticket;
-use std::alloc::{AllocError, AllocFailed, Global};
+use send_buffer::SendBuffer;
+use std::alloc::{AllocError, Global};
 use std::collections::VecDeque;
 use text_answers::laws::spelled_answers_fit;
-use text_codec::{AnswerRead, Received, read_received, write_ask};
+use text_codec::{AnswerRead, Received, read_received};
 
 /// A call that went out to a server.
 #[derive(Drop)]
@@ -58,21 +62,39 @@ pub fn fail_call(core: &mut AnyCore, ticket: Ticket)
     core.settle(ticket, Outcome::Failed);
 }
 
-// Writes what a server is asked in this dialect.
-fn write_in(
+// Appends what a server is asked that speaks the meta dialect.
+#[tactic(auto, using(crate::proofs::CallOrder::asked_else))]
+fn send_in_meta(
+    alloc: Global,
+    forms: &mut MetaForms,
+    ask: &Ask,
+    out: &mut SendBuffer,
+) -> Result<(), AllocError>
+    requires { IsAsk ask.now }
+    ensures ok { OnOk result (bytes_of out.new ≡ bytes_of out.old ++ spelling_of (asked_in Meta ask.now)) }
+    ensures err { OnErr result (bytes_of out.new ≡ bytes_of out.old) }
+{
+    if is_retrieval(ask) {
+        return write_in_meta(alloc, forms, ask, &mut out.text);
+    }
+    send_ask(ask, out)
+}
+
+// Appends what a server is asked in this dialect.
+fn send_in(
     dialect: Dialect,
     alloc: Global,
     forms: &mut MetaForms,
     ask: &Ask,
-    out: &mut BytesMut,
+    out: &mut SendBuffer,
 ) -> Result<(), AllocError>
     requires { IsAsk ask.now }
-    ensures ok { OnOk result (out.new.items ≡ out.old.items ++ spelling_of (asked_in dialect ask.now)) }
-    ensures err { OnErr result (out.new.items ≡ out.old.items) }
+    ensures ok { OnOk result (bytes_of out.new ≡ bytes_of out.old ++ spelling_of (asked_in dialect ask.now)) }
+    ensures err { OnErr result (bytes_of out.new ≡ bytes_of out.old) }
 {
     match dialect {
-        Dialect::Classic => write_ask(ask, out),
-        Dialect::Meta => write_in_meta(alloc, forms, ask, out),
+        Dialect::Classic => send_ask(ask, out),
+        Dialect::Meta => send_in_meta(alloc, forms, ask, out),
     }
 }
 
@@ -175,36 +197,32 @@ impl LinkCalls {
         }
     }
 
-    /// The call's ask is written in its dialect after what is to be sent, and the call is after those that are out.
+    /// The call's ask is appended in its dialect to what is to be sent, and the call is after those that are out. Large data of a store
+    /// aren't copied, as [`send_ask`] says.
     ///
     /// Where memory was refused the call is given back, and nothing has changed.
     ///
     /// Source: mcgate's own.
-    pub fn begin(&mut self, call: SentCall, out: &mut BytesMut) -> Result<(), SentCall>
-        ensures ok { OnOk result ((self.new.sent.items ≡ self.old.sent.items ++ call ∷ []) × (out.new.items ≡ out.old.items ++ spelling_of (asked_in call.dialect call.ticket.ask))) }
-        ensures err { IfErr result (λ given. (given ≡ call) × (self.new.sent.items ≡ self.old.sent.items) × (out.new.items ≡ out.old.items)) }
+    pub fn begin(&mut self, call: SentCall, out: &mut SendBuffer) -> Result<(), SentCall>
+        ensures ok { OnOk result ((self.new.sent.items ≡ self.old.sent.items ++ call ∷ []) × (bytes_of out.new ≡ bytes_of out.old ++ spelling_of (asked_in call.dialect call.ticket.ask))) }
+        ensures err { IfErr result (λ given. (given ≡ call) × (self.new.sent.items ≡ self.old.sent.items) × (bytes_of out.new ≡ bytes_of out.old)) }
     {
-        let len = out.len();
         let dialect = call.dialect;
-        if !is_ask(call.ticket.ask.get())
-            || write_in(
-                dialect,
-                self.alloc,
-                &mut self.forms,
-                call.ticket.ask.get(),
-                out,
-            )
-            .is_err()
-        {
+        if !is_ask(call.ticket.ask.get()) || self.sent.reserve(1).is_err() {
             return Err(call);
         }
-        match self.sent.push_back(call) {
-            Ok(()) => Ok(()),
-            Err(AllocFailed { value }) => {
-                out.truncate(len);
-                Err(value)
-            }
+        let sent = send_in(
+            dialect,
+            self.alloc,
+            &mut self.forms,
+            call.ticket.ask.get(),
+            out,
+        );
+        if sent.is_err() {
+            return Err(call);
         }
+        self.sent.push_back_reserved(call);
+        Ok(())
     }
 
     // The first call had this outcome: whose it was.

@@ -4,6 +4,8 @@
 
 mod any_core;
 mod calls;
+mod sending;
 
 pub use any_core::{AnyCore, LoadFault};
 pub use calls::{LinkCalls, Next, SentCall, fail_call};
+pub use sending::send_ask;

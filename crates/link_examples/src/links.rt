@@ -1,6 +1,5 @@
 //! Two gets of one client, whose calls are out at one server.
 
-use bytes::BytesMut;
 use example_tables::configs::with_configs;
 use example_tables::playing::{Stage, cut, first_line, plain, play_lines, shown};
 use fresh_core::FreshCore;
@@ -9,6 +8,7 @@ use link_calls::{AnyCore, LinkCalls, Next, SentCall};
 use mc_types::Dialect;
 use proxy_core::{Limits, Poll, Sharing, Ticket};
 use route_json::read_config;
+use send_buffer::SendBuffer;
 use std::alloc::Global;
 use std::test::Fail;
 use text_codec::Received;
@@ -69,7 +69,7 @@ struct Link {
     alloc: Global,
     core: AnyCore,
     calls: LinkCalls,
-    asked: BytesMut,
+    asked: SendBuffer,
 }
 
 fn make_link(alloc: Global) -> Result<Link, Fail> {
@@ -77,7 +77,7 @@ fn make_link(alloc: Global) -> Result<Link, Fail> {
         alloc,
         core: core(alloc)?,
         calls: LinkCalls::new(alloc),
-        asked: BytesMut::new(alloc),
+        asked: SendBuffer::new(alloc),
     };
     link.open()?;
     Ok(link)
@@ -193,7 +193,7 @@ impl Stage for Link {
     fn answer(&mut self, event: &str, _want: &str) -> Result<String, Fail> {
         let (verb, text) = cut(event);
         match verb {
-            "asked" => shown(self.alloc, self.asked.as_slice()),
+            "asked" => shown(self.alloc, self.asked.to_vec(self.alloc)?.as_slice()),
             "oldest" => number_text(self.alloc, "", self.calls.oldest()),
             "answer" => self.settle(text),
             "fail" => self.fail(),

@@ -1071,7 +1071,7 @@ impl ProxyEnd {
         let Some(conn) = link.conn.as_mut() else {
             return Some(call);
         };
-        match link.calls.begin(call, &mut conn.unsent.text) {
+        match link.calls.begin(call, &mut conn.unsent) {
             Ok(()) => None,
             Err(call) => Some(call),
         }
