@@ -3,10 +3,11 @@
 ghost use Rattle.std.specs.Prelude.{◌≡◌, IfOk};
 ghost use Rattle.route_tree.specs.Route as route;
 
+use crate::answering::FixedServers;
 use fresh_core::FreshCore;
 use fresh_gate::judge;
 use mc_types::{Ask, Dialect, Key, Op, Origin, Outcome, ServerId, SharedAsk, Tokens};
-use proxy_core::{Core, CoreFault, Limits, Poll, Sharing, Ticket};
+use proxy_core::{Core, CoreFault, Limits, Poll, ServedOne, Sharing, Ticket};
 use route_json::{Config, read_config};
 use route_tree::{Tree, TreeForm};
 use std::alloc::{AllocError, Global};
@@ -19,12 +20,13 @@ enum Played {
     Fresh(FreshCore),
 }
 
-/// A core, and the tickets that it gave out and that weren't handed back.
+/// A core, the tickets that it gave out and that weren't handed back, and servers that answer its calls at once.
 #[derive(Drop)]
 pub struct Stage {
     alloc: Global,
     core: Played,
     tickets: Vec<Ticket>,
+    servers: FixedServers,
 }
 
 // What is told of an event: a word or two, and a number after them if there is one.
@@ -84,6 +86,24 @@ fn polled(poll: &Poll) -> Told {
     }
 }
 
+fn served(told: &ServedOne) -> Told {
+    match told {
+        ServedOne::Idle => word("idle"),
+        ServedOne::Own => word("own"),
+        ServedOne::Refused => word("refused"),
+        ServedOne::Did(note) => number("did ", note.number),
+        ServedOne::Waits => word("waits"),
+    }
+}
+
+// What these servers make of a core's client.
+fn serve_bare(core: &mut Core, client: usize, servers: &mut FixedServers) -> Told {
+    match core.serve_one(client, servers) {
+        Ok(told) => served(&told),
+        Err(fault) => word(words_of(fault)),
+    }
+}
+
 impl Played {
     fn open(&mut self) -> Result<usize, CoreFault> {
         match self {
@@ -103,6 +123,13 @@ impl Played {
         match self {
             Played::Bare(core) => core.poll(client),
             Played::Fresh(core) => core.poll(client),
+        }
+    }
+
+    fn serve(&mut self, client: usize, servers: &mut FixedServers) -> Result<Told, Fail> {
+        match self {
+            Played::Bare(core) => Ok(serve_bare(core, client, servers)),
+            Played::Fresh(_) => Err("a core with a gate is served in steps")?,
         }
     }
 
@@ -286,6 +313,7 @@ impl Stage {
             alloc,
             core: core(alloc, text)?,
             tickets: Vec::new(alloc),
+            servers: FixedServers::new(alloc),
         })
     }
 
@@ -369,6 +397,12 @@ impl Stage {
         Ok(number("", self.core.reload(self.alloc, text)? as u64))
     }
 
+    // Each call of the servers fails from now on.
+    fn take_down(&mut self) -> Told {
+        self.servers.are_down = true;
+        word("ok")
+    }
+
     fn close(&mut self, client: usize) -> Told {
         done(self.core.close(client))
     }
@@ -381,6 +415,7 @@ impl Stage {
             "feed" => Ok(self.feed(client, text)?),
             "fill" => Ok(self.fill(client)?),
             "poll" => self.poll(client),
+            "serve" => self.core.serve(client, &mut self.servers),
             "fail" => self.fail(about),
             "forge" => self.forge(about),
             "close" => Ok(self.close(client)),
@@ -394,6 +429,8 @@ impl Stage {
         match (verb, rest) {
             ("open", "") => Ok(self.open()),
             ("out", "") => Ok(yes_or_no(self.core.is_out())),
+            ("calls", "") => Ok(number("", self.servers.calls)),
+            ("servers", "down") => Ok(self.take_down()),
             ("reload", text) => self.reload(text),
             _ => {
                 let (about, text) = cut(rest);
