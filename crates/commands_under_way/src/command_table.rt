@@ -156,20 +156,13 @@ impl CommandTable {
         self.spares.take_job()
     }
 
-    /// An ask that is let go is kept, where few data are in it and not many are kept, until nobody else holds it.
-    pub fn keep_ask(&mut self, ask: &SharedAsk)
-        ensures { self.new ≡ self.old }
-    {
-        self.spares.keep_ask(ask);
-    }
-
     /// How the command of this ask and this job ended, which isn't among these any more. Their memory is kept for others.
     pub fn end(&mut self, alloc: Global, ask: &SharedAsk, job: HeldJob) -> Done
         requires { IsDone job }
         ensures done { (calls : List CallMade) (given : Given) → Comes job calls given ↔ ((calls ≡ []) × (given ≡ given_of result)) }
         ensures same { self.new ≡ self.old }
     {
-        self.keep_ask(ask);
+        self.spares.keep_ask(ask);
         self.spares.end_job(alloc, job)
     }
 

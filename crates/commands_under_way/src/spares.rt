@@ -10,7 +10,6 @@ use crate::held_job::HeldJob;
 use mc_types::{Ask, Dialect, Key, Op, SharedAsk, Tokens};
 use route_job::Done;
 use std::alloc::Global;
-use std::collections::VecDeque;
 
 // So many asks and so many jobs are kept at most: more than are under way together for a while.
 const SPARES: usize = 256;
@@ -21,7 +20,7 @@ const SPARE_DATA: usize = 4_096;
 /// Asks and jobs of commands that ended, whose memory is used again.
 #[derive(Drop)]
 pub struct Spares {
-    asks: VecDeque<SharedAsk>,
+    asks: Vec<SharedAsk>,
     jobs: Vec<HeldJob>,
     // What a job that is kept holds in place of its ask.
     blank: Option<SharedAsk>,
@@ -50,15 +49,15 @@ impl Spares {
     /// None. It takes no memory.
     pub fn new(alloc: Global) -> Spares {
         Spares {
-            asks: VecDeque::new(alloc),
+            asks: Vec::new(alloc),
             jobs: Vec::new(alloc),
             blank: None,
         }
     }
 
-    /// The ask that was kept first, if one is kept: others may hold it still. It takes no memory.
+    /// The ask that was kept last, if one is kept: others may hold it still. It takes no memory.
     pub fn take_ask(&mut self) -> Option<SharedAsk> {
-        self.asks.pop_front()
+        self.asks.pop()
     }
 
     /// A job's room, if one is kept. It takes no memory.
@@ -72,7 +71,7 @@ impl Spares {
             return;
         }
         if let Some(ask) = copy_of(ask) {
-            if let Err(refused) = self.asks.push_back(ask) {
+            if let Err(refused) = self.asks.push(ask) {
                 drop_ask(refused.value);
             }
         }

@@ -203,14 +203,6 @@ impl Core {
         }
     }
 
-    // An ask that doesn't begin now is let go, and its memory kept.
-    fn let_go(&mut self, ask: SharedAsk)
-        ensures { self.new ≡ self.old }
-    {
-        self.commands.keep_ask(&ask);
-        drop_ask(ask);
-    }
-
     // The ask of the next key of the request at the client's front.
     fn next_ask(&mut self, client: usize, request: &Request) -> Result<SharedAsk, CoreFault>
         requires { ForClient self.old client (CanAsk request.now) }
@@ -256,7 +248,7 @@ impl Core {
         ensures err { IfErr result (λ fault. ReadFault self.old client fault self.new) }
     {
         let joined = self.lines.join(client, ask.key(), claim);
-        self.let_go(ask);
+        drop_ask(ask);
         match joined {
             Ok(true) => Ok(Poll::Queued),
             Ok(false) => Ok(Poll::Busy),
@@ -279,7 +271,7 @@ impl Core {
         ensures err { IfErr result (λ fault. ReadFault self.old client fault self.new) }
     {
         if self.has_own(client, ask.key()) {
-            self.let_go(ask);
+            drop_ask(ask);
             return Ok(Poll::Busy);
         }
         let claim = Claim::of(self.limits.sharing, ask.get(), &self.tree);

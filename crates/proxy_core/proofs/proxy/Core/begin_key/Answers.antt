@@ -1,5 +1,9 @@
+use Rattle.std.proofs.Common.{◌×◌, sym, subst, OnOk, IfErr}
+use Rattle.commands_under_way.specs.Counts.{ByNumber}
 use Rattle.core_client.specs.Nexts.{CanBegin}
-use Rattle.proxy_core.specs.Polls.{IsServed}
+use Rattle.proxy_core.specs.declared.proxy.Core.{Core}
+use Rattle.proxy_core.specs.CoreState.{GoesBy}
+use Rattle.proxy_core.specs.Polls.{BeginsAt, ForClient, IsNothing, IsServed, StopsFirst}
 use Rattle.proxy_core.proofs.Chains.{goes_nowhere}
 use Rattle.proxy_core.proofs.Polls.{for_map}
 use Rattle.proxy_core.proofs.proxy.Core.begin_key.Goals as goal
@@ -7,4 +11,15 @@ use Rattle.proxy_core.proofs.proxy.Core.begin_key.Goals as goal
 pub returns-in-Err-clause-err : goal.returns-in-Err-clause-err
 returns-in-Err-clause-err c =
     let old = c.args.self.now in
+    subst (λ (t : ByNumber). GoesBy old IsNothing (record old { commands = t }) × ForClient (record old { commands = t }) c.args.client IsServed) (sym c.take_room-room.ensures)
     (goes_nowhere old, for_map old c.args.client (CanBegin c.args.request.now c.args.ask) IsServed (λ x can. can.served) c.requires.key)
+
+pub returns-in-Ok-clause-ok : goal.returns-in-Ok-clause-ok
+returns-in-Ok-clause-ok c =
+    let old = c.args.self.now in
+    subst (λ (t : ByNumber). OnOk c.begin_command.result (BeginsAt (record old { commands = t }) c.args.client c.args.ask c.begin_command.new.self)) c.take_room-room.ensures c.begin_command.ensures.ok
+
+pub returns-in-Ok-clause-err : goal.returns-in-Ok-clause-err
+returns-in-Ok-clause-err c =
+    let old = c.args.self.now in
+    subst (λ (t : ByNumber). IfErr c.begin_command.result (λ fault. StopsFirst c.args.client (record old { commands = t }) fault c.begin_command.new.self)) c.take_room-room.ensures c.begin_command.ensures.err

@@ -1,4 +1,6 @@
-use Rattle.std.proofs.Common.{MatchOption, sym, refl, ◌∙◌, subst}
+use Rattle.std.proofs.Common.{MatchOption, sym, refl, ap, ◌∙◌, subst, nat_eq}
+use Rattle.indexmap.specs.IndexMap.{get}
+use Rattle.commands_under_way.specs.Counts.{ByNumber}
 use Rattle.route_job.specs.Given.{given_of}
 use Rattle.proxy_core.specs.Polls.{IsServed}
 use Rattle.proxy_core.proofs.Clients.{written}
@@ -20,7 +22,7 @@ returns-clause-ended c = λ beside fits.
     ended_goes old _ c.args.client c.args.number x y can p.0 p.1 (given_of c.done_of-ask.result.1) c.done_of-ask.result.0 c.note_of-note.result.0 c.note_of-note.result.1
     was t.is t.others served
     c.done_of-ask.ensures.done c.done_of-ask.ensures.ask c.note_of-note.ensures p.2
-    c.remove.ensures.gone refl refl refl beside fits
+    (λ n. ap (λ (t : ByNumber). get nat_eq t n) c.done_of-ask.ensures.same ∙ c.remove.ensures.gone n) refl refl refl beside fits
 
 pub returns-clause-served : goal.returns-clause-served
 returns-clause-served c =
