@@ -8,5 +8,7 @@ mod mix;
 mod passes;
 mod small;
 
+pub use counts::one_more;
 pub use measure::print_measures;
+pub use passes::after_request;
 pub use small::print_counts;

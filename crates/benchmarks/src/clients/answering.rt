@@ -5,9 +5,14 @@ ghost use Rattle.mc_types.specs.Fits.{Fits};
 ghost use Rattle.proxy_core.specs.Settles.{FitsCall};
 
 use mc_types::{Answer, Ask, Dialect, Op, Outcome};
-use proxy_core::Core;
+use proxy_core::{Core, OutCall, Servers};
 
-fn answer_to(ask: &Ask) -> Answer
+/// Servers that hold nothing, and keep nothing that they are sent.
+#[derive(Clone, Copy)]
+pub struct EmptyServers {}
+
+/// What such a server answers.
+pub fn answer_to(ask: &Ask) -> Answer
     ensures { Fits ask.now result }
 {
     let Dialect::Classic = ask.dialect else {
@@ -29,5 +34,11 @@ pub fn outcome_of(core: &Core, number: u64) -> Option<Outcome>
     match core.asked(number) {
         None => None,
         Some(ask) => Some(Outcome::Answered(answer_to(ask))),
+    }
+}
+
+impl Servers for EmptyServers {
+    fn answer(&mut self, call: OutCall<'_>) -> Outcome {
+        Outcome::Answered(answer_to(call.ask))
     }
 }

@@ -1,6 +1,7 @@
 //! What a few commands come to.
 
-use crate::clients::driving::{Counts, Drive, Stop};
+use crate::clients::codec_alone::CodecAlone;
+use crate::clients::driving::{Counts, Drive, Rounds, Stop};
 use crate::clients::saying::{Keys, Load};
 use std::alloc::Global;
 use std::io;
@@ -44,12 +45,20 @@ pub const LOADS: [Load; 7] = [
     },
 ];
 
-fn counts_of(alloc: Global, load: Load, rounds: u64) -> Result<Counts, Stop> {
+fn after_two_rounds<D: Rounds>(driven: &mut D) -> Result<Counts, Stop> {
+    driven.round()?;
+    driven.round()?;
+    Ok(driven.counts())
+}
+
+fn counts_of(alloc: Global, load: Load) -> Result<Counts, Stop> {
     let mut drive = Drive::new(alloc, load)?;
-    for _ in 0..rounds {
-        drive.round()?;
-    }
-    Ok(drive.counts())
+    after_two_rounds(&mut drive)
+}
+
+fn counts_alone(alloc: Global, load: Load) -> Result<Counts, Stop> {
+    let mut codec = CodecAlone::new(alloc, load)?;
+    after_two_rounds(&mut codec)
 }
 
 fn print_count<R: AllocGlobal + Print>(rt: &R, load: Load) -> io::Result<()> {
@@ -59,7 +68,7 @@ fn print_count<R: AllocGlobal + Print>(rt: &R, load: Load) -> io::Result<()> {
         keys,
     } = load;
     let keys = keys.words();
-    match counts_of(rt.alloc(), load, 2) {
+    match counts_of(rt.alloc(), load) {
         Ok(Counts { commands, bytes }) => {
             println!(rt;
                 "{clients} clients, {depth} commands of each{keys}: {commands} ended, {bytes} bytes"
@@ -71,10 +80,20 @@ fn print_count<R: AllocGlobal + Print>(rt: &R, load: Load) -> io::Result<()> {
     }
 }
 
-/// Prints what two rounds of each load come to.
+fn print_count_alone<R: AllocGlobal + Print>(rt: &R, load: Load) -> io::Result<()> {
+    match counts_alone(rt.alloc(), load) {
+        Ok(Counts { commands, bytes }) => {
+            println!(rt; "the codec alone: {commands} answered, {bytes} bytes")
+        }
+        Err(Stop::Failed) => println!(rt; "the codec alone: failed"),
+    }
+}
+
+/// Prints what two rounds of each load come to, and what the codec alone makes of the same.
 pub fn print_counts<R: AllocGlobal + Print>(rt: &R) -> io::Result<()> {
     for load in LOADS.iter() {
         print_count(rt, *load)?;
+        print_count_alone(rt, *load)?;
     }
     Ok(())
 }

@@ -1,10 +1,10 @@
 //! Clients of a core whose calls are answered at once.
 
-use crate::clients::answering::outcome_of;
+use crate::clients::answering::{EmptyServers, outcome_of};
 use crate::clients::saying::{Load, pieces_of};
 use crate::jobs::pool;
 use bytes::BytesMut;
-use proxy_core::{Core, CoreFault, Limits, Poll, Sharing, Ticket};
+use proxy_core::{Core, CoreFault, Limits, Poll, ServedOne, Sharing, Ticket};
 use std::alloc::{AllocError, AllocFailed, Global};
 use std::collections::VecDeque;
 
@@ -42,6 +42,30 @@ pub struct Counts {
     pub bytes: u64,
 }
 
+impl Counts {
+    /// Nothing yet.
+    pub fn new() -> Counts {
+        Counts {
+            commands: 0,
+            bytes: 0,
+        }
+    }
+
+    /// So many commands ended, and so many bytes were given.
+    pub fn add(&mut self, commands: u64, bytes: usize) {
+        self.commands = self.commands.saturating_add(commands);
+        self.bytes = self.bytes.saturating_add(as_count(bytes));
+    }
+}
+
+/// What is driven in rounds: each client says its commands, and is given all replies.
+pub trait Rounds {
+    fn round(&mut self) -> Result<(), Stop>;
+
+    /// What all rounds so far came to.
+    fn counts(&self) -> Counts;
+}
+
 /// A core, and the calls that are out, the first of them in front.
 #[derive(Drop)]
 pub struct Drive {
@@ -49,6 +73,8 @@ pub struct Drive {
     calls: VecDeque<Ticket>,
     pieces: Vec<BytesMut>,
     counts: Counts,
+    /// Whether there is one client with one command, whose calls are answered as they come.
+    is_alone: bool,
 }
 
 /// How many calls may be out at a server, as the proxy has it.
@@ -57,7 +83,8 @@ const WINDOW: usize = 256;
 /// More polls than a client has in a row.
 const POLLS: u64 = 1_000_000;
 
-fn as_count(bytes: usize) -> u64 {
+/// A number of bytes, or of something else that there is memory for.
+pub fn as_count(bytes: usize) -> u64 {
     u64::try_from(bytes).unwrap_or(u64::MAX)
 }
 
@@ -79,10 +106,8 @@ impl Drive {
             core,
             calls: VecDeque::new(alloc),
             pieces: pieces_of(alloc, load)?,
-            counts: Counts {
-                commands: 0,
-                bytes: 0,
-            },
+            counts: Counts::new(),
+            is_alone: load.clients == 1 && load.depth == 1,
         })
     }
 
@@ -94,7 +119,7 @@ impl Drive {
                 Ok(true)
             }
             Poll::Did(_) => {
-                self.counts.commands = self.counts.commands.saturating_add(1);
+                self.counts.add(1, 0);
                 Ok(true)
             }
             Poll::Own | Poll::Refused => Ok(true),
@@ -143,14 +168,13 @@ impl Drive {
     fn take_all(&mut self) -> Result<(), Stop> {
         for client in 0..self.pieces.len() {
             let bytes = self.core.take_output(client)?;
-            self.counts.bytes = self.counts.bytes.saturating_add(as_count(bytes.len()));
+            self.counts.add(0, bytes.len());
         }
         Ok(())
     }
 
-    /// Each client says its commands, and is given all replies.
-    pub fn round(&mut self) -> Result<(), Stop> {
-        self.feed_all()?;
+    // All calls are answered, and all that can be done for clients is done, until no call is out.
+    fn settle_all(&mut self) -> Result<(), Stop> {
         self.poll_all()?;
         for _ in 0..POLLS {
             if self.calls.is_empty() {
@@ -159,11 +183,44 @@ impl Drive {
             self.answer_all()?;
             self.poll_all()?;
         }
+        Ok(())
+    }
+
+    // The next message or key of the first client is done: whether there may be more to do for it.
+    fn serve_once(&mut self) -> Result<bool, Stop> {
+        match self.core.serve_one(0, &mut EmptyServers {})? {
+            ServedOne::Did(_) => {
+                self.counts.add(1, 0);
+                Ok(true)
+            }
+            ServedOne::Own | ServedOne::Refused => Ok(true),
+            ServedOne::Idle | ServedOne::Waits => Ok(false),
+        }
+    }
+
+    // All that can be done for the first client.
+    fn serve_first(&mut self) -> Result<(), Stop> {
+        for _ in 0..POLLS {
+            if !self.serve_once()? {
+                break;
+            }
+        }
+        Ok(())
+    }
+}
+
+impl Rounds for Drive {
+    fn round(&mut self) -> Result<(), Stop> {
+        self.feed_all()?;
+        if self.is_alone {
+            self.serve_first()?;
+        } else {
+            self.settle_all()?;
+        }
         self.take_all()
     }
 
-    /// What all rounds so far came to.
-    pub fn counts(&self) -> Counts {
+    fn counts(&self) -> Counts {
         self.counts
     }
 }

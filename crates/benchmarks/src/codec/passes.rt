@@ -52,7 +52,8 @@ fn after_refused(bytes: &[u8], why: RefusalReason, used: usize, skip: Skip) -> &
     passed(&bytes[used..], skip)
 }
 
-fn after_request<'a>(bytes: &'a [u8], request: &Request) -> &'a [u8]
+/// What stands after the request that was read at the front.
+pub fn after_request<'a>(bytes: &'a [u8], request: &Request) -> &'a [u8]
     requires { IsReadFrom bytes.now request.now }
 {
     &bytes[request.used()..]
