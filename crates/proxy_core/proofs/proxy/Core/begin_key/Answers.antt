@@ -1,4 +1,4 @@
-use Rattle.std.proofs.Common.{◌×◌, sym, subst, OnOk, IfErr}
+use Rattle.std.proofs.Common.{sym, subst, OnOk, IfErr}
 use Rattle.commands_under_way.specs.Counts.{ByNumber}
 use Rattle.core_client.specs.Nexts.{CanBegin}
 use Rattle.proxy_core.specs.declared.proxy.Core.{Core}
