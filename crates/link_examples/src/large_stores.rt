@@ -26,12 +26,7 @@ fn first_ask(alloc: Global, bytes: &[u8]) -> Result<Option<Ask>, AllocError>
     ensures { IfOk result (λ ask. IfSome ask IsAsk) }
 {
     match read_request(bytes) {
-        Read::Request(request) => {
-            if request.asks() == 0 {
-                return Ok(None);
-            }
-            Ok(Some(request.ask(alloc, bytes, 0)?))
-        }
+        Read::Request(request) => request.walk().next(alloc, bytes),
         _ => Ok(None),
     }
 }
