@@ -11,11 +11,11 @@ use mc_types::{Ask, Dialect, Key, Op, SharedAsk, Tokens};
 use route_job::Done;
 use std::alloc::Global;
 
-// So many asks and so many jobs are kept at most: more than are under way together for a while.
-const SPARES: usize = 256;
+// So many asks and so many jobs are kept at most: more than 64 clients have with 16 commands each, which may end together.
+const SPARES: usize = 2_048;
 
 // An ask with more data isn't kept.
-const SPARE_DATA: usize = 4_096;
+const SPARE_DATA: usize = 512;
 
 /// Asks and jobs of commands that ended, whose memory is used again.
 #[derive(Drop)]
