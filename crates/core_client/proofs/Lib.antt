@@ -1,3 +1,4 @@
+pub mod AtOnce
 pub mod Fronts
 pub mod Places
 pub mod Resting

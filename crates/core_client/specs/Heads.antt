@@ -1,10 +1,12 @@
 -- What stands at the head of a client's commands, and what is changed of one client where it is shown. Source: mcgate's own.
-use Rattle.std.specs.Prelude.{◌≡◌, ℕ, Bool, true, false, List, [], ◌∷◌, ◌++◌, Some, None}
+use Rattle.std.specs.Prelude.{◌≡◌, ℕ, Bool, true, false, List, [], ◌∷◌, ◌++◌, Some, None, if◌then◌else◌, nat_eq}
 use Rattle.send_buffer.specs.Sending.{bytes_of}
 use Rattle.mc_types.specs.declared.answer.Answer.{Answer}
 use Rattle.text_codec.specs.Replies.{shown_text}
 use Rattle.core_client.specs.declared.client.Client.{Client}
 use Rattle.core_client.specs.declared.client.Pending.{Pending}
+use Rattle.core_client.specs.declared.replying.Place.{Place}
+use Rattle.core_client.specs.Replying.{Answers, IsPlace}
 
 -- whether it has a reply, and the output after it
 abbrev pub WritesReply : Pending → List ℕ → Bool → List ℕ → Type 0
@@ -33,3 +35,25 @@ HasNoReply (pending ∷ rest) = pending.reply ≡ None
 abbrev pub ShowsOne : Client → Bool → Client → Type 0
 ShowsOne x true y = (pending : Pending) × (reply : Answer) × ShowsHead x pending reply y
 ShowsOne x false y = HasNoReply x.queue.items × (y ≡ x)
+
+-- it is of this number, and asks the last key of its message
+abbrev pub is_next_of : ℕ → Pending → Bool
+is_next_of number pending = if nat_eq pending.number number then pending.last else false
+
+-- the command at the head is of this number, and asks the last key of its message
+abbrev pub is_next_reply : ℕ → List Pending → Bool
+is_next_reply number [] = false
+is_next_reply number (pending ∷ rest) = is_next_of number pending
+
+-- this reply came to the command of this number, and then the head of the client's commands was shown
+pub record AnswersHead (x : Client) (number : ℕ) (reply : Answer) (y : Client) : Type 0 where
+  pub between : Client
+  pub place : Place
+  pub is : IsPlace x number place
+  pub answers : Answers x place.at is.pending.last reply between
+  pub shows : ShowsOne between true y
+
+-- whether that happened; nothing else does
+abbrev pub ShowsAtOnce : Client → ℕ → Answer → Bool → Client → Type 0
+ShowsAtOnce x number reply true y = AnswersHead x number reply y
+ShowsAtOnce x number reply false y = y ≡ x

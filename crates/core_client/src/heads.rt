@@ -32,8 +32,8 @@ fn write_reply(pending: &Pending, output: &mut SendBuffer) -> Result<bool, Alloc
     }
 }
 
-// A drop that is a call keeps the proof of a caller short.
-fn take_head(queue: &mut VecDeque<Pending>)
+// The head is let go. A drop that is a call keeps the proof of a caller short.
+pub(crate) fn take_head(queue: &mut VecDeque<Pending>)
     ensures { queue.new.items ≡ drop 1 queue.old.items }
 {
     queue.pop_front();

@@ -2,6 +2,7 @@
 #![tactic(auto)]
 
 pub mod answering;
+pub mod at_once;
 pub mod client;
 pub mod heads;
 pub mod nexts;

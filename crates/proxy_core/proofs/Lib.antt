@@ -5,6 +5,7 @@ pub mod Commands
 pub mod Clients
 pub mod Polls
 pub mod Chains
+pub mod Finishing
 pub mod Reloading
 pub mod Passing
 pub mod Ending

@@ -1,7 +1,7 @@
 -- What is done for a client is a step of the core.
 use Rattle.std.proofs.Common.{◌≡◌, ◌↔◌, ℕ, ◌+◌, ◌<◌, Bool, true, false, cond, if◌then◌else◌, List, [], ◌∷◌, ◌++◌, length, length-append, arith, inl, inr, Option, Some, None, option_map, MatchOption, refl, sym, ap, ◌∙◌, subst, nat_eq}
 use Rattle.std.proofs.lemmas.Bool.{eqb-true, eq-eqb}
-use Rattle.std.proofs.lemmas.List.{map-append}
+use Rattle.std.proofs.lemmas.List.{append_assoc, map-append}
 use Rattle.std.specs.Prelude.{IsTrue, Result, Ok, Err, OnOk, OnErr, IfOk, IfErr, is_err}
 use Rattle.send_buffer.specs.Sending.{bytes_of}
 use Rattle.mc_types.specs.Asks.{IsAsk}
@@ -320,13 +320,42 @@ show_stops old mid new client faults.UnderWay a b = absurd b
 show_stops old mid new client faults.NoTicket a b = absurd b
 show_stops old mid new client faults.Spent a b = absurd b
 
--- a command ended, and replies were shown
-pub finish_goes : (old mid new : Core) (client : ℕ) (note : Note) → GoesBy old (IsEnded client note) mid → GoesBy mid (AreShown client) new → IsShown new client → StandsStill old new → Acts old client (polls.Did note) new
-finish_goes old mid new client note a b shown still = record { goes = goes_then old mid new (IsEnded client note) (AreShown client) a b; why = shown; still = still }
+append_nil : (entries : List (Entry dialect)) → entries ≡ entries ++ []
+append_nil [] = refl
+append_nil (x ∷ entries) = ap (λ l. x ∷ l) (append_nil entries)
 
-pub finish_stops : (old mid new : Core) (client : ℕ) (note : Note) (fault : CoreFault) → GoesBy old (IsEnded client note) mid → StopsAfter client (AreShown client) mid fault new → StopsAfter client (SoEnded client) old fault new
+-- a command ended and replies were shown, and after that some more
+shown_after : (client : ℕ) (note : Note) (entries : List (Entry dialect)) → Then (Then (IsEnded client note) (AreShown client)) (AreShown client) entries → Then (IsEnded client note) (AreShown client) entries
+shown_after client note entries h =
+    let before = h.2 in
+    let first : List (Entry dialect) = before.0 in
+    let second : List (Entry dialect) = before.1 in
+    let third : List (Entry dialect) = h.1 in (
+      first,
+      third ++ second,
+      before.2,
+      shown_more client (third ++ second) (second, third, before.3, h.3, refl),
+      h.4 ∙ ap (λ l. third ++ l) before.4 ∙ sym (append_assoc third second first),
+    )
+
+ended_on : (old mid new : Core) (client : ℕ) (note : Note) → GoesBy old (Then (IsEnded client note) (AreShown client)) mid → GoesBy mid (AreShown client) new → GoesBy old (Then (IsEnded client note) (AreShown client)) new
+ended_on old mid new client note a b =
+    goes_as old new (Then (Then (IsEnded client note) (AreShown client)) (AreShown client)) (Then (IsEnded client note) (AreShown client)) (shown_after client note) (goes_then old mid new (Then (IsEnded client note) (AreShown client)) (AreShown client) a b)
+
+-- a command ended after nothing, and nothing was shown
+pub ended_unshown : (old mid new : Core) (client : ℕ) (note : Note) → GoesBy old IsNothing mid → GoesBy mid (IsEnded client note) new → GoesBy old (Then (IsEnded client note) (AreShown client)) new
+ended_unshown old mid new client note a b =
+    goes_as old new (Then IsNothing (IsEnded client note)) (Then (IsEnded client note) (AreShown client))
+    (λ entries h. (h.1, [], h.3, ([], refl), h.4 ∙ ap (λ l. h.1 ++ l) h.2 ∙ sym (append_nil h.1)))
+    (goes_then old mid new IsNothing (IsEnded client note) a b)
+
+-- a command ended, and replies were shown
+pub finish_goes : (old mid new : Core) (client : ℕ) (note : Note) → GoesBy old (Then (IsEnded client note) (AreShown client)) mid → GoesBy mid (AreShown client) new → IsShown new client → StandsStill old new → Acts old client (polls.Did note) new
+finish_goes old mid new client note a b shown still = record { goes = ended_on old mid new client note a b; why = shown; still = still }
+
+pub finish_stops : (old mid new : Core) (client : ℕ) (note : Note) (fault : CoreFault) → GoesBy old (Then (IsEnded client note) (AreShown client)) mid → StopsAfter client (AreShown client) mid fault new → StopsAfter client (SoEnded client) old fault new
 finish_stops old mid new client note faults.NoMemory a b =
-    (goes_as old new (Then (IsEnded client note) (AreShown client)) (SoEnded client) (λ entries h. (h.0, h.1, inr (note, h.2), h.3, h.4)) (goes_then old mid new (IsEnded client note) (AreShown client) a b.0), b.1)
+    (goes_as old new (Then (IsEnded client note) (AreShown client)) (SoEnded client) (λ entries h. (h.0, h.1, inr (note, h.2), h.3, h.4)) (ended_on old mid new client note a b.0), b.1)
 finish_stops old mid new client note faults.TooManyClients a b = absurd b
 finish_stops old mid new client note faults.NoClient a b = absurd b
 finish_stops old mid new client note faults.InputFull a b = absurd b
@@ -336,10 +365,6 @@ finish_stops old mid new client note faults.Spent a b = absurd b
 
 ended_nothing : (client : ℕ) (entries : List (Entry dialect)) → IsNothing entries → SoEnded client entries
 ended_nothing client entries e = ([], [], inl refl, ([], refl), e)
-
-append_nil : (entries : List (Entry dialect)) → entries ≡ entries ++ []
-append_nil [] = refl
-append_nil (x ∷ entries) = ap (λ l. x ∷ l) (append_nil entries)
 
 -- a command ended so far
 pub ended_stops : (old new : Core) (client : ℕ) (fault : CoreFault) → StopsAfter client (SoEnded client) old fault new → line.others client new.lines ≡ line.others client old.lines → ReadFault old client fault new

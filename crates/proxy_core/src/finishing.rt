@@ -1,19 +1,57 @@
 //! A command ends, and replies are shown.
 
-ghost use Rattle.std.specs.Prelude.{◌≡◌, ◌↔◌, [], IsTrue, None, false, OnOk, IfOk, IfErr, MatchBool};
+ghost use Rattle.std.specs.Prelude.{◌≡◌, ◌↔◌, [], IsTrue, None, false, OnOk, IfOk, IfErr, IfSome, IfNone, MatchBool};
 ghost use Rattle.route_job.specs.Given.{given_of};
 ghost use Rattle.route_job.specs.Jobs.{Comes, IsDone};
 ghost use Rattle.proxy_core.specs.CoreState.{GoesBy};
-ghost use Rattle.proxy_core.specs.Polls.{ForClient, IsServed, IsEnded, AreShown, IsShown, ShowsNext, StandsStill, StopsFirst, StopsAfter};
-ghost use Rattle.proxy_core.specs.Finishing.{CanEnd, IsNote};
+ghost use Rattle.proxy_core.specs.Polls.{ForClient, IsServed, IsEnded, AreShown, IsShown, IsNothing, Then, ShowsNext, StandsStill, StopsFirst, StopsAfter};
+ghost use Rattle.proxy_core.specs.Finishing.{CanEnd, IsNote, ShowsDone, TakesAway};
+ghost use Rattle.core_client.specs.Fronts.{Stays};
+ghost use Rattle.mc_types.specs.Acknowledged.{Acknowledges};
 
 use crate::fault::CoreFault;
 use crate::note::Note;
 use crate::proxy::Core;
 use commands_under_way::{Command, CommandTable};
-use mc_types::{Answer, SharedAsk};
-use route_job::Done;
+use core_client::Client;
+use mc_types::{Answer, Ask, SharedAsk};
+use route_job::{Done, Step};
 use std::alloc::Global;
+
+/// What is told of a command that ended, beside its ask.
+#[derive(Clone, Copy)]
+pub struct Told {
+    pub from: Option<u64>,
+    pub acknowledged: bool,
+}
+
+// What is told of a command of this ask that ended so.
+fn told_of(ask: &Ask, done: &Done) -> Told
+    ensures from { result.from ≡ (given_of done.now).from }
+    ensures acknowledged { IsTrue result.acknowledged ↔ Acknowledges ask.now (given_of done.now).reply }
+{
+    Told {
+        from: done.from,
+        acknowledged: done.reply.acknowledges(ask),
+    }
+}
+
+// The reply of a command of the client whose job is done is shown at once, where nothing stands before it: what is told of the command
+// then. Else, and where memory is refused, nothing has changed.
+fn show_done(number: u64, command: &Command, client: &mut Client) -> Option<Told>
+    requires done { IsDone command.now.job }
+    requires served { client.old.dropped ≡ false }
+    ensures some { IfSome result (λ told. ShowsDone number command.now client.old told client.new) }
+    ensures none { IfNone result (Stays client.old client.new) }
+{
+    match command.job.next() {
+        Step::Call { .. } => unreachable!(),
+        Step::Done(done) => match client.show_at_once(number, &done.reply) {
+            Ok(true) => Some(told_of(command.ask.get(), done)),
+            _ => None,
+        },
+    }
+}
 
 // How a command ended whose job is done, which isn't among the commands any more. Its memory is kept for others.
 fn done_of(alloc: Global, command: Command, commands: &mut CommandTable) -> (SharedAsk, Done)
@@ -49,8 +87,21 @@ fn note_of(number: u64, ask: SharedAsk, done: Done) -> (Note, Answer)
 }
 
 impl Core {
-    // A command of the client whose job is done has its reply.
-    pub(crate) fn end(&mut self, client: usize, number: u64) -> Note
+    // A command is taken out whose reply was shown: its ask. Its memory is kept for others.
+    fn take_away(&mut self, number: u64) -> SharedAsk
+        requires done { CanEnd self.old client number }
+        ensures { TakesAway self.old number result self.new }
+    {
+        let Some(command) = self.commands.remove(number) else {
+            unreachable!();
+        };
+        let Command { job, ask, .. } = command;
+        self.commands.keep(self.alloc, &ask, job);
+        ask
+    }
+
+    // A command of the client whose job is done has its reply, which isn't shown yet.
+    fn end_unshown(&mut self, client: usize, number: u64) -> Note
         requires served { ForClient self.old client IsServed }
         requires done { CanEnd self.old client number }
         ensures ended { GoesBy self.old (IsEnded client result) self.new }
@@ -67,6 +118,46 @@ impl Core {
             Some(x) => x.take_reply(number, reply),
         }
         note
+    }
+
+    // The reply of a command of the client whose job is done is shown at once, where nothing stands before it, and the command is over:
+    // what is told of it. Else nothing has changed.
+    fn end_at_once(&mut self, client: usize, number: u64) -> Option<Note>
+        requires served { ForClient self.old client IsServed }
+        requires done { CanEnd self.old client number }
+        ensures some { IfSome result (λ note. GoesBy self.old (Then (IsEnded client note) (AreShown client)) self.new) }
+        ensures none { IfNone result (GoesBy self.old IsNothing self.new × CanEnd self.new client number) }
+        ensures served { ForClient self.new client IsServed }
+        ensures still { StandsStill self.old self.new }
+    {
+        let Some(command) = self.commands.get(number) else {
+            unreachable!();
+        };
+        let Some(x) = self.clients.get_mut(client) else {
+            unreachable!();
+        };
+        let told = show_done(number, command, x)?;
+        let ask = self.take_away(number);
+        Some(Note {
+            ask,
+            from: told.from,
+            number,
+            acknowledged: told.acknowledged,
+        })
+    }
+
+    // A command of the client whose job is done has its reply, which is shown where nothing stands before it.
+    pub(crate) fn end(&mut self, client: usize, number: u64) -> Note
+        requires served { ForClient self.old client IsServed }
+        requires done { CanEnd self.old client number }
+        ensures ended { GoesBy self.old (Then (IsEnded client result) (AreShown client)) self.new }
+        ensures served { ForClient self.new client IsServed }
+        ensures still { StandsStill self.old self.new }
+    {
+        match self.end_at_once(client, number) {
+            Some(note) => note,
+            None => self.end_unshown(client, number),
+        }
     }
 
     // The reply at the head of the client's commands is shown, if there is one: whether there was.
