@@ -166,6 +166,15 @@ impl CommandTable {
         self.spares.end_job(alloc, job)
     }
 
+    /// The memory of a command of this ask and this job, which isn't among these any more, and of whose end nothing more is wanted, is
+    /// kept for others. What the job held is let go where it stands.
+    pub fn keep(&mut self, alloc: Global, ask: &SharedAsk, job: HeldJob)
+        ensures { self.new ≡ self.old }
+    {
+        self.spares.keep_ask(ask);
+        self.spares.keep_job(alloc, job);
+    }
+
     /// How many there are. It takes no memory.
     pub fn len(&self) -> usize
         ensures { result ≡ index_map_len self.now }

@@ -5,7 +5,7 @@ ghost use Rattle.mc_runs.specs.Run.{Call as CallMade};
 ghost use Rattle.mc_runs.specs.Single.{FitsOutcome};
 ghost use Rattle.route_tree.specs.Word.{Given};
 ghost use Rattle.route_job.specs.Given.{given_of};
-ghost use Rattle.route_job.specs.Jobs.{Comes, call_of, IsNext, IsCalling, IsDone};
+ghost use Rattle.route_job.specs.Jobs.{Comes, call_of, IsBroken, IsNext, IsCalling, IsDone};
 
 use mc_types::{Outcome, SharedAsk};
 use route_job::{Done, Job, Step};
@@ -77,6 +77,13 @@ impl HeldJob {
     {
         let job = replace(&mut *self.job, Job::broken(alloc, blank));
         (job.into_done(), self)
+    }
+
+    /// As `Job::break_off`, in its room. It takes no memory.
+    pub fn clear(&mut self, blank: SharedAsk)
+        ensures { IsBroken self.new }
+    {
+        self.job.break_off(blank);
     }
 
     /// As `Job::into_done`.

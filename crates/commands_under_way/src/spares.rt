@@ -85,9 +85,25 @@ impl Spares {
         copy_of(self.blank.as_ref()?)
     }
 
-    fn keep_job(&mut self, job: HeldJob) {
+    // A job that holds nothing of a command any more.
+    fn keep_cleared(&mut self, job: HeldJob) {
         if let Err(refused) = self.jobs.push(job) {
             drop_job(refused.value);
+        }
+    }
+
+    /// The room of this job is kept, where not many are; what it held of its command is let go.
+    pub fn keep_job(&mut self, alloc: Global, mut job: HeldJob) {
+        if self.jobs.len() >= SPARES {
+            drop_job(job);
+            return;
+        }
+        match self.blank(alloc) {
+            None => drop_job(job),
+            Some(blank) => {
+                job.clear(blank);
+                self.keep_cleared(job);
+            }
         }
     }
 
@@ -103,7 +119,7 @@ impl Spares {
             None => job.into_done(),
             Some(blank) => {
                 let (done, room) = job.end(alloc, blank);
-                self.keep_job(room);
+                self.keep_cleared(room);
                 done
             }
         }

@@ -20,6 +20,7 @@ use Rattle.route_job.specs.declared.done.Done.{Done}
 use Rattle.route_job.specs.declared.frame.Frame.{Frame}
 use Rattle.route_job.specs.declared.frame.Pending.{Pending}
 use Rattle.route_job.specs.declared.frame.Pending.TheVariants.{Enter, Call as Calling, Back}
+use Rattle.route_job.proofs.Same.{same_refl}
 use Rattle.route_job.proofs.Frames.{Later, under_later, sure_later, under_begins}
 
 -- the plain tree of a key keeps the limits
@@ -67,6 +68,10 @@ server_later s a o b outcome g e fits = record { none = empty; same = λ calls g
 pub is_reply : (pending : Pending) (done : Done) → pending ≡ Back done → IsReply pending
 is_reply pending done e = subst IsReply (sym e) tt
 
+-- without a frame a reply is that of the whole
+pub rests_there : (fs : List Frame) (done : Done) → fs ≡ [] → IsAtRest fs (Back done)
+rests_there fs done e = subst (λ l. IsAtRest l (Back done)) (sym e) tt
+
 -- Trees are seen by the keys of this hash and text.
 module _ (hash : ℕ) (text : List ℕ) where
   pub new_is : (fs fs' : List Frame) (ask : Ask) (tree : Route) (pending : Pending) → fs ≡ [] → ((b : ℕ) → Leads hash text b ask fs (Enter tree) fs' pending) → ((calls : List Call) (given : Given) → Comings hash text fs' ask Client pending 0 calls given ↔ Word (plain_for hash text tree) ask Client 0 calls given) × AreSure hash text 0 ask fs' pending
@@ -86,6 +91,10 @@ module _ (hash : ℕ) (text : List ℕ) where
       let l = under_later hash text fs ask Client made call X Y later in
       let r = leads (made + 1) (sure_later hash text fs ask Client made call X Y later sure) in
       ((λ calls given. ((λ w. (l.same calls given).1 ((r.0 calls given).1 w)), (λ w. (r.0 calls given).0 ((l.same calls given).0 w)))), r.1)
+
+  -- where nothing is done, nothing changes
+  pub stays : (fs : List Frame) (ask : Ask) (pending : Pending) (b : ℕ) → Leads hash text b ask fs pending fs pending
+  stays fs ask pending b sure = (same_refl b (Comings hash text fs ask Client pending), sure)
 
   pub call_work : (pending : Pending) → IsCall pending → pending_work hash text pending ≡ 2
   call_work (Enter tree) is = absurd is

@@ -108,6 +108,12 @@ impl Job {
         ensures less { OnOk result (work_of self.new + 1 ≤ work_of self.old) }
         ensures broken { OnErr result (IsBroken self.new) }
     {
+        if self.frames.is_empty() {
+            // (nearly always: the reply is put in its place at once, as each hand that it goes through copies it)
+            self.pending = Pending::Back(done_by(self.made, outcome));
+            self.made += 1;
+            return Ok(());
+        }
         let done = done_by(self.made, outcome);
         self.made += 1;
         let next = Pending::Back(done);
@@ -122,6 +128,17 @@ impl Job {
                 Err(error)
             }
         }
+    }
+
+    /// What it held is let go where it stands: it calls nothing more, and ends as a broken one of this ask. It takes no memory.
+    pub fn break_off(&mut self, ask: SharedAsk)
+        ensures { IsBroken self.new }
+    {
+        self.ask = ask;
+        self.hash = 0;
+        self.frames.clear();
+        self.pending = Pending::Back(broken_done());
+        self.made = 0;
     }
 
     /// How the command ended.
