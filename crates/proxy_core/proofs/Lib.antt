@@ -5,7 +5,7 @@ pub mod Commands
 pub mod Clients
 pub mod Polls
 pub mod Chains
-pub mod Finishing
+pub mod AtHead
 pub mod Reloading
 pub mod Passing
 pub mod Ending

@@ -1,9 +1,9 @@
 //! A command ends, and replies are shown.
 
-ghost use Rattle.std.specs.Prelude.{◌≡◌, ◌↔◌, [], IsTrue, None, false, OnOk, IfOk, IfErr, IfSome, IfNone, MatchBool};
+ghost use Rattle.std.specs.Prelude.{◌≡◌, ◌↔◌, [], IsTrue, None, false, OnOk, IfOk, IfErr, IfSome, IfNone, IsSome, MatchBool};
 ghost use Rattle.route_job.specs.Given.{given_of};
 ghost use Rattle.route_job.specs.Jobs.{Comes, IsDone};
-ghost use Rattle.proxy_core.specs.CoreState.{GoesBy};
+ghost use Rattle.proxy_core.specs.CoreState.{GoesBy, command_at};
 ghost use Rattle.proxy_core.specs.Polls.{ForClient, IsServed, IsEnded, AreShown, IsShown, IsNothing, Then, ShowsNext, StandsStill, StopsFirst, StopsAfter};
 ghost use Rattle.proxy_core.specs.Finishing.{CanEnd, IsNote, ShowsDone, TakesAway};
 ghost use Rattle.core_client.specs.Fronts.{Stays};
@@ -89,13 +89,19 @@ fn note_of(number: u64, ask: SharedAsk, done: Done) -> (Note, Answer)
 impl Core {
     // A command is taken out whose reply was shown: its ask. Its memory is kept for others.
     fn take_away(&mut self, number: u64) -> SharedAsk
-        requires done { CanEnd self.old client number }
+        requires { IsSome (command_at self.old number) }
         ensures { TakesAway self.old number result self.new }
     {
         let Some(command) = self.commands.remove(number) else {
             unreachable!();
         };
-        let Command { job, ask, .. } = command;
+        let Command {
+            job,
+            ask,
+            client: _client,
+            claim: _claim,
+            is_out: _is_out,
+        } = command;
         self.commands.keep(self.alloc, &ask, job);
         ask
     }

@@ -1,6 +1,5 @@
 -- A command whose reply was shown as it came ended, and its reply was shown after that.
-use Rattle.std.proofs.Common.{◌≡◌, ◌↔◌, ℕ, Bool, true, false, cond, Option, Some, None, refl, sym, ap, ◌∙◌, subst, nat_eq}
-use Rattle.std.specs.Prelude.{IsTrue}
+use Rattle.std.proofs.Common.{◌≡◌, ℕ, true, false, cond, Some, None, refl, sym, ◌∙◌, nat_eq}
 use Rattle.slab.specs.Slab as slab
 use Rattle.mc_types.specs.declared.ask.Ask.{Ask}
 use Rattle.core_client.specs.declared.client.Client.{Client}
@@ -8,7 +7,7 @@ use Rattle.proxy_core.specs.declared.finishing.Told.{Told}
 use Rattle.proxy_core.specs.declared.note.Note.{Note}
 use Rattle.proxy_core.specs.declared.proxy.Core.{Core}
 use Rattle.proxy_core.specs.CoreState.{client_at, command_at, GoesBy}
-use Rattle.proxy_core.specs.Finishing.{CanEnd, IsNote, ShowsDone, TakesAway}
+use Rattle.proxy_core.specs.Finishing.{CanEnd, IsNote, ShowsDone}
 use Rattle.proxy_core.specs.Polls.{IsEnded, AreShown, Then}
 use Rattle.proxy_core.proofs.Chains.{goes_then}
 use Rattle.proxy_core.proofs.Clients.{written}
