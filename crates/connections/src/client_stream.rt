@@ -197,13 +197,29 @@ impl ClientStream {
         Ok(ask)
     }
 
-    // Data of the request at the front, which takes so many bytes, are shared from now on where they are large.
+    // Large data of the request at the front, which takes so many bytes, are shared from now on.
     fn share(&mut self, used: usize)
         ensures { self.new ≡ self.old }
     {
         if self.shares && used >= SHARED_FROM {
             self.stream.share_front(used);
         }
+    }
+
+    // The ask of this number of the request at the front.
+    fn ask_at(
+        &self,
+        alloc: Global,
+        spare: Option<SharedAsk>,
+        request: &Request,
+        i: usize,
+    ) -> Result<SharedAsk, AllocError>
+        requires read { IsReadAt self.now (Requests request.now) }
+        requires there { i < length (asks_of (message_in (held_at self.now) request.now)) }
+        ensures value { IfOk result (λ ask. slice_get (asks_of (message_in (held_at self.now) request.now)) i ≡ Some ask) }
+        ensures ask { IfOk result IsClientAsk }
+    {
+        request.ask(alloc, spare, &self.stream.received(), i)
     }
 
     /// The ask of this number, counted from 0, of the request at the front: a copy, in the memory of the spare one where nobody else holds
@@ -224,7 +240,7 @@ impl ClientStream {
     {
         if request.asks() == 1 {
             self.share(request.used());
-            return request.ask(alloc, spare, &self.stream.received(), i);
+            return self.ask_at(alloc, spare, request, i);
         }
         self.walk_to(alloc, spare, request, i)
     }
