@@ -6,6 +6,7 @@ ghost use Rattle.client_requests.specs.Message.{IsReadFrom, message_in, used_of}
 ghost use Rattle.client_requests.specs.Asks.{asks_of, quiet_of, own_of, request_of, taken_of, counted, IsWalk, IsClientAsk};
 
 use mc_types::{Ask, SharedAsk};
+use received_bytes::Received;
 use request_parts::ProxyCommand;
 use std::alloc::{AllocError, Global};
 
@@ -89,27 +90,27 @@ impl Request {
         }
     }
 
-    /// The ask of this number, counted from 0: a copy, in the memory of the spare one where nobody else holds that. It walks over the keys
-    /// before it; a walk over all asks is `walk`. The only error is running out of memory.
+    /// The ask of this number, counted from 0: a copy, in the memory of the spare one where nobody else holds that, whose data may share the
+    /// buffer that they came in. It walks over the keys before it; a walk over all asks is `walk`. The only error is running out of memory.
     pub fn ask(
         &self,
         alloc: Global,
         spare: Option<SharedAsk>,
-        bytes: &[u8],
+        received: &Received,
         i: usize,
     ) -> Result<SharedAsk, AllocError>
-        requires read { IsReadFrom bytes.now self.now }
-        requires there { i < length (asks_of (message_in bytes.now self.now)) }
-        ensures value { IfOk result (λ ask. slice_get (asks_of (message_in bytes.now self.now)) i ≡ Some ask) }
+        requires read { IsReadFrom received.now self.now }
+        requires there { i < length (asks_of (message_in received.now self.now)) }
+        ensures value { IfOk result (λ ask. slice_get (asks_of (message_in received.now self.now)) i ≡ Some ask) }
         ensures ask { IfOk result IsClientAsk }
     {
         match self {
             Request::Classic(request) => {
-                let ask = request.ask(alloc, bytes, i)?;
+                let ask = request.ask(alloc, received, i)?;
                 SharedAsk::reusing(alloc, spare, ask)
             }
             Request::Meta(request) => {
-                let ask = request.ask(alloc, bytes, i)?;
+                let ask = request.ask(alloc, received, i)?;
                 SharedAsk::reusing(alloc, spare, ask)
             }
         }
@@ -117,9 +118,9 @@ impl Request {
 }
 
 impl MetaAsks {
-    fn next(&mut self, alloc: Global, bytes: &[u8]) -> Result<Option<Ask>, AllocError>
-        requires { metas.IsReadFrom bytes.now self.old.request }
-        ensures value { IfOk result (λ next. next ≡ slice_get (meta_asks.asks_of (metas.message_in bytes.now self.old.request)) self.old.taken) }
+    fn next(&mut self, alloc: Global, received: &Received) -> Result<Option<Ask>, AllocError>
+        requires { metas.IsReadFrom received.now self.old.request }
+        ensures value { IfOk result (λ next. next ≡ slice_get (meta_asks.asks_of (metas.message_in received.now self.old.request)) self.old.taken) }
         ensures ask { IfOk result (λ next. IfSome next IsClientAsk) }
         ensures taken { IfOk result (λ next. self.new.taken ≡ counted next self.old.taken) }
         ensures request { self.new.request ≡ self.old.request }
@@ -128,28 +129,28 @@ impl MetaAsks {
         if self.taken >= self.request.asks() {
             return Ok(None);
         }
-        let ask = self.request.ask(alloc, bytes, self.taken)?;
+        let ask = self.request.ask(alloc, received, self.taken)?;
         self.taken += 1;
         Ok(Some(ask))
     }
 }
 
 impl Asks {
-    /// The next ask, a copy, or `None` after the last one. The only error is running out of memory, after which the walk
-    /// stands where it stood.
-    pub fn next(&mut self, alloc: Global, bytes: &[u8]) -> Result<Option<Ask>, AllocError>
-        requires { IsWalk bytes.now self.old }
-        ensures value { IfOk result (λ next. next ≡ slice_get (asks_of (message_in bytes.now (request_of self.old))) (taken_of self.old)) }
+    /// The next ask, a copy whose data may share the buffer that they came in, or `None` after the last one. The only error is
+    /// running out of memory, after which the walk stands where it stood.
+    pub fn next(&mut self, alloc: Global, received: &Received) -> Result<Option<Ask>, AllocError>
+        requires { IsWalk received.now self.old }
+        ensures value { IfOk result (λ next. next ≡ slice_get (asks_of (message_in received.now (request_of self.old))) (taken_of self.old)) }
         ensures ask { IfOk result (λ next. IfSome next IsClientAsk) }
         ensures taken { IfOk result (λ next. taken_of self.new ≡ counted next (taken_of self.old)) }
         ensures request { request_of self.new ≡ request_of self.old }
-        ensures walk { IsWalk bytes.now self.new }
+        ensures walk { IsWalk received.now self.new }
         ensures err { OnErr result (self.new ≡ self.old) }
     {
         // Each arm returns by itself: the value of a match is copied once more.
         match self {
-            Asks::Classic(walk) => return walk.next(alloc, bytes),
-            Asks::Meta(walk) => return walk.next(alloc, bytes),
+            Asks::Classic(walk) => return walk.next(alloc, received),
+            Asks::Meta(walk) => return walk.next(alloc, received),
         }
     }
 }

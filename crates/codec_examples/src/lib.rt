@@ -9,6 +9,8 @@ mod answers_meta;
 #[cfg(test)]
 mod large_answers;
 #[cfg(test)]
+mod large_stores;
+#[cfg(test)]
 mod meta_forms;
 #[cfg(test)]
 mod streams;

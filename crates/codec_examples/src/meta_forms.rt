@@ -16,7 +16,7 @@ fn first_ask(alloc: Global, bytes: &[u8]) -> Result<Option<Ask>, AllocError>
     ensures { IfOk result (λ ask. IfSome ask IsAsk) }
 {
     match read_request(bytes) {
-        Read::Request(request) => request.walk().next(alloc, bytes),
+        Read::Request(request) => request.walk().next(alloc, &Received::copied(bytes)),
         _ => Ok(None),
     }
 }

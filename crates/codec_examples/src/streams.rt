@@ -6,8 +6,8 @@ use mc_types::{Answer, Ask, Body, Code, ErrorText, Fields, Op, OwnText};
 use std::alloc::{AllocError, Global};
 use std::test::Fail;
 use text_codec::{
-    AnswerRead, ProxyCommand, Read, Request, TextStream, ends_message, read_answer, read_request,
-    write_long_line, write_own, write_part, write_refusal,
+    AnswerRead, ProxyCommand, Read, Received, Request, TextStream, ends_message, read_answer,
+    read_request, write_long_line, write_own, write_part, write_refusal,
 };
 
 // A stream that was given these bytes.
@@ -370,7 +370,7 @@ fn shown(alloc: Global, bytes: &[u8], answer: &Answer) -> Result<BytesMut, Alloc
         return Ok(out);
     };
     let mut asks = request.walk();
-    if let Some(ask) = asks.next(alloc, bytes)? {
+    if let Some(ask) = asks.next(alloc, &Received::copied(bytes))? {
         let written = write_part(request.quiet(), true, &ask, answer, &mut out);
         drop_ask(ask);
         written?;
@@ -508,7 +508,7 @@ fn read_meta(alloc: Global, bytes: &[u8]) -> Result<Option<Told>, AllocError> {
         return Ok(None);
     };
     let mut asks = request.walk();
-    let Some(ask) = asks.next(alloc, asked)? else {
+    let Some(ask) = asks.next(alloc, &Received::copied(asked))? else {
         return Ok(None);
     };
     let read = read_told(alloc, &ask, bytes);

@@ -12,7 +12,7 @@ ghost use Rattle.connections.specs.ClientStreams.{IsWalkAt, IsKept};
 use mc_types::{Ask, SharedAsk};
 use std::alloc::{AllocError, Global};
 use std::marker::Model;
-use text_codec::{Asks, Read, Request, Skip, TextStream};
+use text_codec::{Asks, Read, Request, SHARED_FROM, Skip, TextStream};
 
 /// A request of several keys that stands at the front, and a walk over its asks.
 #[derive(Clone, Copy)]
@@ -28,6 +28,8 @@ struct Walk {
 pub struct ClientStream {
     stream: TextStream,
     walk: Option<Walk>,
+    /// Whether large data of stores share the buffer that they came in.
+    shares: bool,
 }
 
 impl Model for ClientStream {
@@ -65,7 +67,7 @@ impl Walk {
         ensures request { self.new.request ≡ self.old.request }
         ensures taken { OnOk result (self.new.taken ≡ self.old.taken + 1) }
     {
-        let_go(self.asks.next(alloc, stream.held())?);
+        let_go(self.asks.next(alloc, &stream.received())?);
         self.taken += 1;
         Ok(())
     }
@@ -98,7 +100,7 @@ impl Walk {
         ensures ask { IfOk result IsClientAsk }
     {
         let mut asks = self.asks;
-        match asks.next(alloc, stream.held())? {
+        match asks.next(alloc, &stream.received())? {
             Some(ask) => SharedAsk::reusing(alloc, spare, ask),
             None => unreachable!(),
         }
@@ -106,13 +108,26 @@ impl Walk {
 }
 
 impl ClientStream {
-    /// The stream of a client that said nothing yet. It takes no memory.
+    /// The stream of a client that said nothing yet. It takes no memory. Large data of its stores share the buffer that they came in, all of
+    /// which lasts as long as they do.
     pub fn new(alloc: Global) -> ClientStream
         ensures { result ≡ Stands Nothing [] }
     {
         ClientStream {
             stream: TextStream::new(alloc),
             walk: None,
+            shares: true,
+        }
+    }
+
+    /// The same whose data are copied, for whoever keeps them.
+    pub fn copying(alloc: Global) -> ClientStream
+        ensures { result ≡ Stands Nothing [] }
+    {
+        ClientStream {
+            stream: TextStream::new(alloc),
+            walk: None,
+            shares: false,
         }
     }
 
@@ -182,9 +197,34 @@ impl ClientStream {
         Ok(ask)
     }
 
+    // Large data of the request at the front, which takes so many bytes, are shared from now on.
+    fn share(&mut self, used: usize)
+        ensures { self.new ≡ self.old }
+    {
+        if self.shares && used >= SHARED_FROM {
+            self.stream.share_front(used);
+        }
+    }
+
+    // The ask of this number of the request at the front.
+    fn ask_at(
+        &self,
+        alloc: Global,
+        spare: Option<SharedAsk>,
+        request: &Request,
+        i: usize,
+    ) -> Result<SharedAsk, AllocError>
+        requires read { IsReadAt self.now (Requests request.now) }
+        requires there { i < length (asks_of (message_in (held_at self.now) request.now)) }
+        ensures value { IfOk result (λ ask. slice_get (asks_of (message_in (held_at self.now) request.now)) i ≡ Some ask) }
+        ensures ask { IfOk result IsClientAsk }
+    {
+        request.ask(alloc, spare, &self.stream.received(), i)
+    }
+
     /// The ask of this number, counted from 0, of the request at the front: a copy, in the memory of the spare one where nobody else holds
-    /// that. All asks of a request together, where they are asked for in their order, take time linear in its bytes. The only error is running
-    /// out of memory.
+    /// that, whose large data share the buffer that they came in where the stream shares them. All asks of a request together, where they are
+    /// asked for in their order, take time linear in its bytes. The only error is running out of memory.
     pub fn ask(
         &mut self,
         alloc: Global,
@@ -199,7 +239,8 @@ impl ClientStream {
         ensures same { self.new ≡ self.old }
     {
         if request.asks() == 1 {
-            return request.ask(alloc, spare, self.stream.held(), i);
+            self.share(request.used());
+            return self.ask_at(alloc, spare, request, i);
         }
         self.walk_to(alloc, spare, request, i)
     }

@@ -23,13 +23,13 @@ pub struct Connection {
 }
 
 impl Connection {
-    /// A client that said nothing yet. It takes no memory.
+    /// A client that said nothing yet. It takes no memory. Data of its stores are copied, as a server keeps them.
     pub fn new(alloc: Global) -> Connection
         ensures stream { result.stream ≡ Stands Nothing [] }
         ensures output { output_of result ≡ [] }
     {
         Connection {
-            stream: ClientStream::new(alloc),
+            stream: ClientStream::copying(alloc),
             output: BytesMut::new(alloc),
         }
     }

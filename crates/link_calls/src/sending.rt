@@ -1,19 +1,17 @@
 //! How an ask is written to a server, into what is to be sent: large data are shared with it.
 
-ghost use Rattle.std.specs.Prelude.{◌≡◌, ◌++◌, ◌∷◌, true, take, length, codes, decimal, OnOk, OnErr};
-ghost use Rattle.std.specs.Fmt.{signed_decimal};
+ghost use Rattle.std.specs.Prelude.{◌≡◌, ◌++◌, true, codes, OnOk, OnErr};
 ghost use Rattle.mc_types.specs.Asks.{IsAsk};
 ghost use Rattle.client_requests.specs.Spelling.{spelling_of};
-ghost use Rattle.text_requests.specs.Spelling.{command_word, exptime_in, ask_line};
+ghost use Rattle.text_requests.specs.Spelling.{stores, ask_line};
 ghost use Rattle.send_buffer.specs.Sending.{bytes_of};
-ghost use Rattle.link_calls.specs.Sending.{is_store, stores, cas_end};
+ghost use Rattle.link_calls.specs.Sending.{is_store};
 
-use bytes::BytesMut;
-use itoa::Buffer;
 use mc_types::{Ask, Dialect, Op};
 use send_buffer::SendBuffer;
 use std::alloc::AllocError;
 use text_codec::{SHARED_FROM, write_ask};
+use text_requests::write_store_line;
 
 // Whether it is a store in the classic dialect.
 fn is_store(ask: &Ask) -> bool
@@ -27,101 +25,6 @@ fn is_store(ask: &Ask) -> bool
     }
 }
 
-fn store_word(ask: &Ask) -> &'static [u8]
-    requires { stores ask.now.op ≡ true }
-    ensures { result.now ≡ command_word ask.now.op ask.now.with_cas }
-{
-    match ask.op {
-        Op::Add => b"add".as_slice(),
-        Op::Replace => b"replace".as_slice(),
-        Op::Append => b"append".as_slice(),
-        Op::Prepend => b"prepend".as_slice(),
-        Op::Cas => b"cas".as_slice(),
-        _ => b"set".as_slice(),
-    }
-}
-
-// A space and a word.
-fn put_word(out: &mut BytesMut, word: &[u8]) -> Result<(), AllocError>
-    ensures ok { OnOk result (out.new.items ≡ out.old.items ++ 32 ∷ word.now) }
-    ensures err { OnErr result (take (length out.old.items) out.new.items ≡ out.old.items) }
-{
-    out.extend_from_slice(b" ")?;
-    out.extend_from_slice(word)
-}
-
-// The command's word and the key.
-fn put_keyed(out: &mut BytesMut, ask: &Ask) -> Result<(), AllocError>
-    requires { stores ask.now.op ≡ true }
-    ensures ok { OnOk result (out.new.items ≡ out.old.items ++ command_word ask.now.op ask.now.with_cas ++ 32 ∷ ask.now.key) }
-    ensures err { OnErr result (take (length out.old.items) out.new.items ≡ out.old.items) }
-{
-    out.extend_from_slice(store_word(ask))?;
-    put_word(out, ask.key.as_bytes())
-}
-
-fn put_number(out: &mut BytesMut, n: u64) -> Result<(), AllocError>
-    ensures ok { OnOk result (out.new.items ≡ out.old.items ++ 32 ∷ decimal n) }
-    ensures err { OnErr result (take (length out.old.items) out.new.items ≡ out.old.items) }
-{
-    let mut buffer = Buffer::new();
-    put_word(out, buffer.format(n).as_bytes())
-}
-
-fn put_exptime(out: &mut BytesMut, ask: &Ask) -> Result<(), AllocError>
-    ensures ok { OnOk result (out.new.items ≡ out.old.items ++ 32 ∷ signed_decimal (exptime_in ask.now)) }
-    ensures err { OnErr result (take (length out.old.items) out.new.items ≡ out.old.items) }
-{
-    let mut buffer = Buffer::new();
-    let exptime = ask.exptime.unwrap_or(0);
-    put_word(out, buffer.format(exptime).as_bytes())
-}
-
-// The flags, the expiry, and how many bytes of data there are.
-fn put_numbers(out: &mut BytesMut, ask: &Ask) -> Result<(), AllocError>
-    ensures ok { OnOk result (out.new.items ≡ out.old.items ++ 32 ∷ decimal ask.now.flags ++ 32 ∷ signed_decimal (exptime_in ask.now) ++ 32 ∷ decimal (length ask.now.body)) }
-    ensures err { OnErr result (take (length out.old.items) out.new.items ≡ out.old.items) }
-{
-    put_number(out, u64::from(ask.flags))?;
-    put_exptime(out, ask)?;
-    put_number(out, ask.body.len() as u64)
-}
-
-fn put_cas(out: &mut BytesMut, ask: &Ask) -> Result<(), AllocError>
-    ensures ok { OnOk result (out.new.items ≡ out.old.items ++ cas_end ask.now.op ask.now) }
-    ensures err { OnErr result (take (length out.old.items) out.new.items ≡ out.old.items) }
-{
-    match ask.op {
-        Op::Cas => put_number(out, ask.cas.unwrap_or(0)),
-        _ => Ok(()),
-    }
-}
-
-#[tactic(auto, using(crate::proofs::StoreLines::line_is))]
-fn put_line(out: &mut BytesMut, ask: &Ask) -> Result<(), AllocError>
-    requires { stores ask.now.op ≡ true }
-    ensures ok { OnOk result (out.new.items ≡ out.old.items ++ ask_line ask.now) }
-    ensures err { OnErr result (take (length out.old.items) out.new.items ≡ out.old.items) }
-{
-    put_keyed(out, ask)?;
-    put_numbers(out, ask)?;
-    put_cas(out, ask)?;
-    out.extend_from_slice(b"\r\n")
-}
-
-fn write_line(ask: &Ask, out: &mut BytesMut) -> Result<(), AllocError>
-    requires { stores ask.now.op ≡ true }
-    ensures ok { OnOk result (out.new.items ≡ out.old.items ++ ask_line ask.now) }
-    ensures err { OnErr result (out.new.items ≡ out.old.items) }
-{
-    let len = out.len();
-    let written = put_line(out, ask);
-    if written.is_err() {
-        out.truncate(len);
-    }
-    written
-}
-
 // The line of a store, its data, which are shared, and what stands after them.
 fn send_store(ask: &Ask, out: &mut SendBuffer) -> Result<(), AllocError>
     requires { stores ask.now.op ≡ true }
@@ -131,7 +34,7 @@ fn send_store(ask: &Ask, out: &mut SendBuffer) -> Result<(), AllocError>
     let mut after = out.new_text();
     after.extend_from_slice(b"\r\n")?;
     let len = out.text.len();
-    write_line(ask, &mut out.text)?;
+    write_store_line(ask, &mut out.text)?;
     let pushed = out.push_data(&ask.body, after);
     if pushed.is_err() {
         out.text.truncate(len);

@@ -9,7 +9,7 @@ use mc_types::Ask;
 use send_buffer::SendBuffer;
 use std::alloc::{AllocError, Global};
 use std::test::Fail;
-use text_codec::{Read, read_request};
+use text_codec::{Read, Received, read_request};
 
 // A request of this line, with 100,000 bytes of data.
 fn request_text(alloc: Global, line: &[u8]) -> Result<BytesMut, AllocError> {
@@ -26,7 +26,7 @@ fn first_ask(alloc: Global, bytes: &[u8]) -> Result<Option<Ask>, AllocError>
     ensures { IfOk result (λ ask. IfSome ask IsAsk) }
 {
     match read_request(bytes) {
-        Read::Request(request) => request.walk().next(alloc, bytes),
+        Read::Request(request) => request.walk().next(alloc, &Received::copied(bytes)),
         _ => Ok(None),
     }
 }

@@ -11,8 +11,8 @@ ghost use Rattle.meta_requests.specs.Asks.{asks_of, quiet_of, own_of, get_op, st
 use crate::command::{Command, Flags, Kind, Request, Values};
 use mc_text::word::{Span, next_word};
 use mc_types::{Ask, Body, Dialect, Key, Op, Opaque, Token, Tokens};
+use received_bytes::Received;
 use request_parts::ProxyCommand;
-use request_parts::parts::key_at;
 use std::alloc::{AllocError, Global};
 
 fn wanted_by(letter: u8, text: &[u8]) -> Option<Token>
@@ -45,12 +45,21 @@ fn wanted(word: &[u8]) -> Option<Token>
     wanted_by(word[0], &word[1..])
 }
 
-// What the flags want back, in their order.
-fn tokens(alloc: Global, bytes: &[u8], flags: Span) -> Result<Tokens, AllocError>
-    requires { IsIn (length bytes.now) flags }
-    ensures { IfOk result (λ tokens. tokens ≡ tokens_in (words (text_at bytes.now flags))) }
+// The key that stands there.
+fn key_in(received: &Received, key: Span) -> Key
+    requires placed { IsIn (length received.now) key }
+    requires key { IsKey (text_at received.now key) }
+    ensures { result ≡ text_at received.now key }
 {
-    let text = &bytes[flags.start..flags.end];
+    Key::of_text(received.between(key.start, key.end))
+}
+
+// What the flags want back, in their order.
+fn tokens(alloc: Global, received: &Received, flags: Span) -> Result<Tokens, AllocError>
+    requires { IsIn (length received.now) flags }
+    ensures { IfOk result (λ tokens. tokens ≡ tokens_in (words (text_at received.now flags))) }
+{
+    let text = received.between(flags.start, flags.end);
     let mut tokens = Tokens::new(alloc);
     let mut from = 0;
     while let Some(word) = next_word(text, from) {
@@ -147,11 +156,11 @@ impl Request {
         }
     }
 
-    /// The ask of this number, counted from 0: a copy. The only error is running out of memory.
-    pub fn ask(&self, alloc: Global, bytes: &[u8], i: usize) -> Result<Ask, AllocError>
-        requires read { IsReadFrom bytes.now self.now }
-        requires there { i < length (asks_of (message_in bytes.now self.now)) }
-        ensures value { IfOk result (λ ask. slice_get (asks_of (message_in bytes.now self.now)) i ≡ Some ask) }
+    /// The ask of this number, counted from 0: a copy, whose data may share the buffer that they came in. The only error is running out of memory.
+    pub fn ask(&self, alloc: Global, received: &Received, i: usize) -> Result<Ask, AllocError>
+        requires read { IsReadFrom received.now self.now }
+        requires there { i < length (asks_of (message_in received.now self.now)) }
+        ensures value { IfOk result (λ ask. slice_get (asks_of (message_in received.now self.now)) i ≡ Some ask) }
         ensures ask { IfOk result IsMetaAsk }
     {
         let _first = i;
@@ -162,9 +171,9 @@ impl Request {
                 kind,
                 ..
             } => {
-                let body = Body::from_slice(alloc, &bytes[self.block.start..self.block.end])?;
-                let tokens = tokens(alloc, bytes, flags.span)?;
-                Ok(ask_by(kind, key_at(bytes, key), flags.values, tokens, body))
+                let body = received.data_between(alloc, self.block.start, self.block.end)?;
+                let tokens = tokens(alloc, received, flags.span)?;
+                Ok(ask_by(kind, key_in(received, key), flags.values, tokens, body))
             }
             Command::Own(_) => unreachable!(),
         }

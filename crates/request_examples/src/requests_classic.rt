@@ -1,6 +1,7 @@
 //! Tests: each request and each refusal, whole and cut.
 
 use bytes::BytesMut;
+use received_bytes::Received;
 use std::test::Fail;
 use text_requests::{ProxyCommand, Read, RefusalReason, Request, Skip, read_request, write_ask};
 
@@ -207,14 +208,14 @@ fn keys_of_a_line(rt: HostRuntime) -> Result<(), Fail> {
             assert_eq!(rt; request.asks(), 3);
             let mut walk = request.walk();
             for key in [b"a".as_slice(), b"bc".as_slice(), b"d".as_slice()] {
-                match walk.next(rt.alloc(), bytes)? {
+                match walk.next(rt.alloc(), &Received::copied(bytes))? {
                     Some(ask) => assert!(rt;
                         ask.key.as_bytes() == key && ask.with_cas && ask.exptime == Some(5)
                     ),
                     None => assert!(rt; false),
                 }
             }
-            assert!(rt; walk.next(rt.alloc(), bytes)?.is_none());
+            assert!(rt; walk.next(rt.alloc(), &Received::copied(bytes))?.is_none());
         }
         _ => assert!(rt; false),
     }
@@ -273,11 +274,11 @@ fn one_spelling(rt: HostRuntime) -> Result<(), Fail> {
         let mut out = BytesMut::new(rt.alloc());
         match read_request(bytes) {
             Read::Request(request) => {
-                if let Some(ask) = request.walk().next(rt.alloc(), bytes)? {
+                if let Some(ask) = request.walk().next(rt.alloc(), &Received::copied(bytes))? {
                     write_ask(&ask, &mut out)?;
                 }
                 if request.asks() > 0 {
-                    let ask = request.ask(rt.alloc(), bytes, 0)?;
+                    let ask = request.ask(rt.alloc(), &Received::copied(bytes), 0)?;
                     out.truncate(0);
                     write_ask(&ask, &mut out)?;
                 }

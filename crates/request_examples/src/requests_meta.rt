@@ -1,6 +1,7 @@
 //! Requests with known answers: refusals by the table, cuts, and the one spelling.
 use bytes::BytesMut;
 use meta_requests::{ProxyCommand, Read, RefusalReason, Request, Skip, read_request, write_ask};
+use received_bytes::Received;
 use std::test::Fail;
 
 fn refused(bytes: &[u8], why: RefusalReason, skip: Skip) -> bool {
@@ -230,7 +231,7 @@ fn meta_flags_in_order(rt: HostRuntime) -> Result<(), Fail> {
         match read_request(bytes) {
             Read::Request(request) => {
                 assert_eq!(rt; request.asks(), 1);
-                let ask = request.ask(rt.alloc(), bytes, 0)?;
+                let ask = request.ask(rt.alloc(), &Received::copied(bytes), 0)?;
                 write_ask(&ask, &mut out)?;
             }
             _ => assert!(rt; false),

@@ -9,7 +9,7 @@ use mc_text::number::u32_number;
 use mc_types::{Answer, Ask, Key, Outcome};
 use std::alloc::{AllocError, Global};
 use std::test::Fail;
-use text_codec::{Read, read_request, write_answer};
+use text_codec::{Read, Received, read_request, write_answer};
 
 /// The bytes that a text stands for.
 pub fn wire(alloc: Global, text: &str) -> Result<String, AllocError> {
@@ -60,7 +60,7 @@ fn first_ask(alloc: Global, bytes: &[u8]) -> Result<Option<Ask>, AllocError>
     ensures { IfOk result (λ ask. IfSome ask IsAsk) }
 {
     match read_request(bytes) {
-        Read::Request(request) => request.walk().next(alloc, bytes),
+        Read::Request(request) => request.walk().next(alloc, &Received::copied(bytes)),
         _ => Ok(None),
     }
 }

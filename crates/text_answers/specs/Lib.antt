@@ -1,4 +1,3 @@
-pub mod Sources
 pub mod Spelling
 pub mod Table
 pub mod FirstLine

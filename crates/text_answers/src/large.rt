@@ -3,9 +3,9 @@
 ghost use Rattle.std.specs.Prelude.{◌<◌, ◌≤◌, ◌+◌, IfSome, length};
 
 use crate::first_line::data_len;
-use crate::received::SHARED_FROM;
 use mc_text::word::next_word;
 use mc_text::{Line, line};
+use received_bytes::SHARED_FROM;
 
 /// The most bytes of an answer with data: its line, the data of 1 MiB, `\r\n` and `END\r\n`.
 pub const ANSWER_LIMIT: usize = 1_114_119;

@@ -7,10 +7,9 @@ mod large;
 pub mod laws;
 mod line_kinds;
 pub mod reader;
-mod received;
 pub mod writer;
 
 pub use large::{ANSWER_LIMIT, large_len};
 pub use reader::{AnswerRead, read_answer, read_received};
-pub use received::{Received, SHARED_FROM};
+pub use received_bytes::{Received, SHARED_FROM};
 pub use writer::{data_of, write_answer, write_data_line, write_end, write_value};

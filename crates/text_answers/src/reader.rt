@@ -7,11 +7,11 @@ ghost use Rattle.text_answers.specs.FirstLine.{kind_of_line};
 use crate::block_end::{Ends, block_end, data_end};
 use crate::first_line::read_first_line;
 use crate::line_kinds::{FirstLine, HitLine};
-use crate::received::Received;
 use mc_text::number::number;
 use mc_text::{Line, line};
 use mc_types::{Answer, Ask, Code};
 use meta_answers::ValueLine;
+use received_bytes::Received;
 use std::alloc::{AllocError, Global};
 
 /// What was read of an answer.

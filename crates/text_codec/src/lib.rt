@@ -15,11 +15,11 @@ pub mod stream;
 
 pub use client_requests::{Asks, Read, Request, read_request, write_ask};
 pub use mc_text::{Line, line};
+pub use received_bytes::{Received, SHARED_FROM};
 pub use replies::{ends_message, write_long_line, write_own, write_part, write_refusal};
 pub use request_parts::{ProxyCommand, RefusalReason, Skip};
 pub use sending::send_part;
 pub use stream::TextStream;
 pub use text_answers::{
-    AnswerRead, Received, SHARED_FROM, large_len, read_answer, read_received, write_answer,
-    write_end, write_value,
+    AnswerRead, large_len, read_answer, read_received, write_answer, write_end, write_value,
 };

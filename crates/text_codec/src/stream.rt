@@ -5,9 +5,9 @@ ghost use Rattle.request_parts.specs.declared.skip.Skip.TheVariants.{Nothing};
 ghost use Rattle.request_parts.specs.Stream.{Stands, Closed, skipped, extended};
 ghost use Rattle.text_codec.specs.Held.{held_at, HoldsNone, IsReadAt};
 
-use bytes::BytesMut;
 use client_requests::{Read, read_request};
 use mc_text::search::first_byte;
+use received_bytes::{ReceiveBuffer, Received};
 use request_parts::Skip;
 use std::alloc::{AllocError, Global};
 use std::marker::Model;
@@ -15,7 +15,7 @@ use std::marker::Model;
 /// The bytes of one client that were not yet done: what isn't a whole message stays until more comes.
 #[derive(Drop)]
 pub struct TextStream {
-    held: BytesMut,
+    held: ReceiveBuffer,
     skip: Skip,
     closed: bool,
 }
@@ -26,9 +26,9 @@ impl Model for TextStream {
 
     ghost Value = { Place };
 
-    ghost view = { λ s. place_in s.closed s.skip s.held.items };
+    ghost view = { λ s. place_in s.closed s.skip s.held };
 
-    ghost invariant = { λ s. HoldsNone s.skip s.held.items };
+    ghost invariant = { λ s. HoldsNone s.skip s.held };
 }
 
 /// What is still passed over, and how many bytes of the piece were.
@@ -73,7 +73,7 @@ impl TextStream {
         ensures { result ≡ Stands Nothing [] }
     {
         TextStream {
-            held: BytesMut::new(alloc),
+            held: ReceiveBuffer::new(alloc),
             skip: Skip::Nothing,
             closed: false,
         }
@@ -96,6 +96,24 @@ impl TextStream {
         self.held.as_slice()
     }
 
+    /// The bytes that are held, with the buffer that they stand in where large data may be cut from it.
+    pub fn received(&self) -> Received
+        ensures { result ≡ held_at self.now }
+    {
+        if self.closed {
+            return Received::copied(b"".as_slice());
+        }
+        self.held.received()
+    }
+
+    /// From now on the data of the message at the front, which takes so many bytes, are cut from the buffer that they came in where they
+    /// are large ([`ReceiveBuffer::share`]). Where memory is refused for that they are copied as before.
+    pub fn share_front(&mut self, used: usize)
+        ensures { self.new ≡ self.old }
+    {
+        self.held.share(used);
+    }
+
     /// A piece came. The only error is running out of memory, which leaves the stream as it was.
     pub fn feed(&mut self, piece: &[u8]) -> Result<(), AllocError>
         ensures ok { OnOk result (self.new ≡ extended self.old piece.now) }
@@ -105,7 +123,7 @@ impl TextStream {
             return Ok(());
         }
         let passed = pass_over(self.skip, piece);
-        self.held.extend_from_slice(&piece[passed.count..])?;
+        self.held.append(&piece[passed.count..])?;
         self.skip = passed.skip;
         Ok(())
     }

@@ -38,6 +38,21 @@ exptime_in ask = unwrap_or ask.exptime (pos 0)
 abbrev pub cas_in : Ask → ℕ
 cas_in ask = unwrap_or ask.cas 0
 
+-- whether an operation stores data
+abbrev pub stores : Op → Bool
+stores Set = true
+stores Add = true
+stores Replace = true
+stores Append = true
+stores Prepend = true
+stores Cas = true
+stores Get = false
+stores Gat = false
+stores Delete = false
+stores Incr = false
+stores Decr = false
+stores Touch = false
+
 -- key, flags, exptime, length
 abbrev pub store_words : Ask → List Word → List Word
 store_words ask more = ask.key ∷ decimal ask.flags ∷ signed_decimal (exptime_in ask) ∷ decimal (length ask.body) ∷ more

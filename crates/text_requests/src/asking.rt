@@ -1,5 +1,5 @@
 //! What a request asks: its asks, one for each key.
-ghost use Rattle.std.specs.Prelude.{◌≡◌, ℕ, List, ◌<◌, IfOk, IfSome, OnErr, Some, length, slice_get};
+ghost use Rattle.std.specs.Prelude.{◌≡◌, ℕ, List, ◌<◌, ◌≤◌, IfOk, IfSome, OnErr, Some, length, take, slice_get};
 ghost use Rattle.mc_text.specs.Word.{text_at};
 ghost use Rattle.mc_types.specs.KeyText.{IsKey};
 ghost use Rattle.request_parts.specs.Places.{IsIn};
@@ -9,7 +9,8 @@ ghost use Rattle.text_requests.specs.Asks.{asks_of, quiet_of, own_of, bare_ask, 
 
 use crate::command::{Command, Request, Stored};
 use mc_text::word::{Span, next_word};
-use mc_types::{Ask, Body, Dialect, Key, Op, Tokens};
+use mc_types::{Ask, Dialect, Key, Op, Tokens};
+use received_bytes::Received;
 use request_parts::ProxyCommand;
 use request_parts::parts::{key_at, nth_word};
 use std::alloc::{AllocError, Global};
@@ -33,21 +34,38 @@ fn retrieved(alloc: Global, key: Key, exptime: Option<i64>, with_cas: bool) -> A
     ask
 }
 
+// The key that stands there.
+fn key_in(received: &Received, key: Span) -> Key
+    requires placed { IsIn (length received.now) key }
+    requires key { IsKey (text_at received.now key) }
+    ensures { result ≡ text_at received.now key }
+{
+    Key::of_text(received.between(key.start, key.end))
+}
+
+// What stands up to a place.
+fn front_of<'a>(received: &'a Received, end: usize) -> &'a [u8]
+    requires { end ≤ length received.now }
+    ensures { result.now ≡ take end received.now }
+{
+    &received.bytes()[..end]
+}
+
 fn stored(
     alloc: Global,
-    bytes: &[u8],
+    received: &Received,
     op: Op,
     stored: Stored,
     cas: Option<u64>,
     block: Span,
 ) -> Result<Ask, AllocError>
-    requires placed { IsIn (length bytes.now) stored.key }
-    requires key { IsKey (text_at bytes.now stored.key) }
-    requires block { IsIn (length bytes.now) block }
-    ensures { IfOk result (λ ask. ask ≡ store_ask op (storing_in bytes.now stored) cas (text_at bytes.now block)) }
+    requires placed { IsIn (length received.now) stored.key }
+    requires key { IsKey (text_at received.now stored.key) }
+    requires block { IsIn (length received.now) block }
+    ensures { IfOk result (λ ask. ask ≡ store_ask op (storing_in received.now stored) cas (text_at received.now block)) }
 {
-    let body = Body::from_slice(alloc, &bytes[block.start..block.end])?;
-    let mut ask = bare(alloc, op, key_at(bytes, stored.key));
+    let body = received.data_between(alloc, block.start, block.end)?;
+    let mut ask = bare(alloc, op, key_in(received, stored.key));
     ask.flags = stored.flags;
     ask.exptime = Some(stored.exptime);
     ask.body = body;
@@ -56,29 +74,29 @@ fn stored(
 }
 
 // The ask of a request that has a single key.
-fn single(alloc: Global, bytes: &[u8], request: &Request) -> Result<Option<Ask>, AllocError>
-    requires { IsReadFrom bytes.now request.now }
-    ensures { IfOk result (λ ask. ask ≡ single_ask (order_in bytes.now request.now.command) (text_at bytes.now request.now.block)) }
+fn single(alloc: Global, received: &Received, request: &Request) -> Result<Option<Ask>, AllocError>
+    requires { IsReadFrom received.now request.now }
+    ensures { IfOk result (λ ask. ask ≡ single_ask (order_in received.now request.now.command) (text_at received.now request.now.block)) }
 {
     match request.command {
         Command::Storage {
             op,
             stored: head,
             ..
-        } => Ok(Some(stored(alloc, bytes, op, head, None, request.block)?)),
+        } => Ok(Some(stored(alloc, received, op, head, None, request.block)?)),
         Command::Swapping {
             stored: head,
             cas,
             ..
-        } => Ok(Some(stored(alloc, bytes, Op::Cas, head, Some(cas), request.block)?)),
-        Command::Deletion { key, .. } => Ok(Some(bare(alloc, Op::Delete, key_at(bytes, key)))),
+        } => Ok(Some(stored(alloc, received, Op::Cas, head, Some(cas), request.block)?)),
+        Command::Deletion { key, .. } => Ok(Some(bare(alloc, Op::Delete, key_in(received, key)))),
         Command::Touching { key, exptime, .. } => {
-            let mut ask = bare(alloc, Op::Touch, key_at(bytes, key));
+            let mut ask = bare(alloc, Op::Touch, key_in(received, key));
             ask.exptime = Some(exptime);
             Ok(Some(ask))
         }
         Command::Counting { op, key, delta, .. } => {
-            let mut ask = bare(alloc, op, key_at(bytes, key));
+            let mut ask = bare(alloc, op, key_in(received, key));
             ask.delta = delta;
             Ok(Some(ask))
         }
@@ -152,12 +170,12 @@ impl Request {
         }
     }
 
-    /// The ask of this number, counted from 0: a copy. It walks over the keys before it; a walk over all asks is
-    /// `walk`. The only error is running out of memory.
-    pub fn ask(&self, alloc: Global, bytes: &[u8], i: usize) -> Result<Ask, AllocError>
-        requires read { IsReadFrom bytes.now self.now }
-        requires there { i < length (asks_of (message_in bytes.now self.now)) }
-        ensures value { IfOk result (λ ask. slice_get (asks_of (message_in bytes.now self.now)) i ≡ Some ask) }
+    /// The ask of this number, counted from 0: a copy, whose data may share the buffer that they came in. It walks over the
+    /// keys before it; a walk over all asks is `walk`. The only error is running out of memory.
+    pub fn ask(&self, alloc: Global, received: &Received, i: usize) -> Result<Ask, AllocError>
+        requires read { IsReadFrom received.now self.now }
+        requires there { i < length (asks_of (message_in received.now self.now)) }
+        ensures value { IfOk result (λ ask. slice_get (asks_of (message_in received.now self.now)) i ≡ Some ask) }
         ensures ask { IfOk result IsClassicAsk }
     {
         match self.command {
@@ -166,13 +184,13 @@ impl Request {
                 with_cas,
                 keys,
             } => {
-                let line = &bytes[..keys.span.end];
+                let line = front_of(received, keys.span.end);
                 match nth_word(line, keys.span.start, i) {
                     Some(word) => Ok(retrieved(alloc, key_at(line, word), exptime, with_cas)),
                     None => unreachable!(),
                 }
             }
-            _ => match single(alloc, bytes, self)? {
+            _ => match single(alloc, received, self)? {
                 Some(ask) => Ok(ask),
                 None => unreachable!(),
             },
@@ -181,15 +199,15 @@ impl Request {
 }
 
 impl Asks {
-    /// The next ask, a copy, or `None` after the last one. The only error is running out of memory, after which the walk
-    /// stands where it stood.
-    pub fn next(&mut self, alloc: Global, bytes: &[u8]) -> Result<Option<Ask>, AllocError>
-        requires { IsWalk bytes.now self.old }
-        ensures value { IfOk result (λ next. next ≡ slice_get (asks_of (message_in bytes.now self.old.request)) self.old.taken) }
+    /// The next ask, a copy whose data may share the buffer that they came in, or `None` after the last one. The only error is
+    /// running out of memory, after which the walk stands where it stood.
+    pub fn next(&mut self, alloc: Global, received: &Received) -> Result<Option<Ask>, AllocError>
+        requires { IsWalk received.now self.old }
+        ensures value { IfOk result (λ next. next ≡ slice_get (asks_of (message_in received.now self.old.request)) self.old.taken) }
         ensures ask { IfOk result (λ next. IfSome next IsClassicAsk) }
         ensures taken { IfOk result (λ next. self.new.taken ≡ counted next self.old.taken) }
         ensures request { self.new.request ≡ self.old.request }
-        ensures walk { IsWalk bytes.now self.new }
+        ensures walk { IsWalk received.now self.new }
         ensures err { OnErr result (self.new ≡ self.old) }
     {
         // Each arm returns by itself: the value of a match in a match is copied at each level.
@@ -199,7 +217,7 @@ impl Asks {
                 with_cas,
                 keys,
             } => {
-                let line = &bytes[..keys.span.end];
+                let line = front_of(received, keys.span.end);
                 match next_word(line, self.at) {
                     None => return Ok(None),
                     Some(word) => {
@@ -213,7 +231,7 @@ impl Asks {
                 if self.taken > 0 {
                     return Ok(None);
                 }
-                match single(alloc, bytes, &self.request)? {
+                match single(alloc, received, &self.request)? {
                     None => return Ok(None),
                     Some(ask) => {
                         self.taken = 1;

@@ -18,4 +18,4 @@ pub use asking::Asks;
 pub use command::{Read, Request};
 pub use reader::{read_after, read_request};
 pub use request_parts::{ProxyCommand, RefusalReason, Skip};
-pub use writer::write_ask;
+pub use writer::{write_ask, write_store_line};

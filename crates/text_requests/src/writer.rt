@@ -1,10 +1,10 @@
 //! How an ask is written to a server.
-ghost use Rattle.std.specs.Prelude.{◌≡◌, ◌++◌, ◌∷◌, [], take, length, OnOk, OnErr, codes, decimal};
+ghost use Rattle.std.specs.Prelude.{◌≡◌, ◌++◌, ◌∷◌, [], true, take, length, OnOk, OnErr, codes, decimal};
 ghost use Rattle.std.specs.Fmt.{signed_decimal};
 ghost use Rattle.mc_text.specs.Spelling.{spaced, line_of};
 ghost use Rattle.text_requests.specs.Asks.{IsClassicAsk};
 ghost use Rattle.request_parts.specs.Tests.{block_text};
-ghost use Rattle.text_requests.specs.Spelling.{command_word, exptime_in, cas_in, store_words, spelling_of};
+ghost use Rattle.text_requests.specs.Spelling.{command_word, exptime_in, cas_in, store_words, stores, ask_line, spelling_of};
 
 use bytes::BytesMut;
 use itoa::Buffer;
@@ -91,34 +91,48 @@ fn put_head(out: &mut BytesMut, ask: &Ask, exptime: &[u8]) -> Result<(), AllocEr
     out.extend_from_slice(buffer.format(ask.body.len()).as_bytes())
 }
 
-// The end of a store's line, and its data block.
-fn put_block(out: &mut BytesMut, body: &[u8]) -> Result<(), AllocError>
-    ensures ok { OnOk result (out.new.items ≡ out.old.items ++ codes "\r\n" ++ block_text body.now) }
-    ensures err { OnErr result (take (length out.old.items) out.new.items ≡ out.old.items) }
-{
-    out.extend_from_slice(b"\r\n")?;
-    out.extend_from_slice(body)?;
-    out.extend_from_slice(b"\r\n")
-}
-
-fn put_store(out: &mut BytesMut, ask: &Ask) -> Result<(), AllocError>
-    ensures ok { OnOk result (out.new.items ≡ out.old.items ++ (line_of (command_word ask.now.op ask.now.with_cas ∷ store_words ask.now []) ++ block_text ask.now.body)) }
+fn put_plain_line(out: &mut BytesMut, ask: &Ask) -> Result<(), AllocError>
+    ensures ok { OnOk result (out.new.items ≡ out.old.items ++ line_of (command_word ask.now.op ask.now.with_cas ∷ store_words ask.now [])) }
     ensures err { OnErr result (take (length out.old.items) out.new.items ≡ out.old.items) }
 {
     let mut buffer = Buffer::new();
     put_head(out, ask, exptime_text(&mut buffer, ask))?;
-    put_block(out, ask.body.as_slice())
+    out.extend_from_slice(b"\r\n")
 }
 
-fn put_cas(out: &mut BytesMut, ask: &Ask) -> Result<(), AllocError>
-    ensures ok { OnOk result (out.new.items ≡ out.old.items ++ (line_of (command_word ask.now.op ask.now.with_cas ∷ store_words ask.now (decimal (cas_in ask.now) ∷ [])) ++ block_text ask.now.body)) }
+fn put_cas_line(out: &mut BytesMut, ask: &Ask) -> Result<(), AllocError>
+    ensures ok { OnOk result (out.new.items ≡ out.old.items ++ line_of (command_word ask.now.op ask.now.with_cas ∷ store_words ask.now (decimal (cas_in ask.now) ∷ []))) }
     ensures err { OnErr result (take (length out.old.items) out.new.items ≡ out.old.items) }
 {
     let mut buffer = Buffer::new();
     put_head(out, ask, exptime_text(&mut buffer, ask))?;
     out.extend_from_slice(b" ")?;
     out.extend_from_slice(cas_text(&mut buffer, ask))?;
-    put_block(out, ask.body.as_slice())
+    out.extend_from_slice(b"\r\n")
+}
+
+// The line of a store.
+fn put_store_line(out: &mut BytesMut, ask: &Ask) -> Result<(), AllocError>
+    requires { stores ask.now.op ≡ true }
+    ensures ok { OnOk result (out.new.items ≡ out.old.items ++ ask_line ask.now) }
+    ensures err { OnErr result (take (length out.old.items) out.new.items ≡ out.old.items) }
+{
+    match ask.op {
+        Op::Cas => put_cas_line(out, ask),
+        Op::Set | Op::Add | Op::Replace | Op::Append | Op::Prepend => put_plain_line(out, ask),
+        _ => unreachable!(),
+    }
+}
+
+// The line of a store, its data, and their end.
+fn put_store(out: &mut BytesMut, ask: &Ask) -> Result<(), AllocError>
+    requires { stores ask.now.op ≡ true }
+    ensures ok { OnOk result (out.new.items ≡ out.old.items ++ (ask_line ask.now ++ block_text ask.now.body)) }
+    ensures err { OnErr result (take (length out.old.items) out.new.items ≡ out.old.items) }
+{
+    put_store_line(out, ask)?;
+    out.extend_from_slice(ask.body.as_slice())?;
+    out.extend_from_slice(b"\r\n")
 }
 
 fn put_gat(out: &mut BytesMut, ask: &Ask) -> Result<(), AllocError>
@@ -159,8 +173,7 @@ fn put_ask(out: &mut BytesMut, ask: &Ask) -> Result<(), AllocError>
         Op::Gat => put_gat(out, ask),
         Op::Touch => put_touch(out, ask),
         Op::Incr | Op::Decr => put_count(out, ask),
-        Op::Cas => put_cas(out, ask),
-        Op::Set | Op::Add | Op::Replace | Op::Append | Op::Prepend => put_store(out, ask),
+        Op::Set | Op::Add | Op::Replace | Op::Append | Op::Prepend | Op::Cas => put_store(out, ask),
     }
 }
 
@@ -175,6 +188,24 @@ pub fn write_ask(ask: &Ask, out: &mut BytesMut) -> Result<(), AllocError>
 {
     let len = out.len();
     let written = put_ask(out, ask);
+    if written.is_err() {
+        out.truncate(len);
+    }
+    written
+}
+
+/// Appends the line of a store, up to where its data begin.
+///
+/// The only error is running out of memory, which leaves the buffer as it was.
+///
+/// Source: memcached's protocol.txt, "Storage commands".
+pub fn write_store_line(ask: &Ask, out: &mut BytesMut) -> Result<(), AllocError>
+    requires { stores ask.now.op ≡ true }
+    ensures ok { OnOk result (out.new.items ≡ out.old.items ++ ask_line ask.now) }
+    ensures err { OnErr result (out.new.items ≡ out.old.items) }
+{
+    let len = out.len();
+    let written = put_store_line(out, ask);
     if written.is_err() {
         out.truncate(len);
     }

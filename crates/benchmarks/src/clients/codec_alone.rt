@@ -9,7 +9,7 @@ use crate::codec::{after_request, one_more};
 use bytes::BytesMut;
 use mc_types::Ask;
 use std::alloc::{AllocError, Global};
-use text_codec::{Read, Request, read_request, write_part};
+use text_codec::{Read, Received, Request, read_request, write_part};
 
 /// What clients say in a round, and room for what they are answered.
 #[derive(Drop)]
@@ -40,7 +40,7 @@ fn answer_request(
     let mut count = 0;
     let mut asks = request.walk();
     for _ in 0..request.asks() {
-        if let Some(ask) = asks.next(alloc, bytes)? {
+        if let Some(ask) = asks.next(alloc, &Received::copied(bytes))? {
             count = one_more(count);
             answer_ask(quiet, count == all, ask, out)?;
         }

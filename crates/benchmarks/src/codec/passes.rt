@@ -11,8 +11,8 @@ use mc_text::search::first_byte;
 use mc_types::Ask;
 use std::alloc::{AllocError, Global};
 use text_codec::{
-    AnswerRead, Read, RefusalReason, Request, Skip, read_answer, read_request, write_answer,
-    write_ask,
+    AnswerRead, Read, Received, RefusalReason, Request, Skip, read_answer, read_request,
+    write_answer, write_ask,
 };
 
 // What stands after the first line, if it ends.
@@ -90,7 +90,7 @@ fn make_asks(alloc: Global, request: &Request, bytes: &[u8]) -> Result<u64, Allo
     let mut count = 0;
     let mut asks = request.walk();
     for _ in 0..request.asks() {
-        if let Some(ask) = asks.next(alloc, bytes)? {
+        if let Some(ask) = asks.next(alloc, &Received::copied(bytes))? {
             drop_ask(ask);
             count = one_more(count);
         }
@@ -131,7 +131,7 @@ fn add_exchanges(
 {
     let mut asks = request.walk();
     for _ in 0..request.asks() {
-        if let Some(ask) = asks.next(alloc, bytes)? {
+        if let Some(ask) = asks.next(alloc, &Received::copied(bytes))? {
             let answer = answer_to(alloc, &ask)?;
             exchanges.push(Exchange { ask, answer })?;
         }

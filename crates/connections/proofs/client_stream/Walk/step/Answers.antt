@@ -12,8 +12,8 @@ returns-clause-at c =
     let next = c.in_ok-next.field-0 in
     record {
       read = c.requires.at.read;
-      asks = subst (λ (bytes : List ℕ). IsWalk bytes c.next.new.self) c.held.ensures c.in_ok-next.ensures.walk;
+      asks = subst (λ (bytes : List ℕ). IsWalk bytes c.next.new.self) c.received.ensures c.in_ok-next.ensures.walk;
       request = c.in_ok-next.ensures.request ∙ c.requires.at.request;
       taken = c.in_ok-next.ensures.taken ∙ ap (λ n. counted next n) c.requires.at.taken
-          ∙ counted_one next (asks_of (message_in (held_at place) walk.request)) walk.taken (next_is place walk c.held.result.now next c.held.ensures c.requires.at c.in_ok-next.ensures.value) c.requires.there;
+          ∙ counted_one next (asks_of (message_in (held_at place) walk.request)) walk.taken (next_is place walk c.received.result next c.received.ensures c.requires.at c.in_ok-next.ensures.value) c.requires.there;
     }

@@ -1,6 +1,7 @@
-use Rattle.std.proofs.Common.{◌≡◌, ◌∙◌, ◌+◌, sym, ap, take, refl, Some, arith}
+use Rattle.std.proofs.Common.{◌≡◌, ℕ, List, [], ◌∙◌, ◌+◌, sym, ap, subst, take, drop, refl, Some, arith}
 use Rattle.text_requests.specs.Asks.{IsClassicAsk}
-use Rattle.mc_text.specs.Word.{text_at}
+use Rattle.mc_text.specs.Word.{words, text_at, IsNextWord}
+use Rattle.mc_types.specs.KeyText.{IsKey}
 use Rattle.text_requests.specs.Asks.{asks_of, retrieval_ask}
 use Rattle.text_requests.specs.Places.{order_in}
 use Rattle.text_requests.specs.Message.{message_in}
@@ -10,44 +11,44 @@ use Rattle.text_requests.proofs.asking.Asks.next.Goals as goal
 
 pub key_at-requires-clause-key : goal.key_at-requires-clause-key
 key_at-requires-clause-key c =
-    let at = stands c.args.bytes.now c.args.self.now.request.command c.in-Retrieval.exptime c.in-Retrieval.with_cas c.in-Retrieval.keys c.args.self.now.at c.args.self.now.taken c.in-Retrieval.is c.requires.place in
-    let there = next_key c.args.bytes.now c.in-Retrieval.keys c.args.self.now.at c.args.self.now.taken c.in-Some.word at c.in-Some.ensures in
-    key_there c.args.bytes.now c.args.self.now.request c.in-Retrieval.exptime c.in-Retrieval.with_cas c.in-Retrieval.keys c.args.self.now.taken _ c.requires.read c.in-Retrieval.is there
+    let at = stands c.args.received.now c.args.self.now.request.command c.in-Retrieval.exptime c.in-Retrieval.with_cas c.in-Retrieval.keys c.args.self.now.at c.args.self.now.taken c.in-Retrieval.is c.requires.place in
+    let there = next_key c.args.received.now c.in-Retrieval.keys c.args.self.now.at c.args.self.now.taken c.in-Some.word at (subst (λ (t : List ℕ). IsNextWord t c.args.self.now.at c.in-Some.word) c.front_of-line.ensures c.in-Some.ensures) in
+    subst (λ (t : List ℕ). IsKey (text_at t c.in-Some.word)) (sym c.front_of-line.ensures) (key_there c.args.received.now c.args.self.now.request c.in-Retrieval.exptime c.in-Retrieval.with_cas c.in-Retrieval.keys c.args.self.now.taken _ c.requires.read c.in-Retrieval.is there)
 
 pub returns-in-None-clause-value : goal.returns-in-None-clause-value
 returns-in-None-clause-value c =
-    let at = stands c.args.bytes.now c.args.self.now.request.command c.in-Retrieval.exptime c.in-Retrieval.with_cas c.in-Retrieval.keys c.args.self.now.at c.args.self.now.taken c.in-Retrieval.is c.requires.place in
-    let none = all_taken c.args.bytes.now c.in-Retrieval.keys c.args.self.now.at c.args.self.now.taken at c.in-None.ensures in
-    sym (no_ask c.args.bytes.now (text_at c.args.bytes.now c.args.self.now.request.block) c.args.self.now.request.command c.in-Retrieval.exptime c.in-Retrieval.with_cas c.in-Retrieval.keys c.args.self.now.taken c.in-Retrieval.is none)
+    let at = stands c.args.received.now c.args.self.now.request.command c.in-Retrieval.exptime c.in-Retrieval.with_cas c.in-Retrieval.keys c.args.self.now.at c.args.self.now.taken c.in-Retrieval.is c.requires.place in
+    let none = all_taken c.args.received.now c.in-Retrieval.keys c.args.self.now.at c.args.self.now.taken at (subst (λ (t : List ℕ). words (drop c.args.self.now.at t) ≡ []) c.front_of-line.ensures c.in-None.ensures) in
+    sym (no_ask c.args.received.now (text_at c.args.received.now c.args.self.now.request.block) c.args.self.now.request.command c.in-Retrieval.exptime c.in-Retrieval.with_cas c.in-Retrieval.keys c.args.self.now.taken c.in-Retrieval.is none)
 
 pub returns-in-Some-clause-value : goal.returns-in-Some-clause-value
 returns-in-Some-clause-value c =
-    let at = stands c.args.bytes.now c.args.self.now.request.command c.in-Retrieval.exptime c.in-Retrieval.with_cas c.in-Retrieval.keys c.args.self.now.at c.args.self.now.taken c.in-Retrieval.is c.requires.place in
-    let there = next_key c.args.bytes.now c.in-Retrieval.keys c.args.self.now.at c.args.self.now.taken c.in-Some.word at c.in-Some.ensures in
-    let same : retrieval_ask c.in-Retrieval.exptime c.in-Retrieval.with_cas (text_at (take c.in-Retrieval.keys.span.end c.args.bytes.now) c.in-Some.word) ≡ c.retrieved.result = ap (retrieval_ask c.in-Retrieval.exptime c.in-Retrieval.with_cas) (sym c.key_at.ensures) ∙ sym c.retrieved.ensures in
-    sym (nth_ask c.args.bytes.now (text_at c.args.bytes.now c.args.self.now.request.block) c.args.self.now.request.command c.in-Retrieval.exptime c.in-Retrieval.with_cas c.in-Retrieval.keys c.args.self.now.taken _ c.in-Retrieval.is there ∙ ap Some same)
+    let at = stands c.args.received.now c.args.self.now.request.command c.in-Retrieval.exptime c.in-Retrieval.with_cas c.in-Retrieval.keys c.args.self.now.at c.args.self.now.taken c.in-Retrieval.is c.requires.place in
+    let there = next_key c.args.received.now c.in-Retrieval.keys c.args.self.now.at c.args.self.now.taken c.in-Some.word at (subst (λ (t : List ℕ). IsNextWord t c.args.self.now.at c.in-Some.word) c.front_of-line.ensures c.in-Some.ensures) in
+    let same : retrieval_ask c.in-Retrieval.exptime c.in-Retrieval.with_cas (text_at (take c.in-Retrieval.keys.span.end c.args.received.now) c.in-Some.word) ≡ c.retrieved.result = ap (retrieval_ask c.in-Retrieval.exptime c.in-Retrieval.with_cas) (sym (c.key_at.ensures ∙ ap (λ (t : List ℕ). text_at t c.in-Some.word) c.front_of-line.ensures)) ∙ sym c.retrieved.ensures in
+    sym (nth_ask c.args.received.now (text_at c.args.received.now c.args.self.now.request.block) c.args.self.now.request.command c.in-Retrieval.exptime c.in-Retrieval.with_cas c.in-Retrieval.keys c.args.self.now.taken _ c.in-Retrieval.is there ∙ ap Some same)
 
 pub returns-in-Some-clause-walk : goal.returns-in-Some-clause-walk
 returns-in-Some-clause-walk c =
-    let at = stands c.args.bytes.now c.args.self.now.request.command c.in-Retrieval.exptime c.in-Retrieval.with_cas c.in-Retrieval.keys c.args.self.now.at c.args.self.now.taken c.in-Retrieval.is c.requires.place in
+    let at = stands c.args.received.now c.args.self.now.request.command c.in-Retrieval.exptime c.in-Retrieval.with_cas c.in-Retrieval.keys c.args.self.now.at c.args.self.now.taken c.in-Retrieval.is c.requires.place in
     record {
       read = c.requires.read;
-      place = back_at c.args.bytes.now c.args.self.now.request.command c.in-Retrieval.exptime c.in-Retrieval.with_cas c.in-Retrieval.keys c.in-Some.word.end (c.args.self.now.taken + 1) c.in-Retrieval.is (next_place c.args.bytes.now c.in-Retrieval.keys c.args.self.now.at c.args.self.now.taken c.in-Some.word at c.in-Some.ensures);
+      place = back_at c.args.received.now c.args.self.now.request.command c.in-Retrieval.exptime c.in-Retrieval.with_cas c.in-Retrieval.keys c.in-Some.word.end (c.args.self.now.taken + 1) c.in-Retrieval.is (next_place c.args.received.now c.in-Retrieval.keys c.args.self.now.at c.args.self.now.taken c.in-Some.word at (subst (λ (t : List ℕ). IsNextWord t c.args.self.now.at c.in-Some.word) c.front_of-line.ensures c.in-Some.ensures));
     }
 
 pub returns-in-Some-2 : goal.returns-in-Some-2
 returns-in-Some-2 c =
     let zero : c.args.self.now.taken ≡ 0 = omega arith in
     let is = sym c.in_ok-single-in_default.ensures ∙ c.in-Some-2.is in
-    let value = first_ask (order_in c.args.bytes.now c.args.self.now.request.command) (text_at c.args.bytes.now c.args.self.now.request.block) c.in-Some-2.ask c.args.self.now.taken is zero in
+    let value = first_ask (order_in c.args.received.now c.args.self.now.request.command) (text_at c.args.received.now c.args.self.now.request.block) c.in-Some-2.ask c.args.self.now.taken is zero in
     record {
       value = sym value;
-      ask = found IsClassicAsk (asks_of (message_in c.args.bytes.now c.args.self.now.request)) c.args.self.now.taken c.in-Some-2.ask (asks_sound c.args.bytes.now c.args.self.now.request c.requires.read) value;
+      ask = found IsClassicAsk (asks_of (message_in c.args.received.now c.args.self.now.request)) c.args.self.now.taken c.in-Some-2.ask (asks_sound c.args.received.now c.args.self.now.request c.requires.read) value;
       taken = omega arith;
       request = refl;
-      walk = record { read = c.requires.read; place = single_at c.args.bytes.now (text_at c.args.bytes.now c.args.self.now.request.block) c.args.self.now.request.command c.args.self.now.at 1 c.in-Some-2.ask is };
+      walk = record { read = c.requires.read; place = single_at c.args.received.now (text_at c.args.received.now c.args.self.now.request.block) c.args.self.now.request.command c.args.self.now.at 1 c.in-Some-2.ask is };
       err = tt;
     }
 
 pub returns-in-Some-clause-ask : goal.returns-in-Some-clause-ask
-returns-in-Some-clause-ask c = found IsClassicAsk (asks_of (message_in c.args.bytes.now c.args.self.now.request)) c.args.self.now.taken c.retrieved.result (asks_sound c.args.bytes.now c.args.self.now.request c.requires.read) (sym (returns-in-Some-clause-value c))
+returns-in-Some-clause-ask c = found IsClassicAsk (asks_of (message_in c.args.received.now c.args.self.now.request)) c.args.self.now.taken c.retrieved.result (asks_sound c.args.received.now c.args.self.now.request c.requires.read) (sym (returns-in-Some-clause-value c))

@@ -1,7 +1,8 @@
-use Rattle.std.proofs.Common.{◌≡◌, ◌∙◌, sym, ap, take, Some, None}
+use Rattle.std.proofs.Common.{◌≡◌, ℕ, List, ◌∙◌, sym, ap, subst, take, drop, Some, None}
 use Rattle.std.specs.Prelude.{slice_get}
 use Rattle.text_requests.specs.Asks.{IsClassicAsk}
-use Rattle.mc_text.specs.Word.{text_at}
+use Rattle.mc_text.specs.Word.{words, text_at}
+use Rattle.mc_types.specs.KeyText.{IsKey}
 use Rattle.text_requests.specs.Asks.{asks_of, retrieval_ask}
 use Rattle.text_requests.specs.Places.{order_in, keys_in}
 use Rattle.text_requests.specs.Message.{message_in}
@@ -11,27 +12,27 @@ use Rattle.text_requests.proofs.command.Request.ask.Goals as goal
 
 pub key_at-requires-clause-key : goal.key_at-requires-clause-key
 key_at-requires-clause-key c =
-    let at = lies c.args.bytes.now c.args.self.now c.in-Retrieval.exptime c.in-Retrieval.with_cas c.in-Retrieval.keys c.requires.read c.in-Retrieval.is in
-    let there : slice_get (keys_in c.args.bytes.now c.in-Retrieval.keys) c.args.i ≡ Some (text_at (take c.in-Retrieval.keys.span.end c.args.bytes.now) c.in-Some.word) = ap (λ ks. slice_get ks c.args.i) (sym (keys_line c.args.bytes.now c.in-Retrieval.keys at.span)) ∙ sym c.in-Some.ensures.value in
-    key_there c.args.bytes.now c.args.self.now c.in-Retrieval.exptime c.in-Retrieval.with_cas c.in-Retrieval.keys c.args.i _ c.requires.read c.in-Retrieval.is there
+    let at = lies c.args.received.now c.args.self.now c.in-Retrieval.exptime c.in-Retrieval.with_cas c.in-Retrieval.keys c.requires.read c.in-Retrieval.is in
+    let there : slice_get (keys_in c.args.received.now c.in-Retrieval.keys) c.args.i ≡ Some (text_at (take c.in-Retrieval.keys.span.end c.args.received.now) c.in-Some.word) = ap (λ ks. slice_get ks c.args.i) (sym (keys_line c.args.received.now c.in-Retrieval.keys at.span)) ∙ sym (subst (λ (t : List ℕ). Some (text_at t c.in-Some.word) ≡ slice_get (words (drop c.in-Retrieval.keys.span.start t)) c.args.i) c.front_of-line.ensures c.in-Some.ensures.value) in
+    subst (λ (t : List ℕ). IsKey (text_at t c.in-Some.word)) (sym c.front_of-line.ensures) (key_there c.args.received.now c.args.self.now c.in-Retrieval.exptime c.in-Retrieval.with_cas c.in-Retrieval.keys c.args.i _ c.requires.read c.in-Retrieval.is there)
 
 pub unreachable-requires : goal.unreachable-requires
 unreachable-requires c =
-    let at = lies c.args.bytes.now c.args.self.now c.in-Retrieval.exptime c.in-Retrieval.with_cas c.in-Retrieval.keys c.requires.read c.in-Retrieval.is in
-    let none : slice_get (keys_in c.args.bytes.now c.in-Retrieval.keys) c.args.i ≡ None = ap (λ ks. slice_get ks c.args.i) (sym (keys_line c.args.bytes.now c.in-Retrieval.keys at.span)) ∙ sym c.in-None.ensures.value in
-    inside (asks_of (message_in c.args.bytes.now c.args.self.now)) c.args.i c.requires.there (no_ask c.args.bytes.now (text_at c.args.bytes.now c.args.self.now.block) c.args.self.now.command c.in-Retrieval.exptime c.in-Retrieval.with_cas c.in-Retrieval.keys c.args.i c.in-Retrieval.is none)
+    let at = lies c.args.received.now c.args.self.now c.in-Retrieval.exptime c.in-Retrieval.with_cas c.in-Retrieval.keys c.requires.read c.in-Retrieval.is in
+    let none : slice_get (keys_in c.args.received.now c.in-Retrieval.keys) c.args.i ≡ None = ap (λ ks. slice_get ks c.args.i) (sym (keys_line c.args.received.now c.in-Retrieval.keys at.span)) ∙ sym (subst (λ (t : List ℕ). None ≡ slice_get (words (drop c.in-Retrieval.keys.span.start t)) c.args.i) c.front_of-line.ensures c.in-None.ensures.value) in
+    inside (asks_of (message_in c.args.received.now c.args.self.now)) c.args.i c.requires.there (no_ask c.args.received.now (text_at c.args.received.now c.args.self.now.block) c.args.self.now.command c.in-Retrieval.exptime c.in-Retrieval.with_cas c.in-Retrieval.keys c.args.i c.in-Retrieval.is none)
 
 pub returns-in-Some-clause-value : goal.returns-in-Some-clause-value
 returns-in-Some-clause-value c =
-    let at = lies c.args.bytes.now c.args.self.now c.in-Retrieval.exptime c.in-Retrieval.with_cas c.in-Retrieval.keys c.requires.read c.in-Retrieval.is in
-    let there : slice_get (keys_in c.args.bytes.now c.in-Retrieval.keys) c.args.i ≡ Some (text_at (take c.in-Retrieval.keys.span.end c.args.bytes.now) c.in-Some.word) = ap (λ ks. slice_get ks c.args.i) (sym (keys_line c.args.bytes.now c.in-Retrieval.keys at.span)) ∙ sym c.in-Some.ensures.value in
-    let same : retrieval_ask c.in-Retrieval.exptime c.in-Retrieval.with_cas (text_at (take c.in-Retrieval.keys.span.end c.args.bytes.now) c.in-Some.word) ≡ c.retrieved.result = ap (retrieval_ask c.in-Retrieval.exptime c.in-Retrieval.with_cas) (sym c.key_at.ensures) ∙ sym c.retrieved.ensures in
-    nth_ask c.args.bytes.now (text_at c.args.bytes.now c.args.self.now.block) c.args.self.now.command c.in-Retrieval.exptime c.in-Retrieval.with_cas c.in-Retrieval.keys c.args.i _ c.in-Retrieval.is there ∙ ap Some same
+    let at = lies c.args.received.now c.args.self.now c.in-Retrieval.exptime c.in-Retrieval.with_cas c.in-Retrieval.keys c.requires.read c.in-Retrieval.is in
+    let there : slice_get (keys_in c.args.received.now c.in-Retrieval.keys) c.args.i ≡ Some (text_at (take c.in-Retrieval.keys.span.end c.args.received.now) c.in-Some.word) = ap (λ ks. slice_get ks c.args.i) (sym (keys_line c.args.received.now c.in-Retrieval.keys at.span)) ∙ sym (subst (λ (t : List ℕ). Some (text_at t c.in-Some.word) ≡ slice_get (words (drop c.in-Retrieval.keys.span.start t)) c.args.i) c.front_of-line.ensures c.in-Some.ensures.value) in
+    let same : retrieval_ask c.in-Retrieval.exptime c.in-Retrieval.with_cas (text_at (take c.in-Retrieval.keys.span.end c.args.received.now) c.in-Some.word) ≡ c.retrieved.result = ap (retrieval_ask c.in-Retrieval.exptime c.in-Retrieval.with_cas) (sym (c.key_at.ensures ∙ ap (λ (t : List ℕ). text_at t c.in-Some.word) c.front_of-line.ensures)) ∙ sym c.retrieved.ensures in
+    nth_ask c.args.received.now (text_at c.args.received.now c.args.self.now.block) c.args.self.now.command c.in-Retrieval.exptime c.in-Retrieval.with_cas c.in-Retrieval.keys c.args.i _ c.in-Retrieval.is there ∙ ap Some same
 
 pub returns-in-Some-2 : goal.returns-in-Some-2
 returns-in-Some-2 c =
-    let value : slice_get (asks_of (message_in c.args.bytes.now c.args.self.now)) c.args.i ≡ Some c.in-Some-2.ask = only_ask (order_in c.args.bytes.now c.args.self.now.command) (text_at c.args.bytes.now c.args.self.now.block) c.in-Some-2.ask c.args.i (sym c.in_ok-ask-in_default.ensures ∙ c.in-Some-2.is) c.requires.there in
-    record { value = value; ask = found IsClassicAsk (asks_of (message_in c.args.bytes.now c.args.self.now)) c.args.i c.in-Some-2.ask (asks_sound c.args.bytes.now c.args.self.now c.requires.read) value }
+    let value : slice_get (asks_of (message_in c.args.received.now c.args.self.now)) c.args.i ≡ Some c.in-Some-2.ask = only_ask (order_in c.args.received.now c.args.self.now.command) (text_at c.args.received.now c.args.self.now.block) c.in-Some-2.ask c.args.i (sym c.in_ok-ask-in_default.ensures ∙ c.in-Some-2.is) c.requires.there in
+    record { value = value; ask = found IsClassicAsk (asks_of (message_in c.args.received.now c.args.self.now)) c.args.i c.in-Some-2.ask (asks_sound c.args.received.now c.args.self.now c.requires.read) value }
 
 pub returns-in-Some-clause-ask : goal.returns-in-Some-clause-ask
-returns-in-Some-clause-ask c = found IsClassicAsk (asks_of (message_in c.args.bytes.now c.args.self.now)) c.args.i c.retrieved.result (asks_sound c.args.bytes.now c.args.self.now c.requires.read) (returns-in-Some-clause-value c)
+returns-in-Some-clause-ask c = found IsClassicAsk (asks_of (message_in c.args.received.now c.args.self.now)) c.args.i c.retrieved.result (asks_sound c.args.received.now c.args.self.now c.requires.read) (returns-in-Some-clause-value c)

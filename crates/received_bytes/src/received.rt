@@ -1,14 +1,14 @@
-//! Bytes that a server sent, and perhaps the shared buffer that they stand in.
+//! Bytes that came, and perhaps the shared buffer that they stand in.
 
-ghost use Rattle.std.specs.Prelude.{◌≡◌, ◌<◌, ◌≤◌, ◌+◌, IfOk, drop, length, take};
+ghost use Rattle.std.specs.Prelude.{◌≡◌, ◌<◌, ◌≤◌, ◌+◌, IfOk, drop, length, take, slice_range};
 
 use bytes::Bytes;
 use mc_types::Body;
 use std::alloc::{AllocError, Global};
 use std::marker::Model;
 
-/// From so many bytes on, the data of an answer are shared in place of being copied: with the buffer that they came in, where they are
-/// read, and with what is to be sent, where they are shown.
+/// From so many bytes on, data are shared in place of being copied: with the buffer that they came in, where they are read, and with what
+/// is to be sent, where they are written.
 ///
 /// Shorter data are copied sooner than shared, and would keep all of the buffer that they came in for as long as they last.
 pub const SHARED_FROM: usize = 65_536;
@@ -22,7 +22,7 @@ enum Source<'a> {
     Shared(&'a Bytes, usize),
 }
 
-/// Bytes that a server sent, and perhaps the shared buffer that they stand in. Contracts see the bytes.
+/// Bytes that a client or a server sent, and perhaps the shared buffer that they stand in. Contracts see the bytes.
 #[derive(Drop)]
 pub struct Received<'a> {
     source: Source<'a>,
@@ -60,7 +60,7 @@ fn cut_at(bytes: &Bytes, at: usize, len: usize) -> Result<Body, AllocError>
 
 impl<'a> Model for Received<'a> {
     ghost use Rattle.std.specs.Prelude.{List, ℕ};
-    ghost use Rattle.text_answers.specs.Sources.{bytes_from};
+    ghost use Rattle.received_bytes.specs.Sources.{bytes_from};
 
     ghost Value = { List ℕ };
 
@@ -96,8 +96,16 @@ impl<'a> Received<'a> {
         }
     }
 
-    // What stands after so many of them.
-    pub(crate) fn after(&self, count: usize) -> Received<'a>
+    /// Those from one place up to another.
+    pub fn between(&self, start: usize, end: usize) -> &[u8]
+        requires { (start ≤ end) × (end ≤ length self.now) }
+        ensures { result.now ≡ slice_range self.now start end }
+    {
+        &self.bytes()[start..end]
+    }
+
+    /// What stands after so many of them.
+    pub fn after(&self, count: usize) -> Received<'a>
         requires { count ≤ length self.now }
         ensures { result ≡ drop count self.now }
     {
@@ -108,8 +116,8 @@ impl<'a> Received<'a> {
         Received { source }
     }
 
-    // The first so many of them, as data. The only error is running out of memory.
-    pub(crate) fn data(&self, alloc: Global, len: usize) -> Result<Body, AllocError>
+    /// The first so many of them, as data. The only error is running out of memory.
+    pub fn data(&self, alloc: Global, len: usize) -> Result<Body, AllocError>
         requires { len ≤ length self.now }
         ensures { IfOk result (λ body. body ≡ take len self.now) }
     {
@@ -117,5 +125,13 @@ impl<'a> Received<'a> {
             Source::Shared(bytes, at) if len >= SHARED_FROM => cut_at(bytes, *at, len),
             _ => Body::from_slice(alloc, &self.bytes()[..len]),
         }
+    }
+
+    /// Those from one place up to another, as data: a copy, or a part of the shared buffer where they are [`SHARED_FROM`] or more. The only error is running out of memory.
+    pub fn data_between(&self, alloc: Global, start: usize, end: usize) -> Result<Body, AllocError>
+        requires { (start ≤ end) × (end ≤ length self.now) }
+        ensures { IfOk result (λ body. body ≡ slice_range self.now start end) }
+    {
+        self.after(start).data(alloc, end - start)
     }
 }
