@@ -2,3 +2,4 @@ pub mod Lines
 pub mod Idle
 pub mod Commands
 pub mod Counting
+pub mod ByPlace

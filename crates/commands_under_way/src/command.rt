@@ -40,9 +40,9 @@ impl Command {
         ensures { result ≡ has_call_out self.now }
     {
         self.is_out
-            && match self.job.next() {
-                Step::Call { .. } => true,
-                Step::Done(_) => false,
+            && match self.job.server() {
+                Some(_) => true,
+                None => false,
             }
     }
 
@@ -51,9 +51,9 @@ impl Command {
         ensures { result ≡ is_called server self.now }
     {
         self.is_out
-            && match self.job.next() {
-                Step::Call { server: at, .. } => at == server,
-                Step::Done(_) => false,
+            && match self.job.server() {
+                Some(at) => at == server,
+                None => false,
             }
     }
 
@@ -62,9 +62,9 @@ impl Command {
         requires { has_call_out self.now ≡ true }
         ensures { result ≡ server_in self.now.job.pending }
     {
-        match self.job.next() {
-            Step::Call { server, .. } => server,
-            Step::Done(_) => unreachable!(),
+        match self.job.server() {
+            Some(server) => server,
+            None => unreachable!(),
         }
     }
 

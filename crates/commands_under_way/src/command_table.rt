@@ -1,8 +1,8 @@
 //! The commands that have begun and have not ended.
 
-ghost use Rattle.std.specs.Prelude.{◌≡◌, ◌+◌, ◌++◌, ◌∷◌, [], ◌↔◌, ℕ, List, true, false, not, Some, None, if◌then◌else◌, nat_eq, IfOk, OnOk, OnErr, IsSome, option_copied};
+ghost use Rattle.std.specs.Prelude.{◌≡◌, ◌+◌, ◌++◌, ◌∷◌, [], ◌↔◌, ℕ, List, true, false, not, Some, None, if◌then◌else◌, nat_eq, IfOk, IfSome, OnOk, OnErr, IsSome, is_some, option_copied, slice_get};
 ghost use Rattle.std.specs.List.{list_any};
-ghost use Rattle.indexmap.specs.IndexMap.{get, values, index_map_len, IsEmpty};
+ghost use Rattle.indexmap.specs.IndexMap.{get, index_of_by, values, index_map_len, swap_remove_entry, IsEmpty};
 ghost use Rattle.mc_runs.specs.Run.{Call as CallMade};
 ghost use Rattle.mc_runs.specs.Single.{FitsOutcome};
 ghost use Rattle.route_tree.specs.Word.{Given};
@@ -86,6 +86,50 @@ fn put_new(number: u64, command: Command, commands: &mut IndexMap<u64, Command>)
         unreachable!();
     };
     is_none(old)
+}
+
+// Where the command of this number stands, if there is one. The one that began last stands last, and isn't looked up by its hash:
+// what goes on with a command is mostly asked just after it began.
+fn place_of(number: u64, commands: &IndexMap<u64, Command>) -> Option<usize>
+    ensures index { result ≡ index_of_by (nat_eq number) commands.now }
+    ensures found { is_some result ≡ is_some (get nat_eq commands.now number) }
+    ensures value { IfSome result (λ i. slice_get (values commands.now) i ≡ get nat_eq commands.now number) }
+{
+    if let Some((last, _)) = commands.last() {
+        if *last == number {
+            return Some(commands.len() - 1);
+        }
+    }
+    commands.get_index_of(&number)
+}
+
+// The command of this number.
+fn command_at(number: u64, commands: &IndexMap<u64, Command>) -> Option<&Command>
+    ensures value { option_copied result ≡ get nat_eq commands.now number }
+{
+    match place_of(number, commands) {
+        None => None,
+        Some(place) => match commands.get_index(place) {
+            Some((_, command)) => Some(command),
+            None => unreachable!(),
+        },
+    }
+}
+
+// Takes the command of this number out of its place, which the last one has then.
+fn take_out(number: u64, commands: &mut IndexMap<u64, Command>) -> Option<Command>
+    ensures value { result ≡ get nat_eq commands.old number }
+    ensures gone { (n : ℕ) → get nat_eq commands.new n ≡ (if nat_eq number n then None else get nat_eq commands.old n) }
+    ensures entries { commands.new.entries ≡ swap_remove_entry (nat_eq number) commands.old.entries }
+    ensures len { index_map_len commands.new + (if is_some result then 1 else 0) ≡ index_map_len commands.old }
+{
+    match place_of(number, commands) {
+        None => None,
+        Some(place) => match commands.swap_remove_index(place) {
+            Some((_, command)) => Some(command),
+            None => unreachable!(),
+        },
+    }
 }
 
 // Whether both hold.
@@ -186,7 +230,7 @@ impl CommandTable {
     pub fn get(&self, number: u64) -> Option<&Command>
         ensures value { option_copied result ≡ get nat_eq self.now number }
     {
-        self.by_number.get(&number)
+        command_at(number, &self.by_number)
     }
 
     /// The commands, by number. It takes no memory.
@@ -227,7 +271,7 @@ impl CommandTable {
         ensures gone { (n : ℕ) → get nat_eq self.new n ≡ (if nat_eq number n then None else get nat_eq self.old n) }
         ensures less { IsSome (get nat_eq self.old number) → index_map_len self.new + 1 ≡ index_map_len self.old }
     {
-        let command = self.by_number.swap_remove(&number)?;
+        let command = take_out(number, &mut self.by_number)?;
         let claim = command.claim;
         let is_idle = !command.has_call_out();
         let clears = uncount_where(claim.clears, command.ask.key(), &mut self.clearing);
@@ -247,7 +291,10 @@ impl CommandTable {
         ensures ok { IfOk result (λ ticket. CallsOut self.old number ticket self.new) }
         ensures err { OnErr result (self.new ≡ self.old) }
     {
-        let Some(command) = self.by_number.get_mut(&number) else {
+        let Some(place) = place_of(number, &self.by_number) else {
+            unreachable!();
+        };
+        let Some(command) = self.by_number.get_index_mut(place) else {
             unreachable!();
         };
         let ticket = command.send(number)?;
@@ -262,7 +309,7 @@ impl CommandTable {
     pub fn caller(&self, number: u64) -> Option<usize>
         ensures { IsCallerOf self.now number result }
     {
-        let command = self.by_number.get(&number)?;
+        let command = command_at(number, &self.by_number)?;
         if command.has_call_out() {
             Some(command.client)
         } else {
@@ -276,7 +323,10 @@ impl CommandTable {
         requires fits { (a : Command) → get nat_eq self.old number ≡ Some a → has_call_out a ≡ true → FitsOutcome (ask_under a.job.frames.items a.job.ask) outcome }
         ensures { TakesAt self.old number outcome (OnOk result) self.new }
     {
-        let Some(command) = self.by_number.get_mut(&number) else {
+        let Some(place) = place_of(number, &self.by_number) else {
+            unreachable!();
+        };
+        let Some(command) = self.by_number.get_index_mut(place) else {
             unreachable!();
         };
         let server = command.server();

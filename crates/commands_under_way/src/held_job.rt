@@ -1,17 +1,16 @@
 //! A job that stays where it is while its command is moved.
 
-ghost use Rattle.std.specs.Prelude.{◌≡◌, ◌↔◌, List, [], ◌∷◌, IfOk, OnOk};
+ghost use Rattle.std.specs.Prelude.{◌≡◌, ◌↔◌, List, [], ◌∷◌, IfNone, IfOk, IfSome, OnOk};
 ghost use Rattle.mc_runs.specs.Run.{Call as CallMade};
 ghost use Rattle.mc_runs.specs.Single.{FitsOutcome};
 ghost use Rattle.route_tree.specs.Word.{Given};
 ghost use Rattle.route_job.specs.Given.{given_of};
-ghost use Rattle.route_job.specs.Jobs.{Comes, call_of, IsBroken, IsNext, IsCalling, IsDone};
+ghost use Rattle.route_job.specs.Jobs.{Comes, call_of, server_in, IsBroken, IsNext, IsCalling, IsDone};
 
-use mc_types::{Outcome, SharedAsk};
+use mc_types::{Outcome, ServerId, SharedAsk};
 use route_job::{Done, Job, Step};
 use std::alloc::{AllocError, Global};
 use std::marker::Model;
-use std::mem::replace;
 
 /// A job on the heap. A job by value is some two hundred bytes, and a command goes through many hands.
 #[derive(Drop)]
@@ -61,6 +60,14 @@ impl HeldJob {
         self.job.as_ref().next()
     }
 
+    /// As `Job::server`.
+    pub fn server(&self) -> Option<ServerId>
+        ensures call { IfSome result (λ server. IsCalling self.now × (server ≡ server_in self.now.pending)) }
+        ensures done { IfNone result (IsDone self.now) }
+    {
+        self.job.as_ref().server()
+    }
+
     /// As `Job::take`.
     pub fn take(&mut self, alloc: Global, outcome: Outcome) -> Result<(), AllocError>
         requires calling { IsCalling self.old }
@@ -70,13 +77,13 @@ impl HeldJob {
         self.job.take(alloc, outcome)
     }
 
-    /// As `Job::into_done`, and the job's room, which holds nothing of the command any more, but this ask. It takes no memory.
-    pub fn end(mut self, alloc: Global, blank: SharedAsk) -> (Done, HeldJob)
+    /// As `Job::take_done`, and the job's room, which holds nothing of the command any more, but this ask. It takes no memory.
+    pub fn end(mut self, blank: SharedAsk) -> (Done, HeldJob)
         requires { IsDone self }
         ensures { (calls : List CallMade) (given : Given) → Comes self calls given ↔ ((calls ≡ []) × (given ≡ given_of result.0)) }
     {
-        let job = replace(&mut *self.job, Job::broken(alloc, blank));
-        (job.into_done(), self)
+        let done = self.job.take_done(blank);
+        (done, self)
     }
 
     /// As `Job::break_off`, in its room. It takes no memory.

@@ -118,7 +118,7 @@ impl Spares {
         match self.blank(alloc) {
             None => job.into_done(),
             Some(blank) => {
-                let (done, room) = job.end(alloc, blank);
+                let (done, room) = job.end(blank);
                 self.keep_cleared(room);
                 done
             }

@@ -4,7 +4,6 @@ ghost use Rattle.std.specs.Prelude.{◌≡◌};
 ghost use Rattle.commands_under_way.specs.Ready.{IsTurn, goes_on};
 
 use crate::command_table::CommandTable;
-use route_job::Step;
 
 /// What a command can do next.
 #[derive(Clone, Copy)]
@@ -41,9 +40,9 @@ pub fn turn_of(client: usize, window: usize, number: u64, commands: &CommandTabl
     if command.client != client {
         return Turn::Rests;
     }
-    match command.job.next() {
-        Step::Done(_) => Turn::Ends,
-        Step::Call { server, .. } => {
+    match command.job.server() {
+        None => Turn::Ends,
+        Some(server) => {
             if command.is_out {
                 Turn::Rests
             } else if commands.calls_at(server) < window {

@@ -10,7 +10,7 @@ use Rattle.key_hash.specs.Tag.{key_hash}
 use Rattle.route_tree.proofs.PlainTrees.{plan_plain}
 use Rattle.route_tree.specs.At.{plain_for, tree_at}
 use Rattle.route_tree.specs.Route.{Route, IsTree}
-use Rattle.route_tree.specs.Plan.{Server, IsPlan}
+use Rattle.route_tree.specs.Plan.{Plan, Server, IsPlan}
 use Rattle.route_tree.specs.Word.{Given, Gives, Word, given_by}
 use Rattle.route_job.specs.Given.{given_of}
 use Rattle.route_job.specs.Rest.{Comings, ask_under, origin_under}
@@ -79,6 +79,12 @@ module _ (hash : ℕ) (text : List ℕ) where
       let l = subst (λ x. Leads hash text 0 ask x (Enter tree) fs' pending) e (leads 0) in
       let r = l tt in
       ((λ calls given. ((r.0 calls given).1, (r.0 calls given).0)), r.1)
+
+  -- a plain tree that is one call of a server begins with it
+  pub calls_at_once : (fs : List Frame) (ask : Ask) (server : ℕ) (p : Plan) → fs ≡ [] → p ≡ Server server → ((calls : List Call) (given : Given) → Comings hash text fs ask Client (Calling server) 0 calls given ↔ Word p ask Client 0 calls given) × AreSure hash text 0 ask fs (Calling server)
+  calls_at_once fs ask server p none is =
+      subst (λ l. ((calls : List Call) (given : Given) → Comings hash text l ask Client (Calling server) 0 calls given ↔ Word p ask Client 0 calls given) × AreSure hash text 0 ask l (Calling server)) (sym none)
+      ((λ calls given. ((λ w. subst (λ (q : Plan). Word q ask Client 0 calls given) (sym is) w), (λ w. subst (λ (q : Plan). Word q ask Client 0 calls given) is w))), tt)
 
   pub take_is : (fs fs' : List Frame) (ask : Ask) (pending pending' : Pending) (made : ℕ) (done : Done) (outcome : Outcome) → IsCall pending → given_of done ≡ given_by made outcome → FitsOutcome (ask_under fs ask) outcome → AreSure hash text made ask fs pending → ((b : ℕ) → Leads hash text b ask fs (Back done) fs' pending') → ((calls : List Call) (given : Given) → Comings hash text fs' ask Client pending' (made + 1) calls given ↔ Comings hash text fs ask Client pending made (call_in fs ask pending outcome ∷ calls) given) × AreSure hash text (made + 1) ask fs' pending'
   take_is fs fs' ask (Enter tree) pending' made done outcome is e fits sure leads = absurd is

@@ -1,12 +1,12 @@
 //! What each form of route begins with.
 
-ghost use Rattle.std.specs.Prelude.{◌≡◌, ◌+◌, ◌*◌, ◌≤◌, ℕ, List, IfOk};
+ghost use Rattle.std.specs.Prelude.{◌≡◌, ◌+◌, ◌*◌, ◌≤◌, ℕ, List, IfOk, IfSome};
 ghost use Rattle.mc_types.specs.declared.ask.Ask.{Ask};
 ghost use Rattle.mc_types.specs.declared.call.Origin.{Origin};
 ghost use Rattle.route_tree.specs.At.{plain_for, plain_for_all, plain_for_policies};
 ghost use Rattle.route_tree.specs.Form.{policies_of};
 ghost use Rattle.route_tree.specs.Levels.{plan_of_level};
-ghost use Rattle.route_tree.specs.Plan.{AllSync, MissFailover, More, WarmUp, count, count_of_all, count_of_policies};
+ghost use Rattle.route_tree.specs.Plan.{AllSync, MissFailover, More, Server, WarmUp, count, count_of_all, count_of_policies};
 ghost use Rattle.route_tree.specs.Word.{Word, WordOfFirst, WordOfPolicy};
 ghost use Rattle.route_job.specs.Parts.{SameAt};
 ghost use Rattle.route_job.specs.Rest.{AdvanceOf};
@@ -15,8 +15,9 @@ ghost use Rattle.route_job.specs.Settling.{IsSure, advance_work};
 use crate::asks::is_get;
 use crate::done::{failing_done, null_done};
 use crate::frame::{Advance, Frame, Pending, Sides};
-use mc_types::{Ask, Op};
-use route_tree::{Children, Level, Tree, policy_of};
+use mc_types::{Ask, Op, ServerId};
+use route_tree::at::longest;
+use route_tree::{Children, Level, Tree, TreeForm, policy_of};
 use std::alloc::AllocError;
 
 // All children in order.
@@ -152,4 +153,19 @@ pub fn enter(hash: u32, text: &[u8], ask: &Ask, tree: &Tree) -> Result<Advance, 
 {
     let level = tree.level(hash, text)?;
     enter_level(ask, level)
+}
+
+/// The server that the keys of this hash and text are asked of at once, where their tree is one call of it. It takes no memory,
+/// and no part of the tree is shared for it.
+pub fn server_at_once(hash: u32, text: &[u8], tree: &Tree) -> Option<ServerId>
+    ensures { IfSome result (λ server. plain_for hash text.now tree.now ≡ Server server) }
+{
+    match tree.form() {
+        TreeForm::Pool(servers) => Some(servers[hash as usize % servers.len()]),
+        TreeForm::Server(server) => Some(*server),
+        TreeForm::ByPrefix { policies, wildcard } => {
+            server_at_once(hash, text, longest(policies, wildcard, text))
+        }
+        _ => None,
+    }
 }

@@ -1,6 +1,6 @@
 //! A command as a value: it shows its next call, and takes the outcome.
 
-ghost use Rattle.std.specs.Prelude.{◌≡◌, ◌↔◌, ◌+◌, ◌≤◌, List, [], ◌∷◌, IfOk, OnOk, OnErr};
+ghost use Rattle.std.specs.Prelude.{◌≡◌, ◌↔◌, ◌+◌, ◌≤◌, List, [], ◌∷◌, IfNone, IfOk, IfSome, OnOk, OnErr};
 ghost use Rattle.mc_types.specs.declared.call.Origin.TheVariants.{Client};
 ghost use Rattle.mc_runs.specs.Run.{Call as CallMade};
 ghost use Rattle.mc_runs.specs.Single.{FitsOutcome};
@@ -10,12 +10,14 @@ ghost use Rattle.route_job.specs.Given.{given_of};
 ghost use Rattle.route_job.specs.Settling.{IsKept, kept_prop};
 
 use crate::done::{Done, broken_done, done_by};
+use crate::entering::server_at_once;
 use crate::frame::{Frame, Pending};
 use crate::walk::{ask_under, origin_under, settle};
 use key_hash::key_hash;
 use mc_types::{Origin, Outcome, ServerId, SharedAsk};
 use route_tree::Tree;
 use std::alloc::{AllocError, Global};
+use std::mem::replace;
 
 /// One client command on a tree, stepped by the outcomes of its calls.
 ///
@@ -50,7 +52,7 @@ pub enum Step<'b> {
 }
 
 impl Job {
-    ghost use Rattle.route_job.specs.Jobs.{Comes, IsBroken, call_of, IsNext, IsCalling, IsDone, work_of};
+    ghost use Rattle.route_job.specs.Jobs.{Comes, IsBroken, call_of, server_in, IsNext, IsCalling, IsDone, work_of};
 
     /// The command on this tree for this ask: what may come of it are the words of the key's plain tree. The only error:
     /// memory was refused.
@@ -59,6 +61,16 @@ impl Job {
     {
         let hash = key_hash(ask.key());
         let _form = tree.form();
+        if let Some(server) = server_at_once(hash, ask.key().as_bytes(), tree) {
+            // (nearly always: it is called without a walk, and no part of the tree is shared)
+            return Ok(Job {
+                ask,
+                hash,
+                frames: Vec::new(alloc),
+                pending: Pending::Call(server),
+                made: 0,
+            });
+        }
         let mut frames = Vec::new(alloc);
         let root = tree.copy()?;
         let pending = settle(alloc, hash, &ask, &mut frames, Pending::Enter(root))?;
@@ -69,19 +81,6 @@ impl Job {
             pending,
             made: 0,
         })
-    }
-
-    /// A job of this ask that calls nothing, and ends as a broken one. It takes no memory.
-    pub fn broken(alloc: Global, ask: SharedAsk) -> Job
-        ensures { IsBroken result }
-    {
-        Job {
-            ask,
-            hash: 0,
-            frames: Vec::new(alloc),
-            pending: Pending::Back(broken_done()),
-            made: 0,
-        }
     }
 
     /// The next call, or how the command ended. It takes no memory.
@@ -95,6 +94,18 @@ impl Job {
                 origin: origin_under(self.frames.as_slice(), Origin::Client),
             },
             Pending::Back(done) => Step::Done(done),
+            Pending::Enter(_) => unreachable!(),
+        }
+    }
+
+    /// The server of the next call, or `None` where the command ended. It takes no memory, and looks at no frame.
+    pub fn server(&self) -> Option<ServerId>
+        ensures call { IfSome result (λ server. IsCalling self.now × (server ≡ server_in self.now.pending)) }
+        ensures done { IfNone result (IsDone self.now) }
+    {
+        match &self.pending {
+            Pending::Call(server) => Some(*server),
+            Pending::Back(_) => None,
             Pending::Enter(_) => unreachable!(),
         }
     }
@@ -139,6 +150,21 @@ impl Job {
         self.frames.clear();
         self.pending = Pending::Back(broken_done());
         self.made = 0;
+    }
+
+    /// How the command ended, whose reply alone is moved: what is left is a broken job of this ask. It takes no memory.
+    pub fn take_done(&mut self, ask: SharedAsk) -> Done
+        requires { IsDone self.old }
+        ensures done { (calls : List CallMade) (given : Given) → Comes self.old calls given ↔ ((calls ≡ []) × (given ≡ given_of result)) }
+        ensures broken { IsBroken self.new }
+    {
+        self.ask = ask;
+        self.hash = 0;
+        self.made = 0;
+        match &mut self.pending {
+            Pending::Back(done) => replace(done, broken_done()),
+            _ => unreachable!(),
+        }
     }
 
     /// How the command ended.

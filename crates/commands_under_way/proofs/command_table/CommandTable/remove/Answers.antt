@@ -15,8 +15,8 @@ invariant_of-self-2 c = λ e.
     let was = c.both.ensures on.0 in
     let those = c.both-3.ensures on.1 in
     let claims = c.both-2.ensures those.0 in
-    counted_gone table.by_number c.swap_remove.new.self table.clearing table.copying table.at_server table.waiting c.args.number a (c.self.invariant was.0) c.uncount_where-clears.new.counts c.uncount_where-copies.new.counts c.uncount_one-waited.new.self (sym c.in_ok-command.ensures.value)
-    (sym c.has_call_out-is_idle.ensures ∙ not-true c.has_call_out-is_idle.result was.1) c.swap_remove.ensures.entries
+    counted_gone table.by_number c.take_out.new.commands table.clearing table.copying table.at_server table.waiting c.args.number a (c.self.invariant was.0) c.uncount_where-clears.new.counts c.uncount_where-copies.new.counts c.uncount_one-waited.new.self (sym c.in_ok-command.ensures.value)
+    (sym c.has_call_out-is_idle.ensures ∙ not-true c.has_call_out-is_idle.result was.1) c.take_out.ensures.entries
     (subst (λ k. SetsCountWhere a.claim.clears (pointwise nat_eq) k (count_at (get (pointwise nat_eq) table.clearing) k - 1) table.clearing c.uncount_where-clears.new.counts) c.key.ensures (c.uncount_where-clears.ensures claims.0))
     (subst (λ k. SetsCountWhere a.claim.copies (pointwise nat_eq) k (count_at (get (pointwise nat_eq) table.copying) k - 1) table.copying c.uncount_where-copies.new.counts) c.key-2.ensures (c.uncount_where-copies.ensures claims.1))
     (c.uncount_one-waited.ensures those.1)
