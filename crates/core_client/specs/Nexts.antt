@@ -7,6 +7,7 @@ use Rattle.mc_runs.specs.Protocol.{IsStuck}
 use Rattle.request_parts.specs.declared.skip.Skip.TheVariants.{Nothing}
 use Rattle.request_parts.specs.Stream.{Place, Stands}
 use Rattle.client_requests.specs.declared.reader.Read.{Read}
+use Rattle.client_requests.specs.declared.reader.Read.TheVariants as reads
 use Rattle.client_requests.specs.declared.request.Request.{Request}
 use Rattle.client_requests.specs.Message.{IsReadFrom, message_in}
 use Rattle.client_requests.specs.Asks.{asks_of}
@@ -52,9 +53,16 @@ pub record IsLater (depth : ℕ) (x : Client) : Type 0 where
   pub key : (part : Part dialect) → IsNext (front_by (Some x)) part → depth ≤ length x.queue.items
   pub other : (message : Message) (next : Place) → dialect.Reads x.stream message next → dialect.asks_of message ≡ [] → HasCommand x
 
--- of a client that may have so many commands whose replies were not shown
-abbrev pub IsNextOf : ℕ → Client → Next → Type 0
-IsNextOf depth x nexts.Nothing = (x.queue.items ≡ []) × IsStuck dialect x.stream
-IsNextOf depth x (nexts.Passing read) = IsPassing read x
-IsNextOf depth x (nexts.Key request) = CanAskBelow depth request x
-IsNextOf depth x nexts.Later = IsLater depth x
+-- the next key of the request that was read can begin, below the depth
+abbrev pub HasKey : ℕ → Client → Read → Type 0
+HasKey depth x reads.More = ⊥
+HasKey depth x reads.TooLong = ⊥
+HasKey depth x (reads.Refused why used skip) = ⊥
+HasKey depth x (reads.Request request) = CanAskBelow depth request x
+
+-- of a client that may have so many commands whose replies were not shown, where this was read at its front
+abbrev pub IsNextOf : ℕ → Client → Read → Next → Type 0
+IsNextOf depth x read nexts.Nothing = (x.queue.items ≡ []) × IsStuck dialect x.stream
+IsNextOf depth x read nexts.Passing = IsPassing read x
+IsNextOf depth x read nexts.Key = HasKey depth x read
+IsNextOf depth x read nexts.Later = IsLater depth x

@@ -10,21 +10,20 @@ ghost use Rattle.connections.specs.Fronts.{AsksNone};
 ghost use Rattle.core_client.specs.Nexts.{CanAsk, CanBegin, IsNextOf};
 
 use crate::client::{Client, Pending};
-use connections::Front;
 use mc_types::SharedAsk;
 use std::alloc::{AllocError, Global};
 use std::collections::VecDeque;
 use text_codec::{Read, Request};
 
-/// What is next.
+/// What is next, by what was read at the front: of that nothing is copied.
 #[derive(Clone, Copy)]
 pub enum Next {
     /// Nothing: no whole message is held, and no reply is waited for.
     Nothing,
-    /// This message, which asks no server.
-    Passing(Read),
-    /// The next key of this request.
-    Key(Request),
+    /// The message, which asks no server.
+    Passing,
+    /// The next key of the request.
+    Key,
     /// Nothing before a reply has come.
     Later,
 }
@@ -36,23 +35,10 @@ fn is_free(queue: &VecDeque<Pending>) -> bool
 }
 
 impl Client {
-    // A request with keys stands at the front.
-    fn key_of(&self, depth: usize, request: Request) -> Next
-        requires at { IsReadAt self.now.stream (Requests request) }
-        requires some { asks_of (message_in (held_at self.now.stream) request) ≡ [] → ⊥ }
-        requires served { self.now.dropped ≡ false }
-        ensures { IsNextOf depth self.now result }
-    {
-        if self.waits || depth <= self.queue.len() || request.asks() <= self.index {
-            return Next::Later;
-        }
-        Next::Key(request)
-    }
-
     // No whole message stands there.
     fn nothing(&self) -> Next
         requires { IsReadAt self.now.stream More }
-        ensures { (depth : ℕ) → IsNextOf depth self.now result }
+        ensures { (depth : ℕ) → IsNextOf depth self.now More result }
     {
         if is_free(&self.queue) {
             Next::Nothing
@@ -62,28 +48,57 @@ impl Client {
     }
 
     // A message that asks no server stands there.
-    fn passing(&self, read: Read) -> Next
-        requires at { IsReadAt self.now.stream read }
-        requires asks { AsksNone self.now.stream read }
+    fn passing(&self, read: &Read) -> Next
+        requires at { IsReadAt self.now.stream read.now }
+        requires asks { AsksNone self.now.stream read.now }
         requires served { self.now.dropped ≡ false }
-        ensures { (depth : ℕ) → IsNextOf depth self.now result }
+        ensures { (depth : ℕ) → IsNextOf depth self.now read.now result }
     {
+        let _read = read;
         if is_free(&self.queue) {
-            Next::Passing(read)
+            Next::Passing
         } else {
             Next::Later
         }
     }
 
-    /// What is next for it, where so many commands may have no shown reply. It takes no memory.
-    pub fn next(&self, depth: usize) -> Next
-        requires { self.now.dropped ≡ false }
-        ensures { IsNextOf depth self.now result }
+    // A request with keys stands at the front.
+    fn key_of(&self, depth: usize, request: &Request) -> Next
+        requires at { IsReadAt self.now.stream (Requests request.now) }
+        requires some { asks_of (message_in (held_at self.now.stream) request.now) ≡ [] → ⊥ }
+        requires served { self.now.dropped ≡ false }
+        ensures { IsNextOf depth self.now (Requests request.now) result }
     {
-        match self.stream.front() {
-            Front::Nothing => self.nothing(),
-            Front::Passing(read) => self.passing(read),
-            Front::Keys(request) => self.key_of(depth, request),
+        if self.waits || depth <= self.queue.len() || request.asks() <= self.index {
+            return Next::Later;
+        }
+        Next::Key
+    }
+
+    /// What stands at its front, if a whole message does. It takes no memory.
+    pub fn read(&self) -> Read
+        ensures { IsReadAt self.now.stream result }
+    {
+        return self.stream.read();
+    }
+
+    /// What is next for it, by what was read at its front, where so many commands may have no shown reply. It takes no memory.
+    pub fn next(&self, depth: usize, read: &Read) -> Next
+        requires at { IsReadAt self.now.stream read.now }
+        requires served { self.now.dropped ≡ false }
+        ensures { IsNextOf depth self.now read.now result }
+    {
+        match read {
+            Read::More => self.nothing(),
+            Read::TooLong => self.passing(read),
+            Read::Refused { .. } => self.passing(read),
+            Read::Request(request) => {
+                if request.asks() == 0 {
+                    self.passing(read)
+                } else {
+                    self.key_of(depth, request)
+                }
+            }
         }
     }
 

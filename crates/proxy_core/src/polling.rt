@@ -11,7 +11,8 @@ ghost use Rattle.commands_under_way.specs.Begun.{IsBegun};
 ghost use Rattle.commands_under_way.specs.Ready.{IsTurn};
 ghost use Rattle.proxy_core.specs.Finishing.{CanEnd};
 ghost use Rattle.proxy_core.specs.Polls.{ForClient, IsPassed, StopsFirst, BeginsAt, CanSend, IsTicketOf, IsSent, IsServed, DropsOne, DropsAll, Acts, SoEnded, StopsAfter, IsAtLast, NoneGoesOn, NothingBegins, MayAsk, IsNextAsk, bars, stands_before, claim_of, StandsStill, Polls, ReadFault, PollFault};
-ghost use Rattle.core_client.specs.Nexts.{IsPassing, CanBegin, CanAskBelow, CanAsk, IsNextOf};
+ghost use Rattle.core_client.specs.Nexts.{IsPassing, CanBegin, CanAskBelow, CanAsk, HasKey, IsNextOf};
+ghost use Rattle.text_codec.specs.Held.{IsReadAt};
 ghost use Rattle.proxy_core.specs.declared.fault.CoreFault.TheVariants.{NoMemory};
 ghost use Rattle.proxy_core.specs.Resting.{goes_on, IsReady};
 ghost use Rattle.commands_under_way.specs.declared.turns.Turn.TheVariants.{Full};
@@ -330,14 +331,26 @@ impl Core {
         }
     }
 
-    // What is next for the client.
-    fn next_of(&self, client: usize) -> Next
+    // What stands at the client's front.
+    fn read_front(&self, client: usize) -> Read
         requires { ForClient self.now client IsServed }
-        ensures { ForClient self.now client (λ x. IsNextOf self.now.limits.depth x result) }
+        ensures { ForClient self.now client (λ x. IsReadAt x.stream result) }
     {
         match self.clients.get(client) {
             None => unreachable!(),
-            Some(x) => x.next(self.limits.depth),
+            Some(x) => return x.read(),
+        }
+    }
+
+    // What is next for the client, by what was read at its front.
+    fn next_of(&self, client: usize, read: &Read) -> Next
+        requires served { ForClient self.now client IsServed }
+        requires at { ForClient self.now client (λ x. IsReadAt x.stream read.now) }
+        ensures { ForClient self.now client (λ x. IsNextOf self.now.limits.depth x read.now result) }
+    {
+        match self.clients.get(client) {
+            None => unreachable!(),
+            Some(x) => x.next(self.limits.depth, read),
         }
     }
 
@@ -362,22 +375,45 @@ impl Core {
         }
     }
 
-    // What stands at the client's front is done, or begins.
-    fn read_on(&mut self, client: usize, next: Next) -> Result<Poll, CoreFault>
+    // The message that was read at the client's front, which asks no server, is answered.
+    fn pass_on(&mut self, client: usize, read: Read) -> Result<Poll, CoreFault>
+        requires held { NoneGoesOn self.old client }
+        requires passing { ForClient self.old client (IsPassing read) }
+        ensures ok { IfOk result (λ poll. Polls self.old client poll self.new) }
+        ensures err { IfErr result (λ fault. ReadFault self.old client fault self.new) }
+    {
+        match self.pass_front(client, read) {
+            Ok(Passed::Own) => Ok(Poll::Own),
+            Ok(Passed::Refused) => Ok(Poll::Refused),
+            Err(fault) => Err(fault),
+        }
+    }
+
+    // The next key of the request that was read at the client's front begins, and goes on as it can.
+    fn begin_read(&mut self, client: usize, read: &Read) -> Result<Poll, CoreFault>
+        requires held { NoneGoesOn self.old client }
+        requires key { ForClient self.old client (λ x. HasKey self.old.limits.depth x read.now) }
+        ensures ok { IfOk result (λ poll. Polls self.old client poll self.new) }
+        ensures err { IfErr result (λ fault. ReadFault self.old client fault self.new) }
+    {
+        match read {
+            Read::Request(request) => self.begin_next(client, request),
+            _ => unreachable!(),
+        }
+    }
+
+    // What was read at the client's front is done, or begins.
+    fn read_on(&mut self, client: usize, read: &Read, next: Next) -> Result<Poll, CoreFault>
         requires served { ForClient self.old client IsServed }
         requires held { NoneGoesOn self.old client }
-        requires next { ForClient self.old client (λ x. IsNextOf self.old.limits.depth x next) }
+        requires next { ForClient self.old client (λ x. IsNextOf self.old.limits.depth x read.now next) }
         ensures ok { IfOk result (λ poll. Polls self.old client poll self.new) }
         ensures err { IfErr result (λ fault. ReadFault self.old client fault self.new) }
     {
         match next {
             Next::Nothing => Ok(Poll::Idle),
-            Next::Passing(read) => match self.pass_front(client, read) {
-                Ok(Passed::Own) => Ok(Poll::Own),
-                Ok(Passed::Refused) => Ok(Poll::Refused),
-                Err(fault) => Err(fault),
-            },
-            Next::Key(request) => self.begin_next(client, &request),
+            Next::Passing => self.pass_on(client, *read),
+            Next::Key => self.begin_read(client, read),
             Next::Later => Ok(self.rest(client)),
         }
     }
@@ -391,8 +427,9 @@ impl Core {
         match self.ready(client) {
             Some(ready) => self.act_ready(client, ready),
             None => {
-                let next = self.next_of(client);
-                self.read_on(client, next)
+                let read = self.read_front(client);
+                let next = self.next_of(client, &read);
+                self.read_on(client, &read, next)
             }
         }
     }

@@ -7,8 +7,8 @@ use Rattle.core_client.proofs.client.Client.key_of.Goals as goal
 pub returns-then-self : goal.returns-then-self
 returns-then-self c =
     let x = c.args.self.now in
-    let front = front_is x.stream c.args.request c.requires.at in
-    later_key x c.args.request c.args.depth c.requires.at c.requires.some
+    let front = front_is x.stream c.args.request.now c.requires.at in
+    later_key x c.args.request.now c.args.depth c.requires.at c.requires.some
     (elim c.then-self.branch [
       | then-self-via-then-self w ↦ inl w.if-self.true
       | then-self-via-else-self+then-depth-len w ↦ inr (inl (subst (λ (n : ℕ). c.args.depth ≤ n) (w.len.ensures ∙ x.queue.ok.0) w.if-depth-len.true))
@@ -18,5 +18,5 @@ returns-then-self c =
 pub returns : goal.returns
 returns c =
     let x = c.args.self.now in
-    let front = front_is x.stream c.args.request c.requires.at in
+    let front = front_is x.stream c.args.request.now c.requires.at in
     (record { stands = front.stands; is_read = front.read; there = subst (λ (n : ℕ). x.index < n) (c.asks.ensures _ front.read) c.if-asks-self.false; ready = c.if-self.false; served = c.requires.served }, subst (λ (n : ℕ). n < c.args.depth) (c.len.ensures ∙ x.queue.ok.0) c.if-depth-len.false)
