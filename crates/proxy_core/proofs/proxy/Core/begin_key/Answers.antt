@@ -1,7 +1,6 @@
 use Rattle.std.proofs.Common.{sym, subst, OnOk, IfErr}
 use Rattle.commands_under_way.specs.Counts.{ByNumber}
 use Rattle.core_client.specs.Nexts.{CanBegin}
-use Rattle.proxy_core.specs.declared.proxy.Core.{Core}
 use Rattle.proxy_core.specs.CoreState.{GoesBy}
 use Rattle.proxy_core.specs.Polls.{BeginsAt, ForClient, IsNothing, IsServed, StopsFirst}
 use Rattle.proxy_core.proofs.Chains.{goes_nowhere}
