@@ -24,8 +24,8 @@ pub fn drop_ask(_ask: SharedAsk) {}
 /// The same of a command.
 pub fn drop_command(_command: Command) {}
 
-// A job of the ask, which it shares, in the room of another where one is given.
-fn job_of(
+// A job of the ask, which it shares, moved into the room of another where one is given.
+fn job_anew(
     alloc: Global,
     room: Option<HeldJob>,
     tree: &Tree,
@@ -36,6 +36,25 @@ fn job_of(
     let ask = ask.copy()?;
     let job = Job::new(alloc, tree, ask)?;
     HeldJob::reusing(alloc, room, job)
+}
+
+// A job of the ask, which it shares, in the room of another where one is given.
+fn job_of(
+    alloc: Global,
+    room: Option<HeldJob>,
+    tree: &Tree,
+    ask: &SharedAsk,
+) -> Result<HeldJob, AllocError>
+    ensures { IfOk result (λ job. (calls : List Call) (given : Given) → Comes job calls given ↔ Word (tree_at tree.now ask.now.key) ask.now OfClient 0 calls given) }
+{
+    let Some(mut room) = room else {
+        return job_anew(alloc, None, tree, ask);
+    };
+    // (nearly always: nothing of the job is moved then)
+    if room.begin_at_once(tree, ask)? {
+        return Ok(room);
+    }
+    job_anew(alloc, Some(room), tree, ask)
 }
 
 /// A command of a client for this ask with this claim, as it begins on this tree, with its job in the room of another where one is

@@ -1,14 +1,17 @@
 //! A job that stays where it is while its command is moved.
 
-ghost use Rattle.std.specs.Prelude.{◌≡◌, ◌↔◌, List, [], ◌∷◌, IfNone, IfOk, IfSome, OnOk};
+ghost use Rattle.std.specs.Prelude.{◌≡◌, ◌↔◌, MatchBool, List, [], ◌∷◌, IfNone, IfOk, IfSome, OnOk};
+ghost use Rattle.mc_types.specs.declared.call.Origin.TheVariants.{Client};
 ghost use Rattle.mc_runs.specs.Run.{Call as CallMade};
 ghost use Rattle.mc_runs.specs.Single.{FitsOutcome};
-ghost use Rattle.route_tree.specs.Word.{Given};
+ghost use Rattle.route_tree.specs.At.{tree_at};
+ghost use Rattle.route_tree.specs.Word.{Given, Word};
 ghost use Rattle.route_job.specs.Given.{given_of};
 ghost use Rattle.route_job.specs.Jobs.{Comes, call_of, server_in, IsBroken, IsNext, IsCalling, IsDone};
 
 use mc_types::{Outcome, ServerId, SharedAsk};
 use route_job::{Done, Job, Step};
+use route_tree::Tree;
 use std::alloc::{AllocError, Global};
 use std::marker::Model;
 
@@ -51,6 +54,13 @@ impl HeldJob {
                 Ok(held)
             }
         }
+    }
+
+    /// As `Job::begin_at_once`, in its room.
+    pub fn begin_at_once(&mut self, tree: &Tree, ask: &SharedAsk) -> Result<bool, AllocError>
+        ensures { IfOk result (λ begun. MatchBool begun ((calls : List CallMade) (given : Given) → Comes self.new calls given ↔ Word (tree_at tree.now ask.now.key) ask.now Client 0 calls given) (self.new ≡ self.old)) }
+    {
+        self.job.begin_at_once(tree, ask)
     }
 
     /// As `Job::next`.

@@ -1,6 +1,6 @@
 //! A command as a value: it shows its next call, and takes the outcome.
 
-ghost use Rattle.std.specs.Prelude.{◌≡◌, ◌↔◌, ◌+◌, ◌≤◌, List, [], ◌∷◌, IfNone, IfOk, IfSome, OnOk, OnErr};
+ghost use Rattle.std.specs.Prelude.{◌≡◌, ◌↔◌, MatchBool, ◌+◌, ◌≤◌, List, [], ◌∷◌, IfNone, IfOk, IfSome, OnOk, OnErr};
 ghost use Rattle.mc_types.specs.declared.call.Origin.TheVariants.{Client};
 ghost use Rattle.mc_runs.specs.Run.{Call as CallMade};
 ghost use Rattle.mc_runs.specs.Single.{FitsOutcome};
@@ -81,6 +81,24 @@ impl Job {
             pending,
             made: 0,
         })
+    }
+
+    /// The command on this tree for this ask takes this job's place, where a server is called at once: whether it is so. Else nothing
+    /// changes. What this job held is let go where it stands. It takes no memory, and is refused only where the count of the ask's sharers
+    /// is full.
+    pub fn begin_at_once(&mut self, tree: &Tree, ask: &SharedAsk) -> Result<bool, AllocError>
+        ensures { IfOk result (λ begun. MatchBool begun ((calls : List CallMade) (given : Given) → Comes self.new calls given ↔ Word (tree_at tree.now ask.now.key) ask.now Client 0 calls given) (self.new ≡ self.old)) }
+    {
+        let hash = key_hash(ask.key());
+        let Some(server) = server_at_once(hash, ask.key().as_bytes(), tree) else {
+            return Ok(false);
+        };
+        self.ask = ask.copy()?;
+        self.hash = hash;
+        self.frames.clear();
+        self.pending = Pending::Call(server);
+        self.made = 0;
+        Ok(true)
     }
 
     /// The next call, or how the command ended. It takes no memory.
