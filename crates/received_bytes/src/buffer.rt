@@ -9,7 +9,8 @@ use std::marker::Model;
 
 /// Bytes that come at the end and are done from the front. Contracts see the bytes.
 ///
-/// While a large message stands in front, its data may be cut from it without a copy: all bytes are frozen then, until another piece comes.
+/// While a large message stands in front, its data may be cut from it without a copy: all bytes are frozen then, until another piece comes. All of
+/// them, so that they lie in one piece however many of them are done.
 #[derive(Drop)]
 pub struct ReceiveBuffer {
     // All bytes, where they are frozen; no others are held then.

@@ -132,6 +132,9 @@ impl<'a> Received<'a> {
         requires { (start ≤ end) × (end ≤ length self.now) }
         ensures { IfOk result (λ body. body ≡ slice_range self.now start end) }
     {
-        self.after(start).data(alloc, end - start)
+        if end - start >= SHARED_FROM {
+            return self.after(start).data(alloc, end - start);
+        }
+        Body::from_slice(alloc, self.between(start, end))
     }
 }
