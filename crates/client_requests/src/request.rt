@@ -106,12 +106,12 @@ impl Request {
     {
         match self {
             Request::Classic(request) => {
-                let ask = request.ask(alloc, received, i)?;
-                SharedAsk::reusing(alloc, spare, ask)
+                let parts = request.parts(alloc, received, i)?;
+                SharedAsk::of(alloc, spare, parts)
             }
             Request::Meta(request) => {
-                let ask = request.ask(alloc, received, i)?;
-                SharedAsk::reusing(alloc, spare, ask)
+                let parts = request.parts(alloc, received, i)?;
+                SharedAsk::of(alloc, spare, parts)
             }
         }
     }
@@ -129,9 +129,9 @@ impl MetaAsks {
         if self.taken >= self.request.asks() {
             return Ok(None);
         }
-        let ask = self.request.ask(alloc, received, self.taken)?;
+        let parts = self.request.parts(alloc, received, self.taken)?;
         self.taken += 1;
-        Ok(Some(ask))
+        Ok(Some(Ask::of(parts)))
     }
 }
 

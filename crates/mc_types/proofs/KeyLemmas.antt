@@ -2,7 +2,7 @@ use Rattle.std.proofs.Common.{◌≡◌, ℕ, zero, suc, ◌+◌, ◌-◌, ◌<�
 use Rattle.std.specs.Prelude.{position}
 use Rattle.std.specs.List.{position_or_len, list_all}
 use Rattle.std.proofs.lemmas.Bool.{cases_lt, lt-ltb}
-use Rattle.std.proofs.lemmas.List.{length-append, take_at, drop_at}
+use Rattle.std.proofs.lemmas.List.{length-append, length-take-le, take_at, drop_at, drop-drop}
 use Rattle.mc_types.specs.KeyText.{IsKey, HoldsKey, is_bad_byte, is_key_byte}
 use Rattle.mc_types.specs.OpaqueText.{IsOpaque, HoldsOpaque}
 use Rattle.mc_types.specs.Padded.{LiesIn, zeros_of}
@@ -53,3 +53,29 @@ all_good text e =
 pub not_empty : (text : List ℕ) → eqb (length text) 0 ≡ false → 0 < length text
 not_empty [] e = absurd cc
 not_empty (b ∷ text) e = omega arith
+
+-- after a text of at least this length there were zeros already
+pub zeros_after : (len before : ℕ) (bytes : List ℕ) → LiesIn 250 before bytes → before ≤ len → drop len bytes ≡ zeros_of (250 - len)
+zeros_after len before bytes h le =
+    let n : len ≡ before + (len - before) = omega (arith, le) in
+    let m : (250 - before) - (len - before) ≡ 250 - len = omega (arith, le, h.within) in
+    ap (λ (k : ℕ). drop k bytes) n ∙ sym (drop-drop (len - before) before bytes) ∙ ap (drop (len - before)) h.zeros ∙ drop-replicate (len - before) (250 - before) ∙ ap zeros_of m
+
+zeros-join : (n m : ℕ) → zeros_of n ++ zeros_of m ≡ zeros_of (n + m)
+zeros-join zero m = let e : m ≡ 0 + m = omega arith in ap zeros_of e
+zeros-join (suc n) m = let e : suc (n + m) ≡ suc n + m = omega arith in ap (λ (l : List ℕ). 0 ∷ l) (zeros-join n m) ∙ ap zeros_of e
+
+-- what stood there of a longer text is set to 0
+pub cleared : (len before : ℕ) (bytes filled : List ℕ) → LiesIn 250 before bytes → len < before → filled ≡ zeros_of (before - len) → drop len (take len bytes ++ (filled ++ drop (before - len) (drop len bytes))) ≡ zeros_of (250 - len)
+cleared len before bytes filled h lt is =
+    let n : before ≡ len + (before - len) = omega (arith, lt) in
+    let front : length (take len bytes) ≡ len = length-take-le len bytes (omega (arith, lt, h.within, h.whole)) in
+    let rest : drop (before - len) (drop len bytes) ≡ zeros_of (250 - before) = drop-drop (before - len) len bytes ∙ ap (λ (k : ℕ). drop k bytes) (sym n) ∙ h.zeros in
+    let m : (before - len) + (250 - before) ≡ 250 - len = omega (arith, lt, h.within) in
+    drop_at (take len bytes) _ len front ∙ ap (λ (l : List ℕ). l ++ drop (before - len) (drop len bytes)) is ∙ ap (λ (l : List ℕ). zeros_of (before - len) ++ l) rest ∙ zeros-join (before - len) (250 - before) ∙ ap zeros_of m
+
+-- a text in front of zeros
+pub holds_before : (text bytes : List ℕ) → IsKey text → drop (length text) bytes ≡ zeros_of (250 - length text) → HoldsKey (length text) (text ++ drop (length text) bytes)
+holds_before text bytes key e =
+    let same : drop (length text) bytes ≡ drop (length text) (zeros_of 250) = e ∙ sym (drop-replicate (length text) 250) in
+    subst (λ (l : List ℕ). HoldsKey (length text) (text ++ l)) (sym same) (holds text key)

@@ -11,6 +11,7 @@ pub mod Shows
 pub mod Acknowledged
 pub mod Tokens
 pub mod Asks
+pub mod Parts
 pub mod Fits
 pub mod Items
 pub mod Agree

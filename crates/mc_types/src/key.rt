@@ -1,6 +1,6 @@
 //! Keys, and why a text is none.
 
-ghost use Rattle.std.specs.Prelude.{◌≡◌, ℕ, ◌≤◌, ◌<◌, [], length, IsTrue, IfOk, IsOk, ◌↔◌, OnErr, refl, Some, nat_eq, position};
+ghost use Rattle.std.specs.Prelude.{◌≡◌, ℕ, ◌-◌, ◌≤◌, ◌<◌, drop, [], length, IsTrue, IfOk, IsOk, ◌↔◌, OnErr, refl, Some, nat_eq, position};
 ghost use Rattle.std.specs.List.{list_all};
 ghost use Rattle.std.specs.Ordering.{nat_cmp};
 ghost use Rattle.std.specs.Hash as fed;
@@ -9,6 +9,8 @@ ghost use Rattle.std.specs.Cmp.{partial_equiv_from_equiv};
 ghost use Rattle.std.specs.Cmp.Rules.{hashing};
 ghost use Rattle.std.proofs.Common.{rules};
 ghost use Rattle.mc_types.specs.KeyText.{IsKey, is_bad_byte};
+ghost use Rattle.mc_types.specs.Padded.{LiesIn, zeros_of};
+ghost use Rattle.mc_types.specs.declared.limits.TheConstants.{KEY_LIMIT};
 
 use crate::limits::KEY_LIMIT;
 use std::cmp::Ordering;
@@ -69,6 +71,17 @@ pub fn first_bad_byte(text: &[u8]) -> Option<usize>
     text.iter().position(|byte| is_bad_byte(*byte))
 }
 
+// What stands after so many bytes is set to 0, where a longer text stood.
+fn clear_after(bytes: &mut [u8; KEY_LIMIT], len: usize, before: usize)
+    requires lies { LiesIn KEY_LIMIT before bytes.old }
+    requires short { len ≤ KEY_LIMIT }
+    ensures { drop len bytes.new ≡ zeros_of (KEY_LIMIT - len) }
+{
+    if len < before {
+        bytes[len..before].fill(0);
+    }
+}
+
 impl Key {
     ghost use Rattle.mc_types.specs.Fault.{read_key};
 
@@ -100,6 +113,16 @@ impl Key {
             len: text.len() as u8,
             bytes,
         }
+    }
+
+    /// It becomes the key of a text that is one, in place: of the rest, only what stood there of a longer key is set to 0. It takes no memory.
+    pub fn set(&mut self, text: &[u8])
+        requires { IsKey text.now }
+        ensures { self.new ≡ text.now }
+    {
+        clear_after(&mut self.bytes, text.len(), self.len as usize);
+        self.bytes[..text.len()].copy_from_slice(text);
+        self.len = text.len() as u8;
     }
 
     /// Its bytes are those of a key. It does nothing.

@@ -3,6 +3,7 @@
 
 pub mod answer;
 pub mod ask;
+pub mod ask_parts;
 pub mod body;
 pub mod call;
 pub mod error_text;
@@ -13,6 +14,7 @@ pub mod token;
 
 pub use answer::{Answer, Code, Fields};
 pub use ask::{Ask, Dialect, Op};
+pub use ask_parts::AskParts;
 pub use body::Body;
 pub use call::{Origin, Outcome, ServerId};
 pub use error_text::{ErrorText, OwnText};

@@ -1,8 +1,11 @@
 //! An ask that several hold.
 
 ghost use Rattle.std.specs.Prelude.{◌≡◌, IfOk};
+ghost use Rattle.mc_types.specs.KeyText.{IsKey};
+ghost use Rattle.mc_types.specs.Parts.{ask_of};
 
 use crate::ask::Ask;
+use crate::ask_parts::AskParts;
 use crate::key::Key;
 use std::alloc::{AllocError, Global};
 use std::marker::Model;
@@ -48,6 +51,28 @@ impl SharedAsk {
                 Ok(spare)
             }
             None => SharedAsk::new(alloc, ask),
+        }
+    }
+
+    /// The ask of these parts, made in the memory of a spare one where there is one that nobody else holds: its key isn't copied but to there. The
+    /// only error is running out of memory.
+    pub fn of(
+        alloc: Global,
+        spare: Option<SharedAsk>,
+        parts: AskParts,
+    ) -> Result<SharedAsk, AllocError>
+        requires { IsKey parts.key.now }
+        ensures { IfOk result (λ shared. shared ≡ ask_of parts.entry) }
+    {
+        let Some(mut spare) = spare else {
+            return SharedAsk::new(alloc, Ask::of(parts));
+        };
+        match Rc::get_mut(&mut spare.ask) {
+            Some(held) => {
+                held.set(parts);
+                Ok(spare)
+            }
+            None => SharedAsk::new(alloc, Ask::of(parts)),
         }
     }
 

@@ -1,7 +1,7 @@
 //! What a request asks.
 ghost use Rattle.std.specs.Prelude.{◌≡◌, ℕ, List, ◌<◌, ◌≤◌, IfOk, Some, length, slice_get};
 ghost use Rattle.mc_text.specs.Word.{words, text_at};
-ghost use Rattle.mc_types.specs.KeyText.{IsKey};
+ghost use Rattle.mc_types.specs.Parts.{ask_of};
 ghost use Rattle.request_parts.specs.Places.{IsIn};
 ghost use Rattle.meta_requests.specs.Flags.{letter_of, text_of, wanted, tokens_in, wanted_by};
 ghost use Rattle.meta_requests.specs.Places.{order_in, flags_in};
@@ -10,7 +10,7 @@ ghost use Rattle.meta_requests.specs.Asks.{asks_of, quiet_of, own_of, get_op, st
 
 use crate::command::{Command, Flags, Kind, Request, Values};
 use mc_text::word::{Span, next_word};
-use mc_types::{Ask, Body, Dialect, Key, Op, Opaque, Token, Tokens};
+use mc_types::{AskParts, Body, Dialect, Op, Opaque, Token, Tokens};
 use received_bytes::Received;
 use request_parts::ProxyCommand;
 use std::alloc::{AllocError, Global};
@@ -45,13 +45,12 @@ fn wanted(word: &[u8]) -> Option<Token>
     wanted_by(word[0], &word[1..])
 }
 
-// The key that stands there.
-fn key_in(received: &Received, key: Span) -> Key
-    requires placed { IsIn (length received.now) key }
-    requires key { IsKey (text_at received.now key) }
-    ensures { result ≡ text_at received.now key }
+// The text that stands there.
+fn key_in<'a>(received: &'a Received, key: Span) -> &'a [u8]
+    requires { IsIn (length received.now) key }
+    ensures { result.now ≡ text_at received.now key }
 {
-    Key::of_text(received.between(key.start, key.end))
+    received.between(key.start, key.end)
 }
 
 // What the flags want back, in their order.
@@ -89,33 +88,33 @@ fn store_op(cas: Option<u64>, mode: Option<Op>) -> Op
     }
 }
 
-fn bare(op: Op, key: Key, tokens: Tokens) -> Ask
-    ensures { result ≡ bare_ask op key tokens }
+fn bare(op: Op, key: &[u8], tokens: Tokens) -> AskParts<'_>
+    ensures { ask_of result ≡ bare_ask op key.now tokens }
 {
-    Ask::bare(Dialect::Meta, op, key, tokens)
+    AskParts::bare(Dialect::Meta, op, key, tokens)
 }
 
 // The ask of a kind, by what its flags say.
-fn ask_by(kind: Kind, key: Key, values: Values, tokens: Tokens, body: Body) -> Ask
-    ensures { result ≡ ask_by kind key values tokens body }
+fn ask_by<'a>(kind: Kind, key: &'a [u8], values: Values, tokens: Tokens, body: Body) -> AskParts<'a>
+    ensures { ask_of result ≡ ask_by kind key.now values tokens body }
 {
     match kind {
-        Kind::Get => Ask {
+        Kind::Get => AskParts {
             exptime: values.exptime,
             ..bare(get_op(values.exptime), key, tokens)
         },
-        Kind::Store => Ask {
+        Kind::Store => AskParts {
             flags: values.flags.unwrap_or(0),
             exptime: Some(values.exptime.unwrap_or(0)),
             body,
             cas: values.cas,
             ..bare(store_op(values.cas, values.mode), key, tokens)
         },
-        Kind::Delete => Ask {
+        Kind::Delete => AskParts {
             cas: values.cas,
             ..bare(Op::Delete, key, tokens)
         },
-        Kind::Count => Ask {
+        Kind::Count => AskParts {
             exptime: values.exptime,
             cas: values.cas,
             delta: values.delta.unwrap_or(1),
@@ -156,12 +155,18 @@ impl Request {
         }
     }
 
-    /// The ask of this number, counted from 0: a copy, whose data may share the buffer that they came in. The only error is running out of memory.
-    pub fn ask(&self, alloc: Global, received: &Received, i: usize) -> Result<Ask, AllocError>
+    /// The parts of the ask of this number, counted from 0: its key is still where it was read, and its data may share the buffer that they
+    /// came in. The only error is running out of memory.
+    pub fn parts<'a>(
+        &self,
+        alloc: Global,
+        received: &'a Received,
+        i: usize,
+    ) -> Result<AskParts<'a>, AllocError>
         requires read { IsReadFrom received.now self.now }
         requires there { i < length (asks_of (message_in received.now self.now)) }
-        ensures value { IfOk result (λ ask. slice_get (asks_of (message_in received.now self.now)) i ≡ Some ask) }
-        ensures ask { IfOk result IsMetaAsk }
+        ensures value { IfOk result (λ parts. slice_get (asks_of (message_in received.now self.now)) i ≡ Some (ask_of parts)) }
+        ensures ask { IfOk result (λ parts. IsMetaAsk (ask_of parts)) }
     {
         let _first = i;
         match self.command {

@@ -1,7 +1,8 @@
 //! What a request asks: its asks, one for each key.
+ghost use Rattle.std.specs.Option.{option_map};
 ghost use Rattle.std.specs.Prelude.{◌≡◌, ℕ, List, ◌<◌, ◌≤◌, IfOk, IfSome, OnErr, Some, length, take, slice_get};
 ghost use Rattle.mc_text.specs.Word.{text_at};
-ghost use Rattle.mc_types.specs.KeyText.{IsKey};
+ghost use Rattle.mc_types.specs.Parts.{ask_of};
 ghost use Rattle.request_parts.specs.Places.{IsIn};
 ghost use Rattle.text_requests.specs.Places.{order_in, storing_in};
 ghost use Rattle.text_requests.specs.Message.{IsReadFrom, message_in};
@@ -9,38 +10,45 @@ ghost use Rattle.text_requests.specs.Asks.{asks_of, quiet_of, own_of, bare_ask, 
 
 use crate::command::{Command, Request, Stored};
 use mc_text::word::{Span, next_word};
-use mc_types::{Ask, Dialect, Key, Op, Tokens};
+use mc_types::{Ask, AskParts, Dialect, Op, Tokens};
 use received_bytes::Received;
 use request_parts::ProxyCommand;
-use request_parts::parts::{key_at, nth_word};
+use request_parts::parts::nth_word;
 use std::alloc::{AllocError, Global};
 
-fn bare(alloc: Global, op: Op, key: Key) -> Ask
-    ensures { result ≡ bare_ask op key }
+fn bare(alloc: Global, op: Op, key: &[u8]) -> AskParts<'_>
+    ensures { ask_of result ≡ bare_ask op key.now }
 {
-    Ask::bare(Dialect::Classic, op, key, Tokens::new(alloc))
+    AskParts::bare(Dialect::Classic, op, key, Tokens::new(alloc))
 }
 
-fn retrieved(alloc: Global, key: Key, exptime: Option<i64>, with_cas: bool) -> Ask
-    ensures { result ≡ retrieval_ask exptime with_cas key }
+fn retrieved<'a>(alloc: Global, key: &'a [u8], exptime: Option<i64>, with_cas: bool) -> AskParts<'a>
+    ensures { ask_of result ≡ retrieval_ask exptime with_cas key.now }
 {
     let op = match exptime {
         None => Op::Get,
         Some(_) => Op::Gat,
     };
-    let mut ask = bare(alloc, op, key);
-    ask.with_cas = with_cas;
-    ask.exptime = exptime;
-    ask
+    let mut parts = bare(alloc, op, key);
+    parts.with_cas = with_cas;
+    parts.exptime = exptime;
+    parts
 }
 
-// The key that stands there.
-fn key_in(received: &Received, key: Span) -> Key
-    requires placed { IsIn (length received.now) key }
-    requires key { IsKey (text_at received.now key) }
-    ensures { result ≡ text_at received.now key }
+// The text that stands there.
+fn key_at(line: &[u8], word: Span) -> &[u8]
+    requires { IsIn (length line.now) word }
+    ensures { result.now ≡ text_at line.now word }
 {
-    Key::of_text(received.between(key.start, key.end))
+    &line[word.start..word.end]
+}
+
+// The same of the bytes that came.
+fn key_in<'a>(received: &'a Received, key: Span) -> &'a [u8]
+    requires { IsIn (length received.now) key }
+    ensures { result.now ≡ text_at received.now key }
+{
+    received.between(key.start, key.end)
 }
 
 // What stands up to a place.
@@ -51,32 +59,35 @@ fn front_of<'a>(received: &'a Received, end: usize) -> &'a [u8]
     &received.bytes()[..end]
 }
 
-fn stored(
+fn stored<'a>(
     alloc: Global,
-    received: &Received,
+    received: &'a Received,
     op: Op,
     stored: Stored,
     cas: Option<u64>,
     block: Span,
-) -> Result<Ask, AllocError>
+) -> Result<AskParts<'a>, AllocError>
     requires placed { IsIn (length received.now) stored.key }
-    requires key { IsKey (text_at received.now stored.key) }
     requires block { IsIn (length received.now) block }
-    ensures { IfOk result (λ ask. ask ≡ store_ask op (storing_in received.now stored) cas (text_at received.now block)) }
+    ensures { IfOk result (λ parts. ask_of parts ≡ store_ask op (storing_in received.now stored) cas (text_at received.now block)) }
 {
     let body = received.data_between(alloc, block.start, block.end)?;
-    let mut ask = bare(alloc, op, key_in(received, stored.key));
-    ask.flags = stored.flags;
-    ask.exptime = Some(stored.exptime);
-    ask.body = body;
-    ask.cas = cas;
-    Ok(ask)
+    let mut parts = bare(alloc, op, key_in(received, stored.key));
+    parts.flags = stored.flags;
+    parts.exptime = Some(stored.exptime);
+    parts.body = body;
+    parts.cas = cas;
+    Ok(parts)
 }
 
 // The ask of a request that has a single key.
-fn single(alloc: Global, received: &Received, request: &Request) -> Result<Option<Ask>, AllocError>
+fn single<'a>(
+    alloc: Global,
+    received: &'a Received,
+    request: &Request,
+) -> Result<Option<AskParts<'a>>, AllocError>
     requires { IsReadFrom received.now request.now }
-    ensures { IfOk result (λ ask. ask ≡ single_ask (order_in received.now request.now.command) (text_at received.now request.now.block)) }
+    ensures { IfOk result (λ parts. option_map ask_of parts ≡ single_ask (order_in received.now request.now.command) (text_at received.now request.now.block)) }
 {
     match request.command {
         Command::Storage {
@@ -91,14 +102,14 @@ fn single(alloc: Global, received: &Received, request: &Request) -> Result<Optio
         } => Ok(Some(stored(alloc, received, Op::Cas, head, Some(cas), request.block)?)),
         Command::Deletion { key, .. } => Ok(Some(bare(alloc, Op::Delete, key_in(received, key)))),
         Command::Touching { key, exptime, .. } => {
-            let mut ask = bare(alloc, Op::Touch, key_in(received, key));
-            ask.exptime = Some(exptime);
-            Ok(Some(ask))
+            let mut parts = bare(alloc, Op::Touch, key_in(received, key));
+            parts.exptime = Some(exptime);
+            Ok(Some(parts))
         }
         Command::Counting { op, key, delta, .. } => {
-            let mut ask = bare(alloc, op, key_in(received, key));
-            ask.delta = delta;
-            Ok(Some(ask))
+            let mut parts = bare(alloc, op, key_in(received, key));
+            parts.delta = delta;
+            Ok(Some(parts))
         }
         Command::Retrieval { .. } | Command::Own(_) => Ok(None),
     }
@@ -170,13 +181,18 @@ impl Request {
         }
     }
 
-    /// The ask of this number, counted from 0: a copy, whose data may share the buffer that they came in. It walks over the
-    /// keys before it; a walk over all asks is `walk`. The only error is running out of memory.
-    pub fn ask(&self, alloc: Global, received: &Received, i: usize) -> Result<Ask, AllocError>
+    /// The parts of the ask of this number, counted from 0: its key is still where it was read, and its data may share the buffer that they
+    /// came in. It walks over the keys before it; a walk over all asks is `walk`. The only error is running out of memory.
+    pub fn parts<'a>(
+        &self,
+        alloc: Global,
+        received: &'a Received,
+        i: usize,
+    ) -> Result<AskParts<'a>, AllocError>
         requires read { IsReadFrom received.now self.now }
         requires there { i < length (asks_of (message_in received.now self.now)) }
-        ensures value { IfOk result (λ ask. slice_get (asks_of (message_in received.now self.now)) i ≡ Some ask) }
-        ensures ask { IfOk result IsClassicAsk }
+        ensures value { IfOk result (λ parts. slice_get (asks_of (message_in received.now self.now)) i ≡ Some (ask_of parts)) }
+        ensures ask { IfOk result (λ parts. IsClassicAsk (ask_of parts)) }
     {
         match self.command {
             Command::Retrieval {
@@ -191,7 +207,7 @@ impl Request {
                 }
             }
             _ => match single(alloc, received, self)? {
-                Some(ask) => Ok(ask),
+                Some(parts) => Ok(parts),
                 None => unreachable!(),
             },
         }
@@ -223,7 +239,8 @@ impl Asks {
                     Some(word) => {
                         self.at = word.end;
                         self.taken += 1;
-                        return Ok(Some(retrieved(alloc, key_at(line, word), exptime, with_cas)));
+                        let parts = retrieved(alloc, key_at(line, word), exptime, with_cas);
+                        return Ok(Some(Ask::of(parts)));
                     }
                 }
             }
@@ -233,9 +250,9 @@ impl Asks {
                 }
                 match single(alloc, received, &self.request)? {
                     None => return Ok(None),
-                    Some(ask) => {
+                    Some(parts) => {
                         self.taken = 1;
-                        return Ok(Some(ask));
+                        return Ok(Some(Ask::of(parts)));
                     }
                 }
             }
