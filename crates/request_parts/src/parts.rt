@@ -1,7 +1,6 @@
 //! The tests of a line's words, one after another.
 ghost use Rattle.std.specs.Prelude.{◌≡◌, ◌≤◌, [], length, drop, IfOk, IfSome, MatchResult, slice_get};
 ghost use Rattle.std.specs.Option.{option_map};
-ghost use Rattle.mc_types.specs.KeyText.{IsKey};
 ghost use Rattle.mc_text.specs.Word.{words, text_at, IsNextWord};
 ghost use Rattle.request_parts.specs.Tests.{is_key, key_of, u32_of, u64_of, exptime_of, length_in};
 ghost use Rattle.request_parts.specs.Places.{Gives, IsIn};
@@ -10,7 +9,7 @@ use crate::key_bytes::are_key_bytes;
 use crate::refusal::RefusalReason;
 use mc_text::number::{number, signed, u32_number};
 use mc_text::word::{Span, next_word};
-use mc_types::{KEY_LIMIT, Key};
+use mc_types::KEY_LIMIT;
 
 /// Whether a word is a key.
 pub fn is_key(word: &[u8]) -> bool
@@ -86,11 +85,10 @@ pub fn exptime(line: &[u8], word: Span) -> Result<i64, RefusalReason>
     signed(&line[word.start..word.end]).ok_or(RefusalReason::BadNumber)
 }
 
-/// The key that stands there.
-pub fn key_at(bytes: &[u8], word: Span) -> Key
-    requires placed { IsIn (length bytes.now) word }
-    requires key { IsKey (text_at bytes.now word) }
-    ensures { result ≡ text_at bytes.now word }
+/// The text that stands there.
+pub fn text_at(bytes: &[u8], word: Span) -> &[u8]
+    requires { IsIn (length bytes.now) word }
+    ensures { result.now ≡ text_at bytes.now word }
 {
-    Key::of_text(&bytes[word.start..word.end])
+    &bytes[word.start..word.end]
 }

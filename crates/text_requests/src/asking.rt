@@ -13,7 +13,7 @@ use mc_text::word::{Span, next_word};
 use mc_types::{Ask, AskParts, Dialect, Op, Tokens};
 use received_bytes::Received;
 use request_parts::ProxyCommand;
-use request_parts::parts::nth_word;
+use request_parts::parts::{nth_word, text_at};
 use std::alloc::{AllocError, Global};
 
 fn bare(alloc: Global, op: Op, key: &[u8]) -> AskParts<'_>
@@ -36,14 +36,6 @@ fn retrieved<'a>(alloc: Global, key: &'a [u8], exptime: Option<i64>, with_cas: b
 }
 
 // The text that stands there.
-fn key_at(line: &[u8], word: Span) -> &[u8]
-    requires { IsIn (length line.now) word }
-    ensures { result.now ≡ text_at line.now word }
-{
-    &line[word.start..word.end]
-}
-
-// The same of the bytes that came.
 fn key_in<'a>(received: &'a Received, key: Span) -> &'a [u8]
     requires { IsIn (length received.now) key }
     ensures { result.now ≡ text_at received.now key }
@@ -202,7 +194,7 @@ impl Request {
             } => {
                 let line = front_of(received, keys.span.end);
                 match nth_word(line, keys.span.start, i) {
-                    Some(word) => Ok(retrieved(alloc, key_at(line, word), exptime, with_cas)),
+                    Some(word) => Ok(retrieved(alloc, text_at(line, word), exptime, with_cas)),
                     None => unreachable!(),
                 }
             }
@@ -239,7 +231,7 @@ impl Asks {
                     Some(word) => {
                         self.at = word.end;
                         self.taken += 1;
-                        let parts = retrieved(alloc, key_at(line, word), exptime, with_cas);
+                        let parts = retrieved(alloc, text_at(line, word), exptime, with_cas);
                         return Ok(Some(Ask::of(parts)));
                     }
                 }

@@ -16,7 +16,7 @@ pub of-requires : goal.of-requires
 of-requires c =
     let at = stands c.args.received.now c.args.self.now.request.command c.in-Retrieval.exptime c.in-Retrieval.with_cas c.in-Retrieval.keys c.args.self.now.at c.args.self.now.taken c.in-Retrieval.is c.requires.place in
     let there = next_key c.args.received.now c.in-Retrieval.keys c.args.self.now.at c.args.self.now.taken c.in-Some.word at (subst (λ (t : List ℕ). IsNextWord t c.args.self.now.at c.in-Some.word) c.front_of-line.ensures c.in-Some.ensures) in
-    subst IsKey (sym (ap (λ (a : Ask). a.key) c.retrieved-parts.ensures ∙ c.key_at.ensures ∙ ap (λ (t : List ℕ). text_at t c.in-Some.word) c.front_of-line.ensures)) (key_there c.args.received.now c.args.self.now.request c.in-Retrieval.exptime c.in-Retrieval.with_cas c.in-Retrieval.keys c.args.self.now.taken _ c.requires.read c.in-Retrieval.is there)
+    subst IsKey (sym (ap (λ (a : Ask). a.key) c.retrieved-parts.ensures ∙ c.text_at.ensures ∙ ap (λ (t : List ℕ). text_at t c.in-Some.word) c.front_of-line.ensures)) (key_there c.args.received.now c.args.self.now.request c.in-Retrieval.exptime c.in-Retrieval.with_cas c.in-Retrieval.keys c.args.self.now.taken _ c.requires.read c.in-Retrieval.is there)
 
 pub returns-in-None-clause-value : goal.returns-in-None-clause-value
 returns-in-None-clause-value c =
@@ -28,7 +28,7 @@ pub returns-in-Some-clause-value : goal.returns-in-Some-clause-value
 returns-in-Some-clause-value c =
     let at = stands c.args.received.now c.args.self.now.request.command c.in-Retrieval.exptime c.in-Retrieval.with_cas c.in-Retrieval.keys c.args.self.now.at c.args.self.now.taken c.in-Retrieval.is c.requires.place in
     let there = next_key c.args.received.now c.in-Retrieval.keys c.args.self.now.at c.args.self.now.taken c.in-Some.word at (subst (λ (t : List ℕ). IsNextWord t c.args.self.now.at c.in-Some.word) c.front_of-line.ensures c.in-Some.ensures) in
-    let same : retrieval_ask c.in-Retrieval.exptime c.in-Retrieval.with_cas (text_at (take c.in-Retrieval.keys.span.end c.args.received.now) c.in-Some.word) ≡ c.of.result = ap (retrieval_ask c.in-Retrieval.exptime c.in-Retrieval.with_cas) (sym (c.key_at.ensures ∙ ap (λ (t : List ℕ). text_at t c.in-Some.word) c.front_of-line.ensures)) ∙ sym c.retrieved-parts.ensures ∙ sym c.of.ensures in
+    let same : retrieval_ask c.in-Retrieval.exptime c.in-Retrieval.with_cas (text_at (take c.in-Retrieval.keys.span.end c.args.received.now) c.in-Some.word) ≡ c.of.result = ap (retrieval_ask c.in-Retrieval.exptime c.in-Retrieval.with_cas) (sym (c.text_at.ensures ∙ ap (λ (t : List ℕ). text_at t c.in-Some.word) c.front_of-line.ensures)) ∙ sym c.retrieved-parts.ensures ∙ sym c.of.ensures in
     sym (nth_ask c.args.received.now (text_at c.args.received.now c.args.self.now.request.block) c.args.self.now.request.command c.in-Retrieval.exptime c.in-Retrieval.with_cas c.in-Retrieval.keys c.args.self.now.taken _ c.in-Retrieval.is there ∙ ap Some same)
 
 pub returns-in-Some-clause-walk : goal.returns-in-Some-clause-walk

@@ -21,7 +21,7 @@ pub returns-in-Some-clause-value : goal.returns-in-Some-clause-value
 returns-in-Some-clause-value c =
     let at = lies c.args.received.now c.args.self.now c.in-Retrieval.exptime c.in-Retrieval.with_cas c.in-Retrieval.keys c.requires.read c.in-Retrieval.is in
     let there : slice_get (keys_in c.args.received.now c.in-Retrieval.keys) c.args.i ≡ Some (text_at (take c.in-Retrieval.keys.span.end c.args.received.now) c.in-Some.word) = ap (λ ks. slice_get ks c.args.i) (sym (keys_line c.args.received.now c.in-Retrieval.keys at.span)) ∙ sym (subst (λ (t : List ℕ). Some (text_at t c.in-Some.word) ≡ slice_get (words (drop c.in-Retrieval.keys.span.start t)) c.args.i) c.front_of-line.ensures c.in-Some.ensures.value) in
-    let same : retrieval_ask c.in-Retrieval.exptime c.in-Retrieval.with_cas (text_at (take c.in-Retrieval.keys.span.end c.args.received.now) c.in-Some.word) ≡ ask_of c.retrieved.result = ap (retrieval_ask c.in-Retrieval.exptime c.in-Retrieval.with_cas) (sym (c.key_at.ensures ∙ ap (λ (t : List ℕ). text_at t c.in-Some.word) c.front_of-line.ensures)) ∙ sym c.retrieved.ensures in
+    let same : retrieval_ask c.in-Retrieval.exptime c.in-Retrieval.with_cas (text_at (take c.in-Retrieval.keys.span.end c.args.received.now) c.in-Some.word) ≡ ask_of c.retrieved.result = ap (retrieval_ask c.in-Retrieval.exptime c.in-Retrieval.with_cas) (sym (c.text_at.ensures ∙ ap (λ (t : List ℕ). text_at t c.in-Some.word) c.front_of-line.ensures)) ∙ sym c.retrieved.ensures in
     nth_ask c.args.received.now (text_at c.args.received.now c.args.self.now.block) c.args.self.now.command c.in-Retrieval.exptime c.in-Retrieval.with_cas c.in-Retrieval.keys c.args.i _ c.in-Retrieval.is there ∙ ap Some same
 
 pub returns-in-Some-2 : goal.returns-in-Some-2
