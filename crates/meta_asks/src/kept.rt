@@ -38,7 +38,8 @@ impl Model for MetaForms {
 fn renew(form: &mut Ask, ask: &Ask)
     ensures { form.new ≡ record form.old { key = ask.now.key; op = ask.now.op; exptime = ask.now.exptime } }
 {
-    form.key = ask.key;
+    ask.key.bytes_are_a_key();
+    form.key.set(ask.key.as_bytes());
     form.op = ask.op;
     form.exptime = ask.exptime;
 }
