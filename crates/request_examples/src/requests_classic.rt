@@ -1,7 +1,13 @@
 //! Tests: each request and each refusal, whole and cut.
 
+ghost use Rattle.std.specs.Prelude.{◌<◌, length};
+ghost use Rattle.text_requests.specs.Message.{IsReadFrom, message_in};
+ghost use Rattle.text_requests.specs.Asks.{asks_of};
+
 use bytes::BytesMut;
+use mc_types::Ask;
 use received_bytes::Received;
+use std::alloc::{AllocError, Global};
 use std::test::Fail;
 use text_requests::{ProxyCommand, Read, RefusalReason, Request, Skip, read_request, write_ask};
 
@@ -14,6 +20,16 @@ fn refused(bytes: &[u8], why: RefusalReason, used: usize, skip: Skip) -> bool {
         } => is == why && takes == used && passes == skip,
         _ => false,
     }
+}
+
+// The first ask of a request.
+fn first_ask(alloc: Global, request: &Request, bytes: &[u8]) -> Result<Ask, AllocError>
+    requires read { IsReadFrom bytes.now request.now }
+    requires some { 0 < length (asks_of (message_in bytes.now request.now)) }
+{
+    let received = Received::copied(bytes);
+    let parts = request.parts(alloc, &received, 0)?;
+    Ok(Ask::of(parts))
 }
 
 fn served(bytes: &[u8], quiet: bool) -> bool {
@@ -278,7 +294,7 @@ fn one_spelling(rt: HostRuntime) -> Result<(), Fail> {
                     write_ask(&ask, &mut out)?;
                 }
                 if request.asks() > 0 {
-                    let ask = request.ask(rt.alloc(), &Received::copied(bytes), 0)?;
+                    let ask = first_ask(rt.alloc(), &request, bytes)?;
                     out.truncate(0);
                     write_ask(&ask, &mut out)?;
                 }

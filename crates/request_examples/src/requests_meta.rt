@@ -1,7 +1,13 @@
 //! Requests with known answers: refusals by the table, cuts, and the one spelling.
+ghost use Rattle.std.specs.Prelude.{◌<◌, length};
+ghost use Rattle.meta_requests.specs.Message.{IsReadFrom, message_in};
+ghost use Rattle.meta_requests.specs.Asks.{asks_of};
+
 use bytes::BytesMut;
+use mc_types::Ask;
 use meta_requests::{ProxyCommand, Read, RefusalReason, Request, Skip, read_request, write_ask};
 use received_bytes::Received;
+use std::alloc::{AllocError, Global};
 use std::test::Fail;
 
 fn refused(bytes: &[u8], why: RefusalReason, skip: Skip) -> bool {
@@ -13,6 +19,16 @@ fn refused(bytes: &[u8], why: RefusalReason, skip: Skip) -> bool {
         } => is == why && takes == bytes.len() && passes == skip,
         _ => false,
     }
+}
+
+// The first ask of a request.
+fn first_ask(alloc: Global, request: &Request, bytes: &[u8]) -> Result<Ask, AllocError>
+    requires read { IsReadFrom bytes.now request.now }
+    requires some { 0 < length (asks_of (message_in bytes.now request.now)) }
+{
+    let received = Received::copied(bytes);
+    let parts = request.parts(alloc, &received, 0)?;
+    Ok(Ask::of(parts))
 }
 
 fn served(bytes: &[u8], quiet: bool) -> bool {
@@ -231,7 +247,7 @@ fn meta_flags_in_order(rt: HostRuntime) -> Result<(), Fail> {
         match read_request(bytes) {
             Read::Request(request) => {
                 assert_eq!(rt; request.asks(), 1);
-                let ask = request.ask(rt.alloc(), &Received::copied(bytes), 0)?;
+                let ask = first_ask(rt.alloc(), &request, bytes)?;
                 write_ask(&ask, &mut out)?;
             }
             _ => assert!(rt; false),
