@@ -1,8 +1,8 @@
 //! Tests: each request and each refusal, whole and cut.
 
-ghost use Rattle.std.specs.Prelude.{◌<◌, length};
+ghost use Rattle.std.specs.Prelude.{◌<◌, IfOk, length};
 ghost use Rattle.text_requests.specs.Message.{IsReadFrom, message_in};
-ghost use Rattle.text_requests.specs.Asks.{asks_of};
+ghost use Rattle.text_requests.specs.Asks.{asks_of, IsClassicAsk};
 
 use bytes::BytesMut;
 use mc_types::Ask;
@@ -26,6 +26,7 @@ fn refused(bytes: &[u8], why: RefusalReason, used: usize, skip: Skip) -> bool {
 fn first_ask(alloc: Global, request: &Request, bytes: &[u8]) -> Result<Ask, AllocError>
     requires read { IsReadFrom bytes.now request.now }
     requires some { 0 < length (asks_of (message_in bytes.now request.now)) }
+    ensures { IfOk result IsClassicAsk }
 {
     let received = Received::copied(bytes);
     let parts = request.parts(alloc, &received, 0)?;

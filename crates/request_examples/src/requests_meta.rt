@@ -1,7 +1,7 @@
 //! Requests with known answers: refusals by the table, cuts, and the one spelling.
-ghost use Rattle.std.specs.Prelude.{◌<◌, length};
+ghost use Rattle.std.specs.Prelude.{◌<◌, IfOk, length};
 ghost use Rattle.meta_requests.specs.Message.{IsReadFrom, message_in};
-ghost use Rattle.meta_requests.specs.Asks.{asks_of};
+ghost use Rattle.meta_requests.specs.Asks.{asks_of, IsMetaAsk};
 
 use bytes::BytesMut;
 use mc_types::Ask;
@@ -25,6 +25,7 @@ fn refused(bytes: &[u8], why: RefusalReason, skip: Skip) -> bool {
 fn first_ask(alloc: Global, request: &Request, bytes: &[u8]) -> Result<Ask, AllocError>
     requires read { IsReadFrom bytes.now request.now }
     requires some { 0 < length (asks_of (message_in bytes.now request.now)) }
+    ensures { IfOk result IsMetaAsk }
 {
     let received = Received::copied(bytes);
     let parts = request.parts(alloc, &received, 0)?;
