@@ -130,8 +130,9 @@ impl MetaAsks {
             return Ok(None);
         }
         let parts = self.request.parts(alloc, received, self.taken)?;
+        let ask = Ask::of(alloc, parts)?;
         self.taken += 1;
-        Ok(Some(Ask::of(parts)))
+        Ok(Some(ask))
     }
 }
 

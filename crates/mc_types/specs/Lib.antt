@@ -4,6 +4,7 @@ pub mod KeyText
 pub mod Inverse
 pub mod Fault
 pub mod OpaqueText
+pub mod LentBytes
 pub mod OpaqueInverse
 pub mod ErrorTexts
 pub mod Rank

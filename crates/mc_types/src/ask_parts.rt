@@ -1,16 +1,17 @@
 //! An ask whose key is still where it was read.
 
-ghost use Rattle.std.specs.Prelude.{◌≡◌, [], None, false};
+ghost use Rattle.std.specs.Prelude.{◌≡◌, [], None, false, IfOk, OnOk};
 ghost use Rattle.mc_types.specs.KeyText.{IsKey};
 ghost use Rattle.mc_types.specs.Parts.{ask_of};
 
 use crate::ask::{Ask, Dialect, Op};
-use crate::body::Body;
 use crate::key::Key;
+use crate::lent_data::LentData;
 use crate::token::Tokens;
+use std::alloc::{AllocError, Global};
 
-/// The parts of an ask. The text of its key isn't copied yet: a key is 250 bytes inside, and each hand that an ask goes through by value
-/// would copy them.
+/// The parts of an ask. The text of its key and its data aren't copied yet: a key is 250 bytes inside, and each hand that an ask goes through
+/// by value would copy them; data are copied to where an ask of before had its own.
 #[derive(Drop)]
 pub struct AskParts<'a> {
     /// The text of the key.
@@ -20,7 +21,7 @@ pub struct AskParts<'a> {
     pub with_cas: bool,
     pub flags: u32,
     pub exptime: Option<i64>,
-    pub body: Body,
+    pub body: LentData<'a>,
     pub cas: Option<u64>,
     pub delta: u64,
     pub tokens: Tokens,
@@ -38,7 +39,7 @@ impl<'a> AskParts<'a> {
             with_cas: false,
             flags: 0,
             exptime: None,
-            body: Body::empty(),
+            body: LentData::empty(),
             cas: None,
             delta: 0,
             tokens,
@@ -47,29 +48,30 @@ impl<'a> AskParts<'a> {
 }
 
 impl Ask {
-    /// The ask of these parts. It takes no memory.
-    pub fn of(parts: AskParts) -> Ask
+    /// The ask of these parts. The only error is running out of memory, for its data.
+    pub fn of(alloc: Global, parts: AskParts) -> Result<Ask, AllocError>
         requires { IsKey parts.key.now }
-        ensures { result ≡ ask_of parts.entry }
+        ensures { IfOk result (λ ask. ask ≡ ask_of parts.entry) }
     {
-        Ask {
+        let body = parts.body.into_body(alloc)?;
+        Ok(Ask {
             key: Key::of_text(parts.key),
             op: parts.op,
             dialect: parts.dialect,
             with_cas: parts.with_cas,
             flags: parts.flags,
             exptime: parts.exptime,
-            body: parts.body,
+            body,
             cas: parts.cas,
             delta: parts.delta,
             tokens: parts.tokens,
-        }
+        })
     }
 
-    // It becomes the ask of these parts, field by field. It takes no memory.
-    pub(crate) fn set(&mut self, parts: AskParts)
+    // It becomes the ask of these parts, field by field. The only error is running out of memory, for its data.
+    pub(crate) fn set(&mut self, alloc: Global, parts: AskParts) -> Result<(), AllocError>
         requires { IsKey parts.key.now }
-        ensures { self.new ≡ ask_of parts.entry }
+        ensures { OnOk result (self.new ≡ ask_of parts.entry) }
     {
         self.key.set(parts.key);
         self.op = parts.op;
@@ -77,9 +79,9 @@ impl Ask {
         self.with_cas = parts.with_cas;
         self.flags = parts.flags;
         self.exptime = parts.exptime;
-        self.body = parts.body;
         self.cas = parts.cas;
         self.delta = parts.delta;
         self.tokens = parts.tokens;
+        parts.body.put_into(alloc, &mut self.body)
     }
 }

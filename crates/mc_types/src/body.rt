@@ -1,11 +1,11 @@
 //! An item's data: shared bytes that never change.
 
-ghost use Rattle.std.specs.Prelude.{◌≡◌, [], IfOk, length};
+ghost use Rattle.std.specs.Prelude.{◌≡◌, [], IfOk, OnOk, length};
 
 use bytes::Bytes;
 use std::alloc::{AllocError, Global};
 use std::marker::Model;
-use std::rc::RcSlice;
+use std::rc::Rc;
 
 // Where the bytes are.
 #[derive(Drop)]
@@ -13,7 +13,7 @@ enum Held {
     // There are none.
     Nothing,
     // In memory of their own.
-    Own(RcSlice<u8>),
+    Own(Rc<Vec<u8>>),
     // In the buffer that they came in, which lasts as long as they do.
     Cut(Bytes),
 }
@@ -24,6 +24,14 @@ enum Held {
 #[derive(Drop)]
 pub struct Body {
     held: Held,
+}
+
+// Other bytes in the place of these.
+fn refill(held: &mut Vec<u8>, bytes: &[u8]) -> Result<(), AllocError>
+    ensures { OnOk result (held.new.items ≡ bytes.now) }
+{
+    held.clear();
+    held.extend_from_slice(bytes)
 }
 
 impl Model for Body {
@@ -52,17 +60,16 @@ impl Body {
         if bytes.is_empty() {
             return Ok(Body::empty());
         }
-        Ok(Body {
-            held: Held::Own(RcSlice::from_slice(alloc, bytes)?),
-        })
+        Body::from_vec(Vec::from_slice(alloc, bytes)?)
     }
 
     /// The bytes of the vector, which it takes over. The only error is running out of memory.
     pub fn from_vec(bytes: Vec<u8>) -> Result<Body, AllocError>
         ensures { IfOk result (λ body. body ≡ bytes.items) }
     {
+        let alloc = *bytes.allocator();
         Ok(Body {
-            held: Held::Own(RcSlice::from_vec(bytes)?),
+            held: Held::Own(Rc::new(alloc, bytes)?),
         })
     }
 
@@ -75,13 +82,34 @@ impl Body {
         }
     }
 
+    // Whether it has memory of its own that nobody else holds.
+    pub(crate) fn is_alone(&self) -> bool {
+        match &self.held {
+            Held::Own(bytes) => Rc::strong_count(bytes) == 1,
+            _ => false,
+        }
+    }
+
+    // It becomes a copy of the bytes, in its own memory where nobody else holds that. The only error is running out of memory.
+    pub(crate) fn set(&mut self, alloc: Global, bytes: &[u8]) -> Result<(), AllocError>
+        ensures { OnOk result (self.new ≡ bytes.now) }
+    {
+        if let Held::Own(held) = &mut self.held {
+            if let Some(held) = Rc::get_mut(held) {
+                return refill(held, bytes);
+            }
+        }
+        *self = Body::from_slice(alloc, bytes)?;
+        Ok(())
+    }
+
     /// The bytes.
     pub fn as_slice(&self) -> &[u8]
         ensures { result.now ≡ self.now }
     {
         match &self.held {
             Held::Nothing => b"".as_slice(),
-            Held::Own(bytes) => bytes.as_slice(),
+            Held::Own(bytes) => bytes.as_ref().as_slice(),
             Held::Cut(bytes) => bytes.as_slice(),
         }
     }

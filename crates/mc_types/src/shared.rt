@@ -54,8 +54,8 @@ impl SharedAsk {
         }
     }
 
-    /// The ask of these parts, made in the memory of a spare one where there is one that nobody else holds: its key isn't copied but to there. The
-    /// only error is running out of memory.
+    /// The ask of these parts, made in the memory of a spare one where there is one that nobody else holds: its key and its data aren't copied but
+    /// to there. The only error is running out of memory.
     pub fn of(
         alloc: Global,
         spare: Option<SharedAsk>,
@@ -65,14 +65,14 @@ impl SharedAsk {
         ensures { IfOk result (λ shared. shared ≡ ask_of parts.entry) }
     {
         let Some(mut spare) = spare else {
-            return SharedAsk::new(alloc, Ask::of(parts));
+            return SharedAsk::new(alloc, Ask::of(alloc, parts)?);
         };
         match Rc::get_mut(&mut spare.ask) {
             Some(held) => {
-                held.set(parts);
+                held.set(alloc, parts)?;
                 Ok(spare)
             }
-            None => SharedAsk::new(alloc, Ask::of(parts)),
+            None => SharedAsk::new(alloc, Ask::of(alloc, parts)?),
         }
     }
 

@@ -10,7 +10,7 @@ ghost use Rattle.meta_requests.specs.Asks.{asks_of, quiet_of, own_of, get_op, st
 
 use crate::command::{Command, Flags, Kind, Request, Values};
 use mc_text::word::{Span, next_word};
-use mc_types::{AskParts, Body, Dialect, Op, Opaque, Token, Tokens};
+use mc_types::{AskParts, Dialect, LentData, Op, Opaque, Token, Tokens};
 use received_bytes::Received;
 use request_parts::ProxyCommand;
 use std::alloc::{AllocError, Global};
@@ -95,7 +95,13 @@ fn bare(op: Op, key: &[u8], tokens: Tokens) -> AskParts<'_>
 }
 
 // The ask of a kind, by what its flags say.
-fn ask_by<'a>(kind: Kind, key: &'a [u8], values: Values, tokens: Tokens, body: Body) -> AskParts<'a>
+fn ask_by<'a>(
+    kind: Kind,
+    key: &'a [u8],
+    values: Values,
+    tokens: Tokens,
+    body: LentData<'a>,
+) -> AskParts<'a>
     ensures { ask_of result ≡ ask_by kind key.now values tokens body }
 {
     match kind {
@@ -155,8 +161,8 @@ impl Request {
         }
     }
 
-    /// The parts of the ask of this number, counted from 0: its key is still where it was read, and its data may share the buffer that they
-    /// came in. The only error is running out of memory.
+    /// The parts of the ask of this number, counted from 0: its key and its data are still where they were read, but for large data, which may
+    /// share the buffer that they came in. The only error is running out of memory.
     pub fn parts<'a>(
         &self,
         alloc: Global,
@@ -176,7 +182,7 @@ impl Request {
                 kind,
                 ..
             } => {
-                let body = received.data_between(alloc, self.block.start, self.block.end)?;
+                let body = received.lent(self.block.start, self.block.end)?;
                 let tokens = tokens(alloc, received, flags.span)?;
                 Ok(ask_by(kind, key_in(received, key), flags.values, tokens, body))
             }

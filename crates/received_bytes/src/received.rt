@@ -3,7 +3,7 @@
 ghost use Rattle.std.specs.Prelude.{◌≡◌, ◌<◌, ◌≤◌, ◌+◌, IfOk, drop, length, take, slice_range};
 
 use bytes::Bytes;
-use mc_types::Body;
+use mc_types::{Body, LentData, SpareBodies};
 use std::alloc::{AllocError, Global};
 use std::marker::Model;
 
@@ -116,25 +116,36 @@ impl<'a> Received<'a> {
         Received { source }
     }
 
-    /// The first so many of them, as data. The only error is running out of memory.
-    pub fn data(&self, alloc: Global, len: usize) -> Result<Body, AllocError>
+    /// The first so many of them, as data: a part of the shared buffer where they are [`SHARED_FROM`] or more, else a copy, in the memory of a spare
+    /// body where one is free. The only error is running out of memory.
+    pub fn data(
+        &self,
+        alloc: Global,
+        spares: &mut SpareBodies,
+        len: usize,
+    ) -> Result<Body, AllocError>
         requires { len ≤ length self.now }
         ensures { IfOk result (λ body. body ≡ take len self.now) }
     {
         match &self.source {
             Source::Shared(bytes, at) if len >= SHARED_FROM => cut_at(bytes, *at, len),
-            _ => Body::from_slice(alloc, &self.bytes()[..len]),
+            _ => spares.copy_of(alloc, &self.bytes()[..len]),
         }
     }
 
-    /// Those from one place up to another, as data: a copy, or a part of the shared buffer where they are [`SHARED_FROM`] or more. The only error is running out of memory.
-    pub fn data_between(&self, alloc: Global, start: usize, end: usize) -> Result<Body, AllocError>
+    /// Those from one place up to another, as data that are lent: a part of the shared buffer where they are [`SHARED_FROM`] or more, else where
+    /// they are. It takes no memory but for a count of sharers; the only error is that memory is refused for that.
+    pub fn lent(&self, start: usize, end: usize) -> Result<LentData<'_>, AllocError>
         requires { (start ≤ end) × (end ≤ length self.now) }
-        ensures { IfOk result (λ body. body ≡ slice_range self.now start end) }
+        ensures { IfOk result (λ lent. lent ≡ slice_range self.now start end) }
     {
-        if end - start >= SHARED_FROM {
-            return self.after(start).data(alloc, end - start);
+        let len = end - start;
+        match &self.source {
+            Source::Shared(bytes, at) if len >= SHARED_FROM => {
+                let at = place_after(bytes, *at, start);
+                Ok(LentData::shared(cut_at(bytes, at, len)?))
+            }
+            _ => Ok(LentData::copied(self.between(start, end))),
         }
-        Body::from_slice(alloc, self.between(start, end))
     }
 }

@@ -30,7 +30,7 @@ fn first_ask(alloc: Global, request: &Request, bytes: &[u8]) -> Result<Ask, Allo
 {
     let received = Received::copied(bytes);
     let parts = request.parts(alloc, &received, 0)?;
-    Ok(Ask::of(parts))
+    Ask::of(alloc, parts)
 }
 
 fn served(bytes: &[u8], quiet: bool) -> bool {

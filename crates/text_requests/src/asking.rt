@@ -63,7 +63,7 @@ fn stored<'a>(
     requires block { IsIn (length received.now) block }
     ensures { IfOk result (λ parts. ask_of parts ≡ store_ask op (storing_in received.now stored) cas (text_at received.now block)) }
 {
-    let body = received.data_between(alloc, block.start, block.end)?;
+    let body = received.lent(block.start, block.end)?;
     let mut parts = bare(alloc, op, key_in(received, stored.key));
     parts.flags = stored.flags;
     parts.exptime = Some(stored.exptime);
@@ -173,8 +173,8 @@ impl Request {
         }
     }
 
-    /// The parts of the ask of this number, counted from 0: its key is still where it was read, and its data may share the buffer that they
-    /// came in. It walks over the keys before it; a walk over all asks is `walk`. The only error is running out of memory.
+    /// The parts of the ask of this number, counted from 0: its key and its data are still where they were read, but for large data, which may
+    /// share the buffer that they came in. It walks over the keys before it; a walk over all asks is `walk`. The only error is running out of memory.
     pub fn parts<'a>(
         &self,
         alloc: Global,
@@ -229,10 +229,11 @@ impl Asks {
                 match next_word(line, self.at) {
                     None => return Ok(None),
                     Some(word) => {
+                        let parts = retrieved(alloc, text_at(line, word), exptime, with_cas);
+                        let ask = Ask::of(alloc, parts)?;
                         self.at = word.end;
                         self.taken += 1;
-                        let parts = retrieved(alloc, text_at(line, word), exptime, with_cas);
-                        return Ok(Some(Ask::of(parts)));
+                        return Ok(Some(ask));
                     }
                 }
             }
@@ -243,8 +244,9 @@ impl Asks {
                 match single(alloc, received, &self.request)? {
                     None => return Ok(None),
                     Some(parts) => {
+                        let ask = Ask::of(alloc, parts)?;
                         self.taken = 1;
-                        return Ok(Some(Ask::of(parts)));
+                        return Ok(Some(ask));
                     }
                 }
             }
