@@ -102,7 +102,7 @@ fn ask_by<'a>(
     tokens: Tokens,
     body: LentData<'a>,
 ) -> AskParts<'a>
-    ensures { ask_of result ≡ ask_by kind key.now values tokens body }
+    ensures { ask_of result ≡ ask_by kind key.now values tokens body.entry }
 {
     match kind {
         Kind::Get => AskParts {

@@ -28,7 +28,7 @@ pub returns-in-Some-clause-value : goal.returns-in-Some-clause-value
 returns-in-Some-clause-value c =
     let at = stands c.args.received.now c.args.self.now.request.command c.in-Retrieval.exptime c.in-Retrieval.with_cas c.in-Retrieval.keys c.args.self.now.at c.args.self.now.taken c.in-Retrieval.is c.requires.place in
     let there = next_key c.args.received.now c.in-Retrieval.keys c.args.self.now.at c.args.self.now.taken c.in-Some.word at (subst (λ (t : List ℕ). IsNextWord t c.args.self.now.at c.in-Some.word) c.front_of-line.ensures c.in-Some.ensures) in
-    let same : retrieval_ask c.in-Retrieval.exptime c.in-Retrieval.with_cas (text_at (take c.in-Retrieval.keys.span.end c.args.received.now) c.in-Some.word) ≡ c.of.result = ap (retrieval_ask c.in-Retrieval.exptime c.in-Retrieval.with_cas) (sym (c.text_at.ensures ∙ ap (λ (t : List ℕ). text_at t c.in-Some.word) c.front_of-line.ensures)) ∙ sym c.retrieved-parts.ensures ∙ sym c.of.ensures in
+    let same : retrieval_ask c.in-Retrieval.exptime c.in-Retrieval.with_cas (text_at (take c.in-Retrieval.keys.span.end c.args.received.now) c.in-Some.word) ≡ c.in_ok-ask-in-Some.ask = ap (retrieval_ask c.in-Retrieval.exptime c.in-Retrieval.with_cas) (sym (c.text_at.ensures ∙ ap (λ (t : List ℕ). text_at t c.in-Some.word) c.front_of-line.ensures)) ∙ sym c.retrieved-parts.ensures ∙ sym c.in_ok-ask-in-Some.ensures in
     sym (nth_ask c.args.received.now (text_at c.args.received.now c.args.self.now.request.block) c.args.self.now.request.command c.in-Retrieval.exptime c.in-Retrieval.with_cas c.in-Retrieval.keys c.args.self.now.taken _ c.in-Retrieval.is there ∙ ap Some same)
 
 pub returns-in-Some-clause-walk : goal.returns-in-Some-clause-walk
@@ -42,19 +42,19 @@ returns-in-Some-clause-walk c =
 pub returns-in-Some-2 : goal.returns-in-Some-2
 returns-in-Some-2 c =
     let zero : c.args.self.now.taken ≡ 0 = omega arith in
-    let is = sym c.in_ok-single-in_default.ensures ∙ ap (option_map ask_of) c.in-Some-2.is ∙ ap Some (sym c.of-in-Some-2.ensures) in
-    let value = first_ask (order_in c.args.received.now c.args.self.now.request.command) (text_at c.args.received.now c.args.self.now.request.block) c.of-in-Some-2.result c.args.self.now.taken is zero in
+    let is = sym c.in_ok-single-in_default.ensures ∙ ap (option_map ask_of) c.in-Some-2.is ∙ ap Some (sym c.in_ok-ask-in-Some-2.ensures) in
+    let value = first_ask (order_in c.args.received.now c.args.self.now.request.command) (text_at c.args.received.now c.args.self.now.request.block) c.in_ok-ask-in-Some-2.ask c.args.self.now.taken is zero in
     record {
       value = sym value;
-      ask = found IsClassicAsk (asks_of (message_in c.args.received.now c.args.self.now.request)) c.args.self.now.taken c.of-in-Some-2.result (asks_sound c.args.received.now c.args.self.now.request c.requires.read) value;
+      ask = found IsClassicAsk (asks_of (message_in c.args.received.now c.args.self.now.request)) c.args.self.now.taken c.in_ok-ask-in-Some-2.ask (asks_sound c.args.received.now c.args.self.now.request c.requires.read) value;
       taken = omega arith;
       request = refl;
-      walk = record { read = c.requires.read; place = single_at c.args.received.now (text_at c.args.received.now c.args.self.now.request.block) c.args.self.now.request.command c.args.self.now.at 1 c.of-in-Some-2.result is };
+      walk = record { read = c.requires.read; place = single_at c.args.received.now (text_at c.args.received.now c.args.self.now.request.block) c.args.self.now.request.command c.args.self.now.at 1 c.in_ok-ask-in-Some-2.ask is };
       err = tt;
     }
 
 pub returns-in-Some-clause-ask : goal.returns-in-Some-clause-ask
-returns-in-Some-clause-ask c = found IsClassicAsk (asks_of (message_in c.args.received.now c.args.self.now.request)) c.args.self.now.taken c.of.result (asks_sound c.args.received.now c.args.self.now.request c.requires.read) (sym (returns-in-Some-clause-value c))
+returns-in-Some-clause-ask c = found IsClassicAsk (asks_of (message_in c.args.received.now c.args.self.now.request)) c.args.self.now.taken c.in_ok-ask-in-Some.ask (asks_sound c.args.received.now c.args.self.now.request c.requires.read) (sym (returns-in-Some-clause-value c))
 
 pub of-requires-in-Some-2 : goal.of-requires-in-Some-2
 of-requires-in-Some-2 c =
