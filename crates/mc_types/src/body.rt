@@ -1,6 +1,7 @@
 //! An item's data: shared bytes that never change.
 
 ghost use Rattle.std.specs.Prelude.{◌≡◌, [], IfOk, OnOk, length};
+ghost use Rattle.mc_types.specs.Bodies.{bytes_in};
 
 use bytes::Bytes;
 use std::alloc::{AllocError, Global};
@@ -10,20 +11,18 @@ use std::rc::Rc;
 // Where the bytes are.
 #[derive(Drop)]
 enum Held {
-    // There are none.
-    Nothing,
     // In memory of their own.
-    Own(Rc<Vec<u8>>),
+    Own(Vec<u8>),
     // In the buffer that they came in, which lasts as long as they do.
     Cut(Bytes),
 }
 
 /// The data of an item: bytes that are shared and never changed.
 ///
-/// An empty body takes no memory, and a copy shares the bytes of its source.
+/// An empty body takes no memory, and a copy shares the bytes of its source. A body is a word, as it goes through many hands.
 #[derive(Drop)]
 pub struct Body {
-    held: Held,
+    held: Option<Rc<Held>>,
 }
 
 // Other bytes in the place of these.
@@ -34,13 +33,34 @@ fn refill(held: &mut Vec<u8>, bytes: &[u8]) -> Result<(), AllocError>
     held.extend_from_slice(bytes)
 }
 
+impl Held {
+    // It becomes a copy of the bytes, in its own memory where it has some. The only error is running out of memory.
+    fn fill(&mut self, alloc: Global, bytes: &[u8]) -> Result<(), AllocError>
+        ensures { OnOk result (bytes_in self.new ≡ bytes.now) }
+    {
+        if let Held::Own(held) = self {
+            return refill(held, bytes);
+        }
+        *self = Held::Own(Vec::from_slice(alloc, bytes)?);
+        Ok(())
+    }
+}
+
+// A body of what is held so.
+fn held_body(alloc: Global, held: Held) -> Result<Body, AllocError>
+    ensures { IfOk result (λ body. body ≡ bytes_in held) }
+{
+    let held = Rc::new(alloc, held)?;
+    Ok(Body { held: Some(held) })
+}
+
 impl Model for Body {
-    ghost use Rattle.std.specs.Prelude.{List, ℕ};
+    ghost use Rattle.std.specs.Prelude.{List, ℕ, option_map};
     ghost use Rattle.mc_types.specs.Bodies.{bytes_held};
 
     ghost Value = { List ℕ };
 
-    ghost view = { λ b. bytes_held b.held };
+    ghost view = { λ b. bytes_held (option_map (λ held. held.value) b.held) };
 }
 
 impl Body {
@@ -48,9 +68,7 @@ impl Body {
     pub fn empty() -> Body
         ensures { result ≡ [] }
     {
-        Body {
-            held: Held::Nothing,
-        }
+        Body { held: None }
     }
 
     /// A copy of the bytes. The only error is running out of memory, never for an empty slice.
@@ -68,25 +86,22 @@ impl Body {
         ensures { IfOk result (λ body. body ≡ bytes.items) }
     {
         let alloc = *bytes.allocator();
-        Ok(Body {
-            held: Held::Own(Rc::new(alloc, bytes)?),
-        })
+        held_body(alloc, Held::Own(bytes))
     }
 
-    /// These bytes, which are shared with the buffer that they came in: all of it lasts as long as the body does. It takes no memory.
-    pub fn cut(bytes: Bytes) -> Body
-        ensures { result ≡ bytes }
+    /// These bytes, which are shared with the buffer that they came in: all of it lasts as long as the body does. The only error is running
+    /// out of memory.
+    pub fn cut(alloc: Global, bytes: Bytes) -> Result<Body, AllocError>
+        ensures { IfOk result (λ body. body ≡ bytes) }
     {
-        Body {
-            held: Held::Cut(bytes),
-        }
+        held_body(alloc, Held::Cut(bytes))
     }
 
-    // Whether it has memory of its own that nobody else holds.
+    // Whether it has memory that nobody else holds.
     pub(crate) fn is_alone(&self) -> bool {
         match &self.held {
-            Held::Own(bytes) => Rc::strong_count(bytes) == 1,
-            _ => false,
+            None => false,
+            Some(held) => Rc::strong_count(held) == 1,
         }
     }
 
@@ -94,9 +109,9 @@ impl Body {
     pub(crate) fn set(&mut self, alloc: Global, bytes: &[u8]) -> Result<(), AllocError>
         ensures { OnOk result (self.new ≡ bytes.now) }
     {
-        if let Held::Own(held) = &mut self.held {
+        if let Some(held) = &mut self.held {
             if let Some(held) = Rc::get_mut(held) {
-                return refill(held, bytes);
+                return held.fill(alloc, bytes);
             }
         }
         *self = Body::from_slice(alloc, bytes)?;
@@ -108,9 +123,11 @@ impl Body {
         ensures { result.now ≡ self.now }
     {
         match &self.held {
-            Held::Nothing => b"".as_slice(),
-            Held::Own(bytes) => bytes.as_ref().as_slice(),
-            Held::Cut(bytes) => bytes.as_slice(),
+            None => b"".as_slice(),
+            Some(held) => match held.as_ref() {
+                Held::Own(bytes) => bytes.as_slice(),
+                Held::Cut(bytes) => bytes.as_slice(),
+            },
         }
     }
 
@@ -126,9 +143,8 @@ impl Body {
         ensures { IfOk result (λ body. body ≡ self.now) }
     {
         let held = match &self.held {
-            Held::Nothing => Held::Nothing,
-            Held::Own(bytes) => Held::Own(bytes.clone()?),
-            Held::Cut(bytes) => Held::Cut(bytes.clone()?),
+            None => None,
+            Some(held) => Some(held.clone()?),
         };
         Ok(Body { held })
     }

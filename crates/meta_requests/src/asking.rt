@@ -182,7 +182,7 @@ impl Request {
                 kind,
                 ..
             } => {
-                let body = received.lent(self.block.start, self.block.end)?;
+                let body = received.lent(alloc, self.block.start, self.block.end)?;
                 let tokens = tokens(alloc, received, flags.span)?;
                 Ok(ask_by(kind, key_in(received, key), flags.values, tokens, body))
             }

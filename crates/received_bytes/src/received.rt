@@ -50,12 +50,12 @@ fn place_after(bytes: &Bytes, at: usize, count: usize) -> usize
 }
 
 // So many bytes from this place on, as data that share them.
-fn cut_at(bytes: &Bytes, at: usize, len: usize) -> Result<Body, AllocError>
+fn cut_at(alloc: Global, bytes: &Bytes, at: usize, len: usize) -> Result<Body, AllocError>
     requires { (0 < len) × (len ≤ length (drop at bytes.now)) }
     ensures { IfOk result (λ body. body ≡ take len (drop at bytes.now)) }
 {
     let end = place_after(bytes, at, len);
-    Ok(Body::cut(bytes.slice(at..end)?))
+    Body::cut(alloc, bytes.slice(at..end)?)
 }
 
 impl<'a> Model for Received<'a> {
@@ -128,14 +128,14 @@ impl<'a> Received<'a> {
         ensures { IfOk result (λ body. body ≡ take len self.now) }
     {
         match &self.source {
-            Source::Shared(bytes, at) if len >= SHARED_FROM => cut_at(bytes, *at, len),
+            Source::Shared(bytes, at) if len >= SHARED_FROM => cut_at(alloc, bytes, *at, len),
             _ => spares.copy_of(alloc, &self.bytes()[..len]),
         }
     }
 
     /// Those from one place up to another, as data that are lent: a part of the shared buffer where they are [`SHARED_FROM`] or more, else where
-    /// they are. It takes no memory but for a count of sharers; the only error is that memory is refused for that.
-    pub fn lent(&self, start: usize, end: usize) -> Result<LentData<'_>, AllocError>
+    /// they are, which takes no memory. The only error is running out of memory.
+    pub fn lent(&self, alloc: Global, start: usize, end: usize) -> Result<LentData<'_>, AllocError>
         requires { (start ≤ end) × (end ≤ length self.now) }
         ensures { IfOk result (λ lent. lent ≡ slice_range self.now start end) }
     {
@@ -143,7 +143,7 @@ impl<'a> Received<'a> {
         match &self.source {
             Source::Shared(bytes, at) if len >= SHARED_FROM => {
                 let at = place_after(bytes, *at, start);
-                Ok(LentData::shared(cut_at(bytes, at, len)?))
+                Ok(LentData::shared(cut_at(alloc, bytes, at, len)?))
             }
             _ => Ok(LentData::copied(self.between(start, end))),
         }

@@ -63,7 +63,7 @@ fn stored<'a>(
     requires block { IsIn (length received.now) block }
     ensures { IfOk result (λ parts. ask_of parts ≡ store_ask op (storing_in received.now stored) cas (text_at received.now block)) }
 {
-    let body = received.lent(block.start, block.end)?;
+    let body = received.lent(alloc, block.start, block.end)?;
     let mut parts = bare(alloc, op, key_in(received, stored.key));
     parts.flags = stored.flags;
     parts.exptime = Some(stored.exptime);
