@@ -5,7 +5,7 @@ ghost use Rattle.meta_requests.specs.Asks as meta_asks;
 ghost use Rattle.client_requests.specs.Message.{IsReadFrom, message_in, used_of};
 ghost use Rattle.client_requests.specs.Asks.{asks_of, quiet_of, own_of, request_of, taken_of, counted, IsWalk, IsClientAsk};
 
-use mc_types::{Ask, SharedAsk};
+use mc_types::{Ask, SharedAsk, Tokens};
 use received_bytes::Received;
 use request_parts::ProxyCommand;
 use std::alloc::{AllocError, Global};
@@ -95,7 +95,7 @@ impl Request {
     pub fn ask(
         &self,
         alloc: Global,
-        spare: Option<SharedAsk>,
+        mut spare: Option<SharedAsk>,
         received: &Received,
         i: usize,
     ) -> Result<SharedAsk, AllocError>
@@ -110,7 +110,8 @@ impl Request {
                 SharedAsk::of(alloc, spare, parts)
             }
             Request::Meta(request) => {
-                let parts = request.parts(alloc, received, i)?;
+                let room = SharedAsk::spare_tokens(alloc, &mut spare);
+                let parts = request.parts(alloc, room, received, i)?;
                 SharedAsk::of(alloc, spare, parts)
             }
         }
@@ -129,7 +130,9 @@ impl MetaAsks {
         if self.taken >= self.request.asks() {
             return Ok(None);
         }
-        let parts = self.request.parts(alloc, received, self.taken)?;
+        let parts = self
+            .request
+            .parts(alloc, Tokens::new(alloc), received, self.taken)?;
         let ask = Ask::of(alloc, parts)?;
         self.taken += 1;
         Ok(Some(ask))

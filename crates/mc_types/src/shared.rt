@@ -1,12 +1,13 @@
 //! An ask that several hold.
 
-ghost use Rattle.std.specs.Prelude.{◌≡◌, IfOk};
+ghost use Rattle.std.specs.Prelude.{◌≡◌, [], IfOk};
 ghost use Rattle.mc_types.specs.KeyText.{IsKey};
 ghost use Rattle.mc_types.specs.Parts.{ask_of};
 
 use crate::ask::Ask;
 use crate::ask_parts::AskParts;
 use crate::key::Key;
+use crate::token::Tokens;
 use std::alloc::{AllocError, Global};
 use std::marker::Model;
 use std::rc::Rc;
@@ -74,6 +75,18 @@ impl SharedAsk {
             }
             None => SharedAsk::new(alloc, Ask::of(alloc, parts)?),
         }
+    }
+
+    /// No return flags, in the memory of a spare ask's, which has none then, where there is one that nobody else holds. It takes no memory.
+    pub fn spare_tokens(alloc: Global, spare: &mut Option<SharedAsk>) -> Tokens
+        ensures { result ≡ [] }
+    {
+        if let Some(spare) = spare {
+            if let Some(held) = Rc::get_mut(&mut spare.ask) {
+                return held.tokens.take();
+            }
+        }
+        Tokens::new(alloc)
     }
 
     /// The ask.

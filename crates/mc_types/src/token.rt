@@ -7,6 +7,7 @@ ghost use Rattle.mc_types.specs.OpaqueText.{IsOpaque, is_opaque_byte};
 use crate::limits::OPAQUE_LIMIT;
 use std::alloc::{AllocError, Global};
 use std::marker::Model;
+use std::mem::replace;
 
 /// The text of an opaque token: 1 to [`OPAQUE_LIMIT`] bytes, each 33..=126, kept inside.
 ///
@@ -128,6 +129,16 @@ impl Tokens {
     {
         self.list.push(token)?;
         Ok(())
+    }
+
+    // No flags, in the memory of these, which are none then. It takes no memory.
+    pub(crate) fn take(&mut self) -> Tokens
+        ensures { result ≡ [] }
+    {
+        let alloc = *self.list.allocator();
+        let mut list = replace(&mut self.list, Vec::new(alloc));
+        list.clear();
+        Tokens { list }
     }
 
     /// The flags, in order.

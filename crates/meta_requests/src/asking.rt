@@ -1,5 +1,5 @@
 //! What a request asks.
-ghost use Rattle.std.specs.Prelude.{◌≡◌, ℕ, List, ◌<◌, ◌≤◌, IfOk, Some, length, slice_get};
+ghost use Rattle.std.specs.Prelude.{◌≡◌, ℕ, List, [], ◌<◌, ◌≤◌, IfOk, Some, length, slice_get};
 ghost use Rattle.mc_text.specs.Word.{words, text_at};
 ghost use Rattle.mc_types.specs.Parts.{ask_of};
 ghost use Rattle.request_parts.specs.Places.{IsIn};
@@ -53,13 +53,14 @@ fn key_in<'a>(received: &'a Received, key: Span) -> &'a [u8]
     received.between(key.start, key.end)
 }
 
-// What the flags want back, in their order.
-fn tokens(alloc: Global, received: &Received, flags: Span) -> Result<Tokens, AllocError>
-    requires { IsIn (length received.now) flags }
+// What the flags want back, in their order, in the room for them.
+fn tokens(room: Tokens, received: &Received, flags: Span) -> Result<Tokens, AllocError>
+    requires inside { IsIn (length received.now) flags }
+    requires none { room ≡ [] }
     ensures { IfOk result (λ tokens. tokens ≡ tokens_in (words (text_at received.now flags))) }
 {
     let text = received.between(flags.start, flags.end);
-    let mut tokens = Tokens::new(alloc);
+    let mut tokens = room;
     let mut from = 0;
     while let Some(word) = next_word(text, from) {
         if let Some(token) = wanted(&text[word.start..word.end]) {
@@ -162,13 +163,15 @@ impl Request {
     }
 
     /// The parts of the ask of this number, counted from 0: its key and its data are still where they were read, but for large data, which may
-    /// share the buffer that they came in. The only error is running out of memory.
+    /// share the buffer that they came in; its return flags stand in the room that is given for them. The only error is running out of memory.
     pub fn parts<'a>(
         &self,
         alloc: Global,
+        room: Tokens,
         received: &'a Received,
         i: usize,
     ) -> Result<AskParts<'a>, AllocError>
+        requires room { room ≡ [] }
         requires read { IsReadFrom received.now self.now }
         requires there { i < length (asks_of (message_in received.now self.now)) }
         ensures value { IfOk result (λ parts. slice_get (asks_of (message_in received.now self.now)) i ≡ Some (ask_of parts)) }
@@ -183,7 +186,7 @@ impl Request {
                 ..
             } => {
                 let body = received.lent(alloc, self.block.start, self.block.end)?;
-                let tokens = tokens(alloc, received, flags.span)?;
+                let tokens = tokens(room, received, flags.span)?;
                 Ok(ask_by(kind, key_in(received, key), flags.values, tokens, body))
             }
             Command::Own(_) => unreachable!(),

@@ -4,7 +4,7 @@ ghost use Rattle.meta_requests.specs.Message.{IsReadFrom, message_in};
 ghost use Rattle.meta_requests.specs.Asks.{asks_of, IsMetaAsk};
 
 use bytes::BytesMut;
-use mc_types::Ask;
+use mc_types::{Ask, Tokens};
 use meta_requests::{ProxyCommand, Read, RefusalReason, Request, Skip, read_request, write_ask};
 use received_bytes::Received;
 use std::alloc::{AllocError, Global};
@@ -28,7 +28,7 @@ fn first_ask(alloc: Global, request: &Request, bytes: &[u8]) -> Result<Ask, Allo
     ensures { IfOk result IsMetaAsk }
 {
     let received = Received::copied(bytes);
-    let parts = request.parts(alloc, &received, 0)?;
+    let parts = request.parts(alloc, Tokens::new(alloc), &received, 0)?;
     Ask::of(alloc, parts)
 }
 
