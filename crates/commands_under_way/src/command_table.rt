@@ -186,11 +186,18 @@ impl CommandTable {
         }
     }
 
-    /// An ask that a command had, if one is kept, for [`SharedAsk::reusing`]. It takes no memory.
+    /// An ask that nobody wants any more, if one is kept, for [`SharedAsk::reusing`]. It takes no memory.
     pub fn take_ask(&mut self) -> Option<SharedAsk>
         ensures { self.new ≡ self.old }
     {
         self.spares.take_ask()
+    }
+
+    /// The memory of an ask that doesn't begin is kept for others.
+    pub fn keep_ask(&mut self, ask: SharedAsk)
+        ensures { self.new ≡ self.old }
+    {
+        self.spares.keep_ask(ask);
     }
 
     /// The room of a job that ended, if one is kept, for [`crate::begun::command_of`]. It takes no memory.
@@ -206,7 +213,7 @@ impl CommandTable {
         ensures done { (calls : List CallMade) (given : Given) → Comes job calls given ↔ ((calls ≡ []) × (given ≡ given_of result)) }
         ensures same { self.new ≡ self.old }
     {
-        self.spares.keep_ask(ask);
+        self.spares.keep_shared(ask);
         self.spares.end_job(alloc, job)
     }
 
@@ -215,7 +222,7 @@ impl CommandTable {
     pub fn keep(&mut self, alloc: Global, ask: &SharedAsk, job: HeldJob)
         ensures { self.new ≡ self.old }
     {
-        self.spares.keep_ask(ask);
+        self.spares.keep_shared(ask);
         self.spares.keep_job(alloc, job);
     }
 

@@ -14,8 +14,15 @@ use std::alloc::Global;
 // So many asks and so many jobs are kept at most: more than 64 clients have with 16 commands each, which may end together.
 const SPARES: usize = 2_048;
 
-// An ask with more data isn't kept.
+// An ask with more data than this is kept only among the first few, since it holds its data until its memory is used again.
 const SPARE_DATA: usize = 512;
+
+// So many are those few: stores of values of some kilobytes use each other's memory so.
+const LARGE_SPARES: usize = 64;
+
+// Each of those few has so many bytes of data at most, so the data of all asks that are kept have 1.5 MiB at most. Data that share the
+// buffer that they came in are longer, so no kept ask holds such a buffer.
+const LARGE_DATA: usize = 8_192;
 
 /// Asks and jobs of commands that ended, whose memory is used again.
 #[derive(Drop)]
@@ -65,15 +72,40 @@ impl Spares {
         self.jobs.pop()
     }
 
-    /// The ask of a command that ended is kept, where it holds few data and not many are kept. Where memory was refused it isn't.
-    pub fn keep_ask(&mut self, ask: &SharedAsk) {
-        if self.asks.len() >= SPARES || ask.get().body.len() > SPARE_DATA {
+    // Whether an ask with as many data as this one is kept beside those that are.
+    fn has_place(&self, ask: &SharedAsk) -> bool {
+        let kept = self.asks.len();
+        let data = ask.get().body.len();
+        if kept < LARGE_SPARES {
+            data <= LARGE_DATA
+        } else {
+            kept < SPARES && data <= SPARE_DATA
+        }
+    }
+
+    // One more ask that is kept. Where memory was refused it isn't.
+    fn put_ask(&mut self, ask: SharedAsk) {
+        if let Err(refused) = self.asks.push(ask) {
+            drop_ask(refused.value);
+        }
+    }
+
+    /// An ask that nobody wants any more is kept, where it holds few data and not many are kept. Where memory was refused it isn't.
+    pub fn keep_ask(&mut self, ask: SharedAsk) {
+        if self.has_place(&ask) {
+            self.put_ask(ask);
+        } else {
+            drop_ask(ask);
+        }
+    }
+
+    /// The same of the ask of a command that ended, which others hold still.
+    pub fn keep_shared(&mut self, ask: &SharedAsk) {
+        if !self.has_place(ask) {
             return;
         }
         if let Some(ask) = copy_of(ask) {
-            if let Err(refused) = self.asks.push(ask) {
-                drop_ask(refused.value);
-            }
+            self.put_ask(ask);
         }
     }
 
