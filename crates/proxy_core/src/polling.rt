@@ -222,6 +222,13 @@ impl Core {
         }
     }
 
+    // The memory of an ask that doesn't begin now is given back: the next poll makes the ask anew in it.
+    fn give_back(&mut self, ask: SharedAsk)
+        ensures { self.new ≡ self.old }
+    {
+        self.commands.keep_ask(ask);
+    }
+
     // Whether a command of the client on this key has no reply yet.
     fn has_own(&self, client: usize, key: &Key) -> bool
         requires { ForClient self.now client IsServed }
@@ -249,7 +256,7 @@ impl Core {
         ensures err { IfErr result (λ fault. ReadFault self.old client fault self.new) }
     {
         let joined = self.lines.join(client, ask.key(), claim);
-        drop_ask(ask);
+        self.give_back(ask);
         match joined {
             Ok(true) => Ok(Poll::Queued),
             Ok(false) => Ok(Poll::Busy),
@@ -272,7 +279,7 @@ impl Core {
         ensures err { IfErr result (λ fault. ReadFault self.old client fault self.new) }
     {
         if self.has_own(client, ask.key()) {
-            drop_ask(ask);
+            self.give_back(ask);
             return Ok(Poll::Busy);
         }
         let claim = Claim::of(self.limits.sharing, ask.get(), &self.tree);
@@ -283,7 +290,7 @@ impl Core {
             return self.wait_in_line(client, ask, claim);
         }
         if self.number == LAST_COMMAND {
-            drop_ask(ask);
+            self.give_back(ask);
             return Err(CoreFault::Spent);
         }
         match self.begin_key(client, request, ask, claim) {

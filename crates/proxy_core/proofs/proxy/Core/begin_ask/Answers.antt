@@ -1,4 +1,4 @@
-use Rattle.std.proofs.Common.{◌≡◌, ℕ, ◌<◌, Bool, true, false, List, length, sym, refl, ap, ◌∙◌, inl, inr}
+use Rattle.std.proofs.Common.{◌≡◌, ℕ, ◌<◌, Bool, true, false, List, length, sym, refl, ap, subst, ◌∙◌, inl, inr}
 use Rattle.mc_types.specs.declared.ask.Ask.{Ask}
 use Rattle.client_requests.specs.declared.request.Request.{Request}
 use Rattle.core_client.specs.declared.client.Client.{Client}
@@ -29,7 +29,7 @@ pub returns-then-has_own-clause-ok : goal.returns-then-has_own-clause-ok
 returns-then-has_own-clause-ok c =
     let old = c.args.self.now in
     let next = is_next old c.args.client c.args.request.now c.args.ask c.key.result.now c.has_own.result true c.requires.next c.has_own.ensures c.key.ensures c.if-has_own.true in
-    nothing_polls old c.args.client Busy (λ entries e. e) (refl, c.requires.held, inr (inl (c.args.ask, next), (c.args.request.now, c.requires.asks)))
+    subst (λ (core : Core). Polls old c.args.client Busy core) (sym c.give_back.ensures) (nothing_polls old c.args.client Busy (λ entries e. e) (refl, c.requires.held, inr (inl (c.args.ask, next), (c.args.request.now, c.requires.asks))))
 
 pub wait_in_line-requires-clause-next : goal.wait_in_line-requires-clause-next
 wait_in_line-requires-clause-next c = is_next c.args.self.now c.args.client c.args.request.now c.args.ask c.key.result.now c.has_own.result false c.requires.next c.has_own.ensures c.key.ensures c.if-has_own.false

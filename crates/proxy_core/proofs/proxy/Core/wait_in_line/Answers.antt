@@ -1,12 +1,13 @@
-use Rattle.std.proofs.Common.{◌≡◌, ◌⊎◌, ℕ, true, false, List, refl, ap, ◌∙◌}
+use Rattle.std.proofs.Common.{◌≡◌, ◌⊎◌, ℕ, true, false, List, refl, ap, sym, subst, ◌∙◌}
 use Rattle.mc_types.specs.declared.ask.Ask.{Ask}
 use Rattle.commands_under_way.specs.declared.claim.Claim.{Claim}
 use Rattle.commands_under_way.specs.declared.key_lines.Standing.{Standing}
 use Rattle.proxy_core.specs.declared.proxy.Core.{Core}
 use Rattle.proxy_core.specs.declared.fault.CoreFault.TheVariants.{NoMemory}
+use Rattle.proxy_core.specs.declared.note.Poll.TheVariants.{Busy, Queued}
 use Rattle.commands_under_way.specs.Lines.{others, joined}
 use Rattle.commands_under_way.proofs.Lines.{others_again}
-use Rattle.proxy_core.specs.Polls.{IsNextAsk, StandsInLine, claim_of, bars, stands_before}
+use Rattle.proxy_core.specs.Polls.{IsNextAsk, Polls, ReadFault, StandsInLine, claim_of, bars, stands_before}
 use Rattle.proxy_core.proofs.Polls.{same_goes, first_stops, line_polls, stood_polls}
 use Rattle.proxy_core.proofs.proxy.Core.wait_in_line.Goals as goal
 
@@ -26,18 +27,21 @@ pub returns-in-Ok-true-clause-ok : goal.returns-in-Ok-true-clause-ok
 returns-in-Ok-true-clause-ok c =
     let old = c.args.self.now in
     let new : Core = record old { lines = c.join-joined.new.self } in
-    line_polls old new c.args.client (same_goes old new (λ n. refl) (λ n. refl) refl refl refl)
-    (stands_now old c.join-joined.new.self c.args.client c.args.ask c.args.claim c.key.result.now c.requires.next c.requires.claim_is c.key.ensures c.requires.waits c.in-Ok-true.ensures.ok) c.requires.may c.requires.held
+    subst (λ (core : Core). Polls old c.args.client Queued core) (sym c.give_back.ensures)
+    (line_polls old new c.args.client (same_goes old new (λ n. refl) (λ n. refl) refl refl refl)
+    (stands_now old c.join-joined.new.self c.args.client c.args.ask c.args.claim c.key.result.now c.requires.next c.requires.claim_is c.key.ensures c.requires.waits c.in-Ok-true.ensures.ok) c.requires.may c.requires.held)
 
 pub returns-in-Ok-false-clause-ok : goal.returns-in-Ok-false-clause-ok
 returns-in-Ok-false-clause-ok c =
     let old = c.args.self.now in
     let new : Core = record old { lines = c.join-joined.new.self } in
-    stood_polls old new c.args.client (ap (λ (l : List Standing). record old { lines = l }) (c.in-Ok-false.ensures.same c.in-Ok-false.field-0-test))
-    (stands_now old c.join-joined.new.self c.args.client c.args.ask c.args.claim c.key.result.now c.requires.next c.requires.claim_is c.key.ensures c.requires.waits c.in-Ok-false.ensures.ok) c.requires.may c.requires.held
+    subst (λ (core : Core). Polls old c.args.client Busy core) (sym c.give_back.ensures)
+    (stood_polls old new c.args.client (ap (λ (l : List Standing). record old { lines = l }) (c.in-Ok-false.ensures.same c.in-Ok-false.field-0-test))
+    (stands_now old c.join-joined.new.self c.args.client c.args.ask c.args.claim c.key.result.now c.requires.next c.requires.claim_is c.key.ensures c.requires.waits c.in-Ok-false.ensures.ok) c.requires.may c.requires.held)
 
 pub returns-in-Err-clause-err : goal.returns-in-Err-clause-err
 returns-in-Err-clause-err c =
     let old = c.args.self.now in
     let new : Core = record old { lines = c.join-joined.new.self } in
-    first_stops old new c.args.client NoMemory (same_goes old new (λ n. refl) (λ n. refl) refl refl refl, c.requires.held.0) (ap (others c.args.client) c.in-Err.ensures.err ∙ others_again c.args.client old.lines)
+    subst (λ (core : Core). ReadFault old c.args.client NoMemory core) (sym c.give_back.ensures)
+    (first_stops old new c.args.client NoMemory (same_goes old new (λ n. refl) (λ n. refl) refl refl refl, c.requires.held.0) (ap (others c.args.client) c.in-Err.ensures.err ∙ others_again c.args.client old.lines))
