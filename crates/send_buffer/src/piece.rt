@@ -43,10 +43,14 @@ impl Piece {
                 text.advance(count);
                 Piece::Text(text)
             }
-            Piece::Data { body, sent } => Piece::Data {
-                body,
-                sent: sent + count,
-            },
+            Piece::Data { body, sent } => {
+                // (so the sum is a length, or what it was)
+                let _len = body.len();
+                Piece::Data {
+                    body,
+                    sent: sent + count,
+                }
+            }
         }
     }
 }
