@@ -3,7 +3,7 @@
 use crate::answers_classic::ask;
 use crate::answers_meta::{meta_ask, put_read};
 use bytes::{Bytes, BytesMut};
-use mc_types::{Answer, Ask, Body, Code, Fields, Op};
+use mc_types::{Answer, Ask, Body, Code, Fields, Op, SpareBodies};
 use send_buffer::SendBuffer;
 use std::alloc::{AllocError, Global};
 use std::test::Fail;
@@ -31,7 +31,7 @@ fn used_by(read: &AnswerRead) -> usize {
 // What was read, as it is written, and how many bytes spell it.
 fn written(alloc: Global, ask: &Ask, received: &Received) -> Result<(BytesMut, usize), AllocError> {
     let mut out = BytesMut::new(alloc);
-    let read = read_received(alloc, ask, received)?;
+    let read = read_received(alloc, &mut SpareBodies::new(alloc), ask, received)?;
     put_read(ask, &read, &mut out)?;
     Ok((out, used_by(&read)))
 }

@@ -5,7 +5,7 @@ ghost use Rattle.mc_types.specs.Asks.{IsAsk};
 
 use crate::answers_meta::put_read;
 use bytes::BytesMut;
-use mc_types::{Ask, Dialect};
+use mc_types::{Ask, Dialect, SpareBodies};
 use meta_asks::{DialectRead, MetaForms, read_dialect, read_in_meta, write_in_meta, write_noop};
 use std::alloc::{AllocError, Global};
 use std::test::Fail;
@@ -41,7 +41,13 @@ fn is_read(alloc: Global, ask: Ask, bytes: &[u8], want: &[u8]) -> Result<bool, A
     requires { IsAsk ask }
 {
     let mut out = BytesMut::new(alloc);
-    let read = read_in_meta(alloc, &mut MetaForms::new(), &ask, &Received::copied(bytes))?;
+    let read = read_in_meta(
+        alloc,
+        &mut MetaForms::new(),
+        &mut SpareBodies::new(alloc),
+        &ask,
+        &Received::copied(bytes),
+    )?;
     put_read(&ask, &read, &mut out)?;
     Ok(out.as_slice() == want)
 }

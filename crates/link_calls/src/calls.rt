@@ -13,7 +13,7 @@ ghost use Rattle.mc_types.specs.declared.call.Outcome.TheVariants.{Failed};
 use crate::any_core::AnyCore;
 use crate::sending::send_ask;
 use client_asks::is_ask;
-use mc_types::{Ask, Dialect, Outcome};
+use mc_types::{Ask, Dialect, Outcome, SpareBodies};
 use meta_asks::form::is_retrieval;
 use meta_asks::{MetaForms, read_in_meta, write_in_meta};
 use proxy_core::Ticket;
@@ -53,6 +53,8 @@ pub struct LinkCalls {
     sent: VecDeque<SentCall>,
     // Those of the last gets that were asked in the meta dialect.
     forms: MetaForms,
+    // Bodies of earlier answers, for later ones.
+    spares: SpareBodies,
 }
 
 /// A call that could not go out has failed.
@@ -104,6 +106,7 @@ fn read_in(
     dialect: Dialect,
     alloc: Global,
     forms: &mut MetaForms,
+    spares: &mut SpareBodies,
     ask: &Ask,
     received: &Received,
 ) -> Result<AnswerRead, AllocError>
@@ -112,8 +115,8 @@ fn read_in(
 {
     spelled_answers_fit();
     match dialect {
-        Dialect::Classic => read_received(alloc, ask, received),
-        Dialect::Meta => read_in_meta(alloc, forms, ask, received),
+        Dialect::Classic => read_received(alloc, spares, ask, received),
+        Dialect::Meta => read_in_meta(alloc, forms, spares, ask, received),
     }
 }
 
@@ -121,6 +124,7 @@ fn read_for(
     dialect: Dialect,
     alloc: Global,
     forms: &mut MetaForms,
+    spares: &mut SpareBodies,
     ask: &Ask,
     received: &Received,
 ) -> AnswerRead
@@ -129,7 +133,7 @@ fn read_for(
     if !is_ask(ask) {
         return AnswerRead::Foreign;
     }
-    match read_in(dialect, alloc, forms, ask, received) {
+    match read_in(dialect, alloc, forms, spares, ask, received) {
         Ok(read) => read,
         Err(_) => AnswerRead::Foreign,
     }
@@ -141,6 +145,7 @@ fn read_next(
     dialect: Dialect,
     alloc: Global,
     forms: &mut MetaForms,
+    spares: &mut SpareBodies,
     core: &AnyCore,
     number: u64,
     received: &Received,
@@ -149,7 +154,7 @@ fn read_next(
 {
     match core.asked(number) {
         None => AnswerRead::Foreign,
-        Some(ask) => read_for(dialect, alloc, forms, ask, received),
+        Some(ask) => read_for(dialect, alloc, forms, spares, ask, received),
     }
 }
 
@@ -162,6 +167,7 @@ impl LinkCalls {
             alloc,
             sent: VecDeque::new(alloc),
             forms: MetaForms::new(),
+            spares: SpareBodies::new(alloc),
         }
     }
 
@@ -245,7 +251,7 @@ impl LinkCalls {
     /// asked: nothing else is, and the core goes on by that alone. Without one nothing has changed.
     ///
     /// Of the gets that were asked in the meta dialect the first takes memory for its form, and the first `gets` does; later ones are read
-    /// by the form that is kept.
+    /// by the form that is kept. Small data are copied into the memory of an earlier answer's, where nobody else holds those any more.
     ///
     /// Source: mcgate's own.
     pub fn settle_next(&mut self, core: &mut AnyCore, received: &Received) -> Next
@@ -254,7 +260,15 @@ impl LinkCalls {
         let Some((number, dialect)) = self.first_asked() else {
             return Next::Foreign;
         };
-        match read_next(dialect, self.alloc, &mut self.forms, core, number, received) {
+        match read_next(
+            dialect,
+            self.alloc,
+            &mut self.forms,
+            &mut self.spares,
+            core,
+            number,
+            received,
+        ) {
             AnswerRead::More => Next::More,
             AnswerRead::Foreign => Next::Foreign,
             AnswerRead::Answer(answer, used) => {

@@ -9,7 +9,7 @@ ghost use Rattle.meta_asks.specs.Kept.{IsKeptFor};
 
 use crate::form::meta_form;
 use bytes::BytesMut;
-use mc_types::Ask;
+use mc_types::{Ask, SpareBodies};
 use std::alloc::{AllocError, Global};
 use std::marker::Model;
 use text_codec::{AnswerRead, Received, read_received, write_ask};
@@ -68,6 +68,7 @@ fn set_form(kept: &mut Option<Ask>, alloc: Global, ask: &Ask) -> Result<(), Allo
 fn read_kept(
     kept: &mut Option<Ask>,
     alloc: Global,
+    spares: &mut SpareBodies,
     ask: &Ask,
     received: &Received,
 ) -> Result<AnswerRead, AllocError>
@@ -78,7 +79,7 @@ fn read_kept(
 {
     set_form(kept, alloc, ask)?;
     match kept {
-        Some(form) => read_received(alloc, form, received),
+        Some(form) => read_received(alloc, spares, form, received),
         None => unreachable!(),
     }
 }
@@ -118,6 +119,7 @@ impl MetaForms {
     pub(crate) fn read(
         &mut self,
         alloc: Global,
+        spares: &mut SpareBodies,
         ask: &Ask,
         received: &Received,
     ) -> Result<AnswerRead, AllocError>
@@ -125,9 +127,9 @@ impl MetaForms {
         ensures within { IfOk result (LiesWithin received.now) }
     {
         if ask.with_cas {
-            read_kept(&mut self.gets, alloc, ask, received)
+            read_kept(&mut self.gets, alloc, spares, ask, received)
         } else {
-            read_kept(&mut self.get, alloc, ask, received)
+            read_kept(&mut self.get, alloc, spares, ask, received)
         }
     }
 

@@ -7,7 +7,7 @@ ghost use Rattle.meta_asks.specs.Reading.{IsHitOf, SaysSame, IsTold, ReadsInMeta
 
 use crate::form::is_retrieval;
 use crate::kept::MetaForms;
-use mc_types::{Answer, Ask, Code, Fields};
+use mc_types::{Answer, Ask, Code, Fields, SpareBodies};
 use std::alloc::{AllocError, Global};
 use text_answers::laws::spelled_answers_fit;
 use text_codec::{AnswerRead, Received, read_received};
@@ -46,13 +46,14 @@ fn classic_of(told: Answer) -> Answer
 /// What [`read_received`] takes for cut or foreign of the meta form is cut or foreign.
 ///
 /// The only error is running out of memory. Memory is taken for the form only where none of its kind is kept, so after the first answer
-/// to a get and the first to a `gets` none is.
+/// to a get and the first to a `gets` none is; for data as [`read_received`] says.
 ///
 /// Source: memcached's protocol.txt, "Meta Get"; what is foreign is mcgate's own.
 #[tactic(auto, using(crate::proofs::Answers::reads_as_it_is, crate::proofs::Answers::told_fits))]
 pub fn read_in_meta(
     alloc: Global,
     forms: &mut MetaForms,
+    spares: &mut SpareBodies,
     ask: &Ask,
     received: &Received,
 ) -> Result<AnswerRead, AllocError>
@@ -62,9 +63,9 @@ pub fn read_in_meta(
 {
     spelled_answers_fit();
     if !is_retrieval(ask) {
-        return read_received(alloc, ask, received);
+        return read_received(alloc, spares, ask, received);
     }
-    match forms.read(alloc, ask, received)? {
+    match forms.read(alloc, spares, ask, received)? {
         AnswerRead::More => Ok(AnswerRead::More),
         AnswerRead::Foreign => Ok(AnswerRead::Foreign),
         AnswerRead::Answer(told, used) => Ok(AnswerRead::Answer(classic_of(told), used)),

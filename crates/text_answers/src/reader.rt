@@ -9,7 +9,7 @@ use crate::first_line::read_first_line;
 use crate::line_kinds::{FirstLine, HitLine};
 use mc_text::number::number;
 use mc_text::{Line, line};
-use mc_types::{Answer, Ask, Code};
+use mc_types::{Answer, Ask, Code, SpareBodies};
 use meta_answers::ValueLine;
 use received_bytes::Received;
 use std::alloc::{AllocError, Global};
@@ -25,7 +25,12 @@ pub enum AnswerRead {
     Foreign,
 }
 
-fn hit_after(alloc: Global, hit: HitLine, rest: &Received) -> Result<AnswerRead, AllocError>
+fn hit_after(
+    alloc: Global,
+    spares: &mut SpareBodies,
+    hit: HitLine,
+    rest: &Received,
+) -> Result<AnswerRead, AllocError>
     ensures { IfOk result (ReadsAfter (FirstLine.Hit hit) rest.now) }
 {
     let bytes = rest.bytes();
@@ -38,7 +43,7 @@ fn hit_after(alloc: Global, hit: HitLine, rest: &Received) -> Result<AnswerRead,
         Ends::Whole(used) => {
             let answer = Answer::Hit {
                 flags: hit.flags,
-                body: rest.data(alloc, hit.len)?,
+                body: rest.data(alloc, spares, hit.len)?,
                 cas: hit.cas,
             };
             Ok(AnswerRead::Answer(answer, hit.len + used))
@@ -52,7 +57,12 @@ fn is_data(is_number: bool, body: &[u8]) -> bool
     !is_number || number(body).is_some()
 }
 
-fn value_after(alloc: Global, line: ValueLine, rest: &Received) -> Result<AnswerRead, AllocError>
+fn value_after(
+    alloc: Global,
+    spares: &mut SpareBodies,
+    line: ValueLine,
+    rest: &Received,
+) -> Result<AnswerRead, AllocError>
     ensures { IfOk result (ReadsAfter (FirstLine.Value line) rest.now) }
 {
     let bytes = rest.bytes();
@@ -66,20 +76,25 @@ fn value_after(alloc: Global, line: ValueLine, rest: &Received) -> Result<Answer
             if !is_data(line.is_number, &bytes[..line.len]) {
                 return Ok(AnswerRead::Foreign);
             }
-            let fields = line.told.fields(Some(rest.data(alloc, line.len)?));
+            let fields = line.told.fields(Some(rest.data(alloc, spares, line.len)?));
             let answer = Answer::Meta(Code::Va, fields);
             Ok(AnswerRead::Answer(answer, line.len + used))
         }
     }
 }
 
-fn after_line(alloc: Global, first: FirstLine, rest: &Received) -> Result<AnswerRead, AllocError>
+fn after_line(
+    alloc: Global,
+    spares: &mut SpareBodies,
+    first: FirstLine,
+    rest: &Received,
+) -> Result<AnswerRead, AllocError>
     ensures { IfOk result (ReadsAfter first rest.now) }
 {
     match first {
         FirstLine::Whole(answer) => Ok(AnswerRead::Answer(answer, 0)),
-        FirstLine::Hit(hit) => hit_after(alloc, hit, rest),
-        FirstLine::Value(line) => value_after(alloc, line, rest),
+        FirstLine::Hit(hit) => hit_after(alloc, spares, hit, rest),
+        FirstLine::Value(line) => value_after(alloc, spares, line, rest),
         FirstLine::Foreign => Ok(AnswerRead::Foreign),
     }
 }
@@ -94,12 +109,14 @@ fn after_line(alloc: Global, first: FirstLine, rest: &Received) -> Result<Answer
 ///
 /// [`AnswerRead::Foreign`] comes where no answer begins so, whatever follows: another answer than the table has, a second
 /// `VALUE`, more than 1,048,576 bytes of data, a line of more than 65,535 bytes. The only error is running out of memory; the
-/// data of a hit are copied once, or shared with the buffer that they came in ([`Received`]), and only when the answer is whole.
+/// data of a hit are copied once, or shared with the buffer that they came in ([`Received`]), and only when the answer is whole. A copy of
+/// small data is made in the memory of a body handed out before, where a spare one is free.
 ///
 /// Source: memcached's protocol.txt, what is said of the answers of each command, and "Meta Commands"; the limits and what
 /// is foreign are mcgate's own.
 pub fn read_received(
     alloc: Global,
+    spares: &mut SpareBodies,
     ask: &Ask,
     received: &Received,
 ) -> Result<AnswerRead, AllocError>
@@ -113,7 +130,7 @@ pub fn read_received(
         Line::At { end, used } => {
             let first = read_first_line(alloc, ask, &bytes[..end])?;
             let rest = received.after(used);
-            Ok(match after_line(alloc, first, &rest)? {
+            Ok(match after_line(alloc, spares, first, &rest)? {
                 AnswerRead::Answer(answer, more) => AnswerRead::Answer(answer, used + more),
                 AnswerRead::More => AnswerRead::More,
                 AnswerRead::Foreign => AnswerRead::Foreign,
@@ -122,10 +139,15 @@ pub fn read_received(
     }
 }
 
-/// The same of bytes whose data are copied.
+/// The same of bytes whose data are copied, to memory of their own.
 pub fn read_answer(alloc: Global, ask: &Ask, bytes: &[u8]) -> Result<AnswerRead, AllocError>
     ensures reads { IfOk result (Reads ask.now bytes.now) }
     ensures within { IfOk result (LiesWithin bytes.now) }
 {
-    read_received(alloc, ask, &Received::copied(bytes))
+    read_received(
+        alloc,
+        &mut SpareBodies::new(alloc),
+        ask,
+        &Received::copied(bytes),
+    )
 }
