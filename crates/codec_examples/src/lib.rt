@@ -13,4 +13,6 @@ mod large_stores;
 #[cfg(test)]
 mod meta_forms;
 #[cfg(test)]
+mod small_answers;
+#[cfg(test)]
 mod streams;
