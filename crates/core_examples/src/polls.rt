@@ -53,6 +53,80 @@ output 0 => SERVER_ERROR call failed\r\nSERVER_ERROR call failed\r\n
 poll 0 => idle"
 }
 
+// Sixteen commands of one client are out at three servers.
+fn sixteen() -> &'static str {
+    r"Their answers come in any order, and each reply is shown in its turn.
+three servers: depth 16, shared
+open => 0
+feed 0 get a\r\nset b 0 0 1\r\ny\r\ndelete c\r\nget d\r\nincr e 1\r\nadd f 0 0 1\r\ny\r\ntouch g 0\r\nget h\r\nset i 0 0 1\r\ny\r\ndelete j\r\nget k\r\nget l\r\nreplace m 0 0 1\r\ny\r\ndecr n 1\r\nappend o 0 0 1\r\ny\r\nget p\r\n => ok
+poll 0 => call 1
+poll 0 => call 2
+poll 0 => call 3
+poll 0 => call 4
+poll 0 => call 5
+poll 0 => call 6
+poll 0 => call 7
+poll 0 => call 8
+poll 0 => call 9
+poll 0 => call 10
+poll 0 => call 11
+poll 0 => call 12
+poll 0 => call 13
+poll 0 => call 14
+poll 0 => call 15
+poll 0 => call 16
+poll 0 => waiting
+answer 16 => ok
+poll 0 => did 16
+output 0 => nothing
+answer 2 => ok
+poll 0 => did 2
+output 0 => nothing
+answer 7 => ok
+poll 0 => did 7
+output 0 => nothing
+answer 11 => ok
+poll 0 => did 11
+output 0 => nothing
+answer 1 => ok
+poll 0 => did 1
+output 0 => VALUE a 0 1\r\nx\r\nEND\r\nSTORED\r\n
+answer 4 => ok
+poll 0 => did 4
+output 0 => nothing
+answer 3 => ok
+poll 0 => did 3
+output 0 => NOT_FOUND\r\nEND\r\n
+answer 15 => ok
+poll 0 => did 15
+output 0 => nothing
+answer 5 => ok
+poll 0 => did 5
+output 0 => NOT_FOUND\r\n
+answer 9 => ok
+poll 0 => did 9
+output 0 => nothing
+answer 6 => ok
+poll 0 => did 6
+output 0 => STORED\r\nNOT_FOUND\r\n
+answer 8 => ok
+poll 0 => did 8
+output 0 => END\r\nSTORED\r\n
+answer 14 => ok
+poll 0 => did 14
+output 0 => nothing
+answer 10 => ok
+poll 0 => did 10
+output 0 => NOT_FOUND\r\nEND\r\n
+answer 12 => ok
+poll 0 => did 12
+output 0 => END\r\n
+answer 13 => ok
+poll 0 => did 13
+output 0 => STORED\r\nNOT_FOUND\r\nSTORED\r\nEND\r\n
+poll 0 => idle"
+}
+
 // Commands on one key.
 fn keys() -> &'static str {
     r"Two clients ask one key: the second begins after the first's command has ended.
@@ -287,6 +361,11 @@ poll 1 => busy"
 #[test]
 fn replies_in_their_order(rt: HostRuntime) -> Result<(), Fail> {
     play(rt.alloc(), replies())
+}
+
+#[test]
+fn results_in_any_order(rt: HostRuntime) -> Result<(), Fail> {
+    play(rt.alloc(), sixteen())
 }
 
 #[test]

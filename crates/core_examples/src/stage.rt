@@ -1,13 +1,14 @@
 //! A core that is played by lines of text: an event, and after an arrow what it gives.
 
-ghost use Rattle.std.specs.Prelude.{◌≡◌, IfOk};
+ghost use Rattle.std.specs.Prelude.{◌≡◌, IfOk, IfSome};
+ghost use Rattle.proxy_core.specs.Settles.{FitsCall};
 ghost use Rattle.route_tree.specs.Route as route;
 
 use crate::answering::FixedServers;
 use fresh_core::FreshCore;
 use fresh_gate::judge;
 use mc_types::{Ask, Dialect, Key, Op, Origin, Outcome, ServerId, SharedAsk, Tokens};
-use proxy_core::{Core, CoreFault, Limits, Poll, ServedOne, Sharing, Ticket};
+use proxy_core::{Core, CoreFault, Limits, Poll, ServedOne, Servers, Sharing, Ticket};
 use route_json::{Config, read_config};
 use route_tree::{Tree, TreeForm};
 use std::alloc::{AllocError, Global};
@@ -104,6 +105,29 @@ fn serve_bare(core: &mut Core, client: usize, servers: &mut FixedServers) -> Tol
     }
 }
 
+// What these servers answer to a core's call that is out.
+#[tactic(auto, using(crate::proofs::Fitting::fits_called))]
+fn outcome_of(core: &Core, number: u64, servers: &mut FixedServers) -> Option<Outcome>
+    ensures { IfSome result (λ outcome. FitsCall core.now number outcome) }
+{
+    match core.called(number) {
+        None => None,
+        Some(call) => Some(servers.answer(call)),
+    }
+}
+
+// The call of this ticket is settled by what these servers answer to it.
+fn answer_bare(
+    core: &mut Core,
+    ticket: Ticket,
+    servers: &mut FixedServers,
+) -> Result<(), CoreFault> {
+    match outcome_of(core, ticket.number, servers) {
+        None => Err(CoreFault::NoTicket),
+        Some(outcome) => core.settle(ticket, outcome),
+    }
+}
+
 impl Played {
     fn open(&mut self) -> Result<usize, CoreFault> {
         match self {
@@ -130,6 +154,13 @@ impl Played {
         match self {
             Played::Bare(core) => Ok(serve_bare(core, client, servers)),
             Played::Fresh(_) => Err("a core with a gate is served in steps")?,
+        }
+    }
+
+    fn answer(&mut self, ticket: Ticket, servers: &mut FixedServers) -> Result<Told, Fail> {
+        match self {
+            Played::Bare(core) => Ok(done(answer_bare(core, ticket, servers))),
+            Played::Fresh(_) => Err("the calls of a core with a gate fail")?,
         }
     }
 
@@ -201,11 +232,12 @@ fn reload_fresh(alloc: Global, core: &mut FreshCore, config: Config) -> Result<u
     }
 }
 
-// The trees of the examples: no server, server 0, server 0 warmed up from server 1, and server 0 warmed up from itself.
+// The trees of the examples: no server, server 0, a pool of three servers, server 0 warmed up from server 1, and server 0 warmed up from itself.
 fn tree(alloc: Global, name: &str) -> Result<Tree, Fail> {
     match name {
         "null" => Ok(Tree::new(alloc, TreeForm::Null)?),
         "server" => Ok(server(alloc, 0)?),
+        "three servers" => Ok(three_servers(alloc)?),
         "warm-up" => Ok(warm_up(alloc, 1)?),
         "warm-up of itself" => Ok(warm_up(alloc, 0)?),
         _ => Err("no tree has this name")?,
@@ -216,6 +248,12 @@ fn server(alloc: Global, number: u32) -> Result<Tree, AllocError>
     ensures { IfOk result (λ tree. tree ≡ route.Server number) }
 {
     Tree::new(alloc, TreeForm::Server(ServerId::new(number)))
+}
+
+fn three_servers(alloc: Global) -> Result<Tree, AllocError> {
+    let servers = [ServerId::new(0), ServerId::new(1), ServerId::new(2)];
+    let pool = Vec::from_slice(alloc, servers.as_slice())?;
+    Tree::new(alloc, TreeForm::Pool(pool))
 }
 
 fn warm_up(alloc: Global, warm: u32) -> Result<Tree, AllocError> {
@@ -233,19 +271,20 @@ fn config(alloc: Global, text: &str) -> Result<Config, Fail> {
     Ok(read_config(alloc, text)?)
 }
 
-// The limits of the examples: those of scripts, or so many commands of a client and four calls at a server.
+// The limits of the examples: those of scripts, or so many commands of a client and so many calls at a server.
 fn limits(text: &str) -> Limits {
-    let (depth, sharing) = match text {
-        "depth 1, alone" => (1, Sharing::Alone),
-        "depth 2, alone" => (2, Sharing::Alone),
-        "depth 2, shared" => (2, Sharing::Shared),
+    let (depth, window, sharing) = match text {
+        "depth 1, alone" => (1, 4, Sharing::Alone),
+        "depth 2, alone" => (2, 4, Sharing::Alone),
+        "depth 2, shared" => (2, 4, Sharing::Shared),
+        "depth 16, shared" => (16, 16, Sharing::Shared),
         _ => return Limits::of_scripts(),
     };
     Limits {
         clients: 64,
         held: 2_097_152,
         depth,
-        window: 4,
+        window,
         sharing,
     }
 }
@@ -372,6 +411,14 @@ impl Stage {
         }
     }
 
+    // The call of this number, whose ticket was given out, has the servers' answer.
+    fn answer_call(&mut self, number: u64) -> Result<Told, Fail> {
+        match take(&mut self.tickets, number) {
+            Some(ticket) => self.core.answer(ticket, &mut self.servers),
+            None => Err("no ticket of this number was given out")?,
+        }
+    }
+
     /// Whether the core takes it that the call of this number fails.
     pub fn takes_failure(&mut self, number: u64) -> Result<bool, Fail> {
         match take(&mut self.tickets, number) {
@@ -417,6 +464,7 @@ impl Stage {
             "poll" => self.poll(client),
             "serve" => self.core.serve(client, &mut self.servers),
             "fail" => self.fail(about),
+            "answer" => self.answer_call(about),
             "forge" => self.forge(about),
             "close" => Ok(self.close(client)),
             "leave" => Ok(yes_or_no(self.core.leave_line(client))),
