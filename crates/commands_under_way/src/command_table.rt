@@ -20,6 +20,7 @@ use crate::begun::drop_command;
 use crate::claim::Claim;
 use crate::command::Command;
 use crate::counts::{count_of, count_where, uncount_where};
+use crate::guesses::Guesses;
 use crate::held_job::HeldJob;
 use crate::places::CountsByPlace;
 use crate::spares::Spares;
@@ -43,6 +44,7 @@ pub struct CommandTable {
     at_server: CountsByPlace,
     waiting: CountsByPlace,
     is_counted: bool,
+    guesses: Guesses,
     spares: Spares,
 }
 
@@ -88,26 +90,32 @@ fn put_new(number: u64, command: Command, commands: &mut IndexMap<u64, Command>)
     is_none(old)
 }
 
-// Where the command of this number stands, if there is one. The one that began last stands last, and isn't looked up by its hash:
-// what goes on with a command is mostly asked just after it began.
-fn place_of(number: u64, commands: &IndexMap<u64, Command>) -> Option<usize>
+// Where the command of this number stands, if there is one. It is looked for by its hash only where it doesn't stand where it is guessed to.
+fn place_of(number: u64, guesses: &Guesses, commands: &IndexMap<u64, Command>) -> Option<usize>
     ensures index { result ≡ index_of_by (nat_eq number) commands.now }
     ensures found { is_some result ≡ is_some (get nat_eq commands.now number) }
     ensures value { IfSome result (λ i. slice_get (values commands.now) i ≡ get nat_eq commands.now number) }
 {
-    if let Some((last, _)) = commands.last() {
-        if *last == number {
-            return Some(commands.len() - 1);
+    let guess = guesses.guess_of(number);
+    if guess < commands.len() {
+        if let Some((there, _)) = commands.get_index(guess) {
+            if *there == number {
+                return Some(guess);
+            }
         }
     }
     commands.get_index_of(&number)
 }
 
 // The command of this number.
-fn command_at(number: u64, commands: &IndexMap<u64, Command>) -> Option<&Command>
+fn command_at<'a>(
+    number: u64,
+    guesses: &Guesses,
+    commands: &'a IndexMap<u64, Command>,
+) -> Option<&'a Command>
     ensures value { option_copied result ≡ get nat_eq commands.now number }
 {
-    match place_of(number, commands) {
+    match place_of(number, guesses, commands) {
         None => None,
         Some(place) => match commands.get_index(place) {
             Some((_, command)) => Some(command),
@@ -116,17 +124,31 @@ fn command_at(number: u64, commands: &IndexMap<u64, Command>) -> Option<&Command
     }
 }
 
+// The command that stands there, where one does, is guessed to.
+fn guess_at(place: usize, commands: &IndexMap<u64, Command>, guesses: &mut Guesses) {
+    if let Some((number, _)) = commands.get_index(place) {
+        guesses.note(*number, place);
+    }
+}
+
 // Takes the command of this number out of its place, which the last one has then.
-fn take_out(number: u64, commands: &mut IndexMap<u64, Command>) -> Option<Command>
+fn take_out(
+    number: u64,
+    commands: &mut IndexMap<u64, Command>,
+    guesses: &mut Guesses,
+) -> Option<Command>
     ensures value { result ≡ get nat_eq commands.old number }
     ensures gone { (n : ℕ) → get nat_eq commands.new n ≡ (if nat_eq number n then None else get nat_eq commands.old n) }
     ensures entries { commands.new.entries ≡ swap_remove_entry (nat_eq number) commands.old.entries }
     ensures len { index_map_len commands.new + (if is_some result then 1 else 0) ≡ index_map_len commands.old }
 {
-    match place_of(number, commands) {
+    match place_of(number, guesses, commands) {
         None => None,
         Some(place) => match commands.swap_remove_index(place) {
-            Some((_, command)) => Some(command),
+            Some((_, command)) => {
+                guess_at(place, commands, guesses);
+                Some(command)
+            }
             None => unreachable!(),
         },
     }
@@ -182,6 +204,7 @@ impl CommandTable {
             at_server: CountsByPlace::new(alloc),
             waiting: CountsByPlace::new(alloc),
             is_counted: true,
+            guesses: Guesses::new(alloc),
             spares: Spares::new(alloc),
         }
     }
@@ -237,7 +260,7 @@ impl CommandTable {
     pub fn get(&self, number: u64) -> Option<&Command>
         ensures value { option_copied result ≡ get nat_eq self.now number }
     {
-        command_at(number, &self.by_number)
+        command_at(number, &self.guesses, &self.by_number)
     }
 
     /// The commands, by number. It takes no memory.
@@ -252,6 +275,7 @@ impl CommandTable {
         ensures entries { self.new.entries ≡ self.old.entries }
         ensures ok { OnOk result (HasRoom self.new) }
     {
+        self.guesses.make_room();
         self.by_number.reserve(1)
     }
 
@@ -265,6 +289,7 @@ impl CommandTable {
         let clears = count_where(claim.clears, command.ask.key(), &mut self.clearing);
         let copies = count_where(claim.copies, command.ask.key(), &mut self.copying);
         let waits = self.waiting.count_one(command.client);
+        self.guesses.note(number, self.by_number.len());
         let is_new = put_new(number, command, &mut self.by_number);
         self.is_counted = both(
             both(self.is_counted, is_new),
@@ -278,7 +303,7 @@ impl CommandTable {
         ensures gone { (n : ℕ) → get nat_eq self.new n ≡ (if nat_eq number n then None else get nat_eq self.old n) }
         ensures less { IsSome (get nat_eq self.old number) → index_map_len self.new + 1 ≡ index_map_len self.old }
     {
-        let command = take_out(number, &mut self.by_number)?;
+        let command = take_out(number, &mut self.by_number, &mut self.guesses)?;
         let claim = command.claim;
         let is_idle = !command.has_call_out();
         let clears = uncount_where(claim.clears, command.ask.key(), &mut self.clearing);
@@ -298,7 +323,7 @@ impl CommandTable {
         ensures ok { IfOk result (λ ticket. CallsOut self.old number ticket self.new) }
         ensures err { OnErr result (self.new ≡ self.old) }
     {
-        let Some(place) = place_of(number, &self.by_number) else {
+        let Some(place) = place_of(number, &self.guesses, &self.by_number) else {
             unreachable!();
         };
         let Some(command) = self.by_number.get_index_mut(place) else {
@@ -316,7 +341,7 @@ impl CommandTable {
     pub fn caller(&self, number: u64) -> Option<usize>
         ensures { IsCallerOf self.now number result }
     {
-        let command = command_at(number, &self.by_number)?;
+        let command = command_at(number, &self.guesses, &self.by_number)?;
         if command.has_call_out() {
             Some(command.client)
         } else {
@@ -330,7 +355,7 @@ impl CommandTable {
         requires fits { (a : Command) → get nat_eq self.old number ≡ Some a → has_call_out a ≡ true → FitsOutcome (ask_under a.job.frames.items a.job.ask) outcome }
         ensures { TakesAt self.old number outcome (OnOk result) self.new }
     {
-        let Some(place) = place_of(number, &self.by_number) else {
+        let Some(place) = place_of(number, &self.guesses, &self.by_number) else {
             unreachable!();
         };
         let Some(command) = self.by_number.get_index_mut(place) else {

@@ -6,6 +6,7 @@ pub mod claim;
 pub mod command;
 pub mod command_table;
 pub mod counts;
+pub mod guesses;
 pub mod held_job;
 pub mod key_lines;
 pub mod laws;

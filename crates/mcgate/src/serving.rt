@@ -185,6 +185,7 @@ impl Serving {
             self.tell_news(rt);
             self.look_if_due(rt, job, out)?;
         }
+        self.end.end_turns()?;
         Ok(DONE)
     }
 

@@ -19,6 +19,9 @@ const READ: usize = 16_384;
 
 const LONG_READ: usize = 262_144;
 
+// So many bytes or more that are to be sent aren't held back.
+const HELD_BACK: usize = 65_536;
+
 /// One client's end.
 #[derive(Drop)]
 pub struct Client {
@@ -29,6 +32,10 @@ pub struct Client {
     pub settled: usize,
     /// How many of its calls wait until their server takes more.
     waiting: usize,
+    /// How many of its calls have no outcome yet.
+    calls_out: usize,
+    /// Whether what is to be sent to it was held back in the turn before.
+    is_held_back: bool,
     /// It sends no more, or nothing more is read of it.
     pub is_ended: bool,
     pub is_ready: bool,
@@ -47,6 +54,8 @@ impl Client {
             reads_long: false,
             settled: 0,
             waiting: 0,
+            calls_out: 0,
+            is_held_back: false,
             is_ended: false,
             is_ready: false,
             has_output: false,
@@ -100,6 +109,22 @@ impl Client {
     /// One of its commands went on.
     pub fn went_on(&mut self) {
         self.settled = self.settled.saturating_sub(1);
+    }
+
+    /// One of its commands went on, or began, by a call.
+    pub fn has_called(&mut self) {
+        self.went_on();
+        self.calls_out = self.calls_out.saturating_add(1);
+    }
+
+    /// Whether what is to be sent to it is held back in this turn: where few bytes are to be sent and calls of it are out, whose replies then
+    /// mostly go out in the next turn by the same write. What was held back isn't again.
+    pub fn holds_back(&mut self) -> bool {
+        self.is_held_back = !self.is_held_back
+            && !self.is_ended
+            && self.calls_out > 0
+            && self.conn.unsent.len() < HELD_BACK;
+        self.is_held_back
     }
 
     /// Its connection is gone: what is still to be sent is lost.
@@ -227,10 +252,11 @@ impl Clients {
         }
     }
 
-    /// A call of it was settled.
+    /// A call of it was settled, or has failed.
     pub fn mark_settled(&mut self, id: usize) -> Result<(), AllocError> {
         if let Some(client) = self.get_mut(id) {
             client.settled = client.settled.saturating_add(1);
+            client.calls_out = client.calls_out.saturating_sub(1);
         }
         self.mark_ready(id)
     }

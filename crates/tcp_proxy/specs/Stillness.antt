@@ -16,6 +16,7 @@ pub record HasNoWork (end : ProxyEnd) : Type 0 where
   pub clients : end.clients.ready.items ≡ []
   pub links : end.ready_links.items ≡ []
   pub output : end.links_with_output.items ≡ []
+  pub replies : end.clients.with_output.items ≡ []
   pub busy : end.is_freed ≡ true → end.clients.busy.items ≡ []
 
 -- and so many calls are out

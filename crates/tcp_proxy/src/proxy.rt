@@ -382,6 +382,9 @@ impl ProxyEnd {
         if !self.links_with_output.is_empty() {
             return true;
         }
+        if !self.clients.with_output.is_empty() {
+            return true;
+        }
         if !self.is_freed {
             return false;
         }
@@ -902,6 +905,14 @@ impl ProxyEnd {
         }
     }
 
+    fn note_called(&mut self, id: usize)
+        ensures core { self.new.core ≡ self.old.core }
+    {
+        if let Some(client) = self.clients.get_mut(id) {
+            client.has_called();
+        }
+    }
+
     // Nobody waits behind a client that isn't polled until it has taken what it was sent.
     fn leave_line(&mut self, id: usize)
         ensures core { GoesOn self.old.core.value self.new.core.value }
@@ -934,7 +945,7 @@ impl ProxyEnd {
     {
         match self.core.poll(id) {
             Ok(Polled::Call(ticket)) => {
-                self.note_went_on(id);
+                self.note_called(id);
                 self.send_call(net, id, ticket)?;
                 Ok(Rest::More)
             }
@@ -1256,6 +1267,13 @@ impl ProxyEnd {
         Ok(self.mark_rest(id, rest)?)
     }
 
+    /// What was held back goes to its clients, as far as they take it: for whoever turns it no more.
+    pub fn end_turns(&mut self) -> io::Result<()>
+        ensures core { GoesOn self.old.core.value self.new.core.value }
+    {
+        self.send_clients()
+    }
+
     // What is to be sent to the server goes out, as far as it is taken. Whether the link stands still.
     fn send_unsent(&mut self, at: usize) -> bool
         ensures core { self.new.core ≡ self.old.core }
@@ -1355,9 +1373,25 @@ impl ProxyEnd {
         Ok(())
     }
 
+    // Whether what is to be sent to the client is held back in this turn. In rounds all is sent as it comes.
+    fn holds_back(&mut self, id: usize) -> bool
+        ensures core { self.new.core ≡ self.old.core }
+    {
+        if self.in_rounds {
+            return false;
+        }
+        match self.clients.get_mut(id) {
+            Some(client) => client.holds_back(),
+            None => false,
+        }
+    }
+
     fn send_client(&mut self, id: usize) -> io::Result<()>
         ensures core { GoesOn self.old.core.value self.new.core.value }
     {
+        if self.holds_back(id) {
+            return Ok(self.clients.with_output.push(id)?);
+        }
         let Some(client) = self.clients.get_mut(id) else {
             return Ok(());
         };
