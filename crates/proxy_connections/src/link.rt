@@ -24,6 +24,9 @@ const LIMITS: Limits = Limits {
 // One read has room for so many bytes, besides what is missing of an answer with large data.
 const LINK_READ: usize = 65_536;
 
+// And for so many where the read before filled its room: answers of some kilobytes to two clients with sixteen commands each.
+const LONG_READ: usize = 131_072;
+
 // Of each link news are told once in so many milliseconds at most.
 const NEWS_MS: u64 = 1_000;
 
@@ -77,6 +80,8 @@ pub struct Link {
     pub vain_reads: u32,
     /// How many bytes the answer takes whose begin is held, where it has large data and its first line told so.
     pub awaited: Option<usize>,
+    /// Whether the last read filled its room, so that more is there.
+    pub reads_long: bool,
     pub is_ready: bool,
     pub has_output: bool,
     /// What happened last, if that wasn't told yet.
@@ -105,6 +110,7 @@ impl Link {
             held_until: 0,
             vain_reads: 0,
             awaited: None,
+            reads_long: false,
             is_ready: false,
             has_output: false,
             news: None,
@@ -240,6 +246,7 @@ impl Link {
         self.opened = now;
         self.vain_reads = 0;
         self.awaited = None;
+        self.reads_long = false;
         self.is_connected = false;
         Ok(())
     }
@@ -256,7 +263,13 @@ impl Link {
             Some(len) => len
                 .saturating_sub(conn.held.len())
                 .saturating_add(LINK_READ),
-            None => LINK_READ,
+            None => {
+                if self.reads_long {
+                    LONG_READ
+                } else {
+                    LINK_READ
+                }
+            }
         }
     }
 

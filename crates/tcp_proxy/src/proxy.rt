@@ -697,6 +697,7 @@ impl ProxyEnd {
             Got::Bytes => {
                 let is_large = conn.held.len() > KEPT_ROOM;
                 let has_room = conn.has_room_above(KEPT_ROOM);
+                link.reads_long = conn.readable;
                 if link.stand() {
                     self.has_news = true;
                 }
