@@ -7,6 +7,10 @@ use std::alloc::Global;
 /// An empty buffer with more room than this isn't kept by its end, in bytes.
 pub const KEPT_ROOM: usize = 262_144;
 
+/// What a client has for its replies is for all clients while nothing is left in it, if it has more room than this, in bytes: the one that
+/// was filled last is in the processor's caches still.
+pub const OWN_ROOM: usize = 32_768;
+
 /// A buffer in which nothing is left is the one for the next client, if it has more room than that has.
 pub fn give_back(alloc: Global, held: &mut BytesMut, input: &mut BytesMut) {
     if !held.is_empty() {
@@ -18,7 +22,7 @@ pub fn give_back(alloc: Global, held: &mut BytesMut, input: &mut BytesMut) {
     *held = BytesMut::new(alloc);
 }
 
-/// Whether nothing is to be sent, and there is much room for text.
+/// Whether nothing is to be sent, and there is room for text that other clients can use.
 pub fn has_spare(buffer: &SendBuffer) -> bool {
-    buffer.is_empty() && buffer.text.capacity() > KEPT_ROOM
+    buffer.is_empty() && buffer.text.capacity() > OWN_ROOM
 }

@@ -19,8 +19,8 @@ use mc_types::Dialect;
 use mio::net::{TcpListener, TcpStream};
 use mio::{Events, Poll, Token};
 use proxy_connections::{
-    Cause, Client, Clients, KEPT_ROOM, Link, LinkNews, Settings, Tally, connect, fail_all,
-    feed_held, give_back, has_spare, note, read_once, send, send_once, settle_held, show,
+    Cause, Client, Clients, KEPT_ROOM, Link, LinkNews, OWN_ROOM, Settings, Tally, connect,
+    fail_all, feed_held, give_back, has_spare, note, read_once, send, send_once, settle_held, show,
     turn_away, vain, watch_stream,
 };
 use proxy_core::{CoreFault, Poll as Polled, Ticket};
@@ -78,7 +78,7 @@ pub struct ProxyEnd {
     clients: Clients,
     // What is read of a client comes here first: a client that is idle keeps no room for it.
     input: BytesMut,
-    // Buffers with much room that clients had: replies are written into one of them where one is there.
+    // Buffers with much room that clients had, the last one behind: replies are written into that where one is there.
     spares: Vec<SendBuffer>,
     // When spare buffers, and those of links, give their room back, if they have much.
     spare_until: Option<u64>,
@@ -1163,7 +1163,7 @@ impl ProxyEnd {
         let mut buffer = buffer;
         buffer.clear();
         let room = buffer.text.capacity();
-        if room > KEPT_ROOM && room <= SPARE_ROOM && self.spares.len() < SPARES {
+        if room > OWN_ROOM && room <= SPARE_ROOM && self.spares.len() < SPARES {
             let _ = self.spares.push(buffer);
             self.note_room(false, true);
         }
