@@ -122,6 +122,15 @@ again 0
 ask 0 get a\r\nget b\r\n => END\r\nVALUE b 0 1\r\n2\r\nEND\r\n
 ask 0 set a 0 0 1\r\n3\r\nget a\r\n => STORED\r\nVALUE a 0 1\r\n3\r\nEND\r\n
 
+A reply doesn't wait for a server that says nothing to a later command of its client.
+cache
+server
+proxy <two servers>
+connect => 0
+ask 0 set a 0 0 1\r\n1\r\n => STORED\r\n
+send 0 get a\r\nget b\r\nget a\r\n
+gets 0 => VALUE a 0 1\r\n1\r\nEND\r\n
+
 An answer that comes after the time limit meets no later command: its connection is closed with the call.
 server
 proxy <one server>
