@@ -2,13 +2,13 @@ use Rattle.proxy_connections.proofs.Walked.{and_stood, by_poll, failed, from, th
 use Rattle.tcp_proxy.proofs.proxy.ProxyEnd.poll_once.Goals as goal
 
 pub returns-in_err-send_call-in-Ok-Call : goal.returns-in_err-send_call-in-Ok-Call
-returns-in_err-send_call-in-Ok-Call g c = record { core = then (and_stood (from c.deref_mut.ensures.value (by_poll c.args.id c.poll.result c.deref_mut.result.now c.poll.new.self c.poll.ensures.ok c.poll.ensures.err c.poll.ensures.fresh c.poll.ensures.stops)) c.note_went_on.ensures.core) (failed c.send_call.ensures.core) }
+returns-in_err-send_call-in-Ok-Call g c = record { core = then (and_stood (from c.deref_mut.ensures.value (by_poll c.args.id c.poll.result c.deref_mut.result.now c.poll.new.self c.poll.ensures.ok c.poll.ensures.err c.poll.ensures.fresh c.poll.ensures.stops)) c.note_called.ensures.core) (failed c.send_call.ensures.core) }
 
 pub returns-in_ok-send_call-in-Ok-Call : goal.returns-in_ok-send_call-in-Ok-Call
-returns-in_ok-send_call-in-Ok-Call g c = record { core = then (and_stood (from c.deref_mut.ensures.value (by_poll c.args.id c.poll.result c.deref_mut.result.now c.poll.new.self c.poll.ensures.ok c.poll.ensures.err c.poll.ensures.fresh c.poll.ensures.stops)) c.note_went_on.ensures.core) (failed c.send_call.ensures.core) }
+returns-in_ok-send_call-in-Ok-Call g c = record { core = then (and_stood (from c.deref_mut.ensures.value (by_poll c.args.id c.poll.result c.deref_mut.result.now c.poll.new.self c.poll.ensures.ok c.poll.ensures.err c.poll.ensures.fresh c.poll.ensures.stops)) c.note_called.ensures.core) (failed c.send_call.ensures.core) }
 
 pub returns-in-Ok-Did : goal.returns-in-Ok-Did
-returns-in-Ok-Did g c = record { core = and_stood (from c.deref_mut.ensures.value (by_poll c.args.id c.poll.result c.deref_mut.result.now c.poll.new.self c.poll.ensures.ok c.poll.ensures.err c.poll.ensures.fresh c.poll.ensures.stops)) c.note_went_on-in-Ok-Did.ensures.core }
+returns-in-Ok-Did g c = record { core = and_stood (from c.deref_mut.ensures.value (by_poll c.args.id c.poll.result c.deref_mut.result.now c.poll.new.self c.poll.ensures.ok c.poll.ensures.err c.poll.ensures.fresh c.poll.ensures.stops)) c.note_went_on.ensures.core }
 
 pub returns-in-Ok-Own : goal.returns-in-Ok-Own
 returns-in-Ok-Own g c = record { core = from c.deref_mut.ensures.value (by_poll c.args.id c.poll.result c.deref_mut.result.now c.poll.new.self c.poll.ensures.ok c.poll.ensures.err c.poll.ensures.fresh c.poll.ensures.stops) }
