@@ -244,6 +244,7 @@ fn are_served(served: Served, tokens: &[Token]) -> bool
     }
 }
 
+#[inline(always)]
 fn has_fields(ask: &Ask, fields: Fields) -> bool
     ensures { result ≡ has_shape ask.now (fields_of fields) }
 {
@@ -259,6 +260,10 @@ fn has_fields(ask: &Ask, fields: Fields) -> bool
 fn has_shape(ask: &Ask) -> bool
     ensures { result ≡ has_shape_of ask.now (shape_of ask.now.dialect ask.now.op) }
 {
+    if let (Dialect::Classic, Op::Get) = (ask.dialect, ask.op) {
+        // (what is asked most: the compiler knows its fields)
+        return has_fields(ask, classic_fields(Op::Get));
+    }
     match table_fields(ask.dialect, ask.op) {
         None => false,
         Some(fields) => has_fields(ask, fields),

@@ -332,6 +332,10 @@ impl Core {
     fn full(&self, client: usize) -> Option<u64>
         ensures { IfSome result (λ number. IsTurn client self.now.limits.window self.now.commands number Full) }
     {
+        // A command whose call is out doesn't wait for it.
+        if self.commands.is_all_out(client) {
+            return None;
+        }
         match self.clients.get(client) {
             None => None,
             Some(x) => first_full(client, self.limits.window, &x.queue, &self.commands),
