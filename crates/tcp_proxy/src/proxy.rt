@@ -924,7 +924,7 @@ impl ProxyEnd {
     }
 
     // What can be done for the client is done.
-    fn poll_client<N: Net>(&mut self, net: &N, id: usize) -> io::Result<Rest>
+    fn poll_client<N: Net>(&mut self, net: &N, id: usize) -> Result<Rest, AllocError>
         ensures core { GoesOn self.old.core.value self.new.core.value }
     {
         for _ in 0..self.polls() {
@@ -941,7 +941,7 @@ impl ProxyEnd {
     }
 
     // One thing is done for the client, if one can be: what is left after it.
-    fn poll_once<N: Net>(&mut self, net: &N, id: usize) -> io::Result<Rest>
+    fn poll_once<N: Net>(&mut self, net: &N, id: usize) -> Result<Rest, AllocError>
         ensures core { GoesOn self.old.core.value self.new.core.value }
     {
         match self.core.poll(id) {
@@ -1018,12 +1018,12 @@ impl ProxyEnd {
     }
 
     // The call is written to its server's link or waits for it, or has failed.
-    fn send_call<N: Net>(&mut self, net: &N, id: usize, ticket: Ticket) -> io::Result<()>
+    fn send_call<N: Net>(&mut self, net: &N, id: usize, ticket: Ticket) -> Result<(), AllocError>
         ensures core { Fails self.old.core.value self.new.core.value }
     {
         let at = ticket.server.number() as usize;
         if !self.is_open(net, at) {
-            return Ok(self.refuse_call(id, ticket)?);
+            return self.refuse_call(id, ticket);
         }
         let call = SentCall {
             ticket,
@@ -1032,10 +1032,10 @@ impl ProxyEnd {
             dialect: self.dialect_of(at),
         };
         if self.is_full(at) {
-            return Ok(self.let_wait(at, call)?);
+            return self.let_wait(at, call);
         }
         self.begin_call(at, call)?;
-        Ok(self.mark_link_output(at)?)
+        self.mark_link_output(at)
     }
 
     // Whether a further call has to wait until the server takes more.
