@@ -10,3 +10,9 @@ returns-in_err-look_if_due g c = record { core = then (and_stood (then c.loop.in
 
 pub loop-preserved : goal.loop-preserved
 loop-preserved g c = then (and_stood (then c.loop.invariant (turned c.turn.ensures.core)) c.tell_news.ensures.core) c.look_if_due.ensures.core
+
+pub returns-in_err-end_turns : goal.returns-in_err-end_turns
+returns-in_err-end_turns g c = record { core = then c.loop.invariant (turned c.end_turns.ensures.core) }
+
+pub returns : goal.returns
+returns g c = record { core = then c.loop.invariant (turned c.end_turns.ensures.core) }
