@@ -35,8 +35,6 @@ fn wanted(alloc: Global, with_cas: bool) -> Result<Tokens, AllocError>
 }
 
 /// The meta form of a classic get. The only error is running out of memory.
-// (made once of each kind: within its caller its ask would be set to 0 at each get)
-#[inline(never)]
 pub fn meta_form(alloc: Global, ask: &Ask) -> Result<Ask, AllocError>
     ensures { IfOk result (λ form. form ≡ meta_form ask.now) }
 {

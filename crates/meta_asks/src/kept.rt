@@ -50,6 +50,16 @@ fn keep(kept: &mut Option<Ask>, form: Ask)
     *kept = Some(form);
 }
 
+// The form of the get is kept, where none is. (apart, since its caller would set the room for a form to 0 at each get)
+#[inline(never)]
+fn keep_first(kept: &mut Option<Ask>, alloc: Global, ask: &Ask) -> Result<(), AllocError>
+    ensures ok { OnOk result (kept.new ≡ Some (meta_form ask.now)) }
+    ensures err { OnErr result (kept.new ≡ kept.old) }
+{
+    keep(kept, meta_form(alloc, ask)?);
+    Ok(())
+}
+
 // The form of the get is made in the one that is kept, where one is.
 fn set_form(kept: &mut Option<Ask>, alloc: Global, ask: &Ask) -> Result<(), AllocError>
     requires { IsKeptFor ask.now.with_cas kept.old }
@@ -60,8 +70,7 @@ fn set_form(kept: &mut Option<Ask>, alloc: Global, ask: &Ask) -> Result<(), Allo
         renew(form, ask);
         return Ok(());
     }
-    keep(kept, meta_form(alloc, ask)?);
-    Ok(())
+    keep_first(kept, alloc, ask)
 }
 
 // Reads the answer to the get's form, which is kept.
