@@ -26,6 +26,15 @@ impl Model for SharedAsk {
     ghost view = { λ s. s.ask.value };
 }
 
+// The ask of these parts, in memory of its own. (apart, since its caller would set the room for an ask to 0 each time)
+#[inline(never)]
+fn made_of(alloc: Global, parts: AskParts) -> Result<SharedAsk, AllocError>
+    requires { IsKey parts.key.now }
+    ensures { IfOk result (λ shared. shared ≡ ask_of parts.entry) }
+{
+    SharedAsk::new(alloc, Ask::of(alloc, parts)?)
+}
+
 impl SharedAsk {
     /// This ask. The only error is running out of memory.
     pub fn new(alloc: Global, ask: Ask) -> Result<SharedAsk, AllocError>
@@ -66,14 +75,14 @@ impl SharedAsk {
         ensures { IfOk result (λ shared. shared ≡ ask_of parts.entry) }
     {
         let Some(mut spare) = spare else {
-            return SharedAsk::new(alloc, Ask::of(alloc, parts)?);
+            return made_of(alloc, parts);
         };
         match Rc::get_mut(&mut spare.ask) {
             Some(held) => {
                 held.set(alloc, parts)?;
                 Ok(spare)
             }
-            None => SharedAsk::new(alloc, Ask::of(alloc, parts)?),
+            None => made_of(alloc, parts),
         }
     }
 
