@@ -61,7 +61,7 @@ code_said ask text Ns ws line is e = rw (is, no_error Ns ws, e) refl
 code_said ask text Ex ws line is e = rw (is, no_error Ex ws, e) refl
 code_said ask text Nf ws line is e = rw (is, no_error Nf ws, e) refl
 
-line_says : (ask : Ask) (code : Code) (ws : List (List ℕ)) (line : MetaLine) → ArePlain (code_word code ∷ ws) → ask.dialect ≡ dialects.Meta → meta_said ask (code_word code) ws ≡ Some line
+pub line_says : (ask : Ask) (code : Code) (ws : List (List ℕ)) (line : MetaLine) → ArePlain (code_word code ∷ ws) → ask.dialect ≡ dialects.Meta → meta_said ask (code_word code) ws ≡ Some line
     → kind_of_line ask (spaced (code_word code ∷ ws)) ≡ line_said line
 line_says ask code ws line plain is e =
     let all = code_word code ∷ ws in
@@ -83,7 +83,7 @@ regroup : (l body c more : List ℕ) → (l ++ (body ++ c)) ++ more ≡ l ++ (bo
 regroup l body c more = simp append_assoc
 
 -- a line and its data
-data_back : (ask : Ask) (ws : List (List ℕ)) (line : ValueLine) (body more : List ℕ) → ArePlain ws → length (spaced ws) < 65535 → kind_of_line ask (spaced ws) ≡ Value line → length body ≡ line.len → is_data line.is_number body ≡ true
+pub data_back : (ask : Ask) (ws : List (List ℕ)) (line : ValueLine) (body more : List ℕ) → ArePlain ws → length (spaced ws) < 65535 → kind_of_line ask (spaced ws) ≡ Value line → length body ≡ line.len → is_data line.is_number body ≡ true
     → Spells ask ((line_of ws ++ (body ++ codes "\r\n")) ++ more) (answers.Meta Va (fields_told line.told (Some body))) (length (line_of ws ++ (body ++ codes "\r\n")))
 data_back ask ws line body more plain short says len is =
     let text = spaced ws in
