@@ -1,6 +1,7 @@
 //! The one spelling of each answer.
 
-ghost use Rattle.std.specs.Prelude.{◌≡◌, ◌++◌, ◌∷◌, [], take, length, OnOk, OnErr, option_map, decimal, codes};
+ghost use Rattle.std.specs.Prelude.{◌≡◌, ◌≤◌, ◌++◌, ◌∷◌, [], None, take, length, OnOk, OnErr, option_map, decimal, codes};
+ghost use Rattle.mc_types.specs.declared.limits.TheConstants.{KEY_LIMIT};
 ghost use Rattle.mc_text.specs.Spelling.{spaced, line_of};
 ghost use Rattle.text_answers.specs.Spelling.{
   spelling_of,
@@ -70,6 +71,30 @@ fn put_hit_line(
     Ok(())
 }
 
+// A hit without a cas number, which is most of what is answered: room is made once, and so a refusal leaves the buffer as it was.
+#[tactic(auto, using(crate::proofs::Pieces::block_pieces))]
+fn put_plain(key: &[u8], flags: u32, body: &[u8], out: &mut BytesMut) -> Result<(), AllocError>
+    requires { length key.now ≤ KEY_LIMIT }
+    ensures ok { OnOk result (out.new.items ≡ out.old.items ++ block_of key.now flags body.now None) }
+    ensures err { OnErr result (out.new.items ≡ out.old.items) }
+{
+    let (mut first, mut second) = (Buffer::new(), Buffer::new());
+    let flags = first.format(flags).as_bytes();
+    let len = second.format(body.len()).as_bytes();
+    // (the words of the line, their spaces, and two line ends)
+    out.reserve(12 + key.len() + flags.len() + len.len() + body.len())?;
+    out.extend_reserved(b"VALUE ");
+    out.extend_reserved(key);
+    out.extend_reserved(b" ");
+    out.extend_reserved(flags);
+    out.extend_reserved(b" ");
+    out.extend_reserved(len);
+    out.extend_reserved(b"\r\n");
+    out.extend_reserved(body);
+    out.extend_reserved(b"\r\n");
+    Ok(())
+}
+
 fn put_block(
     key: &[u8],
     flags: u32,
@@ -77,9 +102,13 @@ fn put_block(
     cas: Option<u64>,
     out: &mut BytesMut,
 ) -> Result<(), AllocError>
+    requires { length key.now ≤ KEY_LIMIT }
     ensures ok { OnOk result (out.new.items ≡ out.old.items ++ block_of key.now flags body.now cas) }
     ensures err { OnErr result (take (length out.old.items) out.new.items ≡ out.old.items) }
 {
+    if cas.is_none() {
+        return put_plain(key, flags, body, out);
+    }
     put_hit_line(key, flags, body.len(), cas, out)?;
     out.extend_from_slice(body)?;
     out.extend_from_slice(b"\r\n")?;
@@ -102,6 +131,7 @@ fn put_value(ask: &Ask, answer: &Answer, out: &mut BytesMut) -> Result<(), Alloc
     ensures ok { OnOk result (out.new.items ≡ out.old.items ++ value_of ask.now answer.now) }
     ensures err { OnErr result (take (length out.old.items) out.new.items ≡ out.old.items) }
 {
+    ask.key.bytes_are_a_key();
     match answer {
         Answer::Hit { flags, body, cas } => {
             put_block(ask.key.as_bytes(), *flags, body.as_slice(), *cas, out)
@@ -114,6 +144,7 @@ fn put_answer(ask: &Ask, answer: &Answer, out: &mut BytesMut) -> Result<(), Allo
     ensures ok { OnOk result (out.new.items ≡ out.old.items ++ spelling_of ask.now answer.now) }
     ensures err { OnErr result (take (length out.old.items) out.new.items ≡ out.old.items) }
 {
+    ask.key.bytes_are_a_key();
     match answer {
         Answer::Stored => out.extend_from_slice(b"STORED\r\n"),
         Answer::NotStored => out.extend_from_slice(b"NOT_STORED\r\n"),
