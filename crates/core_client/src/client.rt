@@ -4,8 +4,9 @@ ghost use Rattle.std.specs.Prelude.{◌≡◌, ◌++◌, false, ◌↔◌, IsTru
 ghost use Rattle.send_buffer.specs.Sending.{bytes_of};
 ghost use Rattle.core_client.specs.Clients.{has_own, IsNew, IsEnded, TakesPiece, LosesOutput};
 
+use crate::marked_ask::{MarkedAsk, MarkedKey};
 use connections::ClientStream;
-use mc_types::{Answer, Key, SharedAsk};
+use mc_types::{Answer, Key};
 use send_buffer::SendBuffer;
 use std::alloc::{AllocError, Global};
 use std::collections::VecDeque;
@@ -13,7 +14,7 @@ use std::collections::VecDeque;
 /// A command of a client whose reply was not shown yet.
 #[derive(Drop)]
 pub struct Pending {
-    pub ask: SharedAsk,
+    pub ask: MarkedAsk,
     pub reply: Option<Answer>,
     pub number: u64,
     /// Whether its message wants no answer.
@@ -41,7 +42,8 @@ pub struct Client {
 fn waits_on(key: &Key, queue: &VecDeque<Pending>) -> bool
     ensures { result ≡ has_own key.now queue.now.items }
 {
-    queue.iter().any(|pending| pending.reply.is_none() && *pending.ask.key() == *key)
+    let sought = MarkedKey::new(key);
+    queue.iter().any(|pending| pending.reply.is_none() && pending.ask.is_on(&sought))
 }
 
 impl Client {

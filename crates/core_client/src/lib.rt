@@ -5,6 +5,7 @@ pub mod answering;
 pub mod at_once;
 pub mod client;
 pub mod heads;
+pub mod marked_ask;
 pub mod nexts;
 pub mod replying;
 pub mod starting;

@@ -7,6 +7,7 @@ ghost use Rattle.text_codec.specs.Held.{held_at};
 ghost use Rattle.core_client.specs.Fronts.{Stays, IsAskAt, MovesOn, BeginsKey};
 
 use crate::client::{Client, Pending};
+use crate::marked_ask::MarkedAsk;
 use mc_types::SharedAsk;
 use std::alloc::AllocError;
 use std::collections::VecDeque;
@@ -52,7 +53,7 @@ impl Client {
         let count = request.asks();
         let last = self.index + 1 == count;
         let pending = Pending {
-            ask,
+            ask: MarkedAsk::new(ask),
             reply: None,
             number,
             quiet: request.quiet(),

@@ -1,6 +1,6 @@
 //! The meta form of an ask.
 
-ghost use Rattle.std.specs.Prelude.{◌≡◌, ◌++◌, true, None, length, take, IfOk, OnOk, OnErr};
+ghost use Rattle.std.specs.Prelude.{◌≡◌, ◌++◌, true, None, IfOk, OnOk, OnErr};
 ghost use Rattle.mc_types.specs.Asks.{IsAsk};
 ghost use Rattle.client_requests.specs.Spelling.{spelling_of};
 ghost use Rattle.meta_asks.specs.Form.{is_retrieval, wanted, meta_form, in_meta, get_end};
@@ -63,31 +63,23 @@ fn get_end(with_cas: bool) -> &'static [u8]
     }
 }
 
-// A get that sets no expiry, which is most of what is asked, is written without its form.
+// A get that sets no expiry, which is most of what is asked, is written without its form. Room is made once, and so a refusal leaves the buffer
+// as it was.
 #[tactic(auto, using(crate::proofs::Forms::get_text))]
-fn put_get(ask: &Ask, out: &mut BytesMut) -> Result<(), AllocError>
-    requires get { is_retrieval ask.now ≡ true }
-    requires no_expiry { ask.now.exptime ≡ None }
-    ensures ok { OnOk result (out.new.items ≡ out.old.items ++ spelling_of (meta_form ask.now)) }
-    ensures err { OnErr result (take (length out.old.items) out.new.items ≡ out.old.items) }
-{
-    out.extend_from_slice(b"mg ")?;
-    out.extend_from_slice(ask.key.as_bytes())?;
-    out.extend_from_slice(get_end(ask.with_cas))
-}
-
 fn write_get(ask: &Ask, out: &mut BytesMut) -> Result<(), AllocError>
     requires get { is_retrieval ask.now ≡ true }
     requires no_expiry { ask.now.exptime ≡ None }
     ensures ok { OnOk result (out.new.items ≡ out.old.items ++ spelling_of (meta_form ask.now)) }
     ensures err { OnErr result (out.new.items ≡ out.old.items) }
 {
-    let len = out.len();
-    let written = put_get(ask, out);
-    if written.is_err() {
-        out.truncate(len);
-    }
-    written
+    ask.key.bytes_are_a_key();
+    let key = ask.key.as_bytes();
+    let end = get_end(ask.with_cas);
+    out.reserve(3 + key.len() + end.len())?;
+    out.extend_reserved(b"mg ");
+    out.extend_reserved(key);
+    out.extend_reserved(end);
+    Ok(())
 }
 
 /// Appends what a server is asked that speaks the meta dialect: for a classic get its meta form, `mg K k f v`, with `c` for `gets`

@@ -10,6 +10,7 @@ pub mod form;
 pub mod kept;
 pub mod laws;
 pub mod reader;
+pub mod usual;
 
 pub use dialect::{DialectRead, read_dialect, write_noop};
 pub use form::write_in_meta;

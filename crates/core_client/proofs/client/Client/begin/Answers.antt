@@ -1,4 +1,5 @@
-use Rattle.std.proofs.Common.{ℕ, ◌≤◌, length, refl, sym, subst}
+use Rattle.std.proofs.Common.{◌≡◌, ℕ, ◌+◌, ◌≤◌, eqb, [], ◌∷◌, ◌++◌, None, length, refl, sym, subst}
+use Rattle.mc_types.specs.declared.ask.Ask.{Ask}
 use Rattle.text_codec.specs.Held.{held_at}
 use Rattle.connections.proofs.Fronts.{used_held}
 use Rattle.core_client.proofs.Fronts.{begins_key}
@@ -14,4 +15,5 @@ returns-clause-ok c =
     let x = c.args.self.now in
     begins_key x (record x { queue = c.put_last.new.queue }) c.move_on.new.self c.args.request.now c.args.ask c.args.number c.asks-count.result c.used.result c.quiet.result c.requires.at c.requires.ready
     (c.asks-count.ensures (held_at x.stream) c.requires.at.read) c.used.ensures (c.quiet.ensures (held_at x.stream) c.requires.at.read)
-    refl refl refl refl c.in_ok-put_last.ensures.ok c.move_on.ensures
+    refl refl refl refl
+    (subst (λ (ask : Ask). c.put_last.new.queue.items ≡ x.queue.items ++ record { ask = ask; reply = None; number = c.args.number; quiet = c.quiet.result; last = eqb (x.index + 1) c.asks-count.result } ∷ []) c.new.ensures c.in_ok-put_last.ensures.ok) c.move_on.ensures
