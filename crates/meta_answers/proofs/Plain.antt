@@ -37,7 +37,7 @@ opaque_byte : (b : ℕ) → is_opaque_byte b ≡ true → 33 ≤ b
 opaque_byte b e = leb-true 33 b (both (leb 33 b) (leb b 126) e).0
 
 -- a letter and a text after it
-lettered : (letter : ℕ) (text : List ℕ) → 33 ≤ letter → All (λ b. 33 ≤ b) text → IsPlain (letter ∷ text)
+pub lettered : (letter : ℕ) (text : List ℕ) → 33 ≤ letter → All (λ b. 33 ≤ b) text → IsPlain (letter ∷ text)
 lettered letter text le h = record { some = omega arith; plain = All-cons (λ b. 33 ≤ b) letter text le h }
 
 number_plain : (letter : ℕ) (o : Option ℕ) → 33 ≤ letter → IfSome o (λ n. n < 2 ^ 64) → ArePlain (number_token letter o)

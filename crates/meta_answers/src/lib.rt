@@ -8,5 +8,6 @@ mod told;
 mod writer;
 
 pub use line::{MetaLine, ValueLine, meta_line};
+pub use token::data_size;
 pub use told::Told;
 pub use writer::{put_meta, put_meta_line};

@@ -16,7 +16,7 @@ use mc_text::word::next_word;
 use mc_types::{Ask, DATA_LIMIT, Token};
 use return_flags::Wanted;
 
-/// The length of data that a word writes: at most 1,048,576.
+/// The length of data that a word writes: 1 to 20 digits, and at most 1,048,576 (mcgate's own limits). `None` for any other word. It takes no memory.
 pub fn data_size(text: &[u8]) -> Option<u32>
     ensures { result ≡ number_below (data_limit + 1) text.now }
 {

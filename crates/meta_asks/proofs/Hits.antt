@@ -1,18 +1,16 @@
 -- An answer that is spelled as servers mostly do is read as the hit that it tells.
-use Rattle.std.proofs.Common.{◌≡◌, ℕ, ◌+◌, ◌-◌, ◌^◌, ◌<◌, ◌≤◌, Bool, true, false, cond, not, eqb, leb, ◌||◌, ◌&&◌, List, [], ◌∷◌, ◌++◌, length, take, drop, All, Some, None, Result, Ok, Err, IfOk, refl, sym, ap, ◌∙◌, subst, append_assoc, arith, inl, inr}
+use Rattle.std.proofs.Common.{◌≡◌, ℕ, ◌+◌, ◌-◌, ◌^◌, ◌<◌, ◌≤◌, Bool, true, false, cond, not, eqb, leb, ◌||◌, ◌&&◌, List, [], ◌∷◌, ◌++◌, length, take, drop, All, Some, None, Result, Ok, Err, IfOk, refl, sym, ap, ◌∙◌, subst, append_assoc, arith}
 use Rattle.std.specs.Prelude.{codes}
 use Rattle.std.specs.Str.{bytes_eq, all_ascii_digits}
-use Rattle.std.proofs.lemmas.Bool.{cases_lt, lt-ltb, leb-true}
+use Rattle.std.proofs.lemmas.Bool.{and_parts, leb-true}
 use Rattle.std.proofs.lemmas.List.{length-append, take-append-drop, length-take-le}
-use Rattle.std.proofs.lemmas.List.Elements.{All-cons}
 use Rattle.std.proofs.Math.Seq.{drop-append_seam}
 use Rattle.std.proofs.lemmas.Slice.Eq.{bytes_eq-Decides}
 use Rattle.mc_text.specs.Line.{CR, LF}
 use Rattle.mc_text.specs.Number.{is_number, number_below}
 use Rattle.mc_text.specs.Spelling.{spaced, line_of}
-use Rattle.mc_text.proofs.NumberLemmas.{number_below-less}
-use Rattle.mc_text.proofs.Spaced.{IsPlain, ArePlain, all_plain, digits_plain, literal}
-use Rattle.mc_types.specs.KeyText.{IsKey, is_key_byte}
+use Rattle.mc_text.proofs.Spaced.{IsPlain, ArePlain, digits_plain, literal}
+use Rattle.mc_types.specs.KeyText.{IsKey}
 use Rattle.mc_types.specs.Asks.{IsAsk, data_limit}
 use Rattle.mc_types.specs.declared.ask.Op.{Op}
 use Rattle.mc_types.specs.declared.ask.Op.TheVariants as ops
@@ -28,6 +26,8 @@ use Rattle.meta_answers.specs.declared.line.MetaLine.TheVariants as lines
 use Rattle.meta_answers.specs.Told.{none_told, fields_told}
 use Rattle.meta_answers.specs.Tokens.{letter_f, letter_k}
 use Rattle.meta_answers.specs.Line.{takes, is_count, meta_said}
+use Rattle.meta_answers.proofs.Plain.{lettered}
+use Rattle.request_parts.proofs.Tokens.{key_plain}
 use Rattle.text_answers.specs.Laws.{SpelledAnswersFit}
 use Rattle.text_answers.specs.Reading.{Spells}
 use Rattle.text_answers.specs.FirstLine.{kind_of_line}
@@ -43,10 +43,6 @@ use Rattle.meta_asks.specs.Usual.{usual_words, IsUsual}
 use Rattle.meta_asks.proofs.Forms.{form_is_ask, in_meta_is}
 use Rattle.meta_asks.proofs.Answers.{fits_back}
 
-both : (a b : Bool) → (a && b) ≡ true → (a ≡ true) × (b ≡ true)
-both true b e = (refl, e)
-both false b e = absurd cc
-
 -- a word that writes a number has 1 to 20 digits
 record IsDigits (word : List ℕ) : Type 0 where
   some : 0 < length word
@@ -55,8 +51,8 @@ record IsDigits (word : List ℕ) : Type 0 where
 
 are_digits : (word : List ℕ) → is_number word ≡ true → IsDigits word
 are_digits word e =
-    let parts = both (leb 1 (length word) && leb (length word) 20) (all_ascii_digits word) e in
-    let lengths = both (leb 1 (length word)) (leb (length word) 20) parts.0 in
+    let parts = and_parts (leb 1 (length word) && leb (length word) 20) (all_ascii_digits word) e in
+    let lengths = and_parts (leb 1 (length word)) (leb (length word) 20) parts.0 in
     record { some = omega (arith, leb-true 1 (length word) lengths.0); short = leb-true (length word) 20 lengths.1; digits = parts.1 }
 
 writes : (b c : Bool) (v n : ℕ) → cond (b && c) (Some v) None ≡ Some n → b ≡ true
@@ -69,18 +65,9 @@ of_number limit n word e = are_digits word (writes (is_number word) _ _ n e)
 number_plain : (word : List ℕ) → IsDigits word → IsPlain word
 number_plain word h = record { some = h.some; plain = digits_plain word h.digits }
 
-lettered : (letter : ℕ) (text : List ℕ) → 33 ≤ letter → All (λ b. 33 ≤ b) text → IsPlain (letter ∷ text)
-lettered letter text le h = record { some = omega arith; plain = All-cons (λ b. 33 ≤ b) letter text le h }
-
-key_byte : (b : ℕ) → is_key_byte b ≡ true → 33 ≤ b
-key_byte b e = elim (cases_lt b 33) [
-  | inl lt ↦ let f : not (true || eqb b 127) ≡ true = rw (lt-ltb b 33 lt) at e in absurd cc
-  | inr ge ↦ ge
-]
-
 words_plain : (key len flags : List ℕ) → IsKey key → IsDigits len → IsDigits flags → ArePlain (usual_words key len flags)
 words_plain key len flags is n f =
-    let is_key = lettered letter_k key (omega arith) (all_plain is_key_byte key_byte key is.bytes) in
+    let is_key = lettered letter_k key (omega arith) (key_plain key is).plain in
     let are_flags = lettered letter_f flags (omega arith) (number_plain flags f).plain in
     (literal (codes "VA") refl (omega arith), (number_plain len n, (is_key, (are_flags, tt))))
 
@@ -115,9 +102,6 @@ told_of flags = record none_told { flags = Some flags; key = true }
 abbrev line_of_hit : UsualHit → ValueLine
 line_of_hit hit = record { told = told_of hit.flags; len = hit.len; is_number = false }
 
-few_bytes : (word : List ℕ) (n : ℕ) → number_below (2 ^ 32) word ≡ Some n → n ≤ data_limit → number_below (data_limit + 1) word ≡ Some n
-few_bytes word n e le = number_below-less word (data_limit + 1) (2 ^ 32) (omega arith) ∙ rw (e, lt-ltb n (data_limit + 1) (omega (arith, le))) refl
-
 line_said : (ask : Ask) (len flags : List ℕ) (hit : UsualHit) → is_retrieval ask ≡ true → ask.with_cas ≡ false → number_below (data_limit + 1) len ≡ Some hit.len → number_below (2 ^ 32) flags ≡ Some hit.flags
     → meta_said (meta_form ask) (codes "VA") (len ∷ (letter_k ∷ ask.key) ∷ (letter_f ∷ flags) ∷ []) ≡ Some (lines.Value (line_of_hit hit))
 line_said ask len flags hit e cas n f =
@@ -145,11 +129,11 @@ module _ (fit : SpelledAnswersFit) (ask : Ask) (bytes : List ℕ) (hit : UsualHi
 
   spells : Spells (meta_form ask) bytes told (hit.used)
   spells =
-      let n = of_number (2 ^ 32) hit.len u.len u.len_is in let f = of_number (2 ^ 32) hit.flags u.flags u.flags_is in
+      let n = of_number (data_limit + 1) hit.len u.len u.len_is in let f = of_number (2 ^ 32) hit.flags u.flags u.flags_is in
       let plain = words_plain ask.key u.len u.flags is.key n f in
       let short = words_short ask.key u.len u.flags is.key n f in
       let says : kind_of_line (meta_form ask) (spaced words_of) ≡ Value (line_of_hit hit) =
-      line_says (meta_form ask) Va (u.len ∷ (letter_k ∷ ask.key) ∷ (letter_f ∷ u.flags) ∷ []) (lines.Value (line_of_hit hit)) plain refl (line_said ask u.len u.flags hit e cas (few_bytes u.len hit.len u.len_is u.few) u.flags_is) in
+      line_says (meta_form ask) Va (u.len ∷ (letter_k ∷ ask.key) ∷ (letter_f ∷ u.flags) ∷ []) (lines.Value (line_of_hit hit)) plain refl (line_said ask u.len u.flags hit e cas u.len_is u.flags_is) in
       let all = data_back (meta_form ask) words_of (line_of_hit hit) data_of u.end.0 plain short says (length-take-le hit.len u.rest u.within) refl in
       subst (λ (t : List ℕ). Spells (meta_form ask) t told (hit.used)) (sym parted)
       (subst (λ (n : ℕ). Spells (meta_form ask) ((line_of words_of ++ (data_of ++ codes "\r\n")) ++ u.end.0) told n) long all)
@@ -184,9 +168,9 @@ spelled_so l k f n key rest = simp append_assoc
 -- the bytes that were found piece by piece
 pub is_usual : (key bytes a l b c d e n g rest after : List ℕ) (hit : UsualHit)
     → bytes ≡ codes "VA " ++ a → a ≡ l ++ b → b ≡ codes " k" ++ c → c ≡ key ++ d → d ≡ codes " f" ++ e → e ≡ n ++ g → g ≡ codes "\r\n" ++ rest
-    → number_below (2 ^ 32) l ≡ Some hit.len → hit.len ≤ data_limit → number_below (2 ^ 32) n ≡ Some hit.flags
+    → number_below (data_limit + 1) l ≡ Some hit.len → number_below (2 ^ 32) n ≡ Some hit.flags
     → hit.len ≤ length rest → drop hit.len rest ≡ CR ∷ LF ∷ after → hit.start ≡ length bytes - length rest → hit.used ≡ length bytes - length after → IsUsual key bytes hit
-is_usual key bytes a l b c d e n g rest after hit e1 e2 e3 e4 e5 e6 e7 len_is few flags_is within end start used =
+is_usual key bytes a l b c d e n g rest after hit e1 e2 e3 e4 e5 e6 e7 len_is flags_is within end start used =
     let line = line_of (usual_words key l n) in
     let all : bytes ≡ line ++ rest = rw (e1, e2, e3, e4, e5, e6, e7) (spelled_so l (codes " k") (codes " f") n key rest) in
     let long = ap length all ∙ length-append line rest in
@@ -198,7 +182,6 @@ is_usual key bytes a l b c d e n g rest after hit e1 e2 e3 e4 e5 e6 e7 len_is fe
       rest = rest;
       whole = all;
       len_is = len_is;
-      few = few;
       flags_is = flags_is;
       start = omega (arith, long, start);
       within = within;

@@ -17,8 +17,7 @@ pub record IsUsual (key bytes : List ℕ) (hit : UsualHit) : Type 0 where
   pub flags : List ℕ
   pub rest : List ℕ
   pub whole : bytes ≡ line_of (usual_words key len flags) ++ rest
-  pub len_is : number_below (2 ^ 32) len ≡ Some hit.len
-  pub few : hit.len ≤ data_limit
+  pub len_is : number_below (data_limit + 1) len ≡ Some hit.len
   pub flags_is : number_below (2 ^ 32) flags ≡ Some hit.flags
   pub start : hit.start ≡ length (line_of (usual_words key len flags))
   pub within : hit.len ≤ length rest

@@ -8,7 +8,7 @@ ghost use Rattle.text_answers.specs.Reading.{LiesWithin};
 ghost use Rattle.meta_asks.specs.Usual.{IsUsual};
 
 use mc_text::number::u32_number;
-use mc_types::DATA_LIMIT;
+use meta_answers::data_size;
 
 /// A hit: its flags, where its data begin and how many bytes they are, and how many bytes the answer takes. The line before the data is
 /// `VA LENGTH kKEY fFLAGS`.
@@ -108,11 +108,7 @@ pub(crate) fn usual_hit(key: &[u8], bytes: &[u8]) -> Option<UsualHit>
 {
     let after = after_code(bytes)?;
     let (len, after) = digits(after);
-    let len = u32_number(len)?;
-    if len > DATA_LIMIT {
-        return None;
-    }
-    let len = len as usize;
+    let len = data_size(len)? as usize;
     let after = after_text(key, after_key_letter(after)?)?;
     let after = after_flags_letter(after)?;
     let (flags, after) = digits(after);

@@ -1,5 +1,5 @@
 -- A stream begins with one line, and a line is read as what it means.
-use Rattle.std.proofs.Common.{◌≡◌, ℕ, ◌-◌, List, [], length, take, drop, Some, Ok, refl, ap, ◌∙◌, arith}
+use Rattle.std.proofs.Common.{◌≡◌, ℕ, ◌-◌, List, [], ◌∷◌, length, take, drop, Some, Ok, refl, sym, ap, ◌∙◌, arith}
 use Rattle.mc_text.specs.Line.{TakesLine, without_cr}
 use Rattle.mc_text.specs.Word.{words}
 use Rattle.request_parts.specs.declared.refusal.RefusalReason.TheVariants.{Unknown}
@@ -35,7 +35,13 @@ order_in-take n bytes (commands.Counting op quiet key delta) h = ap (λ (t : Lis
 order_in-take n bytes (commands.Own own) h = refl
 
 pub LiesIn-take : (n : ℕ) (bytes : List ℕ) (command : Command) → LiesIn (take n bytes) command → LiesIn bytes command
-LiesIn-take n bytes (commands.Retrieval with_cas exptime keys) h = record { span = IsIn-le _ _ keys.span (length-part n bytes) h.span; count = h.count ∙ ap length (keys_in-take n bytes keys h.span) }
+LiesIn-take n bytes (commands.Retrieval with_cas exptime keys) h =
+    let same = keys_in-take n bytes keys h.span in let short = length-front n bytes in
+    record {
+      span = IsIn-le _ _ keys.span (length-part n bytes) h.span;
+      count = h.count ∙ ap length same;
+      alone = λ one. sym same ∙ h.alone one ∙ ap (λ (t : List ℕ). t ∷ []) (text_at-take n bytes keys.span (omega (arith, h.span.within)));
+    }
 LiesIn-take n bytes (commands.Storage op quiet stored) h = IsIn-le _ _ stored.key (length-part n bytes) h
 LiesIn-take n bytes (commands.Swapping quiet stored cas) h = IsIn-le _ _ stored.key (length-part n bytes) h
 LiesIn-take n bytes (commands.Deletion quiet key) h = IsIn-le _ _ key (length-part n bytes) h

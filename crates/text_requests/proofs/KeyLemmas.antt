@@ -5,12 +5,15 @@ use Rattle.std.specs.List.{position_or_len, list_all}
 use Rattle.std.proofs.lemmas.Bool.{le-leb, eqb-true, and_parts}
 use Rattle.std.proofs.lemmas.List.{length-take, length-drop}
 use Rattle.std.proofs.lemmas.List.Sums.{prefix_len-le-length}
-use Rattle.mc_text.specs.Word.{is_space, is_no_space, text_at, IsNextWord}
+use Rattle.mc_text.specs.Word.{words, is_space, is_no_space, text_at, IsNextWord}
 use Rattle.mc_text.specs.declared.word.Span.{Span}
-use Rattle.mc_text.proofs.WordLemmas.{next_is}
+use Rattle.mc_text.proofs.WordLemmas.{next_is, rest_is}
+use Rattle.mc_text.proofs.Spaced.{plain_words, words-spaced}
+use Rattle.request_parts.proofs.KeyTexts.{key_is as key_of}
+use Rattle.request_parts.proofs.Tokens.{key_plain}
 use Rattle.mc_types.specs.KeyText.{is_bad_byte, is_key_byte}
 use Rattle.text_requests.specs.declared.next_key.NextKey.TheVariants.{Key, Other}
-use Rattle.text_requests.specs.KeysOfLine.{ends_word, IsNextKey}
+use Rattle.text_requests.specs.KeysOfLine.{ends_word, IsNextKey, IsFirstKey, AreKeys}
 use Rattle.request_parts.specs.Tests.{is_key}
 
 one_plus : (n : ℕ) → 1 + n ≡ suc n
@@ -114,3 +117,30 @@ module _ (line : List ℕ) (at n : ℕ) (n-is : n ≡ position_or_len is_no_spac
   -- what is left is longer than a key, or its bytes aren't a word
   pub other_is : (len : ℕ) → len ≡ key_end rest → (nat_le len 250 && ends_word (drop len rest)) ≡ false → IsNextKey line at Other
   other_is len len-is e = other_by len (ends_word (drop len rest)) len-is refl e
+
+-- a key is one word
+one_word : (key : List ℕ) → is_key key ≡ true → words key ≡ key ∷ []
+one_word key e = words-spaced (key ∷ []) (plain_words (key ∷ []) (key_plain key (key_of key e), tt))
+
+-- the span of all that stands from a place on
+whole_span : (line : List ℕ) (at : ℕ) → text_at line (record { start = at; end = length line }) ≡ drop at line
+whole_span line at = rest_is line at
+
+pub spanned_alone : (line : List ℕ) (at count : ℕ) (last : Span) → count ≡ length (words (drop at line)) → IsFirstKey line last [] (words (drop at line)) → AreKeys line (words (drop at line)) (record { span = last; count = count })
+spanned_alone line at count last counted h =
+    let one = one_word (text_at line last) h.key in
+    let same : words (text_at line last) ≡ words (drop at line) = one ∙ sym h.first in
+    (record { span = h.placed; count = counted ∙ sym (ap length same); alone = λ e. one }, same)
+
+pub spanned_all : (line : List ℕ) (at count : ℕ) → at ≤ length line → count ≡ length (words (drop at line)) → (count ≡ 1 → ⊥) → AreKeys line (words (drop at line)) (record { span = record { start = at; end = length line }; count = count })
+spanned_all line at count le counted many =
+    let same : words (text_at line (record { start = at; end = length line })) ≡ words (drop at line) = ap words (whole_span line at) in
+    (record { span = record { ordered = le; within = omega arith }; count = counted ∙ sym (ap length same); alone = λ e. absurd (many e) }, same)
+
+pub first_key : (line : List ℕ) (at from count : ℕ) (s : Span) → (count ≡ 0 → from ≡ at) → count + 1 ≡ 1 → IsNextKey line from (Key s) → IsFirstKey line s (words (drop s.end line)) (words (drop at line))
+first_key line at from count s zero one h =
+    let same : from ≡ at = zero (omega (arith, one)) in
+    record { placed = record { ordered = omega (arith, h.0.filled); within = h.0.within }; key = h.1; first = sym (ap (λ n. words (drop n line)) same) ∙ h.0.first }
+
+pub only_key : (line : List ℕ) (at from count : ℕ) (s : Span) → (count ≡ 1 → IsFirstKey line s (words (drop from line)) (words (drop at line))) → words (drop from line) ≡ [] → count ≡ 1 → IsFirstKey line s [] (words (drop at line))
+only_key line at from count s h none one = let f = h one in record { placed = f.placed; key = f.key; first = f.first ∙ ap (λ rest. text_at line s ∷ rest) none }

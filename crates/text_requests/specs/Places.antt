@@ -1,5 +1,5 @@
 -- What the spans of a command stand for in the bytes that were read.
-use Rattle.std.specs.Prelude.{◌≡◌, ℕ, List, ◌∷◌, length, drop}
+use Rattle.std.specs.Prelude.{◌≡◌, ℕ, List, [], ◌∷◌, length, drop}
 use Rattle.mc_text.specs.Word.{words, text_at}
 use Rattle.text_requests.specs.declared.command.Command.{Command}
 use Rattle.text_requests.specs.declared.command.Command.TheVariants as commands
@@ -27,10 +27,11 @@ order_in text (commands.Touching quiet key exptime) = Touching (text_at text key
 order_in text (commands.Counting op quiet key delta) = Counting op (text_at text key) delta quiet
 order_in text (commands.Own own) = OfItself own
 
--- the span lies in the text, and the count is that of its words
+-- the span lies in the text, and the count is that of its words; a word alone is all that the span has
 pub record AreIn (text : List ℕ) (keys : Keys) : Type 0 where
   pub span : IsIn (length text) keys.span
   pub count : keys.count ≡ length (keys_in text keys)
+  pub alone : keys.count ≡ 1 → keys_in text keys ≡ text_at text keys.span ∷ []
 
 -- each span of the command lies in the text
 abbrev pub LiesIn : List ℕ → Command → Type 0

@@ -192,6 +192,10 @@ impl Request {
                 with_cas,
                 keys,
             } => {
+                // (a key alone is all that its span has)
+                if keys.count == 1 {
+                    return Ok(retrieved(alloc, key_in(received, keys.span), exptime, with_cas));
+                }
                 let line = front_of(received, keys.span.end);
                 match nth_word(line, keys.span.start, i) {
                     Some(word) => Ok(retrieved(alloc, text_at(line, word), exptime, with_cas)),

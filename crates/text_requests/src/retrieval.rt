@@ -1,9 +1,10 @@
 //! The lines of `get`, `gets`, `gat` and `gats`.
-ghost use Rattle.std.specs.Prelude.{◌≡◌, ◌≤◌, ◌<◌, length, drop, IfOk, MatchOption, true, false};
+ghost use Rattle.std.specs.Prelude.{◌≡◌, ◌≤◌, ◌<◌, [], length, drop, IfOk, MatchOption, true, false};
 ghost use Rattle.std.specs.List.{list_all};
 ghost use Rattle.mc_text.specs.Word.{words};
 ghost use Rattle.request_parts.specs.Tests.{is_key};
 ghost use Rattle.text_requests.specs.Order.{keys_of, getting, getting_and_touching, retrieval};
+ghost use Rattle.text_requests.specs.KeysOfLine.{IsFirstKey, AreKeys};
 ghost use Rattle.text_requests.specs.Places.{AreIn, LiesIn, keys_in, order_in};
 ghost use Rattle.request_parts.specs.Places.{Gives};
 
@@ -13,19 +14,41 @@ use mc_text::word::Span;
 use request_parts::RefusalReason;
 use request_parts::parts::{exptime, word};
 
-// How many words there are, if each is a key.
-fn count_keys(line: &[u8], at: usize) -> Option<usize>
+// So many keys from a place on, of which this was the last one: a key alone has its own span, so that it needn't be looked for again.
+#[tactic(auto, using(crate::proofs::KeyLemmas::spanned_all))]
+fn spanned(line: &[u8], at: usize, count: usize, last: Span) -> Keys
+    requires at { at ≤ length line.now }
+    requires count { count ≡ length (words (drop at line.now)) }
+    requires alone { count ≡ 1 → IsFirstKey line.now last [] (words (drop at line.now)) }
+    ensures { AreKeys line.now (words (drop at line.now)) result }
+{
+    let span = if count == 1 {
+        last
+    } else {
+        Span {
+            start: at,
+            end: line.len(),
+        }
+    };
+    Keys { span, count }
+}
+
+// The words from a place on, if each is a key.
+#[tactic(auto, using(crate::proofs::KeyLemmas::first_key, crate::proofs::KeyLemmas::only_key))]
+fn keys_at(line: &[u8], at: usize) -> Option<Keys>
     requires { at ≤ length line.now }
     ensures { MatchOption result (list_all is_key (words (drop at line.now)) ≡ false)
-        (λ count. (list_all is_key (words (drop at line.now)) ≡ true) × (count ≡ length (words (drop at line.now)))) }
+        (λ keys. (list_all is_key (words (drop at line.now)) ≡ true) × AreKeys line.now (words (drop at line.now)) keys) }
 {
     let mut from = at;
     let mut count = 0;
+    let mut last = Span { start: at, end: at };
     loop {
         match next_key(line, from) {
-            NextKey::Nothing => return Some(count),
+            NextKey::Nothing => return Some(spanned(line, at, count, last)),
             NextKey::Key(key) => {
                 from = key.end;
+                last = key;
                 count += 1;
             }
             NextKey::Other => return None,
@@ -38,17 +61,11 @@ fn keys(line: &[u8], at: usize) -> Result<Keys, RefusalReason>
     ensures keys { Gives (keys_in line.now) result (keys_of (words (drop at line.now))) }
     ensures within { IfOk result (AreIn line.now) }
 {
-    let count = count_keys(line, at).ok_or(RefusalReason::BadKey)?;
-    if count == 0 {
+    let keys = keys_at(line, at).ok_or(RefusalReason::BadKey)?;
+    if keys.count == 0 {
         return Err(RefusalReason::Unknown);
     }
-    Ok(Keys {
-        span: Span {
-            start: at,
-            end: line.len(),
-        },
-        count,
-    })
+    Ok(keys)
 }
 
 fn getting(line: &[u8], at: usize, with_cas: bool) -> Result<Command, RefusalReason>

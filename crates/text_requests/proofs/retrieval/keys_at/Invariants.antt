@@ -2,13 +2,16 @@ use Rattle.std.proofs.Common.{◌≡◌, ◌≤◌, ◌+◌, ◌-◌, length, dr
 use Rattle.std.specs.List.{list_all}
 use Rattle.mc_text.specs.Word.{words}
 use Rattle.request_parts.specs.Tests.{is_key}
-use Rattle.text_requests.proofs.retrieval.count_keys.Given as goal
+use Rattle.text_requests.specs.KeysOfLine.{IsFirstKey}
+use Rattle.text_requests.proofs.retrieval.keys_at.Given as goal
 
 abbrev pub invariant-loop-key : goal.invariant-loop-key
 invariant-loop-key l = record {
   inside : l.from ≤ length l.line;
   few : l.count ≤ l.from;
   keys : list_all is_key (words (drop l.from l.line)) ≡ list_all is_key (words (drop l.at l.line));
+  first : l.count ≡ 0 → l.from ≡ l.at;
+  alone : l.count ≡ 1 → IsFirstKey l.line l.last (words (drop l.from l.line)) (words (drop l.at l.line));
   counted : l.count + length (words (drop l.from l.line)) ≡ length (words (drop l.at l.line));
 }
 
