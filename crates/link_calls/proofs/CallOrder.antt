@@ -12,7 +12,7 @@ use Rattle.text_answers.specs.Laws.{SpelledAnswersFit}
 use Rattle.text_answers.specs.Reading.{Reads}
 use Rattle.text_answers.specs.declared.reader.AnswerRead.{AnswerRead}
 use Rattle.text_answers.specs.declared.reader.AnswerRead.TheVariants as reads
-use Rattle.meta_asks.specs.Form.{is_retrieval}
+use Rattle.meta_asks.specs.Form.{is_retrieval, meta_form}
 use Rattle.meta_asks.specs.Reading.{ReadsInMeta}
 use Rattle.route_job.specs.Rest.{ask_under}
 use Rattle.commands_under_way.specs.declared.command.Command.{Command}
@@ -69,3 +69,7 @@ fits_popped old new call core outcome e fits = subst (λ xs. FitsFirst xs core o
 -- what is no classic get is asked as it is
 pub asked_else : (ask : Ask) → is_retrieval ask ≡ false → asked_in Meta ask ≡ ask
 asked_else ask e = rw e refl
+
+-- a classic get is asked in its meta form
+pub asked_get : (ask : Ask) → is_retrieval ask ≡ true → asked_in Meta ask ≡ meta_form ask
+asked_get ask e = rw e refl

@@ -1,10 +1,11 @@
 //! The calls of one server that are out, the one that went out first in front.
 
-ghost use Rattle.std.specs.Prelude.{◌≡◌, [], ◌∷◌, ◌++◌, ◌↔◌, IsTrue, OnOk, OnErr, IfOk, IfErr, length, option_map};
+ghost use Rattle.std.specs.Prelude.{◌≡◌, [], ◌∷◌, ◌++◌, ◌↔◌, true, false, IsTrue, OnOk, OnErr, IfOk, IfErr, IfSome, length, option_map};
 ghost use Rattle.mc_types.specs.Asks.{IsAsk};
 ghost use Rattle.client_requests.specs.Spelling.{spelling_of};
 ghost use Rattle.send_buffer.specs.Sending.{bytes_of};
 ghost use Rattle.mc_types.specs.declared.ask.Dialect.TheVariants.{Meta};
+ghost use Rattle.meta_asks.specs.Usual.{IsUsualTo};
 ghost use Rattle.link_calls.specs.Dialects.{asked_in};
 ghost use Rattle.link_calls.specs.Cores.{core_of, IsSettled};
 ghost use Rattle.link_calls.specs.Calls.{IsReadFor, IsReadNext, first_asked, FitsFirst, SettlesFirst, SettlesNext};
@@ -15,7 +16,9 @@ use crate::sending::send_ask;
 use client_asks::is_ask;
 use mc_types::{Ask, Dialect, Outcome, SpareBodies};
 use meta_asks::form::is_retrieval;
-use meta_asks::{MetaForms, read_in_meta, write_in_meta};
+use meta_asks::{
+    MetaForms, UsualHit, is_plain_get, read_hit, read_in_meta, usual_hit, write_get, write_in_meta,
+};
 use proxy_core::Ticket;
 use send_buffer::SendBuffer;
 use std::alloc::{AllocError, Global};
@@ -100,6 +103,35 @@ fn send_in(
     }
 }
 
+// Appends what a server is asked in this dialect: whether it was. A get without an expiry in the meta dialect, which is most of what is asked,
+// is one that a client can write, and isn't tested for that.
+#[tactic(auto, using(crate::proofs::CallOrder::asked_get))]
+fn send_any(
+    dialect: Dialect,
+    alloc: Global,
+    forms: &mut MetaForms,
+    ask: &Ask,
+    out: &mut SendBuffer,
+) -> bool
+    ensures sent { result ≡ true → bytes_of out.new ≡ bytes_of out.old ++ spelling_of (asked_in dialect ask.now) }
+    ensures refused { result ≡ false → bytes_of out.new ≡ bytes_of out.old }
+{
+    if dialect == Dialect::Meta && is_plain_get(ask) {
+        return write_get(ask, &mut out.text).is_ok();
+    }
+    is_ask(ask) && send_in(dialect, alloc, forms, ask, out).is_ok()
+}
+
+// The hit that the bytes begin with, where they are spelled as servers mostly do.
+fn hit_in(dialect: Dialect, ask: &Ask, bytes: &[u8]) -> Option<UsualHit>
+    ensures { IfSome result (λ hit. (dialect ≡ Meta) × IsUsualTo ask.now bytes.now hit) }
+{
+    match dialect {
+        Dialect::Classic => None,
+        Dialect::Meta => usual_hit(ask, bytes),
+    }
+}
+
 // What the bytes say to the ask, as it was asked in this dialect.
 #[tactic(auto, using(crate::proofs::CallOrder::read_classic, crate::proofs::CallOrder::read_meta))]
 fn read_in(
@@ -120,6 +152,7 @@ fn read_in(
     }
 }
 
+#[tactic(auto, using(crate::proofs::CallOrder::read_meta))]
 fn read_for(
     dialect: Dialect,
     alloc: Global,
@@ -130,6 +163,12 @@ fn read_for(
 ) -> AnswerRead
     ensures { IsReadFor dialect ask.now received.now result }
 {
+    if let Some(hit) = hit_in(dialect, ask, received.bytes()) {
+        return match read_hit(alloc, spares, ask, hit, received) {
+            Ok(read) => read,
+            Err(_) => AnswerRead::Foreign,
+        };
+    }
     if !is_ask(ask) {
         return AnswerRead::Foreign;
     }
@@ -213,18 +252,11 @@ impl LinkCalls {
         ensures ok { OnOk result ((self.new.sent.items ≡ self.old.sent.items ++ call ∷ []) × (bytes_of out.new ≡ bytes_of out.old ++ spelling_of (asked_in call.dialect call.ticket.ask))) }
         ensures err { IfErr result (λ given. (given ≡ call) × (self.new.sent.items ≡ self.old.sent.items) × (bytes_of out.new ≡ bytes_of out.old)) }
     {
-        let dialect = call.dialect;
-        if !is_ask(call.ticket.ask.get()) || self.sent.reserve(1).is_err() {
+        if self.sent.reserve(1).is_err() {
             return Err(call);
         }
-        let sent = send_in(
-            dialect,
-            self.alloc,
-            &mut self.forms,
-            call.ticket.ask.get(),
-            out,
-        );
-        if sent.is_err() {
+        let ask = call.ticket.ask.get();
+        if !send_any(call.dialect, self.alloc, &mut self.forms, ask, out) {
             return Err(call);
         }
         self.sent.push_back_reserved(call);
@@ -250,8 +282,8 @@ impl LinkCalls {
     /// The first of the calls that are out is settled by its answer, where the bytes begin with one, in the dialect in which it was
     /// asked: nothing else is, and the core goes on by that alone. Without one nothing has changed.
     ///
-    /// Of the gets that were asked in the meta dialect the first takes memory for its form, and the first `gets` does; later ones are read
-    /// by the form that is kept. Small data are copied into the memory of an earlier answer's, where nobody else holds those any more.
+    /// Of the gets that were asked in the meta dialect the first takes memory for its form, and the first `gets` does, where their answers
+    /// aren't hits that are spelled as servers mostly do; later ones are read by the form that is kept. Small data are copied into the memory of an earlier answer's, where nobody else holds those any more.
     ///
     /// Source: mcgate's own.
     pub fn settle_next(&mut self, core: &mut AnyCore, received: &Received) -> Next

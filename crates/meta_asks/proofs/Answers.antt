@@ -74,7 +74,7 @@ in_classic : (ask : Ask) (dialect : Dialect) (answer : Answer) → shows_values 
 in_classic ask dialects.Classic answer e fits = fits
 in_classic ask dialects.Meta answer e fits = absurd cc
 
-fits_by : (ask : Ask) (answer : Answer) → is_retrieval ask ≡ true → IsAnswer answer → FitsFetch ask.with_cas answer → Fits ask answer
+pub fits_by : (ask : Ask) (answer : Answer) → is_retrieval ask ≡ true → IsAnswer answer → FitsFetch ask.with_cas answer → Fits ask answer
 fits_by ask answer e ranges fits = record { ranges = ranges; listed = in_classic ask ask.dialect answer e (classic_is ask.dialect ask.op ask.with_cas answer e fits) }
 
 range_of : {A : Type 0} (P : A → Type 0) (o : Option A) (x : A) → o ≡ Some x → IfSome o P → P x

@@ -1,8 +1,8 @@
 -- An answer that is spelled as servers mostly do is read as the hit that it tells.
-use Rattle.std.proofs.Common.{◌≡◌, ℕ, ◌+◌, ◌-◌, ◌^◌, ◌<◌, ◌≤◌, Bool, true, false, cond, not, eqb, leb, ◌||◌, ◌&&◌, List, [], ◌∷◌, ◌++◌, length, take, drop, All, Some, None, Result, Ok, Err, IfOk, refl, sym, ap, ◌∙◌, subst, append_assoc, arith}
+use Rattle.std.proofs.Common.{◌≡◌, ℕ, ◌+◌, ◌-◌, ◌^◌, ◌<◌, ◌≤◌, Bool, true, false, cond, leb, nat_lt, ◌&&◌, List, [], ◌∷◌, ◌++◌, length, take, drop, Option, Some, None, refl, sym, ap, ◌∙◌, subst, append_assoc, arith, inl, inr}
 use Rattle.std.specs.Prelude.{codes}
 use Rattle.std.specs.Str.{bytes_eq, all_ascii_digits}
-use Rattle.std.proofs.lemmas.Bool.{and_parts, leb-true}
+use Rattle.std.proofs.lemmas.Bool.{cases_Bool, and_parts, leb-true, ltb-true}
 use Rattle.std.proofs.lemmas.List.{length-append, take-append-drop, length-take-le}
 use Rattle.std.proofs.Math.Seq.{drop-append_seam}
 use Rattle.std.proofs.lemmas.Slice.Eq.{bytes_eq-Decides}
@@ -11,7 +11,8 @@ use Rattle.mc_text.specs.Number.{is_number, number_below}
 use Rattle.mc_text.specs.Spelling.{spaced, line_of}
 use Rattle.mc_text.proofs.Spaced.{IsPlain, ArePlain, digits_plain, literal}
 use Rattle.mc_types.specs.KeyText.{IsKey}
-use Rattle.mc_types.specs.Asks.{IsAsk, data_limit}
+use Rattle.mc_types.specs.Asks.{data_limit}
+use Rattle.mc_types.specs.Fits.{IsAnswer, FitsFetch}
 use Rattle.mc_types.specs.declared.ask.Op.{Op}
 use Rattle.mc_types.specs.declared.ask.Op.TheVariants as ops
 use Rattle.mc_types.specs.declared.ask.Dialect.{Dialect}
@@ -28,20 +29,18 @@ use Rattle.meta_answers.specs.Tokens.{letter_f, letter_k}
 use Rattle.meta_answers.specs.Line.{takes, is_count, meta_said}
 use Rattle.meta_answers.proofs.Plain.{lettered}
 use Rattle.request_parts.proofs.Tokens.{key_plain}
-use Rattle.text_answers.specs.Laws.{SpelledAnswersFit}
 use Rattle.text_answers.specs.Reading.{Spells}
 use Rattle.text_answers.specs.FirstLine.{kind_of_line}
 use Rattle.text_answers.specs.declared.line_kinds.FirstLine.TheVariants.{Value}
-use Rattle.text_answers.specs.declared.reader.AnswerRead.{AnswerRead}
 use Rattle.text_answers.specs.declared.reader.AnswerRead.TheVariants as reads
 use Rattle.text_answers.proofs.MetaBack.{line_says, data_back}
 use Rattle.text_codec.specs.Replies.{shows_values}
 use Rattle.meta_asks.specs.declared.usual.UsualHit.{UsualHit}
 use Rattle.meta_asks.specs.Form.{is_retrieval, meta_form}
 use Rattle.meta_asks.specs.Reading.{SaysSameIf, ReadsInMeta}
-use Rattle.meta_asks.specs.Usual.{usual_words, IsUsual}
-use Rattle.meta_asks.proofs.Forms.{form_is_ask, in_meta_is}
-use Rattle.meta_asks.proofs.Answers.{fits_back}
+use Rattle.meta_asks.specs.Usual.{usual_words, IsUsual, IsUsualTo}
+use Rattle.meta_asks.proofs.Forms.{in_meta_is}
+use Rattle.meta_asks.proofs.Answers.{fits_by}
 
 -- a word that writes a number has 1 to 20 digits
 record IsDigits (word : List ℕ) : Type 0 where
@@ -61,6 +60,20 @@ writes false c v n e = absurd cc
 
 of_number : (limit n : ℕ) (word : List ℕ) → number_below limit word ≡ Some n → IsDigits word
 of_number limit n word e = are_digits word (writes (is_number word) _ _ n e)
+
+-- what a word writes below a limit is below it
+of_test : (b : Bool) (v limit n : ℕ) → cond (b && nat_lt v limit) (Some v) None ≡ Some n → n < limit
+of_test true v limit n e = elim (cases_Bool (nat_lt v limit)) [
+  | inl lt ↦ let same : v ≡ n = some_is v n (rw lt at e) in subst (λ m. m < limit) same (ltb-true v limit lt)
+  | inr ge ↦ absurd (let f = rw ge at e in cc)
+]
+  where
+    some_is : (v n : ℕ) → ◌≡◌ {A = Option ℕ} (Some v) (Some n) → v ≡ n
+    some_is v n e = cc
+of_test false v limit n e = absurd cc
+
+below_limit : (limit n : ℕ) (word : List ℕ) → number_below limit word ≡ Some n → n < limit
+below_limit limit n word e = of_test (is_number word) _ limit n e
 
 number_plain : (word : List ℕ) → IsDigits word → IsPlain word
 number_plain word h = record { some = h.some; plain = digits_plain word h.digits }
@@ -111,7 +124,7 @@ line_said ask len flags hit e cas n f =
 regroup : (l body c more : List ℕ) → (l ++ (body ++ c)) ++ more ≡ l ++ (body ++ (c ++ more))
 regroup l body c more = simp append_assoc
 
-module _ (fit : SpelledAnswersFit) (ask : Ask) (bytes : List ℕ) (hit : UsualHit) (is : IsAsk ask) (e : is_retrieval ask ≡ true) (cas : ask.with_cas ≡ false) (u : IsUsual ask.key bytes hit) where
+module _ (ask : Ask) (bytes : List ℕ) (hit : UsualHit) (key : IsKey ask.key) (e : is_retrieval ask ≡ true) (cas : ask.with_cas ≡ false) (u : IsUsual ask.key bytes hit) where
   abbrev words_of : List (List ℕ)
   words_of = usual_words ask.key u.len u.flags
 
@@ -127,40 +140,43 @@ module _ (fit : SpelledAnswersFit) (ask : Ask) (bytes : List ℕ) (hit : UsualHi
   long : length (line_of words_of ++ (data_of ++ codes "\r\n")) ≡ hit.used
   long = omega (arith, length-append (line_of words_of) (data_of ++ codes "\r\n"), length-append data_of (codes "\r\n"), length-take-le hit.len u.rest u.within, u.start, u.used)
 
-  spells : Spells (meta_form ask) bytes told (hit.used)
+  spells : Spells (meta_form ask) bytes told hit.used
   spells =
       let n = of_number (data_limit + 1) hit.len u.len u.len_is in let f = of_number (2 ^ 32) hit.flags u.flags u.flags_is in
-      let plain = words_plain ask.key u.len u.flags is.key n f in
-      let short = words_short ask.key u.len u.flags is.key n f in
+      let plain = words_plain ask.key u.len u.flags key n f in
+      let short = words_short ask.key u.len u.flags key n f in
       let says : kind_of_line (meta_form ask) (spaced words_of) ≡ Value (line_of_hit hit) =
       line_says (meta_form ask) Va (u.len ∷ (letter_k ∷ ask.key) ∷ (letter_f ∷ u.flags) ∷ []) (lines.Value (line_of_hit hit)) plain refl (line_said ask u.len u.flags hit e cas u.len_is u.flags_is) in
       let all = data_back (meta_form ask) words_of (line_of_hit hit) data_of u.end.0 plain short says (length-take-le hit.len u.rest u.within) refl in
-      subst (λ (t : List ℕ). Spells (meta_form ask) t told (hit.used)) (sym parted)
+      subst (λ (t : List ℕ). Spells (meta_form ask) t told hit.used) (sym parted)
       (subst (λ (n : ℕ). Spells (meta_form ask) ((line_of words_of ++ (data_of ++ codes "\r\n")) ++ u.end.0) told n) long all)
 
-  pub usual_reads : (body : List ℕ) → body ≡ take hit.len (drop hit.start bytes) → ReadsInMeta ask bytes (reads.Answer (Hit hit.flags body None) (hit.used))
+  pub usual_reads : (body : List ℕ) → body ≡ take hit.len (drop hit.start bytes) → ReadsInMeta ask bytes (reads.Answer (Hit hit.flags body None) hit.used)
   usual_reads body same =
       let rest : drop hit.start bytes ≡ u.rest = ap (λ b. drop hit.start b) u.whole ∙ ap (λ n. drop n (line_of words_of ++ u.rest)) u.start ∙ drop-append_seam (line_of words_of) u.rest in
       let same_data : body ≡ data_of = same ∙ ap (λ r. take hit.len r) rest in
       let answer : Answer = Hit hit.flags body None in
+      let few : length data_of ≤ data_limit = let lt = below_limit (data_limit + 1) hit.len u.len u.len_is in omega (arith, length-take-le hit.len u.rest u.within) in
+      let ranges : IsAnswer answer = (below_limit (2 ^ 32) hit.flags u.flags u.flags_is, subst (λ b. length b ≤ data_limit) (sym same_data) few, tt) in
+      let fetched : FitsFetch ask.with_cas answer = sym cas in
       let says : SaysSameIf true told answer = (hit.flags, data_of, refl, refl, ap (λ b. Hit hit.flags b None) same_data) in (
         record {
           told = told;
-          spells = subst (λ x. Spells x bytes told (hit.used)) (sym (in_meta_is ask e)) spells;
+          spells = subst (λ x. Spells x bytes told hit.used) (sym (in_meta_is ask e)) spells;
           says = subst (λ b. SaysSameIf b told answer) (sym e) says;
         },
-        fits_back ask told answer e (fit (meta_form ask) bytes told (hit.used) (form_is_ask ask is e) spells) says,
+        fits_by ask answer e ranges fetched,
       )
 
-  pub usual_within : hit.used ≤ length bytes
-  usual_within = let all = ap length parted ∙ length-append (line_of words_of ++ (data_of ++ codes "\r\n")) u.end.0 in omega (arith, all, long)
+  pub usual_within : (hit.start + hit.len ≤ length bytes) × (hit.used ≤ length bytes)
+  usual_within = let all = ap length parted ∙ length-append (line_of words_of ++ (data_of ++ codes "\r\n")) u.end.0 in (omega (arith, all, long, u.used), omega (arith, all, long))
 
--- what is read where such a hit was found
-pub hit_is_read :
-    {E : Type 0} → SpelledAnswersFit → (ask : Ask) (bytes : List ℕ) (hit : UsualHit) (result : Result AnswerRead E) → IsAsk ask → is_retrieval ask ≡ true → (ask.with_cas ≡ false) × IsUsual ask.key bytes hit
-    → IfOk result (λ read. read ≡ reads.Answer (Hit hit.flags (take hit.len (drop hit.start bytes)) None) hit.used) → IfOk result (ReadsInMeta ask bytes)
-hit_is_read fit ask bytes hit (Ok read) is e found h = subst (ReadsInMeta ask bytes) (sym h) (usual_reads fit ask bytes hit is e found.0 found.1 (take hit.len (drop hit.start bytes)) refl)
-hit_is_read fit ask bytes hit (Err fault) is e found h = tt
+-- what is read of such a hit
+pub hit_is_read : (ask : Ask) (bytes body : List ℕ) (hit : UsualHit) → IsKey ask.key → IsUsualTo ask bytes hit → body ≡ take hit.len (drop hit.start bytes) → ReadsInMeta ask bytes (reads.Answer (Hit hit.flags body None) hit.used)
+hit_is_read ask bytes body hit key is same = usual_reads ask bytes hit key is.retrieves is.no_cas is.usual body same
+
+pub hit_within : (ask : Ask) (bytes : List ℕ) (hit : UsualHit) → IsKey ask.key → IsUsualTo ask bytes hit → (hit.start + hit.len ≤ length bytes) × (hit.used ≤ length bytes)
+hit_within ask bytes hit key is = usual_within ask bytes hit key is.retrieves is.no_cas is.usual
 
 spelled_so : (l k f n key rest : List ℕ) → codes "VA " ++ (l ++ (k ++ (key ++ (f ++ (n ++ (codes "\r\n" ++ rest)))))) ≡ (((codes "VA " ++ (l ++ (k ++ (key ++ (f ++ n))))) ++ codes "\r\n") ++ rest)
 spelled_so l k f n key rest = simp append_assoc

@@ -1,10 +1,12 @@
 -- The answer to the meta form of a get as servers write it mostly. Source: memcached's protocol.txt, "Meta Get".
-use Rattle.std.specs.Prelude.{◌≡◌, ℕ, ◌+◌, ◌^◌, ◌≤◌, List, [], ◌∷◌, ◌++◌, Some, length, drop, codes}
+use Rattle.std.specs.Prelude.{◌≡◌, ℕ, ◌+◌, ◌^◌, ◌≤◌, true, false, List, [], ◌∷◌, ◌++◌, Some, length, drop, codes}
 use Rattle.mc_text.specs.Line.{CR, LF}
 use Rattle.mc_text.specs.Number.{number_below}
 use Rattle.mc_text.specs.Spelling.{line_of}
 use Rattle.mc_types.specs.Asks.{data_limit}
 use Rattle.meta_answers.specs.Tokens.{letter_f, letter_k}
+use Rattle.mc_types.specs.declared.ask.Ask.{Ask}
+use Rattle.meta_asks.specs.Form.{is_retrieval}
 use Rattle.meta_asks.specs.declared.usual.UsualHit.{UsualHit}
 
 -- VA, how long the data are, the key after k and the flags after f
@@ -23,3 +25,9 @@ pub record IsUsual (key bytes : List ℕ) (hit : UsualHit) : Type 0 where
   pub within : hit.len ≤ length rest
   pub end : (after : List ℕ) × (drop hit.len rest ≡ CR ∷ LF ∷ after)
   pub used : hit.used ≡ hit.start + hit.len + 2
+
+-- the bytes begin with such a hit, and the ask is a get that wants no cas number
+pub record IsUsualTo (ask : Ask) (bytes : List ℕ) (hit : UsualHit) : Type 0 where
+  pub retrieves : is_retrieval ask ≡ true
+  pub no_cas : ask.with_cas ≡ false
+  pub usual : IsUsual ask.key bytes hit

@@ -63,10 +63,19 @@ fn get_end(with_cas: bool) -> &'static [u8]
     }
 }
 
-// A get that sets no expiry, which is most of what is asked, is written without its form. Room is made once, and so a refusal leaves the buffer
-// as it was.
+/// Whether it is a classic get of one key that sets no expiry, which is most of what is asked: [`write_get`] writes its meta form.
+pub fn is_plain_get(ask: &Ask) -> bool
+    ensures { result ≡ true → (is_retrieval ask.now ≡ true) × (ask.now.exptime ≡ None) }
+{
+    is_retrieval(ask) && ask.exptime.is_none()
+}
+
+/// Appends the meta form of a get that sets no expiry, which isn't made for that. Room is made once. The only error is running out of memory,
+/// which leaves the buffer as it was.
+///
+/// Source: memcached's protocol.txt, "Meta Get"; the order of the flags is mcgate's own.
 #[tactic(auto, using(crate::proofs::Forms::get_text))]
-fn write_get(ask: &Ask, out: &mut BytesMut) -> Result<(), AllocError>
+pub fn write_get(ask: &Ask, out: &mut BytesMut) -> Result<(), AllocError>
     requires get { is_retrieval ask.now ≡ true }
     requires no_expiry { ask.now.exptime ≡ None }
     ensures ok { OnOk result (out.new.items ≡ out.old.items ++ spelling_of (meta_form ask.now)) }
@@ -99,11 +108,11 @@ pub fn write_in_meta(
     ensures ok { OnOk result (out.new.items ≡ out.old.items ++ spelling_of (in_meta ask.now)) }
     ensures err { OnErr result (out.new.items ≡ out.old.items) }
 {
+    if is_plain_get(ask) {
+        return write_get(ask, out);
+    }
     if !is_retrieval(ask) {
         return write_ask(ask, out);
-    }
-    if ask.exptime.is_none() {
-        return write_get(ask, out);
     }
     forms.write(alloc, ask, out)
 }

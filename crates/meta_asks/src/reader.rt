@@ -1,16 +1,12 @@
 //! The answer to an ask that went out in meta form.
 
-ghost use Rattle.std.specs.Prelude.{◌≡◌, ◌≤◌, ◌+◌, None, false, IsSome, IfOk, IfSome, drop, length, take};
+ghost use Rattle.std.specs.Prelude.{IsSome, IfOk};
 ghost use Rattle.mc_types.specs.Asks.{IsAsk};
 ghost use Rattle.text_answers.specs.Reading.{LiesWithin};
-ghost use Rattle.mc_types.specs.declared.answer.Answer.TheVariants.{Hit};
-ghost use Rattle.text_answers.specs.declared.reader.AnswerRead.TheVariants as reads;
-ghost use Rattle.meta_asks.specs.Usual.{IsUsual};
 ghost use Rattle.meta_asks.specs.Reading.{IsHitOf, SaysSame, IsTold, ReadsInMeta};
 
 use crate::form::is_retrieval;
 use crate::kept::MetaForms;
-use crate::usual::{UsualHit, usual_hit};
 use mc_types::{Answer, Ask, Code, Fields, SpareBodies};
 use std::alloc::{AllocError, Global};
 use text_answers::laws::spelled_answers_fit;
@@ -45,35 +41,6 @@ fn classic_of(told: Answer) -> Answer
     }
 }
 
-// The hit that was found. (apart, so that it is found before anything else of the bytes is read)
-fn found_hit(
-    alloc: Global,
-    spares: &mut SpareBodies,
-    hit: UsualHit,
-    received: &Received,
-) -> Result<AnswerRead, AllocError>
-    requires { hit.start + hit.len ≤ length received.now }
-    ensures { IfOk result (λ read. read ≡ reads.Answer (Hit hit.flags (take hit.len (drop hit.start received.now)) None) hit.used) }
-{
-    let body = received.after(hit.start).data(alloc, spares, hit.len)?;
-    let answer = Answer::Hit {
-        flags: hit.flags,
-        body,
-        cas: None,
-    };
-    Ok(AnswerRead::Answer(answer, hit.used))
-}
-
-// The hit that the bytes begin with, where they are spelled as servers mostly do.
-fn hit_in(ask: &Ask, bytes: &[u8]) -> Option<UsualHit>
-    ensures { IfSome result (λ hit. (ask.now.with_cas ≡ false) × IsUsual ask.now.key bytes.now hit) }
-{
-    if ask.with_cas {
-        return None;
-    }
-    usual_hit(ask.key.as_bytes(), bytes)
-}
-
 /// Reads the answer to an ask that [`crate::write_in_meta`] wrote, at the front of the bytes that a server sent, as the answer to the
 /// ask itself: of a classic get `VA` is a hit, with the cas number where it was asked for, `EN` a miss, and an error line that line.
 /// What [`read_received`] takes for cut or foreign of the meta form is cut or foreign.
@@ -82,7 +49,7 @@ fn hit_in(ask: &Ask, bytes: &[u8]) -> Option<UsualHit>
 /// to a get and the first to a `gets` none is; for data as [`read_received`] says.
 ///
 /// Source: memcached's protocol.txt, "Meta Get"; what is foreign is mcgate's own.
-#[tactic(auto, using(crate::proofs::Answers::reads_as_it_is, crate::proofs::Answers::told_fits, crate::proofs::Hits::usual_within))]
+#[tactic(auto, using(crate::proofs::Answers::reads_as_it_is, crate::proofs::Answers::told_fits))]
 pub fn read_in_meta(
     alloc: Global,
     forms: &mut MetaForms,
@@ -97,9 +64,6 @@ pub fn read_in_meta(
     spelled_answers_fit();
     if !is_retrieval(ask) {
         return read_received(alloc, spares, ask, received);
-    }
-    if let Some(hit) = hit_in(ask, received.bytes()) {
-        return found_hit(alloc, spares, hit, received);
     }
     match forms.read(alloc, spares, ask, received)? {
         AnswerRead::More => Ok(AnswerRead::More),

@@ -1,16 +1,19 @@
 //! The answer to the meta form of a get, where it is spelled as servers mostly do.
 
-ghost use Rattle.std.specs.Prelude.{◌≡◌, ◌≤◌, ◌++◌, ◌∷◌, ◌+◌, [], IfOk, IfSome, codes, drop, length};
+ghost use Rattle.std.specs.Prelude.{◌≡◌, ◌≤◌, ◌++◌, ◌∷◌, ◌+◌, IfOk, IfSome, codes, drop, length};
 ghost use Rattle.mc_text.specs.Line.{CR, LF};
-ghost use Rattle.mc_types.specs.Asks.{IsAsk};
-ghost use Rattle.meta_answers.specs.Tokens.{letter_f, letter_k};
 ghost use Rattle.text_answers.specs.Reading.{LiesWithin};
-ghost use Rattle.meta_asks.specs.Usual.{IsUsual};
+ghost use Rattle.meta_asks.specs.Reading.{ReadsInMeta};
+ghost use Rattle.meta_asks.specs.Usual.{IsUsual, IsUsualTo};
 
+use crate::form::is_retrieval;
 use mc_text::number::u32_number;
+use mc_types::{Answer, Ask, SpareBodies};
 use meta_answers::data_size;
+use std::alloc::{AllocError, Global};
+use text_codec::{AnswerRead, Received};
 
-/// A hit: its flags, where its data begin and how many bytes they are, and how many bytes the answer takes. The line before the data is
+/// A hit that was found: its flags, where its data begin and how many bytes they are, and how many bytes the answer takes. The line before the data is
 /// `VA LENGTH kKEY fFLAGS`.
 #[derive(Clone, Copy)]
 pub struct UsualHit {
@@ -99,11 +102,8 @@ fn after_data(bytes: &[u8], len: usize) -> Option<&[u8]>
     after_line(&bytes[len..])
 }
 
-/// The hit that the bytes begin with, where it is whole and on this key, and each of its words stands after one space. `None` says nothing
-/// of the bytes. It takes no memory.
-///
-/// Source: memcached's protocol.txt, "Meta Get".
-pub(crate) fn usual_hit(key: &[u8], bytes: &[u8]) -> Option<UsualHit>
+// The hit that the bytes begin with, where it is whole and on this key, and each word of its line stands after one space.
+fn hit_on(key: &[u8], bytes: &[u8]) -> Option<UsualHit>
     ensures { IfSome result (IsUsual key.now bytes.now) }
 {
     let after = after_code(bytes)?;
@@ -121,4 +121,40 @@ pub(crate) fn usual_hit(key: &[u8], bytes: &[u8]) -> Option<UsualHit>
         len,
         used: bytes.len() - after.len(),
     })
+}
+
+/// The hit that the bytes begin with, where they are spelled as servers mostly do in answer to the meta form of a get that wants no cas number:
+/// [`read_hit`] reads it then. `None` says nothing of the bytes: [`crate::read_in_meta`] tells what they are. It takes no memory.
+///
+/// Source: memcached's protocol.txt, "Meta Get".
+pub fn usual_hit(ask: &Ask, bytes: &[u8]) -> Option<UsualHit>
+    ensures { IfSome result (IsUsualTo ask.now bytes.now) }
+{
+    if !is_retrieval(ask) || ask.with_cas {
+        return None;
+    }
+    hit_on(ask.key.as_bytes(), bytes)
+}
+
+/// Reads the hit that was found. The only error is running out of memory for its data, which are copied as [`Received::data`] says.
+#[tactic(auto, using(crate::proofs::Hits::hit_within))]
+pub fn read_hit(
+    alloc: Global,
+    spares: &mut SpareBodies,
+    ask: &Ask,
+    hit: UsualHit,
+    received: &Received,
+) -> Result<AnswerRead, AllocError>
+    requires { IsUsualTo ask.now received.now hit }
+    ensures reads { IfOk result (ReadsInMeta ask.now received.now) }
+    ensures within { IfOk result (LiesWithin received.now) }
+{
+    ask.key.bytes_are_a_key();
+    let body = received.after(hit.start).data(alloc, spares, hit.len)?;
+    let answer = Answer::Hit {
+        flags: hit.flags,
+        body,
+        cas: None,
+    };
+    Ok(AnswerRead::Answer(answer, hit.used))
 }

@@ -1,3 +1,4 @@
 pub mod CoreSteps
 pub mod Links
 pub mod Pieces
+pub mod Waits

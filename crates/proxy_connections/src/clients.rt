@@ -1,6 +1,9 @@
 //! The clients' ends, by their ids in the core, and which of them are to be served.
 
-ghost use Rattle.std.specs.Prelude.{◌<◌};
+ghost use Rattle.std.specs.Prelude.{◌≡◌, ◌+◌, ◌-◌, ◌<◌, length, min, nat_lt};
+ghost use Rattle.send_buffer.specs.Sending.{bytes_of};
+ghost use Rattle.proxy_connections.specs.Waits.{waits_a_turn};
+ghost use Rattle.proxy_connections.specs.declared.clients.TheConstants.{HELD_BACK};
 
 use crate::sockets::note;
 use mio::net::TcpStream;
@@ -107,23 +110,37 @@ impl Client {
     }
 
     /// One of its commands went on.
-    pub fn went_on(&mut self) {
+    pub fn went_on(&mut self)
+        ensures { self.new ≡ record self.old { settled = self.old.settled - 1 } }
+    {
         self.settled = self.settled.saturating_sub(1);
     }
 
     /// One of its commands went on, or began, by a call.
-    pub fn has_called(&mut self) {
+    pub fn has_called(&mut self)
+        ensures { self.new ≡ record self.old { settled = self.old.settled - 1; calls_out = min (self.old.calls_out + 1) usize.MAX } }
+    {
         self.went_on();
         self.calls_out = self.calls_out.saturating_add(1);
     }
 
+    // Whether few bytes are to be sent to it.
+    fn has_few(&self) -> bool
+        ensures { result ≡ nat_lt (length (bytes_of self.now.conn.unsent)) HELD_BACK }
+    {
+        self.conn.unsent.len() < HELD_BACK
+    }
+
     /// Whether what is to be sent to it is held back in this turn: where few bytes are to be sent and calls of it are out, whose replies then
-    /// mostly go out in the next turn by the same write. What was held back isn't again.
-    pub fn holds_back(&mut self) -> bool {
+    /// go out by the same write if they come in the next turn. What was held back isn't again.
+    pub fn holds_back(&mut self) -> bool
+        ensures waits { result ≡ waits_a_turn self.old }
+        ensures noted { self.new ≡ record self.old { is_held_back = result } }
+    {
         self.is_held_back = !self.is_held_back
             && !self.is_ended
-            && self.calls_out > 0
-            && self.conn.unsent.len() < HELD_BACK;
+            && 0 < self.calls_out
+            && self.has_few();
         self.is_held_back
     }
 

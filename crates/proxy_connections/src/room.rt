@@ -7,8 +7,8 @@ use std::alloc::Global;
 /// An empty buffer with more room than this isn't kept by its end, in bytes.
 pub const KEPT_ROOM: usize = 262_144;
 
-/// What a client has for its replies is for all clients while nothing is left in it, if it has more room than this, in bytes: the one that
-/// was filled last is in the processor's caches still.
+/// What a client has for its replies is for all clients while nothing is left in it, if it has more room than this, in bytes. The one that
+/// was given back last is taken first.
 pub const OWN_ROOM: usize = 32_768;
 
 /// A buffer in which nothing is left is the one for the next client, if it has more room than that has.

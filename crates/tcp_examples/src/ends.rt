@@ -25,6 +25,8 @@ pub struct Ends<'a> {
     // Where the one listened that was killed last.
     gone: Option<SocketAddr>,
     proxy: Option<ProxyEnd>,
+    // A proxy that isn't turned any more. Its connections stand.
+    ended: Option<ProxyEnd>,
     // The text of the configuration by which the proxy began.
     config: String,
     // Where a server listens whose part the example plays.
@@ -176,6 +178,7 @@ impl<'a> Ends<'a> {
             caches: Vec::new(rt.alloc()),
             gone: None,
             proxy: None,
+            ended: None,
             config: String::new(rt.alloc()),
             played: None,
             streams: Vec::new(rt.alloc()),
@@ -210,6 +213,40 @@ impl<'a> Ends<'a> {
             Some(proxy) => proxy.turn_within(self.rt, Duration::from_millis(1)),
             None => Ok(()),
         }
+    }
+
+    // Whether so many of the proxy's calls are out, and nothing is left for it to do.
+    fn is_still(&self, calls: usize) -> bool {
+        match &self.proxy {
+            Some(proxy) => proxy.is_still(calls),
+            None => false,
+        }
+    }
+
+    // The proxy is turned until it is so, or until it isn't any more.
+    fn turn_until(&mut self, calls: usize, is_still: bool) -> Result<(), Fail> {
+        for _ in 0..4_000 {
+            if self.is_still(calls) == is_still {
+                return Ok(());
+            }
+            self.turn_proxy()?;
+        }
+        Err("the proxy didn't come to it")?
+    }
+
+    // So many of the proxy's calls are out when the caches answer. The turn that settles one of them is the proxy's last: its turns end with
+    // what is held back.
+    fn end_turns(&mut self, calls: usize) -> Result<(), Fail> {
+        self.turn_until(calls, true)?;
+        for end in self.caches.as_mut_slice() {
+            turn_cache(self.rt, end, Duration::from_millis(5))?;
+        }
+        self.turn_until(calls, false)?;
+        if let Some(mut proxy) = self.proxy.take() {
+            proxy.end_turns()?;
+            self.ended = Some(proxy);
+        }
+        Ok(())
     }
 
     // How long a cache waits in a turn where nothing is ready.
@@ -498,6 +535,7 @@ impl Ends<'_> {
             "repeat" => self.send_often(at, text),
             "shut" => self.shut(at),
             "turn" => Ok(self.turn_often(at)?),
+            "end" => self.end_turns(at),
             "leave" => {
                 self.leave(at);
                 Ok(())

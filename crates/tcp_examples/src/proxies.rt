@@ -131,6 +131,16 @@ ask 0 set a 0 0 1\r\n1\r\n => STORED\r\n
 send 0 get a\r\nget b\r\nget a\r\n
 gets 0 => VALUE a 0 1\r\n1\r\nEND\r\n
 
+What is held back for a server that says nothing goes out where the proxy's turns end.
+cache
+server
+proxy <two servers>
+connect => 0
+ask 0 set a 0 0 1\r\n1\r\n => STORED\r\n
+send 0 get a\r\nget b\r\n
+end 2
+gets 0 => VALUE a 0 1\r\n1\r\nEND\r\n
+
 An answer that comes after the time limit meets no later command: its connection is closed with the call.
 server
 proxy <one server>

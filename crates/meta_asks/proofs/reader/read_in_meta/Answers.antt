@@ -1,9 +1,7 @@
-use Rattle.std.proofs.Common.{◌≡◌, false, refl, sym, ◌∙◌, subst}
+use Rattle.std.proofs.Common.{refl, sym, ◌∙◌}
 use Rattle.text_answers.specs.declared.reader.AnswerRead.TheVariants as reads
 use Rattle.meta_asks.specs.Form.{meta_form}
-use Rattle.meta_asks.specs.Usual.{IsUsual}
 use Rattle.meta_asks.proofs.Answers.{reads_answer, reads_none}
-use Rattle.meta_asks.proofs.Hits.{hit_is_read}
 use Rattle.meta_asks.proofs.reader.read_in_meta.Goals as goal
 
 pub returns-in-More-clause-reads : goal.returns-in-More-clause-reads
@@ -17,8 +15,3 @@ returns-in-Foreign-clause-reads c =
 pub returns-in-Answer-clause-reads : goal.returns-in-Answer-clause-reads
 returns-in-Answer-clause-reads c =
     reads_answer c.spelled_answers_fit.ensures c.args.ask.now (meta_form c.args.ask.now) c.args.received.now c.in_ok-read.field-0 c.in-Answer.told c.classic_of.result c.in-Answer.used c.requires (sym c.is_retrieval.ensures ∙ c.if-not-is_retrieval.false) refl c.in_ok-read.ensures.reads c.in-Answer.is c.classic_of.ensures
-
-pub returns-in-Some-clause-reads : goal.returns-in-Some-clause-reads
-returns-in-Some-clause-reads c =
-    hit_is_read c.spelled_answers_fit.ensures c.args.ask.now c.args.received.now c.in-Some.hit c.found_hit.result c.requires (sym c.is_retrieval.ensures ∙ c.if-not-is_retrieval.false)
-    (subst (λ bytes. (c.args.ask.now.with_cas ≡ false) × IsUsual c.args.ask.now.key bytes c.in-Some.hit) c.bytes.ensures c.in-Some.ensures) c.found_hit.ensures

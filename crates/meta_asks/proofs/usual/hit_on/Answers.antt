@@ -1,6 +1,6 @@
 use Rattle.std.proofs.Common.{refl, sym, arith}
 use Rattle.meta_asks.proofs.Hits.{is_usual}
-use Rattle.meta_asks.proofs.usual.usual_hit.Goals as goal
+use Rattle.meta_asks.proofs.usual.hit_on.Goals as goal
 
 pub returns : goal.returns
 returns c =
