@@ -16,3 +16,5 @@ mod meta_forms;
 mod small_answers;
 #[cfg(test)]
 mod streams;
+#[cfg(test)]
+mod usual_hits;

@@ -11,8 +11,8 @@ use std::alloc::{AllocError, Global};
 use std::test::Fail;
 use text_codec::{Read, Received, read_request};
 
-// The first ask of a client's request.
-fn first_ask(alloc: Global, bytes: &[u8]) -> Result<Option<Ask>, AllocError>
+/// The first ask of a client's request.
+pub fn first_ask(alloc: Global, bytes: &[u8]) -> Result<Option<Ask>, AllocError>
     ensures { IfOk result (λ ask. IfSome ask IsAsk) }
 {
     match read_request(bytes) {
