@@ -1,9 +1,10 @@
 //! The part of a key that is hashed, and its hash.
 
 ghost use Rattle.std.specs.Prelude.{◌≡◌, ◌<◌, true, false, IfSome, IfNone};
+ghost use Rattle.key_hash.specs.Fnv.{fnv1a};
 ghost use Rattle.key_hash.specs.Tag.{hash_part, key_hash, slot_of, has_tag, tag_of};
 
-use crate::hash::fnv1a_32;
+use crate::hash::{OFFSET_BASIS, PRIME, fnv1a_32};
 use mc_text::search::first_byte;
 use mc_types::Key;
 
@@ -37,11 +38,28 @@ pub fn hash_part(key: &Key) -> &[u8]
     part(key.as_bytes())
 }
 
+// The hash of a text without a `{`, which most keys are: they are walked over once.
+fn plain_hash(text: &[u8]) -> Option<u32>
+    ensures { IfSome result (λ hash. (has_tag text.now ≡ false) × (hash ≡ fnv1a text.now)) }
+{
+    let mut hash = OFFSET_BASIS;
+    for byte in text {
+        if *byte == b'{' {
+            return None;
+        }
+        hash = (hash ^ u32::from(*byte)).wrapping_mul(PRIME);
+    }
+    Some(hash)
+}
+
 /// The FNV-1a hash of the key's hash part. It takes no memory.
 pub fn key_hash(key: &Key) -> u32
     ensures { result ≡ key_hash key.now }
 {
-    fnv1a_32(hash_part(key))
+    match plain_hash(key.as_bytes()) {
+        Some(hash) => hash,
+        None => fnv1a_32(hash_part(key)),
+    }
 }
 
 /// Which of n servers has the key: the hash of its hash part modulo n. It takes no memory.
