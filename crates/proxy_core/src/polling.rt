@@ -429,6 +429,20 @@ impl Core {
         }
     }
 
+    // The next thing that can be done for a client whose commands can't go on. (apart, since what is read is large, and its caller would set the room for
+    // it to 0 where a command goes on, too)
+    #[inline(never)]
+    fn poll_front(&mut self, client: usize) -> Result<Poll, CoreFault>
+        requires served { ForClient self.old client IsServed }
+        requires held { NoneGoesOn self.old client }
+        ensures ok { IfOk result (λ poll. Polls self.old client poll self.new) }
+        ensures err { IfErr result (λ fault. ReadFault self.old client fault self.new) }
+    {
+        let read = self.read_front(client);
+        let next = self.next_of(client, &read);
+        self.read_on(client, &read, next)
+    }
+
     // The next thing that can be done for a client that is served.
     fn poll_served(&mut self, client: usize) -> Result<Poll, CoreFault>
         requires { ForClient self.old client IsServed }
@@ -437,11 +451,7 @@ impl Core {
     {
         match self.ready(client) {
             Some(ready) => self.act_ready(client, ready),
-            None => {
-                let read = self.read_front(client);
-                let next = self.next_of(client, &read);
-                self.read_on(client, &read, next)
-            }
+            None => self.poll_front(client),
         }
     }
 
