@@ -7,7 +7,7 @@ use mc_types::{Answer, Ask, Body, Code, Fields, Op, SpareBodies};
 use send_buffer::SendBuffer;
 use std::alloc::{AllocError, Global};
 use std::test::Fail;
-use text_answers::{AnswerRead, Received, large_len, read_received};
+use text_answers::{AnswerRead, CUT_FROM, Received, SHARED_FROM, large_len, read_received};
 use text_codec::{send_part, write_part};
 
 // An answer of this head and this end, with 100,000 bytes of data, in a buffer that may be shared.
@@ -48,11 +48,16 @@ fn is_alike(alloc: Global, ask: &Ask, head: &[u8], end: &[u8]) -> Result<bool, A
     let bytes = answer_text(alloc, head, end)?;
     for len in 0..head.len() {
         let cut = bytes.slice(0..len.min(bytes.len()))?;
-        if large_len(cut.as_slice()).is_some() || !is_read(alloc, ask, &cut, b"more")? {
+        if large_len(SHARED_FROM, cut.as_slice()).is_some()
+            || !is_read(alloc, ask, &cut, b"more")?
+        {
             return Ok(false);
         }
     }
-    Ok(large_len(head) == Some(bytes.len()) && is_read(alloc, ask, &bytes, bytes.as_slice())?)
+    Ok(
+        large_len(SHARED_FROM, head) == Some(bytes.len())
+            && is_read(alloc, ask, &bytes, bytes.as_slice())?,
+    )
 }
 
 #[test]
@@ -74,10 +79,55 @@ fn small_answers_have_no_large_len(rt: HostRuntime) -> Result<(), Fail> {
         b"HD\r\n".as_slice(),
         b"STORED\r\n".as_slice(),
     ] {
-        assert_eq!(rt; large_len(line), None);
+        assert_eq!(rt; large_len(SHARED_FROM, line), None);
     }
-    assert_eq!(rt; large_len(b"VALUE k 5 65536\r\n"), Some(65_560));
-    assert_eq!(rt; large_len(b"VA 1048576 f5\r\n"), Some(1_048_593));
+    assert_eq!(rt;
+        large_len(SHARED_FROM, b"VALUE k 5 65536\r\n"),
+        Some(65_560)
+    );
+    assert_eq!(rt;
+        large_len(SHARED_FROM, b"VA 1048576 f5\r\n"),
+        Some(1_048_593)
+    );
+    assert_eq!(rt; large_len(CUT_FROM, b"VA 2047 f5\r\n"), None);
+    assert_eq!(rt; large_len(CUT_FROM, b"VA 2048 f5\r\n"), Some(2_062));
+    Ok(())
+}
+
+// So many bytes of this kind in a buffer that may be shared.
+fn shared_bytes(alloc: Global, len: usize, byte: u8) -> Result<Bytes, AllocError> {
+    let mut out = BytesMut::new(alloc);
+    out.resize(len, byte)?;
+    out.freeze_to(out.len())
+}
+
+// The data of an answer that came so, which share its buffer where they are long.
+fn data_of(alloc: Global, spares: &mut SpareBodies, bytes: &Bytes) -> Result<Body, AllocError> {
+    Received::shared(bytes).data(alloc, spares, bytes.len())
+}
+
+// Whether data of so many bytes stay as they are while others are read in the memory of earlier ones.
+fn do_last(alloc: Global, spares: &mut SpareBodies, len: usize) -> Result<bool, AllocError> {
+    let kept = shared_bytes(alloc, len, b'k')?;
+    let kept_data = data_of(alloc, spares, &kept)?;
+    for byte in [b'a', b'b', b'c'] {
+        let bytes = shared_bytes(alloc, len, byte)?;
+        let data = data_of(alloc, spares, &bytes)?;
+        spares.let_go();
+        if data.as_slice() != bytes.as_slice() || kept_data.as_slice() != kept.as_slice() {
+            return Ok(false);
+        }
+    }
+    Ok(true)
+}
+
+#[test]
+fn data_last_while_the_memory_of_others_is_used_again(rt: HostRuntime) -> Result<(), Fail> {
+    let alloc = rt.alloc();
+    let mut spares = SpareBodies::new(alloc);
+    for len in [0, 1, 2_047, 2_048, 5_000, 65_535, 65_536] {
+        assert!(rt; do_last(alloc, &mut spares, len)?);
+    }
     Ok(())
 }
 

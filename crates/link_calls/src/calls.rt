@@ -283,7 +283,7 @@ impl LinkCalls {
     /// asked: nothing else is, and the core goes on by that alone. Without one nothing has changed.
     ///
     /// Of the gets that were asked in the meta dialect the first takes memory for its form, and the first `gets` does, where their answers
-    /// aren't hits that are spelled as servers mostly do; later ones are read by the form that is kept. Small data are copied into the memory of an earlier answer's, where nobody else holds those any more.
+    /// aren't hits that are spelled as servers mostly do; later ones are read by the form that is kept. Data are copied, or share the buffer that they came in, as [`Received::data`] says.
     ///
     /// Source: mcgate's own.
     pub fn settle_next(&mut self, core: &mut AnyCore, received: &Received) -> Next
@@ -310,6 +310,13 @@ impl LinkCalls {
                 }
             }
         }
+    }
+
+    /// Buffers in which answers came whose data nobody has any more are let go, so that their room can be used again.
+    pub fn let_go(&mut self)
+        ensures { self.new.sent ≡ self.old.sent }
+    {
+        self.spares.let_go();
     }
 
     /// The first of the calls that are out has failed, if one is: whose it was.

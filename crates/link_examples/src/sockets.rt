@@ -31,6 +31,22 @@ wake
 read => nothing
 readable => no
 
+What was cut from what is held is held again, and what comes goes after it.
+getabcdef in turns 4 3 3
+read => bytes
+again 2
+held => ta
+wake
+read => bytes
+held => tabcd
+again 1
+held => abcd
+again 9
+held => nothing
+wake
+read => bytes
+held => ef
+
 The end is read behind the last bytes.
 q in turns 9 9 reset
 closing
@@ -193,6 +209,14 @@ impl End<'_> {
             .push_data(&body, self.conn.unsent.new_text())
     }
 
+    // All that is held is cut off, and held again without so many of its first bytes.
+    fn hold_again(&mut self, count: usize) -> Result<(), AllocError> {
+        let held = &mut self.conn.held;
+        let cut = held.freeze_to(held.len())?;
+        let rest = cut.as_slice().get(count..).unwrap_or(b"".as_slice());
+        self.conn.hold_again(rest, 4)
+    }
+
     // Events that give nothing.
     fn set(&mut self, verb: &str, text: &str) -> Result<&'static str, Fail> {
         match verb {
@@ -202,6 +226,7 @@ impl End<'_> {
                 .conn
                 .held
                 .advance(text.parse::<usize>()?.min(self.conn.held.len())),
+            "again" => self.hold_again(text.parse::<usize>()?)?,
             "write" => self
                 .conn
                 .unsent

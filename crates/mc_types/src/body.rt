@@ -118,6 +118,30 @@ impl Body {
         Ok(())
     }
 
+    // It becomes these bytes, which are shared with the buffer that they came in, and keeps the memory for the count of sharers where nobody else
+    // holds that. The only error is running out of memory.
+    pub(crate) fn set_cut(&mut self, alloc: Global, bytes: Bytes) -> Result<(), AllocError>
+        ensures { OnOk result (self.new ≡ bytes) }
+    {
+        if let Some(held) = &mut self.held {
+            if let Some(held) = Rc::get_mut(held) {
+                *held = Held::Cut(bytes);
+                return Ok(());
+            }
+        }
+        *self = Body::cut(alloc, bytes)?;
+        Ok(())
+    }
+
+    // Where nobody else holds it, it becomes empty and keeps the memory of its count. A buffer that it shared is let go.
+    pub(crate) fn let_go(&mut self) {
+        if let Some(held) = &mut self.held {
+            if let Some(held) = Rc::get_mut(held) {
+                *held = Held::Cut(Bytes::new());
+            }
+        }
+    }
+
     /// The bytes.
     pub fn as_slice(&self) -> &[u8]
         ensures { result.now ≡ self.now }

@@ -1,18 +1,24 @@
 //! The outcomes of a link's calls, for the core and the clients: answers settle them, or they fail.
 
-ghost use Rattle.std.specs.Prelude.{◌≡◌, ◌≤◌, ◌++◌, [], None, OnOk, OnErr, IfSome, length};
+ghost use Rattle.std.specs.Prelude.{◌≡◌, ◌++◌, [], None, OnOk};
 ghost use Rattle.proxy_connections.specs.CoreSteps.{GoesOn, Fails};
 ghost use Rattle.proxy_connections.specs.Links.{AllFail, IsDown};
 
 use crate::clients::Clients;
 use crate::link::Link;
 use crate::sockets::use_held;
-use bytes::{Bytes, BytesMut};
+use bytes::Bytes;
 use link_calls::{AnyCore, LinkCalls, Next, fail_call};
 use mio::net::TcpStream;
 use std::alloc::AllocError;
 use tcp_socket::Conn;
-use text_codec::{Received, SHARED_FROM, large_len};
+use text_codec::{CUT_FROM, Received, SHARED_FROM, large_len};
+
+// Where so many bytes or more are held, long data share them.
+const MUCH_HELD: usize = 16_384;
+
+// For so many bytes there is room after what is held again: as many as the longest read of answers that aren't large has.
+const ROOM_AFTER: usize = 131_072;
 
 // The calls that are out on a link have failed.
 fn fail_sent(
@@ -84,13 +90,26 @@ pub struct HeldAnswers {
     pub awaited: Option<usize>,
 }
 
-// What the answers that were settled by copies of their data end with.
+// At which answers settling stops before their end.
+#[derive(Clone, Copy, PartialEq, Eq)]
+enum Stops {
+    // At none: what is held is shared.
+    Never,
+    // At those with long data.
+    AtLong,
+    // At those with large data.
+    AtLarge,
+}
+
+// What the answers that were settled end with.
 #[derive(Clone, Copy)]
 enum Stop {
     // What is left may be the begin of the next one.
     More,
     // No answer to the next call begins so.
     Foreign,
+    // The next one has long data, and is there: they are to be shared, and so are those of the ones after it.
+    Long,
     // The next one has large data, and is there: it takes so many bytes, if it is spelled as usual.
     Large(usize),
 }
@@ -106,43 +125,39 @@ enum Front {
     Foreign,
 }
 
-// Whether the answer in front may have large data, by its first bytes: after `VA` a length of five digits follows at once. Among many small
-// answers no further word of them is read for that.
-fn may_be_large(held: &[u8]) -> bool {
+// Whether the answer in front may have long data, by its first bytes: after `VA` a length of four digits follows at once. Among many small answers no
+// further word of them is read for that. A classic one tells its length later, and is looked at only where much is held.
+fn may_be_long(held: &[u8]) -> bool {
     match held {
-        [b'V', b'A', b' ', _, _, _, _, digit, ..] => digit.is_ascii_digit(),
-        _ => held.starts_with(b"VALUE "),
+        [b'V', b'A', b' ', _, _, _, digit, ..] => digit.is_ascii_digit(),
+        _ => held.len() >= SHARED_FROM && held.starts_with(b"VALUE "),
     }
 }
 
-// How many bytes the answer in front takes, where it has large data and so many are there.
-fn large_front(held: &[u8]) -> Option<usize>
-    ensures { IfSome result (λ len. len ≤ length held.now) }
-{
-    if held.len() < SHARED_FROM || !may_be_large(held) {
+// How many bytes the answer in front takes, where it has so many bytes of data or more and is there.
+fn whole_front(from: usize, held: &[u8]) -> Option<usize> {
+    if held.len() < from || !may_be_long(held) {
         return None;
     }
-    let len = large_len(held)?;
+    let len = large_len(from, held)?;
     if held.len() < len {
         return None;
     }
     Some(len)
 }
 
-// These bytes are held again, before what is held. The only error is running out of memory; then what is held is as it was.
-fn put_back(front: &[u8], held: &mut BytesMut) -> Result<(), AllocError>
-    ensures ok { OnOk result (held.new.items ≡ front.now ++ held.old.items) }
-    ensures err { OnErr result (held.new.items ≡ held.old.items) }
-{
-    if front.is_empty() {
-        return Ok(());
+// What stands in front, if that is an answer to stop at.
+fn front_stop(stops: Stops, held: &[u8]) -> Option<Stop> {
+    let from = match stops {
+        Stops::Never => return None,
+        Stops::AtLong => CUT_FROM,
+        Stops::AtLarge => SHARED_FROM,
+    };
+    match whole_front(from, held) {
+        None => None,
+        Some(len) if len > SHARED_FROM => Some(Stop::Large(len)),
+        Some(_) => Some(Stop::Long),
     }
-    let mut whole = BytesMut::new(*held.allocator());
-    whole.reserve(front.len().saturating_add(held.len()))?;
-    whole.extend_from_slice(front)?;
-    whole.extend_from_slice(held.as_slice())?;
-    *held = whole;
-    Ok(())
 }
 
 // The first call is settled by its answer, if these bytes begin with it.
@@ -152,26 +167,36 @@ fn settle_first(calls: &mut LinkCalls, core: &mut AnyCore, received: &Received) 
     calls.settle_next(core, received)
 }
 
-// Whole answers in these bytes are settled by copies of their data, up to one with large data: how many bytes they are, and what follows.
-fn settle_small(
+// The first call is settled by its answer, if what stands from this place on begins with it. (apart, so that what is made for it is gone by the end)
+fn settle_at(calls: &mut LinkCalls, core: &mut AnyCore, received: &Received, at: usize) -> Next
+    ensures core { GoesOn core.old core.new }
+{
+    let at = at.min(received.bytes().len());
+    settle_first(calls, core, &received.after(at))
+}
+
+// Whole answers in these bytes are settled, up to one to stop at: how many bytes they are, and what follows.
+fn settle_in(
     calls: &mut LinkCalls,
     core: &mut AnyCore,
     clients: &mut Clients,
     is_freed: &mut bool,
-    held: &[u8],
+    received: &Received,
+    stops: Stops,
 ) -> Result<(usize, Stop), AllocError>
     ensures core { GoesOn core.old core.new }
 {
+    let held = received.bytes();
     let mut used = 0usize;
     for _ in 0..held.len() {
         let rest = held.get(used..).unwrap_or(b"".as_slice());
         if rest.is_empty() {
             return Ok((used, Stop::More));
         }
-        if let Some(len) = large_front(rest) {
-            return Ok((used, Stop::Large(len)));
+        if let Some(stop) = front_stop(stops, rest) {
+            return Ok((used, stop));
         }
-        match settle_first(calls, core, &Received::copied(rest)) {
+        match settle_at(calls, core, received, used) {
             Next::Settled { client, used: len } => {
                 used = used.saturating_add(len);
                 *is_freed = true;
@@ -182,6 +207,47 @@ fn settle_small(
         }
     }
     Ok((used, Stop::More))
+}
+
+// The same in bytes that aren't shared.
+fn settle_here(
+    calls: &mut LinkCalls,
+    core: &mut AnyCore,
+    clients: &mut Clients,
+    is_freed: &mut bool,
+    held: &[u8],
+    stops: Stops,
+) -> Result<(usize, Stop), AllocError>
+    ensures core { GoesOn core.old core.new }
+{
+    settle_in(
+        calls,
+        core,
+        clients,
+        is_freed,
+        &Received::copied(held),
+        stops,
+    )
+}
+
+// All whole answers in bytes that are shared are settled.
+fn settle_cut(
+    calls: &mut LinkCalls,
+    core: &mut AnyCore,
+    clients: &mut Clients,
+    is_freed: &mut bool,
+    front: &Bytes,
+) -> Result<(usize, Stop), AllocError>
+    ensures core { GoesOn core.old core.new }
+{
+    settle_in(
+        calls,
+        core,
+        clients,
+        is_freed,
+        &Received::shared(front),
+        Stops::Never,
+    )
 }
 
 // The answer in front is settled by a copy of its data.
@@ -206,22 +272,56 @@ fn settle_copied(
     }
 }
 
+// What these bytes have besides so many is held again. Whether memory was there for that.
+fn hold_rest(conn: &mut Conn<TcpStream>, front: &Bytes, used: usize) -> bool {
+    let rest = front.as_slice().get(used..).unwrap_or(b"".as_slice());
+    conn.hold_again(rest, ROOM_AFTER).is_ok()
+}
+
+// What was done with the answer after those that were settled from a part that was cut off, of which the rest is held again or not.
+fn front_after(stop: Stop, is_kept: bool) -> Front {
+    match stop {
+        Stop::More if is_kept => Front::More,
+        _ => Front::Foreign,
+    }
+}
+
+// Whole answers are settled, and long data of them share the buffer that they came in: whether one was, and what was done with the last.
+fn settle_long(
+    calls: &mut LinkCalls,
+    core: &mut AnyCore,
+    clients: &mut Clients,
+    is_freed: &mut bool,
+    conn: &mut Conn<TcpStream>,
+) -> Result<(bool, Front), AllocError>
+    ensures core { GoesOn core.old core.new }
+{
+    let Ok(front) = conn.held.freeze_to(conn.held.len()) else {
+        let front = settle_copied(calls, core, clients, is_freed, conn)?;
+        return Ok((false, front));
+    };
+    let (used, stop) = settle_cut(calls, core, clients, is_freed, &front)?;
+    let is_kept = hold_rest(conn, &front, used);
+    Ok((used > 0, front_after(stop, is_kept)))
+}
+
 // The first call is settled by its answer, if these bytes begin with it, and what they have besides is held again: what was done, and
 // whether memory was there for that.
 fn settle_shared(
     calls: &mut LinkCalls,
     core: &mut AnyCore,
     front: &Bytes,
-    held: &mut BytesMut,
+    conn: &mut Conn<TcpStream>,
 ) -> (Next, bool)
     ensures core { GoesOn core.old core.new }
 {
     let next = settle_first(calls, core, &Received::shared(front));
-    let left = match next {
-        Next::Settled { client: _, used } => front.as_slice().get(used..).unwrap_or(b"".as_slice()),
-        _ => front.as_slice(),
+    let used = match next {
+        Next::Settled { client: _, used } => used,
+        _ => 0,
     };
-    (next, put_back(left, held).is_ok())
+    let is_kept = used == front.len() || hold_rest(conn, front, used);
+    (next, is_kept)
 }
 
 // The answer in front, which takes so many bytes if it is spelled as usual, is settled, and its data share the buffer that they came in.
@@ -240,7 +340,7 @@ fn settle_large(
     let Ok(front) = conn.held.freeze_to(len) else {
         return settle_copied(calls, core, clients, is_freed, conn);
     };
-    match settle_shared(calls, core, &front, &mut conn.held) {
+    match settle_shared(calls, core, &front, conn) {
         (Next::Settled { client, used: _ }, is_kept) => {
             *is_freed = true;
             clients.mark_settled(client)?;
@@ -255,37 +355,72 @@ fn settle_large(
     }
 }
 
-// Whole answers are settled, up to one with large data, and that one: whether others than that one were, and what was done with the
-// last.
+// What settling stopped at is settled, if it is there: whether others than the last were, and what was done with that.
+fn settle_stop(
+    calls: &mut LinkCalls,
+    core: &mut AnyCore,
+    clients: &mut Clients,
+    is_freed: &mut bool,
+    conn: &mut Conn<TcpStream>,
+    stop: Stop,
+) -> Result<(bool, Front), AllocError>
+    ensures core { GoesOn core.old core.new }
+{
+    match stop {
+        Stop::More => Ok((false, Front::More)),
+        Stop::Foreign => Ok((false, Front::Foreign)),
+        Stop::Long => settle_long(calls, core, clients, is_freed, conn),
+        Stop::Large(len) => match settle_large(calls, core, clients, is_freed, conn, len) {
+            Ok(front) => Ok((false, front)),
+            Err(refused) => Err(refused),
+        },
+    }
+}
+
+// Whole answers are settled, up to one to stop at, and that one: whether others than the last were, and what was done with that.
 fn settle_some(
     calls: &mut LinkCalls,
     core: &mut AnyCore,
     clients: &mut Clients,
     is_freed: &mut bool,
     conn: &mut Conn<TcpStream>,
+    stops: Stops,
 ) -> Result<(bool, Front), AllocError>
     ensures core { GoesOn core.old core.new }
 {
-    let (used, stop) = settle_small(calls, core, clients, is_freed, conn.held.as_slice())?;
+    let (used, stop) = settle_here(calls, core, clients, is_freed, conn.held.as_slice(), stops)?;
     use_held(conn, used);
-    let front = match stop {
-        Stop::More => Front::More,
-        Stop::Foreign => Front::Foreign,
-        Stop::Large(len) => settle_large(calls, core, clients, is_freed, conn, len)?,
-    };
-    Ok((used > 0, front))
+    let (others, front) = settle_stop(calls, core, clients, is_freed, conn, stop)?;
+    Ok((used > 0 || others, front))
+}
+
+// At which answers settling stops: sharing long data is worth its cost where much is held, and what was cut off before must be gone.
+fn stops_for(calls: &mut LinkCalls, conn: &mut Conn<TcpStream>) -> Stops
+    ensures calls { calls.new.sent ≡ calls.old.sent }
+    ensures held { conn.new.held ≡ conn.old.held }
+{
+    if conn.held.len() < MUCH_HELD {
+        return Stops::AtLarge;
+    }
+    calls.let_go();
+    if conn.may_cut() {
+        Stops::AtLong
+    } else {
+        Stops::AtLarge
+    }
 }
 
 fn told(has_settled: bool, is_kept: bool, held: &[u8]) -> HeldAnswers {
     HeldAnswers {
         has_settled,
         is_kept,
-        awaited: large_len(held),
+        awaited: large_len(SHARED_FROM, held),
     }
 }
 
-/// All whole answers that the link's connection holds are settled, and are held no more. The data of large ones share the buffer that
-/// they came in; those of all others are copied.
+/// All whole answers that the link's connection holds are settled, and are held no more. Large data, of [`SHARED_FROM`] bytes or more, share the buffer
+/// that they came in. So do long ones, of [`CUT_FROM`] bytes or more, where 16,384 bytes or more are held and none that shared another buffer before is
+/// in use. All others are copied.
 pub fn settle_held(
     calls: &mut LinkCalls,
     core: &mut AnyCore,
@@ -295,9 +430,10 @@ pub fn settle_held(
 ) -> Result<HeldAnswers, AllocError>
     ensures core { GoesOn core.old core.new }
 {
+    let stops = stops_for(calls, conn);
     let mut has_settled = false;
     for _ in 0..conn.held.len() {
-        let (others, front) = settle_some(calls, core, clients, is_freed, conn)?;
+        let (others, front) = settle_some(calls, core, clients, is_freed, conn, stops)?;
         match front {
             Front::Settled => has_settled = true,
             Front::More => return Ok(told(has_settled || others, true, conn.held.as_slice())),

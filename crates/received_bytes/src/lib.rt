@@ -5,4 +5,4 @@ pub mod buffer;
 pub mod received;
 
 pub use buffer::ReceiveBuffer;
-pub use received::{Received, SHARED_FROM};
+pub use received::{CUT_FROM, Received, SHARED_FROM};

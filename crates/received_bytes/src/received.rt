@@ -13,6 +13,10 @@ use std::marker::Model;
 /// Shorter data are copied sooner than shared, and would keep all of the buffer that they came in for as long as they last.
 pub const SHARED_FROM: usize = 65_536;
 
+/// From so many bytes on, data of an answer are shared with the buffer that they came in, where that is shared: so short ones mostly last no longer
+/// than until their reply is written, into which they are copied.
+pub const CUT_FROM: usize = 2_048;
+
 // Where the bytes are.
 #[derive(Drop)]
 enum Source<'a> {
@@ -49,13 +53,21 @@ fn place_after(bytes: &Bytes, at: usize, count: usize) -> usize
     at + count
 }
 
-// So many bytes from this place on, as data that share them.
+// So many bytes from this place on, which share the buffer.
+fn part_at(bytes: &Bytes, at: usize, len: usize) -> Result<Bytes, AllocError>
+    requires { (0 < len) × (len ≤ length (drop at bytes.now)) }
+    ensures { IfOk result (λ part. part ≡ take len (drop at bytes.now)) }
+{
+    let end = place_after(bytes, at, len);
+    bytes.slice(at..end)
+}
+
+// The same as data.
 fn cut_at(alloc: Global, bytes: &Bytes, at: usize, len: usize) -> Result<Body, AllocError>
     requires { (0 < len) × (len ≤ length (drop at bytes.now)) }
     ensures { IfOk result (λ body. body ≡ take len (drop at bytes.now)) }
 {
-    let end = place_after(bytes, at, len);
-    Body::cut(alloc, bytes.slice(at..end)?)
+    Body::cut(alloc, part_at(bytes, at, len)?)
 }
 
 impl<'a> Model for Received<'a> {
@@ -77,7 +89,7 @@ impl<'a> Received<'a> {
         }
     }
 
-    /// These bytes, whose data are shared where they are [`SHARED_FROM`] bytes or more.
+    /// These bytes, whose data are shared where they are large: [`SHARED_FROM`] bytes where they are lent, [`CUT_FROM`] where they are kept.
     pub fn shared(bytes: &'a Bytes) -> Received<'a>
         ensures { result ≡ bytes.now }
     {
@@ -116,8 +128,8 @@ impl<'a> Received<'a> {
         Received { source }
     }
 
-    /// The first so many of them, as data: a part of the shared buffer where they are [`SHARED_FROM`] or more, else a copy, in the memory of a spare
-    /// body where one is free. The only error is running out of memory.
+    /// The first so many of them, as data: a part of the shared buffer where they are [`CUT_FROM`] or more, else a copy. Both are made in the memory of
+    /// a spare body where one is free, but for parts of [`SHARED_FROM`] bytes or more, of which none is spare. The only error is running out of memory.
     pub fn data(
         &self,
         alloc: Global,
@@ -129,6 +141,9 @@ impl<'a> Received<'a> {
     {
         match &self.source {
             Source::Shared(bytes, at) if len >= SHARED_FROM => cut_at(alloc, bytes, *at, len),
+            Source::Shared(bytes, at) if len >= CUT_FROM => {
+                spares.cut_of(alloc, part_at(bytes, *at, len)?)
+            }
             _ => spares.copy_of(alloc, &self.bytes()[..len]),
         }
     }

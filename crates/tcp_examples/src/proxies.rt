@@ -92,6 +92,23 @@ connect => 0
 ask 0 set a 0 0 1\r\n7\r\n => STORED\r\n
 crowd 300 get a\r\nget b\r\nmn\r\n => VALUE a 0 1\r\n7\r\nEND\r\nEND\r\nMN\r\n
 
+Long data among short ones, more than one read takes.
+cache
+proxy <one server>
+connect => 0
+connect => 1
+send 0 set k 0 0 5000\r\n
+repeat 0 5000 x
+send 0 \r\nset s 0 0 2\r\nhi\r\nget n\r\n
+gets 0 => STORED\r\nSTORED\r\nEND\r\n
+repeat 0 200 get s\r\nget k\r\n
+repeat 1 100 get s k k\r\n
+-- 200 * (13 + 2 + 7 + 16 + 5,000 + 7)
+count 0 1009000 => 1009000 bytes, at the end xxx\r\nEND\r\n
+-- 100 * (13 + 2 + 2 + 2 * (16 + 5,000 + 2) + 5)
+count 1 1005800 => 1005800 bytes, at the end xxx\r\nEND\r\n
+ask 0 get s\r\n => VALUE s 0 2\r\nhi\r\nEND\r\n
+
 A client reads late: 20 MB of answers are more than the system takes for it. They wait for it, and no one waits for them.
 cache
 proxy <one server>

@@ -414,6 +414,7 @@ impl ProxyEnd {
         let mut has_room = false;
         for at in 0..self.links.len() {
             if let Some(link) = self.links.get_mut(at) {
+                link.calls.let_go();
                 if let Some(conn) = link.conn.as_mut() {
                     conn.give_back(self.alloc, KEPT_ROOM);
                     has_room = has_room || conn.has_room_above(KEPT_ROOM);

@@ -1,7 +1,7 @@
 //! The stream of an end, what is held of it and what is to be sent: a read goes after what is held, a write takes from the front of what is
 //! to be sent.
 
-ghost use Rattle.std.specs.Prelude.{◌≡◌, false, ◌↔◌, ◌<◌, ◌≤◌, ◌⊎◌, [], length, drop, None, IsTrue, IfOk, OnOk, OnErr};
+ghost use Rattle.std.specs.Prelude.{◌≡◌, false, ◌↔◌, ◌<◌, ◌≤◌, ◌⊎◌, ◌++◌, [], length, drop, None, IsTrue, IfOk, OnOk, OnErr};
 ghost use Rattle.send_buffer.specs.Sending.{bytes_of};
 ghost use Rattle.tcp_socket.specs.Ends.{Reads, Sends};
 
@@ -62,6 +62,8 @@ pub struct Conn<S: Drop> {
     pub held: BytesMut,
     // Where what is held goes when it has to move. What stands in it is of no account.
     other: BytesMut,
+    // Whether what was cut from the other buffer may still share it.
+    is_cut: bool,
     /// What is to be sent.
     pub unsent: SendBuffer,
     pub limits: Limits,
@@ -125,6 +127,7 @@ impl<S: Read + Write + Drop> Conn<S> {
             stream,
             held: BytesMut::new(alloc),
             other: BytesMut::new(alloc),
+            is_cut: false,
             unsent: SendBuffer::new(alloc),
             limits,
             readable: true,
@@ -140,16 +143,29 @@ impl<S: Read + Write + Drop> Conn<S> {
         self.unsent.len() >= self.limits.unsent
     }
 
-    // Makes room for so many bytes after what is held. Where much has to move for that, it is copied at once into the other buffer, in
+    /// Whether the room of the other buffer is free: what was cut from it before ([`Conn::hold_again`]) is gone. While it isn't, nothing more is to be cut,
+    /// so that what is cut and waits keeps one buffer at most, however little it is.
+    pub fn may_cut(&mut self) -> bool
+        ensures rest { self.new ≡ record self.old { other = self.new.other; is_cut = self.new.is_cut } }
+    {
+        if self.is_cut {
+            // More than there is behind what was cut, so that it is the whole buffer that comes back.
+            let more = self.other.capacity().saturating_add(1);
+            self.is_cut = !self.other.try_reclaim(more);
+        }
+        !self.is_cut
+    }
+
+    // Makes room for so many bytes after what is held. Where much has to move for that, it is copied at once into the other buffer, if that is free, in
     // place of the moving byte by byte that `reserve` does, and no room is taken anew while both are large enough.
     fn make_room(&mut self, room: usize) -> Result<(), AllocError>
         ensures held { self.new.held.items ≡ self.old.held.items }
         ensures room { OnOk result (room ≤ self.new.held.spare) }
         ensures err { OnErr result (self.new.held.items ≡ self.old.held.items) }
-        ensures rest { self.new ≡ record self.old { held = self.new.held; other = self.new.other } }
+        ensures rest { self.new ≡ record self.old { held = self.new.held; other = self.new.other; is_cut = self.new.is_cut } }
     {
         let len = self.held.len();
-        if len < MOVED_FROM || room <= self.held.capacity() - len {
+        if len < MOVED_FROM || room <= self.held.capacity() - len || !self.may_cut() {
             return self.held.reserve(room);
         }
         self.other.clear();
@@ -248,15 +264,38 @@ impl<S: Read + Write + Drop> Conn<S> {
         take_front(&mut self.held, count);
     }
 
+    /// These bytes, which were cut off from what was held, are held again in front of it, with room for so many bytes after them. They are copied into
+    /// the other buffer, so that what else was cut off may share this one: its room is used again once that is gone.
+    ///
+    /// The only error is running out of memory; then what is held is as it was.
+    ///
+    /// Source: mcgate's own.
+    pub fn hold_again(&mut self, front: &[u8], room: usize) -> Result<(), AllocError>
+        ensures held { OnOk result (self.new.held.items ≡ front.now ++ self.old.held.items) }
+        ensures err { OnErr result (self.new.held.items ≡ self.old.held.items) }
+        ensures rest { self.new ≡ record self.old { held = self.new.held; other = self.new.other; is_cut = self.new.is_cut } }
+    {
+        let len = front.len().saturating_add(self.held.len());
+        self.other.clear();
+        self.other.reserve(len.saturating_add(room))?;
+        self.other.extend_from_slice(front)?;
+        self.other.extend_from_slice(self.held.as_slice())?;
+        mem::swap(&mut self.held, &mut self.other);
+        self.is_cut = true;
+        Ok(())
+    }
+
     /// Buffers in which nothing stands give their room back, where it is more than so many bytes.
     pub fn give_back(&mut self, alloc: Global, kept: usize)
         ensures held { self.new.held.items ≡ self.old.held.items }
         ensures unsent { bytes_of self.new.unsent ≡ bytes_of self.old.unsent }
-        ensures rest { self.new ≡ record self.old { held = self.new.held; other = self.new.other; unsent = self.new.unsent } }
+        ensures rest { self.new ≡ record self.old { held = self.new.held; other = self.new.other; is_cut = self.new.is_cut; unsent = self.new.unsent } }
     {
-        self.other.clear();
         give_back(alloc, kept, &mut self.held);
-        give_back(alloc, kept, &mut self.other);
+        if self.may_cut() {
+            self.other.clear();
+            give_back(alloc, kept, &mut self.other);
+        }
         self.unsent.give_back(kept);
     }
 

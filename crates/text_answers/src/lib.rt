@@ -11,5 +11,5 @@ pub mod writer;
 
 pub use large::{ANSWER_LIMIT, large_len};
 pub use reader::{AnswerRead, read_answer, read_received};
-pub use received_bytes::{Received, SHARED_FROM};
+pub use received_bytes::{CUT_FROM, Received, SHARED_FROM};
 pub use writer::{data_of, write_answer, write_data_line, write_end, write_value};

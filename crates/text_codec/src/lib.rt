@@ -15,7 +15,7 @@ pub mod stream;
 
 pub use client_requests::{Asks, Read, Request, read_request, write_ask};
 pub use mc_text::{Line, line};
-pub use received_bytes::{Received, SHARED_FROM};
+pub use received_bytes::{CUT_FROM, Received, SHARED_FROM};
 pub use replies::{ends_message, write_long_line, write_own, write_part, write_refusal};
 pub use request_parts::{ProxyCommand, RefusalReason, Skip};
 pub use sending::send_part;
