@@ -43,7 +43,8 @@ fn waits_on(key: &Key, queue: &VecDeque<Pending>) -> bool
     ensures { result ≡ has_own key.now queue.now.items }
 {
     let sought = MarkedKey::new(key);
-    queue.iter().any(|pending| pending.reply.is_none() && pending.ask.is_on(&sought))
+    // (mostly the mark tells, so it is looked at first)
+    queue.iter().any(|pending| pending.ask.is_on(&sought) && pending.reply.is_none())
 }
 
 impl Client {

@@ -46,6 +46,10 @@ is_full client window commands number a turns.Ends idle t e = absurd cc
 is_full client window commands number a turns.Full idle t e = t
 is_full client window commands number a turns.Rests idle t e = absurd (let out = t a idle.was idle.own in let none = idle.idle in cc)
 
+-- one of which a call is out doesn't wait for its server
+pub called_not_full : {S : Type 0} (client window : ℕ) (commands : map.IndexMap ℕ Command S) (number : ℕ) → IsTurn client window commands number turns.Rests → IsTurn client window commands number turns.Full → ⊥
+called_not_full client window commands number rests (a, idle, calling, at) = let out = rests a idle.was idle.own in let none = idle.idle in absurd cc
+
 -- a command's place in the log's queue is one in the client's
 placed_in : (ps : List Pending) (slots : List (Slot dialect)) (n : ℕ) (slot : Slot dialect) → AreSlots ps slots → slot_in slots n ≡ Some slot → (p : Pending) × (pending_in n ps ≡ Some p) × IsSlot p slot
 placed_in [] [] n slot h is = no_slot is

@@ -34,7 +34,7 @@ use Rattle.core_client.specs.Clients.{has_own}
 use Rattle.commands_under_way.specs.Lines.{is_behind, others, joined}
 use Rattle.core_client.specs.Heads.{HasNoReply}
 use Rattle.commands_under_way.specs.Ready.{IsIdle, IsTurn}
-use Rattle.proxy_core.specs.Resting.{AreHeldUp}
+use Rattle.proxy_core.specs.Resting.{AreHeldUp, AreNotFull}
 use Rattle.core_client.specs.Nexts.{CanAskBelow, HasCommand, IsLater}
 
 -- this holds of the client, which is there
@@ -213,6 +213,10 @@ HasNoRoom core client = (number : ℕ) × IsTurn client core.limits.window core.
 abbrev pub NoneGoesOn : Core → ℕ → Type 0
 NoneGoesOn core client = ForClient core client IsServed × ForClient core client (λ x. AreHeldUp client core.limits.window core.commands x.queue.items)
 
+-- none of the client's commands waits for its server
+abbrev pub NoneWaits : Core → ℕ → Type 0
+NoneWaits core client = ForClient core client (λ x. AreNotFull client core.limits.window core.commands x.queue.items)
+
 -- nothing at its front can be done
 abbrev pub NothingBegins : Core → ℕ → Type 0
 NothingBegins core client = ForClient core client (IsLater core.limits.depth)
@@ -239,7 +243,7 @@ IsWhy old client polls.Idle new = (new ≡ old) × ForClient old client IsDone
 IsWhy old client polls.Own new = Unit {0}
 IsWhy old client polls.Refused new = Unit {0}
 IsWhy old client (polls.Call ticket) new = IsTicketOf new ticket
-IsWhy old client polls.Waiting new = (new ≡ old) × NoneGoesOn old client × NothingBegins old client
+IsWhy old client polls.Waiting new = (new ≡ old) × NoneGoesOn old client × NothingBegins old client × NoneWaits old client
 IsWhy old client polls.Queued new = NoneGoesOn new client × IsQueued old client new
 IsWhy old client polls.Busy new = (new ≡ old) × NoneGoesOn old client × IsBusy old client
 IsWhy old client (polls.Did note) new = IsShown new client

@@ -20,3 +20,8 @@ IsHeldUp client window commands number = IsTurn client window commands number tu
 abbrev pub AreHeldUp : ℕ → ℕ → {S : Type 0} → map.IndexMap ℕ Command S → List Pending → Type 0
 AreHeldUp client window commands [] = Unit {0}
 AreHeldUp client window commands (pending ∷ rest) = (pending.reply ≡ None → IsHeldUp client window commands pending.number) × AreHeldUp client window commands rest
+
+-- none of these waits for its server whose reply hasn't come
+abbrev pub AreNotFull : ℕ → ℕ → {S : Type 0} → map.IndexMap ℕ Command S → List Pending → Type 0
+AreNotFull client window commands [] = Unit {0}
+AreNotFull client window commands (pending ∷ rest) = (pending.reply ≡ None → IsTurn client window commands pending.number turns.Full → ⊥) × AreNotFull client window commands rest

@@ -3,7 +3,7 @@
 ghost use Rattle.std.specs.Prelude.{◌≡◌, None, IfSome, IfNone};
 ghost use Rattle.commands_under_way.specs.Ready.{IsTurn};
 ghost use Rattle.commands_under_way.specs.declared.turns.Turn.TheVariants.{Full};
-ghost use Rattle.proxy_core.specs.Resting.{IsReady, IsHeldUp, AreHeldUp};
+ghost use Rattle.proxy_core.specs.Resting.{IsReady, IsHeldUp, AreHeldUp, AreNotFull};
 
 use commands_under_way::{CommandTable, Turn, turn_of};
 use core_client::Pending;
@@ -56,6 +56,18 @@ pub fn first_ready(
     None
 }
 
+// The number of a command whose reply hasn't come, if it waits for its server.
+fn full_of(client: usize, window: usize, pending: &Pending, commands: &CommandTable) -> Option<u64>
+    ensures some { IfSome result (λ number. IsTurn client window commands.now number Full) }
+    ensures none { IfNone result (pending.now.reply ≡ None → IsTurn client window commands.now pending.now.number Full → ⊥) }
+{
+    let number = pending.number;
+    match turn_of(client, window, number, commands) {
+        Turn::Full if pending.reply.is_none() => Some(number),
+        _ => None,
+    }
+}
+
 /// The first of a client's commands that waits for its server.
 pub fn first_full(
     client: usize,
@@ -63,14 +75,12 @@ pub fn first_full(
     queue: &VecDeque<Pending>,
     commands: &CommandTable,
 ) -> Option<u64>
-    ensures { IfSome result (λ number. IsTurn client window commands.now number Full) }
+    ensures some { IfSome result (λ number. IsTurn client window commands.now number Full) }
+    ensures none { IfNone result (AreNotFull client window commands.now queue.now.items) }
 {
     for pending in queue.iter() {
-        if pending.reply.is_none() {
-            let number = pending.number;
-            if let Turn::Full = turn_of(client, window, number, commands) {
-                return Some(number);
-            }
+        if let Some(number) = full_of(client, window, pending, commands) {
+            return Some(number);
         }
     }
     None

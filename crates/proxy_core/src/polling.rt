@@ -10,7 +10,7 @@ ghost use Rattle.core_client.specs.Clients.{has_own};
 ghost use Rattle.commands_under_way.specs.Begun.{IsBegun};
 ghost use Rattle.commands_under_way.specs.Ready.{IsTurn};
 ghost use Rattle.proxy_core.specs.Finishing.{CanEnd};
-ghost use Rattle.proxy_core.specs.Polls.{ForClient, IsPassed, StopsFirst, BeginsAt, CanSend, IsTicketOf, IsSent, IsServed, DropsOne, DropsAll, Acts, SoEnded, StopsAfter, IsAtLast, NoneGoesOn, NothingBegins, MayAsk, IsNextAsk, bars, stands_before, claim_of, StandsStill, Polls, ReadFault, PollFault};
+ghost use Rattle.proxy_core.specs.Polls.{ForClient, IsPassed, StopsFirst, BeginsAt, CanSend, IsTicketOf, IsSent, IsServed, DropsOne, DropsAll, Acts, SoEnded, StopsAfter, IsAtLast, NoneGoesOn, NoneWaits, NothingBegins, MayAsk, IsNextAsk, bars, stands_before, claim_of, StandsStill, Polls, ReadFault, PollFault};
 ghost use Rattle.core_client.specs.Nexts.{IsPassing, CanBegin, CanAskBelow, CanAsk, HasKey, IsNextOf};
 ghost use Rattle.text_codec.specs.Held.{IsReadAt};
 ghost use Rattle.proxy_core.specs.declared.fault.CoreFault.TheVariants.{NoMemory};
@@ -330,14 +330,16 @@ impl Core {
 
     // The first command of the client that waits for its server.
     fn full(&self, client: usize) -> Option<u64>
-        ensures { IfSome result (λ number. IsTurn client self.now.limits.window self.now.commands number Full) }
+        requires { ForClient self.now client IsServed }
+        ensures some { IfSome result (λ number. IsTurn client self.now.limits.window self.now.commands number Full) }
+        ensures none { IfNone result (NoneWaits self.now client) }
     {
         // A command whose call is out doesn't wait for it.
         if self.commands.is_all_out(client) {
             return None;
         }
         match self.clients.get(client) {
-            None => None,
+            None => unreachable!(),
             Some(x) => first_full(client, self.limits.window, &x.queue, &self.commands),
         }
     }
@@ -465,8 +467,8 @@ impl Core {
     /// whoever came first, even if others are polled before. A client that waits for a command of its own comes to no line.
     ///
     /// Where it is `Waiting`, `Busy` or `Queued`, none of its commands that have no reply yet can go on: each has its call out, or waits
-    /// for its server. Where it is `Waiting`, nothing at its front can be done either. `Idle`, `Waiting` and `Busy` leave the core as it
-    /// was. After `Did` each reply that could be shown was. After `Call` the ticket's call is out in the core, as [`called`](Core::called)
+    /// for its server. Where it is `Waiting`, none of them waits for its server, and nothing at its front can be done either. `Idle`,
+    /// `Waiting` and `Busy` leave the core as it was. After `Did` each reply that could be shown was. After `Call` the ticket's call is out in the core, as [`called`](Core::called)
     /// shows it, until it is settled.
     ///
     /// `NoClient`. `Spent` where the last number that there is was given out: the core is as it was. `NoMemory`: nothing is
