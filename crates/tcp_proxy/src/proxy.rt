@@ -85,6 +85,8 @@ pub struct ProxyEnd {
     links: Vec<Link>,
     ready_links: Vec<usize>,
     links_with_output: Vec<usize>,
+    // Until then no link is late, so that only those that are touched are looked at; `None` where none can be.
+    late_from: Option<u64>,
     // The list that is being worked off, kept so that none is made anew each turn.
     work: Vec<usize>,
     start: Instant,
@@ -185,6 +187,7 @@ impl ProxyEnd {
             links,
             ready_links: Vec::new(alloc),
             links_with_output: Vec::new(alloc),
+            late_from: None,
             work: Vec::new(alloc),
             start,
             time: 0,
@@ -441,7 +444,7 @@ impl ProxyEnd {
         self.note_room(false, has_room);
     }
 
-    // When the first link is late.
+    // When the first of all links is late.
     fn time_limit(&self) -> Option<u64> {
         let mut first = None;
         for link in self.links.as_slice() {
@@ -461,7 +464,7 @@ impl ProxyEnd {
 
     // When something is to be done though nothing is ready.
     fn next_limit(&self) -> Option<u64> {
-        let limit = earlier(self.time_limit(), self.accept_limit());
+        let limit = earlier(self.late_from, self.accept_limit());
         let limit = earlier(limit, self.spare_until);
         if self.has_news {
             return earlier(limit, self.news_limit());
@@ -524,7 +527,7 @@ impl ProxyEnd {
         };
         note(conn, told);
         if told.writes && !told.closes && link.stand() {
-            self.has_news = true;
+            self.has_stood(at);
         }
         if told.reads {
             self.mark_link_ready(at)?;
@@ -581,13 +584,41 @@ impl ProxyEnd {
         }
     }
 
+    // Links that have taken too long fail, if one may have.
     fn fail_late(&mut self) -> Result<(), AllocError>
+        ensures core { Fails self.old.core.value self.new.core.value }
+    {
+        match self.late_from {
+            Some(limit) if limit < self.time => self.fail_all_late(),
+            _ => Ok(()),
+        }
+    }
+
+    fn fail_all_late(&mut self) -> Result<(), AllocError>
         ensures core { Fails self.old.core.value self.new.core.value }
     {
         for at in 0..self.links.len() {
             self.fail_if_late(at)?;
         }
+        self.late_from = self.time_limit();
         Ok(())
+    }
+
+    // The link's connection stands, which is news.
+    fn has_stood(&mut self, at: usize)
+        ensures core { self.new.core ≡ self.old.core }
+    {
+        self.has_news = true;
+        self.note_limit(at);
+    }
+
+    // The link may be late before the others, by what happened to it: it was opened, or stands, or calls went out.
+    fn note_limit(&mut self, at: usize)
+        ensures core { self.new.core ≡ self.old.core }
+    {
+        if let Some(link) = self.links.get(at) {
+            self.late_from = earlier(self.late_from, link.time_limit(&self.settings));
+        }
     }
 
     fn fail_if_late(&mut self, at: usize) -> Result<(), AllocError>
@@ -700,7 +731,7 @@ impl ProxyEnd {
                 let has_room = conn.has_room_above(KEPT_ROOM);
                 link.reads_long = conn.readable;
                 if link.stand() {
-                    self.has_news = true;
+                    self.has_stood(at);
                 }
                 self.note_room(is_large, has_room);
                 self.learn_and_settle(at)
@@ -1000,7 +1031,9 @@ impl ProxyEnd {
         match connect(net, &self.poll, address, LINKS.saturating_add(at)) {
             Ok(stream) => {
                 let dialect = self.settings.server_dialect;
-                link.open(self.alloc, stream, self.time, dialect).is_ok()
+                let opened = link.open(self.alloc, stream, self.time, dialect);
+                self.note_limit(at);
+                opened.is_ok()
             }
             Err(_) => {
                 link.close(Cause::Unreachable, self.time, &self.settings);
@@ -1361,7 +1394,9 @@ impl ProxyEnd {
             return Ok(());
         };
         let at = *at;
-        self.send_link(at)
+        let sent = self.send_link(at);
+        self.note_limit(at);
+        sent
     }
 
     fn send_links(&mut self) -> Result<(), AllocError>

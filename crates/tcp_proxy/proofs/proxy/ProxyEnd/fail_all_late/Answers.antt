@@ -1,5 +1,5 @@
 use Rattle.proxy_connections.proofs.Walked.{then}
-use Rattle.tcp_proxy.proofs.proxy.ProxyEnd.fail_late.Goals as goal
+use Rattle.tcp_proxy.proofs.proxy.ProxyEnd.fail_all_late.Goals as goal
 
 pub loop-at-preserved : goal.loop-at-preserved
 loop-at-preserved c = then (c.loop-at.invariant) c.fail_if_late.ensures.core
