@@ -1,5 +1,5 @@
 -- What one read and one write of an end do. Source: mcgate's own.
-use Rattle.std.specs.Prelude.{◌≡◌, ℕ, ◌<◌, ◌≤◌, ◌++◌, List, length, take, drop, Option}
+use Rattle.std.specs.Prelude.{◌≡◌, ℕ, ◌<◌, ◌≤◌, nat_eq, Bool, false, ◌&&◌, ◌||◌, ◌⊎◌, ◌++◌, List, length, take, drop, Option}
 use Rattle.std.specs.Io.KnownBytes.{Consumes, Keeps, IsAtEnd, Appends}
 use Rattle.tcp_socket.specs.declared.conn.Got.{Got}
 use Rattle.tcp_socket.specs.declared.conn.Got.TheVariants as got
@@ -21,6 +21,14 @@ Reads limit held left got.Full held' left' = (limit ≤ length held) × (held' �
 Reads limit held left got.Ended held' left' = (length held < limit) × (held' ≡ held) × IsAtEnd left'
 Reads limit held left got.Failed held' left' = (length held < limit) × (held' ≡ held) × Keeps left left'
 
+-- `readable` before and after a read that leaves so much room: bytes clear it if room is left and the peer isn't closing, `Nothing` may clear it, and else it stays
+abbrev pub StaysReadable : Got → Bool → ℕ → Bool → Bool → Type 0
+StaysReadable got.Bytes closing left readable readable' = readable' ≡ (readable && (closing || nat_eq left 0))
+StaysReadable got.Nothing closing left readable readable' = (readable' ≡ readable) ⊎ (readable' ≡ false)
+StaysReadable got.Full closing left readable readable' = readable' ≡ readable
+StaysReadable got.Ended closing left readable readable' = readable' ≡ readable
+StaysReadable got.Failed closing left readable readable' = readable' ≡ readable
+
 -- the stream took the first bytes of what is to be sent, and the others stay
 pub record Goes (unsent unsent' : List ℕ) (taken taken' : Option (List ℕ)) : Type 0 where
   pub count : ℕ
@@ -34,3 +42,9 @@ abbrev pub Sends : List ℕ → Option (List ℕ) → Sent → List ℕ → Opti
 Sends unsent taken sent.Bytes unsent' taken' = Goes unsent unsent' taken taken'
 Sends unsent taken sent.Nothing unsent' taken' = (unsent' ≡ unsent) × Keeps taken taken'
 Sends unsent taken sent.Failed unsent' taken' = (unsent' ≡ unsent) × Keeps taken taken'
+
+-- `writable` before and after a write: `Nothing` may clear it, and else it stays
+abbrev pub StaysWritable : Sent → Bool → Bool → Type 0
+StaysWritable sent.Bytes writable writable' = writable' ≡ writable
+StaysWritable sent.Nothing writable writable' = (writable' ≡ writable) ⊎ (writable' ≡ false)
+StaysWritable sent.Failed writable writable' = writable' ≡ writable

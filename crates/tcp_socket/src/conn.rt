@@ -1,12 +1,12 @@
 //! The stream of an end, what is held of it and what is to be sent: a read goes after what is held, a write takes from the front of what is
 //! to be sent.
 
-ghost use Rattle.std.specs.Prelude.{◌≡◌, false, ◌↔◌, ◌<◌, ◌≤◌, ◌⊎◌, ◌++◌, [], length, drop, None, IsTrue, IfOk, OnOk, OnErr};
+ghost use Rattle.std.specs.Prelude.{◌≡◌, false, ◌↔◌, ◌<◌, ◌≤◌, ◌⊎◌, ◌++◌, [], length, drop, IsTrue, IfOk, OnOk, OnErr, MatchResult};
 ghost use Rattle.send_buffer.specs.Sending.{bytes_of};
-ghost use Rattle.tcp_socket.specs.Ends.{Reads, Sends};
+ghost use Rattle.tcp_socket.specs.Ends.{Reads, Sends, StaysReadable, StaysWritable};
 
+use crate::write_parts::WriteParts;
 use bytes::BytesMut;
-use mio::net::TcpStream;
 use send_buffer::SendBuffer;
 use std::alloc::{AllocError, Global};
 use std::io::{ErrorKind, Read, Write};
@@ -146,6 +146,8 @@ impl<S: Read + Write + Drop> Conn<S> {
     /// Whether the room of the other buffer is free: what was cut from it before ([`Conn::hold_again`]) is gone. While it isn't, nothing more is to be cut,
     /// so that what is cut and waits keeps one buffer at most, however little it is.
     pub fn may_cut(&mut self) -> bool
+        ensures free { IsTrue result ↔ (self.new.is_cut ≡ false) }
+        ensures uncut { self.old.is_cut ≡ false → self.new ≡ self.old }
         ensures rest { self.new ≡ record self.old { other = self.new.other; is_cut = self.new.is_cut } }
     {
         if self.is_cut {
@@ -191,6 +193,7 @@ impl<S: Read + Write + Drop> Conn<S> {
         ensures unsent { self.new.unsent ≡ self.old.unsent }
         ensures rest { self.new.limits ≡ self.old.limits }
         ensures flags { (self.new.writable ≡ self.old.writable) × (self.new.closing ≡ self.old.closing) }
+        ensures readable { MatchResult result (λ got. StaysReadable got self.old.closing self.new.held.spare self.old.readable self.new.readable) (λ _. self.new.readable ≡ self.old.readable) }
     {
         if self.held.len() >= self.limits.held {
             return Ok(Got::Full);
@@ -211,6 +214,7 @@ impl<S: Read + Write + Drop> Conn<S> {
 
     fn got_at(&mut self, pause: Pause) -> Got
         ensures result { (result ≡ Got.Nothing) ⊎ (result ≡ Got.Failed) }
+        ensures readable { (self.new.readable ≡ self.old.readable) ⊎ ((result ≡ Got.Nothing) × (self.new.readable ≡ false)) }
         ensures rest { self.new ≡ record self.old { readable = self.new.readable } }
     {
         match pause {
@@ -232,6 +236,7 @@ impl<S: Read + Write + Drop> Conn<S> {
         ensures held { self.new.held ≡ self.old.held }
         ensures rest { self.new.limits ≡ self.old.limits }
         ensures flags { (self.new.readable ≡ self.old.readable) × (self.new.closing ≡ self.old.closing) }
+        ensures writable { StaysWritable result self.old.writable self.new.writable }
     {
         let front = self.unsent.front();
         if front.is_empty() {
@@ -272,6 +277,7 @@ impl<S: Read + Write + Drop> Conn<S> {
     /// Source: mcgate's own.
     pub fn hold_again(&mut self, front: &[u8], room: usize) -> Result<(), AllocError>
         ensures held { OnOk result (self.new.held.items ≡ front.now ++ self.old.held.items) }
+        ensures room { OnOk result (room ≤ self.new.held.spare) }
         ensures err { OnErr result (self.new.held.items ≡ self.old.held.items) }
         ensures rest { self.new ≡ record self.old { held = self.new.held; other = self.new.other; is_cut = self.new.is_cut } }
     {
@@ -280,6 +286,8 @@ impl<S: Read + Write + Drop> Conn<S> {
         self.other.reserve(len.saturating_add(room))?;
         self.other.extend_from_slice(front)?;
         self.other.extend_from_slice(self.held.as_slice())?;
+        // This takes no memory: the room is there, as a sum that was cut at the largest number is refused above.
+        self.other.reserve(room)?;
         mem::swap(&mut self.held, &mut self.other);
         self.is_cut = true;
         Ok(())
@@ -308,6 +316,7 @@ impl<S: Read + Write + Drop> Conn<S> {
 
     fn sent_at(&mut self, pause: Pause) -> Sent
         ensures result { (result ≡ Sent.Nothing) ⊎ (result ≡ Sent.Failed) }
+        ensures writable { StaysWritable result self.old.writable self.new.writable }
         ensures rest { self.new ≡ record self.old { writable = self.new.writable } }
     {
         match pause {
@@ -321,21 +330,22 @@ impl<S: Read + Write + Drop> Conn<S> {
     }
 }
 
-impl Conn<TcpStream> {
+impl<S: Read + WriteParts + Drop> Conn<S> {
     /// One write of the first pieces that are to be sent, up to four of them: exactly what the stream took goes from their front. `writable`
     /// is cleared where the stream said that it takes nothing now.
     ///
     /// Source: mcgate's own.
     pub fn send_parts(&mut self) -> Sent
-        ensures sent { Sends (bytes_of self.old.unsent) None result (bytes_of self.new.unsent) None }
+        ensures sent { Sends (bytes_of self.old.unsent) (S.contents self.old.stream) result (bytes_of self.new.unsent) (S.contents self.new.stream) }
         ensures held { self.new.held ≡ self.old.held }
         ensures rest { self.new.limits ≡ self.old.limits }
         ensures flags { (self.new.readable ≡ self.old.readable) × (self.new.closing ≡ self.old.closing) }
+        ensures writable { StaysWritable result self.old.writable self.new.writable }
     {
         if self.unsent.pieces.is_empty() {
             return self.send_once();
         }
-        match self.stream.write_vectored(&self.unsent.parts()) {
+        match self.stream.write_parts(&self.unsent.parts()) {
             Ok(0) => self.send_once(),
             Ok(count) => self.sent(count),
             Err(error) => self.sent_at(pause_of(&error)),

@@ -3,6 +3,8 @@
 
 pub mod conn;
 pub mod readiness;
+pub mod write_parts;
 
 pub use conn::{Conn, Got, Limits, Sent};
 pub use readiness::{Ready, watch};
+pub use write_parts::WriteParts;
