@@ -314,9 +314,10 @@ impl<'a> Ends<'a> {
         Ok(())
     }
 
-    // Its number.
+    // Its number. What is sent by it comes in the pieces in which it was sent.
     fn keep(&mut self, stream: TcpStream) -> Result<usize, Fail> {
         stream.set_nonblocking(true)?;
+        stream.set_nodelay(true)?;
         if self.streams.push(Some(stream)).is_err() {
             return Err("no memory")?;
         }
@@ -366,6 +367,18 @@ impl<'a> Ends<'a> {
         let text = plain(self.rt.alloc(), text)?;
         let all = times(self.rt.alloc(), count, text.as_str())?;
         self.write(at, all.as_bytes())
+    }
+
+    // The same in pieces that end anywhere, with a turn after each.
+    fn send_in_pieces(&mut self, at: usize, text: &str) -> Result<(), Fail> {
+        let (count, text) = numbered(text)?;
+        let text = plain(self.rt.alloc(), text)?;
+        let all = times(self.rt.alloc(), count, text.as_str())?;
+        for piece in all.as_bytes().chunks(997) {
+            self.write(at, piece)?;
+            self.turn()?;
+        }
+        Ok(())
     }
 
     fn shut(&mut self, at: usize) -> Result<(), Fail> {
@@ -455,6 +468,15 @@ impl<'a> Ends<'a> {
         counted(self.rt.alloc(), given.as_slice())
     }
 
+    // Whether a text comes so often, and nothing else.
+    fn gets_often(&mut self, at: usize, text: &str) -> Result<bool, Fail> {
+        let (count, text) = numbered(text)?;
+        let text = plain(self.rt.alloc(), text)?;
+        let all = times(self.rt.alloc(), count, text.as_str())?;
+        let given = self.given(at, all.len())?;
+        Ok(given.as_slice() == all.as_bytes())
+    }
+
     fn clients(&self) -> usize {
         match self.caches.first() {
             Some(Some(cache)) => cache.clients(),
@@ -524,6 +546,9 @@ impl Ends<'_> {
             "server" => self.play_server(),
             "proxy" => self.begin_proxy(text, Settings::usual()),
             "small-proxy" => self.begin_proxy(text, one_client_of_a_proxy()),
+            "strict-proxy" => self.begin_proxy(text, strict()),
+            "slow-retry-proxy" => self.begin_proxy(text, retried_after(u64::MAX)),
+            "quick-retry-proxy" => self.begin_proxy(text, retried_after(1)),
             _ => Err("no such event")?,
         }
     }
@@ -533,6 +558,7 @@ impl Ends<'_> {
         match verb {
             "send" => self.send(at, text),
             "repeat" => self.send_often(at, text),
+            "pieces" => self.send_in_pieces(at, text),
             "shut" => self.shut(at),
             "turn" => Ok(self.turn_often(at)?),
             "end" => self.end_turns(at),
@@ -554,6 +580,7 @@ impl Ends<'_> {
             "gets" => self.gets(at, want),
             "crowd" => self.crowd(at, text, want),
             "count" => self.count(at, text),
+            "often" => Ok(yes_or_no(self.gets_often(at, text)?).to_string(self.rt.alloc())?),
             "closed" => Ok(yes_or_no(self.is_closed(at)?).to_string(self.rt.alloc())?),
             _ => {
                 self.set(verb, at, text)?;
@@ -587,11 +614,40 @@ fn one_client_of_a_proxy() -> Settings {
     }
 }
 
+// So long that no call of an example is late.
+const LONG: u64 = 3_600_000;
+
+// The settings of a proxy whose links may be read three times in a row without a whole answer.
+fn strict() -> Settings {
+    Settings {
+        call_ms: LONG,
+        polls: Some(3),
+        ..Settings::usual()
+    }
+}
+
+// The settings of a proxy that tries a server again so many milliseconds after it failed twice in a row.
+fn retried_after(retry_ms: u64) -> Settings {
+    Settings {
+        call_ms: LONG,
+        fail_limit: 2,
+        retry_ms,
+        ..Settings::usual()
+    }
+}
+
 impl Stage for Ends<'_> {
     fn answer(&mut self, event: &str, want: &str) -> Result<String, Fail> {
         let (verb, text) = cut(event);
         match verb {
-            "cache" | "small-cache" | "server" | "proxy" | "small-proxy" => {
+            "cache"
+            | "small-cache"
+            | "server"
+            | "proxy"
+            | "small-proxy"
+            | "strict-proxy"
+            | "slow-retry-proxy"
+            | "quick-retry-proxy" => {
                 self.set_server(verb, text)?;
                 Ok(String::new(self.rt.alloc()))
             }

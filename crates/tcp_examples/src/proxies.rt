@@ -75,13 +75,17 @@ news => server 0 unreachable"
 
 // Many commands, many clients, and a client that reads late.
 fn crowds() -> &'static str {
-    r"Ten thousand commands at once, cut wherever a read ends.
+    r"Ten thousand commands at once, cut wherever a read ends, and as many in pieces that end anywhere, each key with a reply of its own.
 cache
 cache
 proxy <two servers>
 connect => 0
+send 0 set a 0 0 1\r\n1\r\nset b 0 0 2\r\n22\r\nset c 0 0 3\r\n333\r\nset d 0 0 1\r\n4\r\nset e 0 0 2\r\n55\r\nset f 0 0 3\r\n666\r\nset g 0 0 1\r\n7\r\nset h 0 0 2\r\n88\r\nset i 0 0 3\r\n999\r\nset j 0 0 2\r\n10\r\nset k 0 0 4\r\n1111\r\nset l 0 0 6\r\n121212\r\nset m 0 0 2\r\n13\r\nset n 0 0 4\r\n1414\r\nset o 0 0 6\r\n151515\r\nset p 0 0 2\r\n16\r\nset q 0 0 4\r\n1717\r\nset r 0 0 6\r\n181818\r\nset s 0 0 2\r\n19\r\nset t 0 0 4\r\n2020\r\n
+often 0 20 STORED\r\n => yes
 repeat 0 500 get a\r\nget b\r\nget c\r\nget d\r\nget e\r\nget f\r\nget g\r\nget h\r\nget i\r\nget j\r\nget k\r\nget l\r\nget m\r\nget n\r\nget o\r\nget p\r\nget q\r\nget r\r\nget s\r\nget t\r\n
-count 0 50000 => 50000 bytes, at the end END\r\nEND\r\n
+often 0 500 VALUE a 0 1\r\n1\r\nEND\r\nVALUE b 0 2\r\n22\r\nEND\r\nVALUE c 0 3\r\n333\r\nEND\r\nVALUE d 0 1\r\n4\r\nEND\r\nVALUE e 0 2\r\n55\r\nEND\r\nVALUE f 0 3\r\n666\r\nEND\r\nVALUE g 0 1\r\n7\r\nEND\r\nVALUE h 0 2\r\n88\r\nEND\r\nVALUE i 0 3\r\n999\r\nEND\r\nVALUE j 0 2\r\n10\r\nEND\r\nVALUE k 0 4\r\n1111\r\nEND\r\nVALUE l 0 6\r\n121212\r\nEND\r\nVALUE m 0 2\r\n13\r\nEND\r\nVALUE n 0 4\r\n1414\r\nEND\r\nVALUE o 0 6\r\n151515\r\nEND\r\nVALUE p 0 2\r\n16\r\nEND\r\nVALUE q 0 4\r\n1717\r\nEND\r\nVALUE r 0 6\r\n181818\r\nEND\r\nVALUE s 0 2\r\n19\r\nEND\r\nVALUE t 0 4\r\n2020\r\nEND\r\n => yes
+pieces 0 500 get a\r\nget b\r\nget c\r\nget d\r\nget e\r\nget f\r\nget g\r\nget h\r\nget i\r\nget j\r\nget k\r\nget l\r\nget m\r\nget n\r\nget o\r\nget p\r\nget q\r\nget r\r\nget s\r\nget t\r\n
+often 0 500 VALUE a 0 1\r\n1\r\nEND\r\nVALUE b 0 2\r\n22\r\nEND\r\nVALUE c 0 3\r\n333\r\nEND\r\nVALUE d 0 1\r\n4\r\nEND\r\nVALUE e 0 2\r\n55\r\nEND\r\nVALUE f 0 3\r\n666\r\nEND\r\nVALUE g 0 1\r\n7\r\nEND\r\nVALUE h 0 2\r\n88\r\nEND\r\nVALUE i 0 3\r\n999\r\nEND\r\nVALUE j 0 2\r\n10\r\nEND\r\nVALUE k 0 4\r\n1111\r\nEND\r\nVALUE l 0 6\r\n121212\r\nEND\r\nVALUE m 0 2\r\n13\r\nEND\r\nVALUE n 0 4\r\n1414\r\nEND\r\nVALUE o 0 6\r\n151515\r\nEND\r\nVALUE p 0 2\r\n16\r\nEND\r\nVALUE q 0 4\r\n1717\r\nEND\r\nVALUE r 0 6\r\n181818\r\nEND\r\nVALUE s 0 2\r\n19\r\nEND\r\nVALUE t 0 4\r\n2020\r\nEND\r\n => yes
 ask 0 mn\r\n => MN\r\n
 
 Three hundred clients.
@@ -178,6 +182,75 @@ send 2 MN\r\nVALUE a 0 1\r\ny\r\nEND\r\n
 gets 0 => VALUE a 0 1\r\ny\r\nEND\r\n"
 }
 
+// Servers that fail time after time, and servers whose answers come in many reads. Stream 0 is a client's; the server that the example plays
+// closes its connections.
+fn failures_in_a_row() -> &'static str {
+    r"A server that failed twice in a row isn't asked before it is tried again, also where it is back: its calls fail at once.
+cache
+slow-retry-proxy <one server>
+connect => 0
+ask 0 set a 0 0 1\r\n1\r\n => STORED\r\n
+kill 0
+ask 0 get a\r\n => SERVER_ERROR call failed\r\n
+ask 0 get a\r\n => SERVER_ERROR call failed\r\n
+ask 0 get a\r\n => SERVER_ERROR call failed\r\n
+again 0
+ask 0 get a\r\n => SERVER_ERROR call failed\r\n
+ask 0 set a 0 0 1\r\n2\r\n => SERVER_ERROR call failed\r\n
+
+When its time has come one call tries, and others fail at once until that is answered.
+server
+quick-retry-proxy <one server>
+connect => 0
+connect => 1
+send 0 get a\r\n
+accept => 2
+leave 2
+gets 0 => SERVER_ERROR call failed\r\n
+send 0 get a\r\n
+accept => 3
+leave 3
+gets 0 => SERVER_ERROR call failed\r\n
+turn 10
+send 0 get a\r\n
+accept => 4
+ask 1 get b\r\n => SERVER_ERROR call failed\r\n
+gets 4 => mn\r\nget a\r\n
+send 4 MN\r\nEND\r\n
+gets 0 => END\r\n
+send 1 get b\r\n
+gets 4 => mg b k f v\r\n
+send 4 EN\r\n
+gets 1 => END\r\n
+
+An answer may come in as many reads as are allowed. One that isn't whole after them fails, with its connection.
+server
+strict-proxy <one server>
+connect => 0
+send 0 get a\r\n
+accept => 1
+gets 1 => mn\r\nget a\r\n
+send 1 MN\r\nEND\r\n
+gets 0 => END\r\n
+send 0 get a\r\n
+gets 1 => mg a k f v\r\n
+send 1 VA 3 k
+turn 10
+send 1 a f5\r\nx
+turn 10
+send 1 yz\r\n
+gets 0 => VALUE a 5 3\r\nxyz\r\nEND\r\n
+send 0 get a\r\n
+gets 1 => mg a k f v\r\n
+send 1 VA 3 k
+turn 10
+send 1 a f5\r\nx
+turn 10
+send 1 y
+gets 0 => SERVER_ERROR call failed\r\n
+closed 1 => yes"
+}
+
 #[test]
 fn clients_of_a_proxy(rt: HostRuntime) -> Result<(), Fail> {
     play_all(&rt, texts())
@@ -191,4 +264,9 @@ fn crowds_of_a_proxy(rt: HostRuntime) -> Result<(), Fail> {
 #[test]
 fn failures_of_servers(rt: HostRuntime) -> Result<(), Fail> {
     play_all(&rt, failures())
+}
+
+#[test]
+fn failures_in_a_row_of_servers(rt: HostRuntime) -> Result<(), Fail> {
+    play_all(&rt, failures_in_a_row())
 }
