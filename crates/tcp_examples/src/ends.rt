@@ -166,6 +166,7 @@ fn news_word(news: LinkNews) -> &'static str {
         LinkNews::Opened => "opened",
         LinkNews::Back => "back",
         LinkNews::Failed(Cause::Unreachable, _) => "unreachable",
+        LinkNews::Failed(Cause::VainReads, _) => "read in vain",
         LinkNews::Failed(_, _) => "failed",
     }
 }
@@ -381,6 +382,19 @@ impl<'a> Ends<'a> {
         Ok(())
     }
 
+    // So many clients connect, and each stores a million bytes under this key and its own number.
+    fn store_all(&mut self, count: usize, key: &str) -> Result<(), Fail> {
+        for _ in 0..count {
+            let at = self.connect()?;
+            let line = format!(in self.rt.alloc(); "set {key}{at} 0 0 1000000\r\n")?;
+            self.write(at, line.as_bytes())?;
+            self.send_often(at, "100000 xxxxxxxxxx")?;
+            self.send(at, r"\r\n")?;
+            self.turn()?;
+        }
+        Ok(())
+    }
+
     fn shut(&mut self, at: usize) -> Result<(), Fail> {
         match self.stream(at) {
             Some(stream) => Ok(stream.shutdown(Shutdown::Write)?),
@@ -559,6 +573,7 @@ impl Ends<'_> {
             "send" => self.send(at, text),
             "repeat" => self.send_often(at, text),
             "pieces" => self.send_in_pieces(at, text),
+            "store" => self.store_all(at, text),
             "shut" => self.shut(at),
             "turn" => Ok(self.turn_often(at)?),
             "end" => self.end_turns(at),

@@ -197,6 +197,8 @@ ask 0 get a\r\n => SERVER_ERROR call failed\r\n
 again 0
 ask 0 get a\r\n => SERVER_ERROR call failed\r\n
 ask 0 set a 0 0 1\r\n2\r\n => SERVER_ERROR call failed\r\n
+turn 10
+clients => 0
 
 When its time has come one call tries, and others fail at once until that is answered.
 server
@@ -248,7 +250,34 @@ send 1 a f5\r\nx
 turn 10
 send 1 y
 gets 0 => SERVER_ERROR call failed\r\n
+news => server 0 read in vain
 closed 1 => yes"
+}
+
+// Keys with the hash tag b are the second server's.
+fn late_reads() -> &'static str {
+    r"A server reads late: 20 MB are more than the system takes for it. Calls wait until it reads, and the commands behind them; those of other clients to another server don't.
+cache
+server
+slow-retry-proxy <two servers>
+connect => 0
+send 0 get b\r\n
+accept => 1
+gets 1 => mn\r\nget b\r\n
+send 1 MN\r\nEND\r\n
+gets 0 => END\r\n
+store 20 {b}
+turn 400
+connect => 22
+send 22 set b 0 0 1\r\n1\r\nset a 0 0 1\r\n2\r\nget a\r\n
+turn 10
+ask 0 get a\r\n => END\r\n
+-- 8 * (22 + 1,000,002) + 12 * (23 + 1,000,002) + 13 + 3
+count 1 20000508 => 20000508 bytes, at the end 0 0 1\r\n1\r\n
+repeat 1 21 STORED\r\n
+gets 2 => STORED\r\n
+gets 21 => STORED\r\n
+gets 22 => STORED\r\nSTORED\r\nVALUE a 0 1\r\n2\r\nEND\r\n"
 }
 
 #[test]
@@ -264,6 +293,11 @@ fn crowds_of_a_proxy(rt: HostRuntime) -> Result<(), Fail> {
 #[test]
 fn failures_of_servers(rt: HostRuntime) -> Result<(), Fail> {
     play_all(&rt, failures())
+}
+
+#[test]
+fn servers_that_read_late(rt: HostRuntime) -> Result<(), Fail> {
+    play_all(&rt, late_reads())
 }
 
 #[test]
