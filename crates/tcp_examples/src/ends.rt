@@ -11,9 +11,9 @@ use std::io;
 use std::io::{ErrorKind, Read, Write};
 use std::net::{IpAddr, Ipv4Addr, Shutdown, SocketAddr, TcpListener, TcpStream};
 use std::test::Fail;
-use std::time::Duration;
+use std::time::{Duration, Instant};
 use tcp_cache::CacheEnd;
-use tcp_proxy::{Cause, LinkNews, ProxyEnd, Settings};
+use tcp_proxy::{LinkNews, ProxyEnd, Settings};
 
 type Cache = CacheEnd<HostRuntime>;
 
@@ -29,6 +29,8 @@ pub struct Ends<'a> {
     ended: Option<ProxyEnd>,
     // The text of the configuration by which the proxy began.
     config: String,
+    // When news were asked for last.
+    asked: Option<Instant>,
     // Where a server listens whose part the example plays.
     played: Option<TcpListener>,
     // Clients, and what such a server accepted.
@@ -161,16 +163,6 @@ fn counted(alloc: Global, bytes: &[u8]) -> Result<String, Fail> {
     Ok(format!(in alloc; "{count} bytes, at the end {last}")?)
 }
 
-fn news_word(news: LinkNews) -> &'static str {
-    match news {
-        LinkNews::Opened => "opened",
-        LinkNews::Back => "back",
-        LinkNews::Failed(Cause::Unreachable, _) => "unreachable",
-        LinkNews::Failed(Cause::VainReads, _) => "read in vain",
-        LinkNews::Failed(_, _) => "failed",
-    }
-}
-
 impl<'a> Ends<'a> {
     /// No end.
     pub fn new(rt: &'a HostRuntime) -> Ends<'a> {
@@ -181,6 +173,7 @@ impl<'a> Ends<'a> {
             proxy: None,
             ended: None,
             config: String::new(rt.alloc()),
+            asked: None,
             played: None,
             streams: Vec::new(rt.alloc()),
         }
@@ -304,6 +297,17 @@ impl<'a> Ends<'a> {
     fn play_server(&mut self) -> Result<(), Fail> {
         let listener = TcpListener::bind(self.rt, "127.0.0.1:0")?;
         listener.set_nonblocking(true)?;
+        self.played = Some(listener);
+        Ok(())
+    }
+
+    // A server to which no connection stands any more: its system has room for 128 that it doesn't accept. Those that come then are given up.
+    fn play_full_server(&mut self) -> Result<(), Fail> {
+        let listener = TcpListener::bind(self.rt, "127.0.0.1:0")?;
+        let address = listener.local_addr()?;
+        for _ in 0..250 {
+            let _ = TcpStream::connect_timeout(self.rt, &address, Duration::from_millis(1));
+        }
         self.played = Some(listener);
         Ok(())
     }
@@ -539,15 +543,25 @@ impl<'a> Ends<'a> {
         Ok(None)
     }
 
+    // Whether news were asked for before, and a second has passed since: but for a millisecond, as the proxy counts whole ones.
+    fn is_second_later(&self) -> io::Result<bool> {
+        match self.asked {
+            Some(asked) => Ok(Duration::from_millis(999) <= asked.elapsed(self.rt)?),
+            None => Ok(false),
+        }
+    }
+
     fn news_text(&mut self) -> Result<String, Fail> {
         let alloc = self.rt.alloc();
-        match self.news()? {
-            Some((server, news)) => {
-                let word = news_word(news);
-                Ok(format!(in alloc; "server {server} {word}")?)
-            }
-            None => Ok("none".to_string(alloc)?),
-        }
+        let now = Instant::now(self.rt)?;
+        let Some((server, news)) = self.news()? else {
+            return Ok("none".to_string(alloc)?);
+        };
+        let is_later = self.is_second_later()?;
+        self.asked = Some(now);
+        let later = if is_later { ", a second later" } else { "" };
+        let text = format!(in alloc; "server {server}: {news}")?;
+        Ok(format!(in alloc; "{text}{later}")?)
     }
 }
 
@@ -558,11 +572,13 @@ impl Ends<'_> {
             "cache" => self.listen(sixteen()),
             "small-cache" => self.listen(one_client()),
             "server" => self.play_server(),
+            "full-server" => self.play_full_server(),
             "proxy" => self.begin_proxy(text, Settings::usual()),
             "small-proxy" => self.begin_proxy(text, one_client_of_a_proxy()),
             "strict-proxy" => self.begin_proxy(text, strict()),
             "slow-retry-proxy" => self.begin_proxy(text, retried_after(u64::MAX)),
             "quick-retry-proxy" => self.begin_proxy(text, retried_after(1)),
+            "hasty-proxy" => self.begin_proxy(text, hasty()),
             _ => Err("no such event")?,
         }
     }
@@ -651,6 +667,15 @@ fn retried_after(retry_ms: u64) -> Settings {
     }
 }
 
+// The settings of a proxy whose connections to servers may take 20 milliseconds to stand.
+fn hasty() -> Settings {
+    Settings {
+        call_ms: LONG,
+        connect_ms: 20,
+        ..Settings::usual()
+    }
+}
+
 impl Stage for Ends<'_> {
     fn answer(&mut self, event: &str, want: &str) -> Result<String, Fail> {
         let (verb, text) = cut(event);
@@ -658,11 +683,13 @@ impl Stage for Ends<'_> {
             "cache"
             | "small-cache"
             | "server"
+            | "full-server"
             | "proxy"
             | "small-proxy"
             | "strict-proxy"
             | "slow-retry-proxy"
-            | "quick-retry-proxy" => {
+            | "quick-retry-proxy"
+            | "hasty-proxy" => {
                 self.set_server(verb, text)?;
                 Ok(String::new(self.rt.alloc()))
             }

@@ -58,19 +58,19 @@ turn 10
 connect => 2
 ask 2 get a\r\n => VALUE a 0 1\r\n7\r\nEND\r\n
 
-Gets of a server that is gone fail, time after time, and so is told.
+Gets of a server that is gone fail, time after time, and so is told: the last of what happened within a second, when that is over.
 cache
-proxy <one server>
+slow-retry-proxy <one server>
 connect => 0
 ask 0 get a\r\n => END\r\n
-news => server 0 opened
+news => server 0: connected
 kill 0
 ask 0 get a\r\n => SERVER_ERROR call failed\r\n
 ask 0 get a\r\n => SERVER_ERROR call failed\r\n
 ask 0 get a\r\n => SERVER_ERROR call failed\r\n
 ask 0 get a\r\n => SERVER_ERROR call failed\r\n
 ask 0 get a\r\n => SERVER_ERROR call failed\r\n
-news => server 0 unreachable"
+news => server 0: failed: no connection could be made, 2 in a row, a second later"
 }
 
 // Many commands, many clients, and a client that reads late.
@@ -142,6 +142,7 @@ ask 0 get a\r\nget b\r\n => SERVER_ERROR call failed\r\nVALUE b 0 1\r\n2\r\nEND\
 again 0
 ask 0 get a\r\nget b\r\n => END\r\nVALUE b 0 1\r\n2\r\nEND\r\n
 ask 0 set a 0 0 1\r\n3\r\nget a\r\n => STORED\r\nVALUE a 0 1\r\n3\r\nEND\r\n
+news => server 0: back
 
 A reply doesn't wait for a server that says nothing to a later command of its client.
 cache
@@ -174,6 +175,7 @@ gets 0 => END\r\n
 send 0 get a\r\n
 gets 1 => mg a k f v\r\n
 gets 0 => SERVER_ERROR call failed\r\n
+news => server 0: failed: a call took too long, 1 in a row
 send 1 VA 1 ka f5\r\nx\r\n
 send 0 get a\r\n
 accept => 2
@@ -211,8 +213,10 @@ leave 2
 gets 0 => SERVER_ERROR call failed\r\n
 send 0 get a\r\n
 accept => 3
+gets 3 => mn\r\nget a\r\n
 leave 3
 gets 0 => SERVER_ERROR call failed\r\n
+news => server 0: failed: it closed the connection, 2 in a row
 turn 10
 send 0 get a\r\n
 accept => 4
@@ -222,8 +226,11 @@ send 4 MN\r\nEND\r\n
 gets 0 => END\r\n
 send 1 get b\r\n
 gets 4 => mg b k f v\r\n
-send 4 EN\r\n
+send 0 get a\r\n
+gets 4 => mg a k f v\r\n
+send 4 EN\r\nEN\r\n
 gets 1 => END\r\n
+gets 0 => END\r\n
 
 An answer may come in as many reads as are allowed. One that isn't whole after them fails, with its connection.
 server
@@ -250,7 +257,7 @@ send 1 a f5\r\nx
 turn 10
 send 1 y
 gets 0 => SERVER_ERROR call failed\r\n
-news => server 0 read in vain
+news => server 0: failed: too many reads brought no whole answer, 1 in a row
 closed 1 => yes"
 }
 
