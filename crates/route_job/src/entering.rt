@@ -1,9 +1,10 @@
 //! What each form of route begins with.
 
-ghost use Rattle.std.specs.Prelude.{◌≡◌, ◌+◌, ◌*◌, ◌≤◌, ℕ, List, IfOk, IfSome};
+ghost use Rattle.std.specs.Prelude.{◌≡◌, ◌<◌, ◌+◌, ◌*◌, ◌≤◌, ◌%◌, ℕ, List, length, slice_index, IfOk, IfSome};
+ghost use Rattle.key_hash.specs.Tag.{key_hash};
 ghost use Rattle.mc_types.specs.declared.ask.Ask.{Ask};
 ghost use Rattle.mc_types.specs.declared.call.Origin.{Origin};
-ghost use Rattle.route_tree.specs.At.{plain_for, plain_for_all, plain_for_policies};
+ghost use Rattle.route_tree.specs.At.{plain_for, plain_for_all, plain_for_policies, tree_at};
 ghost use Rattle.route_tree.specs.Form.{policies_of};
 ghost use Rattle.route_tree.specs.Levels.{plan_of_level};
 ghost use Rattle.route_tree.specs.Plan.{AllSync, MissFailover, More, Server, WarmUp, count, count_of_all, count_of_policies};
@@ -15,7 +16,8 @@ ghost use Rattle.route_job.specs.Settling.{IsSure, advance_work};
 use crate::asks::is_get;
 use crate::done::{failing_done, null_done};
 use crate::frame::{Advance, Frame, Pending, Sides};
-use mc_types::{Ask, Op, ServerId};
+use key_hash::key_hash;
+use mc_types::{Ask, Key, Op, ServerId};
 use route_tree::at::longest;
 use route_tree::{Children, Level, Tree, TreeForm, policy_of};
 use std::alloc::AllocError;
@@ -155,16 +157,27 @@ pub fn enter(hash: u32, text: &[u8], ask: &Ask, tree: &Tree) -> Result<Advance, 
     enter_level(ask, level)
 }
 
-/// The server that the keys of this hash and text are asked of at once, where their tree is one call of it. It takes no memory,
-/// and no part of the tree is shared for it.
-pub fn server_at_once(hash: u32, text: &[u8], tree: &Tree) -> Option<ServerId>
-    ensures { IfSome result (λ server. plain_for hash text.now tree.now ≡ Server server) }
+// The server of the pool that has the key. A pool of one hashes none.
+fn pool_server(key: &Key, servers: &[ServerId]) -> ServerId
+    requires { 0 < length servers.now }
+    ensures { result ≡ slice_index servers.now (key_hash key.now % length servers.now) }
+{
+    if servers.len() == 1 {
+        return servers[0];
+    }
+    servers[key_hash(key) as usize % servers.len()]
+}
+
+/// The server that the key is asked of at once, where its tree is one call of it. It takes no memory, no part of the tree is
+/// shared for it, and the key is hashed only where several servers may have it.
+pub fn server_at_once(key: &Key, tree: &Tree) -> Option<ServerId>
+    ensures { IfSome result (λ server. tree_at tree.now key.now ≡ Server server) }
 {
     match tree.form() {
-        TreeForm::Pool(servers) => Some(servers[hash as usize % servers.len()]),
+        TreeForm::Pool(servers) => Some(pool_server(key, servers)),
         TreeForm::Server(server) => Some(*server),
         TreeForm::ByPrefix { policies, wildcard } => {
-            server_at_once(hash, text, longest(policies, wildcard, text))
+            server_at_once(key, longest(policies, wildcard, key.as_bytes()))
         }
         _ => None,
     }

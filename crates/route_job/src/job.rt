@@ -31,10 +31,11 @@ use std::mem::replace;
 #[derive(Drop)]
 pub struct Job {
     ask: SharedAsk,
+    // That of the key, where the tree is walked. (what is short comes before what is long, so that it lies in one line of the processor's cache)
     hash: u32,
+    made: u64,
     frames: Vec<Frame>,
     pending: Pending,
-    made: u64,
     ghost kept: { IsKept hash ask.key ask frames.items pending made } by { kept_prop hash ask.key ask frames.items pending made },
 }
 
@@ -59,18 +60,18 @@ impl Job {
     pub fn new(alloc: Global, tree: &Tree, ask: SharedAsk) -> Result<Job, AllocError>
         ensures { IfOk result (λ job. (calls : List CallMade) (given : Given) → Comes job calls given ↔ Word (tree_at tree.now ask.key) ask Client 0 calls given) }
     {
-        let hash = key_hash(ask.key());
         let _form = tree.form();
-        if let Some(server) = server_at_once(hash, ask.key().as_bytes(), tree) {
+        if let Some(server) = server_at_once(ask.key(), tree) {
             // (nearly always: it is called without a walk, and no part of the tree is shared)
             return Ok(Job {
                 ask,
-                hash,
+                hash: 0,
                 frames: Vec::new(alloc),
                 pending: Pending::Call(server),
                 made: 0,
             });
         }
+        let hash = key_hash(ask.key());
         let mut frames = Vec::new(alloc);
         let root = tree.copy()?;
         let pending = settle(alloc, hash, &ask, &mut frames, Pending::Enter(root))?;
@@ -89,12 +90,11 @@ impl Job {
     pub fn begin_at_once(&mut self, tree: &Tree, ask: &SharedAsk) -> Result<bool, AllocError>
         ensures { IfOk result (λ begun. MatchBool begun ((calls : List CallMade) (given : Given) → Comes self.new calls given ↔ Word (tree_at tree.now ask.now.key) ask.now Client 0 calls given) (self.new ≡ self.old)) }
     {
-        let hash = key_hash(ask.key());
-        let Some(server) = server_at_once(hash, ask.key().as_bytes(), tree) else {
+        let Some(server) = server_at_once(ask.key(), tree) else {
             return Ok(false);
         };
         self.ask = ask.copy()?;
-        self.hash = hash;
+        self.hash = 0;
         self.frames.clear();
         self.pending = Pending::Call(server);
         self.made = 0;

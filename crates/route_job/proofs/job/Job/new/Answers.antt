@@ -1,4 +1,4 @@
-use Rattle.std.proofs.Common.{◌≡◌, ◌↔◌, ◌∙◌, List, ap, ap₂, arith, subst}
+use Rattle.std.proofs.Common.{◌≡◌, ◌↔◌, ◌∙◌, List, ap, ap₂, arith, subst, sym}
 use Rattle.key_hash.specs.Tag.{key_hash}
 use Rattle.mc_types.specs.declared.call.Origin.TheVariants.{Client}
 use Rattle.mc_runs.specs.Run.{Call}
@@ -14,21 +14,17 @@ use Rattle.route_job.proofs.job.Job.new.Goals as goal
 
 pub invariant_of-result : goal.invariant_of-result
 invariant_of-result c =
-    let h = c.key_hash-hash.result in
     let key = c.args.ask.key in
-    let text = c.as_bytes.ensures ∙ c.key-2.ensures in
-    let is = calls_at_once h key c.new.result.items c.args.ask c.in-Some.server (plain_for h key c.args.tree.now) c.new.ensures.items (subst (λ t. plain_for h t c.args.tree.now ≡ Server c.in-Some.server) text c.in-Some.ensures) in
-    let none = ap (frames_work h key) c.new.ensures.items in
+    let e = ap (λ k. tree_at c.args.tree.now k) (sym c.key.ensures) ∙ c.in-Some.ensures in
+    let is = calls_at_once 0 key c.new.result.items c.args.ask c.in-Some.server (tree_at c.args.tree.now key) c.new.ensures.items e in
+    let none = ap (frames_work 0 key) c.new.ensures.items in
     record { kept = record { rests = tt; sure = is.1; few = omega (arith, none) } }
 
 pub returns-in-Some : goal.returns-in-Some
 returns-in-Some c =
-    let h = c.key_hash-hash.result in
     let key = c.args.ask.key in
-    let text = c.as_bytes.ensures ∙ c.key-2.ensures in
-    let is = calls_at_once h key c.new.result.items c.args.ask c.in-Some.server (plain_for h key c.args.tree.now) c.new.ensures.items (subst (λ t. plain_for h t c.args.tree.now ≡ Server c.in-Some.server) text c.in-Some.ensures) in
-    let e : plain_for h key c.args.tree.now ≡ tree_at c.args.tree.now key = ap (λ n. plain_for n key c.args.tree.now) (c.key_hash-hash.ensures ∙ ap key_hash c.key.ensures) in
-    subst (λ (p : Plan). (calls : List Call) (given : Given) → Comings h key c.new.result.items c.args.ask Client (Calling c.in-Some.server) 0 calls given ↔ Word p c.args.ask Client 0 calls given) e is.0
+    let e = ap (λ k. tree_at c.args.tree.now k) (sym c.key.ensures) ∙ c.in-Some.ensures in
+    (calls_at_once 0 key c.new.result.items c.args.ask c.in-Some.server (tree_at c.args.tree.now key) c.new.ensures.items e).0
 
 pub invariant_of-result-2 : goal.invariant_of-result-2
 invariant_of-result-2 c =
@@ -46,5 +42,5 @@ returns c =
     let h = c.key_hash-hash.result in
     let key = c.args.ask.key in
     let is = new_is h key c.new-frames.result.items c.settle.new.frames.items c.args.ask c.in_ok-root.root c.in_ok-pending.pending c.new-frames.ensures.items c.in_ok-pending.ensures.leads in
-    let e : plain_for h key c.in_ok-root.root ≡ tree_at c.args.tree.now key = ap₂ (λ n t. plain_for n key t) (c.key_hash-hash.ensures ∙ ap key_hash c.key.ensures) c.in_ok-root.ensures in
+    let e : plain_for h key c.in_ok-root.root ≡ tree_at c.args.tree.now key = ap₂ (λ n t. plain_for n key t) (c.key_hash-hash.ensures ∙ ap key_hash c.key-2.ensures) c.in_ok-root.ensures in
     subst (λ (p : Plan). (calls : List Call) (given : Given) → Comings h key c.settle.new.frames.items c.args.ask Client c.in_ok-pending.pending 0 calls given ↔ Word p c.args.ask Client 0 calls given) e is.0
