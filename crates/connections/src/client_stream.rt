@@ -265,6 +265,14 @@ impl ClientStream {
         self.stream.pass_refused(used, skip);
     }
 
+    /// Where nothing is held, the room for it goes back: whether nothing is.
+    pub fn give_back(&mut self, alloc: Global) -> bool
+        ensures none { IsTrue result ↔ (held_at self.old ≡ []) }
+        ensures same { self.new ≡ self.old }
+    {
+        self.stream.give_back(alloc)
+    }
+
     /// Nothing is read any more.
     pub fn close(&mut self)
         ensures { self.new ≡ Closed }

@@ -4,6 +4,7 @@ use Rattle.send_buffer.specs.Sending.{bytes_of}
 use Rattle.mc_runs.specs.Protocol.{Protocol}
 use Rattle.mc_runs.specs.Overlap.{Front, Slot, is_last_slot, start_front}
 use Rattle.client_requests.specs.Asks.{quiet_of}
+use Rattle.text_codec.specs.Held.{held_at}
 use Rattle.text_codec.specs.TextProtocol.{memcached_text, Said, Whole, LongLine}
 use Rattle.core_client.specs.declared.client.Pending.{Pending}
 use Rattle.core_client.specs.declared.client.Client.{Client}
@@ -23,6 +24,11 @@ quiet_in LongLine = false
 abbrev pub front_by : Option Client → Front dialect
 front_by None = start_front
 front_by (Some x) = record { place = x.stream; index = x.index; waits = x.waits }
+
+-- what it sent that isn't done
+abbrev pub held_by : Option Client → List ℕ
+held_by None = []
+held_by (Some x) = held_at x.stream
 
 abbrev pub output_by : Option Client → List ℕ
 output_by None = []

@@ -1,7 +1,8 @@
 //! One client of the core, and its commands whose replies were not shown yet.
 
-ghost use Rattle.std.specs.Prelude.{◌≡◌, ◌++◌, false, ◌↔◌, IsTrue, OnOk, OnErr, IfOk};
+ghost use Rattle.std.specs.Prelude.{◌≡◌, ◌++◌, [], false, ◌↔◌, IsTrue, OnOk, OnErr, IfOk};
 ghost use Rattle.send_buffer.specs.Sending.{bytes_of};
+ghost use Rattle.text_codec.specs.Held.{held_at};
 ghost use Rattle.core_client.specs.Clients.{has_own, IsNew, IsEnded, TakesPiece, LosesOutput};
 
 use crate::marked_ask::{MarkedAsk, MarkedKey};
@@ -14,13 +15,14 @@ use std::collections::VecDeque;
 /// A command of a client whose reply was not shown yet.
 #[derive(Drop)]
 pub struct Pending {
+    // (what is short comes before what is long, so that it lies in one line of the processor's cache)
     pub ask: MarkedAsk,
-    pub reply: Option<Answer>,
     pub number: u64,
     /// Whether its message wants no answer.
     pub quiet: bool,
     /// Whether it asks the last key of its message.
     pub last: bool,
+    pub reply: Option<Answer>,
 }
 
 /// One client: what it sent and is not done, what it was not given yet, and its commands that have begun and whose replies
@@ -82,6 +84,14 @@ impl Client {
         ensures err { OnErr result (self.new ≡ self.old) }
     {
         self.stream.feed(piece)
+    }
+
+    /// Where nothing is held of it that isn't done, the room for that goes back: whether nothing is.
+    pub fn give_back(&mut self, alloc: Global) -> bool
+        ensures none { IsTrue result ↔ (held_at self.old.stream ≡ []) }
+        ensures same { self.new ≡ self.old }
+    {
+        self.stream.give_back(alloc)
     }
 
     /// The output so far goes after what is to be sent there, and is then empty. Shared data aren't copied, and where nothing is to be sent

@@ -6,7 +6,7 @@ ghost use Rattle.mc_runs.specs.Overlap as log;
 ghost use Rattle.proxy_core.specs.Faults.{IsClosed, CanOpen, CanFeed, CanClose, OpenFault, FeedFault, OutputFault, CloseFault};
 ghost use Rattle.fresh_gate.specs.Reload.{KeepsNumbers};
 ghost use Rattle.fresh_gate.specs.Sound.{IsLast};
-ghost use Rattle.proxy_core.specs.CoreState.{IsOut, Opens, Feeds, Gives, Closes, LeavesLine, Reloads, client_at, dropped_by, output_by};
+ghost use Rattle.proxy_core.specs.CoreState.{IsOut, Opens, Feeds, Gives, Closes, LeavesLine, Reloads, client_at, dropped_by, held_by, output_by};
 ghost use Rattle.commands_under_way.specs.Lines.{is_standing};
 ghost use Rattle.proxy_core.specs.Polls.{Polls, PollFault, Then, Perhaps, BeginsOne, IsPolled};
 ghost use Rattle.proxy_core.specs.Settles.{FitsCall, asked, SettleFault};
@@ -63,6 +63,14 @@ impl FreshCore {
         ensures fresh { OnOk result (GoesFreshly self.old (λ entries. entries ≡ fed (dropped_by (client_at self.old.core client)) client piece.now) self.new) }
     {
         self.core.feed(client, piece)
+    }
+
+    /// As `Core::give_back_room`.
+    pub fn give_back_room(&mut self, client: usize) -> bool
+        ensures none { IsTrue result ↔ (held_by (client_at self.old.core client) ≡ []) }
+        ensures same { self.new ≡ self.old }
+    {
+        self.core.give_back_room(client)
     }
 
     /// As `Core::move_output`.

@@ -4,7 +4,7 @@ ghost use Rattle.std.specs.Prelude.{◌≡◌, ◌++◌, ◌↔◌, [], ◌∷�
 ghost use Rattle.send_buffer.specs.Sending.{bytes_of};
 ghost use Rattle.mc_runs.specs.Overlap as log;
 ghost use Rattle.proxy_core.specs.Faults.{IsClosed, CanOpen, CanFeed, CanClose, OpenFault, FeedFault, OutputFault, CloseFault};
-ghost use Rattle.proxy_core.specs.CoreState.{Opens, Feeds, Gives, Closes, LeavesLine, Reloads, client_at, dropped_by, output_by};
+ghost use Rattle.proxy_core.specs.CoreState.{Opens, Feeds, Gives, Closes, LeavesLine, Reloads, client_at, dropped_by, held_by, output_by};
 ghost use Rattle.commands_under_way.specs.Lines.{is_standing};
 ghost use Rattle.proxy_core.specs.Polls.{Polls, PollFault, Then, Perhaps, BeginsOne, IsPolled};
 ghost use Rattle.proxy_core.specs.Settles.{FitsCall, asked};
@@ -98,6 +98,17 @@ impl AnyCore {
         match self {
             AnyCore::Fresh(core) => core.feed(client, piece),
             AnyCore::Unchecked(core) => core.feed(client, piece),
+        }
+    }
+
+    /// As `Core::give_back_room`.
+    pub fn give_back_room(&mut self, client: usize) -> bool
+        ensures none { IsTrue result ↔ (held_by (client_at (core_of self.old) client) ≡ []) }
+        ensures same { self.new ≡ self.old }
+    {
+        match self {
+            AnyCore::Fresh(core) => core.give_back_room(client),
+            AnyCore::Unchecked(core) => core.give_back_room(client),
         }
     }
 

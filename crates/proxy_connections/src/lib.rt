@@ -16,7 +16,7 @@ pub use clients::{Client, Clients};
 pub use link::{Link, vain};
 pub use news::{Cause, LinkNews};
 pub use outcomes::{HeldAnswers, fail_all, settle_held};
-pub use room::{KEPT_ROOM, OWN_ROOM, give_back, has_spare};
+pub use room::{IDLE_ROOM, KEPT_ROOM, OWN_ROOM, give_back, has_spare};
 pub use settings::{ServerDialect, Settings};
 pub use sockets::{connect, note, send, turn_away, watch_stream};
 pub use tally::Tally;

@@ -7,6 +7,9 @@ use std::alloc::Global;
 /// An empty buffer with more room than this isn't kept by its end, in bytes.
 pub const KEPT_ROOM: usize = 262_144;
 
+/// Nor is one of a client's with more room than this, in bytes, where clients were not served for a while.
+pub const IDLE_ROOM: usize = 1_024;
+
 /// What a client has for its replies is for all clients while nothing is left in it, if it has more room than this, in bytes. The one that
 /// was given back last is taken first.
 pub const OWN_ROOM: usize = 32_768;

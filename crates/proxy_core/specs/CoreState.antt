@@ -27,7 +27,7 @@ use Rattle.proxy_core.specs.Claims.{claim_by, bars_by}
 use Rattle.commands_under_way.specs.Lines.{others}
 use Rattle.proxy_core.specs.declared.proxy.Core.{Core}
 use Rattle.core_client.specs.ClientState.{IsSlot}
-pub use Rattle.core_client.specs.ClientState.{dialect, Message, front_by, output_by, dropped_by}
+pub use Rattle.core_client.specs.ClientState.{dialect, Message, front_by, held_by, output_by, dropped_by}
 pub use Rattle.commands_under_way.specs.Begun.{owner_by}
 pub use Rattle.commands_under_way.specs.Out.{is_call, has_call_out}
 

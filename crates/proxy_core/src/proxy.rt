@@ -1,9 +1,9 @@
 //! The core and its calls.
 
 ghost use Rattle.slab.specs.Slab.{get};
-ghost use Rattle.std.specs.Prelude.{◌≡◌, ℕ, ◌++◌, ◌↔◌, IsTrue, IfOk, IfErr, OnOk, OnErr};
+ghost use Rattle.std.specs.Prelude.{◌≡◌, ℕ, [], ◌++◌, ◌↔◌, IsTrue, IfOk, IfErr, OnOk, OnErr};
 ghost use Rattle.send_buffer.specs.Sending.{bytes_of};
-ghost use Rattle.proxy_core.specs.CoreState.{IsFresh, IsOut, Opens, Feeds, Gives, Closes, LeavesLine, Reloads, client_at};
+ghost use Rattle.proxy_core.specs.CoreState.{IsFresh, IsOut, Opens, Feeds, Gives, Closes, LeavesLine, Reloads, client_at, held_by};
 ghost use Rattle.core_client.specs.ClientState.{output_by};
 ghost use Rattle.proxy_core.specs.Polls.{IsStalled};
 ghost use Rattle.commands_under_way.specs.Lines.{is_standing};
@@ -82,6 +82,18 @@ impl Core {
         match self.clients.get_mut(client) {
             None => Err(CoreFault::NoClient),
             Some(x) => feed_within(x, self.limits.held, piece),
+        }
+    }
+
+    /// Where nothing is held of the client that isn't done, as of one that isn't there, the room for that goes back: whether nothing is. It is for
+    /// clients that may say nothing for long.
+    pub fn give_back_room(&mut self, client: usize) -> bool
+        ensures none { IsTrue result ↔ (held_by (client_at self.old client) ≡ []) }
+        ensures same { self.new ≡ self.old }
+    {
+        match self.clients.get_mut(client) {
+            None => true,
+            Some(x) => x.give_back(self.alloc),
         }
     }
 

@@ -19,9 +19,9 @@ use mc_types::Dialect;
 use mio::net::{TcpListener, TcpStream};
 use mio::{Events, Poll, Token};
 use proxy_connections::{
-    Cause, Client, Clients, KEPT_ROOM, Link, LinkNews, OWN_ROOM, Settings, Tally, connect,
-    fail_all, feed_held, give_back, has_spare, note, read_once, send, send_once, settle_held, show,
-    turn_away, vain, watch_stream,
+    Cause, Client, Clients, IDLE_ROOM, KEPT_ROOM, Link, LinkNews, OWN_ROOM, Settings, Tally,
+    connect, fail_all, feed_held, give_back, has_spare, note, read_once, send, send_once,
+    settle_held, show, turn_away, vain, watch_stream,
 };
 use proxy_core::{CoreFault, Poll as Polled, Ticket};
 use route_json::Config;
@@ -48,7 +48,7 @@ const SPARES: usize = 8;
 
 const SPARE_ROOM: usize = 8_388_608;
 
-// How long such buffers are kept while nothing large comes, in milliseconds.
+// How long such buffers are kept while nothing large comes, and those of clients that wait for nothing, in milliseconds.
 const SPARE_MS: u64 = 1_000;
 
 // So many times at most a link is written and calls that waited for it go out, in one turn.
@@ -80,7 +80,7 @@ pub struct ProxyEnd {
     input: BytesMut,
     // Buffers with much room that clients had, the last one behind: replies are written into that where one is there.
     spares: Vec<SendBuffer>,
-    // When spare buffers, and those of links, give their room back, if they have much.
+    // When spare buffers, and those of links and clients, give their room back, if they have much.
     spare_until: Option<u64>,
     links: Vec<Link>,
     ready_links: Vec<usize>,
@@ -323,7 +323,7 @@ impl ProxyEnd {
         ensures core { GoesOn self.old.core.value self.new.core.value }
     {
         self.wait(rt, limit)?;
-        self.give_back_room();
+        self.give_back_room()?;
         self.fail_late()?;
         self.accept_ready();
         self.serve_links()?;
@@ -427,21 +427,64 @@ impl ProxyEnd {
         has_room
     }
 
-    // Where nothing large came for a while, the room that was for it goes back.
-    fn give_back_room(&mut self)
+    // The client's end gives back the room in which nothing is left.
+    fn give_back_end(&mut self, id: usize)
         ensures core { self.new.core ≡ self.old.core }
     {
-        match self.spare_until {
-            Some(time) if time <= self.time => {}
-            _ => return,
+        if let Some(client) = self.clients.get_mut(id) {
+            client.conn.give_back(self.alloc, IDLE_ROOM);
         }
+    }
+
+    // The room for what is to be sent to a client goes back where nothing is, and the core's for what it sent where all is done: whether all
+    // is.
+    fn give_back_client(&mut self, id: usize) -> io::Result<bool>
+        ensures core { GoesOn self.old.core.value self.new.core.value }
+    {
+        self.give_back_end(id);
+        // What the core has for it, mostly room alone, goes to its end.
+        self.show_client(id)?;
+        self.give_back_end(id);
+        Ok(self.core.give_back_room(id))
+    }
+
+    // The same of all clients. Whether something that one of them sent isn't done.
+    fn give_back_clients(&mut self) -> io::Result<bool>
+        ensures core { GoesOn self.old.core.value self.new.core.value }
+    {
+        let mut is_held = false;
+        for id in 0..self.clients.len() {
+            if !self.give_back_client(id)? {
+                is_held = true;
+            }
+        }
+        Ok(is_held)
+    }
+
+    // No buffer is spare any more, and the one that clients are read into has little room.
+    fn clear_spares(&mut self)
+        ensures core { self.new.core ≡ self.old.core }
+    {
         self.spare_until = None;
         self.spares.clear();
         if self.input.capacity() > KEPT_ROOM {
             self.input = BytesMut::new(self.alloc);
         }
+    }
+
+    // Where nothing large came for a while, the room that was for it goes back, and so does what clients that wait for nothing have.
+    fn give_back_room(&mut self) -> io::Result<()>
+        ensures core { GoesOn self.old.core.value self.new.core.value }
+    {
+        match self.spare_until {
+            Some(time) if time <= self.time => {}
+            _ => return Ok(()),
+        }
+        self.clear_spares();
         let has_room = self.give_back_links();
-        self.note_room(false, has_room);
+        let is_held = self.give_back_clients()?;
+        self.note_room(false, has_room || is_held);
+        Ok(())
     }
 
     // When the first of all links is late.
@@ -1273,6 +1316,8 @@ impl ProxyEnd {
     fn mark_rest(&mut self, id: usize, rest: Rest) -> Result<(), AllocError>
         ensures core { self.new.core ≡ self.old.core }
     {
+        // Who was served has room that it may not need for long.
+        self.note_room(false, true);
         // In rounds all is read as it comes.
         let in_rounds = self.in_rounds;
         let is_more = match self.clients.get_mut(id) {

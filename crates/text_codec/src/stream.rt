@@ -167,6 +167,18 @@ impl TextStream {
         self.skip = passed.skip;
     }
 
+    /// Where nothing is held, the room for it goes back: whether nothing is.
+    pub fn give_back(&mut self, alloc: Global) -> bool
+        ensures none { IsTrue result ↔ (held_at self.old ≡ []) }
+        ensures same { self.new ≡ self.old }
+    {
+        let is_none = self.held().is_empty();
+        if is_none {
+            self.held = ReceiveBuffer::new(alloc);
+        }
+        is_none
+    }
+
     /// Nothing is read any more.
     pub fn close(&mut self)
         ensures { self.new ≡ Closed }
