@@ -1,3 +1,5 @@
 pub mod Walked
 pub mod Failing
 pub mod Feeding
+pub mod Leaving
+pub mod Marked

@@ -1,4 +1,6 @@
 pub mod CoreSteps
 pub mod Links
+pub mod Marks
 pub mod Pieces
+pub mod Settled
 pub mod Waits

@@ -1,7 +1,9 @@
 //! The clients' ends, by their ids in the core, and which of them are to be served.
 
-ghost use Rattle.std.specs.Prelude.{◌≡◌, ◌+◌, ◌-◌, ◌<◌, length, min, nat_lt};
+ghost use Rattle.std.specs.Prelude.{◌≡◌, ◌≢◌, ℕ, ◌+◌, ◌-◌, ◌<◌, ◌++◌, ◌∷◌, [], OnOk, OnErr, Some, None, if◌then◌else◌, true, false, length, min, nat_lt, filter, slice_get, slice_set};
+ghost use Rattle.std.specs.Option.{option_map, option_flatten, option_copied_mut};
 ghost use Rattle.send_buffer.specs.Sending.{bytes_of};
+ghost use Rattle.proxy_connections.specs.Marks.{client_of, Changes, AreAlike, EndsBusy, ids_with, is_idle, with_ready, with_unsent, with_busy, one_settled, one_waits, one_waited};
 ghost use Rattle.proxy_connections.specs.Waits.{waits_a_turn};
 ghost use Rattle.proxy_connections.specs.declared.clients.TheConstants.{HELD_BACK};
 
@@ -124,6 +126,21 @@ impl Client {
         self.calls_out = self.calls_out.saturating_add(1);
     }
 
+    // One of its calls was settled, or has failed.
+    fn has_settled(&mut self)
+        ensures { self.new ≡ one_settled self.old }
+    {
+        self.settled = self.settled.saturating_add(1);
+        self.calls_out = self.calls_out.saturating_sub(1);
+    }
+
+    // One of its calls waits no longer.
+    fn has_waited(&mut self)
+        ensures { self.new ≡ one_waited self.old }
+    {
+        self.waiting = self.waiting.saturating_sub(1);
+    }
+
     // Whether few bytes are to be sent to it.
     fn has_few(&self) -> bool
         ensures { result ≡ nat_lt (length (bytes_of self.now.conn.unsent)) HELD_BACK }
@@ -152,6 +169,176 @@ impl Client {
     }
 }
 
+// A flag is set, and where it wasn't, the id comes to the end of these. Where memory is refused for that, nothing changes.
+fn mark(flag: &mut bool, ids: &mut Vec<usize>, id: usize) -> Result<(), AllocError>
+    ensures flag { OnOk result (flag.new ≡ true) }
+    ensures listed { OnOk result (ids.new.items ≡ (if flag.old then ids.old.items else ids.old.items ++ id ∷ [])) }
+    ensures refused { OnErr result (flag.new ≡ flag.old) }
+    ensures unlisted { OnErr result (ids.new.items ≡ ids.old.items) }
+{
+    if *flag {
+        return Ok(());
+    }
+    ids.push(id)?;
+    *flag = true;
+    Ok(())
+}
+
+// The client of this place, if there is one, is to be served.
+fn mark_ready_at(
+    place: &mut Option<Client>,
+    ids: &mut Vec<usize>,
+    id: usize,
+) -> Result<(), AllocError>
+    ensures client { OnOk result (place.new ≡ option_map (with_ready true) place.old) }
+    ensures listed { OnOk result (ids.new.items ≡ ids_with (λ x. x.is_ready) place.old id ids.old.items) }
+    ensures refused { OnErr result (place.new ≡ place.old) }
+    ensures unlisted { OnErr result (ids.new.items ≡ ids.old.items) }
+{
+    match place {
+        Some(client) => mark(&mut client.is_ready, ids, id),
+        None => Ok(()),
+    }
+}
+
+// It has something to send.
+fn mark_output_at(
+    place: &mut Option<Client>,
+    ids: &mut Vec<usize>,
+    id: usize,
+) -> Result<(), AllocError>
+    ensures client { OnOk result (place.new ≡ option_map (with_unsent true) place.old) }
+    ensures listed { OnOk result (ids.new.items ≡ ids_with (λ x. x.has_output) place.old id ids.old.items) }
+    ensures refused { OnErr result (place.new ≡ place.old) }
+    ensures unlisted { OnErr result (ids.new.items ≡ ids.old.items) }
+{
+    match place {
+        Some(client) => mark(&mut client.has_output, ids, id),
+        None => Ok(()),
+    }
+}
+
+// A command of it waits.
+fn mark_busy_at(
+    place: &mut Option<Client>,
+    ids: &mut Vec<usize>,
+    id: usize,
+) -> Result<(), AllocError>
+    ensures client { OnOk result (place.new ≡ option_map (with_busy true) place.old) }
+    ensures listed { OnOk result (ids.new.items ≡ ids_with (λ x. x.is_busy) place.old id ids.old.items) }
+    ensures refused { OnErr result (place.new ≡ place.old) }
+    ensures unlisted { OnErr result (ids.new.items ≡ ids.old.items) }
+{
+    match place {
+        Some(client) => mark(&mut client.is_busy, ids, id),
+        None => Ok(()),
+    }
+}
+
+// A call of it was settled, or has failed.
+fn mark_settled_at(
+    place: &mut Option<Client>,
+    ids: &mut Vec<usize>,
+    id: usize,
+) -> Result<(), AllocError>
+    ensures client { OnOk result (place.new ≡ option_map (λ x. with_ready true (one_settled x)) place.old) }
+    ensures listed { OnOk result (ids.new.items ≡ ids_with (λ x. x.is_ready) place.old id ids.old.items) }
+    ensures refused { OnErr result (place.new ≡ option_map one_settled place.old) }
+    ensures unlisted { OnErr result (ids.new.items ≡ ids.old.items) }
+{
+    match place {
+        Some(client) => {
+            client.has_settled();
+            mark(&mut client.is_ready, ids, id)
+        }
+        None => Ok(()),
+    }
+}
+
+// A call of it waits no longer.
+fn end_waiting_at(
+    place: &mut Option<Client>,
+    ids: &mut Vec<usize>,
+    id: usize,
+) -> Result<(), AllocError>
+    ensures client { OnOk result (place.new ≡ option_map (λ x. with_ready true (one_waited x)) place.old) }
+    ensures listed { OnOk result (ids.new.items ≡ ids_with (λ x. x.is_ready) place.old id ids.old.items) }
+    ensures refused { OnErr result (place.new ≡ option_map one_waited place.old) }
+    ensures unlisted { OnErr result (ids.new.items ≡ ids.old.items) }
+{
+    match place {
+        Some(client) => {
+            client.has_waited();
+            mark(&mut client.is_ready, ids, id)
+        }
+        None => Ok(()),
+    }
+}
+
+// A call of it waits.
+fn mark_waiting_at(place: &mut Option<Client>)
+    ensures { place.new ≡ option_map one_waits place.old }
+{
+    if let Some(client) = place {
+        client.waiting = client.waiting.saturating_add(1);
+    }
+}
+
+// It is ready no longer.
+fn end_ready_at(place: &mut Option<Client>)
+    ensures { place.new ≡ option_map (with_ready false) place.old }
+{
+    if let Some(client) = place {
+        client.is_ready = false;
+    }
+}
+
+// It is busy no longer: whether it is there, and isn't ready.
+fn end_busy_at(place: &mut Option<Client>) -> bool
+    ensures client { place.new ≡ option_map (with_busy false) place.old }
+    ensures idle { result ≡ is_idle place.old }
+{
+    match place {
+        Some(client) => {
+            client.is_busy = false;
+            !client.is_ready
+        }
+        None => false,
+    }
+}
+
+// What the system told of its socket: whether something is to be sent to it.
+fn note_at(place: &mut Option<Client>, told: Ready) -> bool
+    ensures { option_map (λ x. x.is_ready) place.new ≡ option_map (λ x. x.is_ready) place.old }
+{
+    match place {
+        Some(client) => {
+            note(&mut client.conn, told);
+            !client.conn.unsent.is_empty()
+        }
+        None => false,
+    }
+}
+
+// There are places up to this one at least, and nobody stands at a new one.
+fn make_place(all: &mut Vec<Option<Client>>, id: usize) -> Result<(), AllocError>
+    ensures there { OnOk result (id < length all.new.items) }
+    ensures same { (other : ℕ) → option_flatten (slice_get all.new.items other) ≡ option_flatten (slice_get all.old.items other) }
+{
+    for _ in all.len()..=id {
+        all.push(None)?;
+    }
+    Ok(())
+}
+
+// The client stands at this place.
+fn put_at(all: &mut Vec<Option<Client>>, id: usize, client: Client)
+    requires { id < length all.old.items }
+    ensures { all.new.items ≡ slice_set all.old.items id (Some client) }
+{
+    all[id] = Some(client);
+}
+
 /// All clients. Each stands once at most in each list.
 #[derive(Drop)]
 pub struct Clients {
@@ -172,139 +359,195 @@ impl Clients {
         }
     }
 
+    /// The ids of clients are below this.
+    pub fn len(&self) -> usize
+        ensures { result ≡ length self.now.all.items }
+    {
+        self.all.len()
+    }
+
     /// The client of this id.
-    pub fn get_mut(&mut self, id: usize) -> Option<&mut Client> {
+    pub fn get_mut(&mut self, id: usize) -> Option<&mut Client>
+        ensures { option_copied_mut result ≡ client_of self.old id }
+    {
         self.all.get_mut(id)?.as_mut()
     }
 
-    /// There is one more, of this id.
-    pub fn insert(&mut self, id: usize, client: Client) -> Result<(), AllocError> {
-        for _ in 0..=id {
-            if id < self.all.len() {
-                break;
-            }
-            self.all.push(None)?;
-        }
-        if let Some(place) = self.all.get_mut(id) {
-            *place = Some(client);
-        }
+    /// There is one more, of this id, and it is to be served.
+    pub fn insert(&mut self, id: usize, client: Client) -> Result<(), AllocError>
+        ensures there { OnOk result (client_of self.new id ≡ Some (with_ready true client)) }
+        ensures listed { OnOk result (self.new.ready.items ≡ ids_with (λ x. x.is_ready) (Some client) id self.old.ready.items) }
+        ensures unlisted { OnErr result (self.new.ready.items ≡ self.old.ready.items) }
+        ensures others { (other : ℕ) → other ≢ id → client_of self.new other ≡ client_of self.old other }
+        ensures rest { self.new ≡ record self.old { all = self.new.all; ready = self.new.ready } }
+    {
+        make_place(&mut self.all, id)?;
+        put_at(&mut self.all, id, client);
         self.mark_ready(id)
     }
 
     /// It is gone.
-    pub fn remove(&mut self, id: usize) {
+    pub fn remove(&mut self, id: usize)
+        ensures gone { self.new.all.items ≡ slice_set self.old.all.items id None }
+        ensures rest { self.new ≡ record self.old { all = self.new.all } }
+    {
         if let Some(place) = self.all.get_mut(id) {
             *place = None;
         }
     }
 
-    /// It is to be served.
-    pub fn mark_ready(&mut self, id: usize) -> Result<(), AllocError> {
-        let Some(client) = self.get_mut(id) else {
-            return Ok(());
-        };
-        if client.is_ready {
-            return Ok(());
+    /// It is to be served. Where memory is refused for that, nothing changes.
+    pub fn mark_ready(&mut self, id: usize) -> Result<(), AllocError>
+        ensures client { OnOk result (Changes (with_ready true) id self.old self.new) }
+        ensures listed { OnOk result (self.new.ready.items ≡ ids_with (λ x. x.is_ready) (client_of self.old id) id self.old.ready.items) }
+        ensures refused { OnErr result (AreAlike self.old self.new) }
+        ensures rest { self.new ≡ record self.old { all = self.new.all; ready = self.new.ready } }
+    {
+        match self.all.get_mut(id) {
+            Some(place) => mark_ready_at(place, &mut self.ready, id),
+            None => Ok(()),
         }
-        client.is_ready = true;
-        self.ready.push(id)?;
-        Ok(())
     }
 
-    /// It has something to send.
-    pub fn mark_output(&mut self, id: usize) -> Result<(), AllocError> {
-        let Some(client) = self.get_mut(id) else {
-            return Ok(());
-        };
-        if client.has_output {
-            return Ok(());
+    /// It has something to send. Where memory is refused for that, nothing changes.
+    pub fn mark_output(&mut self, id: usize) -> Result<(), AllocError>
+        ensures client { OnOk result (Changes (with_unsent true) id self.old self.new) }
+        ensures listed { OnOk result (self.new.with_output.items ≡ ids_with (λ x. x.has_output) (client_of self.old id) id self.old.with_output.items) }
+        ensures refused { OnErr result (AreAlike self.old self.new) }
+        ensures rest { self.new ≡ record self.old { all = self.new.all; with_output = self.new.with_output } }
+    {
+        match self.all.get_mut(id) {
+            Some(place) => mark_output_at(place, &mut self.with_output, id),
+            None => Ok(()),
         }
-        client.has_output = true;
-        self.with_output.push(id)?;
-        Ok(())
     }
 
-    /// A command of it waits for a key or a server.
-    pub fn mark_busy(&mut self, id: usize) -> Result<(), AllocError> {
-        let Some(client) = self.get_mut(id) else {
-            return Ok(());
-        };
-        if client.is_busy {
-            return Ok(());
+    /// A command of it waits for a key or a server. Where memory is refused for that, nothing changes.
+    pub fn mark_busy(&mut self, id: usize) -> Result<(), AllocError>
+        ensures client { OnOk result (Changes (with_busy true) id self.old self.new) }
+        ensures listed { OnOk result (self.new.busy.items ≡ ids_with (λ x. x.is_busy) (client_of self.old id) id self.old.busy.items) }
+        ensures refused { OnErr result (AreAlike self.old self.new) }
+        ensures rest { self.new ≡ record self.old { all = self.new.all; busy = self.new.busy } }
+    {
+        match self.all.get_mut(id) {
+            Some(place) => mark_busy_at(place, &mut self.busy, id),
+            None => Ok(()),
         }
-        client.is_busy = true;
-        self.busy.push(id)?;
-        Ok(())
     }
 
     /// Those that wait for a key or a server, but for those that are ready too, go after these.
-    pub fn move_busy(&mut self, to: &mut Vec<usize>) -> Result<(), AllocError> {
+    pub fn move_busy(&mut self, to: &mut Vec<usize>) -> Result<(), AllocError>
+        ensures moved { OnOk result (to.new.items ≡ to.old.items ++ filter (λ id. is_idle (client_of self.old id)) self.old.busy.items) }
+        ensures clients { OnOk result (EndsBusy self.old.busy.items self.old self.new) }
+        ensures none { OnOk result (self.new.busy.items ≡ []) }
+        ensures rest { self.new ≡ record self.old { all = self.new.all; busy = self.new.busy } }
+    {
         for i in 0..self.busy.len() {
-            if let Some(id) = self.busy.get(i) {
-                let id = *id;
-                if self.end_busy(id) {
-                    to.push(id)?;
-                }
-            }
+            let id = self.busy[i];
+            self.move_one(id, to)?;
         }
         self.busy.clear();
         Ok(())
     }
 
+    // One that waits for a key or a server does so no longer, and goes after these if it isn't ready.
+    fn move_one(&mut self, id: usize, to: &mut Vec<usize>) -> Result<(), AllocError>
+        ensures client { Changes (with_busy false) id self.old self.new }
+        ensures moved { OnOk result (to.new.items ≡ (if is_idle (client_of self.old id) then to.old.items ++ id ∷ [] else to.old.items)) }
+        ensures rest { self.new ≡ record self.old { all = self.new.all } }
+    {
+        if self.end_busy(id) {
+            to.push(id)?;
+        }
+        Ok(())
+    }
+
     /// It stands no longer among those that are ready.
-    pub fn end_ready(&mut self, id: usize) {
-        if let Some(client) = self.get_mut(id) {
-            client.is_ready = false;
+    pub fn end_ready(&mut self, id: usize)
+        ensures client { Changes (with_ready false) id self.old self.new }
+        ensures rest { self.new ≡ record self.old { all = self.new.all } }
+    {
+        if let Some(place) = self.all.get_mut(id) {
+            end_ready_at(place);
         }
     }
 
     /// It stands no longer among those that wait: whether it is to be served for that, as it isn't ready.
-    pub fn end_busy(&mut self, id: usize) -> bool {
-        match self.get_mut(id) {
-            Some(client) => {
-                client.is_busy = false;
-                !client.is_ready
-            }
+    pub fn end_busy(&mut self, id: usize) -> bool
+        ensures client { Changes (with_busy false) id self.old self.new }
+        ensures idle { result ≡ is_idle (client_of self.old id) }
+        ensures rest { self.new ≡ record self.old { all = self.new.all } }
+    {
+        match self.all.get_mut(id) {
+            Some(place) => end_busy_at(place),
             None => false,
         }
     }
 
     /// A call of it was settled, or has failed.
-    pub fn mark_settled(&mut self, id: usize) -> Result<(), AllocError> {
-        if let Some(client) = self.get_mut(id) {
-            client.settled = client.settled.saturating_add(1);
-            client.calls_out = client.calls_out.saturating_sub(1);
+    pub fn mark_settled(&mut self, id: usize) -> Result<(), AllocError>
+        ensures client { OnOk result (Changes (λ x. with_ready true (one_settled x)) id self.old self.new) }
+        ensures listed { OnOk result (self.new.ready.items ≡ ids_with (λ x. x.is_ready) (client_of self.old id) id self.old.ready.items) }
+        ensures refused { OnErr result (Changes one_settled id self.old self.new) }
+        ensures unlisted { OnErr result (self.new.ready.items ≡ self.old.ready.items) }
+        ensures rest { self.new ≡ record self.old { all = self.new.all; ready = self.new.ready } }
+    {
+        match self.all.get_mut(id) {
+            Some(place) => mark_settled_at(place, &mut self.ready, id),
+            None => Ok(()),
         }
-        self.mark_ready(id)
     }
 
     /// A call of it waits until its server takes more.
-    pub fn mark_waiting(&mut self, id: usize) {
-        if let Some(client) = self.get_mut(id) {
-            client.waiting = client.waiting.saturating_add(1);
+    pub fn mark_waiting(&mut self, id: usize)
+        ensures client { Changes one_waits id self.old self.new }
+        ensures rest { self.new ≡ record self.old { all = self.new.all } }
+    {
+        if let Some(place) = self.all.get_mut(id) {
+            mark_waiting_at(place);
         }
     }
 
     /// A call of it waits no longer.
-    pub fn end_waiting(&mut self, id: usize) -> Result<(), AllocError> {
-        if let Some(client) = self.get_mut(id) {
-            client.waiting = client.waiting.saturating_sub(1);
+    pub fn end_waiting(&mut self, id: usize) -> Result<(), AllocError>
+        ensures client { OnOk result (Changes (λ x. with_ready true (one_waited x)) id self.old self.new) }
+        ensures listed { OnOk result (self.new.ready.items ≡ ids_with (λ x. x.is_ready) (client_of self.old id) id self.old.ready.items) }
+        ensures refused { OnErr result (Changes one_waited id self.old self.new) }
+        ensures unlisted { OnErr result (self.new.ready.items ≡ self.old.ready.items) }
+        ensures rest { self.new ≡ record self.old { all = self.new.all; ready = self.new.ready } }
+    {
+        match self.all.get_mut(id) {
+            Some(place) => end_waiting_at(place, &mut self.ready, id),
+            None => Ok(()),
         }
-        self.mark_ready(id)
     }
 
     /// What the system told of its socket.
-    pub fn note(&mut self, id: usize, told: Ready) -> Result<(), AllocError> {
-        let Some(client) = self.get_mut(id) else {
-            return Ok(());
+    pub fn note(&mut self, id: usize, told: Ready) -> Result<(), AllocError>
+        ensures served { OnOk result (self.new.ready.items ≡ (if told.reads then ids_with (λ x. x.is_ready) (client_of self.old id) id self.old.ready.items else self.old.ready.items)) }
+        ensures unsent { told.writes ≡ false → self.new.with_output.items ≡ self.old.with_output.items }
+        ensures others { (other : ℕ) → other ≢ id → client_of self.new other ≡ client_of self.old other }
+        ensures rest { self.new ≡ record self.old { all = self.new.all; ready = self.new.ready; with_output = self.new.with_output } }
+    {
+        let has_output = match self.all.get_mut(id) {
+            Some(place) => note_at(place, told),
+            None => return Ok(()),
         };
-        note(&mut client.conn, told);
-        let has_output = !client.conn.unsent.is_empty();
-        if told.reads {
+        self.mark_told(id, told.reads, told.writes && has_output)
+    }
+
+    // There is something to read of it, or it takes what is to be sent.
+    fn mark_told(&mut self, id: usize, reads: bool, writes: bool) -> Result<(), AllocError>
+        ensures served { OnOk result (self.new.ready.items ≡ (if reads then ids_with (λ x. x.is_ready) (client_of self.old id) id self.old.ready.items else self.old.ready.items)) }
+        ensures unsent { writes ≡ false → self.new.with_output.items ≡ self.old.with_output.items }
+        ensures others { (other : ℕ) → other ≢ id → client_of self.new other ≡ client_of self.old other }
+        ensures rest { self.new ≡ record self.old { all = self.new.all; ready = self.new.ready; with_output = self.new.with_output } }
+    {
+        if reads {
             self.mark_ready(id)?;
         }
-        if told.writes && has_output {
-            self.mark_output(id)?;
+        if writes {
+            return self.mark_output(id);
         }
         Ok(())
     }

@@ -1,8 +1,10 @@
 //! The outcomes of a link's calls, for the core and the clients: answers settle them, or they fail.
 
-ghost use Rattle.std.specs.Prelude.{◌≡◌, ◌++◌, [], None, OnOk};
+ghost use Rattle.std.specs.Prelude.{◌≡◌, ◌≢◌, true, ◌++◌, [], drop, None, IfSome, IfOk, OnOk};
+ghost use Rattle.link_calls.specs.Calls.{SettlesNext};
 ghost use Rattle.proxy_connections.specs.CoreSteps.{GoesOn, Fails};
 ghost use Rattle.proxy_connections.specs.Links.{AllFail, IsDown};
+ghost use Rattle.proxy_connections.specs.Settled.{HoldsNoAnswer, SettlesSome, used_by};
 
 use crate::clients::Clients;
 use crate::link::Link;
@@ -125,6 +127,13 @@ enum Front {
     Foreign,
 }
 
+// What stands from this place on.
+fn rest_of(bytes: &[u8], at: usize) -> &[u8]
+    ensures { result.now ≡ drop at bytes.now }
+{
+    bytes.get(at..).unwrap_or(b"".as_slice())
+}
+
 // Whether the answer in front may have long data, by its first bytes: after `VA` a length of four digits follows at once. Among many small answers no
 // further word of them is read for that. A classic one tells its length later, and is looked at only where much is held.
 fn may_be_long(held: &[u8]) -> bool {
@@ -147,7 +156,9 @@ fn whole_front(from: usize, held: &[u8]) -> Option<usize> {
 }
 
 // What stands in front, if that is an answer to stop at.
-fn front_stop(stops: Stops, held: &[u8]) -> Option<Stop> {
+fn front_stop(stops: Stops, held: &[u8]) -> Option<Stop>
+    ensures { IfSome result (λ stop. stop ≢ Stop.More) }
+{
     let from = match stops {
         Stops::Never => return None,
         Stops::AtLong => CUT_FROM,
@@ -163,6 +174,7 @@ fn front_stop(stops: Stops, held: &[u8]) -> Option<Stop> {
 // The first call is settled by its answer, if these bytes begin with it.
 fn settle_first(calls: &mut LinkCalls, core: &mut AnyCore, received: &Received) -> Next
     ensures core { GoesOn core.old core.new }
+    ensures next { SettlesNext calls.old.sent.items received.now core.old result calls.new.sent.items core.new }
 {
     calls.settle_next(core, received)
 }
@@ -170,6 +182,7 @@ fn settle_first(calls: &mut LinkCalls, core: &mut AnyCore, received: &Received) 
 // The first call is settled by its answer, if what stands from this place on begins with it. (apart, so that what is made for it is gone by the end)
 fn settle_at(calls: &mut LinkCalls, core: &mut AnyCore, received: &Received, at: usize) -> Next
     ensures core { GoesOn core.old core.new }
+    ensures next { SettlesNext calls.old.sent.items (drop at received.now) core.old result calls.new.sent.items core.new }
 {
     let at = at.min(received.bytes().len());
     settle_first(calls, core, &received.after(at))
@@ -185,11 +198,13 @@ fn settle_in(
     stops: Stops,
 ) -> Result<(usize, Stop), AllocError>
     ensures core { GoesOn core.old core.new }
+    ensures left { IfOk result (λ did. did.1 ≡ Stop.More → HoldsNoAnswer calls.new.sent.items (drop did.0 received.now) core.new) }
+    ensures settled { IfOk result (λ did. SettlesSome calls.old.sent.items received.now core.old calls.new.sent.items (drop did.0 received.now) core.new) }
 {
     let held = received.bytes();
     let mut used = 0usize;
     for _ in 0..held.len() {
-        let rest = held.get(used..).unwrap_or(b"".as_slice());
+        let rest = rest_of(held, used);
         if rest.is_empty() {
             return Ok((used, Stop::More));
         }
@@ -206,6 +221,10 @@ fn settle_in(
             Next::Foreign => return Ok((used, Stop::Foreign)),
         }
     }
+    // No answer is empty, so nothing is left here.
+    if used < held.len() {
+        return Ok((used, Stop::Foreign));
+    }
     Ok((used, Stop::More))
 }
 
@@ -219,6 +238,8 @@ fn settle_here(
     stops: Stops,
 ) -> Result<(usize, Stop), AllocError>
     ensures core { GoesOn core.old core.new }
+    ensures left { IfOk result (λ did. did.1 ≡ Stop.More → HoldsNoAnswer calls.new.sent.items (drop did.0 held.now) core.new) }
+    ensures settled { IfOk result (λ did. SettlesSome calls.old.sent.items held.now core.old calls.new.sent.items (drop did.0 held.now) core.new) }
 {
     settle_in(
         calls,
@@ -239,6 +260,8 @@ fn settle_cut(
     front: &Bytes,
 ) -> Result<(usize, Stop), AllocError>
     ensures core { GoesOn core.old core.new }
+    ensures left { IfOk result (λ did. did.1 ≡ Stop.More → HoldsNoAnswer calls.new.sent.items (drop did.0 front.now) core.new) }
+    ensures settled { IfOk result (λ did. SettlesSome calls.old.sent.items front.now core.old calls.new.sent.items (drop did.0 front.now) core.new) }
 {
     settle_in(
         calls,
@@ -259,6 +282,8 @@ fn settle_copied(
     conn: &mut Conn<TcpStream>,
 ) -> Result<Front, AllocError>
     ensures core { GoesOn core.old core.new }
+    ensures left { IfOk result (λ front. front ≡ Front.More → HoldsNoAnswer calls.new.sent.items conn.new.held.items core.new) }
+    ensures settled { IfOk result (λ front. front ≢ Front.Foreign → SettlesSome calls.old.sent.items conn.old.held.items core.old calls.new.sent.items conn.new.held.items core.new) }
 {
     match settle_first(calls, core, &Received::copied(conn.held.as_slice())) {
         Next::Settled { client, used } => {
@@ -273,13 +298,18 @@ fn settle_copied(
 }
 
 // What these bytes have besides so many is held again. Whether memory was there for that.
-fn hold_rest(conn: &mut Conn<TcpStream>, front: &Bytes, used: usize) -> bool {
-    let rest = front.as_slice().get(used..).unwrap_or(b"".as_slice());
+fn hold_rest(conn: &mut Conn<TcpStream>, front: &Bytes, used: usize) -> bool
+    ensures { result ≡ true → conn.new.held.items ≡ drop used front.now ++ conn.old.held.items }
+{
+    let rest = rest_of(front.as_slice(), used);
     conn.hold_again(rest, ROOM_AFTER).is_ok()
 }
 
 // What was done with the answer after those that were settled from a part that was cut off, of which the rest is held again or not.
-fn front_after(stop: Stop, is_kept: bool) -> Front {
+fn front_after(stop: Stop, is_kept: bool) -> Front
+    ensures stop { result ≡ Front.More → stop ≡ Stop.More }
+    ensures kept { result ≢ Front.Foreign → is_kept ≡ true }
+{
     match stop {
         Stop::More if is_kept => Front::More,
         _ => Front::Foreign,
@@ -295,6 +325,8 @@ fn settle_long(
     conn: &mut Conn<TcpStream>,
 ) -> Result<(bool, Front), AllocError>
     ensures core { GoesOn core.old core.new }
+    ensures left { IfOk result (λ did. did.1 ≡ Front.More → HoldsNoAnswer calls.new.sent.items conn.new.held.items core.new) }
+    ensures settled { IfOk result (λ did. did.1 ≢ Front.Foreign → SettlesSome calls.old.sent.items conn.old.held.items core.old calls.new.sent.items conn.new.held.items core.new) }
 {
     let Ok(front) = conn.held.freeze_to(conn.held.len()) else {
         let front = settle_copied(calls, core, clients, is_freed, conn)?;
@@ -303,6 +335,16 @@ fn settle_long(
     let (used, stop) = settle_cut(calls, core, clients, is_freed, &front)?;
     let is_kept = hold_rest(conn, &front, used);
     Ok((used > 0, front_after(stop, is_kept)))
+}
+
+// How many bytes the answer took that was settled, if one was.
+fn used_by(next: Next) -> usize
+    ensures { result ≡ used_by next }
+{
+    match next {
+        Next::Settled { client: _, used } => used,
+        _ => 0,
+    }
 }
 
 // The first call is settled by its answer, if these bytes begin with it, and what they have besides is held again: what was done, and
@@ -314,12 +356,10 @@ fn settle_shared(
     conn: &mut Conn<TcpStream>,
 ) -> (Next, bool)
     ensures core { GoesOn core.old core.new }
+    ensures settled { result.1 ≡ true → SettlesSome calls.old.sent.items (front.now ++ conn.old.held.items) core.old calls.new.sent.items conn.new.held.items core.new }
 {
     let next = settle_first(calls, core, &Received::shared(front));
-    let used = match next {
-        Next::Settled { client: _, used } => used,
-        _ => 0,
-    };
+    let used = used_by(next);
     let is_kept = used == front.len() || hold_rest(conn, front, used);
     (next, is_kept)
 }
@@ -335,6 +375,8 @@ fn settle_large(
     len: usize,
 ) -> Result<Front, AllocError>
     ensures core { GoesOn core.old core.new }
+    ensures left { IfOk result (λ front. front ≡ Front.More → HoldsNoAnswer calls.new.sent.items conn.new.held.items core.new) }
+    ensures settled { IfOk result (λ front. front ≢ Front.Foreign → SettlesSome calls.old.sent.items conn.old.held.items core.old calls.new.sent.items conn.new.held.items core.new) }
 {
     let len = len.min(conn.held.len());
     let Ok(front) = conn.held.freeze_to(len) else {
@@ -364,7 +406,10 @@ fn settle_stop(
     conn: &mut Conn<TcpStream>,
     stop: Stop,
 ) -> Result<(bool, Front), AllocError>
+    requires { stop ≡ Stop.More → HoldsNoAnswer calls.old.sent.items conn.old.held.items core.old }
     ensures core { GoesOn core.old core.new }
+    ensures left { IfOk result (λ did. did.1 ≡ Front.More → HoldsNoAnswer calls.new.sent.items conn.new.held.items core.new) }
+    ensures settled { IfOk result (λ did. did.1 ≢ Front.Foreign → SettlesSome calls.old.sent.items conn.old.held.items core.old calls.new.sent.items conn.new.held.items core.new) }
 {
     match stop {
         Stop::More => Ok((false, Front::More)),
@@ -387,6 +432,8 @@ fn settle_some(
     stops: Stops,
 ) -> Result<(bool, Front), AllocError>
     ensures core { GoesOn core.old core.new }
+    ensures left { IfOk result (λ did. did.1 ≡ Front.More → HoldsNoAnswer calls.new.sent.items conn.new.held.items core.new) }
+    ensures settled { IfOk result (λ did. did.1 ≢ Front.Foreign → SettlesSome calls.old.sent.items conn.old.held.items core.old calls.new.sent.items conn.new.held.items core.new) }
 {
     let (used, stop) = settle_here(calls, core, clients, is_freed, conn.held.as_slice(), stops)?;
     use_held(conn, used);
@@ -410,7 +457,9 @@ fn stops_for(calls: &mut LinkCalls, conn: &mut Conn<TcpStream>) -> Stops
     }
 }
 
-fn told(has_settled: bool, is_kept: bool, held: &[u8]) -> HeldAnswers {
+fn told(has_settled: bool, is_kept: bool, held: &[u8]) -> HeldAnswers
+    ensures { result.is_kept ≡ is_kept }
+{
     HeldAnswers {
         has_settled,
         is_kept,
@@ -418,9 +467,9 @@ fn told(has_settled: bool, is_kept: bool, held: &[u8]) -> HeldAnswers {
     }
 }
 
-/// All whole answers that the link's connection holds are settled, and are held no more. Large data, of [`SHARED_FROM`] bytes or more, share the buffer
-/// that they came in. So do long ones, of [`CUT_FROM`] bytes or more, where 16,384 bytes or more are held and none that shared another buffer before is
-/// in use. All others are copied.
+/// All whole answers that the link's connection holds are settled, one after another, and are held no more: nothing is left, or the begin of the next one.
+/// Where what is left can't be kept, nothing is said of it. Large data, of [`SHARED_FROM`] bytes or more, share the buffer that they came in. So do long
+/// ones, of [`CUT_FROM`] bytes or more, where 16,384 bytes or more are held and none that shared another buffer before is in use. All others are copied.
 pub fn settle_held(
     calls: &mut LinkCalls,
     core: &mut AnyCore,
@@ -429,6 +478,8 @@ pub fn settle_held(
     conn: &mut Conn<TcpStream>,
 ) -> Result<HeldAnswers, AllocError>
     ensures core { GoesOn core.old core.new }
+    ensures left { IfOk result (λ answers. answers.is_kept ≡ true → HoldsNoAnswer calls.new.sent.items conn.new.held.items core.new) }
+    ensures settled { IfOk result (λ answers. answers.is_kept ≡ true → SettlesSome calls.old.sent.items conn.old.held.items core.old calls.new.sent.items conn.new.held.items core.new) }
 {
     let stops = stops_for(calls, conn);
     let mut has_settled = false;
@@ -440,5 +491,7 @@ pub fn settle_held(
             Front::Foreign => return Ok(told(has_settled || others, false, conn.held.as_slice())),
         }
     }
-    Ok(told(has_settled, true, conn.held.as_slice()))
+    // Nothing is held here either.
+    let is_kept = conn.held.is_empty();
+    Ok(told(has_settled, is_kept, conn.held.as_slice()))
 }

@@ -1,5 +1,7 @@
 //! Sockets of a proxy: how they are watched and connected, what the system tells of them, and what is sent.
 
+ghost use Rattle.std.specs.Prelude.{◌≡◌, drop};
+
 use mio::Poll;
 use mio::net::TcpStream;
 use std::io;
@@ -41,7 +43,9 @@ pub fn note(conn: &mut Conn<TcpStream>, told: Ready) {
 }
 
 /// So many bytes of what is held are done with.
-pub fn use_held(conn: &mut Conn<TcpStream>, count: usize) {
+pub fn use_held(conn: &mut Conn<TcpStream>, count: usize)
+    ensures { conn.new.held.items ≡ drop count conn.old.held.items }
+{
     let count = count.min(conn.held.len());
     conn.use_held(count);
 }
