@@ -21,7 +21,18 @@ gets 1 => mn\r\nget a\r\n
 send 1 MN\r\nSTORED\r\n
 gets 0 => SERVER_ERROR call failed\r\n
 closed 1 => yes
-news => server 0: failed: it sent what is no answer to the oldest call, 1 in a row"
+news => server 0: failed: it sent what is no answer to the oldest call, 1 in a row
+
+A server that goes, and has not read what it was sent.
+server
+strict-proxy <one server>
+connect => 0
+send 0 get a\r\n
+turn 4
+accept => 1
+leave 1
+gets 0 => SERVER_ERROR call failed\r\n
+news => server 0: failed: reading or writing failed, 1 in a row"
 }
 
 #[test]
