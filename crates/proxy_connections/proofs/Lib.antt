@@ -2,4 +2,3 @@ pub mod Walked
 pub mod Failing
 pub mod Feeding
 pub mod Leaving
-pub mod Marked

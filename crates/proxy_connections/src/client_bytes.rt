@@ -7,10 +7,9 @@ ghost use Rattle.link_calls.specs.Cores.{core_of};
 ghost use Rattle.proxy_connections.specs.CoreSteps.{GoesOn};
 ghost use Rattle.proxy_connections.specs.Pieces.{Takes};
 
-use crate::clients::Client;
-use crate::sockets::send;
 use crate::tally::Tally;
 use link_calls::AnyCore;
+use proxy_clients::{Client, send};
 use proxy_core::CoreFault;
 use tcp_socket::Got;
 

@@ -1,22 +1,18 @@
-//! The connections of a proxy: one client's end, one server's link, and what each of them does to the core.
+//! The connections of a proxy: one client's bytes, one server's link, and what each of them does to the core.
 #![tactic(auto)]
 
 mod client_bytes;
-mod clients;
 mod link;
 mod news;
 mod outcomes;
 mod room;
 mod settings;
-mod sockets;
 mod tally;
 
 pub use client_bytes::{feed_held, read_once, send_once, show};
-pub use clients::{Client, Clients};
 pub use link::{Link, vain};
 pub use news::{Cause, LinkNews};
 pub use outcomes::{HeldAnswers, fail_all, settle_held};
 pub use room::{IDLE_ROOM, KEPT_ROOM, OWN_ROOM, give_back, has_spare};
 pub use settings::{ServerDialect, Settings};
-pub use sockets::{connect, note, send, turn_away, watch_stream};
 pub use tally::Tally;

@@ -5,11 +5,11 @@ ghost use Rattle.proxy_connections.specs.Links.{IsDown};
 
 use crate::news::{Cause, LinkNews};
 use crate::settings::{ServerDialect, Settings};
-use crate::sockets::use_held;
 use link_calls::{LinkCalls, SentCall};
 use mc_types::Dialect;
 use meta_asks::{DialectRead, read_dialect, write_noop};
 use mio::net::TcpStream;
+use proxy_clients::use_held;
 use std::alloc::{AllocError, AllocFailed, Global};
 use std::collections::VecDeque;
 use std::net::SocketAddr;

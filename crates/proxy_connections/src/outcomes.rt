@@ -6,12 +6,11 @@ ghost use Rattle.proxy_connections.specs.CoreSteps.{GoesOn, Fails};
 ghost use Rattle.proxy_connections.specs.Links.{AllFail, IsDown};
 ghost use Rattle.proxy_connections.specs.Settled.{HoldsNoAnswer, SettlesSome, used_by};
 
-use crate::clients::Clients;
 use crate::link::Link;
-use crate::sockets::use_held;
 use bytes::Bytes;
 use link_calls::{AnyCore, LinkCalls, Next, fail_call};
 use mio::net::TcpStream;
+use proxy_clients::{Clients, use_held};
 use std::alloc::AllocError;
 use tcp_socket::Conn;
 use text_codec::{CUT_FROM, Received, SHARED_FROM, large_len};

@@ -18,10 +18,10 @@ use link_calls::{AnyCore, LoadFault, SentCall, fail_call};
 use mc_types::Dialect;
 use mio::net::{TcpListener, TcpStream};
 use mio::{Events, Poll, Token};
+use proxy_clients::{Client, Clients, connect, note, send, turn_away, watch_stream};
 use proxy_connections::{
-    Cause, Client, Clients, IDLE_ROOM, KEPT_ROOM, Link, LinkNews, OWN_ROOM, Settings, Tally,
-    connect, fail_all, feed_held, give_back, has_spare, note, read_once, send, send_once,
-    settle_held, show, turn_away, vain, watch_stream,
+    Cause, IDLE_ROOM, KEPT_ROOM, Link, LinkNews, OWN_ROOM, Settings, Tally, fail_all, feed_held,
+    give_back, has_spare, read_once, send_once, settle_held, show, vain,
 };
 use proxy_core::{CoreFault, Poll as Polled, Ticket};
 use route_json::Config;

@@ -3,9 +3,9 @@
 ghost use Rattle.std.specs.Prelude.{◌≡◌, ◌≢◌, ℕ, ◌+◌, ◌-◌, ◌<◌, ◌++◌, ◌∷◌, [], OnOk, OnErr, Some, None, if◌then◌else◌, true, false, length, min, nat_lt, filter, slice_get, slice_set};
 ghost use Rattle.std.specs.Option.{option_map, option_flatten, option_copied_mut};
 ghost use Rattle.send_buffer.specs.Sending.{bytes_of};
-ghost use Rattle.proxy_connections.specs.Marks.{client_of, Changes, AreAlike, EndsBusy, ids_with, is_idle, with_ready, with_unsent, with_busy, one_settled, one_waits, one_waited};
-ghost use Rattle.proxy_connections.specs.Waits.{waits_a_turn};
-ghost use Rattle.proxy_connections.specs.declared.clients.TheConstants.{HELD_BACK};
+ghost use Rattle.proxy_clients.specs.Marks.{client_of, Changes, AreAlike, EndsBusy, ids_with, is_idle, with_ready, with_unsent, with_busy, one_settled, one_waits, one_waited};
+ghost use Rattle.proxy_clients.specs.Waits.{waits_a_turn};
+ghost use Rattle.proxy_clients.specs.declared.clients.TheConstants.{HELD_BACK};
 
 use crate::sockets::note;
 use mio::net::TcpStream;

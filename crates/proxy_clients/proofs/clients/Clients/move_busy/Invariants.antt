@@ -1,8 +1,8 @@
 use Rattle.std.proofs.Common.{◌≡◌, ◌++◌, take}
 use Rattle.std.specs.Prelude.{filter}
-use Rattle.proxy_connections.specs.Marks.{client_of, is_idle, EndsBusy}
-use Rattle.proxy_connections.proofs.Marked.{Erased}
-use Rattle.proxy_connections.proofs.clients.Clients.move_busy.Given as goal
+use Rattle.proxy_clients.specs.Marks.{client_of, is_idle, EndsBusy}
+use Rattle.proxy_clients.proofs.Marked.{Erased}
+use Rattle.proxy_clients.proofs.clients.Clients.move_busy.Given as goal
 
 abbrev pub invariant-loop-i : goal.invariant-loop-i
 invariant-loop-i l = record {

@@ -1,8 +1,8 @@
 -- The clients by their ids, and the lists of those that are marked. Source: mcgate's own.
 use Rattle.std.specs.Prelude.{◌≡◌, ℕ, ◌+◌, ◌-◌, ◌^◌, min, Bool, false, not, List, [], ◌∷◌, ◌++◌, Option, Some, None, if◌then◌else◌, slice_get, slice_set, Contains}
 use Rattle.std.specs.Option.{option_map, option_flatten}
-use Rattle.proxy_connections.specs.declared.clients.Client.{Client}
-use Rattle.proxy_connections.specs.declared.clients.Clients.{Clients}
+use Rattle.proxy_clients.specs.declared.clients.Client.{Client}
+use Rattle.proxy_clients.specs.declared.clients.Clients.{Clients}
 
 -- the client of this id, if there is one
 abbrev pub client_of : Clients → ℕ → Option Client

@@ -5,9 +5,9 @@ use Rattle.std.proofs.lemmas.List.{take_more, append-nil}
 use Rattle.std.proofs.lemmas.List.Elements.{filter_more, Contains-append_left, Contains-append_right, Contains-append_cases}
 use Rattle.std.specs.Prelude.{slice_get, slice_set, filter, Contains, OnOk, OnErr}
 use Rattle.std.specs.Option.{option_map, option_flatten}
-use Rattle.proxy_connections.specs.declared.clients.Client.{Client}
-use Rattle.proxy_connections.specs.declared.clients.Clients.{Clients}
-use Rattle.proxy_connections.specs.Marks.{client_of, Changes, AreAlike, EndsBusy, is_idle, with_busy}
+use Rattle.proxy_clients.specs.declared.clients.Client.{Client}
+use Rattle.proxy_clients.specs.declared.clients.Clients.{Clients}
+use Rattle.proxy_clients.specs.Marks.{client_of, Changes, AreAlike, EndsBusy, is_idle, with_busy}
 
 -- what was put at a place is there
 at_place : {A : Type 0} (xs : List A) (i : ℕ) (x : A) → i < length xs → slice_get (slice_set xs i x) i ≡ Some x

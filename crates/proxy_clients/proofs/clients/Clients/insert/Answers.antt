@@ -1,8 +1,8 @@
 use Rattle.std.proofs.Common.{◌∙◌}
-use Rattle.proxy_connections.specs.Marks.{with_ready}
+use Rattle.proxy_clients.specs.Marks.{with_ready}
 use Rattle.std.specs.Prelude.{true}
-use Rattle.proxy_connections.proofs.Marked.{put_changed, kept, kept_by}
-use Rattle.proxy_connections.proofs.clients.Clients.insert.Goals as goal
+use Rattle.proxy_clients.proofs.Marked.{put_changed, kept, kept_by}
+use Rattle.proxy_clients.proofs.clients.Clients.insert.Goals as goal
 
 pub returns-clause-there : goal.returns-clause-there
 returns-clause-there c = put_changed c.mark_ready.result (with_ready true) c.make_place.new.all.items c.put_at.new.all.items c.mark_ready.new.self.all.items c.args.id c.args.client (c.in_ok-make_place.ensures.there) c.put_at.ensures c.mark_ready.ensures.client

@@ -1,7 +1,7 @@
 use Rattle.std.proofs.Common.{◌≡◌, ◌∙◌, ◌<◌, ap, sym, length, get_or, rules}
-use Rattle.proxy_connections.specs.Marks.{client_of, is_idle}
-use Rattle.proxy_connections.proofs.Marked.{erased_more, ends_more, moved_more, idle_still}
-use Rattle.proxy_connections.proofs.clients.Clients.move_busy.Goals as goal
+use Rattle.proxy_clients.specs.Marks.{client_of, is_idle}
+use Rattle.proxy_clients.proofs.Marked.{erased_more, ends_more, moved_more, idle_still}
+use Rattle.proxy_clients.proofs.clients.Clients.move_busy.Goals as goal
 
 pub loop-i-preserved : goal.loop-i-preserved
 loop-i-preserved c =

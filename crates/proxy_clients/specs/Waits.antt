@@ -1,8 +1,8 @@
 -- When what is to be sent to a client waits for a turn. Source: mcgate's own.
 use Rattle.std.specs.Prelude.{Bool, not, ◌&&◌, nat_lt, length}
 use Rattle.send_buffer.specs.Sending.{bytes_of}
-use Rattle.proxy_connections.specs.declared.clients.TheConstants.{HELD_BACK}
-use Rattle.proxy_connections.specs.declared.clients.Client.{Client}
+use Rattle.proxy_clients.specs.declared.clients.TheConstants.{HELD_BACK}
+use Rattle.proxy_clients.specs.declared.clients.Client.{Client}
 
 -- it didn't wait in the turn before, calls of the client are out, and few bytes are to be sent
 abbrev pub waits_a_turn : Client → Bool
