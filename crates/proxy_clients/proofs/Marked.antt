@@ -7,7 +7,8 @@ use Rattle.std.specs.Prelude.{slice_get, slice_set, filter, Contains, OnOk, OnEr
 use Rattle.std.specs.Option.{option_map, option_flatten}
 use Rattle.proxy_clients.specs.declared.clients.Client.{Client}
 use Rattle.proxy_clients.specs.declared.clients.Clients.{Clients}
-use Rattle.proxy_clients.specs.Marks.{client_of, Changes, AreAlike, EndsBusy, is_idle, with_busy}
+use Rattle.tcp_socket.specs.declared.readiness.Ready.{Ready}
+use Rattle.proxy_clients.specs.Marks.{client_of, Changes, AreAlike, EndsBusy, is_idle, with_busy, ids_if, ready_if, unsent_if, told_of, noted, will_send}
 
 -- what was put at a place is there
 at_place : {A : Type 0} (xs : List A) (i : ℕ) (x : A) → i < length xs → slice_get (slice_set xs i x) i ≡ Some x
@@ -117,3 +118,77 @@ moved_more p ids to front new i at idle within is same before after = after ∙ 
     by : (b : Bool) → b ≡ p at → cond b (front ++ at ∷ []) front ≡ to ++ filter p (take (i + 1) ids)
     by true e = ap (λ xs. xs ++ at ∷ []) before ∙ append_assoc to (filter p (take i ids)) (at ∷ []) ∙ ap (λ b. to ++ (filter p (take i ids) ++ cond b (at ∷ []) [])) e ∙ ap (λ xs. to ++ xs) (sym more)
     by false e = before ∙ ap (λ xs. to ++ xs) (sym (append-nil (filter p (take i ids)))) ∙ ap (λ b. to ++ (filter p (take i ids) ++ cond b (at ∷ []) [])) e ∙ ap (λ xs. to ++ xs) (sym more)
+
+-- ---- what the system tells
+
+-- who stands at a place stands there still
+same_at : {A : Type 0} (change : A → A) (xs : List (Option A)) (i : ℕ) → ((x : A) → change x ≡ x) → xs ≡ slice_set xs i (option_map change (option_flatten (slice_get xs i)))
+same_at change [] i same = refl
+same_at change (None ∷ xs) zero same = refl
+same_at change (Some x ∷ xs) zero same = ap (λ y. Some y ∷ xs) (sym (same x))
+same_at change (x ∷ xs) (suc i) same = ap (λ ys. x ∷ ys) (same_at change xs i same)
+
+-- who isn't to be marked isn't
+pub served : (reads : Bool) (xs : List (Option Client)) (i : ℕ) → reads ≡ false → xs ≡ slice_set xs i (option_map (ready_if reads) (option_flatten (slice_get xs i)))
+served reads xs i off = same_at (ready_if reads) xs i (λ x. ap (λ b. ready_if b x) off)
+
+pub sent : (writes : Bool) (xs : List (Option Client)) (i : ℕ) → writes ≡ false → xs ≡ slice_set xs i (option_map (unsent_if writes) (option_flatten (slice_get xs i)))
+sent writes xs i off = same_at (unsent_if writes) xs i (λ x. ap (λ b. unsent_if b x) off)
+
+-- who was changed twice at a place was changed by both
+changed_twice : {A : Type 0} (f g : A → A) (xs ys zs : List (Option A)) (i : ℕ) → ys ≡ slice_set xs i (option_map f (option_flatten (slice_get xs i))) → zs ≡ slice_set ys i (option_map g (option_flatten (slice_get ys i)))
+    → zs ≡ slice_set xs i (option_map (λ x. g (f x)) (option_flatten (slice_get xs i)))
+changed_twice {A = A} f g xs ys zs i a b = b ∙ ap (λ l. slice_set l i (option_map g (option_flatten (slice_get l i)))) a ∙ both xs i
+  where
+    both : (xs : List (Option A)) (i : ℕ) → (let l : List (Option A) = slice_set xs i (option_map f (option_flatten (slice_get xs i))) in slice_set l i (option_map g (option_flatten (slice_get l i)))) ≡ slice_set xs i (option_map (λ x. g (f x)) (option_flatten (slice_get xs i)))
+    both [] i = refl
+    both (None ∷ xs) zero = refl
+    both (Some x ∷ xs) zero = refl
+    both (x ∷ xs) (suc i) = ap (λ l. x ∷ l) (both xs i)
+
+noted_by : (told : Ready) (sends : Bool) (o : Option Client) → sends ≡ will_send told o → option_map (λ x. unsent_if sends (ready_if told.reads (told_of told x))) o ≡ option_map (noted told) o
+noted_by told sends None e = refl
+noted_by told sends (Some x) e = ap (λ b. Some (unsent_if b (ready_if told.reads (told_of told x)))) e
+
+-- what was told was noted, and then marked
+pub noted_so : {E : Type 0} (r : Result (Unit {0}) E) (told : Ready) (sends : Bool) (xs ys zs ws : List (Option Client)) (i : ℕ) → sends ≡ will_send told (option_flatten (slice_get xs i))
+    → ys ≡ slice_set xs i (option_map (told_of told) (option_flatten (slice_get xs i)))
+    → zs ≡ slice_set ys i (option_map (ready_if told.reads) (option_flatten (slice_get ys i)))
+    → OnOk r (ws ≡ slice_set zs i (option_map (unsent_if sends) (option_flatten (slice_get zs i))))
+    → OnOk r (ws ≡ slice_set xs i (option_map (noted told) (option_flatten (slice_get xs i))))
+noted_so (Ok done) told sends xs ys zs ws i e a b d =
+    changed_twice (λ x. ready_if told.reads (told_of told x)) (unsent_if sends) xs zs ws i (changed_twice (told_of told) (ready_if told.reads) xs ys zs i a b) d
+    ∙ ap (slice_set xs i) (noted_by told sends (option_flatten (slice_get xs i)) e)
+noted_so (Err refused) told sends xs ys zs ws i e a b d = tt
+
+-- a client that was told of stands in the lists as before
+told_ready : (told : Ready) (b : Bool) (o : Option Client) (id : ℕ) (ids : List ℕ) → ids_if b (λ x. x.is_ready) (option_map (told_of told) o) id ids ≡ ids_if b (λ x. x.is_ready) o id ids
+told_ready told b None id ids = refl
+told_ready told b (Some x) id ids = refl
+
+told_unsent : (told : Ready) (reads b : Bool) (o : Option Client) (id : ℕ) (ids : List ℕ) → ids_if b (λ x. x.has_output) (option_map (ready_if reads) (option_map (told_of told) o)) id ids ≡ ids_if b (λ x. x.has_output) o id ids
+told_unsent told reads b None id ids = refl
+told_unsent told true b (Some x) id ids = refl
+told_unsent told false b (Some x) id ids = refl
+
+pub served_so : {E : Type 0} (r : Result (Unit {0}) E) (told : Ready) (xs ys : List (Option Client)) (i : ℕ) (old between ready new : List ℕ)
+    → ys ≡ slice_set xs i (option_map (told_of told) (option_flatten (slice_get xs i))) → between ≡ old
+    → ready ≡ ids_if told.reads (λ x. x.is_ready) (option_flatten (slice_get ys i)) i between → new ≡ ready
+    → OnOk r (new ≡ ids_if told.reads (λ x. x.is_ready) (option_flatten (slice_get xs i)) i old)
+served_so (Ok done) told xs ys i old between ready new a same b last =
+    last ∙ b ∙ ap (λ l. ids_if told.reads (λ x. x.is_ready) (option_flatten (slice_get ys i)) i l) same
+    ∙ ap (λ o. ids_if told.reads (λ x. x.is_ready) o i old) (changed (told_of told) xs ys i a) ∙ told_ready told told.reads (option_flatten (slice_get xs i)) i old
+served_so (Err refused) told xs ys i old between ready new a same b last = tt
+
+pub unsent_so : {E : Type 0} (r : Result (Unit {0}) E) (told : Ready) (sends : Bool) (xs ys zs : List (Option Client)) (i : ℕ) (old between new : List ℕ) → sends ≡ will_send told (option_flatten (slice_get xs i))
+    → ys ≡ slice_set xs i (option_map (told_of told) (option_flatten (slice_get xs i)))
+    → zs ≡ slice_set ys i (option_map (ready_if told.reads) (option_flatten (slice_get ys i))) → between ≡ old
+    → OnOk r (new ≡ ids_if sends (λ x. x.has_output) (option_flatten (slice_get zs i)) i between)
+    → OnOk r (new ≡ ids_if (will_send told (option_flatten (slice_get xs i))) (λ x. x.has_output) (option_flatten (slice_get xs i)) i old)
+unsent_so (Ok done) told sends xs ys zs i old between new e a b same d =
+    let flat : List (Option Client) → Option Client = λ l. option_flatten (slice_get l i) in
+    d ∙ ap (λ l. ids_if sends (λ x. x.has_output) (flat zs) i l) same
+    ∙ ap (λ o. ids_if sends (λ x. x.has_output) o i old) (changed (ready_if told.reads) ys zs i b ∙ ap (option_map (ready_if told.reads)) (changed (told_of told) xs ys i a))
+    ∙ told_unsent told told.reads sends (flat xs) i old
+    ∙ ap (λ s. ids_if s (λ x. x.has_output) (flat xs) i old) e
+unsent_so (Err refused) told sends xs ys zs i old between new e a b same d = tt

@@ -3,7 +3,7 @@
 ghost use Rattle.std.specs.Prelude.{◌≡◌, ◌≢◌, ℕ, ◌+◌, ◌-◌, ◌<◌, ◌++◌, ◌∷◌, [], OnOk, OnErr, Some, None, if◌then◌else◌, true, false, length, min, nat_lt, filter, slice_get, slice_set};
 ghost use Rattle.std.specs.Option.{option_map, option_flatten, option_copied_mut};
 ghost use Rattle.send_buffer.specs.Sending.{bytes_of};
-ghost use Rattle.proxy_clients.specs.Marks.{client_of, Changes, AreAlike, EndsBusy, ids_with, is_idle, with_ready, with_unsent, with_busy, one_settled, one_waits, one_waited};
+ghost use Rattle.proxy_clients.specs.Marks.{client_of, Changes, AreAlike, EndsBusy, ids_with, ids_if, is_idle, with_ready, with_unsent, with_busy, ready_if, unsent_if, told_of, noted, will_send, one_settled, one_waits, one_waited};
 ghost use Rattle.proxy_clients.specs.Waits.{waits_a_turn};
 ghost use Rattle.proxy_clients.specs.declared.clients.TheConstants.{HELD_BACK};
 
@@ -307,14 +307,15 @@ fn end_busy_at(place: &mut Option<Client>) -> bool
     }
 }
 
-// What the system told of its socket: whether something is to be sent to it.
+// What the system told of its socket: whether something can be sent to it, and is there.
 fn note_at(place: &mut Option<Client>, told: Ready) -> bool
-    ensures { option_map (λ x. x.is_ready) place.new ≡ option_map (λ x. x.is_ready) place.old }
+    ensures client { place.new ≡ option_map (told_of told) place.old }
+    ensures sends { result ≡ will_send told place.old }
 {
     match place {
         Some(client) => {
             note(&mut client.conn, told);
-            !client.conn.unsent.is_empty()
+            told.writes && !client.conn.unsent.is_empty()
         }
         None => false,
     }
@@ -522,30 +523,52 @@ impl Clients {
         }
     }
 
-    /// What the system told of its socket.
+    /// What the system told of its socket is noted beside what it told before, and the client is to be served where something can be read, and has something
+    /// to send where something can be sent and is there.
     pub fn note(&mut self, id: usize, told: Ready) -> Result<(), AllocError>
-        ensures served { OnOk result (self.new.ready.items ≡ (if told.reads then ids_with (λ x. x.is_ready) (client_of self.old id) id self.old.ready.items else self.old.ready.items)) }
-        ensures unsent { told.writes ≡ false → self.new.with_output.items ≡ self.old.with_output.items }
+        ensures client { OnOk result (Changes (noted told) id self.old self.new) }
+        ensures served { OnOk result (self.new.ready.items ≡ ids_if told.reads (λ x. x.is_ready) (client_of self.old id) id self.old.ready.items) }
+        ensures unsent { OnOk result (self.new.with_output.items ≡ ids_if (will_send told (client_of self.old id)) (λ x. x.has_output) (client_of self.old id) id self.old.with_output.items) }
         ensures others { (other : ℕ) → other ≢ id → client_of self.new other ≡ client_of self.old other }
         ensures rest { self.new ≡ record self.old { all = self.new.all; ready = self.new.ready; with_output = self.new.with_output } }
     {
-        let has_output = match self.all.get_mut(id) {
-            Some(place) => note_at(place, told),
-            None => return Ok(()),
-        };
-        self.mark_told(id, told.reads, told.writes && has_output)
+        let sends = self.note_told(id, told);
+        self.mark_ready_if(id, told.reads)?;
+        self.mark_output_if(id, sends)
     }
 
-    // There is something to read of it, or it takes what is to be sent.
-    fn mark_told(&mut self, id: usize, reads: bool, writes: bool) -> Result<(), AllocError>
-        ensures served { OnOk result (self.new.ready.items ≡ (if reads then ids_with (λ x. x.is_ready) (client_of self.old id) id self.old.ready.items else self.old.ready.items)) }
-        ensures unsent { writes ≡ false → self.new.with_output.items ≡ self.old.with_output.items }
-        ensures others { (other : ℕ) → other ≢ id → client_of self.new other ≡ client_of self.old other }
-        ensures rest { self.new ≡ record self.old { all = self.new.all; ready = self.new.ready; with_output = self.new.with_output } }
+    // What the system told: whether something can be sent to it, and is there.
+    fn note_told(&mut self, id: usize, told: Ready) -> bool
+        ensures client { Changes (told_of told) id self.old self.new }
+        ensures sends { result ≡ will_send told (client_of self.old id) }
+        ensures rest { self.new ≡ record self.old { all = self.new.all } }
+    {
+        match self.all.get_mut(id) {
+            Some(place) => note_at(place, told),
+            None => false,
+        }
+    }
+
+    // It is to be served, if it is so.
+    fn mark_ready_if(&mut self, id: usize, reads: bool) -> Result<(), AllocError>
+        ensures client { OnOk result (Changes (ready_if reads) id self.old self.new) }
+        ensures listed { OnOk result (self.new.ready.items ≡ ids_if reads (λ x. x.is_ready) (client_of self.old id) id self.old.ready.items) }
+        ensures refused { OnErr result (AreAlike self.old self.new) }
+        ensures rest { self.new ≡ record self.old { all = self.new.all; ready = self.new.ready } }
     {
         if reads {
-            self.mark_ready(id)?;
+            return self.mark_ready(id);
         }
+        Ok(())
+    }
+
+    // It has something to send, if it is so.
+    fn mark_output_if(&mut self, id: usize, writes: bool) -> Result<(), AllocError>
+        ensures client { OnOk result (Changes (unsent_if writes) id self.old self.new) }
+        ensures listed { OnOk result (self.new.with_output.items ≡ ids_if writes (λ x. x.has_output) (client_of self.old id) id self.old.with_output.items) }
+        ensures refused { OnErr result (AreAlike self.old self.new) }
+        ensures rest { self.new ≡ record self.old { all = self.new.all; with_output = self.new.with_output } }
+    {
         if writes {
             return self.mark_output(id);
         }

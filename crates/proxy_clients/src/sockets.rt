@@ -1,6 +1,6 @@
 //! Sockets of a proxy: how they are watched and connected, what the system tells of them, and what is sent.
 
-ghost use Rattle.std.specs.Prelude.{◌≡◌, drop};
+ghost use Rattle.std.specs.Prelude.{◌≡◌, ◌||◌, drop};
 
 use mio::Poll;
 use mio::net::TcpStream;
@@ -36,7 +36,9 @@ pub fn connect<N: Net>(
 }
 
 /// What the system told of a socket.
-pub fn note(conn: &mut Conn<TcpStream>, told: Ready) {
+pub fn note(conn: &mut Conn<TcpStream>, told: Ready)
+    ensures { conn.new ≡ record conn.old { readable = conn.old.readable || told.reads; writable = conn.old.writable || told.writes; closing = conn.old.closing || told.closes } }
+{
     conn.readable = conn.readable || told.reads;
     conn.writable = conn.writable || told.writes;
     conn.closing = conn.closing || told.closes;

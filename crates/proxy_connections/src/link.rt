@@ -21,11 +21,12 @@ const LIMITS: Limits = Limits {
     unsent: 1_048_576,
 };
 
-// One read has room for so many bytes, besides what is missing of an answer with large data.
-const LINK_READ: usize = 65_536;
+// One read has room for so many bytes, besides what is missing of an answer with large data: for sixteen answers of 4 KiB with their lines, so that
+// those to one client mostly come whole.
+const LINK_READ: usize = 73_728;
 
-// And for so many where the read before filled its room: answers of some kilobytes to two clients with sixteen commands each.
-const LONG_READ: usize = 131_072;
+// And for so many where the read before filled its room: the answers to two such clients.
+const LONG_READ: usize = 147_456;
 
 // Of each link news are told once in so many milliseconds at most.
 const NEWS_MS: u64 = 1_000;

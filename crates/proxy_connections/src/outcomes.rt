@@ -19,7 +19,7 @@ use text_codec::{CUT_FROM, Received, SHARED_FROM, large_len};
 const MUCH_HELD: usize = 16_384;
 
 // For so many bytes there is room after what is held again: as many as the longest read of answers that aren't large has.
-const ROOM_AFTER: usize = 131_072;
+const ROOM_AFTER: usize = 147_456;
 
 // The calls that are out on a link have failed.
 fn fail_sent(
