@@ -326,10 +326,23 @@ impl ProxyEnd {
         self.give_back_room()?;
         self.fail_late()?;
         self.accept_ready();
+        self.serve_asks(rt)?;
         self.serve_links()?;
         self.serve_all(rt)?;
         self.send_links()?;
         self.send_clients()
+    }
+
+    // What clients ask goes out before answers are read, so that servers work on it while replies are shown, and their answers are mostly
+    // whole when they are read. In rounds all comes in its own order.
+    fn serve_asks<N: Net>(&mut self, net: &N) -> io::Result<()>
+        ensures core { GoesOn self.old.core.value self.new.core.value }
+    {
+        if self.in_rounds {
+            return Ok(());
+        }
+        self.serve_clients(net)?;
+        Ok(self.send_links()?)
     }
 
     // Clients are served, in rounds or not.
