@@ -352,8 +352,9 @@ impl ProxyEnd {
         if self.in_rounds {
             return self.serve_round(net);
         }
-        self.serve_clients(net)?;
-        self.serve_busy(net)
+        // (who waits longest takes what became free, before those whose calls were just settled go on)
+        self.serve_busy(net)?;
+        self.serve_clients(net)
     }
 
     fn look_at_clock<R: Clock>(&mut self, rt: &R) -> io::Result<()>
