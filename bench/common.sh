@@ -1,5 +1,5 @@
 # What compare and freshness share: their words, the programs, the servers that they start, and a folder that goes at the end.
-# shellcheck shell=bash
+# shellcheck shell=bash disable=SC2034,SC2086
 
 here=$(cd "$(dirname "${BASH_SOURCE[0]}")" && pwd)
 top=$(cd "$here/.." && pwd)
@@ -68,8 +68,7 @@ begin() {
 
 # Waits until somebody listens on a port.
 wait_for() {
-    local i
-    for i in $(seq 200); do
+    for _ in $(seq 200); do
         (exec 3<>"/dev/tcp/127.0.0.1/$1") 2>/dev/null && return 0
         sleep 0.02
     done
