@@ -4,6 +4,7 @@
 set -u
 top=$(cd "$(dirname "${BASH_SOURCE[0]}")/../.." && pwd)
 mcgate=${MCGATE:-$top/mcgate}
+[ -n "${MCGATE:-}" ] || [ -x "$mcgate" ] || mcgate=mcgate
 recipe=${0##*/}
 say() { printf '%s: %s\n' "$recipe" "$*"; }
 
