@@ -10,7 +10,7 @@ use Rattle.coverage.specs.Asked.{asks, asks_some, asks_first, asks_head, asks_po
 use Rattle.coverage.specs.Seen.{for_op, policy_for_op, is_end}
 
 -- what goes by the child of the operation
-module _ (op : Op) (B : Type 0) (f : Plan → B) (g : PlanPolicies → B) (by : (ps : PlanPolicies) → f (ByOperation ps) ≡ g ps) (other : (p : Plan) → g (Otherwise p) ≡ f p) (policy : (o : Op) (p : Plan) (rest : PlanPolicies) → g (Policy o p rest) ≡ cond (same_op o op) (f p) (g rest)) where
+module _ (op : Op) (B : Type 0) (f : Plan → B) (g : PlanPolicies → B) (by : (ps : PlanPolicies) → f (ByOperation ps) ≡ g ps) (other : (p : Plan) → g (Otherwise p) ≡ f p) (policy : (o : Op) (p : Plan) (rest : PlanPolicies) → g (Policy o p rest) ≡ cond (same_op o op) (f p) (g rest)) (warm : (c w : Plan) (e : ℕ) → f (WarmUp c w 0) ≡ f (WarmUp c w e)) where
   chosen_same : (b : Bool) (p q : Plan) (x y : B) → f p ≡ x → f q ≡ y → f (cond b p q) ≡ cond b x y
   chosen_same true p q x y e h = e
   chosen_same false p q x y e h = h
@@ -23,7 +23,7 @@ module _ (op : Op) (B : Type 0) (f : Plan → B) (g : PlanPolicies → B) (by : 
     left_same (AllSync ps) = refl
     left_same (Failover ps) = refl
     left_same (MissFailover ps) = refl
-    left_same (WarmUp cold warm e) = refl
+    left_same (WarmUp c w e) = warm c w e
     left_same (ByOperation ps) = rw (by ps) (policy_same ps)
 
     policy_same : (ps : PlanPolicies) → f (policy_for_op op ps) ≡ g ps
@@ -31,22 +31,22 @@ module _ (op : Op) (B : Type 0) (f : Plan → B) (g : PlanPolicies → B) (by : 
     policy_same (Policy o p rest) = rw (policy o p rest) (chosen_same (same_op o op) (for_op op p) (policy_for_op op rest) (f p) (g rest) (left_same p) (policy_same rest))
 
 pub left_fails : (op : Op) (p : Plan) → fails op (for_op op p) ≡ fails op p
-left_fails op p = left_same op Bool (fails op) (fails_policy op) (λ ps. refl) (λ q. refl) (λ o q rest. refl) p
+left_fails op p = left_same op Bool (fails op) (fails_policy op) (λ ps. refl) (λ q. refl) (λ o q rest. refl) (λ c w e. refl) p
 
 pub left_hits : (op : Op) (p : Plan) → hits op (for_op op p) ≡ hits op p
-left_hits op p = left_same op Bool (hits op) (hits_policy op) (λ ps. refl) (λ q. refl) (λ o q rest. refl) p
+left_hits op p = left_same op Bool (hits op) (hits_policy op) (λ ps. refl) (λ q. refl) (λ o q rest. refl) (λ c w e. refl) p
 
 pub left_shown : (op : Op) (s : ℕ) (p : Plan) → shown op s (for_op op p) ≡ shown op s p
-left_shown op s p = left_same op Bool (shown op s) (shown_policy op s) (λ ps. refl) (λ q. refl) (λ o q rest. refl) p
+left_shown op s p = left_same op Bool (shown op s) (shown_policy op s) (λ ps. refl) (λ q. refl) (λ o q rest. refl) (λ c w e. refl) p
 
 pub left_copied : (op : Op) (s : ℕ) (p : Plan) → copied op s (for_op op p) ≡ copied op s p
-left_copied op s p = left_same op Bool (copied op s) (copied_policy op s) (λ ps. refl) (λ q. refl) (λ o q rest. refl) p
+left_copied op s p = left_same op Bool (copied op s) (copied_policy op s) (λ ps. refl) (λ q. refl) (λ o q rest. refl) (λ c w e. refl) p
 
 pub left_asks : (op : Op) (p : Plan) → asks op (for_op op p) ≡ asks op p
-left_asks op p = left_same op Bool (asks op) (asks_policy op) (λ ps. refl) (λ q. refl) (λ o q rest. refl) p
+left_asks op p = left_same op Bool (asks op) (asks_policy op) (λ ps. refl) (λ q. refl) (λ o q rest. refl) (λ c w e. refl) p
 
 pub left_kept : (s : ℕ) (p : Plan) → kept s (for_op Delete p) ≡ kept s p
-left_kept s p = left_same Delete Bool (kept s) (kept_policy s) (λ ps. refl) (λ q. refl) (λ o q rest. refl) p
+left_kept s p = left_same Delete Bool (kept s) (kept_policy s) (λ ps. refl) (λ q. refl) (λ o q rest. refl) (λ c w e. refl) p
 
 -- ---- sizes
 

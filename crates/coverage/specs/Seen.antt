@@ -16,18 +16,18 @@ use Rattle.coverage.specs.declared.seen.SeenForm.TheVariants as forms
 -- the plain tree that is seen
 abbrev pub plan_of : Seen → Plan
 plan_of (seens.Plain plain) = plain.now
-plan_of (seens.Tree tree text hash) = plain_for hash text.now tree.now
+plan_of (seens.Tree tree at) = plain_for at.now.hash at.now.text.now tree.now
 
 -- the children that are seen
 abbrev pub all_plans_of : SeenAll → Plans
 all_plans_of (rows.Plains plains) = plans_of plains.now
-all_plans_of (rows.Trees children text hash) = plain_for_all hash text.now (routes_of children.now)
+all_plans_of (rows.Trees children at) = plain_for_all at.now.hash at.now.text.now (routes_of children.now)
 
 -- the first child and the others
 abbrev pub plans_of_parts : SeenParts → Plans
 plans_of_parts parts = More (plan_of parts.first) (all_plans_of parts.rest)
 
--- the plain tree of a form
+-- the plain tree of a form, in which no exptime is kept
 abbrev pub plan_of_seen_form : SeenForm → Plan
 plan_of_seen_form (forms.Server s) = Server s
 plan_of_seen_form forms.Null = Null
@@ -35,7 +35,7 @@ plan_of_seen_form forms.Error = Failing
 plan_of_seen_form (forms.AllSync ps) = AllSync (all_plans_of ps)
 plan_of_seen_form (forms.Failover ps) = Failover (all_plans_of ps)
 plan_of_seen_form (forms.MissFailover ps) = MissFailover (all_plans_of ps)
-plan_of_seen_form (forms.WarmUp cold warm e) = WarmUp (plan_of cold) (plan_of warm) e
+plan_of_seen_form (forms.WarmUp cold warm) = WarmUp (plan_of cold) (plan_of warm) 0
 
 -- there is no child
 abbrev pub is_end : Plans → Bool
@@ -44,7 +44,7 @@ is_end (More p ps) = false
 
 module _ (op : Op) where
   abbrev mutual
-    -- what is left of a plain tree for the operation: the choices by operation at its top are made
+    -- what is left of a plain tree for the operation: the choices by operation at its top are made, and no exptime is kept
     pub for_op : Plan → Plan
     for_op (Server s) = Server s
     for_op Null = Null
@@ -52,7 +52,7 @@ module _ (op : Op) where
     for_op (AllSync ps) = AllSync ps
     for_op (Failover ps) = Failover ps
     for_op (MissFailover ps) = MissFailover ps
-    for_op (WarmUp cold warm e) = WarmUp cold warm e
+    for_op (WarmUp cold warm e) = WarmUp cold warm 0
     for_op (ByOperation ps) = policy_for_op ps
 
     -- that of the first policy of the operation, else of the other one

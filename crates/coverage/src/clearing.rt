@@ -9,7 +9,7 @@ ghost use Rattle.coverage.specs.Seen.{plan_of, all_plans_of};
 use crate::deleting::Deleting;
 use crate::laws::cleared_is_exact;
 use crate::possible::possible_at;
-use crate::seen::{Seen, SeenAll, SeenForm};
+use crate::seen::{At, Seen, SeenAll, SeenForm};
 use mc_types::{Op, ServerId};
 use route_tree::{Plain, Tree};
 
@@ -35,7 +35,8 @@ pub fn cleared(plain: &Plain, deleting: Deleting, server: ServerId) -> bool
 pub fn is_cleared_at(tree: &Tree, text: &[u8], hash: u32, server: ServerId) -> bool
     ensures { result ≡ cleared (plain_for hash text.now tree.now) server }
 {
-    !keeps(Seen::Tree { tree, text, hash }, server)
+    let at = At { text, hash };
+    !keeps(Seen::Tree(tree, &at), server)
 }
 
 // Whether a delete can be acknowledged with the server not cleared. It looks no further than it has to.

@@ -15,5 +15,5 @@ pub mod taking;
 
 pub use clearing::{cleared, clears};
 pub use deleting::Deleting;
-pub use seen::Seen;
+pub use seen::{At, Seen};
 pub use taking::{taken, takes};

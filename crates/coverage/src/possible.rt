@@ -8,7 +8,7 @@ ghost use Rattle.coverage.specs.Computed.{adds, fails, fails_some, fails_each, f
 ghost use Rattle.coverage.specs.Asked.{asks, asks_some, asks_first, asks_head};
 ghost use Rattle.coverage.specs.Seen.{plan_of, all_plans_of};
 
-use crate::seen::{Seen, SeenAll, SeenForm};
+use crate::seen::{At, Seen, SeenAll, SeenForm};
 use crate::stores::is_op;
 use mc_types::{Op, ServerId};
 use route_tree::Tree;
@@ -68,7 +68,7 @@ pub fn possible_at(seen: Seen, op: Op, server: ServerId) -> Possible
                 possible_head(children, op, server)
             }
         }
-        SeenForm::WarmUp { cold, warm, .. } => {
+        SeenForm::WarmUp { cold, warm } => {
             let a = possible_at(cold, op, server);
             if is_op(op, Op::Get) {
                 let b = possible_at(warm, op, server);
@@ -201,7 +201,11 @@ fn any_server() -> ServerId {
 pub fn fails_at(tree: &Tree, text: &[u8], op: Op) -> bool
     ensures { result ≡ fails op (plain_for 0 text.now tree.now) }
 {
-    possible_at(at_any_hash(tree, text), op, any_server()).fails
+    let at = At {
+        text,
+        hash: ANY_HASH,
+    };
+    possible_at(Seen::Tree(tree, &at), op, any_server()).fails
 }
 
 /// Whether the operation can hit at each of the trees, for the keys that the text begins: the same for each hash. It takes
@@ -209,27 +213,20 @@ pub fn fails_at(tree: &Tree, text: &[u8], op: Op) -> bool
 pub fn hits_at_each(children: &[Tree], text: &[u8], op: Op) -> bool
     ensures { result ≡ hits_each op (plain_for_all 0 text.now (routes_of children.now)) }
 {
-    let all = SeenAll::Trees {
-        children,
+    let at = At {
         text,
         hash: ANY_HASH,
     };
-    possible_each(all, op, any_server()).hits
+    possible_each(SeenAll::Trees(children, &at), op, any_server()).hits
 }
 
 /// Whether an add can ask a server for the keys that the text begins: the same for each hash. It takes no memory.
 pub fn adds_at(tree: &Tree, text: &[u8]) -> bool
     ensures { result ≡ adds (plain_for 0 text.now tree.now) }
 {
-    possible_at(at_any_hash(tree, text), Op::Add, any_server()).asks
-}
-
-fn at_any_hash<'a>(tree: &'a Tree, text: &'a [u8]) -> Seen<'a>
-    ensures { plan_of result ≡ plain_for 0 text.now tree.now }
-{
-    Seen::Tree {
-        tree,
+    let at = At {
         text,
         hash: ANY_HASH,
-    }
+    };
+    possible_at(Seen::Tree(tree, &at), Op::Add, any_server()).asks
 }

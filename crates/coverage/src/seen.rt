@@ -15,28 +15,27 @@ use mc_types::{Op, ServerId};
 use route_tree::at::longest;
 use route_tree::{Plain, PlainForm, Tree, TreeForm};
 
+/// Where a tree is looked at: the hash tells the slot of a pool, the text what its policies by prefix begin.
+#[derive(Clone, Copy)]
+pub struct At<'a> {
+    pub text: &'a [u8],
+    pub hash: u32,
+}
+
 /// A plain tree. Contracts speak of it by `plan_of`.
 #[derive(Clone, Copy)]
 pub enum Seen<'a> {
     /// One that was built.
     Plain(&'a Plain),
-    /// What the tree is for this hash and this text.
-    Tree {
-        tree: &'a Tree,
-        text: &'a [u8],
-        hash: u32,
-    },
+    /// What the tree is there.
+    Tree(&'a Tree, &'a At<'a>),
 }
 
 /// Children of a plain tree, in order.
 #[derive(Clone, Copy)]
 pub enum SeenAll<'a> {
     Plains(&'a [Plain]),
-    Trees {
-        children: &'a [Tree],
-        text: &'a [u8],
-        hash: u32,
-    },
+    Trees(&'a [Tree], &'a At<'a>),
 }
 
 /// The first of some children, and the others.
@@ -55,11 +54,7 @@ pub enum SeenForm<'a> {
     AllSync(SeenAll<'a>),
     Failover(SeenAll<'a>),
     MissFailover(SeenAll<'a>),
-    WarmUp {
-        cold: Seen<'a>,
-        warm: Seen<'a>,
-        exptime: u32,
-    },
+    WarmUp { cold: Seen<'a>, warm: Seen<'a> },
 }
 
 impl<'a> Seen<'a> {
@@ -82,7 +77,7 @@ impl<'a> Seen<'a> {
     {
         match self {
             Seen::Plain(plain) => plain_form(plain, op),
-            Seen::Tree { tree, text, hash } => tree_form(tree, text, hash, op),
+            Seen::Tree(tree, at) => tree_form(tree, at, op),
         }
     }
 
@@ -94,7 +89,7 @@ impl<'a> Seen<'a> {
             Seen::Plain(plain) => {
                 let _form = plain.form();
             }
-            Seen::Tree { tree, .. } => {
+            Seen::Tree(tree, _) => {
                 let _form = tree.form();
             }
         }
@@ -114,23 +109,11 @@ impl<'a> SeenAll<'a> {
                     rest: SeenAll::Plains(rest),
                 }),
             },
-            SeenAll::Trees {
-                children,
-                text,
-                hash,
-            } => match children {
+            SeenAll::Trees(children, at) => match children {
                 [] => None,
                 [first, rest @ ..] => Some(SeenParts {
-                    first: Seen::Tree {
-                        tree: first,
-                        text,
-                        hash,
-                    },
-                    rest: SeenAll::Trees {
-                        children: rest,
-                        text,
-                        hash,
-                    },
+                    first: Seen::Tree(first, at),
+                    rest: SeenAll::Trees(rest, at),
                 }),
             },
         }
@@ -158,14 +141,9 @@ fn plain_form<'a>(plain: &'a Plain, op: Op) -> SeenForm<'a>
         PlainForm::AllSync(plains) => SeenForm::AllSync(SeenAll::Plains(plains)),
         PlainForm::Failover(plains) => SeenForm::Failover(SeenAll::Plains(plains)),
         PlainForm::MissFailover(plains) => SeenForm::MissFailover(SeenAll::Plains(plains)),
-        PlainForm::WarmUp {
-            cold,
-            warm,
-            exptime,
-        } => SeenForm::WarmUp {
+        PlainForm::WarmUp { cold, warm, .. } => SeenForm::WarmUp {
             cold: Seen::Plain(cold),
             warm: Seen::Plain(warm),
-            exptime: *exptime,
         },
         PlainForm::ByOperation { policies, default } => plain_policy_form(policies, default, op),
     }
@@ -189,51 +167,24 @@ fn plain_policy_form<'a>(policies: &'a [(Op, Plain)], default: &'a Plain, op: Op
 }
 
 #[cycle(tree_form)]
-fn tree_form<'a>(tree: &'a Tree, text: &'a [u8], hash: u32, op: Op) -> SeenForm<'a>
-    ensures { plan_of_seen_form result ≡ for_op op (plain_for hash text.now tree.now) }
+fn tree_form<'a>(tree: &'a Tree, at: &'a At<'a>, op: Op) -> SeenForm<'a>
+    ensures { plan_of_seen_form result ≡ for_op op (plain_for at.now.hash at.now.text.now tree.now) }
 {
     match tree.form() {
-        TreeForm::Pool(servers) => SeenForm::Server(servers[hash as usize % servers.len()]),
+        TreeForm::Pool(servers) => SeenForm::Server(servers[at.hash as usize % servers.len()]),
         TreeForm::Server(server) => SeenForm::Server(*server),
         TreeForm::Null => SeenForm::Null,
         TreeForm::Error => SeenForm::Error,
-        TreeForm::AllSync(children) => SeenForm::AllSync(SeenAll::Trees {
-            children,
-            text,
-            hash,
-        }),
-        TreeForm::Failover(children) => SeenForm::Failover(SeenAll::Trees {
-            children,
-            text,
-            hash,
-        }),
-        TreeForm::MissFailover(children) => SeenForm::MissFailover(SeenAll::Trees {
-            children,
-            text,
-            hash,
-        }),
-        TreeForm::WarmUp {
-            cold,
-            warm,
-            exptime,
-        } => SeenForm::WarmUp {
-            cold: Seen::Tree {
-                tree: cold,
-                text,
-                hash,
-            },
-            warm: Seen::Tree {
-                tree: warm,
-                text,
-                hash,
-            },
-            exptime: *exptime,
+        TreeForm::AllSync(children) => SeenForm::AllSync(SeenAll::Trees(children, at)),
+        TreeForm::Failover(children) => SeenForm::Failover(SeenAll::Trees(children, at)),
+        TreeForm::MissFailover(children) => SeenForm::MissFailover(SeenAll::Trees(children, at)),
+        TreeForm::WarmUp { cold, warm, .. } => SeenForm::WarmUp {
+            cold: Seen::Tree(cold, at),
+            warm: Seen::Tree(warm, at),
         },
-        TreeForm::ByOperation { policies, default } => {
-            tree_policy_form(policies, default, text, hash, op)
-        }
+        TreeForm::ByOperation { policies, default } => tree_policy_form(policies, default, at, op),
         TreeForm::ByPrefix { policies, wildcard } => {
-            tree_form(longest(policies, wildcard, text), text, hash, op)
+            tree_form(longest(policies, wildcard, at.text), at, op)
         }
     }
 }
@@ -243,19 +194,18 @@ fn tree_form<'a>(tree: &'a Tree, text: &'a [u8], hash: u32, op: Op) -> SeenForm<
 fn tree_policy_form<'a>(
     policies: &'a [(Op, Tree)],
     default: &'a Tree,
-    text: &'a [u8],
-    hash: u32,
+    at: &'a At<'a>,
     op: Op,
 ) -> SeenForm<'a>
-    ensures { plan_of_seen_form result ≡ policy_for_op op (plain_for_policies hash text.now (policies_of policies.now default.now)) }
+    ensures { plan_of_seen_form result ≡ policy_for_op op (plain_for_policies at.now.hash at.now.text.now (policies_of policies.now default.now)) }
 {
     match policies {
-        [] => tree_form(default, text, hash, op),
+        [] => tree_form(default, at, op),
         [(own, child), rest @ ..] => {
             if is_op(*own, op) {
-                tree_form(child, text, hash, op)
+                tree_form(child, at, op)
             } else {
-                tree_policy_form(rest, default, text, hash, op)
+                tree_policy_form(rest, default, at, op)
             }
         }
     }

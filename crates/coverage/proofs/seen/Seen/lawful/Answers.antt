@@ -5,4 +5,4 @@ use Rattle.coverage.specs.Seen.{plan_of}
 use Rattle.coverage.proofs.seen.Seen.lawful.Goals as goal
 
 pub returns-in-Tree : goal.returns-in-Tree
-returns-in-Tree c = subst (λ (p : Plan). IsPlan p) (ap plan_of (sym c.in-Tree.is)) (plan_plain c.in-Tree.hash c.in-Tree.text.now c.in-Tree.tree.now c.form-form-in-Tree.ensures.tree)
+returns-in-Tree c = subst (λ (p : Plan). IsPlan p) (ap plan_of (sym c.in-Tree.is)) (plan_plain _ _ _ c.form-form-in-Tree.ensures.tree)
