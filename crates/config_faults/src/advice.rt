@@ -1,6 +1,7 @@
 //! A trouble of a configuration in words: the way to it, what is expected there, and what was likely meant.
 
 use crate::fields::{OPERATIONS, ROUTES, fields_of, name_of};
+use crate::place::Place;
 use crate::trouble::{Step, Trouble};
 use byte_escapes::{Escaped, EscapedByte};
 use route_names::{Holder, rest_after};
@@ -17,6 +18,8 @@ const MOST_NAMES: usize = 12;
 #[derive(Clone, Copy)]
 pub struct About<'a> {
     pub file: &'a str,
+    /// Where in the file the trouble is, if that was found.
+    pub place: Option<Place>,
     /// The pools of the configuration, where they were met.
     pub pools: Option<&'a Map<String, Value>>,
 }
@@ -273,7 +276,7 @@ impl About<'_> {
         }
     }
 
-    /// The line of a trouble: `mcgate: FILE: WAY: WORDS`. The only error is running out of memory.
+    /// The line of a trouble: `mcgate: FILE:LINE:COLUMN: WAY: WORDS`. The only error is running out of memory.
     pub fn line(
         &self,
         alloc: Global,
@@ -281,7 +284,11 @@ impl About<'_> {
         trouble: Trouble<'_>,
     ) -> Result<String, AllocError> {
         let mut words = String::new(alloc);
-        write!(words, "mcgate: {}: ", self.file)?;
+        write!(words, "mcgate: {}:", self.file)?;
+        if let Some(place) = self.place {
+            write!(words, "{place}:")?;
+        }
+        words.push_str(" ")?;
         push_way(&mut words, way)?;
         self.push_trouble(alloc, &mut words, trouble)?;
         Ok(words)

@@ -2,9 +2,9 @@
 
 use crate::advice::About;
 use crate::place::{Place, Source};
-use crate::scan::{Slip, scan_text};
+use crate::scan::{Slip, place_of, scan_text};
 use crate::slip::SlipIn;
-use crate::trouble::Stop;
+use crate::trouble::{Step, Stop, Trouble};
 use crate::walk::Walk;
 use byte_escapes::Escaped;
 use route_json::{ConfigFault, read_config};
@@ -73,6 +73,19 @@ fn plain_line(
     }
 }
 
+// Where in the file a trouble is.
+fn place_in(
+    alloc: Global,
+    source: Source<'_>,
+    way: &[Step<'_>],
+    trouble: Trouble<'_>,
+) -> Result<Option<Place>, AllocError> {
+    match place_of(alloc, source.text, way, trouble.is_of_name())? {
+        Some(at) => Ok(Some(source.place(at))),
+        None => Ok(None),
+    }
+}
+
 // Of a text that is JSON: where the fault stands.
 fn walked_line(
     alloc: Global,
@@ -84,11 +97,13 @@ fn walked_line(
     match walk.whole(value) {
         Err(Stop::NoMemory) => Err(AllocError),
         Err(Stop::Trouble(trouble)) if trouble.is(fault) => {
+            let way = walk.way.as_slice();
             let about = About {
                 file: source.file,
+                place: place_in(alloc, source, way, trouble)?,
                 pools: walk.pools(),
             };
-            about.line(alloc, walk.way.as_slice(), trouble)
+            about.line(alloc, way, trouble)
         }
         _ => plain_line(alloc, source, fault),
     }

@@ -1,5 +1,6 @@
 //! A text, read as JSON byte by byte: where it first is none, and which names stand twice in an object.
 
+use crate::trouble::Step;
 use serde_json::Value;
 use std::alloc::{AllocError, Global};
 use std::collections::BTreeMap;
@@ -96,7 +97,12 @@ enum Mode {
 struct Open<'a> {
     is_object: bool,
     at: usize,
+    /// Where its names begin.
     names: BTreeMap<&'a str, usize>,
+    /// The name of the value in an object that comes or came last.
+    name: &'a str,
+    /// The number of the value in a list that comes or came last.
+    number: usize,
 }
 
 #[derive(Drop)]
@@ -109,6 +115,21 @@ struct Scan<'a> {
     comma: Option<usize>,
     open: Vec<Open<'a>>,
     twice: Vec<Twice<'a>>,
+    /// The way to a value that is looked for.
+    way: &'a [Step<'a>],
+    /// Where that value begins, and its name.
+    value_at: Option<usize>,
+    name_at: Option<usize>,
+}
+
+impl Open<'_> {
+    // Whether this step leads to the value that comes or came last.
+    fn is_at(&self, step: &Step<'_>) -> bool {
+        match step {
+            Step::Name(name) => self.is_object && self.name == *name,
+            Step::Number(number) => !self.is_object && self.number == *number,
+        }
+    }
 }
 
 fn is_blank(byte: u8) -> bool {
@@ -129,7 +150,7 @@ fn slip_at(at: usize, misstep: Misstep) -> Option<Slip> {
 }
 
 impl<'a> Scan<'a> {
-    fn new(alloc: Global, text: &'a str) -> Scan<'a> {
+    fn new(alloc: Global, text: &'a str, way: &'a [Step<'a>]) -> Scan<'a> {
         Scan {
             alloc,
             text,
@@ -138,6 +159,29 @@ impl<'a> Scan<'a> {
             comma: None,
             open: Vec::new(alloc),
             twice: Vec::new(alloc),
+            way,
+            value_at: None,
+            name_at: None,
+        }
+    }
+
+    // Whether the way leads to the value that comes or came last.
+    fn is_here(&self) -> bool {
+        if self.open.len() != self.way.len() {
+            return false;
+        }
+        for (open, step) in self.open.iter().zip(self.way) {
+            if !open.is_at(step) {
+                return false;
+            }
+        }
+        true
+    }
+
+    // A value begins here.
+    fn note_value(&mut self, at: usize) {
+        if self.is_here() {
+            self.value_at = Some(at);
         }
     }
 
@@ -163,6 +207,9 @@ impl<'a> Scan<'a> {
         if !self.wants_value() && !self.wants_name() {
             return slip_at(at, Misstep::Unexpected(self.wanted));
         }
+        if self.wants_value() {
+            self.note_value(at);
+        }
         self.mode = Mode::Text(at, self.wants_name(), Escape::None);
         None
     }
@@ -171,6 +218,7 @@ impl<'a> Scan<'a> {
         if !self.wants_value() {
             return slip_at(at, Misstep::Unexpected(self.wanted));
         }
+        self.note_value(at);
         self.mode = Mode::Word(at);
         None
     }
@@ -183,10 +231,13 @@ impl<'a> Scan<'a> {
         if self.open.len() >= DEEPEST {
             return Ok(slip_at(at, Misstep::TooDeep));
         }
+        self.note_value(at);
         self.open.push(Open {
             is_object,
             at,
             names: BTreeMap::new(self.alloc),
+            name: "",
+            number: 0,
         })?;
         self.comma = None;
         self.wanted = if is_object {
@@ -225,6 +276,9 @@ impl<'a> Scan<'a> {
             wanted => return slip_at(at, Misstep::Unexpected(wanted)),
         };
         self.comma = Some(at);
+        if let Some(open) = self.open.last_mut() {
+            open.number = open.number.saturating_add(1);
+        }
         None
     }
 
@@ -259,7 +313,11 @@ impl<'a> Scan<'a> {
         let Some(open) = self.open.last_mut() else {
             return Ok(());
         };
+        open.name = name;
         let known = open.names.insert(name, from)?;
+        if self.is_here() {
+            self.name_at = Some(from);
+        }
         if known.is_some() && self.twice.len() < MOST_TWICE {
             self.twice.push(Twice { at: from, name })?;
         }
@@ -414,10 +472,28 @@ pub fn is_json(alloc: Global, text: &str) -> Result<bool, AllocError> {
 
 /// The first place where a text is no JSON, and the names that stand twice before it. The only error is running out of memory.
 pub fn scan_text(alloc: Global, text: &str) -> Result<Scanned<'_>, AllocError> {
-    let mut scan = Scan::new(alloc, text);
+    let mut scan = Scan::new(alloc, text, &[]);
     let slip = scan.run()?;
     Ok(Scanned {
         slip,
         twice: scan.twice,
     })
+}
+
+/// The byte of a text of JSON where the value begins to which the way leads, the last one where there are several, or, with `name`, the
+/// byte where its name begins. `None` where none is found: names are compared as they are written. The only error is running out of
+/// memory.
+pub fn place_of(
+    alloc: Global,
+    text: &str,
+    way: &[Step<'_>],
+    name: bool,
+) -> Result<Option<usize>, AllocError> {
+    let mut scan = Scan::new(alloc, text, way);
+    scan.run()?;
+    if name {
+        Ok(scan.name_at)
+    } else {
+        Ok(scan.value_at)
+    }
 }

@@ -20,6 +20,14 @@ fn said(alloc: Global, text: &str) -> Result<String, Fail> {
     joined(alloc, lines_of_configuration(alloc, "f", text)?)
 }
 
+// What stands on a line after `mcgate: f:LINE:COLUMN: `.
+fn after_place(line: &str) -> &str {
+    match line.trim_end_matches('\n').splitn(5, ':').last() {
+        Some(words) => words.trim_start_matches(' '),
+        None => "",
+    }
+}
+
 fn texts() -> [(&'static str, &'static str); 17] {
     [
         (
@@ -77,7 +85,10 @@ fn texts() -> [(&'static str, &'static str); 17] {
             "{\"\u{e9}\": 1]",
             "mcgate: f:1:8: expected a comma or }, found ]\n",
         ),
-        ("[]", "mcgate: f: expected an object with pools and route\n"),
+        (
+            " []",
+            "mcgate: f:1:2: expected an object with pools and route\n",
+        ),
     ]
 }
 
@@ -90,7 +101,7 @@ fn texts_that_are_no_json(rt: HostRuntime) -> Result<(), Fail> {
     Ok(())
 }
 
-// Routes over the pools A and C, and what is said of each after the front `mcgate: f: `.
+// Routes over the pools A and C, and what is said of each after the front `mcgate: f:LINE:COLUMN: `.
 fn routes() -> &'static str {
     r#""A" => /route: no route A; did you mean "PoolRoute|A"?
 "PoolRout|A" => /route: no route PoolRout|A; did you mean "PoolRoute|A"?
@@ -99,13 +110,14 @@ fn routes() -> &'static str {
 "x" => /route: no route x; short texts are "PoolRoute|NAME", "AllSyncRoute|Pool|NAME" and the like, "NullRoute" and "ErrorRoute"
 "PoolRoute|B" => /route: no pool B; pools are A, C
 1 => /route: expected a route: a text or an object with a type
-{} => /route/type: expected the name of a route, a text
+{} => /route: expected a route, and an object that is one has a type
+{"type":1} => /route/type: expected the name of a route, a text
 {"type":"PoolRout"} => /route/type: no route PoolRout; routes are PoolRoute, AllSyncRoute, FailoverRoute, MissFailoverRoute, WarmUpRoute, OperationSelectorRoute, PrefixSelectorRoute, NullRoute, ErrorRoute; did you mean PoolRoute?
-{"type":"PoolRoute","server":"A"} => /route: no field server here: a PoolRoute has type, pool
+{"type":"PoolRoute","server":"A"} => /route/server: no field server here: a PoolRoute has type, pool
 {"type":"PoolRoute"} => /route: the field pool is missing: a PoolRoute has type, pool
 {"type":"PoolRoute","pool":["A"]} => /route/pool: expected the name of a pool
 {"type":"PoolRoute","pool":"B"} => /route/pool: no pool B; pools are A, C
-{"type":"AllSyncRoute","childs":[]} => /route: no field childs here: an AllSyncRoute has type, children; did you mean children?
+{"type":"AllSyncRoute","childs":[]} => /route/childs: no field childs here: an AllSyncRoute has type, children; did you mean children?
 {"type":"AllSyncRoute","children":[]} => /route/children: no children: at least one route is wanted
 {"type":"AllSyncRoute","children":"A"} => /route/children: expected a list of routes, or the text "Pool|NAME"
 {"type":"AllSyncRoute","children":"Pool|B"} => /route/children: no pool B; pools are A, C
@@ -127,18 +139,17 @@ fn routes_that_are_none(rt: HostRuntime) -> Result<(), Fail> {
             "{{\"pools\":{{\"A\":{{\"servers\":[\"a:1\"]}},\"C\":{{\"servers\":[\"c:1\"]}}}},\"route\":{route}}}"
         )?;
         let words = said(rt.alloc(), text.as_str())?;
-        let want = format!(in rt.alloc(); "mcgate: f: {want}\n")?;
-        assert_eq!(rt; words.as_str(), want.as_str(), "at {route}");
+        assert_eq!(rt; after_place(words.as_str()), want, "at {route}");
     }
     Ok(())
 }
 
-// Pools, and what is said of them after the front `mcgate: f: `.
+// Pools, and what is said of them after the front `mcgate: f:LINE:COLUMN: `.
 fn pools() -> &'static str {
     r#"[] => /pools: expected an object that has a pool under each name
 {"A":[]} => /pools/A: expected a pool: an object with servers
 {"A":{}} => /pools/A: the field servers is missing: a pool has servers
-{"A":{"server":[]}} => /pools/A: no field server here: a pool has servers; did you mean servers?
+{"A":{"server":[]}} => /pools/A/server: no field server here: a pool has servers; did you mean servers?
 {"A":{"servers":"a:1"}} => /pools/A/servers: expected a list of addresses, HOST:PORT
 {"A":{"servers":[]}} => /pools/A/servers: the pool has no servers
 {"A":{"servers":["a:1",2]}} => /pools/A/servers/1: expected the text of an address, HOST:PORT
@@ -153,8 +164,7 @@ fn pools_that_are_none(rt: HostRuntime) -> Result<(), Fail> {
         let (pools, want) = example.split_once(" => ").unwrap_or((example, ""));
         let text = format!(in rt.alloc(); "{{\"pools\":{pools},\"route\":\"NullRoute\"}}")?;
         let words = said(rt.alloc(), text.as_str())?;
-        let want = format!(in rt.alloc(); "mcgate: f: {want}\n")?;
-        assert_eq!(rt; words.as_str(), want.as_str(), "at {pools}");
+        assert_eq!(rt; after_place(words.as_str()), want, "at {pools}");
     }
     Ok(())
 }
@@ -164,17 +174,61 @@ fn whole_configurations(rt: HostRuntime) -> Result<(), Fail> {
     let cases = [
         (
             "{}",
-            "mcgate: f: the field pools is missing: a configuration has pools, route\n",
+            "mcgate: f:1:1: the field pools is missing: a configuration has pools, route\n",
         ),
         (
             "{\"pool\":{}}",
-            "mcgate: f: no field pool here: a configuration has pools, route; did you mean pools?\n",
+            "mcgate: f:1:2: /pool: no field pool here: a configuration has pools, route; did you mean pools?\n",
         ),
         (
-            "{\"pools\":{}}",
-            "mcgate: f: the field route is missing: a configuration has pools, route\n",
+            "\n {\"pools\":{}}",
+            "mcgate: f:2:2: the field route is missing: a configuration has pools, route\n",
         ),
         ("{\"pools\":{},\"route\":\"NullRoute\"}", ""),
+    ];
+    for (text, want) in cases {
+        let words = said(rt.alloc(), text)?;
+        assert_eq!(rt; words.as_str(), want, "at {text}");
+    }
+    Ok(())
+}
+
+// A configuration whose fault is in its last line but two.
+fn deep() -> &'static str {
+    r#"{
+  "pools": {"A": {"servers": ["a:1"]}},
+  "route": {
+    "type": "AllSyncRoute",
+    "children": [
+      {"type": "PoolRoute", "pool": "A"},
+      {"type": "PoolRoute", "pool": "B"}
+    ]
+  }
+}"#
+}
+
+// The same with a field that a route hasn't.
+fn foreign() -> &'static str {
+    r#"{
+  "pools": {"A": {"servers": ["a:1"]}},
+  "route": {
+    "type": "AllSyncRoute",
+    "childen": ["PoolRoute|A"]
+  }
+}"#
+}
+
+#[test]
+fn places_in_lines(rt: HostRuntime) -> Result<(), Fail> {
+    let cases = [
+        (
+            deep(),
+            "mcgate: f:7:37: /route/children/1/pool: no pool B; pools are A\n",
+        ),
+        (
+            foreign(),
+            "mcgate: f:5:5: /route/childen: no field childen here: an AllSyncRoute has type, children; did you mean children?\n",
+        ),
     ];
     for (text, want) in cases {
         let words = said(rt.alloc(), text)?;

@@ -41,6 +41,14 @@ pub enum Trouble<'a> {
 }
 
 impl Trouble<'_> {
+    /// Whether a name itself is wrong, and not the value that it has.
+    pub fn is_of_name(&self) -> bool {
+        matches!(
+            self,
+            Trouble::NoField(_, _) | Trouble::NoOperation(_) | Trouble::NoPrefix(_)
+        )
+    }
+
     /// Whether this is the fault that was found of the same configuration.
     pub fn is(&self, fault: &ConfigFault) -> bool {
         match (self, fault) {

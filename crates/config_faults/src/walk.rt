@@ -39,13 +39,6 @@ fn foreign_field(holder: Holder, value: &Value) -> Option<&str> {
     None
 }
 
-fn only<'a>(holder: Holder, value: &'a Value) -> Result<(), Stop<'a>> {
-    match foreign_field(holder, value) {
-        Some(name) => fail(Trouble::NoField(holder, name)),
-        None => Ok(()),
-    }
-}
-
 // The value of a field that has to be there.
 fn field<'a>(holder: Holder, name: &'static str, value: &'a Value) -> Result<&'a Value, Stop<'a>> {
     match value.get(name) {
@@ -118,12 +111,23 @@ impl<'a> Walk<'a> {
         let _ = self.way.pop();
     }
 
+    // Of an object that has a field that one of its kind may not have, the way leads to that field.
+    fn only(&mut self, holder: Holder, value: &'a Value) -> Result<(), Stop<'a>> {
+        match foreign_field(holder, value) {
+            Some(name) => {
+                self.enter(Step::Name(name))?;
+                fail(Trouble::NoField(holder, name))
+            }
+            None => Ok(()),
+        }
+    }
+
     /// Walks through a whole configuration. Where it stops at a trouble, `way` leads there.
     pub fn whole(&mut self, value: &'a Value) -> Result<(), Stop<'a>> {
         if !matches!(value, Value::Object(_)) {
             return fail(Trouble::Wanted("an object with pools and route"));
         }
-        only(Holder::Config, value)?;
+        self.only(Holder::Config, value)?;
         let pools = field(Holder::Config, "pools", value)?;
         let root = field(Holder::Config, "route", value)?;
         self.enter(Step::Name("pools"))?;
@@ -152,7 +156,7 @@ impl<'a> Walk<'a> {
         if !matches!(value, Value::Object(_)) {
             return fail(Trouble::Wanted("a pool: an object with servers"));
         }
-        only(Holder::Pool, value)?;
+        self.only(Holder::Pool, value)?;
         let servers = field(Holder::Pool, "servers", value)?;
         self.enter(Step::Name("servers"))?;
         self.servers(name, servers)?;
@@ -241,7 +245,7 @@ impl<'a> Walk<'a> {
     fn typed(&mut self, value: &'a Value, below: u32) -> Result<(), Stop<'a>> {
         let kind = self.kind(value)?;
         let holder = Holder::Route(kind);
-        only(holder, value)?;
+        self.only(holder, value)?;
         match kind {
             Kind::Pool => self.pool_route(holder, value),
             Kind::List(_) => self.list_route(holder, value, below),
@@ -252,9 +256,15 @@ impl<'a> Walk<'a> {
         }
     }
 
+    // The kind of an object that is a route.
     fn kind(&mut self, value: &'a Value) -> Result<Kind, Stop<'a>> {
+        let Some(found) = value.get("type") else {
+            return Err(Stop::Trouble(Trouble::Wanted(
+                "a route, and an object that is one has a type",
+            )));
+        };
         self.enter(Step::Name("type"))?;
-        let Some(Value::String(name)) = value.get("type") else {
+        let Value::String(name) = found else {
             return Err(Stop::Trouble(Trouble::Wanted("the name of a route, a text")));
         };
         let Some(kind) = kind_of(name.as_str()) else {

@@ -48,11 +48,16 @@ fn arguments_of<R: AllocGlobal + Env>(rt: &R, details: &mut Details) -> Result<V
     }
 }
 
-/// Says on standard error what is wrong with a bad line, if there is one. Where memory was refused nothing is said.
-fn tell<R: Eprint>(rt: &R, found: Result<Option<BadLine<'_>>, AllocError>) {
-    if let Ok(Some(bad)) = found {
+/// Says on standard error what is wrong with a bad line, if there is one, and gives it back. Where memory was refused nothing is said.
+fn told<'a, R: Eprint>(
+    rt: &R,
+    found: Result<Option<BadLine<'a>>, AllocError>,
+) -> Option<BadLine<'a>> {
+    let bad = found.unwrap_or(None);
+    if let Some(bad) = bad {
         let _ = rt.eprintln(bad);
     }
+    bad
 }
 
 /// The input of a file or of standard input. Where a device fails, a line of detail says why.
@@ -80,27 +85,12 @@ fn run_task<R: Files + Input + AllocGlobal + Eprint, W: Write>(
     let input = input_of(rt, file, details);
     let status = run_input(rt.alloc(), task, &input, out)?;
     if status == BAD_INPUT {
-        tell(rt, bad_line_of_task(rt.alloc(), task, &input));
-        details.add_task(rt.alloc(), task, name_of(file), &input);
+        let bad = told(rt, bad_line_of_task(rt.alloc(), task, &input));
+        details.add_task(rt.alloc(), task, name_of(file), &input, bad);
     } else if let Task::Check { form: _ } = task {
         details.add_warnings(rt.alloc(), name_of(file), &input);
     }
     Ok(status)
-}
-
-/// Says what is wrong with the events of an input over a configuration.
-fn tell_events<R: AllocGlobal + Eprint>(
-    rt: &R,
-    config: Config,
-    file: Option<&str>,
-    input: &Result<String, InputFault>,
-    details: &mut Details,
-) {
-    let copy = config.copy(rt.alloc());
-    tell(rt, bad_line_of_events(rt.alloc(), config, input));
-    if let Ok(config) = copy {
-        details.add_events(rt.alloc(), config, name_of(file), input);
-    }
 }
 
 /// The same of a script of events over a configuration.
@@ -116,7 +106,8 @@ fn run_script<R: Files + Input + AllocGlobal + Eprint, W: Write>(
     let input = input_of(rt, file, details);
     let status = run_events(rt.alloc(), any, config, &input, out)?;
     if let (BAD_INPUT, Ok(config)) = (status, copy) {
-        tell_events(rt, config, file, &input, details);
+        let bad = told(rt, bad_line_of_events(rt.alloc(), config, &input));
+        details.add_events(rt.alloc(), name_of(file), &input, bad);
     }
     Ok(status)
 }
@@ -167,8 +158,8 @@ fn run_loopback<R: Files + Input + AllocGlobal + Net + Clock + Eprint, W: Write>
     let status = run_over_tcp(rt, &input, out)?;
     if status == BAD_INPUT {
         let task = Task::Replay { any: false };
-        tell(rt, bad_line_of_task(rt.alloc(), task, &input));
-        details.add_task(rt.alloc(), task, name_of(file), &input);
+        let bad = told(rt, bad_line_of_task(rt.alloc(), task, &input));
+        details.add_task(rt.alloc(), task, name_of(file), &input, bad);
     }
     Ok(status)
 }
@@ -241,6 +232,9 @@ fn run_and_flush<R: Files + Input + AllocGlobal + Env + Net + Clock + Print + Ep
     let flushed = out.flush();
     if let Err(error) = &flushed {
         details.add_output(rt.alloc(), error);
+    }
+    if matches!(ended, Err(Stop::Device)) {
+        details.add_unknown(rt.alloc());
     }
     let status = ended?;
     flushed?;

@@ -1,11 +1,9 @@
 //! What is said on standard error beside the line of a stop, or of a bad input: which thing is wrong, and why.
 
 use crate::arguments::{ArgumentsFault, Task};
-use crate::bad_lines::{bad_line_of_events, bad_line_of_task};
 use crate::input::InputFailure;
 use config_faults::{lines_of_configuration, lines_of_warnings};
 use line_faults::BadLine;
-use route_json::Config;
 use script_faults::{lines_of_bad_line, lines_of_script};
 use std::alloc::{AllocError, Global};
 use std::io;
@@ -41,11 +39,7 @@ fn cause_of(alloc: Global, error: &io::Error) -> Result<String, AllocError> {
 }
 
 // Why a device gave no input of this name.
-fn failure_line(
-    alloc: Global,
-    name: &str,
-    failure: &InputFailure,
-) -> Result<String, AllocError> {
+fn failure_line(alloc: Global, name: &str, failure: &InputFailure) -> Result<String, AllocError> {
     match failure {
         InputFailure::NotOpened(error) => {
             let cause = cause_of(alloc, error)?;
@@ -123,8 +117,8 @@ impl Details {
         self.lines.as_slice()
     }
 
-    /// Whether there are none.
-    pub fn is_empty(&self) -> bool {
+    // Whether there are none.
+    fn is_empty(&self) -> bool {
         self.lines.is_empty()
     }
 
@@ -161,6 +155,16 @@ impl Details {
     pub fn add_output(&mut self, alloc: Global, error: &io::Error) {
         if !is_memory(error) {
             self.add(output_line(alloc, error));
+        }
+    }
+
+    /// That a device failed of which nothing else is known.
+    pub fn add_unknown(&mut self, alloc: Global) {
+        if self.is_empty() {
+            self.add(String::from_str(
+                alloc,
+                "mcgate: a socket, or the system's wait or clock failed",
+            ));
         }
     }
 
@@ -213,40 +217,38 @@ impl Details {
         }
     }
 
-    /// What is wrong with the input of a task.
+    /// What is wrong with the input of a task, of whose script this is the bad line.
     pub fn add_task(
         &mut self,
         alloc: Global,
         task: Task,
         name: &str,
         input: &Result<String, InputFault>,
+        bad: Option<BadLine<'_>>,
     ) {
-        match (task, input) {
-            (Task::Check { form: _ }, _) => self.add_configuration(alloc, name, input),
-            (Task::Replay { any: _ }, Err(fault)) => self.add_input(alloc, name, *fault),
-            (Task::Replay { any: _ }, Ok(text)) => {
-                if let Ok(bad) = bad_line_of_task(alloc, task, input) {
-                    self.add_all(lines_of_input(alloc, name, text.as_str(), bad));
-                }
-            }
+        match task {
+            Task::Check { form: _ } => self.add_configuration(alloc, name, input),
+            Task::Replay { any: _ } => match input {
+                Ok(text) => self.add_all(lines_of_input(alloc, name, text.as_str(), bad)),
+                Err(fault) => self.add_input(alloc, name, *fault),
+            },
         }
     }
 
-    /// What is wrong with the events of an input over a configuration.
+    /// What is wrong with an input of events, of which this is the bad line.
     pub fn add_events(
         &mut self,
         alloc: Global,
-        config: Config,
         name: &str,
         input: &Result<String, InputFault>,
+        bad: Option<BadLine<'_>>,
     ) {
-        match input {
-            Err(fault) => self.add_input(alloc, name, *fault),
-            Ok(text) => {
-                if let Ok(Some(bad)) = bad_line_of_events(alloc, config, input) {
-                    self.add_all(lines_of_bad_line(alloc, name, text.as_str(), bad));
-                }
+        match (input, bad) {
+            (Err(fault), _) => self.add_input(alloc, name, *fault),
+            (Ok(text), Some(bad)) => {
+                self.add_all(lines_of_bad_line(alloc, name, text.as_str(), bad));
             }
+            (Ok(_), None) => {}
         }
     }
 }
