@@ -1,6 +1,6 @@
 use Rattle.std.specs.Prelude.{string_bytes}
 use Rattle.text_input.proofs.InputLemmas.{reads_limited, limited}
-use Rattle.text_input.proofs.reading.read_input.Goals as goal
+use Rattle.text_input.proofs.reading.read_input_noting.Goals as goal
 
 pub returns-in-Ok : goal.returns-in-Ok
 returns-in-Ok g c =
