@@ -5,22 +5,42 @@ use Rattle.mc_types.specs.declared.ask.Ask.{Ask}
 use Rattle.mc_types.specs.declared.call.Origin.{Origin}
 use Rattle.mc_runs.specs.Run.{End, outcome_of}
 use Rattle.mc_runs.specs.Fleet.{EndsIn}
-use Rattle.mc_runs.specs.Sharing.{Calls}
+use Rattle.mc_runs.specs.Sharing.{Event, Calls, LosesOnly, after_event}
 use Rattle.mc_runs.specs.Overlap as log
-use Rattle.mc_runs.specs.Overlap.{Entry, Happens}
+use Rattle.mc_runs.specs.Overlap.{Entry, Happens, run_of}
 use Rattle.proxy_core.specs.CoreState.{dialect, client_at, dropped_by}
 use Rattle.proxy_core.specs.Polls.{Then, Perhaps, BeginsOne, IsPolled}
 use Rattle.proxy_core.specs.Settles.{IsCalled}
 use Rattle.fresh_core.specs.declared.fresh.FreshCore.{FreshCore}
 use Rattle.fresh_core.specs.Freshly.{MayHaveLed, EveryLogIsFresh, fed}
+use Rattle.fresh_core.specs.Losses.{IsLoss}
 use Rattle.link_calls.specs.declared.any_core.AnyCore.{AnyCore}
 use Rattle.link_calls.specs.declared.any_core.AnyCore.TheVariants as cores
 use Rattle.proxy_connections.specs.CoreSteps.{Step, Opened, NotOpened, Fed, Polled, Stopped, Settled, Gave, Closed, LeftLine, Loaded, Walks}
 
+-- by these entries nobody else writes the servers
+abbrev pub AreOwn : List (Entry dialect) → Type 0
+AreOwn entries = (past : List (Entry dialect)) → LosesOnly (run_of past) → LosesOnly (run_of (entries ++ past))
+
+-- what servers lost, and others wrote there, the latest first
+abbrev pub AreTurns : List Event → Type 0
+AreTurns [] = Unit {0}
+AreTurns (event ∷ events) = IsLoss event × AreTurns events
+
+-- as entries of a log
+abbrev pub happened : List Event → List (Entry dialect)
+happened [] = []
+happened (event ∷ events) = Happens event ∷ happened events
+
+-- what they leave on every server
+abbrev pub after_turns : List Event → (ℕ → List ℕ → Option Item) → ℕ → List ℕ → Option Item
+after_turns [] holds = holds
+after_turns (event ∷ events) holds = after_event event (after_turns events holds)
+
 module _ (opening : ℕ → List ℕ → Option Item) where
-  -- by entries of this kind, the latest first, the log goes on, may have led to the core after, and this holds of it
+  -- by entries of this kind, the latest first, by which nobody else writes the servers, the log goes on, may have led to the core after, and this holds of it
   abbrev pub GoesOnSaying : (List (Entry dialect) → Type 0) → List (Entry dialect) → (new : FreshCore) → ((later : List (Entry dialect)) → MayHaveLed opening later new → Type 0) → Type 0
-  GoesOnSaying IsKind past new Holds = (entries : List (Entry dialect)) × IsKind entries × (led : MayHaveLed opening (entries ++ past) new) × Holds (entries ++ past) led
+  GoesOnSaying IsKind past new Holds = (entries : List (Entry dialect)) × IsKind entries × AreOwn entries × (led : MayHaveLed opening (entries ++ past) new) × Holds (entries ++ past) led
 
   -- the same log may have led to the core after
   abbrev pub StaysOn : List (Entry dialect) → (old new : FreshCore) → ((later : List (Entry dialect)) → MayHaveLed opening later new → Type 0) → Type 0
@@ -35,6 +55,12 @@ module _ (opening : ℕ → List ℕ → Option Item) where
       × ((end : End) → IsSeen end → EndsIn (led.beside.holds server ask.key) (led.beside.found number) number ask origin end
       → GoesOnSaying (λ entries. (more : List (Entry dialect)) × (entries ≡ more ++ Happens (Calls number server ask origin end) ∷ [])) past new Holds)
 
+  -- whatever servers lost before, and others wrote there: the log goes on by it, may have led to the same core, and this holds of it
+  abbrev pub AfterTurns : (past : List (Entry dialect)) (old : FreshCore) (led : MayHaveLed opening past old) → ((later : List (Entry dialect)) → MayHaveLed opening later old → Type 0) → Type 0
+  AfterTurns past old led Holds =
+      (turns : List Event) → AreTurns turns
+      → (by : MayHaveLed opening (happened turns ++ past) old) × (by.beside ≡ record led.beside { holds = after_turns turns led.beside.holds }) × Holds (happened turns ++ past) by
+
   -- one call of the core, and a log that may have led to the core before it
   abbrev pub StepGoes :
       Step → (past : List (Entry dialect)) (old : FreshCore) (led : MayHaveLed opening past old) (new : FreshCore) → ((later : List (Entry dialect)) → MayHaveLed opening later new → Type 0) → Type 0
@@ -43,7 +69,7 @@ module _ (opening : ℕ → List ℕ → Option Item) where
   StepGoes (Fed client piece) past old led new Holds = GoesOnSaying (λ entries. entries ≡ fed (dropped_by (client_at old.core client)) client piece) past new Holds
   StepGoes (Polled client poll) past old led new Holds = GoesOnSaying (Then (Perhaps (BeginsOne client)) (IsPolled client poll)) past new Holds
   StepGoes (Stopped client fault) past old led new Holds = GoesOnSaying (λ entries. Unit {0}) past new Holds
-  StepGoes (Settled number outcome) past old led new Holds = StaysOn past old new Holds ⊎ SettlesOnLog number past old led new Holds (λ end. outcome ≡ outcome_of end)
+  StepGoes (Settled number outcome) past old led new Holds = AfterTurns past old led (λ later by. StaysOn later old new Holds ⊎ SettlesOnLog number later old by new Holds (λ end. outcome ≡ outcome_of end))
   StepGoes (Gave client bytes) past old led new Holds = GoesOnSaying (λ entries. entries ≡ log.Gives client bytes ∷ []) past new Holds
   StepGoes (Closed client) past old led new Holds = GoesOnSaying (λ entries. entries ≡ log.Resets client ∷ []) past new Holds
   StepGoes (LeftLine client) past old led new Holds = GoesOnSaying (λ entries. entries ≡ []) past new Holds
@@ -56,13 +82,13 @@ module _ (opening : ℕ → List ℕ → Option Item) where
   LogGoes [] past old led new Holds = StaysOn past old new Holds
   LogGoes (step ∷ steps) past old led new Holds = (mid : FreshCore) × LogGoes steps past old led mid (λ later by. StepGoes step later mid by new Holds)
 
--- a law of all walks: each log that may have led to a core on accepted trees goes on by each call, and may have led to the core after
+-- a law of all walks: each log that may have led to a core on accepted trees goes on by each call, and may have led to the core after; and where nobody else writes the servers between calls, nobody does in that log
 abbrev pub WalksGoOn : Type 0
 WalksGoOn =
     (steps : List Step) (old new : FreshCore) → Walks steps (cores.Fresh old) (cores.Fresh new)
     → (opening : ℕ → List ℕ → Option Item) (past : List (Entry dialect)) (led : MayHaveLed opening past old) → LogGoes opening steps past old led new (λ later by. Unit {0})
 
--- each log that may have led to a core on accepted trees is fresh
+-- each log that may have led to a core on accepted trees is fresh, where nobody else writes the servers
 abbrev pub LogsAreFresh : AnyCore → Type 0
 LogsAreFresh (cores.Fresh fresh) = EveryLogIsFresh fresh
 LogsAreFresh (cores.Unchecked core) = Unit {0}
