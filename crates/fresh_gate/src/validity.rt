@@ -8,7 +8,7 @@ ghost use Rattle.certificates.specs.Valid.{IsValidRow};
 ghost use Rattle.fresh_gate.specs.Rows.{IsTakenRow, rises_above, rises, holds_all, all_cleared};
 
 use certificates::rows::put_row;
-use coverage::clearing_at::is_cleared_at;
+use coverage::clearing::is_cleared_at;
 use coverage::pools::Pool;
 use mc_types::ServerId;
 use route_tree::Tree;

@@ -1,13 +1,14 @@
 use Rattle.std.proofs.Common.{◌≡◌, ◌++◌, ◌+◌, [], ◌∷◌, take, sym, subst, ap, ◌∙◌}
 use Rattle.std.proofs.lemmas.List.{take_more}
+use Rattle.coverage.specs.Seen.{plan_of}
 use Rattle.fresh_gate.specs.Looking.{IfFound, lesser}
 use Rattle.fresh_gate.proofs.Looks.{more_found}
 use Rattle.fresh_gate.proofs.finding.gap_among.Goals as goal
 
 pub loop-server-preserved : goal.loop-server-preserved
 loop-server-preserved c =
-    let e = c.args.earlier.now in
-    let l = c.args.later.now in
+    let e = plan_of c.args.earlier in
+    let l = plan_of c.args.later in
     let xs = c.args.servers.now in
     let i = c.loop-server.server-index in
     let x = c.server-item.result in

@@ -1,7 +1,6 @@
 use Rattle.std.proofs.Common.{◌≡◌, ◌∙◌, List, ℕ, true, ap, sym, subst}
 use Rattle.route_tree.specs.At.{plain_for}
 use Rattle.route_tree.specs.Place.{prefix_text}
-use Rattle.route_tree.specs.Plan.{Plan}
 use Rattle.coverage.specs.Pools.{servers_at}
 use Rattle.fresh_gate.specs.Looking.{IfGap}
 use Rattle.fresh_gate.specs.Rows.{HoldsTaken, IsTakenRow, all_cleared}
@@ -24,11 +23,8 @@ first_gap-requires c =
     let l = c.args.later.now in
     let row : IsTakenRow (plain_for r text l) c.deref-2.result.now =
     subst (λ (x : List ℕ). IsTakenRow (plain_for r text l) x) (sym c.deref-2.ensures.value) (subst (λ (x : List ℕ). IsTakenRow (plain_for r x l) c.take_row.new.row.items) c.text-3.ensures c.in_ok-take_row.ensures) in
-    subst (λ (p : Plan). HoldsTaken p c.deref-2.result.now) (sym c.in_ok-second.ensures) (holds_what_is_taken (plain_for r text l) (good_plain l text r c.form-later.ensures.tree) c.deref-2.result.now row)
+    subst (λ (x : List ℕ). HoldsTaken (plain_for r x l) c.deref-2.result.now) (sym c.text-4.ensures) (holds_what_is_taken (plain_for r text l) (good_plain l text r c.form-later.ensures.tree) c.deref-2.result.now row)
 
 pub returns : goal.returns
 returns c =
-    let r = c.args.residue in
-    let text = prefix_text c.args.class.now.prefix in
-    subst (λ (p : Plan). IfGap p (plain_for r text c.args.later.now) c.first_gap.result) c.in_ok-first.ensures
-    (subst (λ (p : Plan). IfGap c.in_ok-first.first p c.first_gap.result) c.in_ok-second.ensures c.first_gap.ensures)
+    subst (λ (x : List ℕ). IfGap (plain_for c.args.residue x c.args.earlier.now) (plain_for c.args.residue x c.args.later.now) c.first_gap.result) c.text-4.ensures c.first_gap.ensures
