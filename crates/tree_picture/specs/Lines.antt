@@ -1,5 +1,5 @@
 -- The nodes and edges of a tree. The routes are numbered from the root, 0, each child after all that stands before it. Source: mcgate's own.
-use Rattle.std.specs.Prelude.{ℕ, ◌+◌, ◌==◌, List, [], ◌++◌, codes, decimal, if◌then◌else◌}
+use Rattle.std.specs.Prelude.{ℕ, ◌+◌, ◌==◌, Bool, List, [], ◌++◌, codes, decimal, if◌then◌else◌}
 use Rattle.route_tree.specs.Route.{Route, Routes, Policies, Prefixes, Pool, Server, Null, Failing, AllSync, Failover, MissFailover, WarmUp, ByOperation, ByPrefix, End, More, Otherwise, Policy, Wildcard, Prefix}
 use Rattle.route_json.specs.Servers.{Addresses}
 use Rattle.gate_words.specs.Names.{op_name}
@@ -27,6 +27,22 @@ module _ (servers : Addresses) (pools : NamedPools) where
   abbrev pub prefix_front_lines : ℕ → (label : List ℕ) → (more n : ℕ) → Route → Prefixes → List ℕ
   prefix_front_lines parent label more n r ps = edge_line parent label more n ++ prefix_run_line servers pools n more r ps
 
+  -- a run of children, and what is below its first one
+  abbrev pub member_lines : ℕ → (index more n : ℕ) → Route → Routes → (below : List ℕ) → List ℕ
+  member_lines parent index more n r rs below = run_front_lines parent (codes "children[" ++ decimal index ++ codes "]") more n r rs ++ below
+
+  -- the same, if the child is the first of its run
+  abbrev pub member_if : Bool → ℕ → (index more n : ℕ) → Route → Routes → (below : List ℕ) → List ℕ
+  member_if is_first parent index more n r rs below = if is_first then member_lines parent index more n r rs below else []
+
+  -- a run of children by prefix, and what is below its first one
+  abbrev pub prefix_member_lines : ℕ → (prefix : List ℕ) → (more n : ℕ) → Route → Prefixes → (below : List ℕ) → List ℕ
+  prefix_member_lines parent p more n r ps below = prefix_front_lines parent (codes "prefix " ++ quoted p) more n r ps ++ below
+
+  -- the same, if the child is the first of its run
+  abbrev pub prefix_member_if : Bool → ℕ → (prefix : List ℕ) → (more n : ℕ) → Route → Prefixes → (below : List ℕ) → List ℕ
+  prefix_member_if is_first parent p more n r ps below = if is_first then prefix_member_lines parent p more n r ps below else []
+
   abbrev mutual
     -- what is below the node of this number
     pub below_lines : ℕ → Route → List ℕ
@@ -47,10 +63,7 @@ module _ (servers : Addresses) (pools : NamedPools) where
     pub below_all : ℕ → (index n : ℕ) → Run → Routes → List ℕ
     below_all parent index n run End = []
     below_all parent index n run (More r rs) =
-        if run.more == 0 then
-        run_front_lines parent (codes "children[" ++ decimal index ++ codes "]") (next_run run n r rs).more n r (More r rs) ++ below_lines n r
-        ++ below_all parent (index + 1) (n + nodes r) (next_run run n r rs) rs
-        else below_all parent (index + 1) (n + nodes r) (next_run run n r rs) rs
+        member_if (run.more == 0) parent index (next_run run n r rs).more n r (More r rs) (below_lines n r) ++ below_all parent (index + 1) (n + nodes r) (next_run run n r rs) rs
 
     -- children by operation, the first of them with this number
     pub below_policies : ℕ → ℕ → Policies → List ℕ
@@ -61,10 +74,8 @@ module _ (servers : Addresses) (pools : NamedPools) where
     pub below_prefixes : ℕ → ℕ → Run → Prefixes → List ℕ
     below_prefixes parent n run (Wildcard r) = front_lines parent (codes "wildcard") n r ++ below_lines n r
     below_prefixes parent n run (Prefix p r ps) =
-        if run.more == 0 then
-        prefix_front_lines parent (codes "prefix " ++ quoted p) (next_prefix_run run n r ps).more n r (Prefix p r ps) ++ below_lines n r
+        prefix_member_if (run.more == 0) parent p (next_prefix_run run n r ps).more n r (Prefix p r ps) (below_lines n r)
         ++ below_prefixes parent (n + nodes r) (next_prefix_run run n r ps) ps
-        else below_prefixes parent (n + nodes r) (next_prefix_run run n r ps) ps
 
   -- a child and what is below it
   abbrev pub child_lines : ℕ → (label : List ℕ) → ℕ → Route → List ℕ

@@ -5,7 +5,7 @@ ghost use Rattle.std.specs.Io.KnownBytes.{Appends};
 ghost use Rattle.route_tree.specs.Form.{routes_of, policies_of, prefixes_of};
 ghost use Rattle.tree_picture.specs.Edges.{edge_text};
 ghost use Rattle.tree_picture.specs.Nodes.{nodes, nodes_of_all, nodes_of_policies, nodes_of_prefixes};
-ghost use Rattle.tree_picture.specs.Lines.{below_lines, child_lines, below_all, below_policies, below_prefixes, front_lines, run_front_lines, prefix_front_lines, tree_lines};
+ghost use Rattle.tree_picture.specs.Lines.{below_lines, child_lines, member_lines, member_if, prefix_member_lines, prefix_member_if, below_all, below_policies, below_prefixes, front_lines, run_front_lines, prefix_front_lines, tree_lines};
 
 use crate::alike::{Run, next_prefix_run, next_run};
 use crate::counting::node_count;
@@ -170,6 +170,64 @@ fn write_prefix_front<W: Write>(
     Ok(())
 }
 
+// A run of children, and what is below its first one.
+#[cycle(drawing)]
+fn write_member<W: Write>(
+    servers: &Servers,
+    pools: &[Pool],
+    parent: u32,
+    index: usize,
+    more: usize,
+    number: u32,
+    first: &Tree,
+    children: &[Tree],
+    out: &mut W,
+) -> io::Result<()>
+    requires few { number + nodes first.now < 2 ^ 32 }
+    requires more { more + 1 < 2 ^ 64 }
+    ensures { OnOk result (Appends (W.contents out.old) (W.contents out.new) (member_lines servers.now pools.now parent index more number first.now (routes_of children.now) (below_lines servers.now pools.now number first.now))) }
+{
+    write_run_front(
+        servers,
+        pools,
+        parent,
+        Edge::Child(index),
+        more,
+        number,
+        first,
+        children,
+        out,
+    )?;
+    write_below(servers, pools, number, first, out)
+}
+
+// The same, if the child is the first of its run.
+#[cycle(drawing)]
+fn write_member_if<W: Write>(
+    servers: &Servers,
+    pools: &[Pool],
+    is_first: bool,
+    parent: u32,
+    index: usize,
+    more: usize,
+    number: u32,
+    first: &Tree,
+    children: &[Tree],
+    out: &mut W,
+) -> io::Result<()>
+    requires few { number + nodes first.now < 2 ^ 32 }
+    requires more { more + 1 < 2 ^ 64 }
+    ensures { OnOk result (Appends (W.contents out.old) (W.contents out.new) (member_if servers.now pools.now is_first parent index more number first.now (routes_of children.now) (below_lines servers.now pools.now number first.now))) }
+{
+    if is_first {
+        write_member(
+            servers, pools, parent, index, more, number, first, children, out,
+        )
+    } else {
+        Ok(())
+    }
+}
+
 // Children of a list, the first of them with this index and number, after a child of this run. A run is drawn where it begins.
 #[cycle(drawing)]
 fn write_all<W: Write>(
@@ -191,24 +249,12 @@ fn write_all<W: Write>(
         [] => Ok(()),
         [first, rest @ ..] => {
             let next = number + node_count(first);
-            let run_on = next_run(run, number, first, rest);
-            if run.more == 0 {
-                write_run_front(
-                    servers,
-                    pools,
-                    parent,
-                    Edge::Child(index),
-                    run_on.more,
-                    number,
-                    first,
-                    children,
-                    out,
-                )?;
-                write_below(servers, pools, number, first, out)?;
-                write_all(servers, pools, parent, index + 1, next, run_on, rest, out)
-            } else {
-                write_all(servers, pools, parent, index + 1, next, run_on, rest, out)
-            }
+            let on = next_run(run, number, first, rest);
+            let is_first = run.more == 0;
+            write_member_if(
+                servers, pools, is_first, parent, index, on.more, number, first, children, out,
+            )?;
+            write_all(servers, pools, parent, index + 1, next, on, rest, out)
         }
     }
 }
@@ -245,6 +291,67 @@ fn write_policies<W: Write>(
     }
 }
 
+// A run of children by prefix, and what is below its first one.
+#[cycle(drawing)]
+fn write_prefix_member<W: Write>(
+    servers: &Servers,
+    pools: &[Pool],
+    parent: u32,
+    prefix: &Key,
+    more: usize,
+    number: u32,
+    first: &Tree,
+    policies: &[(Key, Tree)],
+    wildcard: &Tree,
+    out: &mut W,
+) -> io::Result<()>
+    requires few { number + nodes first.now < 2 ^ 32 }
+    requires more { more + 1 < 2 ^ 64 }
+    ensures { OnOk result (Appends (W.contents out.old) (W.contents out.new) (prefix_member_lines servers.now pools.now parent prefix.now more number first.now (prefixes_of policies.now wildcard.now) (below_lines servers.now pools.now number first.now))) }
+{
+    write_prefix_front(
+        servers,
+        pools,
+        parent,
+        Edge::Prefix(prefix),
+        more,
+        number,
+        first,
+        policies,
+        wildcard,
+        out,
+    )?;
+    write_below(servers, pools, number, first, out)
+}
+
+// The same, if the child is the first of its run.
+#[cycle(drawing)]
+fn write_prefix_member_if<W: Write>(
+    servers: &Servers,
+    pools: &[Pool],
+    is_first: bool,
+    parent: u32,
+    prefix: &Key,
+    more: usize,
+    number: u32,
+    first: &Tree,
+    policies: &[(Key, Tree)],
+    wildcard: &Tree,
+    out: &mut W,
+) -> io::Result<()>
+    requires few { number + nodes first.now < 2 ^ 32 }
+    requires more { more + 1 < 2 ^ 64 }
+    ensures { OnOk result (Appends (W.contents out.old) (W.contents out.new) (prefix_member_if servers.now pools.now is_first parent prefix.now more number first.now (prefixes_of policies.now wildcard.now) (below_lines servers.now pools.now number first.now))) }
+{
+    if is_first {
+        write_prefix_member(
+            servers, pools, parent, prefix, more, number, first, policies, wildcard, out,
+        )
+    } else {
+        Ok(())
+    }
+}
+
 // Children by prefix, the first of them with this number, after a child of this run. A run is drawn where it begins.
 #[cycle(drawing)]
 fn write_prefixes<W: Write>(
@@ -273,25 +380,13 @@ fn write_prefixes<W: Write>(
         ),
         [(prefix, child), rest @ ..] => {
             let next = number + node_count(child);
-            let run_on = next_prefix_run(run, number, child, rest, wildcard);
-            if run.more == 0 {
-                write_prefix_front(
-                    servers,
-                    pools,
-                    parent,
-                    Edge::Prefix(prefix),
-                    run_on.more,
-                    number,
-                    child,
-                    policies,
-                    wildcard,
-                    out,
-                )?;
-                write_below(servers, pools, number, child, out)?;
-                write_prefixes(servers, pools, parent, next, run_on, rest, wildcard, out)
-            } else {
-                write_prefixes(servers, pools, parent, next, run_on, rest, wildcard, out)
-            }
+            let on = next_prefix_run(run, number, child, rest, wildcard);
+            let is_first = run.more == 0;
+            write_prefix_member_if(
+                servers, pools, is_first, parent, prefix, on.more, number, child, policies,
+                wildcard, out,
+            )?;
+            write_prefixes(servers, pools, parent, next, on, rest, wildcard, out)
         }
     }
 }

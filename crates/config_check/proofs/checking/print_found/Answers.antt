@@ -8,4 +8,5 @@ pub returns-clause-ok : goal.returns-clause-ok
 returns-clause-ok g c =
     let line = c.in_ok-status.ensures.ok in
     let wrote = both_written _ _ _ _ _ line.2 c.in_ok-print_run.ensures.lines in
-    (line.0, record { told = line.1; judged = c.requires.judged; run = run_lines c.args.run.now; shows = lines_show c.args.config.now c.args.reason.now c.args.run.now c.requires.found c.in_ok-print_run.ensures.widths; printed = wrote }, refl)
+    let checks = record { told = line.1; judged = c.requires.judged; run = run_lines c.args.run.now; shows = lines_show c.args.config.now c.args.reason.now c.args.run.now c.requires.found c.in_ok-print_run.ensures.widths; printed = wrote } in
+    (line.0, record { checks = checks; run_is = refl })

@@ -17,3 +17,15 @@ decreases-write_policies g l = 2 * policies_route_size (policies_of l.policies.n
 
 abbrev pub decreases-write_prefixes : goal.decreases-write_prefixes
 decreases-write_prefixes g l = 2 * prefixes_route_size (prefixes_of l.policies.now l.wildcard.now)
+
+abbrev pub decreases-write_member : goal.decreases-write_member
+decreases-write_member g l = 2 * route_size l.first.now + 1
+
+abbrev pub decreases-write_member_if : goal.decreases-write_member_if
+decreases-write_member_if g l = 2 * route_size l.first.now + 2
+
+abbrev pub decreases-write_prefix_member : goal.decreases-write_prefix_member
+decreases-write_prefix_member g l = 2 * route_size l.first.now + 1
+
+abbrev pub decreases-write_prefix_member_if : goal.decreases-write_prefix_member_if
+decreases-write_prefix_member_if g l = 2 * route_size l.first.now + 2
