@@ -16,12 +16,12 @@ const MOST_NAMES: usize = 12;
 
 /// What words about a configuration are made of.
 #[derive(Clone, Copy)]
-pub struct About<'a> {
+pub struct About<'a, 'b> {
     pub file: &'a str,
     /// Where in the file the trouble is, if that was found.
     pub place: Option<Place>,
     /// The pools of the configuration, where they were met.
-    pub pools: Option<&'a Map<String, Value>>,
+    pub pools: Option<&'b Map<String, Value>>,
 }
 
 fn push_escaped(words: &mut String, text: &str) -> Result<(), AllocError> {
@@ -102,7 +102,7 @@ fn nearest_pool<'a>(
     nearest(alloc, name, names.as_slice())
 }
 
-impl About<'_> {
+impl About<'_, '_> {
     fn has_pool(&self, name: &str) -> bool {
         match self.pools {
             Some(pools) => pools.contains_key(name),

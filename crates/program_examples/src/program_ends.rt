@@ -4,8 +4,9 @@ use config_check::{Form, RunFault};
 use line_faults::BadLine;
 use program::arguments::{ArgumentsFault, Job, Task, read_arguments};
 use program::bad_lines::{bad_line_of_events, bad_line_of_task};
+use program::details::Details;
 use program::ends::{End, Stop, end_of, read_configuration, run_events, run_input};
-use program::input::text_of;
+use program::input::{text_noting, text_of};
 use program::serve_arguments::ServeJob;
 use route_json::Config;
 use std::alloc::{AllocError, Global};
@@ -14,6 +15,7 @@ use std::io::ErrorKind;
 use std::test::Fail;
 use tcp_proxy::ServerDialect;
 use text_input::InputFault;
+use word_faults::fault_in_words;
 
 // Arguments between spaces, and what they ask for.
 fn commands() -> &'static str {
@@ -187,6 +189,26 @@ fn arguments_that_are_refused(rt: HostRuntime) -> Result<(), Fail> {
     Ok(())
 }
 
+// Whether something is said of the words of a line.
+fn is_told(alloc: Global, line: &str) -> Result<bool, Fail> {
+    let given = arguments_of(alloc, line)?;
+    Ok(fault_in_words(alloc, given.as_slice())?.is_some())
+}
+
+#[test]
+fn refused_arguments_are_told(rt: HostRuntime) -> Result<(), Fail> {
+    for line in refused().lines() {
+        let told = is_told(rt.alloc(), line)?;
+        assert!(rt; told, "at {line}");
+    }
+    for example in commands().lines() {
+        let (line, want) = example.split_once(" => ").unwrap_or((example, ""));
+        let told = is_told(rt.alloc(), line)?;
+        assert_eq!(rt; told, want == "refused", "at {line}");
+    }
+    Ok(())
+}
+
 #[test]
 fn a_key_with_a_space(rt: HostRuntime) -> Result<(), Fail> {
     let mut given = arguments_of(rt.alloc(), "mcgate where --config c")?;
@@ -225,6 +247,111 @@ fn inputs_of_files(rt: HostRuntime) -> Result<(), Fail> {
     for path in ["/dev/null/x", "/"] {
         let read = text_of(&rt, Some(path));
         assert!(rt; matches!(read, Err(InputFault::Device)), "at {path}");
+    }
+    Ok(())
+}
+
+// What is said of a file that gave no input.
+fn told_of_file(rt: &HostRuntime, path: &str) -> Result<String, Fail> {
+    let mut failure = None;
+    let _ = text_noting(rt, Some(path), &mut failure);
+    let mut details = Details::new(rt.alloc());
+    if let Some(failure) = failure {
+        details.add_failure(rt.alloc(), path, &failure);
+    }
+    joined(rt.alloc(), &details)
+}
+
+// The lines of detail, one after the other.
+fn joined(alloc: Global, details: &Details) -> Result<String, Fail> {
+    let mut all = String::new(alloc);
+    for line in details.lines() {
+        all.push_str(line.as_str())?;
+        all.push_str("\n")?;
+    }
+    Ok(all)
+}
+
+#[test]
+fn files_that_give_no_input(rt: HostRuntime) -> Result<(), Fail> {
+    let cases = [
+        ("/dev/null", ""),
+        (
+            "/dev/null/x",
+            "mcgate: cannot open /dev/null/x: Not a directory\n",
+        ),
+        ("/", "mcgate: cannot read /: it is a folder\n"),
+    ];
+    for (path, want) in cases {
+        let told = told_of_file(&rt, path)?;
+        assert_eq!(rt; told.as_str(), want, "at {path}");
+    }
+    Ok(())
+}
+
+// What is said of the input of a task, of which no line is bad.
+fn told_of_input(alloc: Global, task: Task, text: &str) -> Result<String, Fail> {
+    let input = input_of(alloc, text);
+    let mut details = Details::new(alloc);
+    details.add_task(alloc, task, "f", &input, None);
+    joined(alloc, &details)
+}
+
+#[test]
+fn inputs_that_are_told(rt: HostRuntime) -> Result<(), Fail> {
+    let replay = Task::Replay { any: false };
+    let check = Task::Check { form: Form::Lines };
+    let cases = [
+        (
+            check,
+            "too large",
+            "mcgate: f has more than 16777216 bytes\n",
+        ),
+        (replay, "not UTF-8", "mcgate: f isn't UTF-8\n"),
+        (replay, "no memory", ""),
+        (
+            check,
+            "{,}",
+            "mcgate: f:1:2: expected a name in double quotes or }, found ,\n",
+        ),
+        (
+            replay,
+            "{]\n",
+            "mcgate: f:1:2: expected a name in double quotes or }, found ]\n",
+        ),
+    ];
+    for (task, text, want) in cases {
+        let told = told_of_input(rt.alloc(), task, text)?;
+        assert_eq!(rt; told.as_str(), want, "at {text}");
+    }
+    Ok(())
+}
+
+// What is said of an address and an error of the system.
+fn told_of_address(alloc: Global, address: &str, kind: ErrorKind) -> Result<String, Fail> {
+    let mut details = Details::new(alloc);
+    details.add_listen(alloc, address, &io::Error::from(kind));
+    joined(alloc, &details)
+}
+
+#[test]
+fn addresses_that_are_told(rt: HostRuntime) -> Result<(), Fail> {
+    let cases = [
+        (
+            "a",
+            ErrorKind::InvalidInput,
+            "mcgate: cannot listen on a: no port: expected HOST:PORT\n",
+        ),
+        (
+            "a:1",
+            ErrorKind::AddrInUse,
+            "mcgate: cannot listen on a:1: address in use\n",
+        ),
+        ("a:1", ErrorKind::OutOfMemory, ""),
+    ];
+    for (address, kind, want) in cases {
+        let told = told_of_address(rt.alloc(), address, kind)?;
+        assert_eq!(rt; told.as_str(), want, "at {address}");
     }
     Ok(())
 }

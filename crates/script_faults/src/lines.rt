@@ -9,7 +9,18 @@ use line_faults::{BadLine, Wrong};
 use script_text::front::front_of;
 use std::alloc::{AllocError, Global};
 
-// That a script's configuration stands on its first line, where all of the text is one value and its first line isn't.
+// Whether the second line begins as no line of a script does, but as one of a JSON.
+fn goes_on_as_json(text: &str) -> bool {
+    match front_of(text).rest {
+        None => false,
+        Some(rest) => matches!(
+            rest.as_bytes().first(),
+            Some(b' ' | b'\t' | b'"' | b'{' | b'}' | b'[' | b']')
+        ),
+    }
+}
+
+// That a script's configuration stands on its first line, where that is no JSON and the text goes on as if it were.
 fn push_first_line_hint(
     alloc: Global,
     file: &str,
@@ -17,7 +28,7 @@ fn push_first_line_hint(
     line: &str,
     lines: &mut Vec<String>,
 ) -> Result<(), AllocError> {
-    if !is_json(alloc, line)? && is_json(alloc, text)? {
+    if goes_on_as_json(text) && !is_json(alloc, line)? {
         let hint = format!(in alloc;
             "mcgate: {file}: a script's configuration stands on its first line; one of many lines is given by --config: mcgate replay --config {file} SCRIPT"
         )?;

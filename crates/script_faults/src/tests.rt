@@ -23,6 +23,10 @@ fn first_lines_of_scripts(rt: HostRuntime) -> Result<(), Fail> {
             "mcgate: f:1:13: the end, within what begins at 1:1: expected a name in double quotes\nmcgate: f: a script's configuration stands on its first line; one of many lines is given by --config: mcgate replay --config f SCRIPT\n",
         ),
         (
+            "{\n  \"pools\": {},}\n",
+            "mcgate: f:1:2: the end, within what begins at 1:1: expected a name in double quotes or }\nmcgate: f: a script's configuration stands on its first line; one of many lines is given by --config: mcgate replay --config f SCRIPT\n",
+        ),
+        (
             "{\n> 0 get a\n",
             "mcgate: f:1:2: the end, within what begins at 1:1: expected a name in double quotes or }\n",
         ),
