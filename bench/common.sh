@@ -1,9 +1,32 @@
-# What compare and freshness share: the programs, the servers that they start, and a folder that goes at the end.
+# What compare and freshness share: their words, the programs, the servers that they start, and a folder that goes at the end.
+# shellcheck shell=bash disable=SC2034,SC2086
 
 here=$(cd "$(dirname "${BASH_SOURCE[0]}")" && pwd)
 top=$(cd "$here/.." && pwd)
-mcgate="$top/crates/mcgate/out/mcgate"
-mcload="$top/crates/mcload/out/mcload"
+
+# Whether a program without proofs is to be measured, and the numbers among the words.
+unproved=
+numbers=()
+
+# take_words MOST WORD..: the words of a command that takes at most so many numbers. usage prints what it is for.
+take_words() {
+    local word
+    for word in "${@:2}"; do
+        case $word in
+        -h | --help) usage && exit ;;
+        --unproved) unproved=--unproved ;;
+        '' | 0* | *[!0-9]*) complain "$word isn't --help, --unproved or a number from 1 on" ;;
+        *) numbers+=("$word") ;;
+        esac
+    done
+    [ "${#numbers[@]}" -le "$1" ] || complain "${numbers[$1]} is one number too many"
+}
+
+complain() {
+    printf '%s: %s\n' "${0##*/}" "$*" >&2
+    usage >&2
+    exit 2
+}
 
 # The first of the ports that are used; the others follow it.
 port=${BENCH_PORT:-23100}
@@ -13,7 +36,7 @@ as_cache=${BENCH_CACHE:-}
 as_proxy=${BENCH_PROXY:-}
 as_load=${BENCH_LOAD:-}
 
-folder=$(mktemp -d)
+folder=
 started=()
 
 clean_up() {
@@ -24,23 +47,28 @@ clean_up() {
     done
     rm -rf "$folder"
 }
-trap clean_up EXIT
 
 fail() { printf '%s: %s\n' "${0##*/}" "$*" >&2; exit 3; }
 
-# Both programs are built by a check, each once.
-build() {
-    [ -x "$mcgate" ] || "$top/mcgate" --version >/dev/null || exit 3
-    [ -x "$mcload" ] || (cd "$top/crates/mcload" && rt run mcload -- --help) >"$folder/build" 2>&1
-    [ -x "$mcload" ] || { tail -n 20 "$folder/build" >&2; fail "mcload was not built"; }
+# Finds the programs, and makes the folder. The load generator is built without proofs where it isn't proved.
+begin() {
     command -v memcached >/dev/null || fail "memcached isn't installed"
     command -v nutcracker >/dev/null || fail "nutcracker (twemproxy) isn't installed"
+    if [ -n "$unproved" ]; then
+        mcgate=$("$top/mcgate" build --unproved) || exit 3
+        printf '%s: mcgate is measured as it is built without proofs: %s\n' "${0##*/}" "$mcgate" >&2
+    else
+        mcgate=$("$top/mcgate" prove --done) ||
+            fail "there is no proved mcgate of these sources: ./mcgate prove makes it, and with --unproved one without proofs is measured"
+    fi
+    mcload=$("$top/mcgate" build mcload) || exit 3
+    folder=$(mktemp -d)
+    trap clean_up EXIT
 }
 
 # Waits until somebody listens on a port.
 wait_for() {
-    local i
-    for i in $(seq 200); do
+    for _ in $(seq 200); do
         (exec 3<>"/dev/tcp/127.0.0.1/$1") 2>/dev/null && return 0
         sleep 0.02
     done
