@@ -1,3 +1,4 @@
+# shellcheck shell=bash disable=SC2154
 # What the recipes' scripts share: servers on free ports of 127.0.0.1, mcgate before them, and what both are asked. A script sources
 # it, and ends with `came_out` if all that its recipe says came out.
 

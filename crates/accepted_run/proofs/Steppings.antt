@@ -4,7 +4,7 @@ use Rattle.std.proofs.lemmas.Bool.{ltb-true, lt-ltb}
 use Rattle.mc_runs.specs.Cover.{IsCovered}
 use Rattle.mc_runs.specs.Log.{Shown}
 use Rattle.mc_runs.specs.Overlap.{Entry, run_of}
-use Rattle.mc_runs.specs.Sharing.{AreAlone, IsFreshByNumber}
+use Rattle.mc_runs.specs.Sharing.{AreAlone, LosesOnly, IsFreshByNumber}
 use Rattle.mc_runs.proofs.SharingFresh.{fresh_by_number}
 use Rattle.mc_runs.proofs.SharingStale.{counts_stale}
 use Rattle.route_tree.specs.At.{tree_at}
@@ -118,21 +118,21 @@ module _ (law : GenerationsAreFresh) (configs configs' : List Configuration) (rs
         rising = λ n m lt. let h = accepted_rise ls (come.at n) (come.at m) (come.rising n m lt) in omega (arith, h);
       })
 
-  steps_fresh : (many : ℕ) (loads : List (ℕ × Route)) (log : List (Entry dialect)) → loaded_trees loads ≡ trees_loaded (map is_refused ls) rs many → RunsBy c.tree loads events log → IsFreshByNumber (opening_of events) (run_of log)
-  steps_fresh many loads log is run =
+  steps_fresh : (many : ℕ) (loads : List (ℕ × Route)) (log : List (Entry dialect)) → loaded_trees loads ≡ trees_loaded (map is_refused ls) rs many → LosesOnly (run_of log) → RunsBy c.tree loads events log → IsFreshByNumber (opening_of events) (run_of log)
+  steps_fresh many loads log is lost run =
       let plans : ℕ → List ℕ → Plan = λ n key. tree_at (tree_by c.tree loads n) key in
-      fresh_by_number (tree_words plans) (bars_by Alone plans) (steps_covered many loads is) (alone plans) (opening_of events) (run_of log) run
+      fresh_by_number (tree_words plans) (bars_by Alone plans) (steps_covered many loads is) (alone plans) (opening_of events) (run_of log) lost run
 
   pub steps_freshly : (given : List Shown) (marks : List ℕ) (report : Report) → DrivesStepped c.tree (map is_refused ls) rs events given marks report → StepsFreshly c.tree ls rs events given marks report
   steps_freshly given marks report d =
       let plans : ℕ → List ℕ → Plan = λ n key. tree_at (tree_by c.tree d.loads n) key in
-      let by : IsFreshByNumber (opening_of events) (run_of d.log) = steps_fresh (length rs) d.loads d.log d.loads_are d.run in
+      let by : IsFreshByNumber (opening_of events) (run_of d.log) = steps_fresh (length rs) d.loads d.log d.loads_are d.loses d.run in
       record { drives = d; fresh = by; none_stale = d.stale ∙ (counts_stale (tree_words plans) (bars_by Alone plans) (opening_of events) (alone plans)).none (run_of d.log) d.run by }
 
   part_freshly : (given : List Shown) (marks : List ℕ) (servers : ScriptServers) → StepsPart c.tree (map is_refused ls) rs events given marks servers → StepsPartFreshly c.tree ls rs events given marks servers
-  part_freshly given marks servers p = record { part = p; fresh = steps_fresh p.loaded p.loads p.log p.loads_are p.run }
+  part_freshly given marks servers p = record { part = p; fresh = steps_fresh p.loaded p.loads p.log p.loads_are p.loses p.run }
 
   pub ends_steps : (t : Transcript) (marks : List ℕ) (before after : ScriptServers) (fault : DriveFault) → EndsStepped c.tree (map is_refused ls) rs events t marks before after fault → EndsSteps c.tree ls rs events t marks before after fault
   ends_steps t marks before after (BadEvent index) e = e
   ends_steps t marks before after NoMemory e = part_freshly (transcript_of t) marks after e
-  ends_steps t marks before after Spent e = (record { part = e.0; fresh = steps_fresh e.0.loaded e.0.loads e.0.log e.0.loads_are e.0.run }, e.1)
+  ends_steps t marks before after Spent e = (record { part = e.0; fresh = steps_fresh e.0.loaded e.0.loads e.0.log e.0.loads_are e.0.loses e.0.run }, e.1)

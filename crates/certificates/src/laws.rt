@@ -1,4 +1,4 @@
-//! Laws of places and certificates. Each is a function without a body, whose contract is the law; code uses it by a call.
+//! Laws of places and certificates. Each is a function without a body, whose contract is the law; proofs cite its lemma.
 
 ghost use Rattle.certificates.specs.Places.{SoundIsCovered};
 ghost use Rattle.certificates.specs.ValidLaws.{ValidIsSound, LooksAreEnough};

@@ -87,7 +87,7 @@ fn large_stores_are_asked_as_they_came(rt: HostRuntime) -> Result<(), Fail> {
     for line in [
         b"set a 5 60 100000\r\n".as_slice(),
         b"cas a 5 60 100000 7\r\n".as_slice(),
-        b"ms a 100000 F5 MS T60\r\n".as_slice(),
+        b"ms a 100000 T60 F5 MS\r\n".as_slice(),
     ] {
         assert!(rt; goes_on(rt.alloc(), line)?);
         assert!(rt; goes_on_early(rt.alloc(), line)?);

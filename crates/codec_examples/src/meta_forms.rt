@@ -65,10 +65,29 @@ fn gets_as_meta_gets(rt: HostRuntime) -> Result<(), Fail> {
     for (request, form) in [
         (b"get a\r\n".as_slice(), b"mg a k f v\r\n".as_slice()),
         (b"gets a\r\n".as_slice(), b"mg a k f v c\r\n".as_slice()),
-        (b"gat 60 a\r\n".as_slice(), b"mg a k f v T60\r\n".as_slice()),
+        (b"gat 60 a\r\n".as_slice(), b"mg a T60 k f v\r\n".as_slice()),
         (
             b"gats -1 a\r\n".as_slice(),
-            b"mg a k f v c T-1\r\n".as_slice(),
+            b"mg a T-1 k f v c\r\n".as_slice(),
+        ),
+    ] {
+        assert!(rt; asks(rt.alloc(), request, form)?);
+    }
+    Ok(())
+}
+
+// A server that takes flags in their order sets the expiry before it tells the time to live.
+#[test]
+fn expiry_before_what_is_told(rt: HostRuntime) -> Result<(), Fail> {
+    for (request, form) in [
+        (b"mg k t T100\r\n".as_slice(), b"mg k T100 t\r\n".as_slice()),
+        (
+            b"ma k t T100 v\r\n".as_slice(),
+            b"ma k T100 t v D1 MI\r\n".as_slice(),
+        ),
+        (
+            b"ms k 1 c T100 k\r\nx\r\n".as_slice(),
+            b"ms k 1 T100 c k F0 MS\r\nx\r\n".as_slice(),
         ),
     ] {
         assert!(rt; asks(rt.alloc(), request, form)?);

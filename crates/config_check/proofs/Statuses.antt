@@ -10,12 +10,12 @@ use Rattle.config_check.specs.declared.reporting.Form.{Form}
 use Rattle.config_check.specs.declared.status.RunFault.{RunFault}
 use Rattle.config_check.specs.declared.status.RunFault.TheVariants.{NoMemory, Writer, TooManyCalls}
 
-config_status : (form : Form) (config : Configuration) (old new : Option (List ℕ)) (status : ℕ) → ReportsConfig form config old new status → status ≤ 1
-config_status form config old new status (inl accepted) = let e = accepted.0 in omega (arith, e)
-config_status form config old new status (inr refused) = let e = refused.0 in omega (arith, e)
+config_status : (form : Form) (text : List ℕ) (config : Configuration) (old new : Option (List ℕ)) (status : ℕ) → ReportsConfig form text config old new status → status ≤ 1
+config_status form text config old new status (inl accepted) = let e = accepted.0 in omega (arith, e)
+config_status form text config old new status (inr refused) = let e = refused.0 in omega (arith, e)
 
 pub checks_status : (form : Form) (text : List ℕ) (old new : Option (List ℕ)) (status : ℕ) → Checks form text old new status → status ≤ 2
-checks_status form text old new status (inl verdict) = let few = config_status form verdict.config old new status verdict.reports in omega (arith, few)
+checks_status form text old new status (inl verdict) = let few = config_status form text verdict.config old new status verdict.reports in omega (arith, few)
 checks_status form text old new status (inr faulty) = let e = faulty.0 in omega (arith, e)
 
 -- no calls are made

@@ -81,6 +81,10 @@ pub record ChecksRefused (config : Configuration) (reason : Reason) (old new : O
   pub shows : ShowsReason config reason run
   pub printed : Appends old new (refusal_line config.servers reason ++ run)
 
+-- the same, where this script was found, or none
+abbrev pub ChecksFound : Configuration → Reason → Option Script → Option (List ℕ) → Option (List ℕ) → Type 0
+ChecksFound config reason found old new = (checks : ChecksRefused config reason old new) × (checks.run ≡ run_lines found)
+
 -- the text is none: reading it fails by this fault, which isn't running out of memory, and that was written
 pub record PrintsFault (text : List ℕ) (old new : Option (List ℕ)) : Type 0 where
   pub fault : ConfigFault

@@ -10,27 +10,28 @@ use Rattle.config_check.specs.Drawing.{DrawsAccepted, DrawsRefused}
 use Rattle.config_check.specs.declared.reporting.Form.{Form}
 use Rattle.config_check.specs.declared.reporting.Form.TheVariants as forms
 
--- an accepted configuration in this form
-abbrev pub AcceptedIn : Form → Configuration → Option (List ℕ) → Option (List ℕ) → Type 0
-AcceptedIn forms.Lines config = PrintsAccepted config.tree
-AcceptedIn forms.Explained config = ExplainsAccepted config.tree
-AcceptedIn forms.Picture config = DrawsAccepted config
+-- an accepted configuration in this form, which this text means
+abbrev pub AcceptedIn : Form → (text : List ℕ) → Configuration → Option (List ℕ) → Option (List ℕ) → Type 0
+AcceptedIn forms.Lines text config = PrintsAccepted config.tree
+AcceptedIn forms.Explained text config = ExplainsAccepted config.tree
+AcceptedIn forms.Picture text config = DrawsAccepted text config
 
 -- one that is refused for this reason
-abbrev pub RefusedIn : Form → Configuration → Reason → Option (List ℕ) → Option (List ℕ) → Type 0
-RefusedIn forms.Lines = ChecksRefused
-RefusedIn forms.Explained = ExplainsRefused
-RefusedIn forms.Picture = DrawsRefused
+abbrev pub RefusedIn : Form → (text : List ℕ) → Configuration → Reason → Option (List ℕ) → Option (List ℕ) → Type 0
+RefusedIn forms.Lines text = ChecksRefused
+RefusedIn forms.Explained text = ExplainsRefused text
+RefusedIn forms.Picture text = DrawsRefused text
 
 -- the verdict on a configuration was written; status 0: it is accepted; status 1: it is refused
-abbrev pub ReportsConfig : Form → Configuration → Option (List ℕ) → Option (List ℕ) → ℕ → Type 0
-ReportsConfig form config old new status = ((status ≡ 0) × AcceptedIn form config old new) ⊎ ((status ≡ 1) × (reason : Reason) × RefusedIn form config reason old new)
+abbrev pub ReportsConfig : Form → (text : List ℕ) → Configuration → Option (List ℕ) → Option (List ℕ) → ℕ → Type 0
+ReportsConfig form text config old new status =
+    ((status ≡ 0) × AcceptedIn form text config old new) ⊎ ((status ≡ 1) × (reason : Reason) × RefusedIn form text config reason old new)
 
 -- the text is a configuration, and the verdict on it was written
 pub record PrintsVerdict (form : Form) (text : List ℕ) (old new : Option (List ℕ)) (status : ℕ) : Type 0 where
   pub config : Configuration
   pub said : read_or (read text) ≡ Ok (config.tree, config.servers)
-  pub reports : ReportsConfig form config old new status
+  pub reports : ReportsConfig form text config old new status
 
 -- status 2: the text is no configuration
 abbrev pub Checks : Form → List ℕ → Option (List ℕ) → Option (List ℕ) → ℕ → Type 0

@@ -9,7 +9,7 @@ ghost use Rattle.fresh_gate.specs.Gate.{IsCertified, IsJudged};
 ghost use Rattle.fleet_run.specs.Scripted.{scripted_of};
 ghost use Rattle.script_lines.specs.Laws.{HasWidths};
 ghost use Rattle.config_check.specs.Verdict.{refusal_line};
-ghost use Rattle.config_check.specs.Checking.{ChecksRefused, IsTold, PrintsAccepted, PrintsRefused, IsFoundFor, PrintsFault, StopsUnwritten, HasPlaces, run_lines};
+ghost use Rattle.config_check.specs.Checking.{ChecksRefused, ChecksFound, IsTold, PrintsAccepted, PrintsRefused, IsFoundFor, PrintsFault, StopsUnwritten, HasPlaces, run_lines};
 
 use crate::status::{BAD_INPUT, DONE, REFUSED, RunFault};
 use crate::verdict::{write_accepted, write_refusal};
@@ -78,8 +78,12 @@ pub fn print_refused<W: Write>(
     print_reason(config, reason, out)
 }
 
-// The script that shows why a configuration is refused, if that is a gap that has one.
-fn run_of(alloc: Global, config: &Config, reason: &Reason) -> Result<Option<Script>, AllocError>
+/// The script that shows why a configuration is refused, if that is a gap that has one.
+pub(crate) fn run_of(
+    alloc: Global,
+    config: &Config,
+    reason: &Reason,
+) -> Result<Option<Script>, AllocError>
     requires { IsJudged config.now.tree reason.now }
     ensures { IfOk result (IsFoundFor config.now reason.now) }
 {
@@ -100,6 +104,23 @@ fn print_run<W: Write>(run: &Option<Script>, out: &mut W) -> io::Result<()>
     }
 }
 
+/// Writes why a configuration is refused, and this script, which shows it.
+pub(crate) fn print_found<W: Write>(
+    config: &Config,
+    reason: &Reason,
+    run: &Option<Script>,
+    out: &mut W,
+) -> Result<u8, RunFault>
+    requires judged { IsJudged config.now.tree reason.now }
+    requires found { IsFoundFor config.now reason.now run.now }
+    ensures ok { IfOk result (λ status. (status ≡ 1) × ChecksFound config.now reason.now run.now (W.contents out.old) (W.contents out.new)) }
+    ensures err { IfErr result (StopsUnwritten (W.contents out.old) (W.contents out.new)) }
+{
+    let status = print_reason(config, reason, out)?;
+    print_run(run, out)?;
+    Ok(status)
+}
+
 /// Writes why a configuration is refused, and the script that shows it. The script is looked for before that, so that nothing was
 /// written where memory for it was refused.
 pub fn check_refused<W: Write>(
@@ -113,9 +134,7 @@ pub fn check_refused<W: Write>(
     ensures err { IfErr result (StopsUnwritten (W.contents out.old) (W.contents out.new)) }
 {
     let run = run_of(alloc, config, reason)?;
-    let status = print_reason(config, reason, out)?;
-    print_run(&run, out)?;
-    Ok(status)
+    print_found(config, reason, &run, out)
 }
 
 /// Writes the fault of a text that is no configuration, unless that is running out of memory.

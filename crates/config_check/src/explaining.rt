@@ -6,26 +6,38 @@ ghost use Rattle.fresh_gate.specs.Gate.{IsCertified, IsJudged};
 ghost use Rattle.fresh_gate.specs.declared.gap.Reason.TheVariants as reasons;
 ghost use Rattle.config_check.specs.Checking.{StopsUnwritten};
 ghost use Rattle.config_check.specs.Explaining as told;
-ghost use Rattle.config_check.specs.Explaining.{ExplainsAccepted, ExplainsRefused, IsInWords, accepted_words, words_text};
+ghost use Rattle.config_check.specs.Explaining.{ExplainsAccepted, ExplainsRefused, AreWordsFor, Tells, accepted_words, number_front, number_line, script_words, gap_words, words_text};
 ghost use Rattle.gate_words.specs.Explanations as gaps;
 ghost use Rattle.route_tree.specs.Place.{tree_at_place};
 
-use crate::checking::{check_refused, print_accepted};
+use crate::checking::{print_accepted, print_found, run_of};
 use crate::status::RunFault;
+use coverage::prefixes::prefix_text;
+use fleet_run::Script;
 use fresh_gate::{Gap, Reason};
-use gate_words::{Explanation, explain, write_explanation};
+use gate_words::pool_words::write_server;
+use gate_words::{Explanation, Pool, explain, read_pools, write_changes, write_explanation};
+use mc_types::ServerId;
 use route_json::{Config, Servers};
 use route_tree::Tree;
 use std::alloc::{AllocError, Global};
 use std::io;
 use std::io::Write;
 
-/// What is said of a refused configuration.
+/// Why a configuration is refused.
 #[derive(Drop)]
 pub enum Words {
     OfGap(Gap, Explanation),
     OfPlaces,
     None,
+}
+
+/// What is told of a refused configuration: why, the script that shows it, and the names of the pools.
+#[derive(Drop)]
+pub struct Told {
+    pub pools: Vec<Pool>,
+    pub run: Option<Script>,
+    pub words: Words,
 }
 
 /// Why the gap is one.
@@ -44,7 +56,7 @@ pub(crate) fn gap_explained(
 // Why the configuration is refused.
 fn words_of(alloc: Global, config: &Config, reason: &Reason) -> Result<Words, AllocError>
     requires { IsJudged config.now.tree reason.now }
-    ensures { IfOk result (λ words. IsInWords config.now reason.now (words_text config.now.servers words)) }
+    ensures { IfOk result (AreWordsFor config.now reason.now) }
 {
     match reason {
         Reason::Uncovered(gap) => {
@@ -72,18 +84,86 @@ fn fresh_words() -> &'static str
     "# no reply shows what was stored before an acknowledged delete of its key, whatever fails"
 }
 
-fn write_words<W: Write>(servers: &Servers, words: &Words, out: &mut W) -> io::Result<()>
-    ensures { OnOk result (Appends (W.contents out.old) (W.contents out.new) (words_text servers.now words.now)) }
+fn write_number_front<W: Write>(server: ServerId, out: &mut W) -> io::Result<()>
+    ensures { OnOk result (Appends (W.contents out.old) (W.contents out.new) (number_front server)) }
+{
+    let number = server.number();
+    write!(out, "# in the script, server {number} is ")
+}
+
+// Which server the number is that the script of a gap names.
+fn write_number<W: Write>(
+    servers: &Servers,
+    pools: &[Pool],
+    server: ServerId,
+    out: &mut W,
+) -> io::Result<()>
+    ensures { OnOk result (Appends (W.contents out.old) (W.contents out.new) (number_line servers.now pools.now server)) }
+{
+    write_number_front(server, out)?;
+    write_server(servers, pools, server, out)?;
+    writeln!(out)?;
+    Ok(())
+}
+
+// The same, if there is a script.
+fn write_script_words<W: Write>(
+    servers: &Servers,
+    pools: &[Pool],
+    server: ServerId,
+    run: &Option<Script>,
+    out: &mut W,
+) -> io::Result<()>
+    ensures { OnOk result (Appends (W.contents out.old) (W.contents out.new) (script_words servers.now pools.now server run.now)) }
+{
+    match run {
+        Some(_) => write_number(servers, pools, server, out),
+        None => Ok(()),
+    }
+}
+
+// The lines of a gap.
+fn write_gap_words<W: Write>(
+    servers: &Servers,
+    tree: &Tree,
+    pools: &[Pool],
+    run: &Option<Script>,
+    gap: &Gap,
+    explanation: &Explanation,
+    out: &mut W,
+) -> io::Result<()>
+    ensures { OnOk result (Appends (W.contents out.old) (W.contents out.new) (gap_words servers.now tree.now pools.now run.now gap.now explanation.now)) }
+{
+    let server = gap.server;
+    let prefix = prefix_text(&gap.place.prefix);
+    write_script_words(servers, pools, server, run, out)?;
+    write_explanation(
+        servers,
+        pools,
+        gap.op,
+        server,
+        gap.deleting,
+        explanation,
+        out,
+    )?;
+    write_changes(servers, pools, server, prefix, tree, out)?;
+    Ok(())
+}
+
+fn write_words<W: Write>(
+    servers: &Servers,
+    tree: &Tree,
+    pools: &[Pool],
+    run: &Option<Script>,
+    words: &Words,
+    out: &mut W,
+) -> io::Result<()>
+    ensures { OnOk result (Appends (W.contents out.old) (W.contents out.new) (words_text servers.now tree.now pools.now run.now words.now)) }
 {
     match words {
-        Words::OfGap(gap, explanation) => write_explanation(
-            servers,
-            gap.op,
-            gap.server,
-            gap.deleting,
-            explanation,
-            out,
-        ),
+        Words::OfGap(gap, explanation) => {
+            write_gap_words(servers, tree, pools, run, gap, explanation, out)
+        }
         Words::OfPlaces => {
             let text = places_words();
             writeln!(out, "{text}")
@@ -92,21 +172,58 @@ fn write_words<W: Write>(servers: &Servers, words: &Words, out: &mut W) -> io::R
     }
 }
 
-/// Writes why a configuration is refused, the script that shows it, and the words.
+// What is told of a configuration that this text means.
+fn told_of(alloc: Global, text: &str, config: &Config, reason: &Reason) -> Result<Told, AllocError>
+    requires { IsJudged config.now.tree reason.now }
+    ensures { IfOk result (Tells text.now config.now reason.now) }
+{
+    let words = words_of(alloc, config, reason)?;
+    let run = run_of(alloc, config, reason)?;
+    let pools = read_pools(alloc, text, config.servers())?;
+    Ok(Told { pools, run, words })
+}
+
+// Writes why a configuration is refused, the script that shows it, and the words.
+fn print_told<W: Write>(
+    text: &str,
+    config: &Config,
+    reason: &Reason,
+    told: &Told,
+    out: &mut W,
+) -> Result<u8, RunFault>
+    requires judged { IsJudged config.now.tree reason.now }
+    requires told { Tells text.now config.now reason.now told.now }
+    ensures ok { IfOk result (λ status. (status ≡ 1) × ExplainsRefused text.now config.now reason.now (W.contents out.old) (W.contents out.new)) }
+    ensures err { IfErr result (StopsUnwritten (W.contents out.old) (W.contents out.new)) }
+{
+    let _text = text;
+    let status = print_found(config, reason, &told.run, out)?;
+    write_words(
+        config.servers(),
+        config.tree(),
+        &told.pools,
+        &told.run,
+        &told.words,
+        out,
+    )?;
+    Ok(status)
+}
+
+/// Writes why a configuration, which this text means, is refused, the script that shows it, and the words. All that needs memory is
+/// done before anything is written.
 pub(crate) fn explain_refused<W: Write>(
     alloc: Global,
+    text: &str,
     config: &Config,
     reason: &Reason,
     out: &mut W,
 ) -> Result<u8, RunFault>
     requires { IsJudged config.now.tree reason.now }
-    ensures ok { IfOk result (λ status. (status ≡ 1) × ExplainsRefused config.now reason.now (W.contents out.old) (W.contents out.new)) }
+    ensures ok { IfOk result (λ status. (status ≡ 1) × ExplainsRefused text.now config.now reason.now (W.contents out.old) (W.contents out.new)) }
     ensures err { IfErr result (StopsUnwritten (W.contents out.old) (W.contents out.new)) }
 {
-    let words = words_of(alloc, config, reason)?;
-    let status = check_refused(alloc, config, reason, out)?;
-    write_words(config.servers(), &words, out)?;
-    Ok(status)
+    let told = told_of(alloc, text, config, reason)?;
+    print_told(text, config, reason, &told, out)
 }
 
 fn write_fresh<W: Write>(out: &mut W) -> io::Result<()>

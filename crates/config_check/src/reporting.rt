@@ -26,15 +26,21 @@ pub enum Form {
 }
 
 // Prints an accepted configuration.
-fn accept<W: Write>(alloc: Global, form: Form, config: &Config, out: &mut W) -> Result<u8, RunFault>
+fn accept<W: Write>(
+    alloc: Global,
+    form: Form,
+    text: &str,
+    config: &Config,
+    out: &mut W,
+) -> Result<u8, RunFault>
     requires { IsCertified config.now.tree }
-    ensures ok { IfOk result (λ status. (status ≡ 0) × AcceptedIn form config.now (W.contents out.old) (W.contents out.new)) }
+    ensures ok { IfOk result (λ status. (status ≡ 0) × AcceptedIn form text.now config.now (W.contents out.old) (W.contents out.new)) }
     ensures err { IfErr result (StopsUnwritten (W.contents out.old) (W.contents out.new)) }
 {
     match form {
         Form::Lines => print_accepted(alloc, config.tree(), out),
         Form::Explained => explain_accepted(alloc, config.tree(), out),
-        Form::Picture => draw_accepted(config, out),
+        Form::Picture => draw_accepted(alloc, text, config, out),
     }
 }
 
@@ -42,34 +48,36 @@ fn accept<W: Write>(alloc: Global, form: Form, config: &Config, out: &mut W) -> 
 fn refuse<W: Write>(
     alloc: Global,
     form: Form,
+    text: &str,
     config: &Config,
     reason: &Reason,
     out: &mut W,
 ) -> Result<u8, RunFault>
     requires { IsJudged config.now.tree reason.now }
-    ensures ok { IfOk result (λ status. (status ≡ 1) × RefusedIn form config.now reason.now (W.contents out.old) (W.contents out.new)) }
+    ensures ok { IfOk result (λ status. (status ≡ 1) × RefusedIn form text.now config.now reason.now (W.contents out.old) (W.contents out.new)) }
     ensures err { IfErr result (StopsUnwritten (W.contents out.old) (W.contents out.new)) }
 {
     match form {
         Form::Lines => check_refused(alloc, config, reason, out),
-        Form::Explained => explain_refused(alloc, config, reason, out),
-        Form::Picture => draw_refused(alloc, config, reason, out),
+        Form::Explained => explain_refused(alloc, text, config, reason, out),
+        Form::Picture => draw_refused(alloc, text, config, reason, out),
     }
 }
 
-// Judges a configuration, and prints the verdict.
+// Judges a configuration, which this text means, and prints the verdict.
 fn report_config<W: Write>(
     alloc: Global,
     form: Form,
+    text: &str,
     config: Config,
     out: &mut W,
 ) -> Result<u8, RunFault>
-    ensures ok { IfOk result (ReportsConfig form config (W.contents out.old) (W.contents out.new)) }
+    ensures ok { IfOk result (ReportsConfig form text.now config (W.contents out.old) (W.contents out.new)) }
     ensures err { IfErr result (StopsUnwritten (W.contents out.old) (W.contents out.new)) }
 {
     match judge(alloc, config) {
-        Ok(accepted) => accept(alloc, form, accepted.config(), out),
-        Err(refused) => refuse(alloc, form, &refused.config, &refused.reason, out),
+        Ok(accepted) => accept(alloc, form, text, accepted.config(), out),
+        Err(refused) => refuse(alloc, form, text, &refused.config, &refused.reason, out),
     }
 }
 
@@ -79,7 +87,7 @@ fn report_text<W: Write>(alloc: Global, form: Form, text: &str, out: &mut W) -> 
     ensures err { IfErr result (StopsUnwritten (W.contents out.old) (W.contents out.new)) }
 {
     match read_config(alloc, text) {
-        Ok(config) => report_config(alloc, form, config, out),
+        Ok(config) => report_config(alloc, form, text, config, out),
         Err(fault) => print_fault(text, &fault, out),
     }
 }
@@ -89,8 +97,9 @@ fn report_text<W: Write>(alloc: Global, form: Form, text: &str, out: &mut W) -> 
 ///
 /// - `Lines`: `accepted places=N`; or `refused: ` and why, and where that is a gap the lines of the script that shows it, if
 ///   [`refusals::refusal_run`] finds one.
-/// - `Explained`: the same, and then in words, as comments of a script: for a gap by which way a read reaches the server, which
-///   servers reads take, which of them the delete clears and which it leaves, and what to change.
+/// - `Explained`: the same, and then in words, as comments of a script: for a gap which server the script's number is, by which way a
+///   read reaches the server, which servers reads take, which of them the delete clears and which it leaves, by which route deletes
+///   go, and what to change there. Servers are told with their places in the lists of the pools.
 /// - `Picture`: a graph in Graphviz's language in place of the verdict; of a refused configuration with its first gap marked: the
 ///   way by which the read reaches the server, and the server, which the delete leaves. Where there are too many places the line
 ///   of that is printed, and no graph.

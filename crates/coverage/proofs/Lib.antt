@@ -10,3 +10,4 @@ pub mod SomeTaken
 pub mod SamePossible
 pub mod TakenPools
 pub mod SurePools
+pub mod Left

@@ -3,3 +3,5 @@ pub mod Computed
 pub mod Exact
 pub mod Pools
 pub mod Doubted
+pub mod Seen
+pub mod Asked

@@ -1,140 +1,93 @@
 //! Whether a plain tree's deletes clear a server.
 
 ghost use Rattle.std.specs.Prelude.{◌≡◌, ◌↔◌, IsTrue};
-ghost use Rattle.mc_types.specs.declared.ask.Op.TheVariants.{Delete};
-ghost use Rattle.route_tree.specs.Form.{plans_of, plan_policies_of};
+ghost use Rattle.route_tree.specs.At.{plain_for};
 ghost use Rattle.coverage.specs.Cover.{Clears};
-ghost use Rattle.coverage.specs.Computed.{cleared, kept, kept_each, kept_first, kept_head, kept_policy, fails, fails_some, fails_each, fails_head, fails_policy};
+ghost use Rattle.coverage.specs.Computed.{cleared, kept, kept_each, kept_first, kept_head};
+ghost use Rattle.coverage.specs.Seen.{plan_of, all_plans_of};
 
 use crate::deleting::Deleting;
 use crate::laws::cleared_is_exact;
-use crate::stores::is_op;
+use crate::possible::possible_at;
+use crate::seen::{At, Seen, SeenAll, SeenForm};
 use mc_types::{Op, ServerId};
-use route_tree::{Plain, PlainForm};
+use route_tree::{Plain, Tree};
 
 /// Whether each acknowledged delete of the kind has cleared the server. It takes no memory.
+pub fn clears(seen: Seen, deleting: Deleting, server: ServerId) -> bool
+    ensures { IsTrue result ↔ Clears (plan_of seen.entry) deleting server }
+{
+    cleared_is_exact();
+    seen.lawful();
+    let _kind = deleting;
+    !keeps(seen, server)
+}
+
+/// The same at a plain tree that was built.
 pub fn cleared(plain: &Plain, deleting: Deleting, server: ServerId) -> bool
     ensures { IsTrue result ↔ Clears plain.now deleting server }
 {
-    cleared_is_exact();
-    let _form = plain.form();
-    let _kind = deleting;
-    is_cleared(plain, server)
+    clears(Seen::Plain(plain), deleting, server)
 }
 
-// Whether none is acknowledged with the server not cleared.
-pub fn is_cleared(plain: &Plain, server: ServerId) -> bool
-    ensures { result ≡ cleared plain.now server }
+/// Whether each acknowledged delete, of either kind, has cleared the server at the plain tree of this hash and text. It
+/// takes no memory.
+pub fn is_cleared_at(tree: &Tree, text: &[u8], hash: u32, server: ServerId) -> bool
+    ensures { result ≡ cleared (plain_for hash text.now tree.now) server }
 {
-    !deleted(plain, server).keeps
+    let at = At { text, hash };
+    !keeps(Seen::Tree(tree, &at), server)
 }
 
-// What can come of a delete: that it is acknowledged with the server not cleared, and that it fails.
-#[derive(Clone, Copy)]
-struct OfDelete {
-    keeps: bool,
-    fails: bool,
-}
-
-#[cycle(deleted)]
-fn deleted(plain: &Plain, server: ServerId) -> OfDelete
-    ensures keeps { result.keeps ≡ kept server plain.now }
-    ensures fails { result.fails ≡ fails Delete plain.now }
+// Whether a delete can be acknowledged with the server not cleared. It looks no further than it has to.
+#[cycle(keeps)]
+fn keeps(seen: Seen, server: ServerId) -> bool
+    ensures { result ≡ kept server (plan_of seen.entry) }
 {
-    match plain.form() {
-        PlainForm::Server(other) => OfDelete {
-            keeps: other.number() != server.number(),
-            fails: true,
-        },
-        PlainForm::Null => OfDelete {
-            keeps: true,
-            fails: false,
-        },
-        PlainForm::Error => OfDelete {
-            keeps: false,
-            fails: true,
-        },
-        PlainForm::AllSync(children) => deleted_each(children, server),
-        PlainForm::Failover(children) => deleted_first(children, server),
-        PlainForm::MissFailover(children) => deleted_head(children, server),
-        PlainForm::WarmUp { cold, .. } => deleted(cold, server),
-        PlainForm::ByOperation { policies, default } => deleted_policy(policies, default, server),
+    match seen.form(Op::Delete) {
+        SeenForm::Server(other) => other.number() != server.number(),
+        SeenForm::Null => true,
+        SeenForm::Error => false,
+        SeenForm::AllSync(children) => each_keeps(children, server),
+        SeenForm::Failover(children) => first_keeps(children, server),
+        SeenForm::MissFailover(children) => head_keeps(children, server),
+        SeenForm::WarmUp { cold, .. } => keeps(cold, server),
     }
 }
 
 // All children.
-#[cycle(deleted)]
-fn deleted_each(children: &[Plain], server: ServerId) -> OfDelete
-    ensures keeps { result.keeps ≡ kept_each server (plans_of children.now) }
-    ensures fails { result.fails ≡ fails_some Delete (plans_of children.now) }
+#[cycle(keeps)]
+fn each_keeps(children: SeenAll, server: ServerId) -> bool
+    ensures { result ≡ kept_each server (all_plans_of children.entry) }
 {
-    match children {
-        [] => OfDelete {
-            keeps: true,
-            fails: false,
-        },
-        [first, rest @ ..] => {
-            let a = deleted(first, server);
-            let b = deleted_each(rest, server);
-            OfDelete {
-                keeps: a.keeps && b.keeps,
-                fails: a.fails || b.fails,
-            }
-        }
+    match children.parted() {
+        Some(parts) => keeps(parts.first, server) && each_keeps(parts.rest, server),
+        None => true,
     }
 }
 
 // Children up to one that doesn't fail.
-#[cycle(deleted)]
-fn deleted_first(children: &[Plain], server: ServerId) -> OfDelete
-    ensures keeps { result.keeps ≡ kept_first server (plans_of children.now) }
-    ensures fails { result.fails ≡ fails_each Delete (plans_of children.now) }
+#[cycle(keeps)]
+fn first_keeps(children: SeenAll, server: ServerId) -> bool
+    ensures { result ≡ kept_first server (all_plans_of children.entry) }
 {
-    match children {
-        [] => OfDelete {
-            keeps: false,
-            fails: true,
-        },
-        [first, rest @ ..] => {
-            let a = deleted(first, server);
-            let b = deleted_first(rest, server);
-            OfDelete {
-                keeps: a.keeps || (a.fails && b.keeps),
-                fails: a.fails && b.fails,
-            }
+    match children.parted() {
+        Some(parts) => {
+            keeps(parts.first, server)
+                || (possible_at(parts.first, Op::Delete, server).fails
+                    && first_keeps(parts.rest, server))
         }
+        None => false,
     }
 }
 
 // The first child alone.
-#[cycle(deleted)]
-fn deleted_head(children: &[Plain], server: ServerId) -> OfDelete
-    ensures keeps { result.keeps ≡ kept_head server (plans_of children.now) }
-    ensures fails { result.fails ≡ fails_head Delete (plans_of children.now) }
+#[cycle(keeps)]
+fn head_keeps(children: SeenAll, server: ServerId) -> bool
+    ensures { result ≡ kept_head server (all_plans_of children.entry) }
 {
-    match children {
-        [] => OfDelete {
-            keeps: false,
-            fails: false,
-        },
-        [first, ..] => deleted(first, server),
-    }
-}
-
-// The child of the operation, else the default.
-#[cycle(deleted)]
-fn deleted_policy(policies: &[(Op, Plain)], default: &Plain, server: ServerId) -> OfDelete
-    ensures keeps { result.keeps ≡ kept_policy server (plan_policies_of policies.now default.now) }
-    ensures fails { result.fails ≡ fails_policy Delete (plan_policies_of policies.now default.now) }
-{
-    match policies {
-        [] => deleted(default, server),
-        [(op, child), rest @ ..] => {
-            if is_op(*op, Op::Delete) {
-                deleted(child, server)
-            } else {
-                deleted_policy(rest, default, server)
-            }
-        }
+    match children.parted() {
+        Some(parts) => keeps(parts.first, server),
+        None => false,
     }
 }

@@ -5,7 +5,7 @@ ghost use Rattle.route_tree.specs.Form.{routes_of, policies_of};
 ghost use Rattle.coverage.specs.Doubted.{doubts, doubts_each, doubts_first, doubts_head, doubts_policy, with_doubted, doubted_pools};
 
 use crate::pools::Pool;
-use crate::possible::possible_at;
+use crate::possible::fails_at;
 use crate::stores::is_op;
 use mc_types::Op;
 use route_tree::at::longest;
@@ -55,7 +55,7 @@ fn doubts_first(children: &[Tree], text: &[u8], pool: &Pool) -> bool
         [] => false,
         [first, rest @ ..] => {
             doubts(first, text, pool)
-                || (possible_at(first, text, Op::Delete).fails && doubts_first(rest, text, pool))
+                || (fails_at(first, text, Op::Delete) && doubts_first(rest, text, pool))
         }
     }
 }

@@ -2,17 +2,18 @@
 #![tactic(auto)]
 
 pub mod clearing;
-pub mod clearing_at;
 pub mod deleting;
 pub mod doubts;
 pub mod laws;
 pub mod pools;
 pub mod possible;
 pub mod prefixes;
+pub mod seen;
 pub mod servers;
 pub mod stores;
 pub mod taking;
 
-pub use clearing::cleared;
+pub use clearing::{cleared, clears};
 pub use deleting::Deleting;
-pub use taking::taken;
+pub use seen::{At, Seen};
+pub use taking::{taken, takes};

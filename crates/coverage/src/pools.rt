@@ -5,7 +5,7 @@ ghost use Rattle.std.specs.Str.{bytes_eq};
 ghost use Rattle.route_tree.specs.Form.{routes_of, policies_of};
 ghost use Rattle.coverage.specs.Pools.{server_at, pools_of, pools_of_each, pools_of_some, pools_of_first, pools_of_head, pools_of_policy, has_pool, with_pool, distinct_after, sought_pools, taken_pools};
 
-use crate::possible::{adding_at, possible_at, possible_each};
+use crate::possible::{adds_at, fails_at, hits_at_each};
 use crate::stores::is_op;
 use mc_types::{Op, ServerId};
 use route_tree::at::longest;
@@ -104,7 +104,7 @@ fn add_pools<'a>(
         TreeForm::WarmUp { cold, warm, .. } => {
             add_pools(cold, text, sought, pools)?;
             if is_op(sought.op, Op::Get) {
-                let adds = adding_at(cold, text).adds;
+                let adds = adds_at(cold, text);
                 let warm_sought = Sought {
                     op: sought.op,
                     shows: sought.shows || (sought.copies && adds),
@@ -151,10 +151,10 @@ fn add_pools_of_each<'a>(
     match children {
         [] => Ok(()),
         [first, rest @ ..] => {
-            let others = possible_each(rest, text, sought.op);
+            let others_hit = hits_at_each(rest, text, sought.op);
             let first_sought = Sought {
                 op: sought.op,
-                shows: sought.shows && others.hits,
+                shows: sought.shows && others_hit,
                 copies: sought.copies,
             };
             let rest_sought = Sought {
@@ -201,7 +201,7 @@ fn add_pools_of_first<'a>(
         [] => Ok(()),
         [first, rest @ ..] => {
             add_pools(first, text, sought, pools)?;
-            if possible_at(first, text, sought.op).fails {
+            if fails_at(first, text, sought.op) {
                 add_pools_of_first(rest, text, sought, pools)?;
             }
             Ok(())

@@ -1,270 +1,232 @@
-//! What can come of an operation at a tree: the same for each hash, since it doesn't hang on which servers are asked.
+//! What can come of an operation at a plain tree, wherever it stands: the one recursion by which it is computed.
 
-ghost use Rattle.std.specs.Prelude.{◌≡◌};
+ghost use Rattle.std.specs.Prelude.{◌≡◌, ◌||◌, ◌&&◌};
 ghost use Rattle.mc_types.specs.declared.ask.Op.TheVariants.{Add};
-ghost use Rattle.route_tree.specs.Form.{routes_of, policies_of};
-ghost use Rattle.route_tree.specs.At.{plain_for, plain_for_all, plain_for_policies};
-ghost use Rattle.coverage.specs.Computed.{adds, adds_some, adds_first, adds_head, adds_policy, fails, fails_some, fails_each, fails_last, fails_head, fails_policy, hits, hits_each, hits_first, hits_some, hits_head, hits_policy};
+ghost use Rattle.route_tree.specs.Form.{routes_of};
+ghost use Rattle.route_tree.specs.At.{plain_for, plain_for_all};
+ghost use Rattle.coverage.specs.Computed.{adds, fails, fails_some, fails_each, fails_last, fails_head, hits, hits_each, hits_first, hits_some, hits_head, shown, shown_each, shown_first, shown_some, shown_head, copied, copied_some, copied_first, copied_head};
+ghost use Rattle.coverage.specs.Asked.{asks, asks_some, asks_first, asks_head};
+ghost use Rattle.coverage.specs.Seen.{plan_of, all_plans_of};
 
-use crate::stores::{PossibleAdd, is_op};
-use mc_types::Op;
-use route_tree::at::longest;
-use route_tree::{Tree, TreeForm};
+use crate::seen::{At, Seen, SeenAll, SeenForm};
+use crate::stores::is_op;
+use mc_types::{Op, ServerId};
+use route_tree::Tree;
 
-/// What can come of an operation: that it fails, and that it hits.
+/// What can come of an operation at a plain tree, and of it at one server.
 #[derive(Clone, Copy)]
 pub struct Possible {
+    /// The reply can be the error of a server or a call.
     pub fails: bool,
+    /// The reply can be a hit, or that it was done.
     pub hits: bool,
+    /// The reply can be an item of the server.
+    pub shows: bool,
+    /// A get can copy an item of the server to another one.
+    pub copies: bool,
+    /// A server can be asked; this says nothing of a get.
+    pub asks: bool,
 }
 
-/// What can come of the operation for the keys that the text begins. It takes no memory.
+// A reply without a call.
+const SILENT: Possible = Possible {
+    fails: false,
+    hits: false,
+    shows: false,
+    copies: false,
+    asks: false,
+};
+
+/// What can come of the operation at the plain tree. It takes no memory.
 #[cycle(possible_at)]
-pub fn possible_at(tree: &Tree, text: &[u8], op: Op) -> Possible
-    ensures fails { result.fails ≡ fails op (plain_for 0 text.now tree.now) }
-    ensures hits { result.hits ≡ hits op (plain_for 0 text.now tree.now) }
+pub fn possible_at(seen: Seen, op: Op, server: ServerId) -> Possible
+    ensures fails { result.fails ≡ fails op (plan_of seen.entry) }
+    ensures hits { result.hits ≡ hits op (plan_of seen.entry) }
+    ensures shows { result.shows ≡ shown op server (plan_of seen.entry) }
+    ensures copies { result.copies ≡ copied op server (plan_of seen.entry) }
+    ensures asks { result.asks ≡ asks op (plan_of seen.entry) }
 {
-    match tree.form() {
-        TreeForm::Pool(_) | TreeForm::Server(_) => Possible {
+    match seen.form(op) {
+        SeenForm::Server(other) => Possible {
             fails: true,
             hits: true,
+            shows: other.number() == server.number(),
+            copies: false,
+            asks: true,
         },
-        TreeForm::Null => Possible {
-            fails: false,
-            hits: false,
-        },
-        TreeForm::Error => Possible {
+        SeenForm::Null => SILENT,
+        SeenForm::Error => Possible {
             fails: true,
-            hits: false,
+            ..SILENT
         },
-        TreeForm::AllSync(children) => possible_each(children, text, op),
-        TreeForm::Failover(children) => possible_first(children, text, op),
-        TreeForm::MissFailover(children) => {
+        SeenForm::AllSync(children) => possible_each(children, op, server),
+        SeenForm::Failover(children) => possible_first(children, op, server),
+        SeenForm::MissFailover(children) => {
             if is_op(op, Op::Get) {
-                possible_some(children, text, op)
+                possible_some(children, op, server)
             } else {
-                possible_head(children, text, op)
+                possible_head(children, op, server)
             }
         }
-        TreeForm::WarmUp { cold, warm, .. } => {
-            let a = possible_at(cold, text, op);
-            let b = possible_at(warm, text, op);
-            let is_warm = is_op(op, Op::Get) && b.hits;
-            Possible {
-                fails: a.fails,
-                hits: a.hits || is_warm,
+        SeenForm::WarmUp { cold, warm } => {
+            let a = possible_at(cold, op, server);
+            if is_op(op, Op::Get) {
+                let b = possible_at(warm, op, server);
+                warmed(a, b, possible_at(cold, Op::Add, server).asks)
+            } else {
+                a
             }
-        }
-        TreeForm::ByOperation { policies, default } => possible_policy(policies, default, text, op),
-        TreeForm::ByPrefix { policies, wildcard } => {
-            possible_at(longest(policies, wildcard, text), text, op)
         }
     }
 }
 
-// All children.
-#[cycle(possible_at)]
-pub fn possible_each(children: &[Tree], text: &[u8], op: Op) -> Possible
-    ensures fails { result.fails ≡ fails_some op (plain_for_all 0 text.now (routes_of children.now)) }
-    ensures hits { result.hits ≡ hits_each op (plain_for_all 0 text.now (routes_of children.now)) }
+// A get through a cold and a warm side.
+fn warmed(cold: Possible, warm: Possible, adds: bool) -> Possible
+    ensures { result ≡ record { fails = cold.fails; hits = cold.hits || warm.hits; shows = cold.shows || warm.shows; copies = cold.copies || (warm.copies || (warm.shows && adds)); asks = cold.asks } }
 {
-    match children {
-        [] => Possible {
-            fails: false,
-            hits: true,
-        },
-        [first, rest @ ..] => {
-            let a = possible_at(first, text, op);
-            let b = possible_each(rest, text, op);
+    Possible {
+        fails: cold.fails,
+        hits: cold.hits || warm.hits,
+        shows: cold.shows || warm.shows,
+        copies: cold.copies || (warm.copies || (warm.shows && adds)),
+        asks: cold.asks,
+    }
+}
+
+/// What can come of it at all children: of equal ranks the first is the reply. It takes no memory.
+#[cycle(possible_at)]
+pub fn possible_each(children: SeenAll, op: Op, server: ServerId) -> Possible
+    ensures fails { result.fails ≡ fails_some op (all_plans_of children.entry) }
+    ensures hits { result.hits ≡ hits_each op (all_plans_of children.entry) }
+    ensures shows { result.shows ≡ shown_each op server (all_plans_of children.entry) }
+    ensures copies { result.copies ≡ copied_some op server (all_plans_of children.entry) }
+    ensures asks { result.asks ≡ asks_some op (all_plans_of children.entry) }
+{
+    match children.parted() {
+        Some(parts) => {
+            let a = possible_at(parts.first, op, server);
+            let b = possible_each(parts.rest, op, server);
             Possible {
                 fails: a.fails || b.fails,
                 hits: a.hits && b.hits,
+                shows: a.shows && b.hits,
+                copies: a.copies || b.copies,
+                asks: a.asks || b.asks,
             }
         }
+        None => Possible {
+            hits: true,
+            ..SILENT
+        },
     }
 }
 
 // Children up to one that doesn't fail.
 #[cycle(possible_at)]
-fn possible_first(children: &[Tree], text: &[u8], op: Op) -> Possible
-    ensures fails { result.fails ≡ fails_each op (plain_for_all 0 text.now (routes_of children.now)) }
-    ensures hits { result.hits ≡ hits_first op (plain_for_all 0 text.now (routes_of children.now)) }
+fn possible_first(children: SeenAll, op: Op, server: ServerId) -> Possible
+    ensures fails { result.fails ≡ fails_each op (all_plans_of children.entry) }
+    ensures hits { result.hits ≡ hits_first op (all_plans_of children.entry) }
+    ensures shows { result.shows ≡ shown_first op server (all_plans_of children.entry) }
+    ensures copies { result.copies ≡ copied_first op server (all_plans_of children.entry) }
+    ensures asks { result.asks ≡ asks_first op (all_plans_of children.entry) }
 {
-    match children {
-        [] => Possible {
-            fails: true,
-            hits: false,
-        },
-        [first, rest @ ..] => {
-            let a = possible_at(first, text, op);
-            let b = possible_first(rest, text, op);
+    match children.parted() {
+        Some(parts) => {
+            let a = possible_at(parts.first, op, server);
+            let b = possible_first(parts.rest, op, server);
             Possible {
                 fails: a.fails && b.fails,
                 hits: a.hits || (a.fails && b.hits),
+                shows: a.shows || (a.fails && b.shows),
+                copies: a.copies || (a.fails && b.copies),
+                asks: a.asks || (a.fails && b.asks),
             }
         }
+        None => Possible {
+            fails: true,
+            ..SILENT
+        },
     }
 }
 
 // Children up to a hit.
 #[cycle(possible_at)]
-fn possible_some(children: &[Tree], text: &[u8], op: Op) -> Possible
-    ensures fails { result.fails ≡ fails_last op (plain_for_all 0 text.now (routes_of children.now)) }
-    ensures hits { result.hits ≡ hits_some op (plain_for_all 0 text.now (routes_of children.now)) }
+fn possible_some(children: SeenAll, op: Op, server: ServerId) -> Possible
+    ensures fails { result.fails ≡ fails_last op (all_plans_of children.entry) }
+    ensures hits { result.hits ≡ hits_some op (all_plans_of children.entry) }
+    ensures shows { result.shows ≡ shown_some op server (all_plans_of children.entry) }
+    ensures copies { result.copies ≡ copied_some op server (all_plans_of children.entry) }
+    ensures asks { result.asks ≡ asks_some op (all_plans_of children.entry) }
 {
-    match children {
-        [] => Possible {
-            fails: false,
-            hits: false,
-        },
-        [first, rest @ ..] => {
-            let a = possible_at(first, text, op);
-            let b = possible_some(rest, text, op);
-            let is_last = rest.is_empty();
+    match children.parted() {
+        Some(parts) => {
+            let a = possible_at(parts.first, op, server);
+            let b = possible_some(parts.rest, op, server);
+            let is_last = parts.rest.is_empty();
             Possible {
                 fails: if is_last { a.fails } else { b.fails },
                 hits: a.hits || b.hits,
+                shows: a.shows || b.shows,
+                copies: a.copies || b.copies,
+                asks: a.asks || b.asks,
             }
         }
+        None => SILENT,
     }
 }
 
 // The first child alone.
 #[cycle(possible_at)]
-fn possible_head(children: &[Tree], text: &[u8], op: Op) -> Possible
-    ensures fails { result.fails ≡ fails_head op (plain_for_all 0 text.now (routes_of children.now)) }
-    ensures hits { result.hits ≡ hits_head op (plain_for_all 0 text.now (routes_of children.now)) }
+fn possible_head(children: SeenAll, op: Op, server: ServerId) -> Possible
+    ensures fails { result.fails ≡ fails_head op (all_plans_of children.entry) }
+    ensures hits { result.hits ≡ hits_head op (all_plans_of children.entry) }
+    ensures shows { result.shows ≡ shown_head op server (all_plans_of children.entry) }
+    ensures copies { result.copies ≡ copied_head op server (all_plans_of children.entry) }
+    ensures asks { result.asks ≡ asks_head op (all_plans_of children.entry) }
 {
-    match children {
-        [] => Possible {
-            fails: false,
-            hits: false,
-        },
-        [first, ..] => possible_at(first, text, op),
+    match children.parted() {
+        Some(parts) => possible_at(parts.first, op, server),
+        None => SILENT,
     }
 }
 
-// The child of the operation, else the default.
-#[cycle(possible_at)]
-fn possible_policy(policies: &[(Op, Tree)], default: &Tree, text: &[u8], op: Op) -> Possible
-    ensures fails { result.fails ≡ fails_policy op (plain_for_policies 0 text.now (policies_of policies.now default.now)) }
-    ensures hits { result.hits ≡ hits_policy op (plain_for_policies 0 text.now (policies_of policies.now default.now)) }
-{
-    match policies {
-        [] => possible_at(default, text, op),
-        [(own, child), rest @ ..] => {
-            if is_op(*own, op) {
-                possible_at(child, text, op)
-            } else {
-                possible_policy(rest, default, text, op)
-            }
-        }
-    }
+// Of what hangs neither on the hash nor on a server, the hash and the server that are looked at.
+const ANY_HASH: u32 = 0;
+
+fn any_server() -> ServerId {
+    ServerId::new(0)
 }
 
-/// What can come of an add for the keys that the text begins. It takes no memory.
-#[cycle(adding_at)]
-pub fn adding_at(tree: &Tree, text: &[u8]) -> PossibleAdd
-    ensures adds { result.adds ≡ adds (plain_for 0 text.now tree.now) }
-    ensures fails { result.fails ≡ fails Add (plain_for 0 text.now tree.now) }
+/// Whether the operation can fail for the keys that the text begins: the same for each hash. It takes no memory.
+pub fn fails_at(tree: &Tree, text: &[u8], op: Op) -> bool
+    ensures { result ≡ fails op (plain_for 0 text.now tree.now) }
 {
-    match tree.form() {
-        TreeForm::Pool(_) | TreeForm::Server(_) => PossibleAdd {
-            adds: true,
-            fails: true,
-        },
-        TreeForm::Null => PossibleAdd {
-            adds: false,
-            fails: false,
-        },
-        TreeForm::Error => PossibleAdd {
-            adds: false,
-            fails: true,
-        },
-        TreeForm::AllSync(children) => adding_at_some(children, text),
-        TreeForm::Failover(children) => adding_at_first(children, text),
-        TreeForm::MissFailover(children) => adding_at_head(children, text),
-        TreeForm::WarmUp { cold, .. } => adding_at(cold, text),
-        TreeForm::ByOperation { policies, default } => adding_at_policy(policies, default, text),
-        TreeForm::ByPrefix { policies, wildcard } => {
-            adding_at(longest(policies, wildcard, text), text)
-        }
-    }
+    let at = At {
+        text,
+        hash: ANY_HASH,
+    };
+    possible_at(Seen::Tree(tree, &at), op, any_server()).fails
 }
 
-// All children.
-#[cycle(adding_at)]
-fn adding_at_some(children: &[Tree], text: &[u8]) -> PossibleAdd
-    ensures adds { result.adds ≡ adds_some (plain_for_all 0 text.now (routes_of children.now)) }
-    ensures fails { result.fails ≡ fails_some Add (plain_for_all 0 text.now (routes_of children.now)) }
+/// Whether the operation can hit at each of the trees, for the keys that the text begins: the same for each hash. It takes
+/// no memory.
+pub fn hits_at_each(children: &[Tree], text: &[u8], op: Op) -> bool
+    ensures { result ≡ hits_each op (plain_for_all 0 text.now (routes_of children.now)) }
 {
-    match children {
-        [] => PossibleAdd {
-            adds: false,
-            fails: false,
-        },
-        [first, rest @ ..] => {
-            let a = adding_at(first, text);
-            let b = adding_at_some(rest, text);
-            PossibleAdd {
-                adds: a.adds || b.adds,
-                fails: a.fails || b.fails,
-            }
-        }
-    }
+    let at = At {
+        text,
+        hash: ANY_HASH,
+    };
+    possible_each(SeenAll::Trees(children, &at), op, any_server()).hits
 }
 
-// Children up to one that doesn't fail.
-#[cycle(adding_at)]
-fn adding_at_first(children: &[Tree], text: &[u8]) -> PossibleAdd
-    ensures adds { result.adds ≡ adds_first (plain_for_all 0 text.now (routes_of children.now)) }
-    ensures fails { result.fails ≡ fails_each Add (plain_for_all 0 text.now (routes_of children.now)) }
+/// Whether an add can ask a server for the keys that the text begins: the same for each hash. It takes no memory.
+pub fn adds_at(tree: &Tree, text: &[u8]) -> bool
+    ensures { result ≡ adds (plain_for 0 text.now tree.now) }
 {
-    match children {
-        [] => PossibleAdd {
-            adds: false,
-            fails: true,
-        },
-        [first, rest @ ..] => {
-            let a = adding_at(first, text);
-            let b = adding_at_first(rest, text);
-            PossibleAdd {
-                adds: a.adds || (a.fails && b.adds),
-                fails: a.fails && b.fails,
-            }
-        }
-    }
-}
-
-// The first child alone.
-#[cycle(adding_at)]
-fn adding_at_head(children: &[Tree], text: &[u8]) -> PossibleAdd
-    ensures adds { result.adds ≡ adds_head (plain_for_all 0 text.now (routes_of children.now)) }
-    ensures fails { result.fails ≡ fails_head Add (plain_for_all 0 text.now (routes_of children.now)) }
-{
-    match children {
-        [] => PossibleAdd {
-            adds: false,
-            fails: false,
-        },
-        [first, ..] => adding_at(first, text),
-    }
-}
-
-// The child of the operation, else the default.
-#[cycle(adding_at)]
-fn adding_at_policy(policies: &[(Op, Tree)], default: &Tree, text: &[u8]) -> PossibleAdd
-    ensures adds { result.adds ≡ adds_policy (plain_for_policies 0 text.now (policies_of policies.now default.now)) }
-    ensures fails { result.fails ≡ fails_policy Add (plain_for_policies 0 text.now (policies_of policies.now default.now)) }
-{
-    match policies {
-        [] => adding_at(default, text),
-        [(own, child), rest @ ..] => {
-            if is_op(*own, Op::Add) {
-                adding_at(child, text)
-            } else {
-                adding_at_policy(rest, default, text)
-            }
-        }
-    }
+    let at = At {
+        text,
+        hash: ANY_HASH,
+    };
+    possible_at(Seen::Tree(tree, &at), Op::Add, any_server()).asks
 }

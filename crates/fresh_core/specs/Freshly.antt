@@ -4,7 +4,7 @@ use Rattle.mc_types.specs.Items.{Item}
 use Rattle.mc_runs.specs.Overlap as log
 use Rattle.mc_runs.specs.Overlap.{Entry, run_of}
 use Rattle.mc_runs.specs.OverlapState.{LeadsTo}
-use Rattle.mc_runs.specs.Sharing.{IsFresh, IsFreshByNumber}
+use Rattle.mc_runs.specs.Sharing.{LosesOnly, IsFresh, IsFreshByNumber}
 use Rattle.mc_runs.specs.SharingStale.{stale_in}
 use Rattle.route_tree.specs.At.{tree_at}
 use Rattle.route_tree.specs.Route.{Route}
@@ -50,5 +50,6 @@ pub record IsFreshLog (sharing : Sharing) (opening : ℕ → List ℕ → Option
   pub by_number : sharing ≡ Alone → IsFreshByNumber opening (run_of past)
   pub none_stale : sharing ≡ Alone → stale_in opening (run_of past) ≡ 0
 
+-- each log that may have led to the core is fresh, where nobody else writes the servers
 abbrev pub EveryLogIsFresh : FreshCore → Type 0
-EveryLogIsFresh fresh = (opening : ℕ → List ℕ → Option Item) (past : List (Entry dialect)) → MayHaveLed opening past fresh → IsFreshLog fresh.core.limits.sharing opening past
+EveryLogIsFresh fresh = (opening : ℕ → List ℕ → Option Item) (past : List (Entry dialect)) → MayHaveLed opening past fresh → LosesOnly (run_of past) → IsFreshLog fresh.core.limits.sharing opening past

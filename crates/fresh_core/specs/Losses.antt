@@ -1,22 +1,22 @@
 -- What servers may do to a core on accepted trees. Source: mcgate's own.
 use Rattle.std.specs.Prelude.{◌≡◌, ℕ, List, ◌∷◌, Option}
 use Rattle.mc_types.specs.Items.{Item}
-use Rattle.mc_runs.specs.Sharing.{Event, Begins, Calls, Replies, Breaks, Loses, Restarts, after_event}
+use Rattle.mc_runs.specs.Sharing.{Event, Begins, Calls, Replies, Breaks, Turns, Restarts, after_event}
 use Rattle.mc_runs.specs.Overlap.{Entry, Happens}
 use Rattle.proxy_core.specs.CoreState.{dialect}
 use Rattle.fresh_core.specs.declared.fresh.FreshCore.{FreshCore}
 use Rattle.fresh_core.specs.Freshly.{MayHaveLed}
 
--- a server loses what it holds of a key, or all that it holds
+-- a server loses what it holds of a key, or all that it holds; or somebody else writes what it holds of a key
 abbrev pub IsLoss : Event → Type 0
-IsLoss (Loses server key) = Unit {0}
+IsLoss (Turns server key turned) = Unit {0}
 IsLoss (Restarts server) = Unit {0}
 IsLoss (Begins number ask) = ⊥
 IsLoss (Calls number server ask origin end) = ⊥
 IsLoss (Replies number key reply from) = ⊥
 IsLoss (Breaks number) = ⊥
 
--- whatever servers lose and whenever: each log that may have led to a core goes on by it, and may have led to that core
+-- whatever servers lose and whatever others write there, at any moment: each log that may have led to a core goes on by it, and may have led to that core
 abbrev pub ServersMayLose : Type 0
 ServersMayLose =
     (fresh : FreshCore) (opening : ℕ → List ℕ → Option Item) (past : List (Entry dialect)) (led : MayHaveLed opening past fresh) (event : Event) → IsLoss event

@@ -1,3 +1,4 @@
 mod Reaching
 mod Naming
 pub mod Written
+mod Pooling

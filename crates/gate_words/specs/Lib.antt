@@ -2,5 +2,10 @@ pub mod Ways
 pub mod ServerUses
 pub mod Explanations
 pub mod Names
+pub mod Kinds
 pub mod Phrases
+pub mod Pools
+pub mod PoolWords
+pub mod Pointing
 pub mod Lines
+pub mod Sites

@@ -1,10 +1,13 @@
 -- An explanation as lines. Source: mcgate's own.
-use Rattle.std.specs.Prelude.{ℕ, zero, suc, ◌+◌, ◌++◌, Bool, false, ◌||◌, not, List, [], ◌∷◌, codes, decimal, flat_map, if◌then◌else◌}
+use Rattle.std.specs.Prelude.{ℕ, ◌++◌, Bool, false, ◌||◌, not, List, [], ◌∷◌, codes, decimal, flat_map, if◌then◌else◌}
 use Rattle.byte_escapes.specs.Escapes.{escaped}
 use Rattle.mc_types.specs.declared.ask.Op.{Op}
+use Rattle.server_addresses.specs.Servers.{Addresses}
 use Rattle.coverage.specs.declared.deleting.Deleting.{Deleting}
 use Rattle.gate_words.specs.Names.{op_name, delete_name, address_of}
 use Rattle.gate_words.specs.Phrases.{text_of}
+use Rattle.gate_words.specs.Pools.{NamedPools}
+use Rattle.gate_words.specs.PoolWords.{server_text}
 use Rattle.gate_words.specs.declared.phrases.Phrase.{Phrase}
 use Rattle.gate_words.specs.declared.phrases.Phrase.TheVariants as phrases
 use Rattle.gate_words.specs.declared.explanation.Explanation.{Explanation}
@@ -35,60 +38,51 @@ steps_text way = flat_map step_text way
 abbrev pub way_front : (address : List ℕ) → Op → List ℕ
 way_front address op = codes "# a " ++ op_name op ++ codes " " ++ text_of phrases.CanShow ++ codes " " ++ escaped address ++ codes " " ++ text_of phrases.Holds
 
-abbrev pub way_end : (address : List ℕ) → List ℕ
-way_end address = codes " " ++ escaped address ++ codes "\n"
+abbrev pub way_end : Addresses → NamedPools → ℕ → List ℕ
+way_end servers pools server = codes " " ++ server_text servers pools server ++ codes "\n"
 
 -- by which way the operation takes the server
-abbrev pub way_line : (address : List ℕ) → Op → List Step → List ℕ
-way_line address op way = way_front address op ++ steps_text way ++ way_end address
+abbrev pub way_line : Addresses → NamedPools → ℕ → Op → List Step → List ℕ
+way_line servers pools server op way = way_front (address_of servers server) op ++ steps_text way ++ way_end servers pools server
 
 abbrev pub is_of : Which → ServerUse → Bool
 is_of which.Read server_use = server_use.is_read
 is_of which.Cleared server_use = server_use.is_cleared
 is_of which.Left server_use = not server_use.is_cleared
 
--- the address, if this server is one of those that are named
-abbrev pub member_text : List (List ℕ) → Bool → ℕ → List ℕ
-member_text servers is_named server = if is_named then codes " " ++ escaped (address_of servers server) else []
+-- a server on a line of its own, after the end of the line before
+abbrev pub named_text : Addresses → NamedPools → ℕ → List ℕ
+named_text servers pools server = codes "\n#   " ++ server_text servers pools server
 
-abbrev pub members_text : List (List ℕ) → Which → List ServerUse → List ℕ
-members_text servers w server_uses = flat_map (λ (x : ServerUse). member_text servers (is_of w x) x.server) server_uses
+-- the same, if this server is one of those that are named
+abbrev pub member_text : Addresses → NamedPools → Bool → ℕ → List ℕ
+member_text servers pools is_named server = if is_named then named_text servers pools server else []
+
+abbrev pub members_text : Addresses → NamedPools → Which → List ServerUse → List ℕ
+members_text servers pools w server_uses = flat_map (λ (x : ServerUse). member_text servers pools (is_of w x) x.server) server_uses
 
 abbrev pub has_some : Which → List ServerUse → Bool
 has_some w [] = false
 has_some w (x ∷ xs) = is_of w x || has_some w xs
 
 -- these servers, or that there is none
-abbrev pub row_text : List (List ℕ) → Which → List ServerUse → List ℕ
-row_text servers w server_uses = if has_some w server_uses then members_text servers w server_uses ++ codes "\n" else codes " none\n"
+abbrev pub row_text : Addresses → NamedPools → Which → List ServerUse → List ℕ
+row_text servers pools w server_uses = if has_some w server_uses then members_text servers pools w server_uses ++ codes "\n" else codes " none\n"
 
-abbrev pub reads_line : List (List ℕ) → List ServerUse → List ℕ
-reads_line servers server_uses = text_of phrases.Reads ++ row_text servers which.Read server_uses
+abbrev pub reads_line : Addresses → NamedPools → List ServerUse → List ℕ
+reads_line servers pools server_uses = text_of phrases.Reads ++ row_text servers pools which.Read server_uses
 
-abbrev pub cleared_line : List (List ℕ) → Deleting → List ServerUse → List ℕ
-cleared_line servers kind server_uses = codes "# a " ++ delete_name kind ++ codes " " ++ text_of phrases.HasCleared ++ row_text servers which.Cleared server_uses
+abbrev pub cleared_line : Addresses → NamedPools → Deleting → List ServerUse → List ℕ
+cleared_line servers pools kind server_uses =
+    codes "# a " ++ delete_name kind ++ codes " " ++ text_of phrases.HasCleared ++ row_text servers pools which.Cleared server_uses
 
-abbrev pub left_line : List (List ℕ) → List ServerUse → List ℕ
-left_line servers server_uses = text_of phrases.Left ++ row_text servers which.Left server_uses
+abbrev pub left_line : Addresses → NamedPools → List ServerUse → List ℕ
+left_line servers pools server_uses = text_of phrases.Left ++ row_text servers pools which.Left server_uses
 
--- how many servers reads take
-abbrev pub reader_count : List ServerUse → ℕ
-reader_count [] = 0
-reader_count (x ∷ xs) = if x.is_read then reader_count xs + 1 else reader_count xs
-
--- what to change
-abbrev pub change_phrase : ℕ → Phrase
-change_phrase zero = phrases.OneRoute
-change_phrase (suc zero) = phrases.OneRoute
-change_phrase (suc (suc zero)) = phrases.Both
-change_phrase (suc (suc (suc n))) = phrases.All
-
-abbrev pub change_line : List ServerUse → List ℕ
-change_line server_uses = text_of (change_phrase (reader_count server_uses)) ++ codes "\n"
-
-abbrev pub server_use_lines : List (List ℕ) → Deleting → List ServerUse → List ℕ
-server_use_lines servers kind server_uses = reads_line servers server_uses ++ cleared_line servers kind server_uses ++ left_line servers server_uses ++ change_line server_uses
+abbrev pub server_use_lines : Addresses → NamedPools → Deleting → List ServerUse → List ℕ
+server_use_lines servers pools kind server_uses =
+    reads_line servers pools server_uses ++ cleared_line servers pools kind server_uses ++ left_line servers pools server_uses
 
 -- the lines of an explanation
-abbrev pub explanation_lines : List (List ℕ) → Op → ℕ → Deleting → Explanation → List ℕ
-explanation_lines servers op server kind e = way_line (address_of servers server) op e.way.items ++ server_use_lines servers kind e.server_uses.items
+abbrev pub explanation_lines : Addresses → NamedPools → Op → ℕ → Deleting → Explanation → List ℕ
+explanation_lines servers pools op server kind e = way_line servers pools server op e.way.items ++ server_use_lines servers pools kind e.server_uses.items

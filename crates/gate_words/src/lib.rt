@@ -1,14 +1,22 @@
-//! Why a place has a gap: the way by which a read reaches a server, what becomes of each server there, and that in words.
+//! Why a place has a gap: the way by which a read reaches a server, what becomes of each server there, by which route deletes go, and
+//! that in words, with the names of pools.
 #![tactic(auto)]
 
 pub mod explanation;
+pub mod kinds;
 pub mod names;
 pub mod phrases;
+pub mod pointing;
+pub mod pool_words;
+pub mod pools;
 pub mod server_uses;
+pub mod sites;
 pub mod ways;
 pub mod writing;
 
 pub use explanation::{Explanation, explain};
+pub use pools::{Pool, read_pools};
 pub use server_uses::ServerUse;
+pub use sites::write_changes;
 pub use ways::{Listed, Step};
 pub use writing::write_explanation;

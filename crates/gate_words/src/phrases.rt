@@ -11,9 +11,6 @@ pub enum Phrase {
     Reads,
     HasCleared,
     Left,
-    OneRoute,
-    Both,
-    All,
     AllSync,
     Failover,
     MissFailover,
@@ -21,6 +18,26 @@ pub enum Phrase {
     Warm,
     Policies,
     Default,
+    /// The front of the path to the route by which deletes go.
+    DeletesGo,
+    DefaultPath,
+    DeletePath,
+    WildcardPath,
+    /// The front of what to change.
+    ToChange,
+    Lacks,
+    LacksChild,
+    StopsBefore,
+    FirstAlone,
+    ColdAlone,
+    ClearsNothing,
+    OverBoth,
+    AddOne,
+    OfChildren,
+    OfSides,
+    SendThere,
+    /// What else could be done.
+    Else,
 }
 
 /// The text.
@@ -34,9 +51,6 @@ pub fn text_of(phrase: Phrase) -> &'static str
         Phrase::Reads => "# reads of them can show or copy what these hold:",
         Phrase::HasCleared => "that is acknowledged has cleared:",
         Phrase::Left => "# and can have left as they were:",
-        Phrase::OneRoute => "# to change: send each delete where reads go, by the same route",
-        Phrase::Both => "# to change: send each delete to both, by an AllSyncRoute",
-        Phrase::All => "# to change: send each delete to all of them, by an AllSyncRoute",
         Phrase::AllSync => "AllSyncRoute",
         Phrase::Failover => "FailoverRoute",
         Phrase::MissFailover => "MissFailoverRoute",
@@ -44,5 +58,24 @@ pub fn text_of(phrase: Phrase) -> &'static str
         Phrase::Warm => "WarmUpRoute warm",
         Phrase::Policies => "OperationSelectorRoute operation_policies",
         Phrase::Default => "OperationSelectorRoute default_policy",
+        Phrase::DeletesGo => "# deletes of these keys go by /route",
+        Phrase::DefaultPath => "/default_policy",
+        Phrase::DeletePath => "/operation_policies/delete",
+        Phrase::WildcardPath => "/wildcard",
+        Phrase::ToChange => "# to change: it",
+        Phrase::Lacks => "lacks",
+        Phrase::LacksChild => "lacks a child that always clears",
+        Phrase::StopsBefore => "can stop before",
+        Phrase::FirstAlone => "asks its first child alone, not",
+        Phrase::ColdAlone => "asks its cold side alone, not",
+        Phrase::ClearsNothing => "clears nothing, not even",
+        Phrase::OverBoth => ": put an AllSyncRoute there, over it and a route to that server",
+        Phrase::AddOne => ": add one",
+        Phrase::OfChildren => ": put an AllSyncRoute of its children there for deletes",
+        Phrase::OfSides => ": put an AllSyncRoute of both sides there for deletes",
+        Phrase::SendThere => ": send deletes to that server",
+        Phrase::Else => {
+            "# or: let no read of these keys go to that server, or send their deletes to an ErrorRoute, which acknowledges none"
+        }
     }
 }

@@ -1,12 +1,15 @@
 //! An explanation as lines, each a comment of a script.
 
-ghost use Rattle.std.specs.Prelude.{◌≡◌, ◌≤◌, OnOk, length};
+ghost use Rattle.std.specs.Prelude.{◌≡◌, OnOk};
 ghost use Rattle.std.specs.Io.KnownBytes.{Appends};
-ghost use Rattle.gate_words.specs.Lines.{list_phrase, step_text, steps_text, is_of, member_text, members_text, has_some, row_text, way_front, way_end, way_line, reads_line, cleared_line, left_line, reader_count, change_phrase, change_line, server_use_lines, explanation_lines};
+ghost use Rattle.gate_words.specs.Names.{address_of};
+ghost use Rattle.gate_words.specs.Lines.{list_phrase, step_text, steps_text, is_of, member_text, members_text, has_some, row_text, way_front, way_end, way_line, named_text, reads_line, cleared_line, left_line, server_use_lines, explanation_lines};
 
 use crate::explanation::Explanation;
 use crate::names::{address_of, delete_name, op_name};
 use crate::phrases::{Phrase, text_of};
+use crate::pool_words::write_server;
+use crate::pools::Pool;
 use crate::server_uses::ServerUse;
 use crate::ways::{Listed, Step};
 use byte_escapes::Escaped;
@@ -63,30 +66,49 @@ fn write_steps<W: Write>(steps: &[Step], out: &mut W) -> io::Result<()>
     Ok(())
 }
 
-fn write_way_front<W: Write>(address: &[u8], op: Op, out: &mut W) -> io::Result<()>
-    ensures { OnOk result (Appends (W.contents out.old) (W.contents out.new) (way_front address.now op)) }
+fn write_way_front<W: Write>(
+    servers: &Servers,
+    server: ServerId,
+    op: Op,
+    out: &mut W,
+) -> io::Result<()>
+    ensures { OnOk result (Appends (W.contents out.old) (W.contents out.new) (way_front (address_of servers.now server) op)) }
 {
-    let server = Escaped(address);
+    let server = Escaped(address_of(servers, server).as_bytes());
     let op = op_name(op);
     let can_show = text_of(Phrase::CanShow);
     let holds = text_of(Phrase::Holds);
     write!(out, "# a {op} {can_show} {server} {holds}")
 }
 
-fn write_way_end<W: Write>(address: &[u8], out: &mut W) -> io::Result<()>
-    ensures { OnOk result (Appends (W.contents out.old) (W.contents out.new) (way_end address.now)) }
+fn write_way_end<W: Write>(
+    servers: &Servers,
+    pools: &[Pool],
+    server: ServerId,
+    out: &mut W,
+) -> io::Result<()>
+    ensures { OnOk result (Appends (W.contents out.old) (W.contents out.new) (way_end servers.now pools.now server)) }
 {
-    let server = Escaped(address);
-    writeln!(out, " {server}")
+    write!(out, " ")?;
+    write_server(servers, pools, server, out)?;
+    writeln!(out)?;
+    Ok(())
 }
 
 // By which way the operation takes the server.
-fn write_way<W: Write>(address: &[u8], op: Op, way: &[Step], out: &mut W) -> io::Result<()>
-    ensures { OnOk result (Appends (W.contents out.old) (W.contents out.new) (way_line address.now op way.now)) }
+fn write_way<W: Write>(
+    servers: &Servers,
+    pools: &[Pool],
+    server: ServerId,
+    op: Op,
+    way: &[Step],
+    out: &mut W,
+) -> io::Result<()>
+    ensures { OnOk result (Appends (W.contents out.old) (W.contents out.new) (way_line servers.now pools.now server op way.now)) }
 {
-    write_way_front(address, op, out)?;
+    write_way_front(servers, server, op, out)?;
     write_steps(way, out)?;
-    write_way_end(address, out)?;
+    write_way_end(servers, pools, server, out)?;
     Ok(())
 }
 
@@ -100,18 +122,32 @@ fn is_of(which: Which, server_use: &ServerUse) -> bool
     }
 }
 
-// The address, if this server is one of those that are named.
+// A server on a line of its own, after the end of the line before.
+fn write_named<W: Write>(
+    servers: &Servers,
+    pools: &[Pool],
+    server: ServerId,
+    out: &mut W,
+) -> io::Result<()>
+    ensures { OnOk result (Appends (W.contents out.old) (W.contents out.new) (named_text servers.now pools.now server)) }
+{
+    write!(out, "\n#   ")?;
+    write_server(servers, pools, server, out)?;
+    Ok(())
+}
+
+// The same, if this server is one of those that are named.
 fn write_member<W: Write>(
     servers: &Servers,
+    pools: &[Pool],
     is_named: bool,
     server: ServerId,
     out: &mut W,
 ) -> io::Result<()>
-    ensures { OnOk result (Appends (W.contents out.old) (W.contents out.new) (member_text servers.now is_named server)) }
+    ensures { OnOk result (Appends (W.contents out.old) (W.contents out.new) (member_text servers.now pools.now is_named server)) }
 {
     if is_named {
-        let address = Escaped(address_of(servers, server).as_bytes());
-        write!(out, " {address}")
+        write_named(servers, pools, server, out)
     } else {
         Ok(())
     }
@@ -119,14 +155,21 @@ fn write_member<W: Write>(
 
 fn write_members<W: Write>(
     servers: &Servers,
+    pools: &[Pool],
     which: Which,
     server_uses: &[ServerUse],
     out: &mut W,
 ) -> io::Result<()>
-    ensures { OnOk result (Appends (W.contents out.old) (W.contents out.new) (members_text servers.now which server_uses.now)) }
+    ensures { OnOk result (Appends (W.contents out.old) (W.contents out.new) (members_text servers.now pools.now which server_uses.now)) }
 {
     for server_use in server_uses {
-        write_member(servers, is_of(which, server_use), server_use.server, out)?;
+        write_member(
+            servers,
+            pools,
+            is_of(which, server_use),
+            server_use.server,
+            out,
+        )?;
     }
     Ok(())
 }
@@ -143,14 +186,15 @@ fn has_some(which: Which, server_uses: &[ServerUse]) -> bool
 // The servers and the end of their line, or that there is none.
 fn write_row<W: Write>(
     servers: &Servers,
+    pools: &[Pool],
     which: Which,
     server_uses: &[ServerUse],
     out: &mut W,
 ) -> io::Result<()>
-    ensures { OnOk result (Appends (W.contents out.old) (W.contents out.new) (row_text servers.now which server_uses.now)) }
+    ensures { OnOk result (Appends (W.contents out.old) (W.contents out.new) (row_text servers.now pools.now which server_uses.now)) }
 {
     if has_some(which, server_uses) {
-        write_members(servers, which, server_uses, out)?;
+        write_members(servers, pools, which, server_uses, out)?;
         writeln!(out)
     } else {
         writeln!(out, " none")
@@ -159,23 +203,25 @@ fn write_row<W: Write>(
 
 fn write_reads<W: Write>(
     servers: &Servers,
+    pools: &[Pool],
     server_uses: &[ServerUse],
     out: &mut W,
 ) -> io::Result<()>
-    ensures { OnOk result (Appends (W.contents out.old) (W.contents out.new) (reads_line servers.now server_uses.now)) }
+    ensures { OnOk result (Appends (W.contents out.old) (W.contents out.new) (reads_line servers.now pools.now server_uses.now)) }
 {
     write!(out, "{}", text_of(Phrase::Reads))?;
-    write_row(servers, Which::Read, server_uses, out)?;
+    write_row(servers, pools, Which::Read, server_uses, out)?;
     Ok(())
 }
 
 fn write_cleared<W: Write>(
     servers: &Servers,
+    pools: &[Pool],
     deleting: Deleting,
     server_uses: &[ServerUse],
     out: &mut W,
 ) -> io::Result<()>
-    ensures { OnOk result (Appends (W.contents out.old) (W.contents out.new) (cleared_line servers.now deleting server_uses.now)) }
+    ensures { OnOk result (Appends (W.contents out.old) (W.contents out.new) (cleared_line servers.now pools.now deleting server_uses.now)) }
 {
     write!(
         out,
@@ -183,81 +229,54 @@ fn write_cleared<W: Write>(
         delete_name(deleting),
         text_of(Phrase::HasCleared)
     )?;
-    write_row(servers, Which::Cleared, server_uses, out)?;
+    write_row(servers, pools, Which::Cleared, server_uses, out)?;
     Ok(())
 }
 
-fn write_left<W: Write>(servers: &Servers, server_uses: &[ServerUse], out: &mut W) -> io::Result<()>
-    ensures { OnOk result (Appends (W.contents out.old) (W.contents out.new) (left_line servers.now server_uses.now)) }
+fn write_left<W: Write>(
+    servers: &Servers,
+    pools: &[Pool],
+    server_uses: &[ServerUse],
+    out: &mut W,
+) -> io::Result<()>
+    ensures { OnOk result (Appends (W.contents out.old) (W.contents out.new) (left_line servers.now pools.now server_uses.now)) }
 {
     write!(out, "{}", text_of(Phrase::Left))?;
-    write_row(servers, Which::Left, server_uses, out)?;
+    write_row(servers, pools, Which::Left, server_uses, out)?;
     Ok(())
-}
-
-// How many of the servers reads take.
-fn reader_count(server_uses: &[ServerUse]) -> usize
-    ensures count { result ≡ reader_count server_uses.now }
-    ensures few { result ≤ length server_uses.now }
-{
-    match server_uses {
-        [] => 0,
-        [first, rest @ ..] => {
-            let others = reader_count(rest);
-            if first.is_read { others + 1 } else { others }
-        }
-    }
-}
-
-// What to change.
-fn change_phrase(readers: usize) -> Phrase
-    ensures { result ≡ change_phrase readers }
-{
-    match readers {
-        0 | 1 => Phrase::OneRoute,
-        2 => Phrase::Both,
-        _ => Phrase::All,
-    }
-}
-
-fn write_change<W: Write>(server_uses: &[ServerUse], out: &mut W) -> io::Result<()>
-    ensures { OnOk result (Appends (W.contents out.old) (W.contents out.new) (change_line server_uses.now)) }
-{
-    let text = text_of(change_phrase(reader_count(server_uses)));
-    writeln!(out, "{text}")
 }
 
 // What becomes of each server.
 fn write_server_uses<W: Write>(
     servers: &Servers,
+    pools: &[Pool],
     deleting: Deleting,
     server_uses: &[ServerUse],
     out: &mut W,
 ) -> io::Result<()>
-    ensures { OnOk result (Appends (W.contents out.old) (W.contents out.new) (server_use_lines servers.now deleting server_uses.now)) }
+    ensures { OnOk result (Appends (W.contents out.old) (W.contents out.new) (server_use_lines servers.now pools.now deleting server_uses.now)) }
 {
-    write_reads(servers, server_uses, out)?;
-    write_cleared(servers, deleting, server_uses, out)?;
-    write_left(servers, server_uses, out)?;
-    write_change(server_uses, out)?;
+    write_reads(servers, pools, server_uses, out)?;
+    write_cleared(servers, pools, deleting, server_uses, out)?;
+    write_left(servers, pools, server_uses, out)?;
     Ok(())
 }
 
 /// Writes an explanation of the gap of this server, operation and kind of delete: by which way the operation takes the server,
-/// which servers reads take, which of them the delete clears and which it leaves, and what to change. Each line is a
-/// comment of a script. The format is mcgate's own.
+/// which servers reads take, which of them the delete clears and which it leaves, each server with its places in the lists of the
+/// pools. Each line is a comment of a script. The format is mcgate's own.
 pub fn write_explanation<W: Write>(
     servers: &Servers,
+    pools: &[Pool],
     op: Op,
     server: ServerId,
     deleting: Deleting,
     explanation: &Explanation,
     out: &mut W,
 ) -> io::Result<()>
-    ensures { OnOk result (Appends (W.contents out.old) (W.contents out.new) (explanation_lines servers.now op server deleting explanation.now)) }
+    ensures { OnOk result (Appends (W.contents out.old) (W.contents out.new) (explanation_lines servers.now pools.now op server deleting explanation.now)) }
 {
-    let address = address_of(servers, server).as_bytes();
-    write_way(address, op, &explanation.way, out)?;
-    write_server_uses(servers, deleting, &explanation.server_uses, out)?;
+    write_way(servers, pools, server, op, &explanation.way, out)?;
+    write_server_uses(servers, pools, deleting, &explanation.server_uses, out)?;
     Ok(())
 }

@@ -1,33 +1,56 @@
 //! A configuration's text, and where keys live in its tree.
 
-ghost use Rattle.std.specs.Prelude.{◌≤◌, IfOk, IfErr};
+ghost use Rattle.std.specs.Prelude.{◌≤◌, [], ◌∷◌, IfOk, IfErr, OnOk};
+ghost use Rattle.serde_json.specs.Read.{read};
+ghost use Rattle.certificates.specs.Tables.{IsTable};
 ghost use Rattle.config_check.specs.Checking.{IsNoOverrun};
+ghost use Rattle.gate_words.specs.Pools.{pools_in};
+ghost use Rattle.key_places.specs.Blocks.{WritesBlocks};
 ghost use Rattle.key_places.specs.Finding.{FindsAt, FindsKeys};
 
 use crate::writing::write_keys;
-use certificates::{PlaceFault, places};
+use certificates::{PlaceFault, PlaceTable, places};
 use config_check::checking::print_fault;
 use config_check::status::{DONE, REFUSED, answer_of};
 use config_check::{RunFault, write_refusal};
 use fresh_gate::Reason;
+use gate_words::read_pools;
 use mc_types::Key;
 use route_json::{Config, read_config};
 use std::alloc::Global;
 use std::io::Write;
 
+// Writes where the keys live, with the pools that the text of the configuration names.
+fn write_found<W: Write>(
+    alloc: Global,
+    text: &str,
+    config: &Config,
+    table: &PlaceTable,
+    keys: &[Key],
+    out: &mut W,
+) -> Result<(), RunFault>
+    requires { IsTable (config.now.tree ∷ []) table.now }
+    ensures ok { OnOk result (WritesBlocks config.now.servers (pools_in config.now.servers (read text.now)) config.now.tree keys.now (W.contents out.old) (W.contents out.new)) }
+    ensures err { IfErr result IsNoOverrun }
+{
+    let pools = read_pools(alloc, text, config.servers())?;
+    write_keys(alloc, config, &pools, table, keys, out)
+}
+
 // Writes where the keys live, unless the tree has too many places.
 fn find_keys<W: Write>(
     alloc: Global,
+    text: &str,
     config: &Config,
     keys: &[Key],
     out: &mut W,
 ) -> Result<u8, RunFault>
-    ensures ok { IfOk result (FindsAt config.now keys.now (W.contents out.old) (W.contents out.new)) }
+    ensures ok { IfOk result (FindsAt text.now config.now keys.now (W.contents out.old) (W.contents out.new)) }
     ensures err { IfErr result IsNoOverrun }
 {
     match places(alloc, config.tree()) {
         Ok(table) => {
-            write_keys(alloc, config, &table, keys, out)?;
+            write_found(alloc, text, config, &table, keys, out)?;
             Ok(DONE)
         }
         Err(PlaceFault::TooManyPlaces) => {
@@ -49,7 +72,7 @@ fn find_in_text<W: Write>(
     ensures err { IfErr result IsNoOverrun }
 {
     match read_config(alloc, text) {
-        Ok(config) => find_keys(alloc, &config, keys, out),
+        Ok(config) => find_keys(alloc, text, &config, keys, out),
         Err(fault) => print_fault(text, &fault, out),
     }
 }

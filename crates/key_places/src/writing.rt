@@ -6,14 +6,16 @@ ghost use Rattle.route_tree.specs.At.{tree_at};
 ghost use Rattle.key_places.specs.Asking as spec;
 ghost use Rattle.certificates.specs.Tables.{IsTable};
 ghost use Rattle.config_check.specs.Checking.{IsNoOverrun};
-ghost use Rattle.key_places.specs.Blocks.{key_line, server_text, servers_text, op_front, op_line, op_lines, all_ops, WritesBlock, WritesBlocks};
+ghost use Rattle.key_places.specs.Blocks.{key_line, named_text, servers_text, op_front, op_line, op_lines, all_ops, WritesBlock, WritesBlocks};
 
 use crate::asking::add_asked;
 use byte_escapes::Escaped;
 use certificates::PlaceTable;
 use config_check::RunFault;
 use config_check::verdict::write_place;
-use gate_words::names::{address_of, op_name};
+use gate_words::Pool;
+use gate_words::names::op_name;
+use gate_words::pool_words::write_server;
 use key_hash::{hash_part, key_hash};
 use mc_types::{Key, Op, ServerId};
 use route_json::{Config, Servers};
@@ -32,18 +34,30 @@ fn write_key_line<W: Write>(key: &Key, out: &mut W) -> io::Result<()>
     write!(out, "key={text} hash_part={part} hash={hash}")
 }
 
-fn write_server<W: Write>(servers: &Servers, server: ServerId, out: &mut W) -> io::Result<()>
-    ensures { OnOk result (Appends (W.contents out.old) (W.contents out.new) (server_text servers.now server)) }
+// A server, with its places in the lists of the pools.
+fn write_named<W: Write>(
+    servers: &Servers,
+    pools: &[Pool],
+    server: ServerId,
+    out: &mut W,
+) -> io::Result<()>
+    ensures { OnOk result (Appends (W.contents out.old) (W.contents out.new) (named_text servers.now pools.now server)) }
 {
-    let address = Escaped(address_of(servers, server).as_bytes());
-    write!(out, " {address}")
+    write!(out, " ")?;
+    write_server(servers, pools, server, out)?;
+    Ok(())
 }
 
-fn write_servers<W: Write>(servers: &Servers, list: &[ServerId], out: &mut W) -> io::Result<()>
-    ensures { OnOk result (Appends (W.contents out.old) (W.contents out.new) (servers_text servers.now list.now)) }
+fn write_servers<W: Write>(
+    servers: &Servers,
+    pools: &[Pool],
+    list: &[ServerId],
+    out: &mut W,
+) -> io::Result<()>
+    ensures { OnOk result (Appends (W.contents out.old) (W.contents out.new) (servers_text servers.now pools.now list.now)) }
 {
     for server in list {
-        write_server(servers, *server, out)?;
+        write_named(servers, pools, *server, out)?;
     }
     Ok(())
 }
@@ -56,11 +70,17 @@ fn write_op_front<W: Write>(op: Op, out: &mut W) -> io::Result<()>
 }
 
 // A line of the operation and its servers.
-fn write_row<W: Write>(servers: &Servers, op: Op, list: &[ServerId], out: &mut W) -> io::Result<()>
-    ensures { OnOk result (Appends (W.contents out.old) (W.contents out.new) (op_line servers.now op list.now)) }
+fn write_row<W: Write>(
+    servers: &Servers,
+    pools: &[Pool],
+    op: Op,
+    list: &[ServerId],
+    out: &mut W,
+) -> io::Result<()>
+    ensures { OnOk result (Appends (W.contents out.old) (W.contents out.new) (op_line servers.now pools.now op list.now)) }
 {
     write_op_front(op, out)?;
-    write_servers(servers, list, out)?;
+    write_servers(servers, pools, list, out)?;
     writeln!(out)
 }
 
@@ -75,30 +95,32 @@ fn asked(alloc: Global, plain: &Plain, op: Op) -> Result<Vec<ServerId>, AllocErr
 fn write_op<W: Write>(
     alloc: Global,
     servers: &Servers,
+    pools: &[Pool],
     plain: &Plain,
     op: Op,
     out: &mut W,
 ) -> Result<(), RunFault>
-    ensures ok { OnOk result (Appends (W.contents out.old) (W.contents out.new) (op_line servers.now op (spec.asked op plain.now))) }
+    ensures ok { OnOk result (Appends (W.contents out.old) (W.contents out.new) (op_line servers.now pools.now op (spec.asked op plain.now))) }
     ensures err { IfErr result IsNoOverrun }
 {
     let list = asked(alloc, plain, op)?;
-    write_row(servers, op, &list, out)?;
+    write_row(servers, pools, op, &list, out)?;
     Ok(())
 }
 
 fn write_ops<W: Write>(
     alloc: Global,
     servers: &Servers,
+    pools: &[Pool],
     plain: &Plain,
     ops: &[Op],
     out: &mut W,
 ) -> Result<(), RunFault>
-    ensures ok { OnOk result (Appends (W.contents out.old) (W.contents out.new) (op_lines servers.now plain.now ops.now)) }
+    ensures ok { OnOk result (Appends (W.contents out.old) (W.contents out.new) (op_lines servers.now pools.now plain.now ops.now)) }
     ensures err { IfErr result IsNoOverrun }
 {
     for op in ops {
-        write_op(alloc, servers, plain, *op, out)?;
+        write_op(alloc, servers, pools, plain, *op, out)?;
     }
     Ok(())
 }
@@ -126,54 +148,57 @@ fn all_ops() -> [Op; 12]
 fn write_all_ops<W: Write>(
     alloc: Global,
     config: &Config,
+    pools: &[Pool],
     key: &Key,
     out: &mut W,
 ) -> Result<(), RunFault>
-    ensures ok { OnOk result (Appends (W.contents out.old) (W.contents out.new) (op_lines config.now.servers (tree_at config.now.tree key.now) all_ops)) }
+    ensures ok { OnOk result (Appends (W.contents out.old) (W.contents out.new) (op_lines config.now.servers pools.now (tree_at config.now.tree key.now) all_ops)) }
     ensures err { IfErr result IsNoOverrun }
 {
     let plain = config.tree().at(alloc, key)?;
     let ops = all_ops();
-    write_ops(alloc, config.servers(), &plain, &ops, out)
+    write_ops(alloc, config.servers(), pools, &plain, &ops, out)
 }
 
 // The block of a key.
 fn write_block<W: Write>(
     alloc: Global,
     config: &Config,
+    pools: &[Pool],
     table: &PlaceTable,
     key: &Key,
     out: &mut W,
 ) -> Result<(), RunFault>
     requires { IsTable (config.now.tree ∷ []) table.now }
-    ensures ok { OnOk result (WritesBlock config.now.servers config.now.tree key.now (W.contents out.old) (W.contents out.new)) }
+    ensures ok { OnOk result (WritesBlock config.now.servers pools.now config.now.tree key.now (W.contents out.old) (W.contents out.new)) }
     ensures err { IfErr result IsNoOverrun }
 {
     let place = table.of(key);
     write_key_line(key, out)?;
     write_place(&place, out)?;
-    write_all_ops(alloc, config, key, out)?;
+    write_all_ops(alloc, config, pools, key, out)?;
     Ok(())
 }
 
 /// Writes a block of lines for each key: the key, its hash part and hash and its place, and then for each operation the servers
-/// that the key's plain tree has for it. The format is mcgate's own.
+/// that the key's plain tree has for it, each with its places in the lists of the pools. The format is mcgate's own.
 pub fn write_keys<W: Write>(
     alloc: Global,
     config: &Config,
+    pools: &[Pool],
     table: &PlaceTable,
     keys: &[Key],
     out: &mut W,
 ) -> Result<(), RunFault>
     requires { IsTable (config.now.tree ∷ []) table.now }
-    ensures ok { OnOk result (WritesBlocks config.now.servers config.now.tree keys.now (W.contents out.old) (W.contents out.new)) }
+    ensures ok { OnOk result (WritesBlocks config.now.servers pools.now config.now.tree keys.now (W.contents out.old) (W.contents out.new)) }
     ensures err { IfErr result IsNoOverrun }
 {
     match keys {
         [] => Ok(()),
         [first, rest @ ..] => {
-            write_block(alloc, config, table, first, out)?;
-            write_keys(alloc, config, table, rest, out)
+            write_block(alloc, config, pools, table, first, out)?;
+            write_keys(alloc, config, pools, table, rest, out)
         }
     }
 }

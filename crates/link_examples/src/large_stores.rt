@@ -60,6 +60,6 @@ fn large_stores_go_out_as_they_came(rt: HostRuntime) -> Result<(), Fail> {
     ] {
         assert!(rt; goes_out(rt.alloc(), line, true)?);
     }
-    assert!(rt; goes_out(rt.alloc(), b"ms a 100000 F5 MS T60\r\n", false)?);
+    assert!(rt; goes_out(rt.alloc(), b"ms a 100000 T60 F5 MS\r\n", false)?);
     Ok(())
 }

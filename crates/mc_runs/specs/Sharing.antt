@@ -8,7 +8,7 @@ use Rattle.mc_types.specs.declared.call.Origin.TheVariants.{Client, CopyOf}
 use Rattle.mc_types.specs.Acknowledged.{Acknowledges}
 use Rattle.mc_types.specs.Items.{Item}
 use Rattle.mc_types.specs.Agree.{Agrees}
-use Rattle.mc_runs.specs.Life.{Mark, Lost, Restarted, held_in}
+use Rattle.mc_runs.specs.Life.{Mark, Turned, Restarted, held_in}
 use Rattle.mc_runs.specs.Fleet.{after_end}
 use Rattle.mc_runs.specs.Run.{Call, End, Read, Unread, Never, outcome_of, marks_of}
 
@@ -18,7 +18,8 @@ pub data Event : Type 0 where
   Calls : (number server : ℕ) (ask : Ask) (origin : Origin) (end : End) → Event
   Replies : (number : ℕ) (key : List ℕ) (reply : Answer) (from : Option ℕ) → Event
   Breaks : (number : ℕ) → Event
-  Loses : (server : ℕ) (key : List ℕ) → Event
+  -- a server holds this of a key from now on: nothing where it lost it, an item where somebody else wrote it
+  Turns : (server : ℕ) (key : List ℕ) (turned : Option Item) → Event
   Restarts : (server : ℕ) → Event
 
 -- The past is a list of events, the latest first.
@@ -30,7 +31,7 @@ life_of (Begins number ask ∷ past) s = life_of past s
 life_of (Calls number server ask origin end ∷ past) s = if nat_eq server s then marks_of ask end ++ life_of past s else life_of past s
 life_of (Replies number key reply from ∷ past) s = life_of past s
 life_of (Breaks number ∷ past) s = life_of past s
-life_of (Loses server key ∷ past) s = if nat_eq server s then Lost key ∷ life_of past s else life_of past s
+life_of (Turns server key turned ∷ past) s = if nat_eq server s then Turned key turned ∷ life_of past s else life_of past s
 life_of (Restarts server ∷ past) s = if nat_eq server s then Restarted ∷ life_of past s else life_of past s
 
 -- what the command of this number asks, where it has begun and isn't over
@@ -40,7 +41,7 @@ under_way (Begins number ask ∷ past) n = if nat_eq number n then Some ask else
 under_way (Calls number server ask origin end ∷ past) n = under_way past n
 under_way (Replies number key reply from ∷ past) n = if nat_eq number n then None else under_way past n
 under_way (Breaks number ∷ past) n = if nat_eq number n then None else under_way past n
-under_way (Loses server key ∷ past) n = under_way past n
+under_way (Turns server key turned ∷ past) n = under_way past n
 under_way (Restarts server ∷ past) n = under_way past n
 
 -- the calls that it has made, in order
@@ -53,7 +54,7 @@ calls_so_far (Calls number server ask origin end ∷ past) n =
     else calls_so_far past n
 calls_so_far (Replies number key reply from ∷ past) n = calls_so_far past n
 calls_so_far (Breaks number ∷ past) n = calls_so_far past n
-calls_so_far (Loses server key ∷ past) n = calls_so_far past n
+calls_so_far (Turns server key turned ∷ past) n = calls_so_far past n
 calls_so_far (Restarts server ∷ past) n = calls_so_far past n
 
 -- what had happened when the command of this number began
@@ -63,7 +64,7 @@ before (Begins number ask ∷ past) n = if nat_eq number n then past else before
 before (Calls number server ask origin end ∷ past) n = before past n
 before (Replies number key reply from ∷ past) n = before past n
 before (Breaks number ∷ past) n = before past n
-before (Loses server key ∷ past) n = before past n
+before (Turns server key turned ∷ past) n = before past n
 before (Restarts server ∷ past) n = before past n
 
 -- the command of this number was over; 0 stands for what was there before the run
@@ -73,7 +74,7 @@ HasEnded (Begins number ask ∷ past) n = HasEnded past n
 HasEnded (Calls number server ask origin end ∷ past) n = HasEnded past n
 HasEnded (Replies number key reply from ∷ past) n = (number ≡ n) ⊎ HasEnded past n
 HasEnded (Breaks number ∷ past) n = (number ≡ n) ⊎ HasEnded past n
-HasEnded (Loses server key ∷ past) n = HasEnded past n
+HasEnded (Turns server key turned ∷ past) n = HasEnded past n
 HasEnded (Restarts server ∷ past) n = HasEnded past n
 
 -- no command of this or a greater number has begun; numbers count from 1
@@ -83,7 +84,7 @@ IsNewNumber number (Begins m ask ∷ past) = (m < number) × IsNewNumber number 
 IsNewNumber number (Calls m server ask origin end ∷ past) = (m < number) × IsNewNumber number past
 IsNewNumber number (Replies m key reply from ∷ past) = (m < number) × IsNewNumber number past
 IsNewNumber number (Breaks m ∷ past) = (m < number) × IsNewNumber number past
-IsNewNumber number (Loses server key ∷ past) = IsNewNumber number past
+IsNewNumber number (Turns server key turned ∷ past) = IsNewNumber number past
 IsNewNumber number (Restarts server ∷ past) = IsNewNumber number past
 
 module _ (opening : ℕ → List ℕ → Option Item) where
@@ -101,7 +102,7 @@ module _ (opening : ℕ → List ℕ → Option Item) where
       else item_at past n i
   item_at (Replies number key reply from ∷ past) n i = item_at past n i
   item_at (Breaks number ∷ past) n i = item_at past n i
-  item_at (Loses server key ∷ past) n i = item_at past n i
+  item_at (Turns server key turned ∷ past) n i = item_at past n i
   item_at (Restarts server ∷ past) n i = item_at past n i
 
   -- the stamp that a call of this origin gives to what it stores
@@ -149,8 +150,8 @@ module _ (words : ℕ → Ask → List Call → Answer → Option ℕ → Type 0
     MayCome past (Replies number key reply from) =
         (client : Ask) × (under_way past number ≡ Some client) × (key ≡ client.key) × words number client (calls_so_far past number) reply from
     MayCome past (Breaks number) = (client : Ask) × (under_way past number ≡ Some client)
-    -- anything may be lost at any moment
-    MayCome past (Loses server key) = Unit {0}
+    -- anything may be lost at any moment, and others may write what they like
+    MayCome past (Turns server key turned) = Unit {0}
     MayCome past (Restarts server) = Unit {0}
 
     -- one event after another
@@ -158,13 +159,23 @@ module _ (words : ℕ → Ask → List Call → Answer → Option ℕ → Type 0
     Run [] = Unit {0}
     Run (event ∷ past) = MayCome past event × Run past
 
+-- nobody else writes the servers: what isn't from these commands is only lost
+abbrev pub LosesOnly : List Event → Type 0
+LosesOnly [] = Unit {0}
+LosesOnly (Begins number ask ∷ past) = LosesOnly past
+LosesOnly (Calls number server ask origin end ∷ past) = LosesOnly past
+LosesOnly (Replies number key reply from ∷ past) = LosesOnly past
+LosesOnly (Breaks number ∷ past) = LosesOnly past
+LosesOnly (Turns server key turned ∷ past) = (turned ≡ None) × LosesOnly past
+LosesOnly (Restarts server ∷ past) = LosesOnly past
+
 -- the event, after this past, is the reply by which the delete of this number was acknowledged
 abbrev pub AcknowledgedBy : List Event → Event → ℕ → Ask → Type 0
 AcknowledgedBy past (Replies m key reply from) number delete = (m ≡ number) × (under_way past m ≡ Some delete) × Acknowledges delete reply
 AcknowledgedBy past (Begins m ask) number delete = ⊥
 AcknowledgedBy past (Calls m server ask origin end) number delete = ⊥
 AcknowledgedBy past (Breaks m) number delete = ⊥
-AcknowledgedBy past (Loses server key) number delete = ⊥
+AcknowledgedBy past (Turns server key turned) number delete = ⊥
 AcknowledgedBy past (Restarts server) number delete = ⊥
 
 -- a delete of this number and ask was acknowledged
@@ -179,7 +190,7 @@ module _ (opening : ℕ → List ℕ → Option Item) where
   ShownBy past (Begins m ask) number key item = ⊥
   ShownBy past (Calls m server ask origin end) number key item = ⊥
   ShownBy past (Breaks m) number key item = ⊥
-  ShownBy past (Loses server k) number key item = ⊥
+  ShownBy past (Turns server k turned) number key item = ⊥
   ShownBy past (Restarts server) number key item = ⊥
 
   -- the command of this number on the key showed the item
@@ -204,7 +215,7 @@ calls_in (Calls number server ask origin end ∷ past) = calls_in past + 1
 calls_in (Begins number ask ∷ past) = calls_in past
 calls_in (Replies number key reply from ∷ past) = calls_in past
 calls_in (Breaks number ∷ past) = calls_in past
-calls_in (Loses server key ∷ past) = calls_in past
+calls_in (Turns server key turned ∷ past) = calls_in past
 calls_in (Restarts server ∷ past) = calls_in past
 
 -- how many commands have begun
@@ -214,7 +225,7 @@ commands_in (Begins number ask ∷ past) = commands_in past + 1
 commands_in (Calls number server ask origin end ∷ past) = commands_in past
 commands_in (Replies number key reply from ∷ past) = commands_in past
 commands_in (Breaks number ∷ past) = commands_in past
-commands_in (Loses server key ∷ past) = commands_in past
+commands_in (Turns server key turned ∷ past) = commands_in past
 commands_in (Restarts server ∷ past) = commands_in past
 
 -- what an event leaves on every server
@@ -223,7 +234,7 @@ after_event (Begins number ask) h s k = h s k
 after_event (Replies number key reply from) h s k = h s k
 after_event (Breaks number) h s k = h s k
 after_event (Calls number server ask origin end) h s k = if nat_eq server s then (if bytes_eq ask.key k then after_end ask end (h s k) else h s k) else h s k
-after_event (Loses server key) h s k = if nat_eq server s then (if bytes_eq key k then None else h s k) else h s k
+after_event (Turns server key turned) h s k = if nat_eq server s then (if bytes_eq key k then turned else h s k) else h s k
 after_event (Restarts server) h s k = if nat_eq server s then None else h s k
 
 -- each command has its key alone

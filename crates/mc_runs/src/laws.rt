@@ -1,4 +1,4 @@
-//! Laws of runs. Each is a function without a body, whose contract is the law; code uses it by a call.
+//! Laws of runs. Each is a function without a body, whose contract is the law. No code calls one: proofs cite its lemma.
 
 ghost use Rattle.std.specs.Prelude.{ℕ, List, Option};
 ghost use Rattle.mc_types.specs.declared.ask.Ask.{Ask};

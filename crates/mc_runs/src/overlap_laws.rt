@@ -85,7 +85,7 @@ pub fn overlap_reloads<C: HasChange>()
     ensures { OverlapReloads C.change }
 {}
 
-/// Where deletes clear what later commands take, the run is fresh.
+/// Where deletes clear what later commands take, and nobody else writes the servers, the run is fresh.
 pub fn overlap_is_fresh<S: SharedSetting>()
     ensures { OverlapIsFresh S.protocol S.words S.bars S.opening }
 {}
@@ -119,7 +119,7 @@ impl HasStage for Brand {
     ghost stage = { no_stage };
 }
 
-/// A script's log has a log of the core.
+/// A script's log has a log of the core, in which nobody else writes the servers.
 pub fn script_has_core<S: HasStage>()
     ensures { ScriptHasCore S.stage }
 {}

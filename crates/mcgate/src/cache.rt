@@ -2,6 +2,7 @@
 
 use config_check::status::DONE;
 use program::cache_arguments::CacheJob;
+use program::details::Details;
 use program::ends::Stop;
 use std::io;
 use std::net::Net;
@@ -22,13 +23,20 @@ fn turn_cache<R: Net + Clock + AllocGlobal>(
 
 /// Listens, tells so, and serves. The answer is the exit status after the turns that were asked.
 ///
-/// [`Stop::Device`] comes where it can't listen there, or the system's wait or clock fails, and [`Stop::Memory`] where memory was
-/// refused for the server itself.
+/// [`Stop::Device`] comes where it can't listen there, of which a line of detail says why, or where the system's wait or clock fails, and
+/// [`Stop::Memory`] where memory was refused for the server itself.
 pub fn serve_cache<R: Net + Clock + AllocGlobal + Eprint>(
     rt: &R,
     job: CacheJob<'_>,
+    details: &mut Details,
 ) -> Result<u8, Stop> {
-    let mut end = CacheEnd::listen(rt, job.listen, job.settings)?;
+    let mut end = match CacheEnd::listen(rt, job.listen, job.settings) {
+        Ok(end) => end,
+        Err(error) => {
+            details.add_listen(rt.alloc(), job.listen, &error);
+            return Err(Stop::from(error));
+        }
+    };
     let address = end.address()?;
     eprintln!(rt;
         "mcgate: cache on {address}, capacity {}",

@@ -5,31 +5,41 @@ mod cache;
 mod serve;
 mod serving;
 mod sharing;
+mod special;
+mod warnings;
 
 use cache::serve_cache;
 use config_check::status::{BAD_INPUT, DONE};
 use line_faults::BadLine;
+use mc_types::Key;
 use program::arguments::{Job, Task, read_arguments};
 use program::bad_lines::{bad_line_of_events, bad_line_of_task};
+use program::details::{Details, name_of};
 use program::ends::{
     Stop, decline, end_of, read_configuration, run_events, run_input, run_keys, run_over_tcp,
 };
-use program::input::text_of;
+use program::input::text_noting;
 use program::serve_arguments::ServeJob;
 use route_json::Config;
 use serve::{Judged, judge_text, serve};
+use special::{is_special, special_line};
 use std::alloc::AllocError;
 use std::io;
 use std::io::{BufWriter, ErrorKind, Write};
 use std::net::Net;
 use std::process::ExitCode;
 use std::rt::{Clock, Env, Files};
+use text_input::InputFault;
+use warnings::say_warnings;
 
 /// The arguments, the program's name first. One that isn't UTF-8 is refused as the program has none such.
-fn arguments_of<R: AllocGlobal + Env>(rt: &R) -> Result<Vec<String>, Stop> {
+fn arguments_of<R: AllocGlobal + Env>(rt: &R, details: &mut Details) -> Result<Vec<String>, Stop> {
     let arguments = match std::env::args(rt) {
         Ok(arguments) => arguments,
-        Err(error) if error.kind() == ErrorKind::InvalidData => return Err(Stop::Usage),
+        Err(error) if error.kind() == ErrorKind::InvalidData => {
+            details.add(String::from_str(rt.alloc(), "mcgate: an argument isn't UTF-8"));
+            return Err(Stop::Usage);
+        }
         Err(error) => return Err(Stop::from(error)),
     };
     match arguments.collect::<Vec<String>>(rt.alloc()) {
@@ -38,11 +48,30 @@ fn arguments_of<R: AllocGlobal + Env>(rt: &R) -> Result<Vec<String>, Stop> {
     }
 }
 
-/// Says on standard error what is wrong with a bad line, if there is one. Where memory was refused nothing is said.
-fn tell<R: Eprint>(rt: &R, found: Result<Option<BadLine<'_>>, AllocError>) {
-    if let Ok(Some(bad)) = found {
+/// Says on standard error what is wrong with a bad line, if there is one, and gives it back. Where memory was refused nothing is said.
+fn told<'a, R: Eprint>(
+    rt: &R,
+    found: Result<Option<BadLine<'a>>, AllocError>,
+) -> Option<BadLine<'a>> {
+    let bad = found.unwrap_or(None);
+    if let Some(bad) = bad {
         let _ = rt.eprintln(bad);
     }
+    bad
+}
+
+/// The input of a file or of standard input. Where a device fails, a line of detail says why.
+fn input_of<R: Files + Input + AllocGlobal>(
+    rt: &R,
+    file: Option<&str>,
+    details: &mut Details,
+) -> Result<String, InputFault> {
+    let mut failure = None;
+    let input = text_noting(rt, file, &mut failure);
+    if let Some(failure) = failure {
+        details.add_failure(rt.alloc(), name_of(file), &failure);
+    }
+    input
 }
 
 /// Does a task with a file or with standard input. What is wrong with a script's bad line is said on standard error.
@@ -51,11 +80,15 @@ fn run_task<R: Files + Input + AllocGlobal + Eprint, W: Write>(
     task: Task,
     file: Option<&str>,
     out: &mut W,
+    details: &mut Details,
 ) -> Result<u8, Stop> {
-    let input = text_of(rt, file);
+    let input = input_of(rt, file, details);
     let status = run_input(rt.alloc(), task, &input, out)?;
     if status == BAD_INPUT {
-        tell(rt, bad_line_of_task(rt.alloc(), task, &input));
+        let bad = told(rt, bad_line_of_task(rt.alloc(), task, &input));
+        details.add_task(rt.alloc(), task, name_of(file), &input, bad);
+    } else if let Task::Check { form: _ } = task {
+        details.add_warnings(rt.alloc(), name_of(file), &input);
     }
     Ok(status)
 }
@@ -67,12 +100,14 @@ fn run_script<R: Files + Input + AllocGlobal + Eprint, W: Write>(
     config: Config,
     file: Option<&str>,
     out: &mut W,
+    details: &mut Details,
 ) -> Result<u8, Stop> {
     let copy = config.copy(rt.alloc());
-    let input = text_of(rt, file);
+    let input = input_of(rt, file, details);
     let status = run_events(rt.alloc(), any, config, &input, out)?;
     if let (BAD_INPUT, Ok(config)) = (status, copy) {
-        tell(rt, bad_line_of_events(rt.alloc(), config, &input));
+        let bad = told(rt, bad_line_of_events(rt.alloc(), config, &input));
+        details.add_events(rt.alloc(), name_of(file), &input, bad);
     }
     Ok(status)
 }
@@ -84,11 +119,32 @@ fn run_over<R: Files + Input + AllocGlobal + Eprint, W: Write>(
     config: &str,
     file: Option<&str>,
     out: &mut W,
+    details: &mut Details,
 ) -> Result<u8, Stop> {
-    match read_configuration(rt.alloc(), text_of(rt, Some(config)), out)? {
-        Some(config) => run_script(rt, any, config, file, out),
-        None => Ok(BAD_INPUT),
+    let input = input_of(rt, Some(config), details);
+    match read_configuration(rt.alloc(), &input, out)? {
+        Some(config) => run_script(rt, any, config, file, out, details),
+        None => {
+            details.add_configuration(rt.alloc(), config, &input);
+            Ok(BAD_INPUT)
+        }
     }
+}
+
+/// Prints where keys live in the tree of a file's configuration.
+fn run_where<R: Files + Input + AllocGlobal, W: Write>(
+    rt: &R,
+    file: &str,
+    keys: &[Key],
+    out: &mut W,
+    details: &mut Details,
+) -> Result<u8, Stop> {
+    let input = input_of(rt, Some(file), details);
+    let status = run_keys(rt.alloc(), keys, &input, out)?;
+    if status == BAD_INPUT {
+        details.add_configuration(rt.alloc(), file, &input);
+    }
+    Ok(status)
 }
 
 /// Runs a script over TCP.
@@ -96,14 +152,14 @@ fn run_loopback<R: Files + Input + AllocGlobal + Net + Clock + Eprint, W: Write>
     rt: &R,
     file: Option<&str>,
     out: &mut W,
+    details: &mut Details,
 ) -> Result<u8, Stop> {
-    let input = text_of(rt, file);
+    let input = input_of(rt, file, details);
     let status = run_over_tcp(rt, &input, out)?;
     if status == BAD_INPUT {
-        tell(
-            rt,
-            bad_line_of_task(rt.alloc(), Task::Replay { any: false }, &input),
-        );
+        let task = Task::Replay { any: false };
+        let bad = told(rt, bad_line_of_task(rt.alloc(), task, &input));
+        details.add_task(rt.alloc(), task, name_of(file), &input, bad);
     }
     Ok(status)
 }
@@ -113,14 +169,28 @@ fn run_serve<R: Files + Input + AllocGlobal + Net + Clock + Eprint, W: Write>(
     rt: &R,
     job: ServeJob<'_>,
     out: &mut W,
+    details: &mut Details,
 ) -> Result<u8, Stop> {
-    let text = match text_of(rt, Some(job.file)) {
+    if is_special(rt, job.file) {
+        details.add(special_line(rt.alloc(), job.file));
+        return Err(Stop::Device);
+    }
+    let text = match input_of(rt, Some(job.file), details) {
         Ok(text) => text,
-        Err(fault) => return decline(fault, out),
+        Err(fault) => {
+            details.add_configuration(rt.alloc(), job.file, &Err(fault));
+            return decline(fault, out);
+        }
     };
     match judge_text(rt.alloc(), job.any, text.as_str(), out)? {
-        Judged::Printed(status) => Ok(status),
-        Judged::Servable(servable) => serve(rt, job, servable, text, out),
+        Judged::Printed(status) => {
+            details.add_text(rt.alloc(), job.file, text.as_str());
+            Ok(status)
+        }
+        Judged::Servable(servable) => {
+            say_warnings(rt, job.file, text.as_str());
+            serve(rt, job, servable, text, out, details)
+        }
     }
 }
 
@@ -128,15 +198,23 @@ fn run_serve<R: Files + Input + AllocGlobal + Net + Clock + Eprint, W: Write>(
 fn run<R: Files + Input + AllocGlobal + Env + Net + Clock + Eprint, W: Write>(
     rt: &R,
     out: &mut W,
+    details: &mut Details,
 ) -> Result<u8, Stop> {
-    let arguments = arguments_of(rt)?;
-    match read_arguments(rt.alloc(), arguments.as_slice())? {
-        Job::Run { task, file } => run_task(rt, task, file, out),
-        Job::RunOver { any, config, file } => run_over(rt, any, config, file, out),
-        Job::Where { file, keys } => run_keys(rt.alloc(), &keys, text_of(rt, Some(file)), out),
-        Job::Loopback { file } => run_loopback(rt, file, out),
-        Job::Cache(job) => serve_cache(rt, job),
-        Job::Serve(job) => run_serve(rt, job, out),
+    let arguments = arguments_of(rt, details)?;
+    let job = match read_arguments(rt.alloc(), arguments.as_slice()) {
+        Ok(job) => job,
+        Err(fault) => {
+            details.add_words(rt.alloc(), fault, arguments.as_slice());
+            return Err(Stop::from(fault));
+        }
+    };
+    match job {
+        Job::Run { task, file } => run_task(rt, task, file, out, details),
+        Job::RunOver { any, config, file } => run_over(rt, any, config, file, out, details),
+        Job::Where { file, keys } => run_where(rt, file, &keys, out, details),
+        Job::Loopback { file } => run_loopback(rt, file, out, details),
+        Job::Cache(job) => serve_cache(rt, job, details),
+        Job::Serve(job) => run_serve(rt, job, out, details),
         Job::Print(text) => {
             out.write_all(text.as_bytes())?;
             Ok(DONE)
@@ -147,19 +225,30 @@ fn run<R: Files + Input + AllocGlobal + Env + Net + Clock + Eprint, W: Write>(
 /// Runs, and gives out what was written, also what was written before a fault.
 fn run_and_flush<R: Files + Input + AllocGlobal + Env + Net + Clock + Print + Eprint>(
     rt: &R,
+    details: &mut Details,
 ) -> Result<u8, Stop> {
     let mut out = BufWriter::new(rt.alloc(), io::writer(rt))?;
-    let ended = run(rt, &mut out);
+    let ended = run(rt, &mut out, details);
     let flushed = out.flush();
+    if let Err(error) = &flushed {
+        details.add_output(rt.alloc(), error);
+    }
+    if matches!(ended, Err(Stop::Device)) {
+        details.add_unknown(rt.alloc());
+    }
     let status = ended?;
     flushed?;
     Ok(status)
 }
 
 fn main(rt: HostRuntime) -> ExitCode {
-    let end = end_of(run_and_flush(&rt));
+    let mut details = Details::new(rt.alloc());
+    let end = end_of(run_and_flush(&rt, &mut details));
     if let Some(line) = end.complaint {
         let _ = rt.eprintln(line);
+    }
+    for line in details.lines() {
+        let _ = rt.eprintln(line.as_str());
     }
     ExitCode::from(end.status)
 }

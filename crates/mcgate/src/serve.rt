@@ -8,13 +8,14 @@ use crate::serving::{Serving, addresses_of, resolve};
 use crate::sharing::sharing_for;
 use config_check::checking::{print_fault, print_refused};
 use fresh_gate::{Accepted, judge};
+use program::details::Details;
 use program::ends::Stop;
 use program::serve_arguments::ServeJob;
 use route_json::{Config, read_config};
 use server_addresses::Servers;
 use std::alloc::{AllocError, Global};
 use std::io;
-use std::io::{ErrorKind, Write};
+use std::io::Write;
 use std::net::{Net, SocketAddr};
 use std::rt::{Clock, Files};
 use tcp_proxy::{ProxyEnd, Settings};
@@ -120,8 +121,8 @@ fn open<R: Net + Clock + AllocGlobal + Eprint>(
 {
     let addresses = addresses_of(rt, servers, 0)?;
     match resolve(rt, job.listen) {
-        Some(listen) => end_over(rt, listen, servable, addresses.as_slice(), job.settings),
-        None => Err(io::Error::from(ErrorKind::AddrNotAvailable)),
+        Ok(listen) => end_over(rt, listen, servable, addresses.as_slice(), job.settings),
+        Err(error) => Err(error),
     }
 }
 
@@ -157,15 +158,21 @@ fn serve_to_end<R: Files + Input + Net + Clock + AllocGlobal + Eprint, W: Write>
 
 /// Serves a configuration, and tells so; `text` is that of its file. The answer is the exit status after the turns that were asked.
 ///
-/// [`Stop::Device`] comes where it can't listen there, or the system's wait or clock fails, and [`Stop::Memory`] where memory was
-/// refused for the proxy itself, or for a configuration that is read while it runs.
+/// [`Stop::Device`] comes where it can't listen there, of which a line of detail says why, or where the system's wait or clock fails, and
+/// [`Stop::Memory`] where memory was refused for the proxy itself, or for a configuration that is read while it runs.
 pub fn serve<R: Files + Input + Net + Clock + AllocGlobal + Eprint, W: Write>(
     rt: &R,
     job: ServeJob<'_>,
     servable: Servable,
     text: String,
     out: &mut W,
+    details: &mut Details,
 ) -> Result<u8, Stop> {
-    let (_serving, ended) = serve_to_end(rt, &job, servable, text, out)?;
-    ended
+    match serve_to_end(rt, &job, servable, text, out) {
+        Ok((_serving, ended)) => ended,
+        Err(error) => {
+            details.add_listen(rt.alloc(), job.listen, &error);
+            Err(Stop::from(error))
+        }
+    }
 }

@@ -5,6 +5,7 @@ ghost use Rattle.proxy_connections.specs.CoreSteps.{GoesOn};
 ghost use Rattle.tcp_proxy.specs.LogsGoOn.{LogsAreFresh};
 ghost use Rattle.mcgate.specs.Serves.{SaysAfter, Serves, MayLoad, MayLoadText};
 
+use crate::special::is_special;
 use config_check::reload_lines::{write_kept, write_loaded, write_unchecked};
 use config_check::status::DONE;
 use fresh_gate::ReloadFault;
@@ -17,18 +18,18 @@ use route_json::{Config, ConfigFault, read_config_after};
 use server_addresses::Servers;
 use std::alloc::{AllocError, Global};
 use std::io;
-use std::io::Write;
+use std::io::{ErrorKind, Write};
 use std::net::{Net, SocketAddr, ToSocketAddrs};
 use std::rt::{Clock, Files};
 use std::time::{Duration, Instant};
 use tcp_proxy::ProxyEnd;
 use text_input::InputFault;
 
-/// The first address that a text names.
-pub fn resolve<N: Net>(net: &N, text: &str) -> Option<SocketAddr> {
-    match text.to_socket_addrs(net) {
-        Ok(mut addresses) => addresses.next(),
-        Err(_) => None,
+/// The first address that a text names, or why it names none.
+pub fn resolve<N: Net>(net: &N, text: &str) -> io::Result<SocketAddr> {
+    match text.to_socket_addrs(net)?.next() {
+        Some(address) => Ok(address),
+        None => Err(io::Error::from(ErrorKind::AddrNotAvailable)),
     }
 }
 
@@ -54,7 +55,7 @@ pub fn addresses_of<R: Net + AllocGlobal + Eprint>(
 }
 
 fn told_address<R: Net + Eprint>(rt: &R, text: &str) -> io::Result<Option<SocketAddr>> {
-    let address = resolve(rt, text);
+    let address = resolve(rt, text).ok();
     if address.is_none() {
         eprintln!(rt; "mcgate: server {text}: no such host, its calls fail")?;
     }
@@ -73,6 +74,14 @@ pub struct Serving {
     since: Instant,
     /// How many turns ago.
     turns: u32,
+}
+
+// The text of a regular file. Of what is none the program doesn't wait for a text.
+fn regular_text<R: Files + Input + AllocGlobal>(rt: &R, file: &str) -> Result<String, InputFault> {
+    if is_special(rt, file) {
+        return Err(InputFault::Device);
+    }
+    text_of(rt, Some(file))
 }
 
 // A configuration that was read, and its servers once more.
@@ -262,7 +271,7 @@ impl Serving {
     {
         self.turns = 0;
         self.since = Instant::now(rt)?;
-        match text_of(rt, Some(job.file)) {
+        match regular_text(rt, job.file) {
             Ok(text) => self.take_text(rt, job.any, text, out),
             Err(InputFault::NoMemory) => Err(Stop::Memory),
             Err(_) => Ok(()),

@@ -74,14 +74,14 @@ kind_is Classic Decr e = absurd cc
 kind_is Classic Touch e = absurd cc
 kind_is Meta op e = absurd cc
 
-words_are : (with_cas : Bool) → token_words (wanted with_cas) ≡ codes "k" ∷ codes "f" ∷ codes "v" ∷ cas_flag with_cas
+words_are : (with_cas : Bool) → token_words (wanted with_cas) ++ [] ≡ codes "k" ∷ codes "f" ∷ codes "v" ∷ cas_flag with_cas
 words_are true = refl
 words_are false = refl
 
 line_is : (ask : Ask) → is_retrieval ask ≡ true → message_of (meta_form ask) ≡ get_line ask
 line_is ask e =
     let kind : message_of (meta_form ask) ≡ Served (both.Meta (order_for kinds.Get (meta_form ask))) [] = ap (λ k. Served (both.Meta (order_for k (meta_form ask))) []) (kind_is ask.dialect ask.op e) in
-    kind ∙ ap (λ (words : List Word). Served (both.Meta (Asking kinds.Get ask.key None (words ++ exptime_words ask.exptime))) []) (words_are ask.with_cas)
+    kind ∙ ap (λ (words : List Word). Served (both.Meta (Asking kinds.Get ask.key None (exptime_words ask.exptime ++ words))) []) (words_are ask.with_cas)
 
 -- after the key
 abbrev end_words : Bool → List ℕ
@@ -100,7 +100,7 @@ end_is false = refl
 pub get_text : (ask : Ask) → is_retrieval ask ≡ true → ask.exptime ≡ None → spelling_of (meta_form ask) ≡ codes "mg " ++ ask.key ++ get_end ask.with_cas
 get_text ask e none =
     let kind : spelling_of (meta_form ask) ≡ line_of (line_words kinds.Get (meta_form ask)) ++ block_by kinds.Get [] = ap (λ k. line_of (line_words k (meta_form ask)) ++ block_by k []) (kind_is ask.dialect ask.op e) in
-    let plain : line_of (line_words kinds.Get (meta_form ask)) ++ [] ≡ spaced (codes "mg" ∷ ask.key ∷ token_words (wanted ask.with_cas) ++ []) ++ codes "\r\n" = append-nil (line_of (line_words kinds.Get (meta_form ask))) ∙ ap (λ x. line_of (codes "mg" ∷ ask.key ∷ token_words (wanted ask.with_cas) ++ exptime_words x)) none in
+    let plain : line_of (line_words kinds.Get (meta_form ask)) ++ [] ≡ spaced (codes "mg" ∷ ask.key ∷ token_words (wanted ask.with_cas) ++ []) ++ codes "\r\n" = append-nil (line_of (line_words kinds.Get (meta_form ask))) ∙ ap (λ x. line_of (codes "mg" ∷ ask.key ∷ exptime_words x ++ (token_words (wanted ask.with_cas) ++ []))) none in
     let spaces : spaced (codes "mg" ∷ ask.key ∷ token_words (wanted ask.with_cas) ++ []) ++ codes "\r\n" ≡ (codes "mg " ++ ask.key ++ end_words ask.with_cas) ++ codes "\r\n" = ap (λ xs. xs ++ codes "\r\n") (spaced_is ask.key ask.with_cas) in
     let ends : (codes "mg " ++ ask.key ++ end_words ask.with_cas) ++ codes "\r\n" ≡ codes "mg " ++ ask.key ++ (end_words ask.with_cas ++ codes "\r\n") = ap (λ xs. codes "mg " ++ xs) (append_assoc ask.key (end_words ask.with_cas) (codes "\r\n")) in
     kind ∙ plain ∙ spaces ∙ ends ∙ ap (λ xs. codes "mg " ++ ask.key ++ xs) (end_is ask.with_cas)

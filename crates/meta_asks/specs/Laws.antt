@@ -21,9 +21,9 @@ abbrev pub cas_flag : Bool → List Word
 cas_flag true = codes "c" ∷ []
 cas_flag false = []
 
--- an `mg` of the key with the flags k, f and v, with c where the cas number is wanted, and with T where the expiry is set
+-- an `mg` of the key, with T first where the expiry is set, and with the flags k, f and v, and with c where the cas number is wanted
 abbrev pub get_line : Ask → Message
-get_line ask = Served (Meta (Asking Get ask.key None ((codes "k" ∷ codes "f" ∷ codes "v" ∷ cas_flag ask.with_cas) ++ exptime_words ask.exptime))) []
+get_line ask = Served (Meta (Asking Get ask.key None (exptime_words ask.exptime ++ (codes "k" ∷ codes "f" ∷ codes "v" ∷ cas_flag ask.with_cas)))) []
 
 -- what is written of a classic get is read as such an `mg`, whatever follows, and that is one ask, the form
 abbrev pub FormsAreRead : Type 0

@@ -92,7 +92,7 @@ pub fn write_get(ask: &Ask, out: &mut BytesMut) -> Result<(), AllocError>
 }
 
 /// Appends what a server is asked that speaks the meta dialect: for a classic get its meta form, `mg K k f v`, with `c` for `gets`
-/// and `T` for `gat`, and for any other ask what [`write_ask`] does.
+/// and `T` before these for `gat`, and for any other ask what [`write_ask`] does.
 ///
 /// The only error is running out of memory, which leaves the buffer as it was. Memory is taken for a form only where none of its kind
 /// is kept.

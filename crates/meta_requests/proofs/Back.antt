@@ -36,8 +36,8 @@ use Rattle.meta_requests.specs.Spelling.{kind_of, kind_word, mode_letter, mode_w
 use Rattle.meta_requests.specs.Asks.{IsText, IsMetaAsk, get_op, store_op, ask_by, asks_by, is_quiet}
 use Rattle.meta_requests.specs.ReadBack.{AsksAreReadBack, MessagesAreOneAsk}
 use Rattle.meta_requests.proofs.ServedLemmas.{served_by}
-use Rattle.meta_requests.proofs.FlagsBack.{AreValued, flags_back, tokens_back, values_back}
-use Rattle.meta_requests.proofs.ValuesBack.{get_values, delete_values, store_values, count_values}
+use Rattle.meta_requests.proofs.FlagsBack.{AreValued, IsDate, flags_back, tokens_back, values_back}
+use Rattle.meta_requests.proofs.ValuesBack.{get_date, store_date, count_date, get_values, delete_values, store_values, count_values}
 
 -- the words are short
 lettered : (l : ℕ) (w : Word) → 33 ≤ l → IsPlain w → length w ≤ 249 → IsToken (l ∷ w)
@@ -177,27 +177,36 @@ IsUnmixed Store v = mixes v ≡ false
 IsUnmixed Delete v = Unit {0}
 IsUnmixed Count v = Unit {0}
 
+-- what the flags with a value say but the expiry
+abbrev undated : Values → Values
+undated v = record v { exptime = None }
+
 -- what the line of an ask needs, to be read back as the values and the return flags of the ask
 pub record IsSpelled (kind : Kind) (ask : Ask) (v : Values) : Type 0 where
   pub key : IsKey ask.key
   pub short : length ask.body ≤ data_limit
   pub served : are_served (served_by kind) ask.tokens ≡ true
   pub texts : AllByRecursion IsText ask.tokens
-  pub valued : AreValued kind (value_words kind ask) v
-  pub few : AreFew 4 (value_words kind ask)
+  pub valued : AreValued kind (value_words kind ask) (undated v)
+  pub date : v.exptime ≡ ask.exptime
+  pub dated : IsDate kind ask.exptime
+  pub time : IfSome ask.exptime IsExptime
+  pub few : AreFew 3 (value_words kind ask)
   pub unmixed : IsUnmixed kind v
 
 module _ (ask : Ask) (v : Values) where
   flags_are : (kind : Kind) → IsSpelled kind ask v → flags_of kind [] (flag_words kind ask) ≡ Ok (flag_words kind ask)
-  flags_are kind h = flags_back kind (value_words kind ask) v h.valued ask.tokens h.served h.texts
+  flags_are kind h = flags_back kind (value_words kind ask) (undated v) h.valued ask.exptime ask.tokens h.dated h.served h.texts
+
+  values_are : (kind : Kind) → IsSpelled kind ask v → values_of kind (flag_words kind ask) ≡ v
+  values_are kind h = values_back kind (value_words kind ask) (undated v) h.valued ask.exptime ask.tokens h.dated refl ∙ ap (λ (x : Option ℤ). let r : Values = record v { exptime = x } in r) (sym h.date)
 
   few_flags : (kind : Kind) → IsSpelled kind ask v → AreFew 11 (flag_words kind ask)
-  few_flags kind h = few_append 7 4 (token_words ask.tokens) (value_words kind ask) (few_tokens (served_by kind) ask.tokens h.served h.texts) h.few
+  few_flags kind h = few_append 1 10 (exptime_words ask.exptime) (token_words ask.tokens ++ value_words kind ask) (few_exptime ask.exptime h.time) (few_append 7 3 (token_words ask.tokens) (value_words kind ask) (few_tokens (served_by kind) ask.tokens h.served h.texts) h.few)
 
   compared : IsSpelled Store ask v → comparing (flag_words Store ask) ≡ Ok (flag_words Store ask)
   compared h =
-      let same : values_of Store (flag_words Store ask) ≡ v = values_back Store (value_words Store ask) v h.valued ask.tokens in
-      let not_mixed : mixes (values_of Store (flag_words Store ask)) ≡ false = ap mixes same ∙ h.unmixed in
+      let not_mixed : mixes (values_of Store (flag_words Store ask)) ≡ false = ap mixes (values_are Store h) ∙ h.unmixed in
       rw not_mixed refl
 
   order_back : (kind : Kind) → IsSpelled kind ask v → order_of (line_words kind ask) ≡ Ok (order_for kind ask)
@@ -258,19 +267,19 @@ values c d e f m = record { cas = c; delta = d; exptime = e; flags = f; mode = m
 
 module _ (ask : Ask) (h : IsMetaAsk ask) where
   get_spelled : are_served of_get ask.tokens ≡ true → IsSpelled Get ask (values None None ask.exptime None None)
-  get_spelled s = record { key = h.well_formed.key; short = h.well_formed.ranges.body; served = s; texts = h.texts; valued = get_values ask.exptime h.well_formed.ranges.exptime; few = few_le 1 4 _ (omega arith) (few_exptime ask.exptime h.well_formed.ranges.exptime); unmixed = tt }
+  get_spelled s = record { key = h.well_formed.key; short = h.well_formed.ranges.body; served = s; texts = h.texts; valued = get_values; date = refl; dated = get_date ask.exptime h.well_formed.ranges.exptime; time = h.well_formed.ranges.exptime; few = record { are = tt; few = omega arith }; unmixed = tt }
 
-  delete_spelled : are_served of_delete ask.tokens ≡ true → IsSpelled Delete ask (values ask.cas None None None None)
-  delete_spelled s = record { key = h.well_formed.key; short = h.well_formed.ranges.body; served = s; texts = h.texts; valued = delete_values ask.cas h.well_formed.ranges.cas; few = few_le 1 4 _ (omega arith) (few_cas ask.cas h.well_formed.ranges.cas); unmixed = tt }
+  delete_spelled : are_served of_delete ask.tokens ≡ true → ask.exptime ≡ None → IsSpelled Delete ask (values ask.cas None None None None)
+  delete_spelled s none = record { key = h.well_formed.key; short = h.well_formed.ranges.body; served = s; texts = h.texts; valued = delete_values ask.cas h.well_formed.ranges.cas; date = sym none; dated = subst (λ (e : Option ℤ). IsDate Delete e) (sym none) tt; time = h.well_formed.ranges.exptime; few = few_le 1 3 _ (omega arith) (few_cas ask.cas h.well_formed.ranges.cas); unmixed = tt }
 
-  few_values : (l n : ℕ) → 33 ≤ l → n < 2 ^ 64 → AreFew 4 (cas_words ask.cas ++ (l ∷ decimal n) ∷ mode_word ask.op ∷ exptime_words ask.exptime)
-  few_values l n le lt = few_append 1 3 (cas_words ask.cas) _ (few_cas ask.cas h.well_formed.ranges.cas) (few_first 2 (l ∷ decimal n) _ (wide_token l n le lt) (few_first 1 (mode_word ask.op) _ (mode_token ask.op) (few_exptime ask.exptime h.well_formed.ranges.exptime)))
+  few_values : (l n : ℕ) → 33 ≤ l → n < 2 ^ 64 → AreFew 3 (cas_words ask.cas ++ (l ∷ decimal n) ∷ mode_word ask.op ∷ [])
+  few_values l n le lt = few_append 1 2 (cas_words ask.cas) _ (few_cas ask.cas h.well_formed.ranges.cas) (few_first 1 (l ∷ decimal n) _ (wide_token l n le lt) (few_first 0 (mode_word ask.op) _ (mode_token ask.op) (record { are = tt; few = omega arith })))
 
   store_spelled : (m : Op) → are_served of_store ask.tokens ≡ true → mode_of Store (mode_letter ask.op ∷ []) ≡ Some m → mixes (values ask.cas None ask.exptime (Some ask.flags) (Some m)) ≡ false → IsSpelled Store ask (values ask.cas None ask.exptime (Some ask.flags) (Some m))
-  store_spelled m s is u = let small = h.well_formed.ranges.flags in record { key = h.well_formed.key; short = h.well_formed.ranges.body; served = s; texts = h.texts; valued = store_values ask.cas ask.flags ask.op m ask.exptime h.well_formed.ranges.cas h.well_formed.ranges.flags is h.well_formed.ranges.exptime; few = few_values 70 ask.flags (omega arith) (omega arith); unmixed = u }
+  store_spelled m s is u = let small = h.well_formed.ranges.flags in record { key = h.well_formed.key; short = h.well_formed.ranges.body; served = s; texts = h.texts; valued = store_values ask.cas ask.flags ask.op m h.well_formed.ranges.cas h.well_formed.ranges.flags is; date = refl; dated = store_date ask.exptime h.well_formed.ranges.exptime; time = h.well_formed.ranges.exptime; few = few_values 70 ask.flags (omega arith) (omega arith); unmixed = u }
 
   count_spelled : (m : Op) → are_served of_count ask.tokens ≡ true → mode_of Count (mode_letter ask.op ∷ []) ≡ Some m → IsSpelled Count ask (values ask.cas (Some ask.delta) ask.exptime None (Some m))
-  count_spelled m s is = record { key = h.well_formed.key; short = h.well_formed.ranges.body; served = s; texts = h.texts; valued = count_values ask.cas ask.delta ask.op m ask.exptime h.well_formed.ranges.cas h.well_formed.ranges.delta is h.well_formed.ranges.exptime; few = few_values 68 ask.delta (omega arith) h.well_formed.ranges.delta; unmixed = tt }
+  count_spelled m s is = record { key = h.well_formed.key; short = h.well_formed.ranges.body; served = s; texts = h.texts; valued = count_values ask.cas ask.delta ask.op m h.well_formed.ranges.cas h.well_formed.ranges.delta is; date = refl; dated = count_date ask.exptime h.well_formed.ranges.exptime; time = h.well_formed.ranges.exptime; few = few_values 68 ask.delta (omega arith) h.well_formed.ranges.delta; unmixed = tt }
 
   mode_is : (kind : Kind) (op m : Op) → ask.op ≡ op → mode_of kind (mode_letter op ∷ []) ≡ Some m → mode_of kind (mode_letter ask.op ∷ []) ≡ Some m
   mode_is kind op m o e = ap (λ (p : Op). mode_of kind (mode_letter p ∷ [])) o ∙ e
@@ -308,7 +317,7 @@ module _ (ask : Ask) (h : IsMetaAsk ask) where
     body = tt;
     same = same_ask _ ask refl (cas_op ask.cas (Some ops.Set) s.cas ∙ sym o) (sym h.meta) (sym s.with_cas) refl (some_exptime ask.exptime s.exptime) refl refl (sym s.delta) refl;
   }
-  by_op ops.Delete o s = record { v = values ask.cas None None None None; loud = refl; spelled = delete_spelled s.tokens; body = s.body; same = same_ask _ ask refl (sym o) (sym h.meta) (sym s.with_cas) (sym s.flags) (sym s.exptime) (sym s.body) refl (sym s.delta) refl }
+  by_op ops.Delete o s = record { v = values ask.cas None None None None; loud = refl; spelled = delete_spelled s.tokens s.exptime; body = s.body; same = same_ask _ ask refl (sym o) (sym h.meta) (sym s.with_cas) (sym s.flags) (sym s.exptime) (sym s.body) refl (sym s.delta) refl }
   by_op ops.Incr o s = counting ops.Incr o refl s
   by_op ops.Decr o s = counting ops.Decr o refl s
   by_op ops.Touch o s = absurd s
@@ -333,8 +342,8 @@ one a b e = cc
 
 one_ask : (ask : Ask) (kind : Kind) → IsReadBack kind ask → (asks_by (order_for kind ask) ask.body ≡ ask ∷ []) × (is_quiet (order_for kind ask) ≡ false)
 one_ask ask kind r =
-    let vs : values_of kind (flag_words kind ask) ≡ r.v = values_back kind (value_words kind ask) r.v r.spelled.valued ask.tokens in
-    let ts : tokens_in (flag_words kind ask) ≡ ask.tokens = tokens_back kind (value_words kind ask) r.v r.spelled.valued ask.tokens r.spelled.texts in
+    let vs : values_of kind (flag_words kind ask) ≡ r.v = values_are ask r.v kind r.spelled in
+    let ts : tokens_in (flag_words kind ask) ≡ ask.tokens = tokens_back kind (value_words kind ask) (undated r.v) r.spelled.valued ask.exptime ask.tokens r.spelled.texts in
     let made : ask_by kind ask.key (values_of kind (flag_words kind ask)) (tokens_in (flag_words kind ask)) ask.body ≡ ask = rw (vs, ts) r.same in
     (one _ ask made, ap (λ (v : Values). v.quiet) vs ∙ r.loud)
 

@@ -1,5 +1,7 @@
 -- The flags of a spelled ask are let through, and say what the ask says.
-use Rattle.std.proofs.Common.{◌≡◌, ℕ, ◌+◌, ◌^◌, Bool, true, false, not, eqb, ◌||◌, ◌&&◌, List, [], ◌∷◌, ◌++◌, length, Option, Some, Ok, refl, sym, ap, ◌∙◌, append_assoc}
+use Rattle.std.proofs.Common.{◌≡◌, ℕ, ◌+◌, ◌^◌, Bool, true, false, not, eqb, ◌||◌, ◌&&◌, List, [], ◌∷◌, ◌++◌, length, Option, Some, None, Ok, refl, sym, ap, ◌∙◌, append_assoc}
+use Rattle.std.specs.Prelude.{ℤ}
+use Rattle.std.specs.Fmt.{signed_decimal}
 use Rattle.std.specs.List.{AllByRecursion, list_all}
 use Rattle.std.proofs.lemmas.Bool.{and_parts, le-leb, ne_eqb, eq-eqb}
 use Rattle.std.proofs.lemmas.List.{append-nil}
@@ -13,8 +15,8 @@ use Rattle.mc_types.specs.declared.token.Token.TheVariants as tokens
 use Rattle.request_parts.specs.Tests.{Word, ◌>>=◌}
 use Rattle.meta_requests.specs.declared.command.Kind.{Kind}
 use Rattle.meta_requests.specs.declared.command.Values.{Values}
-use Rattle.meta_requests.specs.Flags.{letter_of, text_of, is_served, stands_in, has_value, is_opaque, flag_of, flags_of, read_in, values_of, tokens_in, wanted, mode_of}
-use Rattle.meta_requests.specs.Spelling.{token_word, token_words}
+use Rattle.meta_requests.specs.Flags.{letter_of, text_of, is_served, stands_in, has_value, is_opaque, flag_of, flags_of, or_else, read_in, values_of, tokens_in, wanted, mode_of}
+use Rattle.meta_requests.specs.Spelling.{token_word, token_words, exptime_words}
 use Rattle.meta_requests.specs.Asks.{IsText}
 use Rattle.meta_requests.proofs.SeenLemmas.{stands-more, else_none}
 use Rattle.meta_requests.proofs.ServedLemmas.{byte_of, apart, served_by, same_served}
@@ -131,6 +133,17 @@ pub record AreValued (kind : Kind) (vs : List Word) (v : Values) : Type 0 where
   pub valued : list_all (λ w. is_valued (letter_of w)) vs ≡ true
   pub none : tokens_in vs ≡ []
   pub values : values_of kind vs ≡ v
+  pub undated : stands_in 84 vs ≡ false
+
+-- the expiry, where there is one, is a flag of the command, and is read back
+abbrev pub IsDate : Kind → Option ℤ → Type 0
+IsDate kind None = Unit {0}
+IsDate kind (Some z) = (is_served kind 84 ≡ true) × (signed_number (signed_decimal z) ≡ Some z)
+
+-- what is said where the expiry stands before the others
+dated : (u : Values) (z : ℤ) (read : Option ℤ) → u.exptime ≡ None → read ≡ Some z
+    → (let r : Values = record { cas = or_else u.cas None; delta = or_else u.delta None; exptime = or_else u.exptime read; flags = or_else u.flags None; mode = or_else u.mode None; quiet = u.quiet } in r) ≡ (record u { exptime = Some z })
+dated u z read none is = rw (none, is, else_none u.cas, else_none u.delta, else_none u.flags, else_none u.mode) refl
 
 -- a token's letter isn't one of theirs
 apart_from : (l : ℕ) (vs : List Word) → is_valued l ≡ false → list_all (λ w. is_valued (letter_of w)) vs ≡ true → stands_in l vs ≡ false
@@ -168,12 +181,23 @@ module _ (kind : Kind) (vs : List Word) (v : Values) (h : AreValued kind vs v) w
       let no : stands_in (letter_of (token_word t)) (token_words ts ++ vs) ≡ false = stands-append (letter_of (token_word t)) (token_words ts) vs ∙ rw (alone, far) refl in
       rw (no, once_all ts a.1) refl
 
-  pub flags_back : (ts : List Token) → are_served (served_by kind) ts ≡ true → AllByRecursion IsText ts → flags_of kind [] (token_words ts ++ vs) ≡ Ok (token_words ts ++ vs)
-  flags_back ts e x = pass kind (token_words ts ++ vs) (fit_all ts e x) (once_all ts e)
+  undated_all : (ts : List Token) → stands_in 84 (token_words ts ++ vs) ≡ false
+  undated_all [] = h.undated
+  undated_all (t ∷ ts) =
+      let differ : eqb (letter_of (token_word t)) 84 ≡ false = ne_eqb (letter_of (token_word t)) 84 (λ s. let f : true ≡ false = sym (ap is_valued s) ∙ token_valued t in cc) in
+      rw differ (undated_all ts)
 
-  pub tokens_back : (ts : List Token) → AllByRecursion IsText ts → tokens_in (token_words ts ++ vs) ≡ ts
-  tokens_back [] x = h.none
-  tokens_back (t ∷ ts) x = rw (token_wanted t x.0, tokens_back ts x.1) refl
+  pub flags_back : (date : Option ℤ) (ts : List Token) → IsDate kind date → are_served (served_by kind) ts ≡ true → AllByRecursion IsText ts → flags_of kind [] (exptime_words date ++ (token_words ts ++ vs)) ≡ Ok (exptime_words date ++ (token_words ts ++ vs))
+  flags_back None ts d e x = pass kind (token_words ts ++ vs) (fit_all ts e x) (once_all ts e)
+  flags_back (Some z) ts d e x = pass kind ((84 ∷ signed_decimal z) ∷ (token_words ts ++ vs)) (d.0, rw d.1 refl, fit_all ts e x) (rw (undated_all ts, once_all ts e) refl)
+
+  others_back : (ts : List Token) → AllByRecursion IsText ts → tokens_in (token_words ts ++ vs) ≡ ts
+  others_back [] x = h.none
+  others_back (t ∷ ts) x = rw (token_wanted t x.0, others_back ts x.1) refl
+
+  pub tokens_back : (date : Option ℤ) (ts : List Token) → AllByRecursion IsText ts → tokens_in (exptime_words date ++ (token_words ts ++ vs)) ≡ ts
+  tokens_back None ts x = others_back ts x
+  tokens_back (Some z) ts x = others_back ts x
 
   read_back : {A : Type 0} (l : ℕ) (read : Word → Option A) (ts : List Token) → is_valued l ≡ true → read_in l read (token_words ts ++ vs) ≡ read_in l read vs
   read_back l read [] e = refl
@@ -185,5 +209,12 @@ module _ (kind : Kind) (vs : List Word) (v : Values) (h : AreValued kind vs v) w
   loud [] = refl
   loud (t ∷ ts) = rw (token_loud t) (loud ts)
 
-  pub values_back : (ts : List Token) → values_of kind (token_words ts ++ vs) ≡ v
-  values_back ts = rw (read_back 67 (number_below (2 ^ 64)) ts refl, read_back 68 (number_below (2 ^ 64)) ts refl, read_back 84 signed_number ts refl, read_back 70 (number_below (2 ^ 32)) ts refl, read_back 77 (mode_of kind) ts refl, loud ts) h.values
+  same_values : (ts : List Token) → values_of kind (token_words ts ++ vs) ≡ v
+  same_values ts = rw (read_back 67 (number_below (2 ^ 64)) ts refl, read_back 68 (number_below (2 ^ 64)) ts refl, read_back 84 signed_number ts refl, read_back 70 (number_below (2 ^ 32)) ts refl, read_back 77 (mode_of kind) ts refl, loud ts) h.values
+
+  pub values_back : (date : Option ℤ) (ts : List Token) → IsDate kind date → v.exptime ≡ None → values_of kind (exptime_words date ++ (token_words ts ++ vs)) ≡ (record v { exptime = date })
+  values_back None ts d none = same_values ts ∙ sym (ap (λ (x : Option ℤ). let r : Values = record v { exptime = x } in r) (sym none))
+  values_back (Some z) ts d none =
+      let same = same_values ts in
+      let before : (values_of kind (token_words ts ++ vs)).exptime ≡ None = ap (λ (u : Values). u.exptime) same ∙ none in
+      dated (values_of kind (token_words ts ++ vs)) z (signed_number (signed_decimal z)) before d.1 ∙ ap (λ (u : Values). let r : Values = record u { exptime = Some z } in r) same

@@ -11,8 +11,8 @@ use Rattle.request_parts.proofs.Tokens.{fits}
 use Rattle.meta_requests.specs.declared.command.Kind.TheVariants.{Get, Store, Delete, Count}
 use Rattle.meta_requests.specs.declared.command.Values.{Values}
 use Rattle.meta_requests.specs.Flags.{mode_of}
-use Rattle.meta_requests.specs.Spelling.{cas_words, exptime_words, mode_word, mode_letter}
-use Rattle.meta_requests.proofs.FlagsBack.{AreValued}
+use Rattle.meta_requests.specs.Spelling.{cas_words, mode_word, mode_letter}
+use Rattle.meta_requests.proofs.FlagsBack.{AreValued, IsDate}
 
 wide : (n : ℕ) → n < 2 ^ 64 → number_below (2 ^ 64) (decimal n) ≡ Some n
 wide n lt = number_below-decimal (2 ^ 64) n lt (omega arith)
@@ -23,25 +23,33 @@ small n lt = number_below-decimal (2 ^ 32) n lt (omega arith)
 signed : (z : ℤ) → IsExptime z → signed_number (signed_decimal z) ≡ Some z
 signed z h = signed_are_read_back z (fits z h)
 
-abbrev values : Option ℕ → Option ℕ → Option ℤ → Option ℕ → Option Op → Values
-values c d e f m = record { cas = c; delta = d; exptime = e; flags = f; mode = m; quiet = false }
+abbrev values : Option ℕ → Option ℕ → Option ℕ → Option Op → Values
+values c d f m = record { cas = c; delta = d; exptime = None; flags = f; mode = m; quiet = false }
 
-pub get_values : (e : Option ℤ) → IfSome e IsExptime → AreValued Get (exptime_words e) (values None None e None None)
-get_values None h = record { fit = tt; once = refl; valued = refl; none = refl; values = refl }
-get_values (Some z) h = record { fit = (refl, rw (signed z h) refl, tt); once = refl; valued = refl; none = refl; values = rw (signed z h) refl }
+-- the expiry of an ask is read back
+pub get_date : (e : Option ℤ) → IfSome e IsExptime → IsDate Get e
+get_date None h = tt
+get_date (Some z) h = (refl, signed z h)
 
-pub delete_values : (c : Option ℕ) → IfSome c (λ n. n < 2 ^ 64) → AreValued Delete (cas_words c) (values c None None None None)
-delete_values None h = record { fit = tt; once = refl; valued = refl; none = refl; values = refl }
-delete_values (Some n) h = record { fit = (refl, rw (wide n h) refl, tt); once = refl; valued = refl; none = refl; values = rw (wide n h) refl }
+pub store_date : (e : Option ℤ) → IfSome e IsExptime → IsDate Store e
+store_date None h = tt
+store_date (Some z) h = (refl, signed z h)
 
-pub store_values : (c : Option ℕ) (f : ℕ) (op m : Op) (e : Option ℤ) → IfSome c (λ n. n < 2 ^ 64) → f < 2 ^ 32 → mode_of Store (mode_letter op ∷ []) ≡ Some m → IfSome e IsExptime → AreValued Store (cas_words c ++ (70 ∷ decimal f) ∷ mode_word op ∷ exptime_words e) (values c None e (Some f) (Some m))
-store_values None f op m None c lt is h = record { fit = (refl, rw (small f lt) refl, (refl, rw is refl, tt)); once = refl; valued = refl; none = refl; values = rw (small f lt, is) refl }
-store_values None f op m (Some z) c lt is h = record { fit = (refl, rw (small f lt) refl, (refl, rw is refl, (refl, rw (signed z h) refl, tt))); once = refl; valued = refl; none = refl; values = rw (small f lt, is, signed z h) refl }
-store_values (Some n) f op m None c lt is h = record { fit = (refl, rw (wide n c) refl, (refl, rw (small f lt) refl, (refl, rw is refl, tt))); once = refl; valued = refl; none = refl; values = rw (wide n c, small f lt, is) refl }
-store_values (Some n) f op m (Some z) c lt is h = record { fit = (refl, rw (wide n c) refl, (refl, rw (small f lt) refl, (refl, rw is refl, (refl, rw (signed z h) refl, tt)))); once = refl; valued = refl; none = refl; values = rw (wide n c, small f lt, is, signed z h) refl }
+pub count_date : (e : Option ℤ) → IfSome e IsExptime → IsDate Count e
+count_date None h = tt
+count_date (Some z) h = (refl, signed z h)
 
-pub count_values : (c : Option ℕ) (d : ℕ) (op m : Op) (e : Option ℤ) → IfSome c (λ n. n < 2 ^ 64) → d < 2 ^ 64 → mode_of Count (mode_letter op ∷ []) ≡ Some m → IfSome e IsExptime → AreValued Count (cas_words c ++ (68 ∷ decimal d) ∷ mode_word op ∷ exptime_words e) (values c (Some d) e None (Some m))
-count_values None d op m None c lt is h = record { fit = (refl, rw (wide d lt) refl, (refl, rw is refl, tt)); once = refl; valued = refl; none = refl; values = rw (wide d lt, is) refl }
-count_values None d op m (Some z) c lt is h = record { fit = (refl, rw (wide d lt) refl, (refl, rw is refl, (refl, rw (signed z h) refl, tt))); once = refl; valued = refl; none = refl; values = rw (wide d lt, is, signed z h) refl }
-count_values (Some n) d op m None c lt is h = record { fit = (refl, rw (wide n c) refl, (refl, rw (wide d lt) refl, (refl, rw is refl, tt))); once = refl; valued = refl; none = refl; values = rw (wide n c, wide d lt, is) refl }
-count_values (Some n) d op m (Some z) c lt is h = record { fit = (refl, rw (wide n c) refl, (refl, rw (wide d lt) refl, (refl, rw is refl, (refl, rw (signed z h) refl, tt)))); once = refl; valued = refl; none = refl; values = rw (wide n c, wide d lt, is, signed z h) refl }
+pub get_values : AreValued Get [] (values None None None None)
+get_values = record { fit = tt; once = refl; valued = refl; none = refl; values = refl; undated = refl }
+
+pub delete_values : (c : Option ℕ) → IfSome c (λ n. n < 2 ^ 64) → AreValued Delete (cas_words c) (values c None None None)
+delete_values None h = record { fit = tt; once = refl; valued = refl; none = refl; values = refl; undated = refl }
+delete_values (Some n) h = record { fit = (refl, rw (wide n h) refl, tt); once = refl; valued = refl; none = refl; values = rw (wide n h) refl; undated = refl }
+
+pub store_values : (c : Option ℕ) (f : ℕ) (op m : Op) → IfSome c (λ n. n < 2 ^ 64) → f < 2 ^ 32 → mode_of Store (mode_letter op ∷ []) ≡ Some m → AreValued Store (cas_words c ++ (70 ∷ decimal f) ∷ mode_word op ∷ []) (values c None (Some f) (Some m))
+store_values None f op m c lt is = record { fit = (refl, rw (small f lt) refl, (refl, rw is refl, tt)); once = refl; valued = refl; none = refl; values = rw (small f lt, is) refl; undated = refl }
+store_values (Some n) f op m c lt is = record { fit = (refl, rw (wide n c) refl, (refl, rw (small f lt) refl, (refl, rw is refl, tt))); once = refl; valued = refl; none = refl; values = rw (wide n c, small f lt, is) refl; undated = refl }
+
+pub count_values : (c : Option ℕ) (d : ℕ) (op m : Op) → IfSome c (λ n. n < 2 ^ 64) → d < 2 ^ 64 → mode_of Count (mode_letter op ∷ []) ≡ Some m → AreValued Count (cas_words c ++ (68 ∷ decimal d) ∷ mode_word op ∷ []) (values c (Some d) None (Some m))
+count_values None d op m c lt is = record { fit = (refl, rw (wide d lt) refl, (refl, rw is refl, tt)); once = refl; valued = refl; none = refl; values = rw (wide d lt, is) refl; undated = refl }
+count_values (Some n) d op m c lt is = record { fit = (refl, rw (wide n c) refl, (refl, rw (wide d lt) refl, (refl, rw is refl, tt))); once = refl; valued = refl; none = refl; values = rw (wide n c, wide d lt, is) refl; undated = refl }

@@ -18,22 +18,21 @@ led-append (w ∷ a) b = ap (λ (t : List ℕ). 32 ∷ w ++ t) (led-append a b) 
 pub led-joined : (o : List ℕ) (x y : List Word) (a b : List ℕ) → a ≡ o ++ led x → b ≡ a ++ led y → b ≡ o ++ led (x ++ y)
 led-joined o x y a b e f = joined o (led x) (led y) a b e f ∙ ap (λ (t : List ℕ). o ++ t) (sym (led-append x y))
 
--- four lists of words
-pub led-four : (o : List ℕ) (c : List Word) (w m : Word) (e : List Word) (o1 o2 o3 o4 : List ℕ) → o1 ≡ o ++ led c → o2 ≡ o1 ++ led (w ∷ []) → o3 ≡ o2 ++ led (m ∷ []) → o4 ≡ o3 ++ led e → o4 ≡ o ++ led (c ++ w ∷ m ∷ e)
-led-four o c w m e o1 o2 o3 o4 a b d f =
+-- three lists of words
+pub led-three : (o : List ℕ) (c : List Word) (w m : Word) (o1 o2 o3 : List ℕ) → o1 ≡ o ++ led c → o2 ≡ o1 ++ led (w ∷ []) → o3 ≡ o2 ++ led (m ∷ []) → o3 ≡ o ++ led (c ++ w ∷ m ∷ [])
+led-three o c w m o1 o2 o3 a b d =
     let two = led-joined o c (w ∷ []) o1 o2 a b in
     let three = led-joined o (c ++ w ∷ []) (m ∷ []) o2 o3 two d in
-    let four = led-joined o ((c ++ w ∷ []) ++ m ∷ []) e o3 o4 three f in
-    let group : ((c ++ w ∷ []) ++ m ∷ []) ++ e ≡ c ++ w ∷ m ∷ e = append_assoc (c ++ w ∷ []) (m ∷ []) e ∙ append_assoc c (w ∷ []) (m ∷ e) in
-    four ∙ ap (λ (ws : List Word). o ++ led ws) group
+    three ∙ ap (λ (ws : List Word). o ++ led ws) (append_assoc c (w ∷ []) (m ∷ []))
 
 -- the words after a command word
-pub led-words : (o : List ℕ) (key : Word) (n tokens values : List Word) (o1 o2 o3 o4 : List ℕ) → o1 ≡ o ++ led (key ∷ []) → o2 ≡ o1 ++ led n → o3 ≡ o2 ++ led tokens → o4 ≡ o3 ++ led values → o4 ≡ o ++ led (key ∷ n ++ (tokens ++ values))
-led-words o key n tokens values o1 o2 o3 o4 a b d f =
+pub led-words : (o : List ℕ) (key : Word) (n expiry tokens values : List Word) (o1 o2 o3 o4 o5 : List ℕ) → o1 ≡ o ++ led (key ∷ []) → o2 ≡ o1 ++ led n → o3 ≡ o2 ++ led expiry → o4 ≡ o3 ++ led tokens → o5 ≡ o4 ++ led values → o5 ≡ o ++ led (key ∷ n ++ (expiry ++ (tokens ++ values)))
+led-words o key n expiry tokens values o1 o2 o3 o4 o5 a b d f g =
     let two = led-joined o (key ∷ []) n o1 o2 a b in
-    let three = led-joined o (key ∷ n) tokens o2 o3 two d in
-    let four = led-joined o (key ∷ n ++ tokens) values o3 o4 three f in
-    four ∙ ap (λ (ws : List Word). o ++ led (key ∷ ws)) (append_assoc n tokens values)
+    let three = led-joined o (key ∷ n) expiry o2 o3 two d in
+    let four = led-joined o (key ∷ n ++ expiry) tokens o3 o4 three f in
+    let five = led-joined o (key ∷ (n ++ expiry) ++ tokens) values o4 o5 four g in
+    five ∙ ap (λ (ws : List Word). o ++ led (key ∷ ws)) (append_assoc (n ++ expiry) tokens values ∙ append_assoc n expiry (tokens ++ values))
 
 -- a word and those after it
 spaced-led : (w : Word) (ws : List Word) → w ++ led ws ≡ spaced (w ∷ ws)

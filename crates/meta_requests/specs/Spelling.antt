@@ -73,16 +73,16 @@ exptime_words (Some exptime) = (84 ∷ signed_decimal exptime) ∷ []
 abbrev pub mode_word : Op → Word
 mode_word op = 77 ∷ mode_letter op ∷ []
 
--- the flags with a value, in the order `C D F M T`: `F M T` always on `ms`, `D M` always on `ma`
+-- the flags with a value but the expiry, in the order `C D F M`: `F M` always on `ms`, `D M` always on `ma`
 abbrev pub value_words : Kind → Ask → List Word
-value_words Get ask = exptime_words ask.exptime
-value_words Store ask = cas_words ask.cas ++ (70 ∷ decimal ask.flags) ∷ mode_word ask.op ∷ exptime_words ask.exptime
+value_words Get ask = []
+value_words Store ask = cas_words ask.cas ++ (70 ∷ decimal ask.flags) ∷ mode_word ask.op ∷ []
 value_words Delete ask = cas_words ask.cas
-value_words Count ask = cas_words ask.cas ++ (68 ∷ decimal ask.delta) ∷ mode_word ask.op ∷ exptime_words ask.exptime
+value_words Count ask = cas_words ask.cas ++ (68 ∷ decimal ask.delta) ∷ mode_word ask.op ∷ []
 
--- what is wanted back, in the ask's order, and then the flags with a value
+-- the expiry, what is wanted back, in the ask's order, and then the other flags with a value: a server that takes flags in their order sets the expiry before it tells the time to live
 abbrev pub flag_words : Kind → Ask → List Word
-flag_words kind ask = token_words ask.tokens ++ value_words kind ask
+flag_words kind ask = exptime_words ask.exptime ++ (token_words ask.tokens ++ value_words kind ask)
 
 -- the length of the data, on `ms` alone
 abbrev pub length_words : Kind → Ask → List Word

@@ -106,25 +106,24 @@ fn put_exptime(out: &mut BytesMut, exptime: Option<i64>) -> Result<(), AllocErro
     }
 }
 
-// A cas number, a number with its letter, a mode, an exptime.
+// A cas number, a number with its letter, a mode.
 fn put_counted(out: &mut BytesMut, letter: &[u8], n: u64, ask: &Ask) -> Result<(), AllocError>
-    ensures ok { OnOk result (out.new.items ≡ out.old.items ++ led (cas_words ask.now.cas ++ (letter.now ++ decimal n) ∷ mode_word ask.now.op ∷ exptime_words ask.now.exptime)) }
+    ensures ok { OnOk result (out.new.items ≡ out.old.items ++ led (cas_words ask.now.cas ++ (letter.now ++ decimal n) ∷ mode_word ask.now.op ∷ [])) }
     ensures err { OnErr result (take (length out.old.items) out.new.items ≡ out.old.items) }
 {
     let mut buffer = Buffer::new();
     put_cas(out, ask.cas)?;
     put_word(out, letter, buffer.format(n).as_bytes())?;
-    put_word(out, b"M", mode_text(ask.op))?;
-    put_exptime(out, ask.exptime)
+    put_word(out, b"M", mode_text(ask.op))
 }
 
-// The flags with a value.
+// The flags with a value but the expiry.
 fn put_values(out: &mut BytesMut, kind: Kind, ask: &Ask) -> Result<(), AllocError>
     ensures ok { OnOk result (out.new.items ≡ out.old.items ++ led (value_words kind ask.now)) }
     ensures err { OnErr result (take (length out.old.items) out.new.items ≡ out.old.items) }
 {
     match kind {
-        Kind::Get => put_exptime(out, ask.exptime),
+        Kind::Get => Ok(()),
         Kind::Store => put_counted(out, b"F", u64::from(ask.flags), ask),
         Kind::Delete => put_cas(out, ask.cas),
         Kind::Count => put_counted(out, b"D", ask.delta, ask),
@@ -162,6 +161,7 @@ fn put_words(out: &mut BytesMut, kind: Kind, ask: &Ask) -> Result<(), AllocError
 {
     put_word(out, b"", ask.key.as_bytes())?;
     put_length(out, kind, ask)?;
+    put_exptime(out, ask.exptime)?;
     put_tokens(out, ask.tokens.as_slice())?;
     put_values(out, kind, ask)
 }
@@ -184,9 +184,11 @@ fn put_ask(out: &mut BytesMut, ask: &Ask) -> Result<(), AllocError>
     put_block(out, kind, ask.body.as_slice())
 }
 
-/// Appends the one spelling of a meta ask: its command word, its key, the length of the data of `ms`, its return flags and
-/// `O` in the ask's order, and then those of `C D F M T`, in this order, that it has (`F M T` always on `ms`, `D M` always
-/// on `ma`), without `q`; the line's end, and after that of `ms` its data and `\r\n`.
+/// Appends the one spelling of a meta ask: its command word, its key, the length of the data of `ms`, its expiry `T` if it has one, its return
+/// flags and `O` in the ask's order, and then those of `C D F M`, in this order, that it has (`T F M` always on `ms`, `D M` always on `ma`),
+/// without `q`; the line's end, and after that of `ms` its data and `\r\n`.
+///
+/// The expiry stands before the return flags since memcached takes flags in their order: after it `t` tells the new time to live.
 ///
 /// The only error is running out of memory, which leaves the buffer as it was.
 pub fn write_ask(ask: &Ask, out: &mut BytesMut) -> Result<(), AllocError>

@@ -4,9 +4,9 @@ ghost use Rattle.std.specs.Prelude.{◌≡◌};
 ghost use Rattle.clap.specs.Values.{kind_of};
 ghost use Rattle.program.specs.Stops.{arguments_fault_at};
 
-use crate::cache_arguments::{CacheJob, cache_command, cache_job};
-use crate::loopback_arguments::{loopback_command, loopback_job};
-use crate::serve_arguments::{ServeJob, serve_command, serve_job};
+use crate::cache_arguments::{CACHE_HELP, CacheJob, cache_command, cache_job};
+use crate::loopback_arguments::{LOOPBACK_HELP, loopback_command, loopback_job};
+use crate::serve_arguments::{SERVE_HELP, ServeJob, serve_command, serve_job};
 use clap::error::ErrorKind;
 use clap::{Arg, ArgAction, ArgMatches, Command, Error};
 use config_check::Form;
@@ -94,7 +94,7 @@ usage: mcgate check [--explain | --dot] [FILE]
        mcgate cache --listen HOST:PORT --capacity C
                                      be a memcached server of C items
        mcgate loopback [SCRIPT]      run a script with proxy, clients and servers as ends of TCP connections
-       mcgate [COMMAND] --help       print this, or more of a command
+       mcgate help [COMMAND]         print this, or more of a command; so do -h and --help after it
        mcgate --version              print the version
 
 Without FILE or SCRIPT the input is standard input. Without any arguments mcgate is mcgate replay.
@@ -151,6 +151,7 @@ Exit status: 0 done, 1 too many places or a KEY that is none, 2 bad arguments or
 pub fn help_flag<'a>(alloc: Global) -> Arg<'a> {
     Arg::new(alloc, "help")
         .long("help")
+        .short('h')
         .action(ArgAction::SetTrue)
 }
 
@@ -218,6 +219,13 @@ fn where_command<'a>(alloc: Global) -> Result<Command<'a>, AllocError> {
         .arg(keys)
 }
 
+fn help_command<'a>(alloc: Global) -> Result<Command<'a>, AllocError> {
+    Command::new(alloc, "help")
+        .disable_help_flag(true)
+        .arg(help_flag(alloc))?
+        .arg(Arg::new(alloc, "COMMAND"))
+}
+
 fn command<'a>(alloc: Global) -> Result<Command<'a>, AllocError> {
     let version = Arg::new(alloc, "version")
         .long("version")
@@ -232,6 +240,7 @@ fn command<'a>(alloc: Global) -> Result<Command<'a>, AllocError> {
         .subcommand(where_command(alloc)?)?
         .subcommand(cache_command(alloc)?)?
         .subcommand(loopback_command(alloc)?)?
+        .subcommand(help_command(alloc)?)?
         .subcommand(serve_command(alloc)?)
 }
 
@@ -301,6 +310,29 @@ fn where_job<'a>(alloc: Global, given: &ArgMatches<'a>) -> Result<Job<'a>, Argum
     Ok(Job::Where { file, keys })
 }
 
+// What a command's help says.
+fn help_of(name: &str) -> Result<&'static str, ArgumentsFault> {
+    match name {
+        "check" => Ok(CHECK_HELP),
+        "replay" => Ok(REPLAY_HELP),
+        "where" => Ok(WHERE_HELP),
+        "cache" => Ok(CACHE_HELP),
+        "loopback" => Ok(LOOPBACK_HELP),
+        "serve" => Ok(SERVE_HELP),
+        "help" => Ok(HELP),
+        _ => Err(ArgumentsFault::Refused),
+    }
+}
+
+// What the arguments after `help` ask for.
+fn help_job<'a>(given: &ArgMatches<'a>) -> Result<Job<'a>, ArgumentsFault> {
+    let text = match given.get_str("COMMAND") {
+        None => HELP,
+        Some(name) => help_of(name)?,
+    };
+    Ok(Job::Print(text))
+}
+
 // What arguments without a command ask for.
 fn plain_job<'a>(given: &ArgMatches<'a>) -> Job<'a> {
     if given.get_flag("help") {
@@ -317,7 +349,7 @@ fn plain_job<'a>(given: &ArgMatches<'a>) -> Job<'a> {
 
 /// What the arguments ask for, the program's name first: `check [--explain | --dot] [FILE]`, `replay [--any] [--config FILE] [SCRIPT]`,
 /// `where --config FILE KEY..`, `cache --listen HOST:PORT --capacity C [--turns N]`, `loopback [SCRIPT]`, `serve` with its flags, or none
-/// at all after it, which is `replay`. Also `--help`, before or after a command, and `--version`.
+/// at all after it, which is `replay`. Also `help [COMMAND]`, `-h` and `--help`, before or after a command, and `--version`.
 ///
 /// A KEY that is none is [`ArgumentsFault::Key`], and any other arguments are [`ArgumentsFault::Refused`].
 pub fn read_arguments<'a>(
@@ -334,6 +366,7 @@ pub fn read_arguments<'a>(
         Some(("cache", given)) => cache_job(given),
         Some(("loopback", given)) => Ok(loopback_job(given)),
         Some(("serve", given)) => serve_job(given),
+        Some(("help", given)) => help_job(given),
         Some((_, given)) => Ok(replay_job(given)),
         None => Ok(plain_job(&matches)),
     }

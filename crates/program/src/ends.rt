@@ -211,14 +211,14 @@ fn find_in_text<W: Write>(alloc: Global, keys: &[Key], text: &str, out: &mut W) 
 pub fn run_keys<W: Write>(
     alloc: Global,
     keys: &[Key],
-    input: Result<String, InputFault>,
+    input: &Result<String, InputFault>,
     out: &mut W,
 ) -> Result<u8, Stop>
-    ensures { AnswersBy (λ text old new status. FindsKeys text keys.now old new status) SaysNothing NeverOverruns input (W.contents out.old) (W.contents out.new) result }
+    ensures { AnswersBy (λ text old new status. FindsKeys text keys.now old new status) SaysNothing NeverOverruns input.now (W.contents out.old) (W.contents out.new) result }
 {
     match input {
         Ok(text) => find_in_text(alloc, keys, text.as_str(), out),
-        Err(fault) => decline(fault, out),
+        Err(fault) => decline(*fault, out),
     }
 }
 
@@ -240,15 +240,15 @@ fn config_of<W: Write>(alloc: Global, text: &str, out: &mut W) -> Result<Option<
 /// The faults are as those of [`run_input`].
 pub fn read_configuration<W: Write>(
     alloc: Global,
-    input: Result<String, InputFault>,
+    input: &Result<String, InputFault>,
     out: &mut W,
 ) -> Result<Option<Config>, Stop>
-    ensures { ReadsConfig input (W.contents out.old) (W.contents out.new) result }
+    ensures { ReadsConfig input.now (W.contents out.old) (W.contents out.new) result }
 {
     match input {
         Ok(text) => config_of(alloc, text.as_str(), out),
         Err(fault) => {
-            decline(fault, out)?;
+            decline(*fault, out)?;
             Ok(None)
         }
     }

@@ -4,6 +4,7 @@
 pub mod arguments;
 pub mod bad_lines;
 pub mod cache_arguments;
+pub mod details;
 pub mod ends;
 pub mod input;
 pub mod loopback_arguments;

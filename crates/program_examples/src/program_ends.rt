@@ -50,8 +50,8 @@ fn refused() -> &'static str {
     "mcgate play
 mcgate 
 mcgate --any
-mcgate -h
-mcgate help
+mcgate help chek
+mcgate help check serve
 mcgate check --any
 mcgate where k
 mcgate where --config c
@@ -200,6 +200,11 @@ fn a_key_with_a_space(rt: HostRuntime) -> Result<(), Fail> {
 fn help_and_version(rt: HostRuntime) -> Result<(), Fail> {
     let cases = [
         ("mcgate --help", "mcgate sends"),
+        ("mcgate -h", "mcgate sends"),
+        ("mcgate help", "mcgate sends"),
+        ("mcgate help where", "usage: mcgate where "),
+        ("mcgate help serve", "usage: mcgate serve "),
+        ("mcgate cache -h", "usage: mcgate cache "),
         ("mcgate check --help", "usage: mcgate check "),
         ("mcgate replay --help", "usage: mcgate replay "),
         ("mcgate --version", "mcgate 1\n"),
@@ -299,7 +304,8 @@ fn is_there(config: Option<Config>) -> bool {
 }
 
 fn is_read(alloc: Global, text: &str, out: &mut Vec<u8>) -> Result<bool, Fail> {
-    match read_configuration(alloc, input_of(alloc, text), out) {
+    let input = input_of(alloc, text);
+    match read_configuration(alloc, &input, out) {
         Ok(config) => Ok(is_there(config)),
         Err(_) => Err(Fail::from("stopped")),
     }

@@ -206,6 +206,32 @@ impl Link {
         }
     }
 
+    /// Whether more may have come over it than was read.
+    pub fn may_have_more(&self) -> bool {
+        match &self.conn {
+            Some(conn) => conn.readable,
+            None => false,
+        }
+    }
+
+    /// The system is asked whether its connection stands by now, though it told of nothing: whether that is news. Where it stood before, a read may
+    /// give something.
+    pub fn look_again(&mut self) -> bool {
+        let Some(conn) = self.conn.as_mut() else {
+            return false;
+        };
+        if self.is_connected {
+            conn.readable = true;
+            return false;
+        }
+        if conn.stream.peer_addr().is_err() {
+            return false;
+        }
+        conn.readable = true;
+        conn.writable = true;
+        self.stand()
+    }
+
     /// Whether a call fails at once: the server failed too many times in a row, and either it isn't to be tried yet, or a call tries.
     pub fn is_held_back(&self, now: u64, settings: &Settings) -> bool {
         settings.fail_limit <= self.failures && (now < self.held_until || !self.calls.is_empty())

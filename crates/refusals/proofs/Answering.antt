@@ -151,6 +151,7 @@ drives_leak tree events given marks report d t =
       replied = d.replied;
       servers = d.servers;
       world = d.world;
+      loses = d.loses;
       leaks = λ fresh.
           not_false (nat_eq report.stale 0) t (eq-eqb report.stale 0 (d.stale ∙ (counts_stale (tree_words plans) (bars_by Alone plans) (opening_of events) (alone plans)).none (run_of d.log) d.run fresh));
     }

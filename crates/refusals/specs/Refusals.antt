@@ -4,7 +4,7 @@ use Rattle.mc_types.specs.declared.ask.Op.TheVariants.{Delete}
 use Rattle.mc_runs.specs.Log.{Scripted}
 use Rattle.mc_runs.specs.Overlap.{Entry, run_of}
 use Rattle.mc_runs.specs.OverlapStream.{stream_of}
-use Rattle.mc_runs.specs.Sharing.{IsFreshByNumber, commands_in}
+use Rattle.mc_runs.specs.Sharing.{LosesOnly, IsFreshByNumber, commands_in}
 use Rattle.route_tree.specs.Place.{tree_at_place}
 use Rattle.route_tree.specs.At.{tree_at}
 use Rattle.route_tree.specs.Route.{Route}
@@ -46,7 +46,7 @@ pub record IsRealGap (tree : Route) (gap : Gap) : Type 0 where
   pub at : gap.place ≡ place_at class.prefix gap.place.residue table.modulus
   pub gap_at : IsGapAt (tree_at_place tree gap.place) (tree_at_place tree gap.place) gap.server gap.op gap.deleting
 
--- a log of the script as it is driven, each command alone on its key: its clients say what the script says and have all their replies, calls have the results that the script and the tables of servers make, and its run isn't fresh
+-- a log of the script as it is driven, each command alone on its key: its clients say what the script says and have all their replies, calls have the results that the script and the tables of servers make, nobody but the core writes the servers, and its run isn't fresh
 pub record LeaksStepped (tree : Route) (events : List Scripted) : Type 0 where
   pub log : List (Entry dialect)
   pub follows : FollowsBy tree [] events log
@@ -55,6 +55,7 @@ pub record LeaksStepped (tree : Route) (events : List Scripted) : Type 0 where
   pub replied : replied_in (run_of log) ≡ commands_in (run_of log)
   pub servers : ScriptServers
   pub world : World events events log servers
+  pub loses : LosesOnly (run_of log)
   pub leaks : IsFreshByNumber (opening_of events) (run_of log) → ⊥
 
 -- over the configuration's servers each of the events can be, so that the script can be driven; and it has a log, by the tree's words and with each command alone on its key, whose run isn't fresh: one of these events, whatever the servers' tables, or one as it is driven

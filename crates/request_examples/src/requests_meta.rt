@@ -199,38 +199,38 @@ fn requests_cut_anywhere(rt: HostRuntime) {
     }
 }
 
-// The ask's return flags and `O` in their order, then those of `C D F M T` that it has; `q` and what is left out aren't kept.
+// `T`, if it has one, the ask's return flags and `O` in their order, then those of `C D F M` that it has; `q` and what is left out aren't kept.
 #[test]
 fn meta_flags_in_order(rt: HostRuntime) -> Result<(), Fail> {
     for (bytes, want) in [
         (b"mg a\r\n".as_slice(), b"mg a\r\n".as_slice()),
         (
             b"mg  a v Oxyz q T030 t s k f c\n".as_slice(),
-            b"mg a v Oxyz t s k f c T30\r\n".as_slice(),
+            b"mg a T30 v Oxyz t s k f c\r\n".as_slice(),
         ),
         (
             b"ms a 1\r\nx\r\n".as_slice(),
-            b"ms a 1 F0 MS T0\r\nx\r\n".as_slice(),
+            b"ms a 1 T0 F0 MS\r\nx\r\n".as_slice(),
         ),
         (
             b"ms a 01 T-0 Mr q k F7 Ox c\r\nx\r\n".as_slice(),
-            b"ms a 1 k Ox c F7 MR T0\r\nx\r\n".as_slice(),
+            b"ms a 1 T0 k Ox c F7 MR\r\nx\r\n".as_slice(),
         ),
         (
             b"ms a 0 Ms C5\r\n\r\n".as_slice(),
-            b"ms a 0 C5 F0 MS T0\r\n\r\n".as_slice(),
+            b"ms a 0 T0 C5 F0 MS\r\n\r\n".as_slice(),
         ),
         (
             b"ms a 2 ME\r\n\r\n\r\n".as_slice(),
-            b"ms a 2 F0 ME T0\r\n\r\n\r\n".as_slice(),
+            b"ms a 2 T0 F0 ME\r\n\r\n\r\n".as_slice(),
         ),
         (
             b"ms a 1 Ma\nx\r\n".as_slice(),
-            b"ms a 1 F0 MA T0\r\nx\r\n".as_slice(),
+            b"ms a 1 T0 F0 MA\r\nx\r\n".as_slice(),
         ),
         (
             b"ms a 1 Mp\nx\r\n".as_slice(),
-            b"ms a 1 F0 MP T0\r\nx\r\n".as_slice(),
+            b"ms a 1 T0 F0 MP\r\nx\r\n".as_slice(),
         ),
         (
             b"md a q Ox C9 k\r\n".as_slice(),
@@ -239,7 +239,7 @@ fn meta_flags_in_order(rt: HostRuntime) -> Result<(), Fail> {
         (b"ma a\r\n".as_slice(), b"ma a D1 MI\r\n".as_slice()),
         (
             b"ma a T60 M- D9 v C3 t\r\n".as_slice(),
-            b"ma a v t C3 D9 MD T60\r\n".as_slice(),
+            b"ma a T60 v t C3 D9 MD\r\n".as_slice(),
         ),
         (b"ma a M+\r\n".as_slice(), b"ma a D1 MI\r\n".as_slice()),
         (b"ma a Md k\r\n".as_slice(), b"ma a k D1 MD\r\n".as_slice()),

@@ -1,4 +1,4 @@
-//! A law of configurations: a function without a body, whose contract is the law; code uses it by a call.
+//! A law of configurations: a function without a body, whose contract is the law; proofs cite its lemma.
 
 ghost use Rattle.route_json.specs.DirectServers.{DirectServersAreBelow};
 

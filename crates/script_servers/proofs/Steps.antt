@@ -10,7 +10,7 @@ use Rattle.mc_types.specs.Agree.{Agrees}
 use Rattle.mc_runs.specs.Run.{End, Read, Unread, Never, outcome_of}
 use Rattle.mc_runs.specs.Fleet.{StampIn}
 use Rattle.mc_runs.specs.Single.{FitsOutcome}
-use Rattle.mc_runs.specs.Sharing.{Event, Begins, Replies, Breaks, Loses, Restarts}
+use Rattle.mc_runs.specs.Sharing.{Event, Begins, Replies, Breaks, Turns, Restarts}
 use Rattle.mc_runs.specs.Sharing as run
 use Rattle.mc_runs.specs.SharingFleet.{Fleet, after_losses, AreLosses}
 use Rattle.mc_runs.specs.ScriptLog.{lost_by}
@@ -34,7 +34,7 @@ use Rattle.script_servers.specs.declared.servers.ScriptServers.{ScriptServers}
 
 abbrev is_gone : List Event → ℕ → List ℕ → Bool
 is_gone [] s k = false
-is_gone (Loses server key ∷ es) s k = cond (cond (nat_eq server s) (bytes_eq key k) false) true (is_gone es s k)
+is_gone (Turns server key turned ∷ es) s k = cond (cond (nat_eq server s) (bytes_eq key k) false) true (is_gone es s k)
 is_gone (Restarts server ∷ es) s k = cond (nat_eq server s) true (is_gone es s k)
 is_gone (Begins n a ∷ es) s k = false
 is_gone (run.Calls a b c d e ∷ es) s k = false
@@ -52,7 +52,9 @@ all_gone false c o = refl
 
 left : (es : List Event) → AreLosses es → (h : ℕ → List ℕ → Option Item) (s : ℕ) (k : List ℕ) → after_losses es h s k ≡ cond (is_gone es s k) None (h s k)
 left [] l h s k = refl
-left (Loses server key ∷ es) l h s k = ap (λ o. cond (nat_eq server s) (cond (bytes_eq key k) None o) o) (left es l h s k) ∙ key_gone (nat_eq server s) (bytes_eq key k) (is_gone es s k) (h s k)
+left (Turns server key turned ∷ es) l h s k =
+    ap (λ t. cond (nat_eq server s) (cond (bytes_eq key k) t (after_losses es h s k)) (after_losses es h s k)) l.0 ∙ ap (λ o. cond (nat_eq server s) (cond (bytes_eq key k) None o) o) (left es l.1 h s k)
+    ∙ key_gone (nat_eq server s) (bytes_eq key k) (is_gone es s k) (h s k)
 left (Restarts server ∷ es) l h s k = ap (λ o. cond (nat_eq server s) None o) (left es l h s k) ∙ all_gone (nat_eq server s) (is_gone es s k) (h s k)
 left (Begins n a ∷ es) l h s k = absurd l
 left (run.Calls a b c d e ∷ es) l h s k = absurd l
@@ -77,9 +79,9 @@ in_any_order xs ys lx ly h s k =
 -- ---- losses of a script, and what a server drops by itself
 
 losses_more : (es : List Event) (loss : Loss) → AreLosses es → AreLosses (es ++ lost_by (told_of loss) ∷ [])
-losses_more [] (LostItem server key) l = tt
+losses_more [] (LostItem server key) l = (refl, tt)
 losses_more [] (Restart server) l = tt
-losses_more (Loses server key ∷ es) loss l = losses_more es loss l
+losses_more (Turns server key turned ∷ es) loss l = (l.0, losses_more es loss l.1)
 losses_more (Restarts server ∷ es) loss l = losses_more es loss l
 losses_more (Begins n a ∷ es) loss l = absurd l
 losses_more (run.Calls a b c d e ∷ es) loss l = absurd l
@@ -92,7 +94,7 @@ are_losses (loss ∷ more) = losses_more (events_of more) loss (are_losses more)
 
 are_spills : (server : ℕ) (keys : List (List ℕ)) → AreLosses (spills_of server keys)
 are_spills server [] = tt
-are_spills server (key ∷ keys) = are_spills server keys
+are_spills server (key ∷ keys) = (refl, are_spills server keys)
 
 spilled_else : (server : ℕ) (keys : List (List ℕ)) (h : ℕ → List ℕ → Option Item) (s : ℕ) (k : List ℕ) → nat_eq server s ≡ false → after_losses (spills_of server keys) h s k ≡ h s k
 spilled_else server [] h s k other = refl

@@ -1,12 +1,12 @@
 -- A call of a script's servers is a call of the log of runs. Source: mcgate's own.
-use Rattle.std.specs.Prelude.{◌≡◌, ℕ, ◌+◌, ℤ, nat_abs, List, [], ◌∷◌, ◌++◌, map, Option, Some, slice_get}
+use Rattle.std.specs.Prelude.{◌≡◌, ℕ, ◌+◌, ℤ, nat_abs, List, [], ◌∷◌, ◌++◌, map, Option, Some, None, slice_get}
 use Rattle.mc_types.specs.declared.ask.Ask.{Ask}
 use Rattle.mc_types.specs.declared.call.Origin.{Origin}
 use Rattle.mc_types.specs.Items.{Item}
 use Rattle.mc_runs.specs.Run.{End, Read, Unread, Never}
 use Rattle.mc_runs.specs.Fleet.{StampIn}
 use Rattle.mc_runs.specs.Single.{FitsOutcome}
-use Rattle.mc_runs.specs.Sharing.{Event, Loses}
+use Rattle.mc_runs.specs.Sharing.{Event, Turns}
 use Rattle.mc_runs.specs.SharingFleet.{Fleet, MakesCall, after_losses}
 use Rattle.cache_server.specs.Contents.{Contents}
 use Rattle.cache_server.specs.Held.{lost_by}
@@ -21,7 +21,7 @@ use Rattle.script_servers.specs.declared.servers.ScriptServers.{ScriptServers}
 -- the keys that a server drops by itself, as events
 abbrev pub spills_of : ℕ → List (List ℕ) → List Event
 spills_of server [] = []
-spills_of server (key ∷ keys) = Loses server key ∷ spills_of server keys
+spills_of server (key ∷ keys) = Turns server key None ∷ spills_of server keys
 
 -- the caches after the losses that are named for the next call
 abbrev pub caches_before : ScriptServers → List Contents

@@ -1,4 +1,4 @@
-//! A law of calls of a script's servers: a function without a body, whose contract is the law; code uses it by a call.
+//! A law of calls of a script's servers: a function without a body, whose contract is the law; proofs cite its lemma.
 ghost use Rattle.script_servers.specs.Law.{AnswersAreSteps};
 
 /// A call whose result came, with the stamp that its origin gives, is a call by the law of runs, just after the losses that are

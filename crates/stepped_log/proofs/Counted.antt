@@ -2,7 +2,7 @@
 use Rattle.std.proofs.Common.{◌≡◌, ℕ, ◌+◌, List, [], ◌∷◌, ◌++◌, length, Option, refl, sym, ap, ◌∙◌, arith}
 use Rattle.mc_types.specs.Items.{Item}
 use Rattle.mc_runs.specs.Run.{outcome_of}
-use Rattle.mc_runs.specs.Sharing.{Event, Begins, Calls, Replies, Breaks, Loses, Restarts, calls_in}
+use Rattle.mc_runs.specs.Sharing.{Event, Begins, Calls, Replies, Breaks, Turns, Restarts, calls_in}
 use Rattle.mc_runs.specs.Overlap.{Entry, Feeds, Starts, Sends, Happens, Ends, Shows, Passes, Gives, Drops, Frees, Resets, run_of}
 use Rattle.route_tree.specs.Route.{Route}
 use Rattle.proxy_core.specs.CoreState.{dialect}
@@ -25,7 +25,7 @@ one_event (Calls number server ask origin end) new old h =
 one_event (Begins number ask) new old h = record { calls = h.calls; are = h.are; counted = h.counted }
 one_event (Replies number key reply from) new old h = record { calls = h.calls; are = h.are; counted = h.counted }
 one_event (Breaks number) new old h = record { calls = h.calls; are = h.are; counted = h.counted }
-one_event (Loses server key) new old h = record { calls = h.calls; are = h.are; counted = h.counted }
+one_event (Turns server key turned) new old h = record { calls = h.calls; are = h.are; counted = h.counted }
 one_event (Restarts server) new old h = record { calls = h.calls; are = h.are; counted = h.counted }
 
 has_more : (more log : List (Entry dialect)) → HasMore (run_of (more ++ log)) (run_of log)

@@ -37,6 +37,7 @@ stands_new tree k begin =
       limits = begin.fresh.limits_are;
       served = λ c. refl;
       unbroken = refl;
+      loses = tt;
       holds = λ s key. refl;
       turn = sym begin.turn;
       out = λ s. ap (calls_at s) (sym begin.out);
@@ -84,6 +85,7 @@ stands_loaded opening first loads log tree old new s step rest =
       limits = ap (λ x. x.limits) step.core_is ∙ s.limits;
       served = s.served;
       unbroken = s.unbroken;
+      loses = s.loses;
       holds = λ a key. s.holds a key ∙ ap (λ c. held_at c a key) (sym rest.servers.caches);
       turn = s.turn ∙ sym rest.servers.turn;
       out = λ a. s.out a ∙ ap (calls_at a) (sym rest.out);
@@ -122,9 +124,10 @@ says opening tree log k s =
       begun = s.leads.count;
       ended = s.commands;
       unbroken = s.unbroken;
+      loses = s.loses;
       calls = sym s.turn ∙ s.leads.turn;
       stale = stale;
       fresh = λ covered.
-          let by : IsFreshByNumber opening (run_of log) = fresh_by_number words Bars covered (alone plans) opening _ run in
+          let by : IsFreshByNumber opening (run_of log) = fresh_by_number words Bars covered (alone plans) opening _ s.loses run in
           (by, stale ∙ counts.none _ run by);
     }

@@ -30,6 +30,7 @@ gives_go_on opening tree log client bytes old new stands step rest =
         limits = g.6 ∙ stands.limits;
         served = stands.served;
         unbroken = stands.unbroken;
+        loses = stands.loses;
         holds = λ s key. ap (λ h. h s key) same.holds ∙ stands.holds s key ∙ sym (ap (λ c. held_at c s key) rest.servers.caches);
         turn = same.turn ∙ stands.turn ∙ sym rest.servers.turn;
         out = λ s. stands.out s ∙ ap (calls_at s) (sym rest.out);

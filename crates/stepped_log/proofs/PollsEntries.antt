@@ -60,7 +60,7 @@ module _ (at : ℕ → List ℕ → Plan) (Bars : ℕ → Ask → ℕ → Ask �
     passed : (log : List (Entry dialect)) (client : ℕ) (message : Message) (next : dialect.Place) (second : List (Entry dialect)) (k : Kept) → second ≡ Passes client message next ∷ [] → Tells opening base found log k → Tells opening base found (second ++ log) k
     passed log client message next second k is t =
         subst (λ l. Tells opening base found (l ++ log) k) (sym is)
-        (record { served = t.served; unbroken = t.unbroken; out = t.out; known = t.known; items = t.items; commands = t.commands; stale = t.stale; last = t.last; later = t.later; streams = t.streams; given = t.given })
+        (record { served = t.served; unbroken = t.unbroken; loses = t.loses; out = t.out; known = t.known; items = t.items; commands = t.commands; stale = t.stale; last = t.last; later = t.later; streams = t.streams; given = t.given })
 
     -- what a poll answers tells what came of the log
     polled : (log : List (Entry dialect)) (client : ℕ) (poll : Poll) (second : List (Entry dialect)) (old new : Kept) → Follows (tree_words at) Bars opening (second ++ log) → IsPolled client poll second → CountsPoll poll old new → Tells opening base found log old → Tells opening base found (second ++ log) new
@@ -122,6 +122,7 @@ polls_go_on opening tree log client poll old new stands p counts =
     let told : Tells opening log beside.found log old = record {
       served = stands.served;
       unbroken = stands.unbroken;
+      loses = stands.loses;
       out = stands.out;
       known = stands.known;
       items = λ n o e. stands.leads.found n o (stands.leads.owner n ∙ e);
@@ -145,6 +146,7 @@ polls_go_on opening tree log client poll old new stands p counts =
         limits = g.6 ∙ stands.limits;
         served = t.served;
         unbroken = t.unbroken;
+        loses = t.loses;
         holds = λ s key. ap (λ h. h s key) same.holds ∙ stands.holds s key ∙ sym (ap (λ c. held_at c s key) servers.caches);
         turn = same.turn ∙ stands.turn ∙ sym servers.turn;
         out = t.out;

@@ -13,7 +13,7 @@ use Rattle.mc_runs.specs.Run.{Call}
 use Rattle.mc_runs.specs.Cover.{IsAnswerOf}
 use Rattle.mc_runs.specs.Log.{Part}
 use Rattle.mc_runs.specs.Stale.{is_delete_op, stale_since}
-use Rattle.mc_runs.specs.Sharing.{Event, under_way, calls_so_far, item_at, IsNewNumber, commands_in}
+use Rattle.mc_runs.specs.Sharing.{Event, LosesOnly, under_way, calls_so_far, item_at, IsNewNumber, commands_in}
 use Rattle.mc_runs.specs.SharingStale.{is_acknowledged, last_gone, shown_item, tally_of}
 use Rattle.mc_runs.specs.Overlap.{Slot, Owner, Entry, Starts, Sends, Ends, Shows, Ticket as LogTicket, run_of, owner_of, out_of, given_of, is_dropped, Follows}
 use Rattle.mc_runs.specs.OverlapStream.{stream_of}
@@ -94,10 +94,11 @@ out_more s (u ∷ tickets) t =
 
 -- ---- what a log tells
 
--- of a log that came of another one: its clients are served, no command was broken off, which calls are out and what the calls of commands under way found is known, commands are counted, and no client said or was given more
+-- of a log that came of another one: its clients are served, no command was broken off, nobody but the core writes the servers, which calls are out and what the calls of commands under way found is known, commands are counted, and no client said or was given more
 pub record Tells (opening : ℕ → List ℕ → Option Item) (base : List (Entry dialect)) (found : ℕ → List (Option Item)) (log : List (Entry dialect)) (k : Kept) : Type 0 where
   pub served : (c : ℕ) → is_dropped log c ≡ false
   pub unbroken : broken_in (run_of log) ≡ 0
+  pub loses : LosesOnly (run_of log)
   pub out : (s : ℕ) → out_of log s ≡ calls_at s k.out
   pub known : (n : ℕ) (o : Owner) → owner_of log n ≡ Some o → AreFound (calls_so_far (run_of log) n) (found n) (k.stamps n)
   pub items : (n : ℕ) (o : Owner) → owner_of log n ≡ Some o → (i : ℕ) (item : Item) → slice_get (found n) i ≡ Some (Some item) → item_at opening (run_of log) n i ≡ Some item
@@ -115,6 +116,7 @@ module _ (opening : ℕ → List ℕ → Option Item) (base : List (Entry dialec
       record {
         served = t.served;
         unbroken = t.unbroken;
+        loses = t.loses;
         out = λ s. t.out s ∙ ap (calls_at s) (sym b.out);
         known = λ n o e. subst (AreFound (calls_so_far (run_of log) n) (found n)) (sym (b.found n)) (t.known n o e);
         items = t.items;
@@ -132,6 +134,7 @@ module _ (opening : ℕ → List ℕ → Option Item) (base : List (Entry dialec
       record {
         served = t.served;
         unbroken = t.unbroken;
+        loses = t.loses;
         out = λ s.
             ap (λ (ts : List LogTicket). cond (nat_eq ticket.server s) (ts ++ record { number = ticket.number; ask = ticket.ask; origin = ticket.origin } ∷ []) ts) (t.out s) ∙ sym (out_more s old.out ticket)
             ∙ ap (calls_at s) (sym b.out);
@@ -164,6 +167,7 @@ module _ (opening : ℕ → List ℕ → Option Item) (base : List (Entry dialec
       record {
         served = t.served;
         unbroken = t.unbroken;
+        loses = t.loses;
         out = t.out;
         known = λ n o e. begun_known n o e;
         items = λ n o e i item at. begun_items n o e i item at;
@@ -180,7 +184,7 @@ module _ (opening : ℕ → List ℕ → Option Item) (base : List (Entry dialec
   shown_more client [] log k t = t
   shown_more client (s ∷ shown) log k t =
       let r = shown_more client shown log k t in
-      record { served = r.served; unbroken = r.unbroken; out = r.out; known = r.known; items = r.items; commands = r.commands; stale = r.stale; last = r.last; later = r.later; streams = r.streams; given = r.given }
+      record { served = r.served; unbroken = r.unbroken; loses = r.loses; out = r.out; known = r.known; items = r.items; commands = r.commands; stale = r.stale; last = r.last; later = r.later; streams = r.streams; given = r.given }
 
   -- the stamp that is known of what a reply shows is that of the item which its call found
   stamp_is : (past : List Event) (number : ℕ) (from : Option ℕ) (reply : Answer) (stamps : List (Option ℕ)) → AreFound (calls_so_far past number) (found number) stamps → ((i : ℕ) (item : Item) → slice_get (found number) i ≡ Some (Some item) → item_at opening past number i ≡ Some item)
@@ -219,6 +223,7 @@ module _ (opening : ℕ → List ℕ → Option Item) (base : List (Entry dialec
         record {
           served = t.served;
           unbroken = t.unbroken;
+          loses = t.loses;
           out = λ s. t.out s ∙ ap (calls_at s) (sym counts.out);
           known = λ n o e. subst (AreFound (calls_so_far run n) (found n)) (sym (counts.stamps n)) (ended_known n o e);
           items = λ n o e i item at. ended_items n o e i item at;

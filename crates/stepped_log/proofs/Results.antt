@@ -43,7 +43,7 @@ use Rattle.stepped_log.proofs.ResultsFound.{stamp_in_turn, found_if, same_last}
 -- what a server drops by itself is lost
 are_spills : (server : ℕ) (keys : List (List ℕ)) → AreLosses (spills_of server keys)
 are_spills server [] = tt
-are_spills server (key ∷ keys) = are_spills server keys
+are_spills server (key ∷ keys) = (refl, are_spills server keys)
 
 -- a log leads by the same trees and limits
 led_there :
@@ -185,6 +185,7 @@ module _ (opening : ℕ → List ℕ → Option Item) (tree : ℕ → Route) (lo
               limits = limits ∙ stands.limits;
               served = λ c. alike.dropped c ∙ stands.served c;
               unbroken = alike.broken ∙ stands.unbroken;
+              loses = alike.loses stands.loses;
               holds = λ s key.
                   ap (λ (h : ℕ → List ℕ → Option Item). h s key) is.holds ∙ sym (step.call.holds s key) ∙ step.holds s key ∙ ap (λ l. held_at l s key) (sym caches);
               turn = is.turn ∙ ap (λ t. t + 1) stands.turn ∙ sym turn;

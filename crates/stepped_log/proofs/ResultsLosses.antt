@@ -4,7 +4,7 @@ use Rattle.mc_types.specs.declared.ask.Ask.{Ask}
 use Rattle.mc_types.specs.declared.call.Origin.{Origin}
 use Rattle.mc_types.specs.Items.{Item}
 use Rattle.mc_runs.specs.Run.{End}
-use Rattle.mc_runs.specs.Sharing.{Event, Begins, Calls, Replies, Breaks, Loses, Restarts, calls_so_far, commands_in}
+use Rattle.mc_runs.specs.Sharing.{Event, Begins, Calls, Replies, Breaks, Turns, Restarts, LosesOnly, calls_so_far, commands_in}
 use Rattle.mc_runs.specs.SharingFleet.{after_losses, AreLosses}
 use Rattle.mc_runs.specs.SharingStale.{tally_of, last_gone}
 use Rattle.mc_runs.specs.ScriptLog.{lost_by}
@@ -54,10 +54,10 @@ pub losses_lead : (x : Core) (beside : Beside) (lost : List Event) → AreLosses
 losses_lead x beside [] are =
     walks_lead (tree_words beside.at) (bars_of x beside) (state_of x beside) (state_of x (bereft [] beside)) []
     (record { may = tt; like = record { front = λ c. refl; queue = λ c. refl; output = λ c. refl; dropped = λ c. refl; number = refl; owner = λ n. refl; to_come = λ n o e calls reply from l. l; out = λ s. refl; holds = λ s k. refl; found = λ n o e. refl; turn = refl } })
-losses_lead x beside (Loses server key ∷ es) are =
-    one_more x beside (Loses server key) es tt
+losses_lead x beside (Turns server key turned ∷ es) are =
+    one_more x beside (Turns server key turned) es tt
     (record { front = λ c. refl; queue = λ c. refl; output = λ c. refl; dropped = λ c. refl; number = refl; owner = λ n. refl; to_come = λ n o e calls reply from l. l; out = λ s. refl; holds = λ s k. refl; found = λ n o e. refl; turn = refl })
-    (losses_lead x beside es are)
+    (losses_lead x beside es are.1)
 losses_lead x beside (Restarts server ∷ es) are =
     one_more x beside (Restarts server) es tt
     (record { front = λ c. refl; queue = λ c. refl; output = λ c. refl; dropped = λ c. refl; number = refl; owner = λ n. refl; to_come = λ n o e calls reply from l. l; out = λ s. refl; holds = λ s k. refl; found = λ n o e. refl; turn = refl })
@@ -76,6 +76,7 @@ pub record IsAlike (opening : ℕ → List ℕ → Option Item) (new old : List 
   pub begun : commands_in (run_of new) ≡ commands_in (run_of old)
   pub replied : replied_in (run_of new) ≡ replied_in (run_of old)
   pub broken : broken_in (run_of new) ≡ broken_in (run_of old)
+  pub loses : LosesOnly (run_of old) → LosesOnly (run_of new)
   pub tally : tally_of opening (run_of new) ≡ tally_of opening (run_of old)
   pub gone : (key : List ℕ) → last_gone (run_of new) key ≡ last_gone (run_of old) key
 
@@ -90,6 +91,7 @@ alike_then opening new mid old a b =
       begun = a.begun ∙ b.begun;
       replied = a.replied ∙ b.replied;
       broken = a.broken ∙ b.broken;
+      loses = λ l. a.loses (b.loses l);
       tally = a.tally ∙ b.tally;
       gone = λ key. a.gone key ∙ b.gone key;
     }
@@ -97,18 +99,18 @@ alike_then opening new mid old a b =
 -- after a call
 pub call_alike : (opening : ℕ → List ℕ → Option Item) (log : List (Entry dialect)) (number server : ℕ) (ask : Ask) (origin : Origin) (end : End) → IsAlike opening (Happens (Calls number server ask origin end) ∷ log) log
 call_alike opening log number server ask origin end =
-    record { dropped = λ c. refl; owner = λ n. refl; stream = λ c. refl; given = λ c. refl; begun = refl; replied = refl; broken = refl; tally = refl; gone = λ key. refl }
+    record { dropped = λ c. refl; owner = λ n. refl; stream = λ c. refl; given = λ c. refl; begun = refl; replied = refl; broken = refl; loses = λ l. l; tally = refl; gone = λ key. refl }
 
 -- after losses
 pub losses_alike : (opening : ℕ → List ℕ → Option Item) (log : List (Entry dialect)) (lost : List Event) → AreLosses lost → IsAlike opening (happened lost ++ log) log
-losses_alike opening log [] are = record { dropped = λ c. refl; owner = λ n. refl; stream = λ c. refl; given = λ c. refl; begun = refl; replied = refl; broken = refl; tally = refl; gone = λ key. refl }
-losses_alike opening log (Loses server key ∷ es) are =
-    alike_then opening (Happens (Loses server key) ∷ (happened es ++ log)) (happened es ++ log) log
-    (record { dropped = λ c. refl; owner = λ n. refl; stream = λ c. refl; given = λ c. refl; begun = refl; replied = refl; broken = refl; tally = refl; gone = λ key. refl })
-    (losses_alike opening log es are)
+losses_alike opening log [] are = record { dropped = λ c. refl; owner = λ n. refl; stream = λ c. refl; given = λ c. refl; begun = refl; replied = refl; broken = refl; loses = λ l. l; tally = refl; gone = λ key. refl }
+losses_alike opening log (Turns server key turned ∷ es) are =
+    alike_then opening (Happens (Turns server key turned) ∷ (happened es ++ log)) (happened es ++ log) log
+    (record { dropped = λ c. refl; owner = λ n. refl; stream = λ c. refl; given = λ c. refl; begun = refl; replied = refl; broken = refl; loses = λ l. (are.0, l); tally = refl; gone = λ key. refl })
+    (losses_alike opening log es are.1)
 losses_alike opening log (Restarts server ∷ es) are =
     alike_then opening (Happens (Restarts server) ∷ (happened es ++ log)) (happened es ++ log) log
-    (record { dropped = λ c. refl; owner = λ n. refl; stream = λ c. refl; given = λ c. refl; begun = refl; replied = refl; broken = refl; tally = refl; gone = λ key. refl })
+    (record { dropped = λ c. refl; owner = λ n. refl; stream = λ c. refl; given = λ c. refl; begun = refl; replied = refl; broken = refl; loses = λ l. l; tally = refl; gone = λ key. refl })
     (losses_alike opening log es are)
 losses_alike opening log (Begins number ask ∷ es) are = absurd are
 losses_alike opening log (Calls number server ask origin end ∷ es) are = absurd are
@@ -118,7 +120,7 @@ losses_alike opening log (Breaks number ∷ es) are = absurd are
 -- no command makes a call by losses
 pub calls_same : (log : List (Entry dialect)) (lost : List Event) → AreLosses lost → (n : ℕ) → calls_so_far (run_of (happened lost ++ log)) n ≡ calls_so_far (run_of log) n
 calls_same log [] are n = refl
-calls_same log (Loses server key ∷ es) are n = calls_same log es are n
+calls_same log (Turns server key turned ∷ es) are n = calls_same log es are.1 n
 calls_same log (Restarts server ∷ es) are n = calls_same log es are n
 calls_same log (Begins number ask ∷ es) are n = absurd are
 calls_same log (Calls number server ask origin end ∷ es) are n = absurd are
@@ -128,7 +130,7 @@ calls_same log (Breaks number ∷ es) are n = absurd are
 -- and a run has no further call by them
 pub losses_of_none : (log : List (Entry dialect)) (lost : List Event) → AreLosses lost → calls_of (run_of (happened lost ++ log)) ≡ calls_of (run_of log)
 losses_of_none log [] are = refl
-losses_of_none log (Loses server key ∷ es) are = losses_of_none log es are
+losses_of_none log (Turns server key turned ∷ es) are = losses_of_none log es are.1
 losses_of_none log (Restarts server ∷ es) are = losses_of_none log es are
 losses_of_none log (Begins number ask ∷ es) are = absurd are
 losses_of_none log (Calls number server ask origin end ∷ es) are = absurd are
@@ -138,7 +140,7 @@ losses_of_none log (Breaks number ∷ es) are = absurd are
 -- the same calls are out after losses
 pub out_same : (log : List (Entry dialect)) (lost : List Event) → AreLosses lost → (s : ℕ) → out_of (happened lost ++ log) s ≡ out_of log s
 out_same log [] are s = refl
-out_same log (Loses server key ∷ es) are s = out_same log es are s
+out_same log (Turns server key turned ∷ es) are s = out_same log es are.1 s
 out_same log (Restarts server ∷ es) are s = out_same log es are s
 out_same log (Begins number ask ∷ es) are s = absurd are
 out_same log (Calls number server ask origin end ∷ es) are s = absurd are
@@ -147,7 +149,7 @@ out_same log (Breaks number ∷ es) are s = absurd are
 
 -- what is named to be lost is a loss
 one_loss : (loss : Loss) → AreLosses (lost_by (told_of loss) ∷ [])
-one_loss (LostItem server key) = tt
+one_loss (LostItem server key) = (refl, tt)
 one_loss (Restart server) = tt
 
 -- what a server loses goes on with the log
@@ -167,6 +169,7 @@ losses_go_on opening tree log loss old new stands lost =
         limits = ap (λ (x : Core). x.limits) lost.core ∙ stands.limits;
         served = λ c. alike.dropped c ∙ stands.served c;
         unbroken = alike.broken ∙ stands.unbroken;
+        loses = alike.loses stands.loses;
         holds = λ s key. same_held loss stands.beside.holds (held_at old.caches) s key (stands.holds s key) ∙ sym (same_event loss (held_at old.caches) s key) ∙ sym (lost.held s key);
         turn = stands.turn ∙ sym lost.turn;
         out = λ s. out_same log (event ∷ []) are s ∙ stands.out s ∙ ap (calls_at s) (sym lost.out);

@@ -5,7 +5,7 @@ use Rattle.mc_types.specs.declared.call.Origin.{Origin}
 use Rattle.mc_types.specs.Items.{Item}
 use Rattle.mc_runs.specs.Fleet.{after_event}
 use Rattle.mc_runs.specs.Overlap.{Entry, Follows, run_of, without}
-use Rattle.mc_runs.specs.Sharing.{commands_in, calls_in, IsFreshByNumber}
+use Rattle.mc_runs.specs.Sharing.{LosesOnly, commands_in, calls_in, IsFreshByNumber}
 use Rattle.mc_runs.specs.SharingStale.{stale_in}
 use Rattle.mc_runs.specs.Cover.{IsCovered}
 use Rattle.script_servers.specs.Found.{stamp_at, stamp_given}
@@ -154,12 +154,13 @@ pub record IsBegin (tree : Route) (k : Kept) : Type 0 where
 abbrev pub NothingStands : Type 0
 NothingStands = (tree : Route) (k : Kept) → IsBegin tree k → Stands (held_at k.caches) (tree_by tree []) [] k
 
--- what a log that stands says: it follows by the trees that were loaded, each command alone on its key, and none was broken off; calls and stale replies are counted; where deletes clear what later commands take, it is fresh and no reply is stale
+-- what a log that stands says: it follows by the trees that were loaded, each command alone on its key, none was broken off, and nobody but the core writes the servers; calls and stale replies are counted; where deletes clear what later commands take, it is fresh and no reply is stale
 pub record Says (opening : ℕ → List ℕ → Option Item) (tree : ℕ → Route) (log : List (Entry dialect)) (k : Kept) : Type 0 where
   pub follows : Follows (tree_words (λ n key. tree_at (tree n) key)) (bars_by Alone (λ n key. tree_at (tree n) key)) opening log
   pub begun : k.core.number ≡ commands_in (run_of log)
   pub ended : k.commands ≡ replied_in (run_of log)
   pub unbroken : broken_in (run_of log) ≡ 0
+  pub loses : LosesOnly (run_of log)
   pub calls : k.turn ≡ calls_in (run_of log)
   pub stale : k.stale ≡ stale_in opening (run_of log)
   pub fresh : IsCovered (tree_words (λ n key. tree_at (tree n) key)) → IsFreshByNumber opening (run_of log) × (k.stale ≡ 0)

@@ -4,7 +4,7 @@ use Rattle.mc_types.specs.declared.ask.Ask.{Ask}
 use Rattle.mc_types.specs.declared.call.Origin.{Origin}
 use Rattle.mc_types.specs.Items.{Item}
 use Rattle.mc_runs.specs.Run.{Call, outcome_of}
-use Rattle.mc_runs.specs.Sharing.{Event, Begins, Calls, Replies, Breaks, Loses, Restarts}
+use Rattle.mc_runs.specs.Sharing.{Event, Begins, Calls, Replies, Breaks, Turns, Restarts}
 use Rattle.mc_runs.specs.Overlap.{Entry, Ticket as LogTicket, run_of}
 use Rattle.script_servers.specs.declared.event.Made.{Made}
 use Rattle.script_servers.specs.Servers.{Answers}
@@ -48,7 +48,7 @@ calls_of (Calls number server ask origin end ∷ past) = record { number = numbe
 calls_of (Begins number ask ∷ past) = calls_of past
 calls_of (Replies number key reply from ∷ past) = calls_of past
 calls_of (Breaks number ∷ past) = calls_of past
-calls_of (Loses server key ∷ past) = calls_of past
+calls_of (Turns server key turned ∷ past) = calls_of past
 calls_of (Restarts server ∷ past) = calls_of past
 
 -- the servers gave these results, the latest first, one after another: each by its server's table at the moment, after the losses named for it, and in the manner named for it; what is named stays

@@ -1,7 +1,7 @@
 -- Where a script that steps its calls stands in the log of overlapping commands. Source: mcgate's own.
 use Rattle.std.specs.Prelude.{◌≡◌, ℕ, ◌+◌, ◌<◌, false, List, [], ◌∷◌, ◌++◌, Option, Some, if◌then◌else◌, nat_eq, nat_lt}
 use Rattle.mc_types.specs.Items.{Item}
-use Rattle.mc_runs.specs.Sharing.{Event, Begins, Calls, Replies, Breaks, Loses, Restarts, calls_so_far}
+use Rattle.mc_runs.specs.Sharing.{Event, Begins, Calls, Replies, Breaks, Turns, Restarts, LosesOnly, calls_so_far}
 use Rattle.mc_runs.specs.SharingStale.{tally_of, last_gone}
 use Rattle.mc_runs.specs.Overlap.{Owner, Entry, Ticket as LogTicket, run_of, front_of, queue_of, output_of, owner_of, out_of, given_of, is_dropped}
 use Rattle.mc_runs.specs.OverlapState.{LeadsTo}
@@ -38,7 +38,7 @@ replied_in (Replies number key reply from ∷ past) = replied_in past + 1
 replied_in (Begins number ask ∷ past) = replied_in past
 replied_in (Calls number server ask origin end ∷ past) = replied_in past
 replied_in (Breaks number ∷ past) = replied_in past
-replied_in (Loses server key ∷ past) = replied_in past
+replied_in (Turns server key turned ∷ past) = replied_in past
 replied_in (Restarts server ∷ past) = replied_in past
 
 -- how many commands were broken off
@@ -48,7 +48,7 @@ broken_in (Breaks number ∷ past) = broken_in past + 1
 broken_in (Begins number ask ∷ past) = broken_in past
 broken_in (Calls number server ask origin end ∷ past) = broken_in past
 broken_in (Replies number key reply from ∷ past) = broken_in past
-broken_in (Loses server key ∷ past) = broken_in past
+broken_in (Turns server key turned ∷ past) = broken_in past
 broken_in (Restarts server ∷ past) = broken_in past
 
 -- the tree of a command, by its number: the first one, or that which was loaded last before it began; of each that was loaded it is known how many commands had begun. The latest comes first
@@ -64,7 +64,7 @@ calls_at server (ticket ∷ tickets) =
     then record { number = ticket.number; ask = ticket.ask; origin = ticket.origin } ∷ calls_at server tickets
     else calls_at server tickets
 
--- the log, with commands by these trees and servers that held these opening items, leads to the core and the servers as they are kept, for which every client is served and no command was broken off; and what is counted is what the log says
+-- the log, with commands by these trees and servers that held these opening items, leads to the core and the servers as they are kept, for which every client is served, no command was broken off and nobody but the core writes the servers; and what is counted is what the log says
 pub record Stands (opening : ℕ → List ℕ → Option Item) (tree : ℕ → Route) (log : List (Entry dialect)) (k : Kept) : Type 0 where
   pub beside : Beside
   pub plain : beside.at ≡ (λ n key. tree_at (tree n) key)
@@ -73,6 +73,7 @@ pub record Stands (opening : ℕ → List ℕ → Option Item) (tree : ℕ → R
   pub limits : k.core.limits ≡ script_limits
   pub served : (c : ℕ) → is_dropped log c ≡ false
   pub unbroken : broken_in (run_of log) ≡ 0
+  pub loses : LosesOnly (run_of log)
   pub holds : (s : ℕ) (key : List ℕ) → beside.holds s key ≡ held_at k.caches s key
   pub turn : beside.turn ≡ k.turn
   pub out : (s : ℕ) → out_of log s ≡ calls_at s k.out

@@ -238,7 +238,8 @@ module _ (first : Route) (refused : List Bool) (reloads : List Reload) (events :
         begun = begun;
         marked = marked;
         run = run;
-        direct = fresh_if_direct first refused reloads events loaded h.loads h.log within h.in_turn run;
+        loses = says.loses;
+        direct = fresh_if_direct first refused reloads events loaded h.loads h.log within h.in_turn says.loses run;
         world = inr (k.servers, inr (subst (λ (l : List Scripted). World events l h.log k.servers) is h.world));
         made = made;
       }
@@ -306,7 +307,8 @@ module _ (first : Route) (refused : List Bool) (reloads : List Reload) (events :
               });
           marked = marked_on events g.more log given given [] (sym (append-nil given)) reloads marks h.marked;
           run = run;
-          direct = fresh_if_direct first refused reloads events loaded h.come.loads after within turn run;
+          loses = says.loses;
+          direct = fresh_if_direct first refused reloads events loaded h.come.loads after within turn says.loses run;
           world = inr (by g.more m.come p.1);
           made = made_by after t m.at says.calls m.within;
         };
@@ -435,7 +437,8 @@ nothing_done first refused reloads events t marks count s u fault none unmarked 
         begun = λ event e. absurd (none_next event e);
         marked = subst (AreMarked events [] (transcript_of t) reloads) (sym unmarked) (no_marks reloads);
         run = tt;
-        direct = fresh_if_direct first refused reloads events 0 [] [] (omega arith) refl tt;
+        loses = tt;
+        direct = fresh_if_direct first refused reloads events 0 [] [] (omega arith) refl tt tt;
         world = inl refl;
         made = inl (same ∙ new.turn);
       };

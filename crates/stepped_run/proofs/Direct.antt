@@ -6,7 +6,7 @@ use Rattle.mc_types.specs.Items.{Item}
 use Rattle.mc_runs.specs.Cover.{IsCovered}
 use Rattle.mc_runs.specs.Overlap.{Entry, run_of}
 use Rattle.mc_runs.specs.Run.{Call}
-use Rattle.mc_runs.specs.Sharing.{AreAlone, IsFreshByNumber}
+use Rattle.mc_runs.specs.Sharing.{AreAlone, LosesOnly, IsFreshByNumber}
 use Rattle.mc_runs.specs.SharingStale.{stale_in}
 use Rattle.mc_runs.specs.Single.{server_words}
 use Rattle.mc_runs.proofs.Covered.{single_covered}
@@ -70,19 +70,19 @@ module _ (refused : List Bool) (events : List Scripted) where
 
   module _ (law : DirectIsOneServer) (tree : Route) (direct : is_direct tree ≡ true) where
     -- a run of such a script is fresh, and has no stale reply
-    pub run_fresh : (loads : List (ℕ × Route)) (log : List (Entry dialect)) → loads ≡ [] → RunsBy tree loads events log → IsFreshByNumber (opening_of events) (run_of log) × (stale_in (opening_of events) (run_of log) ≡ 0)
-    run_fresh loads log none run =
+    pub run_fresh : (loads : List (ℕ × Route)) (log : List (Entry dialect)) → loads ≡ [] → LosesOnly (run_of log) → RunsBy tree loads events log → IsFreshByNumber (opening_of events) (run_of log) × (stale_in (opening_of events) (run_of log) ≡ 0)
+    run_fresh loads log none lost run =
         let plans : ℕ → List ℕ → Plan = λ n key. tree_at tree key in
         let alone_run = subst (λ (l : List (ℕ × Route)). RunsBy tree l events log) none run in
         let fresh : IsFreshByNumber (opening_of events) (run_of log) =
-        fresh_by_number (tree_words plans) (bars_by Alone plans) (covered_where_direct law tree direct) (alone plans) (opening_of events) (run_of log) alone_run in
+        fresh_by_number (tree_words plans) (bars_by Alone plans) (covered_where_direct law tree direct) (alone plans) (opening_of events) (run_of log) lost alone_run in
         (fresh, (counts_stale (tree_words plans) (bars_by Alone plans) (opening_of events) (alone plans)).none (run_of log) alone_run fresh)
 
 -- so it is where no other tree comes
 pub fresh_if_direct :
-    (first : Route) (refused : List Bool) (reloads : List Reload) (events : List Scripted) (loaded : ℕ) (loads : List (ℕ × Route)) (log : List (Entry dialect)) → loaded ≤ length reloads → CameInTurn refused reloads events log loaded loads → RunsBy first loads events log
+    (first : Route) (refused : List Bool) (reloads : List Reload) (events : List Scripted) (loaded : ℕ) (loads : List (ℕ × Route)) (log : List (Entry dialect)) → loaded ≤ length reloads → CameInTurn refused reloads events log loaded loads → LosesOnly (run_of log) → RunsBy first loads events log
     → IsFreshIfDirect first reloads events log
-fresh_if_direct first refused reloads events loaded loads log within turn run direct none =
+fresh_if_direct first refused reloads events loaded loads log within turn lost run direct none =
     let few : loaded ≤ 0 = subst (λ (rs : List Reload). loaded ≤ length rs) none within in
     let unloaded = none_loaded refused events loaded loads log few (subst (λ (rs : List Reload). CameInTurn refused rs events log loaded loads) none turn) in
-    (run_fresh refused events direct_is_one_server first direct loads log unloaded run).0
+    (run_fresh refused events direct_is_one_server first direct loads log unloaded lost run).0

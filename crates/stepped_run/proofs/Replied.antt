@@ -5,7 +5,7 @@ use Rattle.mc_types.specs.declared.ask.Ask.{Ask}
 use Rattle.mc_types.specs.Items.{Item}
 use Rattle.mc_runs.specs.Run.{Words}
 use Rattle.mc_runs.specs.Protocol.{Protocol}
-use Rattle.mc_runs.specs.Sharing.{Begins, Calls, Replies, Breaks, Loses, Restarts, commands_in}
+use Rattle.mc_runs.specs.Sharing.{Begins, Calls, Replies, Breaks, Turns, Restarts, commands_in}
 use Rattle.mc_runs.specs.Overlap.{Owner, Entry, Feeds, Starts, Sends, Happens, Ends, Shows, Passes, Gives, Drops, Frees, Resets, run_of, owner_of, Follows}
 use Rattle.stepped_log.specs.Standing.{replied_in, broken_in}
 
@@ -88,7 +88,7 @@ module _ {P : Protocol} (words : Words) (Bars : ℕ → Ask → ℕ → Ask → 
       ]) refl e
   owned_within (Sends number server ask origin ∷ log) f n x e = owned_within log f.1 n x e
   owned_within (Happens (Calls number server ask origin end) ∷ log) f n x e = owned_within log f.1 n x e
-  owned_within (Happens (Loses server key) ∷ log) f n x e = owned_within log f.1 n x e
+  owned_within (Happens (Turns server key turned) ∷ log) f n x e = owned_within log f.1 n x e
   owned_within (Happens (Restarts server) ∷ log) f n x e = owned_within log f.1 n x e
   owned_within (Happens (Begins number ask) ∷ log) f n x e = absurd f.0
   owned_within (Happens (Replies number key reply from) ∷ log) f n x e = absurd f.0
@@ -116,7 +116,7 @@ module _ {P : Protocol} (words : Words) (Bars : ℕ → Ask → ℕ → Ask → 
       omega (arith, before, one, last)
   all_counted (Sends number server ask origin ∷ log) f = all_counted log f.1
   all_counted (Happens (Calls number server ask origin end) ∷ log) f = all_counted log f.1
-  all_counted (Happens (Loses server key) ∷ log) f = all_counted log f.1
+  all_counted (Happens (Turns server key turned) ∷ log) f = all_counted log f.1
   all_counted (Happens (Restarts server) ∷ log) f = all_counted log f.1
   all_counted (Happens (Begins number ask) ∷ log) f = absurd f.0
   all_counted (Happens (Replies number key reply from) ∷ log) f = absurd f.0

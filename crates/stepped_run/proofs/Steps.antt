@@ -258,6 +258,7 @@ stands_as opening tree log k servers st =
       limits = st.limits;
       served = st.served;
       unbroken = st.unbroken;
+      loses = st.loses;
       holds = st.holds;
       turn = st.turn;
       out = st.out;

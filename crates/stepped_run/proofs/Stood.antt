@@ -521,7 +521,8 @@ module _ (first : Route) (refused : List Bool) (reloads : List Reload) (events :
         replied = replied;
         calls = calls ∙ says.calls;
         run = run;
-        direct = fresh_if_direct first refused reloads events (length reloads) end.loads end.log (omega arith) end.in_turn run;
+        loses = says.loses;
+        direct = fresh_if_direct first refused reloads events (length reloads) end.loads end.log (omega arith) end.in_turn says.loses run;
         stale = stale ∙ says.stale;
         servers = t;
         world = subst (λ (l : List Scripted). World events l end.log t) all end.world;

@@ -7,7 +7,7 @@ use Rattle.mc_runs.specs.Overlap.{Entry, Ticket, Follows, run_of, front_of, queu
 use Rattle.mc_runs.specs.Protocol.{IsStuck}
 use Rattle.mc_runs.specs.OverlapStream.{stream_of}
 use Rattle.mc_runs.specs.OverlapLaws.{WritesAll}
-use Rattle.mc_runs.specs.Sharing.{Run, IsFreshByNumber, calls_in, commands_in}
+use Rattle.mc_runs.specs.Sharing.{Run, LosesOnly, IsFreshByNumber, calls_in, commands_in}
 use Rattle.mc_runs.specs.SharingStale.{stale_in}
 use Rattle.route_tree.specs.At.{tree_at}
 use Rattle.route_tree.specs.Direct.{is_direct}
@@ -278,6 +278,8 @@ pub record DrivesStepped (first : Route) (refused : List Bool) (reloads : List R
   pub replied : replied_in (run_of log) ≡ commands_in (run_of log)
   pub calls : report.calls ≡ calls_in (run_of log)
   pub run : RunsBy first loads events log
+  -- nobody but the core writes the servers
+  pub loses : LosesOnly (run_of log)
   pub stale : report.stale ≡ stale_in (opening_of events) (run_of log)
   pub direct : IsFreshIfDirect first reloads events log
   -- failures, losses and the time are the script's, and each answer its server's by its table at that time
@@ -323,6 +325,8 @@ pub record StepsPart (first : Route) (refused : List Bool) (reloads : List Reloa
   pub begun : (event : Scripted) → next ≡ event ∷ [] → IsStepPart events done event log given
   pub marked : AreMarked events log given reloads marks
   pub run : RunsBy first loads events log
+  -- nobody but the core writes the servers
+  pub loses : LosesOnly (run_of log)
   pub direct : IsFreshIfDirect first reloads events log
   pub world : (log ≡ []) ⊎ HasWorldOf events done next log
   pub made : HaveMade log servers

@@ -7,11 +7,11 @@ use example_tables::playing::{
 use fresh_gate::{Accepted, judge};
 use route_json::{Config, read_config, read_config_after};
 use std::alloc::{AllocError, Global};
-use std::io;
 use std::io::{ErrorKind, Read, Write};
 use std::net::{IpAddr, Ipv4Addr, Shutdown, SocketAddr, TcpListener, TcpStream};
 use std::test::Fail;
 use std::time::{Duration, Instant};
+use std::{io, thread};
 use tcp_cache::CacheEnd;
 use tcp_proxy::{LinkNews, ProxyEnd, Settings};
 
@@ -355,6 +355,12 @@ impl<'a> Ends<'a> {
         Ok(())
     }
 
+    // Nothing is turned for so many milliseconds.
+    fn pause(&self, millis: usize) -> Result<(), Fail> {
+        thread::sleep(self.rt, Duration::from_millis(millis as u64));
+        Ok(())
+    }
+
     fn write(&mut self, at: usize, bytes: &[u8]) -> Result<(), Fail> {
         match self.stream(at) {
             Some(stream) => Ok(stream.write_all(bytes)?),
@@ -592,6 +598,7 @@ impl Ends<'_> {
             "store" => self.store_all(at, text),
             "shut" => self.shut(at),
             "turn" => Ok(self.turn_often(at)?),
+            "pause" => self.pause(at),
             "end" => self.end_turns(at),
             "leave" => {
                 self.leave(at);

@@ -261,6 +261,60 @@ news => server 0: failed: too many reads brought no whole answer, 1 in a row
 closed 1 => yes"
 }
 
+// The proxy isn't turned for a second and a half, where a call is late after a second.
+fn pauses() -> &'static str {
+    r"A call whose answer has come by then isn't late, also where it takes more than one read.
+server
+proxy <one server>
+connect => 0
+send 0 get a\r\n
+accept => 1
+gets 1 => mn\r\nget a\r\n
+send 1 MN\r\nEND\r\n
+pause 1500
+gets 0 => END\r\n
+send 0 get b\r\nget c\r\nget d\r\n
+gets 1 => mg b k f v\r\nmg c k f v\r\nmg d k f v\r\n
+send 1 EN\r\nVA 200000 kc f5\r\n
+repeat 1 200000 x
+send 1 \r\nEN\r\n
+pause 1500
+-- 5 + 18 + 200,000 + 2 + 5 + 5
+count 0 200035 => 200035 bytes, at the end END\r\nEND\r\n
+news => server 0: connected
+
+One whose answer hasn't come is, and so is one whose answer isn't whole.
+server
+proxy <one server>
+connect => 0
+send 0 get a\r\n
+accept => 1
+gets 1 => mn\r\nget a\r\n
+pause 1500
+gets 0 => SERVER_ERROR call failed\r\n
+news => server 0: failed: a call took too long, 1 in a row
+send 0 get a\r\nget b\r\n
+accept => 2
+gets 2 => mn\r\nget a\r\nget b\r\n
+send 2 MN\r\nEND\r\nVALUE b 0
+pause 1500
+gets 0 => END\r\nSERVER_ERROR call failed\r\n
+closed 2 => yes
+
+A connection that stands by then isn't late.
+server
+hasty-proxy <one server>
+connect => 0
+send 0 get a\r\n
+turn 2
+pause 100
+accept => 1
+gets 1 => mn\r\nget a\r\n
+send 1 MN\r\nEND\r\n
+gets 0 => END\r\n
+news => server 0: connected"
+}
+
 // Keys with the hash tag b are the second server's.
 fn late_reads() -> &'static str {
     r"A server reads late: 20 MB are more than the system takes for it. Calls wait until it reads, and the commands behind them; those of other clients to another server don't.
@@ -300,6 +354,11 @@ fn crowds_of_a_proxy(rt: HostRuntime) -> Result<(), Fail> {
 #[test]
 fn failures_of_servers(rt: HostRuntime) -> Result<(), Fail> {
     play_all(&rt, failures())
+}
+
+#[test]
+fn pauses_of_a_proxy(rt: HostRuntime) -> Result<(), Fail> {
+    play_all(&rt, pauses())
 }
 
 #[test]

@@ -324,10 +324,10 @@ impl ProxyEnd {
     {
         self.wait(rt, limit)?;
         self.give_back_room()?;
-        self.fail_late()?;
         self.accept_ready();
         self.serve_asks(rt)?;
         self.serve_links()?;
+        self.fail_late()?;
         self.serve_all(rt)?;
         self.send_links()?;
         self.send_clients()
@@ -634,16 +634,18 @@ impl ProxyEnd {
         fail_all(link, self.core.as_mut(), &mut self.clients)
     }
 
+    // Why the link has failed by now, if it has taken too long. One over which more may have come than was read isn't late yet.
     fn lateness(&self, at: usize) -> Option<Cause> {
         match self.links.get(at) {
-            Some(link) => link.lateness(self.time, &self.settings),
-            None => None,
+            Some(link) if !link.may_have_more() => link.lateness(self.time, &self.settings),
+            _ => None,
         }
     }
 
-    // Links that have taken too long fail, if one may have.
-    fn fail_late(&mut self) -> Result<(), AllocError>
-        ensures core { Fails self.old.core.value self.new.core.value }
+    // Links that have taken too long fail, if one may have. What has come over them is read and settled before: the system was asked for it
+    // after the clock was looked at, and had nothing.
+    fn fail_late(&mut self) -> io::Result<()>
+        ensures core { GoesOn self.old.core.value self.new.core.value }
     {
         match self.late_from {
             Some(limit) if limit < self.time => self.fail_all_late(),
@@ -651,14 +653,49 @@ impl ProxyEnd {
         }
     }
 
-    fn fail_all_late(&mut self) -> Result<(), AllocError>
-        ensures core { Fails self.old.core.value self.new.core.value }
+    fn fail_all_late(&mut self) -> io::Result<()>
+        ensures core { GoesOn self.old.core.value self.new.core.value }
     {
         for at in 0..self.links.len() {
             self.fail_if_late(at)?;
         }
         self.late_from = self.time_limit();
         Ok(())
+    }
+
+    fn fail_if_late(&mut self, at: usize) -> io::Result<()>
+        ensures core { GoesOn self.old.core.value self.new.core.value }
+    {
+        if self.lateness(at).is_none() {
+            return Ok(());
+        }
+        self.look_again(at)?;
+        match self.lateness(at) {
+            Some(cause) => Ok(self.fail_link(at, cause)?),
+            None => Ok(()),
+        }
+    }
+
+    // The system is asked whether the link's connection stands, or for what has come over it, though it told of nothing.
+    fn look_again(&mut self, at: usize) -> io::Result<()>
+        ensures core { GoesOn self.old.core.value self.new.core.value }
+    {
+        if self.looks_standing(at) {
+            self.has_stood(at);
+            self.mark_link_output(at)?;
+            return Ok(self.mark_link_ready(at)?);
+        }
+        self.serve_link(at)
+    }
+
+    // Whether it is news that the link's connection stands. Where it stood before, the link is to be read.
+    fn looks_standing(&mut self, at: usize) -> bool
+        ensures core { self.new.core ≡ self.old.core }
+    {
+        match self.links.get_mut(at) {
+            Some(link) => link.look_again(),
+            None => false,
+        }
     }
 
     // The link's connection stands, which is news.
@@ -675,15 +712,6 @@ impl ProxyEnd {
     {
         if let Some(link) = self.links.get(at) {
             self.late_from = earlier(self.late_from, link.time_limit(&self.settings));
-        }
-    }
-
-    fn fail_if_late(&mut self, at: usize) -> Result<(), AllocError>
-        ensures core { Fails self.old.core.value self.new.core.value }
-    {
-        match self.lateness(at) {
-            Some(cause) => self.fail_link(at, cause),
-            None => Ok(()),
         }
     }
 
@@ -847,10 +875,7 @@ impl ProxyEnd {
             return Ok(self.fail_link(at, cause)?);
         }
         let is_more = match self.links.get(at) {
-            Some(link) => match &link.conn {
-                Some(conn) => conn.readable,
-                None => false,
-            },
+            Some(link) => link.may_have_more(),
             None => false,
         };
         if is_more {

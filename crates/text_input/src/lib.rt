@@ -3,4 +3,4 @@
 
 pub mod reading;
 
-pub use reading::{INPUT_LIMIT, InputFault, fault_of, read_input};
+pub use reading::{INPUT_LIMIT, InputFault, fault_of, read_input, read_input_noting};

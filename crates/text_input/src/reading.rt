@@ -54,10 +54,26 @@ fn text_of(bytes: Vec<u8>) -> Result<String, InputFault>
 pub fn read_input<R: Read + Drop>(alloc: Global, reader: R) -> Result<String, InputFault>
     ensures { IfSome (R.remaining reader) (λ bytes. ReadsInput (λ text. string_bytes text) INPUT_LIMIT bytes result) }
 {
+    let mut failure = None;
+    read_input_noting(alloc, reader, &mut failure)
+}
+
+/// As [`read_input`]; where the reader fails, its error is put into `failure`.
+pub fn read_input_noting<R: Read + Drop>(
+    alloc: Global,
+    reader: R,
+    failure: &mut Option<io::Error>,
+) -> Result<String, InputFault>
+    ensures { IfSome (R.remaining reader) (λ bytes. ReadsInput (λ text. string_bytes text) INPUT_LIMIT bytes result) }
+{
     let mut bytes = Vec::new(alloc);
     let mut limited = reader.take(INPUT_LIMIT as u64 + 1);
     match limited.read_to_end(&mut bytes) {
         Ok(_) => text_of(bytes),
-        Err(error) => Err(fault_of(&error)),
+        Err(error) => {
+            let fault = fault_of(&error);
+            *failure = Some(error);
+            Err(fault)
+        }
     }
 }

@@ -1,8 +1,9 @@
 pub mod Quoting
-pub mod Names
+pub mod Phrases
 pub mod Edges
 pub mod Nodes
-pub mod Phrases
+pub mod Alike
+pub mod Labels
 pub mod Statements
 pub mod Lines
 pub mod Marks

@@ -1,61 +1,74 @@
 -- The nodes and edges of a tree. The routes are numbered from the root, 0, each child after all that stands before it. Source: mcgate's own.
-use Rattle.std.specs.Prelude.{ℕ, ◌+◌, ◌==◌, List, [], ◌∷◌, ◌++◌, codes, decimal, if◌then◌else◌}
+use Rattle.std.specs.Prelude.{ℕ, ◌+◌, ◌==◌, List, [], ◌++◌, codes, decimal, if◌then◌else◌}
 use Rattle.route_tree.specs.Route.{Route, Routes, Policies, Prefixes, Pool, Server, Null, Failing, AllSync, Failover, MissFailover, WarmUp, ByOperation, ByPrefix, End, More, Otherwise, Policy, Wildcard, Prefix}
+use Rattle.route_json.specs.Servers.{Addresses}
 use Rattle.gate_words.specs.Names.{op_name}
-use Rattle.tree_picture.specs.Names.{kind_name}
+use Rattle.gate_words.specs.Pools.{NamedPools}
+use Rattle.tree_picture.specs.Alike.{next_run, next_prefix_run}
 use Rattle.tree_picture.specs.Nodes.{nodes}
 use Rattle.tree_picture.specs.Quoting.{quoted}
-use Rattle.tree_picture.specs.Statements.{node_line, front_lines, server_edge_line}
+use Rattle.tree_picture.specs.Statements.{edge_line, node_line, run_line, prefix_run_line}
+use Rattle.tree_picture.specs.declared.alike.Run.{Run}
 
--- the edge to the server of a slot, unless it is that of the slot before it
-abbrev pub new_slot_line : ℕ → (before server : ℕ) → List ℕ
-new_slot_line n before server = if server == before then [] else server_edge_line n server
+-- before the first child no run goes on
+abbrev pub no_run : ℕ → Run
+no_run n = record { head = n; more = 0 }
 
-abbrev pub later_slot_lines : ℕ → (before : ℕ) → List ℕ → List ℕ
-later_slot_lines n before [] = []
-later_slot_lines n before (s ∷ ss) = new_slot_line n before s ++ later_slot_lines n s ss
+module _ (servers : Addresses) (pools : NamedPools) where
+  -- the edge to a child, and its node
+  abbrev pub front_lines : ℕ → (label : List ℕ) → ℕ → Route → List ℕ
+  front_lines parent label n r = edge_line parent label 0 n ++ node_line servers pools n r
 
--- an edge to the server of each run of slots
-abbrev pub slot_lines : ℕ → List ℕ → List ℕ
-slot_lines n [] = []
-slot_lines n (s ∷ ss) = server_edge_line n s ++ later_slot_lines n s ss
+  -- the edge to the children of a run, and their node
+  abbrev pub run_front_lines : ℕ → (label : List ℕ) → (more n : ℕ) → Route → Routes → List ℕ
+  run_front_lines parent label more n r rs = edge_line parent label more n ++ run_line servers pools n more r rs
 
-abbrev mutual
-  -- what is below the node of this number
-  pub below_lines : ℕ → Route → List ℕ
-  below_lines n (Pool servers) = slot_lines n servers
-  below_lines n (Server s) = server_edge_line n s
-  below_lines n Null = []
-  below_lines n Failing = []
-  below_lines n (AllSync rs) = below_all n 0 (n + 1) rs
-  below_lines n (Failover rs) = below_all n 0 (n + 1) rs
-  below_lines n (MissFailover rs) = below_all n 0 (n + 1) rs
-  below_lines n (WarmUp cold warm e) =
-      front_lines n (codes "cold") (n + 1) (kind_name cold) ++ below_lines (n + 1) cold
-      ++ front_lines n (codes "warm") (n + 1 + nodes cold) (kind_name warm) ++ below_lines (n + 1 + nodes cold) warm
-  below_lines n (ByOperation ps) = below_policies n (n + 1) ps
-  below_lines n (ByPrefix ps) = below_prefixes n (n + 1) ps
+  -- the same of children by prefix
+  abbrev pub prefix_front_lines : ℕ → (label : List ℕ) → (more n : ℕ) → Route → Prefixes → List ℕ
+  prefix_front_lines parent label more n r ps = edge_line parent label more n ++ prefix_run_line servers pools n more r ps
 
-  -- children, the first of them with this index and number
-  pub below_all : ℕ → (index n : ℕ) → Routes → List ℕ
-  below_all parent index n End = []
-  below_all parent index n (More r rs) =
-      front_lines parent (codes "children[" ++ decimal index ++ codes "]") n (kind_name r) ++ below_lines n r ++ below_all parent (index + 1) (n + nodes r) rs
+  abbrev mutual
+    -- what is below the node of this number
+    pub below_lines : ℕ → Route → List ℕ
+    below_lines n (Pool slots) = []
+    below_lines n (Server s) = []
+    below_lines n Null = []
+    below_lines n Failing = []
+    below_lines n (AllSync rs) = below_all n 0 (n + 1) (no_run n) rs
+    below_lines n (Failover rs) = below_all n 0 (n + 1) (no_run n) rs
+    below_lines n (MissFailover rs) = below_all n 0 (n + 1) (no_run n) rs
+    below_lines n (WarmUp cold warm e) =
+        front_lines n (codes "cold") (n + 1) cold ++ below_lines (n + 1) cold
+        ++ front_lines n (codes "warm") (n + 1 + nodes cold) warm ++ below_lines (n + 1 + nodes cold) warm
+    below_lines n (ByOperation ps) = below_policies n (n + 1) ps
+    below_lines n (ByPrefix ps) = below_prefixes n (n + 1) (no_run n) ps
 
-  -- children by operation, the first of them with this number
-  pub below_policies : ℕ → ℕ → Policies → List ℕ
-  below_policies parent n (Otherwise r) = front_lines parent (codes "default") n (kind_name r) ++ below_lines n r
-  below_policies parent n (Policy op r ps) = front_lines parent (op_name op) n (kind_name r) ++ below_lines n r ++ below_policies parent (n + nodes r) ps
+    -- children, the first of them with this index and number, after a child of this run; a run is drawn where it begins
+    pub below_all : ℕ → (index n : ℕ) → Run → Routes → List ℕ
+    below_all parent index n run End = []
+    below_all parent index n run (More r rs) =
+        if run.more == 0 then
+        run_front_lines parent (codes "children[" ++ decimal index ++ codes "]") (next_run run n r rs).more n r (More r rs) ++ below_lines n r
+        ++ below_all parent (index + 1) (n + nodes r) (next_run run n r rs) rs
+        else below_all parent (index + 1) (n + nodes r) (next_run run n r rs) rs
 
-  -- children by prefix, the first of them with this number
-  pub below_prefixes : ℕ → ℕ → Prefixes → List ℕ
-  below_prefixes parent n (Wildcard r) = front_lines parent (codes "wildcard") n (kind_name r) ++ below_lines n r
-  below_prefixes parent n (Prefix p r ps) =
-      front_lines parent (codes "prefix " ++ quoted p) n (kind_name r) ++ below_lines n r ++ below_prefixes parent (n + nodes r) ps
+    -- children by operation, the first of them with this number
+    pub below_policies : ℕ → ℕ → Policies → List ℕ
+    below_policies parent n (Otherwise r) = front_lines parent (codes "default") n r ++ below_lines n r
+    below_policies parent n (Policy op r ps) = front_lines parent (op_name op) n r ++ below_lines n r ++ below_policies parent (n + nodes r) ps
 
--- a child and what is below it
-abbrev pub child_lines : ℕ → (label : List ℕ) → ℕ → Route → List ℕ
-child_lines parent label n r = front_lines parent label n (kind_name r) ++ below_lines n r
+    -- children by prefix, the first of them with this number, after a child of this run; a run is drawn where it begins
+    pub below_prefixes : ℕ → ℕ → Run → Prefixes → List ℕ
+    below_prefixes parent n run (Wildcard r) = front_lines parent (codes "wildcard") n r ++ below_lines n r
+    below_prefixes parent n run (Prefix p r ps) =
+        if run.more == 0 then
+        prefix_front_lines parent (codes "prefix " ++ quoted p) (next_prefix_run run n r ps).more n r (Prefix p r ps) ++ below_lines n r
+        ++ below_prefixes parent (n + nodes r) (next_prefix_run run n r ps) ps
+        else below_prefixes parent (n + nodes r) (next_prefix_run run n r ps) ps
 
-abbrev pub tree_lines : Route → List ℕ
-tree_lines r = node_line 0 (kind_name r) ++ below_lines 0 r
+  -- a child and what is below it
+  abbrev pub child_lines : ℕ → (label : List ℕ) → ℕ → Route → List ℕ
+  child_lines parent label n r = front_lines parent label n r ++ below_lines n r
+
+  abbrev pub tree_lines : Route → List ℕ
+  tree_lines r = node_line servers pools 0 r ++ below_lines 0 r

@@ -1,14 +1,20 @@
 -- The way of a gap's read through the tree, marked. Source: mcgate's own, in Graphviz's language.
-use Rattle.std.specs.Prelude.{ℕ, ◌+◌, ◌-◌, ◌==◌, ◌&&◌, List, [], ◌∷◌, ◌++◌, codes, length, nat_lt, if◌then◌else◌}
+use Rattle.std.specs.Prelude.{ℕ, ◌+◌, ◌-◌, ◌==◌, ◌&&◌, List, [], ◌∷◌, ◌++◌, codes, decimal, length, if◌then◌else◌}
 use Rattle.route_tree.specs.At.{begins}
 use Rattle.route_tree.specs.Operation.{same_op}
 use Rattle.route_tree.specs.Place.{prefix_text}
 use Rattle.route_tree.specs.Route.{Route, Routes, Policies, Prefixes, Pool, Server, Null, Failing, AllSync, Failover, MissFailover, WarmUp, ByOperation, ByPrefix, End, More, Otherwise, Policy, Wildcard, Prefix}
 use Rattle.fresh_gate.specs.declared.gap.Gap.{Gap}
+use Rattle.gate_words.specs.Names.{op_name}
+use Rattle.gate_words.specs.Sites.{longest_begun}
 use Rattle.gate_words.specs.declared.ways.Step.{Step}
 use Rattle.gate_words.specs.declared.ways.Step.TheVariants as steps
+use Rattle.tree_picture.specs.Alike.{next_run, next_prefix_run}
+use Rattle.tree_picture.specs.Lines.{no_run}
 use Rattle.tree_picture.specs.Nodes.{nodes}
+use Rattle.tree_picture.specs.Quoting.{quoted}
 use Rattle.tree_picture.specs.Statements.{red_node_line, step_lines, read_line}
+use Rattle.tree_picture.specs.declared.alike.Run.{Run}
 
 -- which child a step leads to: the index of a list's, 0 for the cold side and 1 for the warm one
 abbrev pub turn : Step → ℕ
@@ -28,11 +34,6 @@ abbrev pub later : List Step → List Step
 later [] = []
 later (step ∷ way) = way
 
--- how long the longest of the prefixes is that begin the text; 0 where none does
-abbrev pub longest_begun : List ℕ → Prefixes → ℕ
-longest_begun text (Wildcard r) = 0
-longest_begun text (Prefix p r ps) = if begins p text && nat_lt (longest_begun text ps) (length p) then length p else longest_begun text ps
-
 module _ (gap : Gap) where
   abbrev mutual
     -- the way below the node of this number. A selector by prefix is no step of a way, and a selector by operation has the read's child
@@ -41,35 +42,38 @@ module _ (gap : Gap) where
     way_below n (Server s) way = read_line n gap.server gap.op
     way_below n Null way = []
     way_below n Failing way = []
-    way_below n (AllSync rs) way = way_among n (first_turn way) (n + 1) rs (later way)
-    way_below n (Failover rs) way = way_among n (first_turn way) (n + 1) rs (later way)
-    way_below n (MissFailover rs) way = way_among n (first_turn way) (n + 1) rs (later way)
+    way_below n (AllSync rs) way = way_among n (first_turn way) 0 (n + 1) (no_run n) rs (later way)
+    way_below n (Failover rs) way = way_among n (first_turn way) 0 (n + 1) (no_run n) rs (later way)
+    way_below n (MissFailover rs) way = way_among n (first_turn way) 0 (n + 1) (no_run n) rs (later way)
     way_below n (WarmUp cold warm e) way =
-        if first_turn way == 0 then step_lines n (n + 1) ++ way_below (n + 1) cold (later way)
-        else step_lines n (n + 1 + nodes cold) ++ way_below (n + 1 + nodes cold) warm (later way)
+        if first_turn way == 0 then step_lines n (codes "cold") (n + 1) ++ way_below (n + 1) cold (later way)
+        else step_lines n (codes "warm") (n + 1 + nodes cold) ++ way_below (n + 1 + nodes cold) warm (later way)
     way_below n (ByOperation ps) way = way_by n (n + 1) ps (later way)
-    way_below n (ByPrefix ps) way = way_begun n (longest_begun (prefix_text gap.place.prefix) ps) (n + 1) ps way
+    way_below n (ByPrefix ps) way = way_begun n (longest_begun (prefix_text gap.place.prefix) ps) (n + 1) (no_run n) ps way
 
-    -- by the child of this index; the first of these children has this number
-    pub way_among : (parent index n : ℕ) → Routes → List Step → List ℕ
-    way_among parent index n End way = []
-    way_among parent index n (More r rs) way =
-        if index == 0 then step_lines parent n ++ way_below n r way
-        else way_among parent (index - 1) (n + nodes r) rs way
+    -- by the child that so many children stand before; the first of these children has this index and number, and stands after a
+    -- child of this run. Of a child that is drawn with others their node is marked, and the way goes on below it
+    pub way_among : (parent before index n : ℕ) → Run → Routes → List Step → List ℕ
+    way_among parent before index n run End way = []
+    way_among parent before index n run (More r rs) way =
+        if before == 0 then
+        step_lines parent (codes "children[" ++ decimal index ++ codes "]") (next_run run n r rs).head ++ way_below (next_run run n r rs).head r way
+        else way_among parent (before - 1) (index + 1) (n + nodes r) (next_run run n r rs) rs way
 
     -- by the first policy of the read, else by the default
     pub way_by : (parent n : ℕ) → Policies → List Step → List ℕ
-    way_by parent n (Otherwise r) way = step_lines parent n ++ way_below n r way
+    way_by parent n (Otherwise r) way = step_lines parent (codes "default") n ++ way_below n r way
     way_by parent n (Policy op r ps) way =
-        if same_op op gap.op then step_lines parent n ++ way_below n r way
+        if same_op op gap.op then step_lines parent (op_name op) n ++ way_below n r way
         else way_by parent (n + nodes r) ps way
 
     -- by the policy of this length that begins the place's prefix, else by the wildcard
-    pub way_begun : (parent longest n : ℕ) → Prefixes → List Step → List ℕ
-    way_begun parent longest n (Wildcard r) way = step_lines parent n ++ way_below n r way
-    way_begun parent longest n (Prefix p r ps) way =
-        if begins p (prefix_text gap.place.prefix) && length p == longest then step_lines parent n ++ way_below n r way
-        else way_begun parent longest (n + nodes r) ps way
+    pub way_begun : (parent longest n : ℕ) → Run → Prefixes → List Step → List ℕ
+    way_begun parent longest n run (Wildcard r) way = step_lines parent (codes "wildcard") n ++ way_below n r way
+    way_begun parent longest n run (Prefix p r ps) way =
+        if begins p (prefix_text gap.place.prefix) && length p == longest then
+        step_lines parent (codes "prefix " ++ quoted p) (next_prefix_run run n r ps).head ++ way_below (next_prefix_run run n r ps).head r way
+        else way_begun parent longest (n + nodes r) (next_prefix_run run n r ps) ps way
 
   -- from the root on
   abbrev pub way_lines : Route → List Step → List ℕ

@@ -1,98 +1,121 @@
 //! The nodes and edges of a tree.
 
-ghost use Rattle.std.specs.Prelude.{◌≡◌, ◌+◌, ◌<◌, ◌^◌, OnOk, length};
+ghost use Rattle.std.specs.Prelude.{◌≡◌, ◌+◌, ◌≤◌, ◌<◌, ◌^◌, OnOk, length};
 ghost use Rattle.std.specs.Io.KnownBytes.{Appends};
 ghost use Rattle.route_tree.specs.Form.{routes_of, policies_of, prefixes_of};
 ghost use Rattle.tree_picture.specs.Edges.{edge_text};
 ghost use Rattle.tree_picture.specs.Nodes.{nodes, nodes_of_all, nodes_of_policies, nodes_of_prefixes};
-ghost use Rattle.tree_picture.specs.Lines.{slot_lines, later_slot_lines, new_slot_line, below_lines, below_all, below_policies, below_prefixes, child_lines, tree_lines};
+ghost use Rattle.tree_picture.specs.Lines.{below_lines, child_lines, below_all, below_policies, below_prefixes, front_lines, run_front_lines, prefix_front_lines, tree_lines};
 
+use crate::alike::{Run, next_prefix_run, next_run};
 use crate::counting::node_count;
 use crate::edges::Edge;
-use crate::names::kind_name;
-use crate::statements::{write_front, write_node, write_server_edge};
-use mc_types::{Key, Op, ServerId};
+use crate::statements::{write_edge, write_node, write_prefix_node, write_run_node};
+use gate_words::Pool;
+use mc_types::{Key, Op};
+use route_json::Servers;
 use route_tree::{Tree, TreeForm};
 use std::io;
 use std::io::Write;
 
-// The edge to the server of a slot, unless it is that of the slot before it.
-fn write_new_slot<W: Write>(
-    number: u32,
-    before: ServerId,
-    server: ServerId,
-    out: &mut W,
-) -> io::Result<()>
-    ensures { OnOk result (Appends (W.contents out.old) (W.contents out.new) (new_slot_line number before server)) }
-{
-    if server.number() == before.number() {
-        Ok(())
-    } else {
-        write_server_edge(number, server, out)
-    }
-}
-
-// The edges to the servers of the slots after this one.
-fn write_later_slots<W: Write>(
-    number: u32,
-    before: ServerId,
-    slots: &[ServerId],
-    out: &mut W,
-) -> io::Result<()>
-    ensures { OnOk result (Appends (W.contents out.old) (W.contents out.new) (later_slot_lines number before slots.now)) }
-{
-    match slots {
-        [] => Ok(()),
-        [first, rest @ ..] => {
-            write_new_slot(number, before, *first, out)?;
-            write_later_slots(number, *first, rest, out)
-        }
-    }
-}
-
-// An edge to the server of each run of slots of a pool.
-fn write_slots<W: Write>(number: u32, slots: &[ServerId], out: &mut W) -> io::Result<()>
-    ensures { OnOk result (Appends (W.contents out.old) (W.contents out.new) (slot_lines number slots.now)) }
-{
-    match slots {
-        [] => Ok(()),
-        [first, rest @ ..] => {
-            write_server_edge(number, *first, out)?;
-            write_later_slots(number, *first, rest, out)
-        }
-    }
-}
-
 // What is below the node of this number.
 #[cycle(drawing)]
-fn write_below<W: Write>(number: u32, tree: &Tree, out: &mut W) -> io::Result<()>
+fn write_below<W: Write>(
+    servers: &Servers,
+    pools: &[Pool],
+    number: u32,
+    tree: &Tree,
+    out: &mut W,
+) -> io::Result<()>
     requires { number + nodes tree.now < 2 ^ 32 }
-    ensures { OnOk result (Appends (W.contents out.old) (W.contents out.new) (below_lines number tree.now)) }
+    ensures { OnOk result (Appends (W.contents out.old) (W.contents out.new) (below_lines servers.now pools.now number tree.now)) }
 {
+    let start = Run {
+        head: number,
+        more: 0,
+    };
     match tree.form() {
-        TreeForm::Pool(slots) => write_slots(number, slots, out),
-        TreeForm::Server(server) => write_server_edge(number, *server, out),
+        TreeForm::Pool(_) | TreeForm::Server(_) => Ok(()),
         TreeForm::Null | TreeForm::Error => Ok(()),
-        TreeForm::AllSync(children) => write_all(number, 0, number + 1, children, out),
-        TreeForm::Failover(children) => write_all(number, 0, number + 1, children, out),
-        TreeForm::MissFailover(children) => write_all(number, 0, number + 1, children, out),
+        TreeForm::AllSync(children) => write_all(
+            servers,
+            pools,
+            number,
+            0,
+            number + 1,
+            start,
+            children,
+            out,
+        ),
+        TreeForm::Failover(children) => write_all(
+            servers,
+            pools,
+            number,
+            0,
+            number + 1,
+            start,
+            children,
+            out,
+        ),
+        TreeForm::MissFailover(children) => write_all(
+            servers,
+            pools,
+            number,
+            0,
+            number + 1,
+            start,
+            children,
+            out,
+        ),
         TreeForm::WarmUp { cold, warm, .. } => {
-            write_child(number, Edge::Cold, number + 1, cold, out)?;
+            write_child(servers, pools, number, Edge::Cold, number + 1, cold, out)?;
             let next = number + 1 + node_count(cold);
-            write_child(number, Edge::Warm, next, warm, out)
+            write_child(servers, pools, number, Edge::Warm, next, warm, out)
         }
-        TreeForm::ByOperation { policies, default } => {
-            write_policies(number, number + 1, policies, default, out)
-        }
-        TreeForm::ByPrefix { policies, wildcard } => {
-            write_prefixes(number, number + 1, policies, wildcard, out)
-        }
+        TreeForm::ByOperation { policies, default } => write_policies(
+            servers,
+            pools,
+            number,
+            number + 1,
+            policies,
+            default,
+            out,
+        ),
+        TreeForm::ByPrefix { policies, wildcard } => write_prefixes(
+            servers,
+            pools,
+            number,
+            number + 1,
+            start,
+            policies,
+            wildcard,
+            out,
+        ),
     }
+}
+
+// The edge to a child, and its node.
+fn write_front<W: Write>(
+    servers: &Servers,
+    pools: &[Pool],
+    parent: u32,
+    edge: Edge<'_>,
+    number: u32,
+    child: &Tree,
+    out: &mut W,
+) -> io::Result<()>
+    ensures { OnOk result (Appends (W.contents out.old) (W.contents out.new) (front_lines servers.now pools.now parent (edge_text edge.entry) number child.now)) }
+{
+    write_edge(parent, edge, 0, number, out)?;
+    write_node(servers, pools, number, child, out)?;
+    Ok(())
 }
 
 // A child and what is below it.
 #[cycle(drawing)]
 fn write_child<W: Write>(
+    servers: &Servers,
+    pools: &[Pool],
     parent: u32,
     edge: Edge<'_>,
     number: u32,
@@ -100,30 +123,92 @@ fn write_child<W: Write>(
     out: &mut W,
 ) -> io::Result<()>
     requires { number + nodes child.now < 2 ^ 32 }
-    ensures { OnOk result (Appends (W.contents out.old) (W.contents out.new) (child_lines parent (edge_text edge.entry) number child.now)) }
+    ensures { OnOk result (Appends (W.contents out.old) (W.contents out.new) (child_lines servers.now pools.now parent (edge_text edge.entry) number child.now)) }
 {
-    write_front(parent, edge, number, child, out)?;
-    write_below(number, child, out)
+    write_front(servers, pools, parent, edge, number, child, out)?;
+    write_below(servers, pools, number, child, out)
 }
 
-// Children of a list, the first of them with this index and number.
+// The edge to the children of a run, and their node.
+fn write_run_front<W: Write>(
+    servers: &Servers,
+    pools: &[Pool],
+    parent: u32,
+    edge: Edge<'_>,
+    more: usize,
+    number: u32,
+    first: &Tree,
+    children: &[Tree],
+    out: &mut W,
+) -> io::Result<()>
+    requires { more + 1 < 2 ^ 64 }
+    ensures { OnOk result (Appends (W.contents out.old) (W.contents out.new) (run_front_lines servers.now pools.now parent (edge_text edge.entry) more number first.now (routes_of children.now))) }
+{
+    write_edge(parent, edge, more, number, out)?;
+    write_run_node(servers, pools, number, more, first, children, out)?;
+    Ok(())
+}
+
+// The same of children by prefix.
+fn write_prefix_front<W: Write>(
+    servers: &Servers,
+    pools: &[Pool],
+    parent: u32,
+    edge: Edge<'_>,
+    more: usize,
+    number: u32,
+    first: &Tree,
+    policies: &[(Key, Tree)],
+    wildcard: &Tree,
+    out: &mut W,
+) -> io::Result<()>
+    requires { more + 1 < 2 ^ 64 }
+    ensures { OnOk result (Appends (W.contents out.old) (W.contents out.new) (prefix_front_lines servers.now pools.now parent (edge_text edge.entry) more number first.now (prefixes_of policies.now wildcard.now))) }
+{
+    write_edge(parent, edge, more, number, out)?;
+    write_prefix_node(servers, pools, number, more, first, policies, wildcard, out)?;
+    Ok(())
+}
+
+// Children of a list, the first of them with this index and number, after a child of this run. A run is drawn where it begins.
 #[cycle(drawing)]
 fn write_all<W: Write>(
+    servers: &Servers,
+    pools: &[Pool],
     parent: u32,
     index: usize,
     number: u32,
+    run: Run,
     children: &[Tree],
     out: &mut W,
 ) -> io::Result<()>
     requires few { number + nodes_of_all (routes_of children.now) < 2 ^ 32 }
     requires within { index + length children.now < 2 ^ 64 }
-    ensures { OnOk result (Appends (W.contents out.old) (W.contents out.new) (below_all parent index number (routes_of children.now))) }
+    requires head { run.head ≤ number }
+    ensures { OnOk result (Appends (W.contents out.old) (W.contents out.new) (below_all servers.now pools.now parent index number run (routes_of children.now))) }
 {
     match children {
         [] => Ok(()),
         [first, rest @ ..] => {
-            write_child(parent, Edge::Child(index), number, first, out)?;
-            write_all(parent, index + 1, number + node_count(first), rest, out)
+            let next = number + node_count(first);
+            let run_on = next_run(run, number, first, rest);
+            if run.more == 0 {
+                write_run_front(
+                    servers,
+                    pools,
+                    parent,
+                    Edge::Child(index),
+                    run_on.more,
+                    number,
+                    first,
+                    children,
+                    out,
+                )?;
+                write_below(servers, pools, number, first, out)?;
+                write_all(servers, pools, parent, index + 1, next, run_on, rest, out)
+            } else {
+                write_all(servers, pools, parent, index + 1, next, run_on, rest, out)
+            }
         }
     }
 }
@@ -131,6 +216,8 @@ fn write_all<W: Write>(
 // Children by operation, the first of them with this number.
 #[cycle(drawing)]
 fn write_policies<W: Write>(
+    servers: &Servers,
+    pools: &[Pool],
     parent: u32,
     number: u32,
     policies: &[(Op, Tree)],
@@ -138,43 +225,87 @@ fn write_policies<W: Write>(
     out: &mut W,
 ) -> io::Result<()>
     requires { number + nodes_of_policies (policies_of policies.now default.now) < 2 ^ 32 }
-    ensures { OnOk result (Appends (W.contents out.old) (W.contents out.new) (below_policies parent number (policies_of policies.now default.now))) }
+    ensures { OnOk result (Appends (W.contents out.old) (W.contents out.new) (below_policies servers.now pools.now parent number (policies_of policies.now default.now))) }
 {
     match policies {
-        [] => write_child(parent, Edge::Default, number, default, out),
+        [] => write_child(servers, pools, parent, Edge::Default, number, default, out),
         [(op, child), rest @ ..] => {
-            write_child(parent, Edge::Policy(*op), number, child, out)?;
-            write_policies(parent, number + node_count(child), rest, default, out)
+            write_child(
+                servers,
+                pools,
+                parent,
+                Edge::Policy(*op),
+                number,
+                child,
+                out,
+            )?;
+            let next = number + node_count(child);
+            write_policies(servers, pools, parent, next, rest, default, out)
         }
     }
 }
 
-// Children by prefix, the first of them with this number.
+// Children by prefix, the first of them with this number, after a child of this run. A run is drawn where it begins.
 #[cycle(drawing)]
 fn write_prefixes<W: Write>(
+    servers: &Servers,
+    pools: &[Pool],
     parent: u32,
     number: u32,
+    run: Run,
     policies: &[(Key, Tree)],
     wildcard: &Tree,
     out: &mut W,
 ) -> io::Result<()>
-    requires { number + nodes_of_prefixes (prefixes_of policies.now wildcard.now) < 2 ^ 32 }
-    ensures { OnOk result (Appends (W.contents out.old) (W.contents out.new) (below_prefixes parent number (prefixes_of policies.now wildcard.now))) }
+    requires few { number + nodes_of_prefixes (prefixes_of policies.now wildcard.now) < 2 ^ 32 }
+    requires head { run.head ≤ number }
+    ensures { OnOk result (Appends (W.contents out.old) (W.contents out.new) (below_prefixes servers.now pools.now parent number run (prefixes_of policies.now wildcard.now))) }
 {
     match policies {
-        [] => write_child(parent, Edge::Wildcard, number, wildcard, out),
+        [] => write_child(
+            servers,
+            pools,
+            parent,
+            Edge::Wildcard,
+            number,
+            wildcard,
+            out,
+        ),
         [(prefix, child), rest @ ..] => {
-            write_child(parent, Edge::Prefix(prefix), number, child, out)?;
-            write_prefixes(parent, number + node_count(child), rest, wildcard, out)
+            let next = number + node_count(child);
+            let run_on = next_prefix_run(run, number, child, rest, wildcard);
+            if run.more == 0 {
+                write_prefix_front(
+                    servers,
+                    pools,
+                    parent,
+                    Edge::Prefix(prefix),
+                    run_on.more,
+                    number,
+                    child,
+                    policies,
+                    wildcard,
+                    out,
+                )?;
+                write_below(servers, pools, number, child, out)?;
+                write_prefixes(servers, pools, parent, next, run_on, rest, wildcard, out)
+            } else {
+                write_prefixes(servers, pools, parent, next, run_on, rest, wildcard, out)
+            }
         }
     }
 }
 
 /// Writes the nodes and edges of the tree. It takes no memory.
-pub fn write_tree<W: Write>(tree: &Tree, out: &mut W) -> io::Result<()>
-    ensures { OnOk result (Appends (W.contents out.old) (W.contents out.new) (tree_lines tree.now)) }
+pub fn write_tree<W: Write>(
+    servers: &Servers,
+    pools: &[Pool],
+    tree: &Tree,
+    out: &mut W,
+) -> io::Result<()>
+    ensures { OnOk result (Appends (W.contents out.old) (W.contents out.new) (tree_lines servers.now pools.now tree.now)) }
 {
     let _form = tree.form();
-    write_node(0, kind_name(tree), out)?;
-    write_below(0, tree, out)
+    write_node(servers, pools, 0, tree, out)?;
+    write_below(servers, pools, 0, tree, out)
 }

@@ -1,11 +1,12 @@
-//! Pictures of configurations in Graphviz's language: the tree and its servers, and of a gap the way that a read takes.
+//! Pictures of configurations in Graphviz's language: the tree, its pools and their servers, and of a gap the way that a read takes.
 #![tactic(auto)]
 
+pub mod alike;
 pub mod counting;
 pub mod drawing;
 pub mod edges;
+pub mod labels;
 pub mod marking;
-pub mod names;
 pub mod phrases;
 pub mod picture;
 pub mod quoting;

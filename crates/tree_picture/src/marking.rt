@@ -1,17 +1,19 @@
 //! The way that a read takes through the tree to the server of a gap.
 
-ghost use Rattle.std.specs.Prelude.{◌≡◌, ◌+◌, ◌<◌, ◌^◌, OnOk};
+ghost use Rattle.std.specs.Prelude.{◌≡◌, ◌+◌, ◌≤◌, ◌<◌, ◌^◌, OnOk, length};
 ghost use Rattle.std.specs.Io.KnownBytes.{Appends};
 ghost use Rattle.route_tree.specs.Form.{routes_of, policies_of, prefixes_of};
-ghost use Rattle.route_tree.specs.Route.{Route};
 ghost use Rattle.tree_picture.specs.Nodes.{nodes, nodes_of_all, nodes_of_policies, nodes_of_prefixes};
-ghost use Rattle.tree_picture.specs.Marks.{turn, first_turn, later, longest_begun, way_below, way_among, way_by, way_begun, way_lines};
+ghost use Rattle.tree_picture.specs.Marks.{turn, first_turn, later, way_below, way_among, way_by, way_begun, way_lines};
 
+use crate::alike::{Run, next_prefix_run, next_run};
 use crate::counting::node_count;
+use crate::edges::Edge;
 use crate::statements::{write_read, write_red_node, write_step};
 use coverage::prefixes::prefix_text;
 use fresh_gate::Gap;
 use gate_words::Step;
+use gate_words::sites::longest_begun;
 use mc_types::{Key, Op};
 use route_tree::{Tree, TreeForm};
 use std::io;
@@ -48,24 +50,6 @@ fn later(way: &[Step]) -> &[Step]
     }
 }
 
-// How long the longest of the prefixes is that begin the text; 0 where none does.
-fn longest_begun(policies: &[(Key, Tree)], wildcard: &Tree, text: &[u8]) -> usize
-    ensures { result ≡ longest_begun text.now (prefixes_of policies.now wildcard.now) }
-{
-    match policies {
-        [] => 0,
-        [(prefix, _), rest @ ..] => {
-            let others = longest_begun(rest, wildcard, text);
-            let prefix = prefix.as_bytes();
-            if text.starts_with(prefix) && others < prefix.len() {
-                prefix.len()
-            } else {
-                others
-            }
-        }
-    }
-}
-
 // Marks the way below the node of this number.
 #[cycle(marking)]
 fn write_way_below<W: Write>(
@@ -78,6 +62,10 @@ fn write_way_below<W: Write>(
     requires { number + nodes tree.now < 2 ^ 32 }
     ensures { OnOk result (Appends (W.contents out.old) (W.contents out.new) (way_below gap.now number tree.now way.now)) }
 {
+    let start = Run {
+        head: number,
+        more: 0,
+    };
     match tree.form() {
         TreeForm::Pool(_) | TreeForm::Server(_) => write_read(number, gap.server, gap.op, out),
         TreeForm::Null | TreeForm::Error => Ok(()),
@@ -85,7 +73,9 @@ fn write_way_below<W: Write>(
             gap,
             number,
             first_turn(way),
+            0,
             number + 1,
+            start,
             children,
             later(way),
             out,
@@ -94,7 +84,9 @@ fn write_way_below<W: Write>(
             gap,
             number,
             first_turn(way),
+            0,
             number + 1,
+            start,
             children,
             later(way),
             out,
@@ -103,18 +95,20 @@ fn write_way_below<W: Write>(
             gap,
             number,
             first_turn(way),
+            0,
             number + 1,
+            start,
             children,
             later(way),
             out,
         ),
         TreeForm::WarmUp { cold, warm, .. } => {
             if first_turn(way) == 0 {
-                write_step(number, number + 1, out)?;
+                write_step(number, Edge::Cold, number + 1, out)?;
                 write_way_below(gap, number + 1, cold, later(way), out)
             } else {
                 let next = number + 1 + node_count(cold);
-                write_step(number, next, out)?;
+                write_step(number, Edge::Warm, next, out)?;
                 write_way_below(gap, next, warm, later(way), out)
             }
         }
@@ -134,6 +128,7 @@ fn write_way_below<W: Write>(
                 number,
                 longest,
                 number + 1,
+                start,
                 policies,
                 wildcard,
                 way,
@@ -143,32 +138,41 @@ fn write_way_below<W: Write>(
     }
 }
 
-// Marks the way by the child of this index; the first of these children has this number.
+// Marks the way by the child that so many children stand before; the first of these children has this index and number, and stands
+// after a child of this run. Of a child that is drawn with others their node is marked, and the way goes on below it.
 #[cycle(marking)]
 fn write_way_among<W: Write>(
     gap: &Gap,
     parent: u32,
+    before: usize,
     index: usize,
     number: u32,
+    run: Run,
     children: &[Tree],
     way: &[Step],
     out: &mut W,
 ) -> io::Result<()>
-    requires { number + nodes_of_all (routes_of children.now) < 2 ^ 32 }
-    ensures { OnOk result (Appends (W.contents out.old) (W.contents out.new) (way_among gap.now parent index number (routes_of children.now) way.now)) }
+    requires few { number + nodes_of_all (routes_of children.now) < 2 ^ 32 }
+    requires within { index + length children.now < 2 ^ 64 }
+    requires head { run.head ≤ number }
+    ensures { OnOk result (Appends (W.contents out.old) (W.contents out.new) (way_among gap.now parent before index number run (routes_of children.now) way.now)) }
 {
     match children {
         [] => Ok(()),
         [first, rest @ ..] => {
-            if index == 0 {
-                write_step(parent, number, out)?;
-                write_way_below(gap, number, first, way, out)
+            let run_on = next_run(run, number, first, rest);
+            if before == 0 {
+                write_step(parent, Edge::Child(index), run_on.head, out)?;
+                write_way_below(gap, run_on.head, first, way, out)
             } else {
+                let next = number + node_count(first);
                 write_way_among(
                     gap,
                     parent,
-                    index - 1,
-                    number + node_count(first),
+                    before - 1,
+                    index + 1,
+                    next,
+                    run_on,
                     rest,
                     way,
                     out,
@@ -178,7 +182,7 @@ fn write_way_among<W: Write>(
     }
 }
 
-// Marks the way by the child of the read; the first of these children has this number.
+// Marks the way by the child of the gap's read, else by the default.
 #[cycle(marking)]
 fn write_way_by<W: Write>(
     gap: &Gap,
@@ -194,70 +198,58 @@ fn write_way_by<W: Write>(
 {
     match policies {
         [] => {
-            write_step(parent, number, out)?;
+            write_step(parent, Edge::Default, number, out)?;
             write_way_below(gap, number, default, way, out)
         }
         [(op, child), rest @ ..] => {
             if *op == gap.op {
-                write_step(parent, number, out)?;
+                write_step(parent, Edge::Policy(*op), number, out)?;
                 write_way_below(gap, number, child, way, out)
             } else {
-                write_way_by(
-                    gap,
-                    parent,
-                    number + node_count(child),
-                    rest,
-                    default,
-                    way,
-                    out,
-                )
+                let next = number + node_count(child);
+                write_way_by(gap, parent, next, rest, default, way, out)
             }
         }
     }
 }
 
-// Marks the way by the policy of this length that begins the place's prefix, else by the wildcard; the first of these children has this number.
+// Marks the way by the policy of this length that begins the place's prefix, else by the wildcard.
 #[cycle(marking)]
 fn write_way_begun<W: Write>(
     gap: &Gap,
     parent: u32,
     longest: usize,
     number: u32,
+    run: Run,
     policies: &[(Key, Tree)],
     wildcard: &Tree,
     way: &[Step],
     out: &mut W,
 ) -> io::Result<()>
-    requires { number + nodes_of_prefixes (prefixes_of policies.now wildcard.now) < 2 ^ 32 }
-    ensures { OnOk result (Appends (W.contents out.old) (W.contents out.new) (way_begun gap.now parent longest number (prefixes_of policies.now wildcard.now) way.now)) }
+    requires few { number + nodes_of_prefixes (prefixes_of policies.now wildcard.now) < 2 ^ 32 }
+    requires head { run.head ≤ number }
+    ensures { OnOk result (Appends (W.contents out.old) (W.contents out.new) (way_begun gap.now parent longest number run (prefixes_of policies.now wildcard.now) way.now)) }
 {
     match policies {
         [] => {
-            write_step(parent, number, out)?;
+            write_step(parent, Edge::Wildcard, number, out)?;
             write_way_below(gap, number, wildcard, way, out)
         }
         [(prefix, child), rest @ ..] => {
-            let prefix = prefix.as_bytes();
-            if prefix_text(&gap.place.prefix).starts_with(prefix) && prefix.len() == longest {
-                write_step(parent, number, out)?;
-                write_way_below(gap, number, child, way, out)
+            let run_on = next_prefix_run(run, number, child, rest, wildcard);
+            let own = prefix.as_bytes();
+            if prefix_text(&gap.place.prefix).starts_with(own) && own.len() == longest {
+                write_step(parent, Edge::Prefix(prefix), run_on.head, out)?;
+                write_way_below(gap, run_on.head, child, way, out)
             } else {
-                write_way_begun(
-                    gap,
-                    parent,
-                    longest,
-                    number + node_count(child),
-                    rest,
-                    wildcard,
-                    way,
-                    out,
-                )
+                let next = number + node_count(child);
+                write_way_begun(gap, parent, longest, next, run_on, rest, wildcard, way, out)
             }
         }
     }
 }
 
-/// Marks the way of the gap's read from the root of the tree on. It takes no memory.
+/// Marks the way of the gap's read, from the root on. It takes no memory.
 pub fn write_way<W: Write>(gap: &Gap, tree: &Tree, way: &[Step], out: &mut W) -> io::Result<()>
     ensures { OnOk result (Appends (W.contents out.old) (W.contents out.new) (way_lines gap.now tree.now way.now)) }
 {

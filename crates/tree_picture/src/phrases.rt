@@ -8,6 +8,8 @@ ghost use Rattle.tree_picture.specs.Phrases.{text_of};
 pub enum Phrase {
     /// The front of the graph.
     Graph,
+    /// That it goes from left to right.
+    Direction,
     /// The front of a label.
     Label,
     /// What ends a label and its statement.
@@ -26,12 +28,13 @@ pub fn text_of(phrase: Phrase) -> &'static str
 {
     match phrase {
         Phrase::Graph => "strict digraph mcgate {",
+        Phrase::Direction => "  rankdir=LR;",
         Phrase::Label => " [label=\"",
         Phrase::End => "\"];",
         Phrase::Boxed => "\", shape=box];",
         Phrase::Red => " [color=red];",
         Phrase::LabelRed => "\", color=red];",
-        Phrase::LabelThick => "\", color=red, penwidth=2];",
+        Phrase::LabelThick => "\", shape=box, color=red, penwidth=2];",
         Phrase::NotCleared => "\\nnot cleared by ",
     }
 }

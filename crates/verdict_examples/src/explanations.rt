@@ -4,7 +4,7 @@ ghost use Rattle.std.specs.Prelude.{◌≡◌, IfOk};
 ghost use Rattle.route_tree.specs.Plan as plan;
 
 use coverage::{Deleting, taken};
-use gate_words::{explain, write_explanation};
+use gate_words::{explain, read_pools, write_explanation};
 use mc_types::{Op, ServerId};
 use route_tree::{Plain, PlainForm};
 use server_addresses::Servers;
@@ -32,12 +32,19 @@ fn addresses(alloc: Global) -> Result<Servers, AllocError> {
     Ok(servers)
 }
 
+fn pools() -> &'static str {
+    r#"{"pools":{"A":{"servers":["a:1"]},"B":{"servers":["b:1"]}}}"#
+}
+
 fn printed() -> &'static str {
-    "# a get of these keys can show or copy what a:1 holds: FailoverRoute children[0] > a:1
-# reads of them can show or copy what these hold: a:1 b:1
+    "# a get of these keys can show or copy what a:1 holds: FailoverRoute children[0] > a:1 (pool A, place 1 of 1)
+# reads of them can show or copy what these hold:
+#   a:1 (pool A, place 1 of 1)
+#   b:1 (pool B, place 1 of 1)
 # a delete that is acknowledged has cleared: none
-# and can have left as they were: a:1 b:1
-# to change: send each delete to both, by an AllSyncRoute
+# and can have left as they were:
+#   a:1 (pool A, place 1 of 1)
+#   b:1 (pool B, place 1 of 1)
 "
 }
 
@@ -47,8 +54,10 @@ fn written(alloc: Global, plain: &Plain, server: ServerId) -> Result<Vec<u8>, Fa
     if taken(plain, Op::Get, server) {
         let explanation = explain(alloc, plain, Op::Get, server, Deleting::Delete)?;
         let servers = addresses(alloc)?;
+        let pools = read_pools(alloc, pools(), &servers)?;
         write_explanation(
             &servers,
+            &pools,
             Op::Get,
             server,
             Deleting::Delete,

@@ -2,7 +2,7 @@
 
 use coverage::Deleting;
 use fresh_gate::Gap;
-use gate_words::{Listed, Step};
+use gate_words::{Listed, Step, read_pools};
 use mc_types::{Key, Op, ServerId};
 use route_json::{Config, read_config};
 use route_tree::Place;
@@ -24,26 +24,38 @@ fn failover_text() -> &'static str {
 
 fn failover_lines() -> &'static str {
     r#"strict digraph mcgate {
+  rankdir=LR;
   r0 [label="FailoverRoute"];
   r0 -> r1 [label="children[0]"];
-  r1 [label="PoolRoute"];
-  r1 -> s0;
+  r1 [label="PoolRoute A\na:1", shape=box];
   r0 -> r2 [label="children[1]"];
-  r2 [label="PoolRoute"];
-  r2 -> s1;
-  r2 -> s0;
-  s0 [label="a:1", shape=box];
-  s1 [label="b:1", shape=box];
+  r2 [label="PoolRoute B\nb:1\na:1", shape=box];
 }
 "#
 }
 
-// The weight of a:1 is two slots in a row, which have one edge.
+// The picture of the configuration of a text.
+fn picture(alloc: Global, text: &str) -> Result<Vec<u8>, Fail> {
+    let config = config(alloc, text)?;
+    let pools = read_pools(alloc, text, config.servers())?;
+    let mut out = Vec::new(alloc);
+    write_picture(&config, &pools, &mut out)?;
+    Ok(out)
+}
+
+// The picture of the configuration of a text with this gap, to which this way leads.
+fn gap_picture(alloc: Global, text: &str, gap: &Gap, way: &[Step]) -> Result<Vec<u8>, Fail> {
+    let config = config(alloc, text)?;
+    let pools = read_pools(alloc, text, config.servers())?;
+    let mut out = Vec::new(alloc);
+    write_gap_picture(&config, &pools, gap, way, &mut out)?;
+    Ok(out)
+}
+
+// The weight of a:1 is two slots in a row, which have one line.
 #[test]
 fn tree_without_marks(rt: HostRuntime) -> Result<(), Fail> {
-    let config = config(rt.alloc(), failover_text())?;
-    let mut out = Vec::new(rt.alloc());
-    write_picture(&config, &mut out)?;
+    let out = picture(rt.alloc(), failover_text())?;
     assert_eq!(rt; out.as_slice(), failover_lines().as_bytes());
     Ok(())
 }
@@ -54,6 +66,7 @@ fn selectors_text() -> &'static str {
 
 fn selectors_lines() -> &'static str {
     r#"strict digraph mcgate {
+  rankdir=LR;
   r0 [label="PrefixSelectorRoute"];
   r0 -> r1 [label="prefix x"];
   r1 [label="NullRoute"];
@@ -64,32 +77,26 @@ fn selectors_lines() -> &'static str {
   r2 -> r4 [label="default"];
   r4 [label="WarmUpRoute"];
   r4 -> r5 [label="cold"];
-  r5 [label="PoolRoute"];
-  r5 -> s0;
+  r5 [label="PoolRoute A\na:1", shape=box];
   r4 -> r6 [label="warm"];
-  r6 [label="PoolRoute"];
-  r6 -> s1;
+  r6 [label="PoolRoute B\nb:1", shape=box];
   r0 -> r7 [label="wildcard"];
-  r7 [label="PoolRoute"];
-  r7 -> s0;
-  s0 [label="a:1", shape=box];
-  s1 [label="b:1", shape=box];
+  r7 [label="PoolRoute A\na:1", shape=box];
   r0 [color=red];
-  r0 -> r2 [color=red];
+  r0 -> r2 [label="prefix x\"\\\\", color=red];
   r2 [color=red];
-  r2 -> r4 [color=red];
+  r2 -> r4 [label="default", color=red];
   r4 [color=red];
-  r4 -> r6 [color=red];
+  r4 -> r6 [label="warm", color=red];
   r6 [color=red];
   r6 -> s1 [label="get", color=red];
-  s1 [label="b:1\nnot cleared by md", color=red, penwidth=2];
+  s1 [label="b:1 (pool B, place 1 of 1)\nnot cleared by md", shape=box, color=red, penwidth=2];
 }
 "#
 }
 
 // Whether this is the picture of the gap of a get and an md, at the keys of this prefix, from the warm side.
 fn is_drawn(alloc: Global, prefix: Key) -> Result<bool, Fail> {
-    let config = config(alloc, selectors_text())?;
     let gap = Gap {
         place: Place {
             prefix: Some(prefix),
@@ -101,8 +108,7 @@ fn is_drawn(alloc: Global, prefix: Key) -> Result<bool, Fail> {
         deleting: Deleting::Md,
     };
     let way = [Step::Default, Step::Warm];
-    let mut out = Vec::new(alloc);
-    write_gap_picture(&config, &gap, &way, &mut out)?;
+    let out = gap_picture(alloc, selectors_text(), &gap, &way)?;
     Ok(out.as_slice() == selectors_lines().as_bytes())
 }
 
@@ -118,17 +124,16 @@ fn way_through_selectors(rt: HostRuntime) -> Result<(), Fail> {
 // What a picture ends with, whose tree is a failover and whose gap's read goes to its second child.
 fn second_child_lines() -> &'static str {
     r#"  r0 [color=red];
-  r0 -> r2 [color=red];
+  r0 -> r2 [label="children[1]", color=red];
   r2 [color=red];
   r2 -> s1 [label="incr", color=red];
-  s1 [label="b:1\nnot cleared by delete", color=red, penwidth=2];
+  s1 [label="b:1 (pool B, place 1 of 2)\nnot cleared by delete", shape=box, color=red, penwidth=2];
 }
 "#
 }
 
 #[test]
 fn way_by_the_second_child(rt: HostRuntime) -> Result<(), Fail> {
-    let config = config(rt.alloc(), failover_text())?;
     let gap = Gap {
         place: Place {
             prefix: None,
@@ -140,9 +145,95 @@ fn way_by_the_second_child(rt: HostRuntime) -> Result<(), Fail> {
         deleting: Deleting::Delete,
     };
     let way = [Step::Child(Listed::Failover, 1)];
-    let mut out = Vec::new(rt.alloc());
-    write_gap_picture(&config, &gap, &way, &mut out)?;
+    let out = gap_picture(rt.alloc(), failover_text(), &gap, &way)?;
     assert!(rt; out.as_slice().ends_with(second_child_lines().as_bytes()));
+    Ok(())
+}
+
+fn alike_text() -> &'static str {
+    r#"{"pools":{"A":{"servers":["a:1"]},"B":{"servers":["b:1"]},"C":{"servers":["c:1"]},"D":{"servers":["d:1"]},"L":{"servers":["l:1","l:2","l:3","l:4","l:5","l:6","l:7","l:8","l:9"]},"M":{"servers":["l:1","l:2","l:3","l:4","l:5","l:6","l:7","l:8","l:9"]}},"route":{"type":"AllSyncRoute","children":["PoolRoute|A","PoolRoute|B","PoolRoute|C",{"type":"PrefixSelectorRoute","policies":{"1":"PoolRoute|A","2":"PoolRoute|B","3":"PoolRoute|C","4":"PoolRoute|D","5":"NullRoute"},"wildcard":"PoolRoute|L"},"PoolRoute|A","PoolRoute|B","PoolRoute|C","PoolRoute|D",{"type":"FailoverRoute","children":["PoolRoute|A","PoolRoute|B"]},{"type":"FailoverRoute","children":["PoolRoute|B","PoolRoute|A"]},{"type":"FailoverRoute","children":["PoolRoute|C","PoolRoute|D"]},{"type":"FailoverRoute","children":["PoolRoute|D","PoolRoute|C"]},{"type":"FailoverRoute","children":["PoolRoute|D","NullRoute"]},"AllSyncRoute|Pool|L"]}}"#
+}
+
+// Three in a row are drawn one by one, four as one; of a pool eight servers are named, and of a run eight pools or servers. Pools of the
+// same slots are both named.
+fn alike_lines() -> &'static str {
+    r#"strict digraph mcgate {
+  rankdir=LR;
+  r0 [label="AllSyncRoute"];
+  r0 -> r1 [label="children[0]"];
+  r1 [label="PoolRoute A\na:1", shape=box];
+  r0 -> r2 [label="children[1]"];
+  r2 [label="PoolRoute B\nb:1", shape=box];
+  r0 -> r3 [label="children[2]"];
+  r3 [label="PoolRoute C\nc:1", shape=box];
+  r0 -> r4 [label="children[3]"];
+  r4 [label="PrefixSelectorRoute"];
+  r4 -> r5 [label="prefix 1 and 3 more"];
+  r5 [label="4 x PoolRoute\n A\n B\n C\n D", shape=box];
+  r4 -> r9 [label="prefix 5"];
+  r9 [label="NullRoute"];
+  r4 -> r10 [label="wildcard"];
+  r10 [label="PoolRoute L M\nl:1\nl:2\nl:3\nl:4\nl:5\nl:6\nl:7\nl:8\n..", shape=box];
+  r0 -> r11 [label="children[4] and 3 more"];
+  r11 [label="4 x PoolRoute\n A\n B\n C\n D", shape=box];
+  r0 -> r15 [label="children[8] and 3 more"];
+  r15 [label="4 x FailoverRoute"];
+  r15 -> r16 [label="children[0]"];
+  r16 [label="PoolRoute A\na:1", shape=box];
+  r15 -> r17 [label="children[1]"];
+  r17 [label="PoolRoute B\nb:1", shape=box];
+  r0 -> r27 [label="children[12]"];
+  r27 [label="FailoverRoute"];
+  r27 -> r28 [label="children[0]"];
+  r28 [label="PoolRoute D\nd:1", shape=box];
+  r27 -> r29 [label="children[1]"];
+  r29 [label="NullRoute"];
+  r0 -> r30 [label="children[13]"];
+  r30 [label="AllSyncRoute"];
+  r30 -> r31 [label="children[0] and 8 more"];
+  r31 [label="9 x Server\nl:1\nl:2\nl:3\nl:4\nl:5\nl:6\nl:7\nl:8\n..", shape=box];
+}
+"#
+}
+
+#[test]
+fn alike_children(rt: HostRuntime) -> Result<(), Fail> {
+    let out = picture(rt.alloc(), alike_text())?;
+    assert_eq!(rt; out.as_slice(), alike_lines().as_bytes());
+    Ok(())
+}
+
+// What a picture of this configuration ends with, whose gap's read goes to the second child of the third failover.
+fn within_a_run_lines() -> &'static str {
+    r#"  r0 [color=red];
+  r0 -> r15 [label="children[10]", color=red];
+  r15 [color=red];
+  r15 -> r17 [label="children[1]", color=red];
+  r17 [color=red];
+  r17 -> s3 [label="get", color=red];
+  s3 [label="d:1 (pool D, place 1 of 1)\nnot cleared by delete", shape=box, color=red, penwidth=2];
+}
+"#
+}
+
+#[test]
+fn way_within_a_run(rt: HostRuntime) -> Result<(), Fail> {
+    let gap = Gap {
+        place: Place {
+            prefix: None,
+            residue: 0,
+            modulus: 9,
+        },
+        server: ServerId::new(3),
+        op: Op::Get,
+        deleting: Deleting::Delete,
+    };
+    let way = [
+        Step::Child(Listed::AllSync, 10),
+        Step::Child(Listed::Failover, 1),
+    ];
+    let out = gap_picture(rt.alloc(), alike_text(), &gap, &way)?;
+    assert!(rt; out.as_slice().ends_with(within_a_run_lines().as_bytes()));
     Ok(())
 }
 

@@ -12,18 +12,18 @@ fn config() -> &'static str {
 
 fn printed() -> &'static str {
     "key=x{a}y hash_part=a hash=3826002220 prefix= residue=0/2
-  get a:1 b:1
-  gat a:1
-  set a:1
-  add a:1
-  replace a:1
-  append a:1
-  prepend a:1
-  cas a:1
+  get a:1 (pool A, place 1 of 2) b:1 (pool B, place 1 of 1)
+  gat a:1 (pool A, place 1 of 2)
+  set a:1 (pool A, place 1 of 2)
+  add a:1 (pool A, place 1 of 2)
+  replace a:1 (pool A, place 1 of 2)
+  append a:1 (pool A, place 1 of 2)
+  prepend a:1 (pool A, place 1 of 2)
+  cas a:1 (pool A, place 1 of 2)
   delete
-  incr a:1
-  decr a:1
-  touch a:1
+  incr a:1 (pool A, place 1 of 2)
+  decr a:1 (pool A, place 1 of 2)
+  touch a:1 (pool A, place 1 of 2)
 "
 }
 

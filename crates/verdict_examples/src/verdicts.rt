@@ -58,11 +58,52 @@ fn words() -> &'static str {
 {"type":"WarmUpRoute","cold":"PoolRoute|A","warm":"PoolRoute|B","exptime":0}
 -- 1
 > 0 get k0\r\n
-# a get of these keys can show or copy what 127.0.0.1:5002 holds: WarmUpRoute warm > 127.0.0.1:5002
-# reads of them can show or copy what these hold: 127.0.0.1:5001 127.0.0.1:5002
-# a delete that is acknowledged has cleared: 127.0.0.1:5001
-# and can have left as they were: 127.0.0.1:5002
-# to change: send each delete to both, by an AllSyncRoute
+# in the script, server 1 is 127.0.0.1:5002 (pool B, place 1 of 1)
+# a get of these keys can show or copy what 127.0.0.1:5002 holds: WarmUpRoute warm > 127.0.0.1:5002 (pool B, place 1 of 1)
+# reads of them can show or copy what these hold:
+#   127.0.0.1:5001 (pool A, place 1 of 1)
+#   127.0.0.1:5002 (pool B, place 1 of 1)
+# a delete that is acknowledged has cleared:
+#   127.0.0.1:5001 (pool A, place 1 of 1)
+# and can have left as they were:
+#   127.0.0.1:5002 (pool B, place 1 of 1)
+# deletes of these keys go by /route: WarmUpRoute
+# to change: it asks its cold side alone, not 127.0.0.1:5002 (pool B, place 1 of 1): put an AllSyncRoute of both sides there for deletes
+# or: let no read of these keys go to that server, or send their deletes to an ErrorRoute, which acknowledges none
+== all_sync_that_lacks_a_child
+{"type":"OperationSelectorRoute","default_policy":{"type":"FailoverRoute","children":["PoolRoute|A","PoolRoute|B"]},"operation_policies":{"delete":{"type":"AllSyncRoute","children":["PoolRoute|A"]}}}
+-- 1
+# a delete that is acknowledged has cleared:
+#   127.0.0.1:5001 (pool A, place 1 of 1)
+# and can have left as they were:
+#   127.0.0.1:5002 (pool B, place 1 of 1)
+# deletes of these keys go by /route/operation_policies/delete: AllSyncRoute
+# to change: it lacks a child that always clears 127.0.0.1:5002 (pool B, place 1 of 1): add one
+# or: let no read of these keys go to that server, or send their deletes to an ErrorRoute, which acknowledges none
+== failover_for_deletes
+{"type":"FailoverRoute","children":["PoolRoute|A","PoolRoute|B"]}
+-- 1
+# deletes of these keys go by /route: FailoverRoute
+# to change: it can stop before 127.0.0.1:5001 (pool A, place 1 of 1): put an AllSyncRoute of its children there for deletes
+# or: let no read of these keys go to that server, or send their deletes to an ErrorRoute, which acknowledges none
+== first_child_alone
+{"type":"MissFailoverRoute","children":["PoolRoute|A","PoolRoute|B"]}
+-- 1
+# deletes of these keys go by /route: MissFailoverRoute
+# to change: it asks its first child alone, not 127.0.0.1:5002 (pool B, place 1 of 1): put an AllSyncRoute of its children there for deletes
+# or: let no read of these keys go to that server, or send their deletes to an ErrorRoute, which acknowledges none
+== prefix_with_slash_and_tilde
+{"type":"PrefixSelectorRoute","policies":{"x/":"PoolRoute|A","x/~":{"type":"OperationSelectorRoute","default_policy":"PoolRoute|A","operation_policies":{"delete":"NullRoute"}}},"wildcard":"PoolRoute|A"}
+-- 1
+# deletes of these keys go by /route/policies/x~1~0/operation_policies/delete: NullRoute
+# to change: it clears nothing, not even 127.0.0.1:5001 (pool A, place 1 of 1): send deletes to that server
+# or: let no read of these keys go to that server, or send their deletes to an ErrorRoute, which acknowledges none
+== default_policy_of_a_wildcard
+{"type":"PrefixSelectorRoute","policies":{},"wildcard":{"type":"OperationSelectorRoute","default_policy":"PoolRoute|A","operation_policies":{"get":"PoolRoute|B"}}}
+-- 1
+# deletes of these keys go by /route/wildcard/default_policy: PoolRoute A
+# to change: it lacks 127.0.0.1:5002 (pool B, place 1 of 1): put an AllSyncRoute there, over it and a route to that server
+# or: let no read of these keys go to that server, or send their deletes to an ErrorRoute, which acknowledges none
 == pool
 "PoolRoute|A"
 -- 0
@@ -71,34 +112,60 @@ accepted places=1
 "#
 }
 
+// What the words of whole configurations end with: pools of several servers, a server in several pools and twice in one, a weight.
+fn words_on_pools() -> &'static str {
+    r#"== server_in_two_pools
+{"pools":{"D":{"servers":["h:1","h:2","h:3"]},"R":{"servers":["h:1","h:2"]}},"route":{"type":"OperationSelectorRoute","default_policy":"PoolRoute|R","operation_policies":{"delete":"PoolRoute|D"}}}
+-- 1
+> 0 get k6\r\n
+# in the script, server 0 is h:1 (pool D, place 1 of 3) (pool R, place 1 of 2)
+# a get of these keys can show or copy what h:1 holds: OperationSelectorRoute default_policy > h:1 (pool D, place 1 of 3) (pool R, place 1 of 2)
+# reads of them can show or copy what these hold:
+#   h:1 (pool D, place 1 of 3) (pool R, place 1 of 2)
+# a delete that is acknowledged has cleared:
+#   h:3 (pool D, place 3 of 3)
+# and can have left as they were:
+#   h:1 (pool D, place 1 of 3) (pool R, place 1 of 2)
+# deletes of these keys go by /route/operation_policies/delete: PoolRoute D
+# to change: it lacks h:1 (pool D, place 1 of 3) (pool R, place 1 of 2): put an AllSyncRoute there, over it and a route to that server
+# or: let no read of these keys go to that server, or send their deletes to an ErrorRoute, which acknowledges none
+== twice_in_a_list_and_weights
+{"pools":{"a b":{"servers":["h:1:2","h:2","h:1"]},"t\t":{"servers":["h:1","h:1","h:2","h:1"]}},"route":{"type":"OperationSelectorRoute","default_policy":"PoolRoute|a b","operation_policies":{"delete":"NullRoute"}}}
+-- 1
+# reads of them can show or copy what these hold:
+#   h:1 (pool a b, place 1 of 3) (pool a b, place 3 of 3) (pool t\x09, place 1 of 4) (pool t\x09, place 2 of 4) (pool t\x09, place 4 of 4)
+# a delete that is acknowledged has cleared: none
+# and can have left as they were:
+#   h:1 (pool a b, place 1 of 3) (pool a b, place 3 of 3) (pool t\x09, place 1 of 4) (pool t\x09, place 2 of 4) (pool t\x09, place 4 of 4)
+# deletes of these keys go by /route/operation_policies/delete: NullRoute
+# to change: it clears nothing, not even h:1 (pool a b, place 1 of 3) (pool a b, place 3 of 3) (pool t\x09, place 1 of 4) (pool t\x09, place 2 of 4) (pool t\x09, place 4 of 4): send deletes to that server
+# or: let no read of these keys go to that server, or send their deletes to an ErrorRoute, which acknowledges none
+"#
+}
+
 fn drawings() -> &'static str {
     r#"== warm_up
 {"type":"WarmUpRoute","cold":"PoolRoute|A","warm":"PoolRoute|B","exptime":0}
 -- 1
 strict digraph mcgate {
+  rankdir=LR;
   r0 [label="WarmUpRoute"];
   r0 -> r1 [label="cold"];
-  r1 [label="PoolRoute"];
-  r1 -> s0;
+  r1 [label="PoolRoute A\n127.0.0.1:5001", shape=box];
   r0 -> r2 [label="warm"];
-  r2 [label="PoolRoute"];
-  r2 -> s1;
-  s0 [label="127.0.0.1:5001", shape=box];
-  s1 [label="127.0.0.1:5002", shape=box];
+  r2 [label="PoolRoute B\n127.0.0.1:5002", shape=box];
   r0 [color=red];
-  r0 -> r2 [color=red];
+  r0 -> r2 [label="warm", color=red];
   r2 [color=red];
   r2 -> s1 [label="get", color=red];
-  s1 [label="127.0.0.1:5002\nnot cleared by delete", color=red, penwidth=2];
+  s1 [label="127.0.0.1:5002 (pool B, place 1 of 1)\nnot cleared by delete", shape=box, color=red, penwidth=2];
 }
 == pool
 "PoolRoute|A"
 -- 0
 strict digraph mcgate {
-  r0 [label="PoolRoute"];
-  r0 -> s0;
-  s0 [label="127.0.0.1:5001", shape=box];
-  s1 [label="127.0.0.1:5002", shape=box];
+  rankdir=LR;
+  r0 [label="PoolRoute A\n127.0.0.1:5001", shape=box];
 }
 == no_pool
 "PoolRoute|Z"
@@ -166,6 +233,12 @@ fn pictures(rt: HostRuntime) -> Result<(), Fail> {
     all_hold(rt.alloc(), &drawn, drawings())
 }
 
+// Whether what is printed has this status and ends with these lines.
+fn ends_as_wanted(got: &str, wanted: &str) -> bool {
+    let (status, words) = wanted.split_once('\n').unwrap_or((wanted, ""));
+    got.starts_with(status) && got.ends_with(words)
+}
+
 #[test]
 fn verdicts_in_words(rt: HostRuntime) -> Result<(), Fail> {
     for part in words().split("== ").skip(1) {
@@ -175,9 +248,21 @@ fn verdicts_in_words(rt: HostRuntime) -> Result<(), Fail> {
             wanted,
         } = example_of(part);
         let got = verdict_on_route(rt.alloc(), Form::Explained, given)?;
-        let (status, words) = wanted.split_once('\n').unwrap_or((wanted, ""));
-        assert!(rt; got.as_str().starts_with(status), "at {name}: {got}");
-        assert!(rt; got.as_str().ends_with(words), "at {name}: {got}");
+        assert!(rt; ends_as_wanted(got.as_str(), wanted), "at {name}: {got}");
+    }
+    Ok(())
+}
+
+#[test]
+fn verdicts_on_pools_in_words(rt: HostRuntime) -> Result<(), Fail> {
+    for part in words_on_pools().split("== ").skip(1) {
+        let Example {
+            name,
+            given,
+            wanted,
+        } = example_of(part);
+        let got = verdict(rt.alloc(), Form::Explained, given)?;
+        assert!(rt; ends_as_wanted(got.as_str(), wanted), "at {name}: {got}");
     }
     Ok(())
 }

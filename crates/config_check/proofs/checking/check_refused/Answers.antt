@@ -1,10 +1,5 @@
-use Rattle.config_check.specs.Checking.{run_lines}
-use Rattle.gate_words.proofs.Written.{both_written}
-use Rattle.config_check.proofs.Runs.{lines_show}
+use Rattle.std.proofs.lemmas.Result.{IfOk-weaker}
 use Rattle.config_check.proofs.checking.check_refused.Goals as goal
 
 pub returns-clause-ok : goal.returns-clause-ok
-returns-clause-ok g c =
-    let line = c.in_ok-status.ensures.ok in
-    let wrote = both_written _ _ _ _ _ line.2 c.in_ok-print_run.ensures.lines in
-    (line.0, record { told = line.1; judged = c.requires; run = run_lines c.in_ok-run.run'; shows = lines_show c.args.config.now c.args.reason.now c.in_ok-run.run' c.in_ok-run.ensures c.in_ok-print_run.ensures.widths; printed = wrote })
+returns-clause-ok g c = IfOk-weaker c.print_found.result _ _ (λ status h. (h.0, h.1)) c.print_found.ensures.ok

@@ -5,8 +5,8 @@ use Rattle.fresh_gate.specs.declared.gap.Reason.{Reason}
 use Rattle.fresh_gate.specs.declared.gap.Reason.TheVariants as reasons
 use Rattle.fresh_gate.specs.Gate.{IsJudged}
 use Rattle.gate_words.specs.Explanations as gaps
-use Rattle.gate_words.specs.Lines.{explanation_lines}
-use Rattle.config_check.specs.Explaining.{IsInWords}
+use Rattle.config_check.specs.Explaining.{AreWordsFor}
+use Rattle.config_check.specs.declared.explaining.Words.TheVariants as words
 use Rattle.config_check.proofs.explaining.words_of.Goals as goal
 
 pub gap_explained-requires : goal.gap_explained-requires
@@ -16,5 +16,5 @@ pub returns-in_ok-explanation-in-Uncovered : goal.returns-in_ok-explanation-in-U
 returns-in_ok-explanation-in-Uncovered c =
     let gap = c.in-Uncovered.gap in
     let e = c.in_ok-explanation-in-Uncovered.explanation in
-    subst (λ (r : Reason). IsInWords c.args.config.now r (explanation_lines c.args.config.now.servers gap.op gap.server gap.deleting e)) (sym c.in-Uncovered.is)
-    (e, subst (λ (t : Route). gaps.Explains (tree_at_place t gap.place) gap.op gap.server gap.deleting e) c.tree.ensures.tree c.in_ok-explanation-in-Uncovered.ensures, refl)
+    subst (λ (r : Reason). AreWordsFor c.args.config.now r (words.OfGap gap e)) (sym c.in-Uncovered.is)
+    (λ pools found. (e, subst (λ (t : Route). gaps.Explains (tree_at_place t gap.place) gap.op gap.server gap.deleting e) c.tree.ensures.tree c.in_ok-explanation-in-Uncovered.ensures, refl))

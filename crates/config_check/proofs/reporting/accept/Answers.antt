@@ -18,18 +18,18 @@ pub returns-in-Lines-clause-ok : goal.returns-in-Lines-clause-ok
 returns-in-Lines-clause-ok g c =
     let before = g.W.Write.contents c.args.out.now in
     let after = g.W.Write.contents c.print_accepted.new.out in
-    subst (λ (f : Form). IfOk c.print_accepted.result (λ status. (status ≡ 0) × AcceptedIn f c.args.config.now before after)) (sym c.in-Lines.is)
+    subst (λ (f : Form). IfOk c.print_accepted.result (λ status. (status ≡ 0) × AcceptedIn f c.args.text.now c.args.config.now before after)) (sym c.in-Lines.is)
     (subst (λ (t : Route). IfOk c.print_accepted.result (λ status. (status ≡ 0) × PrintsAccepted t before after)) c.tree.ensures.tree c.print_accepted.ensures.ok)
 
 pub returns-in-Explained-clause-ok : goal.returns-in-Explained-clause-ok
 returns-in-Explained-clause-ok g c =
     let before = g.W.Write.contents c.args.out.now in
     let after = g.W.Write.contents c.explain_accepted.new.out in
-    subst (λ (f : Form). IfOk c.explain_accepted.result (λ status. (status ≡ 0) × AcceptedIn f c.args.config.now before after)) (sym c.in-Explained.is)
+    subst (λ (f : Form). IfOk c.explain_accepted.result (λ status. (status ≡ 0) × AcceptedIn f c.args.text.now c.args.config.now before after)) (sym c.in-Explained.is)
     (subst (λ (t : Route). IfOk c.explain_accepted.result (λ status. (status ≡ 0) × ExplainsAccepted t before after)) c.tree-in-Explained.ensures.tree c.explain_accepted.ensures.ok)
 
 pub returns-in-Picture-clause-ok : goal.returns-in-Picture-clause-ok
 returns-in-Picture-clause-ok g c =
     let before = g.W.Write.contents c.args.out.now in
     let after = g.W.Write.contents c.draw_accepted.new.out in
-    subst (λ (f : Form). IfOk c.draw_accepted.result (λ status. (status ≡ 0) × AcceptedIn f c.args.config.now before after)) (sym c.in-Picture.is) c.draw_accepted.ensures.ok
+    subst (λ (f : Form). IfOk c.draw_accepted.result (λ status. (status ≡ 0) × AcceptedIn f c.args.text.now c.args.config.now before after)) (sym c.in-Picture.is) c.draw_accepted.ensures.ok

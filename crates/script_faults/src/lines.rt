@@ -1,0 +1,68 @@
+//! The lines of detail that are said of a script on standard error.
+
+use crate::columns::bad_part;
+use config_faults::lines::push_fault_line;
+use config_faults::place::{Place, Source};
+use config_faults::scan::is_json;
+use line_faults::trouble::Trouble;
+use line_faults::{BadLine, Wrong};
+use script_text::front::front_of;
+use std::alloc::{AllocError, Global};
+
+// That a script's configuration stands on its first line, where all of the text is one value and its first line isn't.
+fn push_first_line_hint(
+    alloc: Global,
+    file: &str,
+    text: &str,
+    line: &str,
+    lines: &mut Vec<String>,
+) -> Result<(), AllocError> {
+    if !is_json(alloc, line)? && is_json(alloc, text)? {
+        let hint = format!(in alloc;
+            "mcgate: {file}: a script's configuration stands on its first line; one of many lines is given by --config: mcgate replay --config {file} SCRIPT"
+        )?;
+        lines.push(hint)?;
+    }
+    Ok(())
+}
+
+/// The same of a script, whose first line is to be a configuration.
+pub fn lines_of_script(alloc: Global, file: &str, text: &str) -> Result<Vec<String>, AllocError> {
+    let line = front_of(text).line;
+    let mut lines = Vec::new(alloc);
+    push_fault_line(alloc, Source::whole(file, line), &mut lines)?;
+    push_first_line_hint(alloc, file, text, line, &mut lines)?;
+    Ok(lines)
+}
+
+// The line of this number, counted from 1.
+fn line_of(text: &str, number: usize) -> &str {
+    text.split('\n').nth(number.saturating_sub(1)).unwrap_or("")
+}
+
+/// What is said of a bad line of a script: its column with what is wrong there, and of the configuration of a `reload` its fault.
+pub fn lines_of_bad_line(
+    alloc: Global,
+    file: &str,
+    text: &str,
+    bad: BadLine<'_>,
+) -> Result<Vec<String>, AllocError> {
+    let line = line_of(text, bad.number);
+    let at = bad_part(line.as_bytes(), bad.wrong);
+    let begins = Place {
+        line: bad.number,
+        column: 1,
+    };
+    let place = begins.within(line, at);
+    let mut lines = Vec::new(alloc);
+    lines.push(format!(in alloc; "mcgate: {file}:{place}: {}", bad.wrong)?)?;
+    if matches!(bad.wrong, Wrong::Unread(Trouble::NoConfiguration)) {
+        let source = Source {
+            file,
+            text: line.get(at..).unwrap_or(""),
+            begins: place,
+        };
+        push_fault_line(alloc, source, &mut lines)?;
+    }
+    Ok(lines)
+}
