@@ -16,7 +16,8 @@ pub enum Cause {
     Closed,
     /// Reading or writing failed.
     Broken,
-    /// The server sent what can't be an answer to the oldest call, or what nothing asked for.
+    /// The server sent what can't be an answer to the oldest call, or what nothing asked for. It is told, too, where memory was refused
+    /// for reading its answer, or where as much is held of the link as may be.
     Foreign,
     /// As many reads in a row as were set brought no whole answer.
     VainReads,

@@ -1,5 +1,5 @@
-//! The proxy over TCP, in one thread: clients on one side and servers on the other, and a core of accepted configurations
-//! between them.
+//! The proxy over TCP, in one thread: clients on one side and servers on the other, and between them a core, on configurations
+//! that the gate accepted or on unchecked ones.
 #![tactic(auto)]
 
 mod beginning;
