@@ -1,15 +1,13 @@
 //! Which calls fail in a refusal run.
-ghost use Rattle.std.specs.Prelude.{◌≡◌};
+ghost use Rattle.std.specs.Prelude.{◌≡◌, IfOk};
 ghost use Rattle.route_tree.specs.Plan.{IsGood};
 ghost use Rattle.route_tree.specs.At.{tree_at};
-ghost use Rattle.coverage.specs.Seen.{plan_of};
 ghost use Rattle.refusals.specs.Failing.{failures_of};
 
-use coverage::{At, Seen};
-use key_hash::key_hash;
 use mc_types::{Key, Op, ServerId};
 use refusal_words::turns::{acknowledged_after, found_after};
-use route_tree::Tree;
+use route_tree::{Plain, Tree};
+use std::alloc::{AllocError, Global};
 
 /// How many calls fail, not applied, before the one that acknowledges the delete, and before the one that the read shows.
 #[derive(Clone, Copy)]
@@ -20,24 +18,27 @@ pub struct Failures {
 
 // Where each other call fails: how many do before a delete is acknowledged with the server not cleared, and before a read
 // shows the server's item, if there are such.
-fn failures_in(seen: Seen, op: Op, server: ServerId) -> Option<Failures>
-    ensures failures { result ≡ failures_of op server (plan_of seen.entry) }
-    ensures good { IsGood (plan_of seen.entry) }
+fn failures_in(plain: &Plain, op: Op, server: ServerId) -> Option<Failures>
+    ensures failures { result ≡ failures_of op server plain.now }
+    ensures good { IsGood plain.now }
 {
-    seen.lawful();
-    let delete = acknowledged_after(seen, server)?;
-    let read = found_after(seen, op, server)?;
+    let _form = plain.form();
+    let delete = acknowledged_after(plain, server)?;
+    let read = found_after(plain, op, server)?;
     Some(Failures { delete, read })
 }
 
-/// Those of the key's plain tree, which isn't built. It takes no memory.
-pub fn failures_at(tree: &Tree, key: &Key, op: Op, server: ServerId) -> Option<Failures>
-    ensures failures { result ≡ failures_of op server (tree_at tree.now key.now) }
-    ensures good { IsGood (tree_at tree.now key.now) }
+/// Those of the key's plain tree. The only error is running out of memory.
+pub fn failures_at(
+    alloc: Global,
+    tree: &Tree,
+    key: &Key,
+    op: Op,
+    server: ServerId,
+) -> Result<Option<Failures>, AllocError>
+    ensures failures { IfOk result (λ found. found ≡ failures_of op server (tree_at tree.now key.now)) }
+    ensures good { IfOk result (λ found. IsGood (tree_at tree.now key.now)) }
 {
-    let at = At {
-        text: key.as_bytes(),
-        hash: key_hash(key),
-    };
-    failures_in(Seen::Tree(tree, &at), op, server)
+    let plain = tree.at(alloc, key)?;
+    Ok(failures_in(&plain, op, server))
 }

@@ -127,7 +127,7 @@ fn run_over(
 {
     let tree = config.tree();
     let _form = tree.form();
-    match failures_at(tree, key, gap.op, gap.server) {
+    match failures_at(alloc, tree, key, gap.op, gap.server)? {
         Some(failures) => Ok(Some(computed_run(alloc, config, gap, key, failures)?)),
         None => driven_run(alloc, config, gap, key),
     }
