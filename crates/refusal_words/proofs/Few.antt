@@ -1,13 +1,11 @@
 -- No more calls fail than the plain tree has routes.
-use Rattle.std.proofs.Common.{◌≡◌, ℕ, ◌+◌, ◌≤◌, Bool, true, false, cond, Option, Some, None, IfSome, ◌<◌, nat_eq, refl, sym, subst, arith}
+use Rattle.std.proofs.Common.{◌≡◌, ℕ, ◌+◌, ◌≤◌, Bool, true, false, cond, Option, Some, None, IfSome, ◌<◌, nat_eq, sym, subst, arith}
 use Rattle.mc_types.specs.declared.ask.Op.{Op}
 use Rattle.mc_types.specs.declared.ask.Op.TheVariants.{Delete}
 use Rattle.route_tree.specs.Operation.{same_op}
 use Rattle.route_tree.specs.declared.limits.TheConstants.{ROUTE_LIMIT}
 use Rattle.route_tree.specs.Plan.{Plan, Plans, PlanPolicies, Server, Null, Failing, AllSync, Failover, MissFailover, WarmUp, ByOperation, End, More, Otherwise, Policy, count, count_of_all, count_of_policies}
 use Rattle.coverage.specs.Computed.{is_get, fails}
-use Rattle.coverage.specs.Seen.{for_op, policy_for_op}
-use Rattle.coverage.proofs.Left.{left_same}
 use Rattle.refusal_words.specs.Turns.{or_else, counted_after, tries, tries_all, tries_first, tries_head, tries_policy, acks, acks_first, acks_head, acks_policy, finds, finds_first, finds_some, finds_head, finds_policy}
 
 abbrev pub IsWithin : ℕ → Option ℕ → Type 0
@@ -128,34 +126,3 @@ small m x y b h e k l = on x (subst (IsWithin b) (sym e) k)
     on : (z : Option ℕ) → IsWithin b z → IfSome z (λ (n : ℕ). m + n < 4294967296)
     on None w = tt
     on (Some n) w = omega arith
-
--- ---- what is left for an operation
-
-pub left_tries : (op : Op) (p : Plan) → tries op (for_op op p) ≡ tries op p
-left_tries op p = left_same op ℕ (tries op) (tries_policy op) (λ ps. refl) (λ q. refl) (λ o q rest. refl) (λ c w e. refl) p
-
-pub left_acks : (s : ℕ) (p : Plan) → acks s (for_op Delete p) ≡ acks s p
-left_acks s p = left_same Delete (Option ℕ) (acks s) (acks_policy s) (λ ps. refl) (λ q. refl) (λ o q rest. refl) (λ c w e. refl) p
-
-pub left_finds : (op : Op) (s : ℕ) (p : Plan) → finds op s (for_op op p) ≡ finds op s p
-left_finds op s p = left_same op (Option ℕ) (finds op s) (finds_policy op s) (λ ps. refl) (λ q. refl) (λ o q rest. refl) (λ c w e. refl) p
-
-fewer : (b : Bool) (p q : Plan) (k : ℕ) → count p ≤ k → count q ≤ k → count (cond b p q) ≤ k
-fewer true p q k h i = h
-fewer false p q k h i = i
-
-mutual
-  pub left_few : (op : Op) (p : Plan) → count (for_op op p) ≤ count p
-  left_few op (Server s) = omega arith
-  left_few op Null = omega arith
-  left_few op Failing = omega arith
-  left_few op (AllSync ps) = omega arith
-  left_few op (Failover ps) = omega arith
-  left_few op (MissFailover ps) = omega arith
-  left_few op (WarmUp cold warm e) = omega arith
-  left_few op (ByOperation ps) = let h = left_policy_few op ps in omega arith
-
-  left_policy_few : (op : Op) (ps : PlanPolicies) → count (policy_for_op op ps) ≤ count_of_policies ps
-  left_policy_few op (Otherwise p) = left_few op p
-  left_policy_few op (Policy o p rest) =
-      fewer (same_op o op) (for_op op p) (policy_for_op op rest) (count_of_policies (Policy o p rest)) (let h = left_few op p in omega arith) (let h = left_policy_few op rest in omega arith)

@@ -3,7 +3,7 @@
 ghost use Rattle.refusal_words.specs.Numbers.{CountsAcked, CountsShown};
 
 use crate::turns::{acknowledged_after, found_after};
-use coverage::{Deleting, Seen};
+use coverage::Deleting;
 use mc_types::{Op, ServerId};
 use route_tree::Plain;
 
@@ -18,7 +18,7 @@ pub fn failing_before_acknowledged(
 {
     let _form = plain.form();
     let _kind = deleting;
-    acknowledged_after(Seen::Plain(plain), server)
+    acknowledged_after(plain, server)
 }
 
 /// How many calls of the read fail before it shows the server's item, where all others fail. It takes no memory.
@@ -26,5 +26,5 @@ pub fn failing_before_shown(plain: &Plain, op: Op, server: ServerId) -> Option<u
     ensures { CountsShown plain.now op server result }
 {
     let _form = plain.form();
-    found_after(Seen::Plain(plain), op, server)
+    found_after(plain, op, server)
 }

@@ -1,16 +1,18 @@
-use Rattle.std.proofs.Common.{◌+◌, ◌*◌}
-use Rattle.route_tree.specs.PlanCode.{plan_size, all_plan_size}
-use Rattle.coverage.specs.Seen.{plan_of, all_plans_of}
+use Rattle.route_tree.specs.PlanCode.{plan_size, all_plan_size, policies_plan_size}
+use Rattle.route_tree.specs.Form.{plans_of, plan_policies_of}
 use Rattle.refusal_words.proofs.turns.+finding.Given as goal
 
 abbrev pub decreases-found_after : goal.decreases-found_after
-decreases-found_after l = 2 * plan_size (plan_of l.seen) + 1
+decreases-found_after l = plan_size l.plain.now
 
 abbrev pub decreases-finding_first : goal.decreases-finding_first
-decreases-finding_first l = 2 * all_plan_size (all_plans_of l.children)
+decreases-finding_first l = all_plan_size (plans_of l.children.now)
 
 abbrev pub decreases-finding_some : goal.decreases-finding_some
-decreases-finding_some l = 2 * all_plan_size (all_plans_of l.children)
+decreases-finding_some l = all_plan_size (plans_of l.children.now)
 
 abbrev pub decreases-finding_head : goal.decreases-finding_head
-decreases-finding_head l = 2 * all_plan_size (all_plans_of l.children)
+decreases-finding_head l = all_plan_size (plans_of l.children.now)
+
+abbrev pub decreases-finding_policy : goal.decreases-finding_policy
+decreases-finding_policy l = policies_plan_size (plan_policies_of l.policies.now l.default.now)
