@@ -185,7 +185,7 @@ impl Details {
         }
     }
 
-    // Why an input was not taken, or what `lines` says of its text.
+    // Why an input was not taken.
     fn add_input(&mut self, alloc: Global, name: &str, fault: InputFault) {
         if let Ok(Some(line)) = input_line(alloc, name, fault) {
             self.add(Ok(line));

@@ -46,6 +46,11 @@ pub fn lines_of_script(alloc: Global, file: &str, text: &str) -> Result<Vec<Stri
     Ok(lines)
 }
 
+// A part of a file that begins at a place.
+fn source_at<'a>(file: &'a str, text: &'a str, begins: Place) -> Source<'a> {
+    Source { file, text, begins }
+}
+
 // The line of this number, counted from 1.
 fn line_of(text: &str, number: usize) -> &str {
     text.split('\n').nth(number.saturating_sub(1)).unwrap_or("")
@@ -68,11 +73,7 @@ pub fn lines_of_bad_line(
     let mut lines = Vec::new(alloc);
     lines.push(format!(in alloc; "mcgate: {file}:{place}: {}", bad.wrong)?)?;
     if matches!(bad.wrong, Wrong::Unread(Trouble::NoConfiguration)) {
-        let source = Source {
-            file,
-            text: line.get(at..).unwrap_or(""),
-            begins: place,
-        };
+        let source = source_at(file, line.get(at..).unwrap_or(""), place);
         push_fault_line(alloc, source, &mut lines)?;
     }
     Ok(lines)
