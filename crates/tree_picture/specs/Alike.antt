@@ -1,7 +1,7 @@
 -- Which children are drawn as one: runs of children whose trees are alike. Source: mcgate's own.
 use Rattle.std.specs.Prelude.{ℕ, ◌+◌, ◌-◌, ◌==◌, ◌&&◌, Bool, true, false, nat_lt, if◌then◌else◌}
 use Rattle.route_tree.specs.Operation.{same_op}
-use Rattle.route_tree.specs.Route.{Route, Routes, Policies, Prefixes, Pool, Server, Null, Failing, AllSync, Failover, MissFailover, WarmUp, ByOperation, ByPrefix, End, More, Otherwise, Policy, Wildcard, Prefix}
+use Rattle.route_tree.specs.Route.{Route, Routes, Policies, Prefixes, Pool, Server, Null, Failing, AllSync, Failover, MissFailover, WarmUp, ByOperation, End, More, Otherwise, Policy, Wildcard, Prefix}
 use Rattle.tree_picture.specs.declared.alike.Run.{Run}
 
 abbrev mutual

@@ -1,6 +1,6 @@
 //! What stands in the nodes of a picture.
 
-ghost use Rattle.std.specs.Prelude.{◌≡◌, ◌+◌, ◌<◌, ◌^◌, OnOk, length};
+ghost use Rattle.std.specs.Prelude.{◌+◌, ◌<◌, ◌^◌, OnOk, length};
 ghost use Rattle.std.specs.Io.KnownBytes.{Appends};
 ghost use Rattle.gate_words.specs.Names.{address_of};
 ghost use Rattle.route_tree.specs.Form.{routes_of, prefixes_of};
