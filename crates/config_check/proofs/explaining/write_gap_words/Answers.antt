@@ -12,6 +12,6 @@ returns g c =
     let pools = c.args.pools.now in
     let gap = c.args.gap.now in
     let front = script_words servers pools gap.server c.args.run.now ++ explanation_lines servers pools gap.op gap.server gap.deleting c.args.explanation.now in
-    let lines = ap (λ (p : List ℕ). front ++ change_lines servers pools gap.server p c.args.tree.now) c.prefix_text.ensures in
+    let lines = ap (λ (p : List ℕ). front ++ change_lines servers pools gap.server p c.args.tree.now) c.prefix_text-prefix.ensures in
     subst (λ (t : List ℕ). Appends (g.W.Write.contents c.args.out.now) (g.W.Write.contents c.write_changes.new.out) t) lines
     (both_written _ _ _ _ _ (both_written _ _ _ _ _ c.in_ok-write_script_words.ensures c.in_ok-write_explanation.ensures) c.in_ok-write_changes.ensures)
