@@ -310,27 +310,26 @@ fn where_job<'a>(alloc: Global, given: &ArgMatches<'a>) -> Result<Job<'a>, Argum
     Ok(Job::Where { file, keys })
 }
 
-// What a command's help says.
-fn help_of(name: &str) -> Result<&'static str, ArgumentsFault> {
+// To print the help of the command of this name.
+fn help_on<'a>(name: &str) -> Result<Job<'a>, ArgumentsFault> {
     match name {
-        "check" => Ok(CHECK_HELP),
-        "replay" => Ok(REPLAY_HELP),
-        "where" => Ok(WHERE_HELP),
-        "cache" => Ok(CACHE_HELP),
-        "loopback" => Ok(LOOPBACK_HELP),
-        "serve" => Ok(SERVE_HELP),
-        "help" => Ok(HELP),
+        "check" => Ok(Job::Print(CHECK_HELP)),
+        "replay" => Ok(Job::Print(REPLAY_HELP)),
+        "where" => Ok(Job::Print(WHERE_HELP)),
+        "cache" => Ok(Job::Print(CACHE_HELP)),
+        "loopback" => Ok(Job::Print(LOOPBACK_HELP)),
+        "serve" => Ok(Job::Print(SERVE_HELP)),
+        "help" => Ok(Job::Print(HELP)),
         _ => Err(ArgumentsFault::Refused),
     }
 }
 
 // What the arguments after `help` ask for.
 fn help_job<'a>(given: &ArgMatches<'a>) -> Result<Job<'a>, ArgumentsFault> {
-    let text = match given.get_str("COMMAND") {
-        None => HELP,
-        Some(name) => help_of(name)?,
-    };
-    Ok(Job::Print(text))
+    match given.get_str("COMMAND") {
+        None => Ok(Job::Print(HELP)),
+        Some(name) => help_on(name),
+    }
 }
 
 // What arguments without a command ask for.
