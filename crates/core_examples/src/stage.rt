@@ -5,7 +5,7 @@ ghost use Rattle.proxy_core.specs.Settles.{FitsCall};
 ghost use Rattle.route_tree.specs.Route as route;
 
 use crate::answering::FixedServers;
-use fresh_core::FreshCore;
+use fresh_core::{LoadFault, ServedCore};
 use fresh_gate::judge;
 use mc_types::{Ask, Dialect, Key, Op, Origin, Outcome, ServerId, SharedAsk, Tokens};
 use proxy_core::{Core, CoreFault, Limits, Poll, ServedOne, Servers, Sharing, Ticket};
@@ -14,11 +14,11 @@ use route_tree::{Tree, TreeForm};
 use std::alloc::{AllocError, Global};
 use std::test::Fail;
 
-// A core without a gate, or with one.
+// A core by itself, or one that is served by a gate's word.
 #[derive(Drop)]
 enum Played {
     Bare(Core),
-    Fresh(FreshCore),
+    Gated(ServedCore),
 }
 
 /// A core, the tickets that it gave out and that weren't handed back, and servers that answer its calls at once.
@@ -132,77 +132,77 @@ impl Played {
     fn open(&mut self) -> Result<usize, CoreFault> {
         match self {
             Played::Bare(core) => core.open_client(),
-            Played::Fresh(core) => core.open_client(),
+            Played::Gated(core) => core.open_client(),
         }
     }
 
     fn feed(&mut self, client: usize, piece: &[u8]) -> Result<(), CoreFault> {
         match self {
             Played::Bare(core) => core.feed(client, piece),
-            Played::Fresh(core) => core.feed(client, piece),
+            Played::Gated(core) => core.feed(client, piece),
         }
     }
 
     fn poll(&mut self, client: usize) -> Result<Poll, CoreFault> {
         match self {
             Played::Bare(core) => core.poll(client),
-            Played::Fresh(core) => core.poll(client),
+            Played::Gated(core) => core.poll(client),
         }
     }
 
     fn serve(&mut self, client: usize, servers: &mut FixedServers) -> Result<Told, Fail> {
         match self {
             Played::Bare(core) => Ok(serve_bare(core, client, servers)),
-            Played::Fresh(_) => Err("a core with a gate is served in steps")?,
+            Played::Gated(_) => Err("a core with a gate is served in steps")?,
         }
     }
 
     fn answer(&mut self, ticket: Ticket, servers: &mut FixedServers) -> Result<Told, Fail> {
         match self {
             Played::Bare(core) => Ok(done(answer_bare(core, ticket, servers))),
-            Played::Fresh(_) => Err("the calls of a core with a gate fail")?,
+            Played::Gated(_) => Err("the calls of a core with a gate fail")?,
         }
     }
 
     fn fail(&mut self, ticket: Ticket) -> Result<(), CoreFault> {
         match self {
             Played::Bare(core) => core.settle(ticket, Outcome::Failed),
-            Played::Fresh(core) => core.settle(ticket, Outcome::Failed),
+            Played::Gated(core) => core.settle(ticket, Outcome::Failed),
         }
     }
 
     fn output(&mut self, client: usize) -> Result<Vec<u8>, CoreFault> {
         match self {
             Played::Bare(core) => core.take_output(client),
-            Played::Fresh(core) => core.take_output(client),
+            Played::Gated(core) => core.take_output(client),
         }
     }
 
     fn close(&mut self, client: usize) -> Result<(), CoreFault> {
         match self {
             Played::Bare(core) => core.close(client),
-            Played::Fresh(core) => core.close(client),
+            Played::Gated(core) => core.close(client),
         }
     }
 
     fn leave_line(&mut self, client: usize) -> bool {
         match self {
             Played::Bare(core) => core.leave_line(client),
-            Played::Fresh(core) => core.leave_line(client),
+            Played::Gated(core) => core.leave_line(client),
         }
     }
 
     fn is_closed(&self, client: usize) -> bool {
         match self {
             Played::Bare(core) => core.is_closed(client),
-            Played::Fresh(core) => core.is_closed(client),
+            Played::Gated(core) => core.is_closed(client),
         }
     }
 
     fn is_out(&self) -> bool {
         match self {
             Played::Bare(core) => core.is_out(),
-            Played::Fresh(core) => core.is_out(),
+            Played::Gated(core) => core.is_out(),
         }
     }
 
@@ -210,7 +210,7 @@ impl Played {
     fn reload(&mut self, alloc: Global, text: &str) -> Result<u32, Fail> {
         match self {
             Played::Bare(core) => reload_bare(core, tree(alloc, text)?),
-            Played::Fresh(core) => reload_fresh(alloc, core, config(alloc, text)?),
+            Played::Gated(core) => reload_gated(alloc, core, config(alloc, text)?),
         }
     }
 }
@@ -222,13 +222,11 @@ fn reload_bare(core: &mut Core, tree: Tree) -> Result<u32, Fail> {
     }
 }
 
-fn reload_fresh(alloc: Global, core: &mut FreshCore, config: Config) -> Result<u32, Fail> {
-    if !core.keeps_numbers(&config) {
-        return Err("the servers have other numbers")?;
-    }
-    match core.reload(alloc, config) {
+fn reload_gated(alloc: Global, core: &mut ServedCore, config: Config) -> Result<u32, Fail> {
+    match core.load(alloc, config) {
         Ok(number) => Ok(number),
-        Err(_) => Err("the configuration is refused")?,
+        Err(LoadFault::OtherServers) => Err("the servers have other numbers")?,
+        Err(LoadFault::Refused(_)) => Err("the configuration is refused")?,
     }
 }
 
@@ -289,9 +287,9 @@ fn limits(text: &str) -> Limits {
     }
 }
 
-fn fresh_core(alloc: Global, text: &str) -> Result<FreshCore, Fail> {
+fn gated_core(alloc: Global, text: &str) -> Result<ServedCore, Fail> {
     match judge(alloc, config(alloc, text)?) {
-        Ok(accepted) => Ok(FreshCore::new(alloc, accepted, Limits::of_scripts())?),
+        Ok(accepted) => Ok(ServedCore::new(alloc, accepted, Limits::of_scripts())?),
         Err(_) => Err("the gate refuses the configuration")?,
     }
 }
@@ -299,7 +297,7 @@ fn fresh_core(alloc: Global, text: &str) -> Result<FreshCore, Fail> {
 // A core as the text says: `configuration JSON`, or the name of a tree and the limits.
 fn core(alloc: Global, text: &str) -> Result<Played, Fail> {
     match text.split_once(": ") {
-        Some(("configuration", json)) => Ok(Played::Fresh(fresh_core(alloc, json)?)),
+        Some(("configuration", json)) => Ok(Played::Gated(gated_core(alloc, json)?)),
         Some((name, rest)) => Ok(Played::Bare(Core::unchecked(
             alloc,
             tree(alloc, name)?,

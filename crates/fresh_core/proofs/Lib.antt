@@ -1,4 +1,4 @@
 pub mod Keeping
 pub mod Results
-pub mod Reloading
+pub mod NextTree
 pub mod Losses

@@ -1,5 +1,6 @@
--- Polls and results of a core on accepted trees.
-use Rattle.std.proofs.Common.{◌≡◌, ℕ, List, [], ◌∷◌, ◌++◌, ap, ◌∙◌}
+-- Polls and results of a core that is served.
+use Rattle.std.proofs.Common.{◌≡◌, ℕ, List, [], ◌∷◌, ◌++◌, Result, Ok, Err, refl, ap, ◌∙◌, inl, inr}
+use Rattle.std.specs.Prelude.{IfErr, OnOk}
 use Rattle.mc_types.specs.declared.call.Outcome.{Outcome}
 use Rattle.mc_runs.specs.Overlap as log
 use Rattle.mc_runs.specs.Overlap.{Entry, Happens}
@@ -11,15 +12,15 @@ use Rattle.proxy_core.specs.CoreState.{dialect, state_of}
 use Rattle.proxy_core.specs.Steps.{event_of}
 use Rattle.proxy_core.specs.Settles.{SettlesBy, Settles, SettleFault, freed}
 use Rattle.proxy_core.specs.Polls.{PollFault, SoFar, Then}
-use Rattle.fresh_core.specs.declared.fresh.FreshCore.{FreshCore}
-use Rattle.fresh_core.specs.Results.{PollStops, SettlesOn, SettlesFreshly, SettleStops}
+use Rattle.fresh_core.specs.declared.served.ServedCore.{ServedCore}
+use Rattle.fresh_core.specs.Results.{PollStops, SettlesOn, TakesResult, SettleStops, IsSettled}
 use Rattle.fresh_core.proofs.Keeping.{goes, led_there}
 
 -- the core is as it was
-pub same : (old : FreshCore) (x : Core) → x ≡ old.core → record old { core = x } ≡ old
+pub same : (old : ServedCore) (x : Core) → x ≡ old.core → record old { core = x } ≡ old
 same old x e = ap (λ (y : Core). record old { core = y }) e
 
-pub poll_stops : (old : FreshCore) (x : Core) (client : ℕ) (fault : CoreFault) → PollFault old.core client fault x → PollStops old client fault (record old { core = x })
+pub poll_stops : (old : ServedCore) (x : Core) (client : ℕ) (fault : CoreFault) → PollFault old.core client fault x → PollStops old client fault (record old { core = x })
 poll_stops old x client faults.NoMemory f = record { stops = f; goes = goes old x (Then (SoFar client) (λ entries. entries ≡ freed f.numbers ++ log.Drops client ∷ [])) f.goes }
 poll_stops old x client faults.NoClient f = same old x f.1
 poll_stops old x client faults.Spent f = same old x f.1
@@ -29,7 +30,7 @@ poll_stops old x client faults.UnderWay f = absurd f
 poll_stops old x client faults.NoTicket f = absurd f
 
 settles_on :
-    (old : FreshCore) (x : Core) (number : ℕ) (a : Command) (outcome : Outcome) (IsMore : List (Entry dialect) → Type 0)
+    (old : ServedCore) (x : Core) (number : ℕ) (a : Command) (outcome : Outcome) (IsMore : List (Entry dialect) → Type 0)
     → SettlesBy old.core number a outcome IsMore x → SettlesOn old number a outcome IsMore (record old { core = x })
 settles_on old x number a outcome IsMore by opening past led end is ends =
     let s = by led.beside end led.fits is ends in
@@ -47,14 +48,21 @@ settles_on old x number a outcome IsMore by opening past led end is ends =
       s.3,
     )
 
-pub settles_freshly : (old : FreshCore) (x : Core) (number : ℕ) (outcome : Outcome) → Settles old.core number outcome x → SettlesFreshly old number outcome (record old { core = x })
-settles_freshly old x number outcome s = record { settles = s; goes = settles_on old x number s.command outcome _ s.goes }
+pub takes_result : (old : ServedCore) (x : Core) (number : ℕ) (outcome : Outcome) → Settles old.core number outcome x → TakesResult old number outcome (record old { core = x })
+takes_result old x number outcome s = record { word = refl; settles = s; goes = settles_on old x number s.command outcome _ s.goes }
 
-pub settle_stops : (old : FreshCore) (x : Core) (number : ℕ) (outcome : Outcome) (fault : CoreFault) → SettleFault old.core number outcome fault x → SettleStops old number outcome fault (record old { core = x })
-settle_stops old x number outcome faults.NoMemory f = record { breaks = f; goes = settles_on old x number f.command outcome _ f.goes }
+pub settle_stops : (old : ServedCore) (x : Core) (number : ℕ) (outcome : Outcome) (fault : CoreFault) → SettleFault old.core number outcome fault x → SettleStops old number outcome fault (record old { core = x })
+settle_stops old x number outcome faults.NoMemory f = record { word = refl; breaks = f; goes = settles_on old x number f.command outcome _ f.goes }
 settle_stops old x number outcome faults.NoTicket f = same old x f.1
 settle_stops old x number outcome faults.TooManyClients f = absurd f
 settle_stops old x number outcome faults.NoClient f = absurd f
 settle_stops old x number outcome faults.InputFull f = absurd f
 settle_stops old x number outcome faults.UnderWay f = absurd f
 settle_stops old x number outcome faults.Spent f = absurd f
+
+-- however the result came
+pub is_settled :
+    (old : ServedCore) (x : Core) (number : ℕ) (outcome : Outcome) (r : Result (Unit {0}) CoreFault) → OnOk r (Settles old.core number outcome x) → IfErr r (λ fault. SettleFault old.core number outcome fault x)
+    → IsSettled old number outcome (record old { core = x })
+is_settled old x number outcome (Ok done) ok err = inl (takes_result old x number outcome ok)
+is_settled old x number outcome (Err fault) ok err = inr (fault, settle_stops old x number outcome fault err)

@@ -1,4 +1,4 @@
-pub mod Freshly
+pub mod Logs
 pub mod Results
-pub mod Reloading
+pub mod Loading
 pub mod Losses

@@ -1,11 +1,11 @@
--- What servers may do to a core on accepted trees. Source: mcgate's own.
+-- What servers may do to a core that is served. Source: mcgate's own.
 use Rattle.std.specs.Prelude.{◌≡◌, ℕ, List, ◌∷◌, Option}
 use Rattle.mc_types.specs.Items.{Item}
 use Rattle.mc_runs.specs.Sharing.{Event, Begins, Calls, Replies, Breaks, Turns, Restarts, after_event}
 use Rattle.mc_runs.specs.Overlap.{Entry, Happens}
 use Rattle.proxy_core.specs.CoreState.{dialect}
-use Rattle.fresh_core.specs.declared.fresh.FreshCore.{FreshCore}
-use Rattle.fresh_core.specs.Freshly.{MayHaveLed}
+use Rattle.fresh_core.specs.declared.served.ServedCore.{ServedCore}
+use Rattle.fresh_core.specs.Logs.{MayHaveLed}
 
 -- a server loses what it holds of a key, or all that it holds; or somebody else writes what it holds of a key
 abbrev pub IsLoss : Event → Type 0
@@ -19,5 +19,5 @@ IsLoss (Breaks number) = ⊥
 -- whatever servers lose and whatever others write there, at any moment: each log that may have led to a core goes on by it, and may have led to that core
 abbrev pub ServersMayLose : Type 0
 ServersMayLose =
-    (fresh : FreshCore) (opening : ℕ → List ℕ → Option Item) (past : List (Entry dialect)) (led : MayHaveLed opening past fresh) (event : Event) → IsLoss event
-    → (led' : MayHaveLed opening (Happens event ∷ past) fresh) × (led'.beside ≡ record led.beside { holds = after_event event led.beside.holds })
+    (served : ServedCore) (opening : ℕ → List ℕ → Option Item) (past : List (Entry dialect)) (led : MayHaveLed opening past served) (event : Event) → IsLoss event
+    → (led' : MayHaveLed opening (Happens event ∷ past) served) × (led'.beside ≡ record led.beside { holds = after_event event led.beside.holds })

@@ -1,5 +1,5 @@
--- What polls and results add to each log that may have led to a core on accepted trees. Source: mcgate's own.
-use Rattle.std.specs.Prelude.{◌≡◌, ℕ, List, [], ◌∷◌, ◌++◌, Option, if◌then◌else◌}
+-- What polls and results add to each log that may have led to a core that is served. Source: mcgate's own.
+use Rattle.std.specs.Prelude.{◌≡◌, ℕ, List, [], ◌∷◌, ◌++◌, Option, ◌⊎◌, if◌then◌else◌}
 use Rattle.mc_types.specs.Items.{Item}
 use Rattle.mc_types.specs.declared.call.Outcome.{Outcome}
 use Rattle.mc_types.specs.declared.call.Origin.TheVariants.{Client as OfClient}
@@ -16,17 +16,17 @@ use Rattle.proxy_core.specs.CoreState.{dialect, client_at, dropped_by, IsBeside}
 use Rattle.proxy_core.specs.Steps.{event_of, settled}
 use Rattle.proxy_core.specs.Settles.{Settles, Breaks, freed}
 use Rattle.proxy_core.specs.Polls.{StopsAt, SoFar, Then}
-use Rattle.fresh_core.specs.declared.fresh.FreshCore.{FreshCore}
-use Rattle.fresh_core.specs.Freshly.{MayHaveLed, GoesFreshly}
+use Rattle.fresh_core.specs.declared.served.ServedCore.{ServedCore}
+use Rattle.fresh_core.specs.Logs.{MayHaveLed, LogsGoBy}
 
 -- memory was refused in a poll: nothing is done for the client any more
-pub record StopsFreshly (old : FreshCore) (client : ℕ) (new : FreshCore) : Type 0 where
+pub record StopsFor (old : ServedCore) (client : ℕ) (new : ServedCore) : Type 0 where
   pub stops : StopsAt old.core client new.core
-  pub goes : GoesFreshly old (Then (SoFar client) (λ entries. entries ≡ freed stops.numbers ++ log.Drops client ∷ [])) new
+  pub goes : LogsGoBy old (Then (SoFar client) (λ entries. entries ≡ freed stops.numbers ++ log.Drops client ∷ [])) new
 
 -- after a fault of a poll all is as it was, but where memory was refused
-abbrev pub PollStops : FreshCore → ℕ → CoreFault → FreshCore → Type 0
-PollStops old client faults.NoMemory new = StopsFreshly old client new
+abbrev pub PollStops : ServedCore → ℕ → CoreFault → ServedCore → Type 0
+PollStops old client faults.NoMemory new = StopsFor old client new
 PollStops old client faults.NoClient new = new ≡ old
 PollStops old client faults.Spent new = new ≡ old
 PollStops old client faults.TooManyClients new = new ≡ old
@@ -35,28 +35,34 @@ PollStops old client faults.UnderWay new = new ≡ old
 PollStops old client faults.NoTicket new = new ≡ old
 
 -- a call had this outcome: however it ended, if its server held what agrees with that, each log that may have led to the core before goes on by it, and after it by entries of this kind
-abbrev pub SettlesOn : FreshCore → ℕ → Command → Outcome → (List (Entry dialect) → Type 0) → FreshCore → Type 0
+abbrev pub SettlesOn : ServedCore → ℕ → Command → Outcome → (List (Entry dialect) → Type 0) → ServedCore → Type 0
 SettlesOn old number a outcome IsMore new =
     (opening : ℕ → List ℕ → Option Item) (past : List (Entry dialect)) (led : MayHaveLed opening past old) (end : End) → outcome ≡ outcome_of end
     → EndsIn (led.beside.holds (server_in a.job.pending) (ask_under a.job.frames.items a.job.ask).key) (led.beside.found number) number (ask_under a.job.frames.items a.job.ask) (origin_under a.job.frames.items OfClient) end
     → (more : List (Entry dialect)) × IsMore more × (led' : MayHaveLed opening ((more ++ Happens (event_of number a end) ∷ []) ++ past) new) × IsBeside (settled (event_of number a end) led.beside) led'.beside
 
 -- the command of this number has the result of its call; where nothing is done for its client any more, it is broken off
-pub record SettlesFreshly (old : FreshCore) (number : ℕ) (outcome : Outcome) (new : FreshCore) : Type 0 where
+pub record TakesResult (old : ServedCore) (number : ℕ) (outcome : Outcome) (new : ServedCore) : Type 0 where
+  pub word : new.accepted ≡ old.accepted
   pub settles : Settles old.core number outcome new.core
   pub goes : SettlesOn old number settles.command outcome (λ more. more ≡ (if dropped_by (client_at old.core settles.command.client) then log.Frees number ∷ [] else [])) new
 
 -- memory was refused: it has the result all the same, and nothing is done for its client any more
-pub record BreaksFreshly (old : FreshCore) (number : ℕ) (outcome : Outcome) (new : FreshCore) : Type 0 where
+pub record BreaksWith (old : ServedCore) (number : ℕ) (outcome : Outcome) (new : ServedCore) : Type 0 where
+  pub word : new.accepted ≡ old.accepted
   pub breaks : Breaks old.core number outcome new.core
   pub goes : SettlesOn old number breaks.command outcome (λ more. more ≡ freed breaks.numbers ++ log.Frees number ∷ log.Drops breaks.command.client ∷ []) new
 
 -- after a fault of a result all is as it was, but where memory was refused
-abbrev pub SettleStops : FreshCore → ℕ → Outcome → CoreFault → FreshCore → Type 0
-SettleStops old number outcome faults.NoMemory new = BreaksFreshly old number outcome new
+abbrev pub SettleStops : ServedCore → ℕ → Outcome → CoreFault → ServedCore → Type 0
+SettleStops old number outcome faults.NoMemory new = BreaksWith old number outcome new
 SettleStops old number outcome faults.NoTicket new = new ≡ old
 SettleStops old number outcome faults.TooManyClients new = new ≡ old
 SettleStops old number outcome faults.NoClient new = new ≡ old
 SettleStops old number outcome faults.InputFull new = new ≡ old
 SettleStops old number outcome faults.UnderWay new = new ≡ old
 SettleStops old number outcome faults.Spent new = new ≡ old
+
+-- it went on by this call's outcome, also where memory was refused; a call that isn't out changes nothing
+abbrev pub IsSettled : ServedCore → ℕ → Outcome → ServedCore → Type 0
+IsSettled old number outcome new = TakesResult old number outcome new ⊎ ((fault : CoreFault) × SettleStops old number outcome fault new)

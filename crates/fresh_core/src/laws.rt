@@ -1,18 +1,20 @@
-//! Laws of a core on accepted trees.
+//! Laws of the core that is served.
 
-ghost use Rattle.fresh_core.specs.Freshly.{EveryLogIsFresh};
+ghost use Rattle.fresh_core.specs.Logs.{IsAccepted, EveryLogIsFresh};
 ghost use Rattle.fresh_core.specs.Losses.{ServersMayLose};
 
-use crate::fresh::FreshCore;
+use crate::served::ServedCore;
 use fresh_gate::laws::generations_are_fresh;
 
-/// Each log that may have led to the core, and in which nobody else writes the servers, is fresh; where each command has
-/// its key alone, none of its replies is stale.
-pub fn fresh_core_is_fresh(core: &FreshCore)
-    ensures { EveryLogIsFresh core.now }
+/// Where the gate accepted its trees, each log that may have led to the core, and in which nobody else writes the servers, is
+/// fresh; where each command has its key alone, none of its replies is stale.
+pub fn accepted_core_is_fresh(core: &ServedCore)
+    ensures { IsAccepted core.now → EveryLogIsFresh core.now }
 {
     generations_are_fresh();
-    let _config = core.accepted.config();
+    if let Some(accepted) = &core.accepted {
+        let _config = accepted.config();
+    }
 }
 
 /// Servers may lose what they hold at any moment, and others may write there: each log that may have led to a core goes on

@@ -1,8 +1,10 @@
-//! The core of a proxy on configurations that the gate accepted: whatever its clients and servers do, no reply shows what an
-//! acknowledged delete of its key hides.
+//! The core that is served, with the gate's word on its trees where the gate was asked: then, whatever its clients and servers
+//! do, no reply shows what an acknowledged delete of its key hides.
 #![tactic(auto)]
 
-pub mod fresh;
 pub mod laws;
+pub mod loading;
+pub mod served;
 
-pub use fresh::FreshCore;
+pub use loading::LoadFault;
+pub use served::ServedCore;

@@ -19,8 +19,8 @@ use Rattle.commands_under_way.specs.declared.command.Command.{Command}
 use Rattle.proxy_core.specs.declared.proxy.Core.{Core}
 use Rattle.proxy_core.specs.CoreState.{has_call_out}
 use Rattle.proxy_core.specs.Settles.{FitsCall, asked, asked_by}
-use Rattle.link_calls.specs.declared.any_core.AnyCore.{AnyCore}
-use Rattle.link_calls.specs.Cores.{IsSettled}
+use Rattle.fresh_core.specs.declared.served.ServedCore.{ServedCore}
+use Rattle.fresh_core.specs.Results.{IsSettled}
 use Rattle.link_calls.specs.Dialects.{asked_in}
 use Rattle.link_calls.specs.declared.calls.SentCall.{SentCall}
 use Rattle.link_calls.specs.Calls.{IsReadFor, IsReadNext, first_asked, FitsFirst, SettlesFirst}
@@ -60,7 +60,7 @@ fits_first (call ∷ sent) core number dialect outcome e fits = subst (λ n. Fit
         same_pair : {p q : ℕ × Dialect} → ◌≡◌ {A = Option (ℕ × Dialect)} (Some p) (Some q) → p ≡ q
         same_pair e = cc
 
-pub popped : (old new : List SentCall) (call : SentCall) (core core' : AnyCore) (outcome : Outcome) → old ≡ call ∷ new → IsSettled core call.ticket.number outcome core' → SettlesFirst old core outcome (Some call.client) new core'
+pub popped : (old new : List SentCall) (call : SentCall) (core core' : ServedCore) (outcome : Outcome) → old ≡ call ∷ new → IsSettled core call.ticket.number outcome core' → SettlesFirst old core outcome (Some call.client) new core'
 popped old new call core core' outcome e settled = subst (λ xs. SettlesFirst xs core outcome (Some call.client) new core') (sym e) (refl, refl, settled)
 
 pub fits_popped : (old new : List SentCall) (call : SentCall) (core : Core) (outcome : Outcome) → old ≡ call ∷ new → FitsFirst old core outcome → FitsCall core call.ticket.number outcome

@@ -10,8 +10,8 @@ use Rattle.text_answers.specs.declared.reader.AnswerRead.{AnswerRead}
 use Rattle.text_answers.specs.declared.reader.AnswerRead.TheVariants as reads
 use Rattle.proxy_core.specs.declared.proxy.Core.{Core}
 use Rattle.proxy_core.specs.Settles.{FitsCall, asked}
-use Rattle.link_calls.specs.declared.any_core.AnyCore.{AnyCore}
-use Rattle.link_calls.specs.Cores.{core_of, IsSettled}
+use Rattle.fresh_core.specs.declared.served.ServedCore.{ServedCore}
+use Rattle.fresh_core.specs.Results.{IsSettled}
 use Rattle.link_calls.specs.Dialects.{SpellsIn, IsCutIn}
 use Rattle.link_calls.specs.declared.calls.SentCall.{SentCall}
 use Rattle.link_calls.specs.declared.calls.Next.{Next}
@@ -40,7 +40,7 @@ FitsFirst [] core outcome = Unit {0}
 FitsFirst (call ∷ sent) core outcome = FitsCall core call.ticket.number outcome
 
 -- the first call had this outcome and is out no more, and the core went on by that alone; it was this client's
-abbrev pub SettlesFirst : List SentCall → AnyCore → Outcome → Option ℕ → List SentCall → AnyCore → Type 0
+abbrev pub SettlesFirst : List SentCall → ServedCore → Outcome → Option ℕ → List SentCall → ServedCore → Type 0
 SettlesFirst [] core outcome client sent core' = (client ≡ None) × (sent ≡ []) × (core' ≡ core)
 SettlesFirst (call ∷ rest) core outcome client sent core' = (client ≡ Some call.client) × (sent ≡ rest) × IsSettled core call.ticket.number outcome core'
 
@@ -63,8 +63,8 @@ pub record AwaitsFirst (sent : List SentCall) (bytes : List ℕ) (core : Core) :
   pub cut : IsCutIn dialect ask bytes
 
 -- the first call is settled by its answer, which the bytes begin with, or nothing is done
-abbrev pub SettlesNext : List SentCall → List ℕ → AnyCore → Next → List SentCall → AnyCore → Type 0
+abbrev pub SettlesNext : List SentCall → List ℕ → ServedCore → Next → List SentCall → ServedCore → Type 0
 SettlesNext sent bytes core (nexts.Settled client used) sent' core' =
-    (answer : Answer) × AnswersFirst sent bytes (core_of core) answer used × SettlesFirst sent core (Answered answer) (Some client) sent' core'
-SettlesNext sent bytes core nexts.More sent' core' = AwaitsFirst sent bytes (core_of core) × (sent' ≡ sent) × (core' ≡ core)
+    (answer : Answer) × AnswersFirst sent bytes core.core answer used × SettlesFirst sent core (Answered answer) (Some client) sent' core'
+SettlesNext sent bytes core nexts.More sent' core' = AwaitsFirst sent bytes core.core × (sent' ≡ sent) × (core' ≡ core)
 SettlesNext sent bytes core nexts.Foreign sent' core' = (sent' ≡ sent) × (core' ≡ core)

@@ -1,4 +1,3 @@
-pub mod Cores
 pub mod Dialects
 pub mod Calls
 pub mod Sending

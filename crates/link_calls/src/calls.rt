@@ -7,13 +7,13 @@ ghost use Rattle.send_buffer.specs.Sending.{bytes_of};
 ghost use Rattle.mc_types.specs.declared.ask.Dialect.TheVariants.{Meta};
 ghost use Rattle.meta_asks.specs.Usual.{IsUsualTo};
 ghost use Rattle.link_calls.specs.Dialects.{asked_in};
-ghost use Rattle.link_calls.specs.Cores.{core_of, IsSettled};
+ghost use Rattle.fresh_core.specs.Results.{IsSettled};
 ghost use Rattle.link_calls.specs.Calls.{IsReadFor, IsReadNext, first_asked, FitsFirst, SettlesFirst, SettlesNext};
 ghost use Rattle.mc_types.specs.declared.call.Outcome.TheVariants.{Failed};
 
-use crate::any_core::AnyCore;
 use crate::sending::send_ask;
 use client_asks::is_ask;
+use fresh_core::ServedCore;
 use mc_types::{Ask, Dialect, Outcome, SpareBodies};
 use meta_asks::form::is_retrieval;
 use meta_asks::{
@@ -61,10 +61,10 @@ pub struct LinkCalls {
 }
 
 /// A call that could not go out has failed.
-pub fn fail_call(core: &mut AnyCore, ticket: Ticket)
+pub fn fail_call(core: &mut ServedCore, ticket: Ticket)
     ensures { IsSettled core.old ticket.number Failed core.new }
 {
-    core.settle(ticket, Outcome::Failed);
+    let _ = core.settle(ticket, Outcome::Failed);
 }
 
 // Appends what a server is asked that speaks the meta dialect.
@@ -185,11 +185,11 @@ fn read_next(
     alloc: Global,
     forms: &mut MetaForms,
     spares: &mut SpareBodies,
-    core: &AnyCore,
+    core: &ServedCore,
     number: u64,
     received: &Received,
 ) -> AnswerRead
-    ensures { IsReadNext dialect (core_of core.now) number received.now result }
+    ensures { IsReadNext dialect core.now.core number received.now result }
 {
     match core.asked(number) {
         None => AnswerRead::Foreign,
@@ -265,15 +265,15 @@ impl LinkCalls {
 
     // The first call had this outcome: whose it was.
     #[tactic(auto, using(crate::proofs::CallOrder::popped, crate::proofs::CallOrder::fits_popped))]
-    fn settle_first(&mut self, core: &mut AnyCore, outcome: Outcome) -> Option<usize>
-        requires { FitsFirst self.old.sent.items (core_of core.old) outcome }
+    fn settle_first(&mut self, core: &mut ServedCore, outcome: Outcome) -> Option<usize>
+        requires { FitsFirst self.old.sent.items core.old.core outcome }
         ensures { SettlesFirst self.old.sent.items core.old outcome result self.new.sent.items core.new }
     {
         match self.sent.pop_front() {
             None => None,
             Some(call) => {
                 let client = call.client;
-                core.settle(call.ticket, outcome);
+                let _ = core.settle(call.ticket, outcome);
                 Some(client)
             }
         }
@@ -286,7 +286,7 @@ impl LinkCalls {
     /// aren't hits that are spelled as servers mostly do; later ones are read by the form that is kept. Data are copied, or share the buffer that they came in, as [`Received::data`] says.
     ///
     /// Source: mcgate's own.
-    pub fn settle_next(&mut self, core: &mut AnyCore, received: &Received) -> Next
+    pub fn settle_next(&mut self, core: &mut ServedCore, received: &Received) -> Next
         ensures { SettlesNext self.old.sent.items received.now core.old result self.new.sent.items core.new }
     {
         let Some((number, dialect)) = self.first_asked() else {
@@ -320,7 +320,7 @@ impl LinkCalls {
     }
 
     /// The first of the calls that are out has failed, if one is: whose it was.
-    pub fn fail_next(&mut self, core: &mut AnyCore) -> Option<usize>
+    pub fn fail_next(&mut self, core: &mut ServedCore) -> Option<usize>
         ensures { SettlesFirst self.old.sent.items core.old Failed result self.new.sent.items core.new }
     {
         self.settle_first(core, Outcome::Failed)

@@ -1,11 +1,9 @@
-//! The calls of one server that are out: written one after the other, and settled in that order by what the server answers; and the
-//! core that they belong to. No socket is known here; the bytes are values.
+//! The calls of one server that are out: written one after the other, and settled in that order by what the server answers.
+//! No socket is known here; the bytes are values.
 #![tactic(auto)]
 
-mod any_core;
 mod calls;
 mod sending;
 
-pub use any_core::{AnyCore, LoadFault};
 pub use calls::{LinkCalls, Next, SentCall, fail_call};
 pub use sending::send_ask;

@@ -2,9 +2,9 @@
 
 use example_tables::configs::with_configs;
 use example_tables::playing::{Stage, cut, first_line, plain, play_lines, shown};
-use fresh_core::FreshCore;
+use fresh_core::ServedCore;
 use fresh_gate::judge;
-use link_calls::{AnyCore, LinkCalls, Next, SentCall};
+use link_calls::{LinkCalls, Next, SentCall};
 use mc_types::Dialect;
 use proxy_core::{Limits, Poll, Sharing, Ticket};
 use route_json::read_config;
@@ -51,14 +51,14 @@ const LIMITS: Limits = Limits {
     sharing: Sharing::Alone,
 };
 
-fn core_by(alloc: Global, text: &str) -> Result<AnyCore, Fail> {
+fn core_by(alloc: Global, text: &str) -> Result<ServedCore, Fail> {
     match judge(alloc, read_config(alloc, text)?) {
-        Ok(accepted) => Ok(AnyCore::Fresh(FreshCore::new(alloc, accepted, LIMITS)?)),
+        Ok(accepted) => Ok(ServedCore::new(alloc, accepted, LIMITS)?),
         Err(_) => Err("a pool of one server is refused")?,
     }
 }
 
-fn core(alloc: Global) -> Result<AnyCore, Fail> {
+fn core(alloc: Global) -> Result<ServedCore, Fail> {
     let text = with_configs(alloc, "<one server>")?;
     core_by(alloc, text.as_str())
 }
@@ -67,7 +67,7 @@ fn core(alloc: Global) -> Result<AnyCore, Fail> {
 #[derive(Drop)]
 struct Link {
     alloc: Global,
-    core: AnyCore,
+    core: ServedCore,
     calls: LinkCalls,
     asked: SendBuffer,
 }

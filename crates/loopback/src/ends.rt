@@ -5,7 +5,7 @@ use crate::entries::Entry;
 use crate::servers::Servers;
 use fleet_run::{Event, Output, PIECE_CUT, Reload, Script};
 use fresh_gate::{Accepted, ReloadFault};
-use link_calls::LoadFault;
+use fresh_core::LoadFault;
 use mc_types::limits::SCRIPT_CLIENTS;
 use proxy_core::Sharing;
 use route_json::Config;

@@ -5,12 +5,11 @@ use Rattle.route_json.specs.Servers.{Addresses}
 use Rattle.route_json.specs.Configuration.{Configuration}
 use Rattle.route_tree.specs.Route.{Route}
 use Rattle.commands_under_way.specs.declared.sharing.Sharing.{Sharing}
-use Rattle.link_calls.specs.declared.any_core.AnyCore.{AnyCore}
-use Rattle.link_calls.specs.declared.any_core.AnyCore.TheVariants as cores
-use Rattle.link_calls.specs.Cores.{IsKept}
+use Rattle.fresh_core.specs.declared.served.ServedCore.{ServedCore}
 use Rattle.proxy_connections.specs.declared.settings.Settings.{Settings}
 use Rattle.proxy_connections.specs.CoreSteps.{Step, Opened, NotOpened, Fed, Polled, Stopped, Settled, Gave, Closed, LeftLine, Loaded, AreOf, IsOfTurn, GoesOn}
 use Rattle.proxy_connections.proofs.Walked.{still, walks_keep}
+use Rattle.fresh_core.specs.Logs.{IsAccepted}
 use Rattle.tcp_proxy.specs.LogsGoOn.{LogsAreFresh}
 use Rattle.mcgate.specs.declared.serve.Servable.{Servable}
 use Rattle.mcgate.specs.declared.serve.Servable.TheVariants as servables
@@ -19,7 +18,7 @@ use Rattle.mcgate.specs.Serves.{HasTree, BeginsBy, Begins, SaysAfter, IsServed, 
 
 -- an end that began by these settings but for its sharing, which is that of its tree
 pub begins_on :
-    {T E : Type 0} (core : T → AnyCore) (servable known : Servable) (settings : Settings) (sharing : Sharing) (tree : Route) (r : Result T E) → servable ≡ known → HasTree known tree → sharing ≡ sharing_for tree
+    {T E : Type 0} (core : T → ServedCore) (servable known : Servable) (settings : Settings) (sharing : Sharing) (tree : Route) (r : Result T E) → servable ≡ known → HasTree known tree → sharing ≡ sharing_for tree
     → IfOk r (λ end. BeginsBy known (record settings { sharing = sharing }) (core end)) → IfOk r (λ end. Begins servable settings (core end))
 begins_on core servable known settings sharing tree (Ok end) is has sharing_is begins =
     subst (λ (x : Servable). Begins x settings (core end)) (sym is) (tree, has, subst (λ (s : Sharing). BeginsBy known (record settings { sharing = s }) (core end)) sharing_is begins)
@@ -41,23 +40,21 @@ each_of_turn : (steps : List Step) → AreOf IsOfTurn steps → AreOf IsServed s
 each_of_turn [] kinds = tt
 each_of_turn (step ∷ steps) kinds = (of_turn step kinds.0, each_of_turn steps kinds.1)
 
-pub turned : {a b : AnyCore} → GoesOn a b → Serves a b
+pub turned : {a b : ServedCore} → GoesOn a b → Serves a b
 turned g = record { steps = g.steps; kinds = each_of_turn g.steps g.kinds; walks = g.walks }
 
-by_load : (servers : Addresses) (text : List ℕ) (configuration : Configuration) (a b : AnyCore) → SaysAfter servers text configuration → MayLoad configuration a b → Serves a b
+by_load : (servers : Addresses) (text : List ℕ) (configuration : Configuration) (a b : ServedCore) → SaysAfter servers text configuration → MayLoad configuration a b → Serves a b
 by_load servers text configuration a b says (inl same) = still same
 by_load servers text configuration a b says (inr loaded) = record { steps = Loaded configuration loaded.0 ∷ []; kinds = ((servers, text, says), tt); walks = (a, refl, loaded.1) }
 
-pub by_text : (servers : Addresses) (text : List ℕ) (a b : AnyCore) → MayLoadText servers text a b → Serves a b
+pub by_text : (servers : Addresses) (text : List ℕ) (a b : ServedCore) → MayLoadText servers text a b → Serves a b
 by_text servers text a b (inl same) = still same
 by_text servers text a b (inr loaded) = by_load servers text loaded.0 a b loaded.1 loaded.2
 
-by_kind : (servable : Servable) (settings : Settings) (a b : AnyCore) → BeginsBy servable settings a → IsKept (λ x y. Unit {0}) a b → LogsAreFresh b → StaysFresh servable b
-by_kind (servables.Accepted accepted) settings (cores.Fresh a) (cores.Fresh b) begins kept fresh = fresh
-by_kind (servables.Accepted accepted) settings (cores.Fresh a) (cores.Unchecked b) begins kept fresh = kept
-by_kind (servables.Accepted accepted) settings (cores.Unchecked a) b begins kept fresh = absurd begins
+by_kind : (servable : Servable) (settings : Settings) (a b : ServedCore) → BeginsBy servable settings a → (IsAccepted a → IsAccepted b) → LogsAreFresh b → StaysFresh servable b
+by_kind (servables.Accepted accepted) settings a b begins kept fresh = let is = kept (accepted, begins.word) in (is, fresh is)
 by_kind (servables.Unchecked configuration) settings a b begins kept fresh = tt
 
-pub stays_fresh : (servable : Servable) (settings : Settings) (core : AnyCore) → HasServed servable settings core → LogsAreFresh core → StaysFresh servable core
+pub stays_fresh : (servable : Servable) (settings : Settings) (core : ServedCore) → HasServed servable settings core → LogsAreFresh core → StaysFresh servable core
 stays_fresh servable settings core served fresh =
-    by_kind servable (record settings { sharing = sharing_for served.begins.0 }) served.began core served.begins.2 (walks_keep served.serves.steps served.began core served.serves.walks) fresh
+    by_kind servable (record settings { sharing = sharing_for served.begins.0 }) served.began core served.begins.2 (walks_keep served.serves.steps served.began core served.serves.walks).0 fresh

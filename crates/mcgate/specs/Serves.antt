@@ -6,19 +6,18 @@ use Rattle.route_json.specs.Configs.{read_after}
 use Rattle.route_json.specs.Configuration.{Configuration}
 use Rattle.route_tree.specs.Route.{Route}
 use Rattle.fresh_gate.specs.Sound.{IsLast}
-use Rattle.link_calls.specs.declared.any_core.AnyCore.{AnyCore}
-use Rattle.link_calls.specs.declared.any_core.AnyCore.TheVariants as cores
-use Rattle.link_calls.specs.Cores.{IsLoaded}
+use Rattle.fresh_core.specs.declared.served.ServedCore.{ServedCore}
+use Rattle.fresh_core.specs.Loading.{IsLoaded}
 use Rattle.proxy_connections.specs.declared.settings.Settings.{Settings}
 use Rattle.proxy_connections.specs.CoreSteps.{Step, Opened, NotOpened, Fed, Polled, Stopped, Settled, Gave, Closed, LeftLine, Loaded, GoesBy}
 use Rattle.tcp_proxy.specs.Beginning.{BeginsFresh, BeginsUnchecked}
-use Rattle.tcp_proxy.specs.LogsGoOn.{LogsAreFresh}
+use Rattle.fresh_core.specs.Logs.{IsAccepted, EveryLogIsFresh}
 use Rattle.mcgate.specs.Sharing.{sharing_for}
 use Rattle.mcgate.specs.declared.serve.Servable.{Servable}
 use Rattle.mcgate.specs.declared.serve.Servable.TheVariants as servables
 
 -- it is a new core on the trees that the gate accepted, or on the configuration's tree, of which no gate was asked
-abbrev pub BeginsBy : Servable → Settings → AnyCore → Type 0
+abbrev pub BeginsBy : Servable → Settings → ServedCore → Type 0
 BeginsBy (servables.Accepted accepted) settings core = BeginsFresh accepted settings core
 BeginsBy (servables.Unchecked configuration) settings core = BeginsUnchecked configuration.tree settings core
 
@@ -28,7 +27,7 @@ HasTree (servables.Accepted accepted) tree = (configuration : Configuration) × 
 HasTree (servables.Unchecked configuration) tree = tree ≡ configuration.tree
 
 -- the same by these settings, but that commands share their keys by the rule for its tree
-abbrev pub Begins : Servable → Settings → AnyCore → Type 0
+abbrev pub Begins : Servable → Settings → ServedCore → Type 0
 Begins servable settings core = (tree : Route) × HasTree servable tree × BeginsBy servable (record settings { sharing = sharing_for tree }) core
 
 -- the text says this configuration, whose servers are numbered after these
@@ -49,25 +48,24 @@ IsServed (Closed client) = Unit {0}
 IsServed (LeftLine client) = Unit {0}
 
 -- turns and such loads, one after another
-abbrev pub Serves : AnyCore → AnyCore → Type 0
+abbrev pub Serves : ServedCore → ServedCore → Type 0
 Serves old new = GoesBy IsServed old new
 
 -- nothing is done, or this configuration is loaded
-abbrev pub MayLoad : Configuration → AnyCore → AnyCore → Type 0
+abbrev pub MayLoad : Configuration → ServedCore → ServedCore → Type 0
 MayLoad configuration old new = (new ≡ old) ⊎ ((generation : ℕ) × IsLoaded old configuration generation new)
 
 -- nothing is done, or the configuration that this text says is loaded
-abbrev pub MayLoadText : Addresses → List ℕ → AnyCore → AnyCore → Type 0
+abbrev pub MayLoadText : Addresses → List ℕ → ServedCore → ServedCore → Type 0
 MayLoadText servers text old new = (new ≡ old) ⊎ ((configuration : Configuration) × SaysAfter servers text configuration × MayLoad configuration old new)
 
 -- it began so, and turns and loads led to it
-pub record HasServed (servable : Servable) (settings : Settings) (core : AnyCore) : Type 0 where
-  pub began : AnyCore
+pub record HasServed (servable : Servable) (settings : Settings) (core : ServedCore) : Type 0 where
+  pub began : ServedCore
   pub begins : Begins servable settings began
   pub serves : Serves began core
 
 -- where the gate accepted what is served, the core is one on accepted trees, and each log that may have led to it is fresh
-abbrev pub StaysFresh : Servable → AnyCore → Type 0
-StaysFresh (servables.Accepted accepted) (cores.Fresh fresh) = LogsAreFresh (cores.Fresh fresh)
-StaysFresh (servables.Accepted accepted) (cores.Unchecked core) = ⊥
+abbrev pub StaysFresh : Servable → ServedCore → Type 0
+StaysFresh (servables.Accepted accepted) core = IsAccepted core × EveryLogIsFresh core
 StaysFresh (servables.Unchecked configuration) core = Unit {0}

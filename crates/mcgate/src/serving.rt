@@ -9,7 +9,7 @@ use crate::special::is_special;
 use config_check::reload_lines::{write_kept, write_loaded, write_unchecked};
 use config_check::status::DONE;
 use fresh_gate::ReloadFault;
-use link_calls::LoadFault;
+use fresh_core::LoadFault;
 use mc_types::ServerId;
 use program::ends::Stop;
 use program::input::text_of;

@@ -3,43 +3,42 @@ use Rattle.std.proofs.Common.{◌≡◌, ℕ, ◌≤◌, min, List, [], ◌∷�
 use Rattle.std.proofs.lemmas.List.{append-nil, drop_min, take-append-drop}
 use Rattle.std.specs.Prelude.{IfOk}
 use Rattle.mc_types.specs.declared.answer.Answer.{Answer}
-use Rattle.link_calls.specs.declared.any_core.AnyCore.{AnyCore}
+use Rattle.fresh_core.specs.declared.served.ServedCore.{ServedCore}
 use Rattle.link_calls.specs.declared.calls.SentCall.{SentCall}
 use Rattle.link_calls.specs.declared.calls.Next.{Next}
 use Rattle.link_calls.specs.declared.calls.Next.TheVariants as nexts
-use Rattle.link_calls.specs.Cores.{core_of}
 use Rattle.link_calls.specs.Calls.{AwaitsFirst, SettlesNext}
 use Rattle.proxy_connections.specs.Settled.{HoldsNoAnswer, SettlesOne, SettlesEach, SettlesSome, used_by}
 
 -- more is awaited, and nothing has changed
-pub awaited : (sent : List SentCall) (bytes : List ℕ) (a : AnyCore) (sent' : List SentCall) (b : AnyCore) → SettlesNext sent bytes a nexts.More sent' b → HoldsNoAnswer sent' bytes b
+pub awaited : (sent : List SentCall) (bytes : List ℕ) (a : ServedCore) (sent' : List SentCall) (b : ServedCore) → SettlesNext sent bytes a nexts.More sent' b → HoldsNoAnswer sent' bytes b
 awaited sent bytes a sent' b is =
-    inr (subst (λ (s : List SentCall). AwaitsFirst s bytes (core_of b)) (sym is.1) (subst (λ (c : AnyCore). AwaitsFirst sent bytes (core_of c)) (sym is.2) is.0))
+    inr (subst (λ (s : List SentCall). AwaitsFirst s bytes b.core) (sym is.1) (subst (λ (c : ServedCore). AwaitsFirst sent bytes c.core) (sym is.2) is.0))
 
 -- the same of equal bytes
-pub settles_as : (sent : List SentCall) (xs ys : List ℕ) (a : AnyCore) (next : Next) (sent' : List SentCall) (b : AnyCore) → ys ≡ xs → SettlesNext sent xs a next sent' b → SettlesNext sent ys a next sent' b
+pub settles_as : (sent : List SentCall) (xs ys : List ℕ) (a : ServedCore) (next : Next) (sent' : List SentCall) (b : ServedCore) → ys ≡ xs → SettlesNext sent xs a next sent' b → SettlesNext sent ys a next sent' b
 settles_as sent xs ys a next sent' b e is = subst (λ (bytes : List ℕ). SettlesNext sent bytes a next sent' b) (sym e) is
 
 -- nothing was settled
-pub none : {sent : List SentCall} {bytes : List ℕ} {a : AnyCore} {sent' : List SentCall} {bytes' : List ℕ} {b : AnyCore} → sent' ≡ sent → bytes' ≡ bytes → b ≡ a → SettlesSome sent bytes a sent' bytes' b
+pub none : {sent : List SentCall} {bytes : List ℕ} {a : ServedCore} {sent' : List SentCall} {bytes' : List ℕ} {b : ServedCore} → sent' ≡ sent → bytes' ≡ bytes → b ≡ a → SettlesSome sent bytes a sent' bytes' b
 none s x c = record { answers = []; each = (s, x, c) }
 
 both_each :
-    (first later : List Answer) (s : List SentCall) (x : List ℕ) (a : AnyCore) (t : List SentCall) (y : List ℕ) (b : AnyCore) (u : List SentCall) (z : List ℕ) (c : AnyCore)
+    (first later : List Answer) (s : List SentCall) (x : List ℕ) (a : ServedCore) (t : List SentCall) (y : List ℕ) (b : ServedCore) (u : List SentCall) (z : List ℕ) (c : ServedCore)
     → SettlesEach first s x a t y b → SettlesEach later t y b u z c → SettlesEach (first ++ later) s x a u z c
 both_each [] later s x a t y b u z c f l =
-    subst (λ (v : List SentCall). SettlesEach later v x a u z c) f.0 (subst (λ (w : List ℕ). SettlesEach later t w a u z c) f.1 (subst (λ (d : AnyCore). SettlesEach later t y d u z c) f.2 l))
+    subst (λ (v : List SentCall). SettlesEach later v x a u z c) f.0 (subst (λ (w : List ℕ). SettlesEach later t w a u z c) f.1 (subst (λ (d : ServedCore). SettlesEach later t y d u z c) f.2 l))
 both_each (answer ∷ first) later s x a t y b u z c f l = (f.0, f.1, f.2, f.3, both_each first later f.0 f.1 f.2 t y b u z c f.4 l)
 
 -- one after another
 pub both :
-    {s : List SentCall} {x : List ℕ} {a : AnyCore} {t : List SentCall} {y : List ℕ} {b : AnyCore} {u : List SentCall} {z : List ℕ} {c : AnyCore}
+    {s : List SentCall} {x : List ℕ} {a : ServedCore} {t : List SentCall} {y : List ℕ} {b : ServedCore} {u : List SentCall} {z : List ℕ} {c : ServedCore}
     → SettlesSome s x a t y b → SettlesSome t y b u z c → SettlesSome s x a u z c
 both {s} {x} {a} {t} {y} {b} {u} {z} {c} f l = record { answers = f.answers ++ l.answers; each = both_each f.answers l.answers s x a t y b u z c f.each l.each }
 
 -- the first was settled
 pub one :
-    (sent : List SentCall) (bytes : List ℕ) (a : AnyCore) (client used : ℕ) (sent' : List SentCall) (bytes' : List ℕ) (b : AnyCore) → bytes' ≡ drop used bytes
+    (sent : List SentCall) (bytes : List ℕ) (a : ServedCore) (client used : ℕ) (sent' : List SentCall) (bytes' : List ℕ) (b : ServedCore) → bytes' ≡ drop used bytes
     → SettlesNext sent bytes a (nexts.Settled client used) sent' b → SettlesSome sent bytes a sent' bytes' b
 one sent bytes a client used sent' bytes' b e is = record { answers = is.0 ∷ []; each = (sent', bytes', b, first, (refl, refl, refl)) }
   where
@@ -48,20 +47,20 @@ one sent bytes a client used sent' bytes' b e is = record { answers = is.0 ∷ [
 
 -- it was, or nothing has changed
 pub by_next :
-    (sent : List SentCall) (bytes : List ℕ) (a : AnyCore) (next : Next) (sent' : List SentCall) (b : AnyCore) → SettlesNext sent bytes a next sent' b
+    (sent : List SentCall) (bytes : List ℕ) (a : ServedCore) (next : Next) (sent' : List SentCall) (b : ServedCore) → SettlesNext sent bytes a next sent' b
     → SettlesSome sent bytes a sent' (drop (used_by next) bytes) b
 by_next sent bytes a (nexts.Settled client used) sent' b is = one sent bytes a client used sent' (drop used bytes) b refl is
 by_next sent bytes a nexts.More sent' b is = none is.1 refl is.2
 by_next sent bytes a nexts.Foreign sent' b is = none is.0 refl is.1
 
 over_each :
-    (answers : List Answer) (s : List SentCall) (x : List ℕ) (a : AnyCore) (t : List SentCall) (y : List ℕ) (b : AnyCore) (more : List ℕ)
+    (answers : List Answer) (s : List SentCall) (x : List ℕ) (a : ServedCore) (t : List SentCall) (y : List ℕ) (b : ServedCore) (more : List ℕ)
     → SettlesEach answers s x a t y b → SettlesEach answers s (x ++ more) a t (y ++ more) b
 over_each [] s x a t y b more f = (f.0, ap (λ (l : List ℕ). l ++ more) f.1, f.2)
 over_each (answer ∷ answers) s x a t y b more f = (f.0, f.1 ++ more, f.2, over_one s x a answer f.0 f.1 f.2 more f.3, over_each answers f.0 f.1 f.2 t y b more f.4)
   where
     over_one :
-        (s : List SentCall) (x : List ℕ) (a : AnyCore) (answer : Answer) (t : List SentCall) (y : List ℕ) (b : AnyCore) (more : List ℕ)
+        (s : List SentCall) (x : List ℕ) (a : ServedCore) (answer : Answer) (t : List SentCall) (y : List ℕ) (b : ServedCore) (more : List ℕ)
         → SettlesOne s x a answer t y b → SettlesOne s (x ++ more) a answer t (y ++ more) b
     over_one s x a answer t y b more is = record {
       front = is.front;
@@ -76,12 +75,12 @@ over_each (answer ∷ answers) s x a t y b more f = (f.0, f.1 ++ more, f.2, over
 
 -- more stands after the bytes
 pub over :
-    {s : List SentCall} {x : List ℕ} {a : AnyCore} {t : List SentCall} {y : List ℕ} {b : AnyCore} (more : List ℕ) → SettlesSome s x a t y b → SettlesSome s (x ++ more) a t (y ++ more) b
+    {s : List SentCall} {x : List ℕ} {a : ServedCore} {t : List SentCall} {y : List ℕ} {b : ServedCore} (more : List ℕ) → SettlesSome s x a t y b → SettlesSome s (x ++ more) a t (y ++ more) b
 over {s} {x} {a} {t} {y} {b} more f = record { answers = f.answers; each = over_each f.answers s x a t y b more f.each }
 
 -- the same of equal bytes
 pub between :
-    {s : List SentCall} {x y : List ℕ} {a : AnyCore} {t : List SentCall} {v w : List ℕ} {b : AnyCore} → y ≡ x → w ≡ v → SettlesSome s x a t v b → SettlesSome s y a t w b
+    {s : List SentCall} {x y : List ℕ} {a : ServedCore} {t : List SentCall} {v w : List ℕ} {b : ServedCore} → y ≡ x → w ≡ v → SettlesSome s x a t v b → SettlesSome s y a t w b
 between {s} {x} {y} {a} {t} {v} {w} {b} e f is = subst (λ (l : List ℕ). SettlesSome s l a t w b) (sym e) (subst (λ (l : List ℕ). SettlesSome s x a t l b) (sym f) is)
 
 -- so many bytes that were cut off, and the others

@@ -9,10 +9,11 @@ use Rattle.proxy_core.specs.declared.note.Poll.{Poll}
 use Rattle.proxy_core.specs.Faults.{CanOpen, CanFeed, CanClose, OpenFault}
 use Rattle.proxy_core.specs.CoreState.{Opens, Feeds, Gives, Closes, LeavesLine, client_at, dropped_by}
 use Rattle.proxy_core.specs.Polls.{Polls, PollFault, Then, Perhaps, BeginsOne, IsPolled}
-use Rattle.fresh_core.specs.Freshly.{GoesFreshly, fed}
+use Rattle.fresh_core.specs.Logs.{LogsGoBy, IsAccepted, fed}
 use Rattle.fresh_core.specs.Results.{PollStops}
-use Rattle.link_calls.specs.declared.any_core.AnyCore.{AnyCore}
-use Rattle.link_calls.specs.Cores.{core_of, IsKept, IsSettled, IsLoaded}
+use Rattle.fresh_core.specs.declared.served.ServedCore.{ServedCore}
+use Rattle.fresh_core.specs.Results.{IsSettled}
+use Rattle.fresh_core.specs.Loading.{IsLoaded}
 
 -- one call of a core that changes it, and what came of it
 pub data Step : Type 0 where
@@ -27,25 +28,25 @@ pub data Step : Type 0 where
   LeftLine : (client : ℕ) → Step
   Loaded : (configuration : Configuration) (generation : ℕ) → Step
 
--- a core goes from one state to another by this call: as the core's own call of that name goes, and freshly where it is on accepted trees
-abbrev pub Does : Step → AnyCore → AnyCore → Type 0
-Does (Opened client) old new = CanOpen (core_of old) × Opens (core_of old) client (core_of new) × IsKept (λ a b. GoesFreshly a (λ entries. entries ≡ []) b) old new
-Does (NotOpened fault) old new = OpenFault (core_of old) fault (core_of new) × IsKept (λ a b. GoesFreshly a (λ entries. entries ≡ []) b) old new
+-- a core goes from one state to another by this call: as the core's own call of that name goes, and with each log that may have led to it
+abbrev pub Does : Step → ServedCore → ServedCore → Type 0
+Does (Opened client) old new = CanOpen old.core × Opens old.core client new.core × LogsGoBy old (λ entries. entries ≡ []) new
+Does (NotOpened fault) old new = OpenFault old.core fault new.core × LogsGoBy old (λ entries. entries ≡ []) new
 Does (Fed client piece) old new =
-    CanFeed (core_of old) client piece × Feeds (core_of old) client piece (core_of new)
-    × IsKept (λ a b. GoesFreshly a (λ entries. entries ≡ fed (dropped_by (client_at a.core client)) client piece) b) old new
-Does (Polled client poll) old new = Polls (core_of old) client poll (core_of new) × IsKept (λ a b. GoesFreshly a (Then (Perhaps (BeginsOne client)) (IsPolled client poll)) b) old new
-Does (Stopped client fault) old new = PollFault (core_of old) client fault (core_of new) × IsKept (λ a b. PollStops a client fault b) old new
+    CanFeed old.core client piece × Feeds old.core client piece new.core
+    × LogsGoBy old (λ entries. entries ≡ fed (dropped_by (client_at old.core client)) client piece) new
+Does (Polled client poll) old new = Polls old.core client poll new.core × LogsGoBy old (Then (Perhaps (BeginsOne client)) (IsPolled client poll)) new
+Does (Stopped client fault) old new = PollFault old.core client fault new.core × PollStops old client fault new
 Does (Settled number outcome) old new = IsSettled old number outcome new
-Does (Gave client bytes) old new = Gives (core_of old) client bytes (core_of new) × IsKept (λ a b. GoesFreshly a (λ entries. entries ≡ log.Gives client bytes ∷ []) b) old new
-Does (Closed client) old new = CanClose (core_of old) client × Closes (core_of old) client (core_of new) × IsKept (λ a b. GoesFreshly a (λ entries. entries ≡ log.Resets client ∷ []) b) old new
-Does (LeftLine client) old new = LeavesLine (core_of old) client (core_of new) × IsKept (λ a b. GoesFreshly a (λ entries. entries ≡ []) b) old new
+Does (Gave client bytes) old new = Gives old.core client bytes new.core × LogsGoBy old (λ entries. entries ≡ log.Gives client bytes ∷ []) new
+Does (Closed client) old new = CanClose old.core client × Closes old.core client new.core × LogsGoBy old (λ entries. entries ≡ log.Resets client ∷ []) new
+Does (LeftLine client) old new = LeavesLine old.core client new.core × LogsGoBy old (λ entries. entries ≡ []) new
 Does (Loaded configuration generation) old new = IsLoaded old configuration generation new
 
 -- these calls, the latest first, lead from one state to the other
-abbrev pub Walks : List Step → AnyCore → AnyCore → Type 0
+abbrev pub Walks : List Step → ServedCore → ServedCore → Type 0
 Walks [] old new = new ≡ old
-Walks (step ∷ steps) old new = (mid : AnyCore) × Walks steps old mid × Does step mid new
+Walks (step ∷ steps) old new = (mid : ServedCore) × Walks steps old mid × Does step mid new
 
 -- each is of this kind
 abbrev pub AreOf : (Step → Type 0) → List Step → Type 0
@@ -53,7 +54,7 @@ AreOf Is [] = Unit {0}
 AreOf Is (step ∷ steps) = Is step × AreOf Is steps
 
 -- some calls, each of this kind, lead from one state to the other
-pub record GoesBy (Is : Step → Type 0) (old new : AnyCore) : Type 0 where
+pub record GoesBy (Is : Step → Type 0) (old new : ServedCore) : Type 0 where
   pub steps : List Step
   pub kinds : AreOf Is steps
   pub walks : Walks steps old new
@@ -85,13 +86,13 @@ IsFailure (LeftLine client) = ⊥
 IsFailure (Loaded configuration generation) = ⊥
 
 -- it goes on by calls of it alone, and keeps its configuration
-abbrev pub GoesOn : AnyCore → AnyCore → Type 0
+abbrev pub GoesOn : ServedCore → ServedCore → Type 0
 GoesOn old new = GoesBy IsOfTurn old new
 
 -- nothing is done but that calls fail
-abbrev pub Fails : AnyCore → AnyCore → Type 0
+abbrev pub Fails : ServedCore → ServedCore → Type 0
 Fails old new = GoesBy IsFailure old new
 
--- a law of all walks: a core on accepted trees stays one, and so does one on any trees
+-- a law of all walks: a core whose trees the gate accepted stays one, and so does one on other trees
 abbrev pub WalksKeep : Type 0
-WalksKeep = (steps : List Step) (old new : AnyCore) → Walks steps old new → IsKept (λ a b. Unit {0}) old new
+WalksKeep = (steps : List Step) (old new : ServedCore) → Walks steps old new → (IsAccepted old → IsAccepted new) × (IsAccepted new → IsAccepted old)

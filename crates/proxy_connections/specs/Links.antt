@@ -1,9 +1,9 @@
 -- The links of a proxy to its servers. Source: mcgate's own.
 use Rattle.std.specs.Prelude.{◌≡◌, ℕ, ◌+◌, List, [], ◌∷◌, length, None, IfSome, slice_get}
 use Rattle.mc_types.specs.declared.call.Outcome.TheVariants.{Failed}
-use Rattle.link_calls.specs.declared.any_core.AnyCore.{AnyCore}
+use Rattle.fresh_core.specs.declared.served.ServedCore.{ServedCore}
 use Rattle.link_calls.specs.declared.calls.SentCall.{SentCall}
-use Rattle.link_calls.specs.Cores.{IsSettled}
+use Rattle.fresh_core.specs.Results.{IsSettled}
 use Rattle.proxy_connections.specs.declared.link.Link.{Link}
 
 -- how many calls are out on these links: sent, or waiting to be sent
@@ -12,9 +12,9 @@ calls_out [] = 0
 calls_out (link ∷ links) = length link.calls.sent.items + length link.waiting.items + calls_out links
 
 -- each of these calls has failed, in this order, and nothing else was done
-abbrev pub AllFail : List SentCall → AnyCore → AnyCore → Type 0
+abbrev pub AllFail : List SentCall → ServedCore → ServedCore → Type 0
 AllFail [] old new = new ≡ old
-AllFail (call ∷ calls) old new = (mid : AnyCore) × IsSettled old call.ticket.number Failed mid × AllFail calls mid new
+AllFail (call ∷ calls) old new = (mid : ServedCore) × IsSettled old call.ticket.number Failed mid × AllFail calls mid new
 
 -- the link has no connection, and none of its calls is out
 pub record IsDown (link : Link) : Type 0 where

@@ -3,12 +3,11 @@
 ghost use Rattle.std.specs.Prelude.{◌≡◌, ◌++◌, OnOk, OnErr};
 ghost use Rattle.send_buffer.specs.Sending.{bytes_of};
 ghost use Rattle.proxy_core.specs.CoreState.{client_at, output_by};
-ghost use Rattle.link_calls.specs.Cores.{core_of};
 ghost use Rattle.proxy_connections.specs.CoreSteps.{GoesOn};
 ghost use Rattle.proxy_connections.specs.Pieces.{Takes};
 
 use crate::tally::Tally;
-use link_calls::AnyCore;
+use fresh_core::ServedCore;
 use proxy_clients::{Client, send};
 use proxy_core::CoreFault;
 use tcp_socket::Got;
@@ -29,7 +28,7 @@ pub fn read_once(client: &mut Client, tally: &mut Tally) {
 
 /// What is to be sent to the client goes out, as far as it is taken. Whether the client is to be served for that: it takes what is
 /// shown to it again, or it has ended, and all is sent.
-pub fn send_once(core: &AnyCore, id: usize, client: &mut Client) -> bool {
+pub fn send_once(core: &ServedCore, id: usize, client: &mut Client) -> bool {
     client.has_output = false;
     let was_full = !client.has_room();
     if !send(&mut client.conn) {
@@ -40,7 +39,7 @@ pub fn send_once(core: &AnyCore, id: usize, client: &mut Client) -> bool {
 }
 
 /// What the client's end holds is given to the core.
-pub fn feed_held(core: &mut AnyCore, id: usize, client: &mut Client)
+pub fn feed_held(core: &mut ServedCore, id: usize, client: &mut Client)
     ensures core { GoesOn core.old core.new }
     ensures piece { Takes id client.old.conn.held.items core.old core.new }
 {
@@ -56,9 +55,9 @@ pub fn feed_held(core: &mut AnyCore, id: usize, client: &mut Client)
 }
 
 /// What the core has for the client goes after what is to be sent. How many bytes that is.
-pub fn show(core: &mut AnyCore, id: usize, client: &mut Client) -> Result<usize, CoreFault>
+pub fn show(core: &mut ServedCore, id: usize, client: &mut Client) -> Result<usize, CoreFault>
     ensures core { GoesOn core.old core.new }
-    ensures bytes { OnOk result (bytes_of client.new.conn.unsent ≡ bytes_of client.old.conn.unsent ++ output_by (client_at (core_of core.old) id)) }
+    ensures bytes { OnOk result (bytes_of client.new.conn.unsent ≡ bytes_of client.old.conn.unsent ++ output_by (client_at core.old.core id)) }
     ensures kept { OnErr result (bytes_of client.new.conn.unsent ≡ bytes_of client.old.conn.unsent) }
 {
     let unsent = client.conn.unsent.len();

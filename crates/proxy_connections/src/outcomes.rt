@@ -8,7 +8,8 @@ ghost use Rattle.proxy_connections.specs.Settled.{HoldsNoAnswer, SettlesSome, us
 
 use crate::link::Link;
 use bytes::Bytes;
-use link_calls::{AnyCore, LinkCalls, Next, fail_call};
+use fresh_core::ServedCore;
+use link_calls::{LinkCalls, Next, fail_call};
 use mio::net::TcpStream;
 use proxy_clients::{Clients, use_held};
 use std::alloc::AllocError;
@@ -24,7 +25,7 @@ const ROOM_AFTER: usize = 147_456;
 // The calls that are out on a link have failed.
 fn fail_sent(
     calls: &mut LinkCalls,
-    core: &mut AnyCore,
+    core: &mut ServedCore,
     clients: &mut Clients,
 ) -> Result<(), AllocError>
     ensures core { Fails core.old core.new }
@@ -43,7 +44,7 @@ fn fail_sent(
 // The calls that wait for the link have failed.
 fn fail_waiting(
     link: &mut Link,
-    core: &mut AnyCore,
+    core: &mut ServedCore,
     clients: &mut Clients,
 ) -> Result<(), AllocError>
     requires { link.old.conn ≡ None }
@@ -67,7 +68,7 @@ fn fail_waiting(
 /// All calls of the link, which has no connection, have failed: those that are out, and then those that wait.
 pub fn fail_all(
     link: &mut Link,
-    core: &mut AnyCore,
+    core: &mut ServedCore,
     clients: &mut Clients,
 ) -> Result<(), AllocError>
     requires { link.old.conn ≡ None }
@@ -171,7 +172,7 @@ fn front_stop(stops: Stops, held: &[u8]) -> Option<Stop>
 }
 
 // The first call is settled by its answer, if these bytes begin with it.
-fn settle_first(calls: &mut LinkCalls, core: &mut AnyCore, received: &Received) -> Next
+fn settle_first(calls: &mut LinkCalls, core: &mut ServedCore, received: &Received) -> Next
     ensures core { GoesOn core.old core.new }
     ensures next { SettlesNext calls.old.sent.items received.now core.old result calls.new.sent.items core.new }
 {
@@ -179,7 +180,7 @@ fn settle_first(calls: &mut LinkCalls, core: &mut AnyCore, received: &Received) 
 }
 
 // The first call is settled by its answer, if what stands from this place on begins with it. (apart, so that what is made for it is gone by the end)
-fn settle_at(calls: &mut LinkCalls, core: &mut AnyCore, received: &Received, at: usize) -> Next
+fn settle_at(calls: &mut LinkCalls, core: &mut ServedCore, received: &Received, at: usize) -> Next
     ensures core { GoesOn core.old core.new }
     ensures next { SettlesNext calls.old.sent.items (drop at received.now) core.old result calls.new.sent.items core.new }
 {
@@ -190,7 +191,7 @@ fn settle_at(calls: &mut LinkCalls, core: &mut AnyCore, received: &Received, at:
 // Whole answers in these bytes are settled, up to one to stop at: how many bytes they are, and what follows.
 fn settle_in(
     calls: &mut LinkCalls,
-    core: &mut AnyCore,
+    core: &mut ServedCore,
     clients: &mut Clients,
     is_freed: &mut bool,
     received: &Received,
@@ -230,7 +231,7 @@ fn settle_in(
 // The same in bytes that aren't shared.
 fn settle_here(
     calls: &mut LinkCalls,
-    core: &mut AnyCore,
+    core: &mut ServedCore,
     clients: &mut Clients,
     is_freed: &mut bool,
     held: &[u8],
@@ -253,7 +254,7 @@ fn settle_here(
 // All whole answers in bytes that are shared are settled.
 fn settle_cut(
     calls: &mut LinkCalls,
-    core: &mut AnyCore,
+    core: &mut ServedCore,
     clients: &mut Clients,
     is_freed: &mut bool,
     front: &Bytes,
@@ -275,7 +276,7 @@ fn settle_cut(
 // The answer in front is settled by a copy of its data.
 fn settle_copied(
     calls: &mut LinkCalls,
-    core: &mut AnyCore,
+    core: &mut ServedCore,
     clients: &mut Clients,
     is_freed: &mut bool,
     conn: &mut Conn<TcpStream>,
@@ -318,7 +319,7 @@ fn front_after(stop: Stop, is_kept: bool) -> Front
 // Whole answers are settled, and long data of them share the buffer that they came in: whether one was, and what was done with the last.
 fn settle_long(
     calls: &mut LinkCalls,
-    core: &mut AnyCore,
+    core: &mut ServedCore,
     clients: &mut Clients,
     is_freed: &mut bool,
     conn: &mut Conn<TcpStream>,
@@ -350,7 +351,7 @@ fn used_by(next: Next) -> usize
 // whether memory was there for that.
 fn settle_shared(
     calls: &mut LinkCalls,
-    core: &mut AnyCore,
+    core: &mut ServedCore,
     front: &Bytes,
     conn: &mut Conn<TcpStream>,
 ) -> (Next, bool)
@@ -367,7 +368,7 @@ fn settle_shared(
 // Where memory is refused for that, or it is spelled otherwise, they are copied.
 fn settle_large(
     calls: &mut LinkCalls,
-    core: &mut AnyCore,
+    core: &mut ServedCore,
     clients: &mut Clients,
     is_freed: &mut bool,
     conn: &mut Conn<TcpStream>,
@@ -399,7 +400,7 @@ fn settle_large(
 // What settling stopped at is settled, if it is there: whether others than the last were, and what was done with that.
 fn settle_stop(
     calls: &mut LinkCalls,
-    core: &mut AnyCore,
+    core: &mut ServedCore,
     clients: &mut Clients,
     is_freed: &mut bool,
     conn: &mut Conn<TcpStream>,
@@ -424,7 +425,7 @@ fn settle_stop(
 // Whole answers are settled, up to one to stop at, and that one: whether others than the last were, and what was done with that.
 fn settle_some(
     calls: &mut LinkCalls,
-    core: &mut AnyCore,
+    core: &mut ServedCore,
     clients: &mut Clients,
     is_freed: &mut bool,
     conn: &mut Conn<TcpStream>,
@@ -471,7 +472,7 @@ fn told(has_settled: bool, is_kept: bool, held: &[u8]) -> HeldAnswers
 /// ones, of [`CUT_FROM`] bytes or more, where 16,384 bytes or more are held and none that shared another buffer before is in use. All others are copied.
 pub fn settle_held(
     calls: &mut LinkCalls,
-    core: &mut AnyCore,
+    core: &mut ServedCore,
     clients: &mut Clients,
     is_freed: &mut bool,
     conn: &mut Conn<TcpStream>,

@@ -19,15 +19,12 @@ use Rattle.proxy_core.specs.Steps.{event_of}
 use Rattle.proxy_core.specs.declared.note.Note.{Note}
 use Rattle.proxy_core.specs.declared.note.Poll.{Poll}
 use Rattle.proxy_core.specs.declared.note.Poll.TheVariants as polls
-use Rattle.fresh_core.specs.declared.fresh.FreshCore.{FreshCore}
-use Rattle.fresh_core.specs.Freshly.{MayHaveLed, GoesFreshly, fed}
-use Rattle.fresh_core.specs.Results.{PollStops, SettlesFreshly, SettleStops}
-use Rattle.link_calls.specs.declared.any_core.AnyCore.{AnyCore}
-use Rattle.link_calls.specs.declared.any_core.AnyCore.TheVariants as cores
+use Rattle.fresh_core.specs.declared.served.ServedCore.{ServedCore}
+use Rattle.fresh_core.specs.Logs.{MayHaveLed, LogsGoBy, fed}
+use Rattle.fresh_core.specs.Results.{PollStops, TakesResult, SettleStops}
 use Rattle.proxy_connections.specs.CoreSteps.{Step, Opened, NotOpened, Fed, Polled, Stopped, Settled, Gave, Closed, LeftLine, Loaded, Does, Walks}
 use Rattle.fresh_core.proofs.Losses.{servers_may_lose}
 use Rattle.tcp_proxy.specs.LogsGoOn.{AreOwn, AreTurns, happened, after_turns, GoesOnSaying, StaysOn, SettlesOnLog, AfterTurns, StepGoes, LogGoes, WalksGoOn}
-use Rattle.proxy_connections.proofs.Walked.{does_keep}
 
 -- ---- what a core does by itself
 
@@ -105,20 +102,20 @@ freed_or_not false number past l = l
 
 -- ---- turns
 
-turned : (opening : ℕ → List ℕ → Option Item) (past : List (Entry dialect)) (fresh : FreshCore) (led : MayHaveLed opening past fresh) (turns : List Event) → AreTurns turns
-    → (by : MayHaveLed opening (happened turns ++ past) fresh) × (by.beside ≡ record led.beside { holds = after_turns turns led.beside.holds })
-turned opening past fresh led [] are = (led, refl)
-turned opening past fresh led (event ∷ turns) are =
-    let before = turned opening past fresh led turns are.1 in
-    let after = servers_may_lose fresh opening (happened turns ++ past) before.0 event are.0 in
+turned : (opening : ℕ → List ℕ → Option Item) (past : List (Entry dialect)) (served : ServedCore) (led : MayHaveLed opening past served) (turns : List Event) → AreTurns turns
+    → (by : MayHaveLed opening (happened turns ++ past) served) × (by.beside ≡ record led.beside { holds = after_turns turns led.beside.holds })
+turned opening past served led [] are = (led, refl)
+turned opening past served led (event ∷ turns) are =
+    let before = turned opening past served led turns are.1 in
+    let after = servers_may_lose served opening (happened turns ++ past) before.0 event are.0 in
     (after.0, after.1 ∙ ap (λ (b : Beside). record b { holds = after_event event b.holds }) before.1)
 
 -- ---- one call
 
-module _ (opening : ℕ → List ℕ → Option Item) (past : List (Entry dialect)) (old new : FreshCore) (led : MayHaveLed opening past old)
+module _ (opening : ℕ → List ℕ → Option Item) (past : List (Entry dialect)) (old new : ServedCore) (led : MayHaveLed opening past old)
     (Holds : (later : List (Entry dialect)) → MayHaveLed opening later new → Type 0) (holds : (later : List (Entry dialect)) (by : MayHaveLed opening later new) → Holds later by) where
-  by_fresh : (IsKind : List (Entry dialect) → Type 0) → ((entries : List (Entry dialect)) → IsKind entries → AreOwn entries) → GoesFreshly old IsKind new → GoesOnSaying opening IsKind past new Holds
-  by_fresh IsKind own goes = let g = goes opening past led in (g.0, g.1, own g.0 g.1, g.2, holds (g.0 ++ past) g.2)
+  by_fresh : (IsKind : List (Entry dialect) → Type 0) → ((entries : List (Entry dialect)) → IsKind entries → AreOwn entries) → LogsGoBy old IsKind new → GoesOnSaying opening IsKind past new Holds
+  by_fresh IsKind own goes = let g = goes.logs opening past led in (g.0, g.1, own g.0 g.1, g.2, holds (g.0 ++ past) g.2)
 
   by_none : new ≡ old → StaysOn opening past old new Holds
   by_none same = let by : MayHaveLed opening past new = subst (λ x. MayHaveLed opening past x) (sym same) led in (same, by, holds past by)
@@ -127,7 +124,7 @@ module _ (opening : ℕ → List ℕ → Option Item) (past : List (Entry dialec
   by_nothing same = let s = by_none same in ([], tt, λ past l. l, s.1, s.2)
 
   stopped : (client : ℕ) (fault : CoreFault) → PollStops old client fault new → GoesOnSaying opening (λ entries. Unit {0}) past new Holds
-  stopped client faults.NoMemory stops = let g = stops.goes opening past led in (g.0, tt, stops_own client stops.stops.numbers g.0 g.1, g.2, holds (g.0 ++ past) g.2)
+  stopped client faults.NoMemory stops = let g = stops.goes.logs opening past led in (g.0, tt, stops_own client stops.stops.numbers g.0 g.1, g.2, holds (g.0 ++ past) g.2)
   stopped client faults.NoClient stops = by_nothing stops
   stopped client faults.Spent stops = by_nothing stops
   stopped client faults.TooManyClients stops = by_nothing stops
@@ -135,7 +132,7 @@ module _ (opening : ℕ → List ℕ → Option Item) (past : List (Entry dialec
   stopped client faults.UnderWay stops = by_nothing stops
   stopped client faults.NoTicket stops = by_nothing stops
 
-  settled_on : (number : ℕ) (outcome : Outcome) → SettlesFreshly old number outcome new → SettlesOnLog opening number past old led new Holds (λ end. outcome ≡ outcome_of end)
+  settled_on : (number : ℕ) (outcome : Outcome) → TakesResult old number outcome new → SettlesOnLog opening number past old led new Holds (λ end. outcome ≡ outcome_of end)
   settled_on number outcome s =
       let a = s.settles.command in (
         server_in a.job.pending,
@@ -171,23 +168,23 @@ module _ (opening : ℕ → List ℕ → Option Item) (past : List (Entry dialec
   settle_stops number outcome faults.Spent s = inl (by_none s)
 
   settles :
-      (number : ℕ) (outcome : Outcome) → SettlesFreshly old number outcome new ⊎ ((fault : CoreFault) × SettleStops old number outcome fault new)
+      (number : ℕ) (outcome : Outcome) → TakesResult old number outcome new ⊎ ((fault : CoreFault) × SettleStops old number outcome fault new)
       → StaysOn opening past old new Holds ⊎ SettlesOnLog opening number past old led new Holds (λ end. outcome ≡ outcome_of end)
   settles number outcome (inl s) = inr (settled_on number outcome s)
   settles number outcome (inr s) = settle_stops number outcome s.0 s.1
 
-module _ (opening : ℕ → List ℕ → Option Item) (past : List (Entry dialect)) (old new : FreshCore) (led : MayHaveLed opening past old)
+module _ (opening : ℕ → List ℕ → Option Item) (past : List (Entry dialect)) (old new : ServedCore) (led : MayHaveLed opening past old)
     (Holds : (later : List (Entry dialect)) → MayHaveLed opening later new → Type 0) (holds : (later : List (Entry dialect)) (by : MayHaveLed opening later new) → Holds later by) where
-  goes_by : (IsKind : List (Entry dialect) → Type 0) → ((entries : List (Entry dialect)) → IsKind entries → AreOwn entries) → GoesFreshly old IsKind new → GoesOnSaying opening IsKind past new Holds
+  goes_by : (IsKind : List (Entry dialect) → Type 0) → ((entries : List (Entry dialect)) → IsKind entries → AreOwn entries) → LogsGoBy old IsKind new → GoesOnSaying opening IsKind past new Holds
   goes_by IsKind own goes = by_fresh opening past old new led Holds holds IsKind own goes
 
   -- whatever servers lost before a result, and others wrote there
-  settles_after : (number : ℕ) (outcome : Outcome) → SettlesFreshly old number outcome new ⊎ ((fault : CoreFault) × SettleStops old number outcome fault new) → StepGoes opening (Settled number outcome) past old led new Holds
+  settles_after : (number : ℕ) (outcome : Outcome) → TakesResult old number outcome new ⊎ ((fault : CoreFault) × SettleStops old number outcome fault new) → StepGoes opening (Settled number outcome) past old led new Holds
   settles_after number outcome does turns are =
       let t = turned opening past old led turns are in
       (t.0, t.1, settles opening (happened turns ++ past) old new t.0 Holds holds number outcome does)
 
-  step_goes : (step : Step) → Does step (cores.Fresh old) (cores.Fresh new) → StepGoes opening step past old led new Holds
+  step_goes : (step : Step) → Does step old new → StepGoes opening step past old led new Holds
   step_goes (Opened client) does = goes_by _ none_own does.2
   step_goes (NotOpened fault) does = goes_by _ none_own does.1
   step_goes (Fed client piece) does = goes_by _ (λ entries is. as_own entries _ is (fed_own (dropped_by (client_at old.core client)) client piece)) does.2
@@ -199,25 +196,14 @@ module _ (opening : ℕ → List ℕ → Option Item) (past : List (Entry dialec
   step_goes (LeftLine client) does = goes_by _ none_own does.1
   step_goes (Loaded configuration generation) does = let t = does.goes opening past led in ([], refl, λ past l. l, t.after, holds past t.after)
 
-same_fresh : (x y : FreshCore) → ◌≡◌ {A = AnyCore} (cores.Fresh x) (cores.Fresh y) → x ≡ y
-same_fresh x y e = cc
-
-module _ (opening : ℕ → List ℕ → Option Item) (past : List (Entry dialect)) (old : FreshCore) (led : MayHaveLed opening past old) where
-  then_goes :
-      (step : Step) (steps : List Step) (mid : AnyCore) (new : FreshCore) → Walks steps (cores.Fresh old) mid → Does step mid (cores.Fresh new)
-      → (Holds : (later : List (Entry dialect)) → MayHaveLed opening later new → Type 0) → ((later : List (Entry dialect)) (by : MayHaveLed opening later new) → Holds later by)
-      → ((m : FreshCore) → Walks steps (cores.Fresh old) (cores.Fresh m) → (Before : (later : List (Entry dialect)) → MayHaveLed opening later m → Type 0)
-      → ((later : List (Entry dialect)) (by : MayHaveLed opening later m) → Before later by) → LogGoes opening steps past old led m Before)
-      → LogGoes opening (step ∷ steps) past old led new Holds
-  then_goes step steps (cores.Fresh mid) new walks does Holds holds goes =
-      (mid, goes mid walks (λ later by. StepGoes opening step later mid by new Holds) (λ later by. step_goes opening later mid new by Holds holds step does))
-  then_goes step steps (cores.Unchecked mid) new walks does Holds holds goes = absurd (does_keep step (cores.Unchecked mid) (cores.Fresh new) does)
-
+module _ (opening : ℕ → List ℕ → Option Item) (past : List (Entry dialect)) (old : ServedCore) (led : MayHaveLed opening past old) where
   log_goes :
-      (steps : List Step) (new : FreshCore) → Walks steps (cores.Fresh old) (cores.Fresh new) → (Holds : (later : List (Entry dialect)) → MayHaveLed opening later new → Type 0)
+      (steps : List Step) (new : ServedCore) → Walks steps old new → (Holds : (later : List (Entry dialect)) → MayHaveLed opening later new → Type 0)
       → ((later : List (Entry dialect)) (by : MayHaveLed opening later new) → Holds later by) → LogGoes opening steps past old led new Holds
-  log_goes [] new same Holds holds = by_none opening past old new led Holds holds (same_fresh new old same)
-  log_goes (step ∷ steps) new walks Holds holds = then_goes step steps walks.0 new walks.1 walks.2 Holds holds (λ m w Before before. log_goes steps m w Before before)
+  log_goes [] new same Holds holds = by_none opening past old new led Holds holds same
+  log_goes (step ∷ steps) new walks Holds holds =
+      let mid = walks.0 in
+      (mid, log_goes steps mid walks.1 (λ later by. StepGoes opening step later mid by new Holds) (λ later by. step_goes opening later mid new by Holds holds step walks.2))
 
 pub walks_go_on : WalksGoOn
 walks_go_on steps old new walks opening past led = log_goes opening past old led steps new walks (λ later by. Unit {0}) (λ later by. tt)

@@ -4,13 +4,11 @@ use Rattle.route_tree.specs.Route.{Route}
 use Rattle.route_json.specs.Configuration.{Configuration}
 use Rattle.fresh_gate.specs.declared.reloading.ReloadFault.TheVariants.{NoMemory}
 use Rattle.proxy_core.specs.declared.limits.Limits.{Limits}
-use Rattle.proxy_core.specs.CoreState.{IsFresh}
-use Rattle.fresh_core.specs.Freshly.{IsNew}
-use Rattle.link_calls.specs.declared.any_core.AnyCore.{AnyCore}
-use Rattle.link_calls.specs.declared.any_core.AnyCore.TheVariants as cores
-use Rattle.link_calls.specs.declared.any_core.LoadFault.{LoadFault}
-use Rattle.link_calls.specs.declared.any_core.LoadFault.TheVariants.{Refused}
-use Rattle.link_calls.specs.Cores.{IsLoaded}
+use Rattle.fresh_core.specs.Logs.{IsNew, IsUnchecked}
+use Rattle.fresh_core.specs.declared.served.ServedCore.{ServedCore}
+use Rattle.fresh_core.specs.declared.loading.LoadFault.{LoadFault}
+use Rattle.fresh_core.specs.declared.loading.LoadFault.TheVariants.{Refused}
+use Rattle.fresh_core.specs.Loading.{IsLoaded}
 use Rattle.proxy_connections.specs.declared.settings.Settings.{Settings}
 use Rattle.tcp_proxy.specs.declared.beginning.TheConstants.{HELD_LIMIT}
 
@@ -19,15 +17,13 @@ abbrev pub limits_by : Settings → Limits
 limits_by settings = record { clients = settings.clients; held = HELD_LIMIT; depth = settings.client_window; window = settings.link_window; sharing = settings.sharing }
 
 -- it is a new core on accepted trees
-abbrev pub BeginsFresh : List Configuration → Settings → AnyCore → Type 0
-BeginsFresh accepted settings (cores.Fresh fresh) = IsNew accepted (limits_by settings) fresh
-BeginsFresh accepted settings (cores.Unchecked core) = ⊥
+abbrev pub BeginsFresh : List Configuration → Settings → ServedCore → Type 0
+BeginsFresh accepted settings core = IsNew accepted (limits_by settings) core
 
 -- it is a new core on this tree, which no gate was asked about
-abbrev pub BeginsUnchecked : Route → Settings → AnyCore → Type 0
-BeginsUnchecked tree settings (cores.Unchecked core) = IsFresh tree (limits_by settings) core
-BeginsUnchecked tree settings (cores.Fresh fresh) = ⊥
+abbrev pub BeginsUnchecked : Route → Settings → ServedCore → Type 0
+BeginsUnchecked tree settings core = IsUnchecked tree (limits_by settings) core
 
 -- after a fault it is as it was; where there was no memory for new links, it may be loaded
-abbrev pub LoadStops : AnyCore → Configuration → LoadFault → AnyCore → Type 0
+abbrev pub LoadStops : ServedCore → Configuration → LoadFault → ServedCore → Type 0
 LoadStops old configuration fault new = (new ≡ old) ⊎ ((fault ≡ Refused NoMemory) × ((generation : ℕ) × IsLoaded old configuration generation new))

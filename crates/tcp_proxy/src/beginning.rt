@@ -3,11 +3,10 @@
 ghost use Rattle.std.specs.Prelude.{◌≡◌, IfOk};
 ghost use Rattle.tcp_proxy.specs.Beginning.{limits_by, BeginsFresh, BeginsUnchecked};
 
-use fresh_core::FreshCore;
+use fresh_core::ServedCore;
 use fresh_gate::Accepted;
-use link_calls::AnyCore;
 use proxy_connections::Settings;
-use proxy_core::{Core, Limits};
+use proxy_core::Limits;
 use route_tree::Tree;
 use std::alloc::{AllocError, Global};
 
@@ -31,11 +30,11 @@ pub fn fresh_core(
     alloc: Global,
     accepted: Accepted,
     settings: Settings,
-) -> Result<Box<AnyCore>, AllocError>
+) -> Result<Box<ServedCore>, AllocError>
     ensures { IfOk result (λ core. BeginsFresh accepted settings core.value) }
 {
-    let core = FreshCore::new(alloc, accepted, limits_of(settings))?;
-    Ok(Box::new(alloc, AnyCore::Fresh(core))?)
+    let core = ServedCore::new(alloc, accepted, limits_of(settings))?;
+    Ok(Box::new(alloc, core)?)
 }
 
 /// A new core on a tree of which no gate was asked.
@@ -43,9 +42,9 @@ pub fn unchecked_core(
     alloc: Global,
     tree: Tree,
     settings: Settings,
-) -> Result<Box<AnyCore>, AllocError>
+) -> Result<Box<ServedCore>, AllocError>
     ensures { IfOk result (λ core. BeginsUnchecked tree settings core.value) }
 {
-    let core = Core::unchecked(alloc, tree, limits_of(settings));
-    Ok(Box::new(alloc, AnyCore::Unchecked(core))?)
+    let core = ServedCore::unchecked(alloc, tree, limits_of(settings));
+    Ok(Box::new(alloc, core)?)
 }

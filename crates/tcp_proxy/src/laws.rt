@@ -3,12 +3,12 @@
 ghost use Rattle.proxy_connections.specs.CoreSteps.{WalksKeep};
 ghost use Rattle.tcp_proxy.specs.LogsGoOn.{WalksGoOn};
 
-/// A core on accepted trees stays one, whatever calls of it are made, and so does one on any trees.
+/// A core whose trees the gate accepted stays one, whatever calls of it are made, and so does one on other trees.
 pub fn walks_keep()
     ensures { WalksKeep }
 {}
 
-/// Each log that may have led to a core on accepted trees goes on by each call of it, and may have led to the core after: so what
+/// Each log that may have led to a core goes on by each call of it, and may have led to the core after: so what
 /// `fresh_core` promises of such logs holds after any turns.
 pub fn walks_go_on()
     ensures { WalksGoOn }

@@ -2,7 +2,7 @@
 //! clients, and then each end that has something to send is written once.
 
 ghost use Rattle.std.specs.Prelude.{◌≡◌, ◌↔◌, true, false, IsTrue, IfOk, IfErr, OnOk};
-ghost use Rattle.link_calls.specs.Cores.{IsLoaded};
+ghost use Rattle.fresh_core.specs.Loading.{IsLoaded};
 ghost use Rattle.proxy_connections.specs.CoreSteps.{GoesOn, Fails};
 ghost use Rattle.proxy_connections.specs.Links.{calls_out, IsDownAt, IsClosedAt};
 ghost use Rattle.tcp_proxy.specs.LogsGoOn.{LogsAreFresh};
@@ -12,9 +12,10 @@ ghost use Rattle.tcp_proxy.specs.Beginning.{BeginsFresh, BeginsUnchecked, LoadSt
 use crate::beginning::{fresh_core, unchecked_core};
 use crate::parts::{LINKS, LISTENER, Parts};
 use bytes::BytesMut;
-use fresh_core::laws::fresh_core_is_fresh;
+use fresh_core::laws::accepted_core_is_fresh;
+use fresh_core::{LoadFault, ServedCore};
 use fresh_gate::{Accepted, ReloadFault};
-use link_calls::{AnyCore, LoadFault, SentCall, fail_call};
+use link_calls::{SentCall, fail_call};
 use mc_types::Dialect;
 use mio::net::{TcpListener, TcpStream};
 use mio::{Events, Poll, Token};
@@ -70,7 +71,7 @@ enum Accepting {
 pub struct ProxyEnd {
     alloc: Global,
     // On the heap, so that whoever owns an end drops it by one call.
-    core: Box<AnyCore>,
+    core: Box<ServedCore>,
     settings: Settings,
     poll: Poll,
     events: Events,
@@ -163,7 +164,7 @@ impl ProxyEnd {
         Ok(ProxyEnd::of(rt.alloc(), core, settings, parts))
     }
 
-    fn of(alloc: Global, core: Box<AnyCore>, settings: Settings, parts: Parts) -> ProxyEnd
+    fn of(alloc: Global, core: Box<ServedCore>, settings: Settings, parts: Parts) -> ProxyEnd
         ensures core { result.core ≡ core }
     {
         let Parts {
@@ -247,10 +248,7 @@ impl ProxyEnd {
     pub fn logs_are_fresh(&self)
         ensures { LogsAreFresh self.now.core.value }
     {
-        match self.core.as_ref() {
-            AnyCore::Fresh(core) => fresh_core_is_fresh(core),
-            AnyCore::Unchecked(_) => {}
-        }
+        accepted_core_is_fresh(self.core.as_ref());
     }
 
     /// From now on clients are polled in rounds, as those of a script are: each once, in the order in which they were accepted. Without it

@@ -2,7 +2,7 @@ use Rattle.std.proofs.Common.{◌∙◌, subst}
 use Rattle.route_tree.specs.Route.{Route}
 use Rattle.proxy_core.specs.CoreState.{IsFresh}
 use Rattle.fresh_core.proofs.Keeping.{new_is_led}
-use Rattle.fresh_core.proofs.fresh.FreshCore.new.Goals as goal
+use Rattle.fresh_core.proofs.served.ServedCore.new.Goals as goal
 
 pub returns : goal.returns
 returns c =

@@ -1,7 +1,7 @@
 use Rattle.std.proofs.lemmas.Result.{IfOk-weaker, IfErr-weaker}
 use Rattle.fresh_core.proofs.Keeping.{goes}
 use Rattle.fresh_core.proofs.Results.{same}
-use Rattle.fresh_core.proofs.fresh.FreshCore.take_output.Goals as goal
+use Rattle.fresh_core.proofs.served.ServedCore.take_output.Goals as goal
 
 pub returns-clause-err : goal.returns-clause-err
 returns-clause-err c = IfErr-weaker c.take_output.result _ _ (λ fault f. (f.0, same c.args.self.now c.take_output.new.self f.1)) c.take_output.ensures.err

@@ -2,7 +2,7 @@ use Rattle.std.proofs.lemmas.Result.{IfOk-weaker, IfErr-weaker}
 use Rattle.proxy_core.proofs.Polls.{polls_goes}
 use Rattle.fresh_core.proofs.Keeping.{goes}
 use Rattle.fresh_core.proofs.Results.{poll_stops}
-use Rattle.fresh_core.proofs.fresh.FreshCore.poll.Goals as goal
+use Rattle.fresh_core.proofs.served.ServedCore.poll.Goals as goal
 
 pub returns-clause-fresh : goal.returns-clause-fresh
 returns-clause-fresh c = IfOk-weaker c.poll.result _ _ (λ poll polled. goes c.args.self.now c.poll.new.self _ (polls_goes c.args.self.now.core c.poll.new.self c.args.client poll polled)) c.poll.ensures.ok
