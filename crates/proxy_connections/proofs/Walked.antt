@@ -137,7 +137,7 @@ by_settle_next sent bytes nexts.Foreign sent' a b is = still is.1
 
 -- ---- what all walks keep
 
-IsWordKept : ServedCore → ServedCore → Type 0
+abbrev IsWordKept : ServedCore → ServedCore → Type 0
 IsWordKept a b = (IsAccepted a → IsAccepted b) × (IsAccepted b → IsAccepted a)
 
 by_word : (a b : ServedCore) → b.accepted ≡ a.accepted → IsWordKept a b
