@@ -36,8 +36,8 @@ pub record MayHaveLed (opening : ℕ → List ℕ → Option Item) (past : List 
 pub record LogsGoBy (old : ServedCore) (IsKind : List (Entry dialect) → Type 0) (new : ServedCore) : Type 0 where
   pub word : new.accepted ≡ old.accepted
   pub logs :
-    (opening : ℕ → List ℕ → Option Item) (past : List (Entry dialect)) (led : MayHaveLed opening past old)
-    → (entries : List (Entry dialect)) × IsKind entries × (led' : MayHaveLed opening (entries ++ past) new) × IsBeside led.beside led'.beside
+      (opening : ℕ → List ℕ → Option Item) (past : List (Entry dialect)) (led : MayHaveLed opening past old)
+      → (entries : List (Entry dialect)) × IsKind entries × (led' : MayHaveLed opening (entries ++ past) new) × IsBeside led.beside led'.beside
 
 -- the gate accepted these configurations, the core is a new one on the tree of the last of them, and the empty log led to it
 pub record IsNew (accepted : List Configuration) (limits : Limits) (served : ServedCore) : Type 0 where

@@ -1,6 +1,7 @@
 -- When nothing is left to do for a proxy until something comes. Source: mcgate's own.
 use Rattle.std.specs.Prelude.{◌≡◌, ℕ, ◌≤◌, true, []}
-use Rattle.tcp_proxy.specs.declared.proxy.Accepting.TheVariants as accepting
+use Rattle.tcp_proxy.specs.declared.accepting.Accepting.TheVariants as accepting
+use Rattle.tcp_proxy.specs.declared.sockets.Sockets.{Sockets}
 use Rattle.tcp_proxy.specs.declared.proxy.ProxyEnd.{ProxyEnd}
 use Rattle.proxy_connections.specs.Links.{calls_out}
 
@@ -11,14 +12,18 @@ MayAccept (accepting.From time) now = time ≤ now
 MayAccept accepting.Idle now = ⊥
 
 -- nothing is ready, and none that waits can go on
-pub record HasNoWork (end : ProxyEnd) : Type 0 where
-  pub accepting : MayAccept end.accepting end.time → ⊥
-  pub clients : end.clients.ready.items ≡ []
-  pub links : end.ready_links.items ≡ []
-  pub output : end.links_with_output.items ≡ []
-  pub replies : end.clients.with_output.items ≡ []
-  pub busy : end.is_freed ≡ true → end.clients.busy.items ≡ []
+pub record HasNoWork (sockets : Sockets) : Type 0 where
+  pub accepting : MayAccept sockets.accepting sockets.clock.time → ⊥
+  pub clients : sockets.clients.ready.items ≡ []
+  pub links : sockets.links.ready.items ≡ []
+  pub output : sockets.links.with_output.items ≡ []
+  pub replies : sockets.clients.with_output.items ≡ []
+  pub busy : sockets.is_freed ≡ true → sockets.clients.busy.items ≡ []
 
 -- and so many calls are out
+abbrev pub AreStill : ℕ → Sockets → Type 0
+AreStill calls sockets = HasNoWork sockets × (calls_out sockets.links.all.items ≡ calls)
+
+-- so it is with a proxy's end
 abbrev pub IsStill : ℕ → ProxyEnd → Type 0
-IsStill calls end = HasNoWork end × (calls_out end.links.items ≡ calls)
+IsStill calls end = AreStill calls end.sockets

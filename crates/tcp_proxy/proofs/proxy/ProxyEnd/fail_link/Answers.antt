@@ -1,9 +1,0 @@
-use Rattle.proxy_connections.proofs.Walked.{from}
-use Rattle.std.proofs.Common.{◌≡◌, None}
-use Rattle.proxy_connections.specs.declared.link.Link.{Link}
-use Rattle.proxy_connections.specs.Links.{IsDown}
-use Rattle.proxy_connections.proofs.Failing.{on_ok, at_set}
-use Rattle.tcp_proxy.proofs.proxy.ProxyEnd.fail_link.Goals as goal
-
-pub returns : goal.returns
-returns c = record { core = from c.as_mut.ensures.value c.fail_all.ensures.core; down = on_ok c.fail_all.result _ _ (λ d. at_set IsDown c.args.self.now.links.items c.args.at c.fail_all.new.link d) c.fail_all.ensures.down; closed = at_set (λ (x : Link). x.conn ≡ None) c.args.self.now.links.items c.args.at c.fail_all.new.link c.fail_all.ensures.closed }

@@ -1,8 +1,0 @@
-use Rattle.proxy_connections.proofs.Walked.{then}
-use Rattle.tcp_proxy.proofs.proxy.ProxyEnd.send_links.Goals as goal
-
-pub loop-i-preserved : goal.loop-i-preserved
-loop-i-preserved c = then (c.loop-i.invariant) c.send_link_in.ensures.core
-
-pub returns-in_err-send_link_in : goal.returns-in_err-send_link_in
-returns-in_err-send_link_in c = record { core = then (c.loop-i.invariant) c.send_link_in.ensures.core }

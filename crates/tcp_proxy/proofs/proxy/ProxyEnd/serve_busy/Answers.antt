@@ -1,8 +1,0 @@
-use Rattle.proxy_connections.proofs.Walked.{then}
-use Rattle.tcp_proxy.proofs.proxy.ProxyEnd.serve_busy.Goals as goal
-
-pub loop-i-preserved : goal.loop-i-preserved
-loop-i-preserved g c = then (c.loop-i.invariant) c.serve_busy_in.ensures.core
-
-pub returns-in_err-serve_busy_in : goal.returns-in_err-serve_busy_in
-returns-in_err-serve_busy_in g c = record { core = then (c.loop-i.invariant) c.serve_busy_in.ensures.core }

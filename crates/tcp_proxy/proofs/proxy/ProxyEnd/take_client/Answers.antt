@@ -1,8 +1,0 @@
-use Rattle.proxy_connections.proofs.Walked.{by_open, from, then}
-use Rattle.tcp_proxy.proofs.proxy.ProxyEnd.take_client.Goals as goal
-
-pub returns-in-Ok : goal.returns-in-Ok
-returns-in-Ok c = record { core = then (from c.deref_mut.ensures.value (by_open c.open_client.result c.deref_mut.result.now c.open_client.new.self c.open_client.ensures.ok c.open_client.ensures.err c.open_client.ensures.fresh)) c.keep_client.ensures.core }
-
-pub returns-in-Err : goal.returns-in-Err
-returns-in-Err c = record { core = from c.deref_mut.ensures.value (by_open c.open_client.result c.deref_mut.result.now c.open_client.new.self c.open_client.ensures.ok c.open_client.ensures.err c.open_client.ensures.fresh) }
