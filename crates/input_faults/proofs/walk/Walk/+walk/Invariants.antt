@@ -1,5 +1,5 @@
 use Rattle.std.proofs.Common.{◌+◌, ◌*◌}
-use Rattle.config_faults.proofs.walk.Walk.+walk.Given as goal
+use Rattle.input_faults.proofs.walk.Walk.+walk.Given as goal
 
 abbrev pub decreases-route : goal.decreases-route
 decreases-route l = 6 * l.levels
