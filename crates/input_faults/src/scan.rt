@@ -167,7 +167,7 @@ fn word_end(bytes: &[u8], at: usize) -> usize {
     at.saturating_add(count.unwrap_or(rest.len()))
 }
 
-fn slip<T>(at: usize, misstep: Misstep) -> Result<T, Stop> {
+fn slip_at<T>(at: usize, misstep: Misstep) -> Result<T, Stop> {
     Err(Stop::Slip(Slip { at, misstep }))
 }
 
@@ -207,11 +207,11 @@ fn last_quote(bytes: &[u8], from: usize) -> Result<usize, Stop> {
         }
         escape = match after_byte(escape, *byte) {
             Ok(next) => next,
-            Err(Misstep::OpenText) => return slip(from, Misstep::OpenText),
-            Err(misstep) => return slip(at, misstep),
+            Err(Misstep::OpenText) => return slip_at(from, Misstep::OpenText),
+            Err(misstep) => return slip_at(at, misstep),
         };
     }
-    slip(from, Misstep::OpenText)
+    slip_at(from, Misstep::OpenText)
 }
 
 impl<'a> Scan<'a> {
@@ -243,7 +243,7 @@ impl<'a> Scan<'a> {
     }
 
     fn unexpected<T>(&self, at: usize) -> Result<T, Stop> {
-        slip(at, Misstep::Unexpected(self.wanted))
+        slip_at(at, Misstep::Unexpected(self.wanted))
     }
 
     // A value begins here, if one may.
@@ -282,7 +282,7 @@ impl<'a> Scan<'a> {
     fn begin(&mut self, at: usize, is_object: bool) -> Result<(), Stop> {
         self.begin_value(at)?;
         if self.open.len() >= DEEPEST {
-            return slip(at, Misstep::TooDeep);
+            return slip_at(at, Misstep::TooDeep);
         }
         self.open_at(at, is_object)?;
         self.comma = None;
@@ -301,7 +301,7 @@ impl<'a> Scan<'a> {
             (false, Wanted::ValueOrEnd | Wanted::CommaOrBracket) => {}
             _ => {
                 return match self.comma {
-                    Some(comma) => slip(comma, Misstep::TrailingComma(is_object)),
+                    Some(comma) => slip_at(comma, Misstep::TrailingComma(is_object)),
                     None => self.unexpected(at),
                 };
             }
@@ -370,7 +370,7 @@ impl<'a> Scan<'a> {
         self.begin_value(at)?;
         let to = word_end(self.text.as_bytes(), at);
         if !is_json(self.alloc, self.text.get(at..to).unwrap_or(""))? {
-            return slip(at, Misstep::Word);
+            return slip_at(at, Misstep::Word);
         }
         self.after_value();
         Ok(to)
@@ -390,7 +390,7 @@ impl<'a> Scan<'a> {
 
     fn take(&mut self, at: usize, byte: u8) -> Result<usize, Stop> {
         match byte {
-            b'/' | b'#' => slip(at, Misstep::Comment),
+            b'/' | b'#' => slip_at(at, Misstep::Comment),
             b'"' => self.take_text(at),
             _ if is_of_word(byte) => self.take_word(at),
             _ => self.take_mark(at, byte),
@@ -400,15 +400,15 @@ impl<'a> Scan<'a> {
     // The text ends.
     fn finish(&self) -> Result<(), Stop> {
         match self.open.last() {
-            Some(open) => slip(self.text.len(), Misstep::Open(self.wanted, open.at)),
-            None if self.wanted == Wanted::Value => slip(0, Misstep::Empty),
+            Some(open) => slip_at(self.text.len(), Misstep::Open(self.wanted, open.at)),
+            None if self.wanted == Wanted::Value => slip_at(0, Misstep::Empty),
             None => Ok(()),
         }
     }
 
     fn run(&mut self) -> Result<(), Stop> {
         if self.text.starts_with("\u{feff}") {
-            return slip(0, Misstep::Mark);
+            return slip_at(0, Misstep::Mark);
         }
         let bytes = self.text.as_bytes();
         let mut at = 0;
@@ -423,7 +423,7 @@ impl<'a> Scan<'a> {
     }
 
     // The first slip, if there is one.
-    fn slip(&mut self) -> Result<Option<Slip>, AllocError> {
+    fn first_slip(&mut self) -> Result<Option<Slip>, AllocError> {
         match self.run() {
             Ok(()) => Ok(None),
             Err(Stop::Slip(slip)) => Ok(Some(slip)),
@@ -444,7 +444,7 @@ pub fn is_json(alloc: Global, text: &str) -> Result<bool, AllocError> {
 /// The first place where a text is no JSON, and the names that stand twice before it. The only error is running out of memory.
 pub fn scan_text(alloc: Global, text: &str) -> Result<Scanned<'_>, AllocError> {
     let mut scan = Scan::new(alloc, text, &[]);
-    let slip = scan.slip()?;
+    let slip = scan.first_slip()?;
     Ok(Scanned {
         slip,
         twice: scan.twice,
@@ -461,7 +461,7 @@ pub fn place_of(
     name: bool,
 ) -> Result<Option<usize>, AllocError> {
     let mut scan = Scan::new(alloc, text, way);
-    scan.slip()?;
+    scan.first_slip()?;
     if name {
         Ok(scan.name_at)
     } else {
