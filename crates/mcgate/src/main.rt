@@ -9,7 +9,7 @@ mod special;
 mod warnings;
 
 use cache::serve_cache;
-use config_check::status::{BAD_INPUT, DONE};
+use config_check::status::{BAD_INPUT, DONE, REFUSED};
 use line_faults::BadLine;
 use mc_types::Key;
 use program::arguments::{Job, Task, read_arguments};
@@ -23,7 +23,7 @@ use program::serve_arguments::ServeJob;
 use route_json::Config;
 use serve::{Judged, judge_text, serve};
 use special::{is_special, special_line};
-use std::alloc::AllocError;
+use std::alloc::{AllocError, Global};
 use std::io;
 use std::io::{BufWriter, ErrorKind, Write};
 use std::net::Net;
@@ -74,6 +74,25 @@ fn input_of<R: Files + Input + AllocGlobal>(
     input
 }
 
+/// Tells of an input with which a task ended so: what is wrong with it, or why the gate refuses its tree.
+fn tell_of_task<R: AllocGlobal + Eprint>(
+    rt: &R,
+    task: Task,
+    file: Option<&str>,
+    input: &Result<String, InputFault>,
+    status: u8,
+    details: &mut Details,
+) {
+    match status {
+        BAD_INPUT => {
+            let bad = told(rt, bad_line_of_task(rt.alloc(), task, input));
+            details.add_task(rt.alloc(), task, name_of(file), input, bad);
+        }
+        REFUSED => details.add_refused_task(rt.alloc(), task, file, input),
+        _ => {}
+    }
+}
+
 /// Does a task with a file or with standard input. What is wrong with a script's bad line is said on standard error.
 fn run_task<R: Files + Input + AllocGlobal + Eprint, W: Write>(
     rt: &R,
@@ -84,10 +103,8 @@ fn run_task<R: Files + Input + AllocGlobal + Eprint, W: Write>(
 ) -> Result<u8, Stop> {
     let input = input_of(rt, file, details);
     let status = run_input(rt.alloc(), task, &input, out)?;
-    if status == BAD_INPUT {
-        let bad = told(rt, bad_line_of_task(rt.alloc(), task, &input));
-        details.add_task(rt.alloc(), task, name_of(file), &input, bad);
-    } else if let Task::Check { form: _ } = task {
+    tell_of_task(rt, task, file, &input, status, details);
+    if let (DONE | REFUSED, Task::Check { form: _ }) = (status, task) {
         details.add_warnings(rt.alloc(), name_of(file), &input);
     }
     Ok(status)
@@ -112,6 +129,19 @@ fn run_script<R: Files + Input + AllocGlobal + Eprint, W: Write>(
     Ok(status)
 }
 
+/// Tells why the gate refuses the tree of a file's configuration, where a run ended so.
+fn tell_of_refusal(
+    alloc: Global,
+    file: &str,
+    input: &Result<String, InputFault>,
+    status: u8,
+    details: &mut Details,
+) {
+    if let (REFUSED, Ok(text)) = (status, input) {
+        details.add_refusal(alloc, Some(file), text.as_str());
+    }
+}
+
 /// Runs a script over the configuration of a file; where that is none, its script isn't read.
 fn run_over<R: Files + Input + AllocGlobal + Eprint, W: Write>(
     rt: &R,
@@ -122,13 +152,15 @@ fn run_over<R: Files + Input + AllocGlobal + Eprint, W: Write>(
     details: &mut Details,
 ) -> Result<u8, Stop> {
     let input = input_of(rt, Some(config), details);
-    match read_configuration(rt.alloc(), &input, out)? {
-        Some(config) => run_script(rt, any, config, file, out, details),
+    let status = match read_configuration(rt.alloc(), &input, out)? {
+        Some(config) => run_script(rt, any, config, file, out, details)?,
         None => {
             details.add_configuration(rt.alloc(), config, &input);
-            Ok(BAD_INPUT)
+            BAD_INPUT
         }
-    }
+    };
+    tell_of_refusal(rt.alloc(), config, &input, status, details);
+    Ok(status)
 }
 
 /// Prints where keys live in the tree of a file's configuration.
@@ -144,6 +176,7 @@ fn run_where<R: Files + Input + AllocGlobal, W: Write>(
     if status == BAD_INPUT {
         details.add_configuration(rt.alloc(), file, &input);
     }
+    tell_of_refusal(rt.alloc(), file, &input, status, details);
     Ok(status)
 }
 
@@ -156,11 +189,8 @@ fn run_loopback<R: Files + Input + AllocGlobal + Net + Clock + Eprint, W: Write>
 ) -> Result<u8, Stop> {
     let input = input_of(rt, file, details);
     let status = run_over_tcp(rt, &input, out)?;
-    if status == BAD_INPUT {
-        let task = Task::Replay { any: false };
-        let bad = told(rt, bad_line_of_task(rt.alloc(), task, &input));
-        details.add_task(rt.alloc(), task, name_of(file), &input, bad);
-    }
+    let task = Task::Replay { any: false };
+    tell_of_task(rt, task, file, &input, status, details);
     Ok(status)
 }
 
@@ -185,6 +215,9 @@ fn run_serve<R: Files + Input + AllocGlobal + Net + Clock + Eprint, W: Write>(
     match judge_text(rt.alloc(), job.any, text.as_str(), out)? {
         Judged::Printed(status) => {
             details.add_text(rt.alloc(), job.file, text.as_str());
+            if status == REFUSED {
+                details.add_refusal(rt.alloc(), Some(job.file), text.as_str());
+            }
             Ok(status)
         }
         Judged::Servable(servable) => {

@@ -2,9 +2,13 @@
 
 use crate::arguments::{ArgumentsFault, Task};
 use crate::input::InputFailure;
-use config_faults::{lines_of_configuration, lines_of_warnings};
+use crate::refusal_details::{Origin, lines_of_refusal};
+use config_check::Form;
+use input_faults::{
+    lines_of_bad_line, lines_of_configuration, lines_of_script, lines_of_warnings,
+};
 use line_faults::BadLine;
-use script_faults::{lines_of_bad_line, lines_of_script};
+use script_text::front::front_of;
 use std::alloc::{AllocError, Global};
 use std::io;
 use std::io::ErrorKind;
@@ -232,6 +236,43 @@ impl Details {
                 Ok(text) => self.add_all(lines_of_input(alloc, name, text.as_str(), bad)),
                 Err(fault) => self.add_input(alloc, name, *fault),
             },
+        }
+    }
+
+    /// Why the gate refuses the tree of a text, which comes from this file or from standard input, and what to change there.
+    pub fn add_refusal(&mut self, alloc: Global, file: Option<&str>, text: &str) {
+        let origin = Origin::Whole(file);
+        if let Ok(lines) = lines_of_refusal(alloc, name_of(file), origin, text) {
+            self.add_all(Ok(lines));
+        }
+    }
+
+    // The same of the first line of a script.
+    fn add_refused_script(&mut self, alloc: Global, file: Option<&str>, text: &str) {
+        let origin = Origin::FirstLine(file);
+        let line = front_of(text).line;
+        if let Ok(lines) = lines_of_refusal(alloc, name_of(file), origin, line) {
+            self.add_all(Ok(lines));
+        }
+    }
+
+    /// Why the gate refuses the tree of a task's input. Nothing where the task tells it itself.
+    pub fn add_refused_task(
+        &mut self,
+        alloc: Global,
+        task: Task,
+        file: Option<&str>,
+        input: &Result<String, InputFault>,
+    ) {
+        let Ok(text) = input else {
+            return;
+        };
+        match task {
+            Task::Check {
+                form: Form::Explained,
+            } => {}
+            Task::Check { form: _ } => self.add_refusal(alloc, file, text.as_str()),
+            Task::Replay { any: _ } => self.add_refused_script(alloc, file, text.as_str()),
         }
     }
 

@@ -8,4 +8,5 @@ pub mod details;
 pub mod ends;
 pub mod input;
 pub mod loopback_arguments;
+pub mod refusal_details;
 pub mod serve_arguments;

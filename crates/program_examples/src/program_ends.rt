@@ -327,6 +327,100 @@ fn inputs_that_are_told(rt: HostRuntime) -> Result<(), Fail> {
     Ok(())
 }
 
+// Tasks, their files, and the routes of trees of the pools A and B.
+fn refused_trees() -> &'static str {
+    r#"check f => {"type":"OperationSelectorRoute","default_policy":{"type":"FailoverRoute","children":["PoolRoute|A","PoolRoute|B"]},"operation_policies":{"delete":"PoolRoute|A"}}
+check => {"type":"FailoverRoute","children":["PoolRoute|A","PoolRoute|B"]}
+replay f => {"type":"PrefixSelectorRoute","policies":{"x":"PoolRoute|B"},"wildcard":{"type":"WarmUpRoute","cold":"PoolRoute|A","warm":"PoolRoute|B"}}
+replay => {"type":"MissFailoverRoute","children":["PoolRoute|B","PoolRoute|A"]}"#
+}
+
+// What is said of them, two lines each.
+fn refusals() -> &'static str {
+    "mcgate: f: server 1 is b:1 (pool B, place 1 of 1): get can show or copy what it holds, and delete can be acknowledged without clearing it
+mcgate: f: deletes of these keys go by /route/operation_policies/delete: PoolRoute A; to change: it lacks b:1 (pool B, place 1 of 1): put an AllSyncRoute there, over it and a route to that server; mcgate check --explain f says more
+mcgate: standard input: server 0 is a:1 (pool A, place 1 of 1): get can show or copy what it holds, and delete can be acknowledged without clearing it
+mcgate: standard input: deletes of these keys go by /route: FailoverRoute; to change: it can stop before a:1 (pool A, place 1 of 1): put an AllSyncRoute of its children there for deletes; mcgate check --explain says more
+mcgate: f: server 1 is b:1 (pool B, place 1 of 1): get can show or copy what it holds, and delete can be acknowledged without clearing it
+mcgate: f: deletes of these keys go by /route/wildcard: WarmUpRoute; to change: it asks its cold side alone, not b:1 (pool B, place 1 of 1): put an AllSyncRoute of both sides there for deletes; head -n 1 f | mcgate check --explain says more
+mcgate: standard input: server 0 is a:1 (pool A, place 1 of 1): get can show or copy what it holds, and delete can be acknowledged without clearing it
+mcgate: standard input: deletes of these keys go by /route: MissFailoverRoute; to change: it asks its first child alone, not a:1 (pool A, place 1 of 1): put an AllSyncRoute of its children there for deletes; mcgate check --explain of the first line says more
+"
+}
+
+// A task by its word, and its file.
+fn task_of(line: &str) -> (Task, Option<&str>) {
+    match line.split_once(' ') {
+        Some((word, file)) => (task_named(word), Some(file)),
+        None => (task_named(line), None),
+    }
+}
+
+fn task_named(word: &str) -> Task {
+    match word {
+        "replay" => Task::Replay { any: false },
+        "explain" => Task::Check {
+            form: Form::Explained,
+        },
+        _ => Task::Check { form: Form::Lines },
+    }
+}
+
+// What is said of the input of a task, whose tree the gate refuses.
+fn told_of_refusal(alloc: Global, line: &str, text: &str) -> Result<String, Fail> {
+    let (task, file) = task_of(line);
+    let input = input_of(alloc, text);
+    let mut details = Details::new(alloc);
+    details.add_refused_task(alloc, task, file, &input);
+    joined(alloc, &details)
+}
+
+// The same of this route over the pools A and B; as a script's first line.
+fn told_of_route(alloc: Global, line: &str, route: &str) -> Result<String, Fail> {
+    let text = format!(in alloc;
+        "{{\"pools\":{{\"A\":{{\"servers\":[\"a:1\"]}},\"B\":{{\"servers\":[\"b:1\"]}}}},\"route\":{route}}}\n"
+    )?;
+    told_of_refusal(alloc, line, text.as_str())
+}
+
+#[test]
+fn trees_that_are_refused(rt: HostRuntime) -> Result<(), Fail> {
+    let mut all = String::new(rt.alloc());
+    for example in refused_trees().lines() {
+        let (line, route) = example.split_once(" => ").unwrap_or((example, ""));
+        let told = told_of_route(rt.alloc(), line, route)?;
+        all.push_str(told.as_str())?;
+    }
+    assert_eq!(rt; all.as_str(), refusals());
+    Ok(())
+}
+
+// Three pools of 64, 63 and 67 slots, whose least common multiple is 270,144.
+fn large_tree() -> &'static str {
+    r#"{"pools":{"A":{"servers":["a:1:16","b:1:16","c:1:16","d:1:16"]},"B":{"servers":["a:1:16","b:1:16","c:1:16","d:1:15"]},"C":{"servers":["a:1:16","b:1:16","c:1:16","d:1:16","e:1:3"]}},"route":{"type":"AllSyncRoute","children":["PoolRoute|A","PoolRoute|B","PoolRoute|C"]}}"#
+}
+
+#[test]
+fn refusals_of_one_line_or_none(rt: HostRuntime) -> Result<(), Fail> {
+    let cases = [
+        (
+            "check f",
+            large_tree(),
+            "mcgate: f: more than 262144 places; to change: pools whose sizes share divisors, such as 1,024 and 1,024 in place of 1,023 and 1,024\n",
+        ),
+        ("explain f", large_tree(), ""),
+        ("check f", "{\"pools\":{},\"route\":\"NullRoute\"}", ""),
+        ("check f", "{}", ""),
+        ("replay f", "pool 1\n", ""),
+        ("check f", "not UTF-8", ""),
+    ];
+    for (line, text, want) in cases {
+        let told = told_of_refusal(rt.alloc(), line, text)?;
+        assert_eq!(rt; told.as_str(), want, "at {line}");
+    }
+    Ok(())
+}
+
 // What is said of an address and an error of the system.
 fn told_of_address(alloc: Global, address: &str, kind: ErrorKind) -> Result<String, Fail> {
     let mut details = Details::new(alloc);

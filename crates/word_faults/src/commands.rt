@@ -11,15 +11,6 @@ pub enum Takes {
     Dialect,
 }
 
-/// A flag, as `--name`.
-#[derive(Clone, Copy)]
-pub struct Flag {
-    pub name: &'static str,
-    pub takes: Takes,
-    /// The command can't do without it.
-    pub needed: bool,
-}
-
 /// The commands.
 #[derive(Clone, Copy, PartialEq, Eq)]
 pub enum Command {
@@ -40,159 +31,39 @@ pub const COMMANDS: [&str; 7] = [
     "check", "replay", "where", "serve", "cache", "loopback", "help",
 ];
 
-const HELP: Flag = Flag {
-    name: "help",
-    takes: Takes::Nothing,
-    needed: false,
-};
-
-const ANY: Flag = Flag {
-    name: "any",
-    takes: Takes::Nothing,
-    needed: false,
-};
-
-const CHECK_FLAGS: [Flag; 3] = [
-    HELP,
-    Flag {
-        name: "explain",
-        takes: Takes::Nothing,
-        needed: false,
-    },
-    Flag {
-        name: "dot",
-        takes: Takes::Nothing,
-        needed: false,
-    },
+const SERVE_FLAGS: [&str; 16] = [
+    "help",
+    "config",
+    "listen",
+    "any",
+    "clients",
+    "client-window",
+    "link-window",
+    "call-ms",
+    "connect-ms",
+    "fail-limit",
+    "retry-ms",
+    "polls",
+    "server-dialect",
+    "reload-ms",
+    "reload-every",
+    "turns",
 ];
 
-const REPLAY_FLAGS: [Flag; 3] = [
-    HELP,
-    ANY,
-    Flag {
-        name: "config",
-        takes: Takes::File,
-        needed: false,
-    },
-];
-
-const WHERE_FLAGS: [Flag; 2] = [
-    HELP,
-    Flag {
-        name: "config",
-        takes: Takes::File,
-        needed: true,
-    },
-];
-
-const SERVE_FLAGS: [Flag; 16] = [
-    HELP,
-    Flag {
-        name: "config",
-        takes: Takes::File,
-        needed: true,
-    },
-    Flag {
-        name: "listen",
-        takes: Takes::Address,
-        needed: true,
-    },
-    ANY,
-    Flag {
-        name: "clients",
-        takes: Takes::Count,
-        needed: false,
-    },
-    Flag {
-        name: "client-window",
-        takes: Takes::Count,
-        needed: false,
-    },
-    Flag {
-        name: "link-window",
-        takes: Takes::Count,
-        needed: false,
-    },
-    Flag {
-        name: "call-ms",
-        takes: Takes::Count,
-        needed: false,
-    },
-    Flag {
-        name: "connect-ms",
-        takes: Takes::Count,
-        needed: false,
-    },
-    Flag {
-        name: "fail-limit",
-        takes: Takes::Count,
-        needed: false,
-    },
-    Flag {
-        name: "retry-ms",
-        takes: Takes::Count,
-        needed: false,
-    },
-    Flag {
-        name: "polls",
-        takes: Takes::Count,
-        needed: false,
-    },
-    Flag {
-        name: "server-dialect",
-        takes: Takes::Dialect,
-        needed: false,
-    },
-    Flag {
-        name: "reload-ms",
-        takes: Takes::Count,
-        needed: false,
-    },
-    Flag {
-        name: "reload-every",
-        takes: Takes::Count,
-        needed: false,
-    },
-    Flag {
-        name: "turns",
-        takes: Takes::Count,
-        needed: false,
-    },
-];
-
-const CACHE_FLAGS: [Flag; 4] = [
-    HELP,
-    Flag {
-        name: "listen",
-        takes: Takes::Address,
-        needed: true,
-    },
-    Flag {
-        name: "capacity",
-        takes: Takes::Count,
-        needed: true,
-    },
-    Flag {
-        name: "turns",
-        takes: Takes::Count,
-        needed: false,
-    },
-];
-
-const PLAIN_FLAGS: [Flag; 1] = [HELP];
-
-const TOP_FLAGS: [Flag; 2] = [
-    HELP,
-    Flag {
-        name: "version",
-        takes: Takes::Nothing,
-        needed: false,
-    },
-];
+const CACHE_FLAGS: [&str; 4] = ["help", "listen", "capacity", "turns"];
 
 /// The flags that may stand before any command.
-pub fn top_flags() -> &'static [Flag] {
-    &TOP_FLAGS
+pub const TOP_FLAGS: [&str; 2] = ["help", "version"];
+
+/// What follows the flag of this name.
+pub fn takes_of(flag: &str) -> Takes {
+    match flag {
+        "help" | "version" | "any" | "explain" | "dot" => Takes::Nothing,
+        "config" => Takes::File,
+        "listen" => Takes::Address,
+        "server-dialect" => Takes::Dialect,
+        _ => Takes::Count,
+    }
 }
 
 impl Takes {
@@ -251,15 +122,25 @@ impl Command {
         }
     }
 
-    /// Its flags.
-    pub fn flags(self) -> &'static [Flag] {
+    /// The names of its flags.
+    pub fn flags(self) -> &'static [&'static str] {
         match self {
-            Command::Check => &CHECK_FLAGS,
-            Command::Replay => &REPLAY_FLAGS,
-            Command::Where => &WHERE_FLAGS,
+            Command::Check => &["help", "explain", "dot"],
+            Command::Replay => &["help", "any", "config"],
+            Command::Where => &["help", "config"],
             Command::Serve => &SERVE_FLAGS,
             Command::Cache => &CACHE_FLAGS,
-            Command::Loopback | Command::Help => &PLAIN_FLAGS,
+            Command::Loopback | Command::Help => &["help"],
+        }
+    }
+
+    /// The flags that it can't do without.
+    pub fn needed(self) -> &'static [&'static str] {
+        match self {
+            Command::Where => &["config"],
+            Command::Serve => &["config", "listen"],
+            Command::Cache => &["listen", "capacity"],
+            _ => &[],
         }
     }
 

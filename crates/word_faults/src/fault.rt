@@ -1,6 +1,6 @@
 //! The faults of words, and what is said of each.
 
-use crate::commands::{Command, Flag, Takes};
+use crate::commands::{Command, Takes, takes_of};
 use byte_escapes::Escaped;
 use mc_types::KeyFault;
 use std::fmt;
@@ -16,17 +16,17 @@ pub enum Cause<'a> {
     /// It is a flag of commands, and stands before them.
     TooEarly(&'a str),
     /// The flag wants a value.
-    NoValue(Flag),
+    NoValue(&'static str),
     /// The flag takes no value.
-    OwnValue(Flag),
+    OwnValue(&'static str),
     /// The flag stands there twice.
-    Twice(Flag),
+    Twice(&'static str),
     /// The flag's value is none of those that it takes.
-    BadValue(Flag, &'a str),
+    BadValue(&'static str, &'a str),
     /// There are more words than the command takes.
     Extra(&'a str),
     /// The flag is missing.
-    Missing(Flag),
+    Missing(&'static str),
     /// The command wants a word.
     NoWord,
     /// `--explain` and `--dot` don't go together.
@@ -48,8 +48,8 @@ pub struct WordFault<'a> {
 }
 
 // What a flag's value has to be.
-fn wanted(takes: Takes) -> &'static str {
-    match takes {
+fn wanted(flag: &str) -> &'static str {
+    match takes_of(flag) {
         Takes::Nothing => "no value",
         Takes::File => "the name of a file",
         Takes::Address => "HOST:PORT",
@@ -74,24 +74,19 @@ impl Display for Cause<'_> {
             Cause::TooEarly(word) => {
                 write!(f, "{} stands after a command", Escaped(word.as_bytes()))
             }
-            Cause::NoValue(flag) => {
-                write!(f, "--{} wants {} after it", flag.name, wanted(flag.takes))
-            }
-            Cause::OwnValue(flag) => write!(f, "--{} takes no value", flag.name),
-            Cause::Twice(flag) => write!(f, "--{} stands there twice", flag.name),
+            Cause::NoValue(flag) => { write!(f, "--{flag} wants {} after it", wanted(flag)) }
+            Cause::OwnValue(flag) => write!(f, "--{flag} takes no value"),
+            Cause::Twice(flag) => write!(f, "--{flag} stands there twice"),
             Cause::BadValue(flag, text) => {
                 write!(
                     f,
-                    "--{} {}: expected {}",
-                    flag.name,
+                    "--{flag} {}: expected {}",
                     Escaped(text.as_bytes()),
-                    wanted(flag.takes)
+                    wanted(flag)
                 )
             }
             Cause::Extra(word) => write!(f, "one word too many: {}", Escaped(word.as_bytes())),
-            Cause::Missing(flag) => {
-                write!(f, "--{} {} is missing", flag.name, flag.takes.value())
-            }
+            Cause::Missing(flag) => { write!(f, "--{flag} {} is missing", takes_of(flag).value()) }
             Cause::NoWord => f.write_str("a KEY is missing"),
             Cause::TwoForms => f.write_str("--explain and --dot don't go together"),
             Cause::NoKey(word, fault) => {

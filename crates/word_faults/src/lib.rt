@@ -6,8 +6,6 @@ pub mod commands;
 pub mod fault;
 pub mod names;
 pub mod reading;
-#[cfg(test)]
-mod tests;
 
 pub use address::address_trouble;
 pub use fault::WordFault;

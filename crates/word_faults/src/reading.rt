@@ -1,34 +1,20 @@
 //! The first fault of the program's words.
 
-use crate::commands::{COMMANDS, Command, DIALECTS, Flag, Takes, top_flags};
+use crate::commands::{COMMANDS, Command, DIALECTS, TOP_FLAGS, Takes, takes_of};
 use crate::fault::{Cause, WordFault};
 use crate::names::nearest;
 use mc_text::number::u32_number;
 use mc_types::Key;
 use std::alloc::{AllocError, Global};
 
-// The flag of this name, and where it stands among these.
-fn flag_named(flags: &'static [Flag], name: &str) -> Option<Flag> {
-    for flag in flags {
-        if flag.name == name {
-            return Some(*flag);
-        }
-    }
-    None
-}
-
-// The names of flags.
-fn names_of(alloc: Global, flags: &'static [Flag]) -> Result<Vec<&'static str>, AllocError> {
-    let mut names = Vec::new(alloc);
-    for flag in flags {
-        names.push(flag.name)?;
-    }
-    Ok(names)
+// The flag of this name among these.
+fn flag_named(flags: &'static [&'static str], name: &str) -> Option<&'static str> {
+    flags.iter().copied().find(|flag| *flag == name)
 }
 
 // Whether a value is one that a flag takes.
-fn is_value(takes: Takes, text: &str) -> bool {
-    match takes {
+fn is_value(flag: &str, text: &str) -> bool {
+    match takes_of(flag) {
         Takes::Nothing => false,
         Takes::File | Takes::Address => true,
         Takes::Count => !matches!(u32_number(text.as_bytes()), None | Some(0)),
@@ -55,7 +41,7 @@ struct Reader {
     /// The flags that stood there.
     given: Vec<&'static str>,
     /// The flag whose value comes next.
-    waiting: Option<Flag>,
+    waiting: Option<&'static str>,
     /// How many words stood there that are no flags and no values of theirs.
     words: usize,
     /// No flags come any more.
@@ -73,8 +59,8 @@ impl Reader {
         }
     }
 
-    fn value<'a>(&self, flag: Flag, text: &'a str) -> Option<Cause<'a>> {
-        if is_value(flag.takes, text) {
+    fn value<'a>(&self, flag: &'static str, text: &'a str) -> Option<Cause<'a>> {
+        if is_value(flag, text) {
             None
         } else {
             Some(Cause::BadValue(flag, text))
@@ -82,10 +68,10 @@ impl Reader {
     }
 
     // The value of a flag as a word of its own.
-    fn next_value<'a>(&mut self, flag: Flag, word: &'a str) -> Option<Cause<'a>> {
+    fn next_value<'a>(&mut self, flag: &'static str, word: &'a str) -> Option<Cause<'a>> {
         self.waiting = None;
         if is_like_flag(word) {
-            return if flag.takes == Takes::Count && is_like_number(word) {
+            return if takes_of(flag) == Takes::Count && is_like_number(word) {
                 Some(Cause::BadValue(flag, word))
             } else {
                 Some(Cause::NoValue(flag))
@@ -104,11 +90,11 @@ impl Reader {
         let Some(flag) = flag_named(self.command.flags(), name) else {
             return Ok(Some(Cause::NoFlag(word)));
         };
-        if self.given.as_slice().contains(&flag.name) {
+        if self.given.as_slice().contains(&flag) {
             return Ok(Some(Cause::Twice(flag)));
         }
-        self.given.push(flag.name)?;
-        Ok(match (flag.takes, own) {
+        self.given.push(flag)?;
+        Ok(match (takes_of(flag), own) {
             (Takes::Nothing, None) => None,
             (Takes::Nothing, Some(_)) => Some(Cause::OwnValue(flag)),
             (_, Some(text)) => self.value(flag, text),
@@ -160,13 +146,12 @@ impl Reader {
         self.given.as_slice().contains(&name)
     }
 
-    fn missing(&self) -> Option<Flag> {
-        for flag in self.command.flags() {
-            if flag.needed && !self.has(flag.name) {
-                return Some(*flag);
-            }
-        }
-        None
+    fn missing(&self) -> Option<&'static str> {
+        self.command
+            .needed()
+            .iter()
+            .copied()
+            .find(|flag| !self.has(flag))
     }
 
     // What is wrong once there are no more words.
@@ -205,7 +190,7 @@ fn cause_after<'a>(
 // The name that was likely meant, among those of flags.
 fn meant_flag(
     alloc: Global,
-    flags: &'static [Flag],
+    flags: &'static [&'static str],
     word: &str,
 ) -> Result<Option<&'static str>, AllocError> {
     let name = word.trim_start_matches('-');
@@ -213,8 +198,7 @@ fn meant_flag(
         Some((name, _)) => name,
         None => name,
     };
-    let names = names_of(alloc, flags)?;
-    nearest(alloc, name, names.as_slice())
+    nearest(alloc, name, flags)
 }
 
 // The name that was likely meant after a command.
@@ -226,7 +210,7 @@ fn meant_after(
     match cause {
         Cause::NoCommand(word) => nearest(alloc, word, COMMANDS.as_slice()),
         Cause::NoFlag(word) => meant_flag(alloc, command.flags(), word),
-        Cause::BadValue(flag, text) if flag.takes == Takes::Dialect => {
+        Cause::BadValue(flag, text) if takes_of(flag) == Takes::Dialect => {
             nearest(alloc, text, DIALECTS.as_slice())
         }
         _ => Ok(None),
@@ -235,14 +219,10 @@ fn meant_after(
 
 // Whether a command has a flag of this name.
 fn is_flag_of_commands(name: &str) -> bool {
-    for command in COMMANDS.as_slice() {
-        if let Some(command) = Command::of(command) {
-            if flag_named(command.flags(), name).is_some() {
-                return true;
-            }
-        }
-    }
-    false
+    COMMANDS
+        .iter()
+        .filter_map(|command| Command::of(command))
+        .any(|command| flag_named(command.flags(), name).is_some())
 }
 
 // What is wrong where the words begin with no command.
@@ -264,7 +244,7 @@ fn fault_at_top<'a>(alloc: Global, word: &'a str) -> Result<WordFault<'a>, Alloc
     Ok(WordFault {
         command: None,
         cause: Cause::NoFlag(word),
-        meant: meant_flag(alloc, top_flags(), word)?,
+        meant: meant_flag(alloc, TOP_FLAGS.as_slice(), word)?,
     })
 }
 

@@ -1,9 +1,9 @@
 //! The lines of detail that are said of a script on standard error.
 
 use crate::columns::bad_part;
-use config_faults::lines::push_fault_line;
-use config_faults::place::{Place, Source};
-use config_faults::scan::is_json;
+use crate::config_lines::push_fault_line;
+use crate::place::{Place, Source};
+use crate::scan::is_json;
 use line_faults::trouble::Trouble;
 use line_faults::{BadLine, Wrong};
 use script_text::front::front_of;

@@ -1,6 +1,6 @@
 use denote.Text.{Utf8}
 use denote.Shadow.{shadow}
-use Rattle.config_faults.proofs.advice.push_pools.Given as goal
+use Rattle.input_faults.proofs.advice.push_pools.Given as goal
 
 abbrev pub invariant-loop-name : goal.invariant-loop-name
 invariant-loop-name l =

@@ -1,5 +1,6 @@
 //! A walk over the JSON of a configuration, in the order in which its faults are looked for: to the first trouble, or through all of it.
 
+use crate::fields::{Part, fields_of, part_of};
 use crate::trouble::{Step, Stop, Trouble};
 use mc_types::Key;
 use route_names::{Holder, Kind, is_field, kind_of, op_of, rest_after};
@@ -66,10 +67,36 @@ fn has_too_many_slots(items: &[Value]) -> bool {
     slots > SLOT_LIMIT
 }
 
-fn is_exptime(value: &Value) -> bool {
+fn exptime(value: &Value) -> Result<(), Stop<'_>> {
     match value.as_u64() {
-        Some(exptime) => exptime <= MAX_EXPTIME,
-        None => false,
+        Some(exptime) if exptime <= MAX_EXPTIME => Ok(()),
+        _ => fail(Trouble::Wanted("a number in 0..=2147483647")),
+    }
+}
+
+// A route without a field.
+fn without<'a>(holder: Holder, name: &'static str, part: Part, below: u32) -> Result<(), Stop<'a>> {
+    match part {
+        Part::Exptime => Ok(()),
+        Part::Rest if below > 0 => Ok(()),
+        Part::Rest => fail(Trouble::TooDeep),
+        _ => fail(Trouble::Missing(holder, name)),
+    }
+}
+
+fn wanted_policies(part: Part) -> &'static str {
+    match part {
+        Part::Operations => "an object that has a route under each operation",
+        _ => "an object that has a route under each prefix",
+    }
+}
+
+// Whether a policy may have this name.
+fn policy_name(part: Part, name: &str) -> Result<(), Stop<'_>> {
+    match part {
+        Part::Operations if op_of(name).is_none() => fail(Trouble::NoOperation(name)),
+        Part::Prefixes if Key::read(name.as_bytes()).is_err() => fail(Trouble::NoPrefix(name)),
+        _ => Ok(()),
     }
 }
 
@@ -246,14 +273,10 @@ impl<'a> Walk<'a> {
         let kind = self.kind(value)?;
         let holder = Holder::Route(kind);
         self.only(holder, value)?;
-        match kind {
-            Kind::Pool => self.pool_route(holder, value),
-            Kind::List(_) => self.list_route(holder, value, below),
-            Kind::WarmUp => self.warm_up(holder, value, below),
-            Kind::ByOperation => self.by_operation(holder, value, below),
-            Kind::ByPrefix => self.by_prefix(holder, value, below),
-            Kind::Null | Kind::Error => Ok(()),
+        for name in fields_of(holder) {
+            self.part(holder, name, value, below)?;
         }
+        Ok(())
     }
 
     // The kind of an object that is a route.
@@ -274,28 +297,46 @@ impl<'a> Walk<'a> {
         Ok(kind)
     }
 
-    fn pool_route(&mut self, holder: Holder, value: &'a Value) -> Result<(), Stop<'a>> {
-        let pool = field(holder, "pool", value)?;
-        self.enter(Step::Name("pool"))?;
-        let Value::String(name) = pool else {
-            return fail(Trouble::Wanted("the name of a pool"));
+    // What stands under a field of a route, which may have so many levels below it.
+    #[cycle(walk)]
+    fn part(
+        &mut self,
+        holder: Holder,
+        name: &'static str,
+        value: &'a Value,
+        below: u32,
+    ) -> Result<(), Stop<'a>> {
+        let part = part_of(name);
+        let Some(found) = value.get(name) else {
+            return without(holder, name, part, below);
         };
-        self.named_pool(name.as_str())?;
+        self.enter(Step::Name(name))?;
+        match part {
+            Part::Kind => {}
+            Part::Pool => self.pool_name(found)?,
+            Part::Children => self.children_of(found, below)?,
+            Part::Route | Part::Rest => self.route(found, below)?,
+            Part::Exptime => exptime(found)?,
+            Part::Operations | Part::Prefixes => self.policies(part, found, below)?,
+        }
         self.leave();
         Ok(())
     }
 
+    fn pool_name(&mut self, value: &'a Value) -> Result<(), Stop<'a>> {
+        let Value::String(name) = value else {
+            return fail(Trouble::Wanted("the name of a pool"));
+        };
+        self.named_pool(name.as_str())
+    }
+
     #[cycle(walk)]
-    fn list_route(&mut self, holder: Holder, value: &'a Value, below: u32) -> Result<(), Stop<'a>> {
-        let children = field(holder, "children", value)?;
-        self.enter(Step::Name("children"))?;
-        match children {
-            Value::Array(items) => self.children(items, below)?,
-            Value::String(text) => self.children_text(text.as_str(), below)?,
-            _ => return fail(Trouble::Wanted("a list of routes, or the text \"Pool|NAME\"")),
+    fn children_of(&mut self, value: &'a Value, below: u32) -> Result<(), Stop<'a>> {
+        match value {
+            Value::Array(items) => self.children(items, below),
+            Value::String(text) => self.children_text(text.as_str(), below),
+            _ => fail(Trouble::Wanted("a list of routes, or the text \"Pool|NAME\"")),
         }
-        self.leave();
-        Ok(())
     }
 
     fn children_text(&mut self, text: &'a str, below: u32) -> Result<(), Stop<'a>> {
@@ -318,90 +359,18 @@ impl<'a> Walk<'a> {
         Ok(())
     }
 
-    // The route in a field that has to be there.
+    // Routes by operation or by prefix.
     #[cycle(walk)]
-    fn part(
-        &mut self,
-        holder: Holder,
-        name: &'static str,
-        value: &'a Value,
-        below: u32,
-    ) -> Result<(), Stop<'a>> {
-        let child = field(holder, name, value)?;
-        self.enter(Step::Name(name))?;
-        self.route(child, below)?;
-        self.leave();
+    fn policies(&mut self, part: Part, value: &'a Value, below: u32) -> Result<(), Stop<'a>> {
+        let Value::Object(map) = value else {
+            return fail(Trouble::Wanted(wanted_policies(part)));
+        };
+        for (name, child) in map.iter() {
+            self.enter(Step::Name(name.as_str()))?;
+            policy_name(part, name.as_str())?;
+            self.route(child, below)?;
+            self.leave();
+        }
         Ok(())
-    }
-
-    #[cycle(walk)]
-    fn warm_up(&mut self, holder: Holder, value: &'a Value, below: u32) -> Result<(), Stop<'a>> {
-        self.part(holder, "cold", value, below)?;
-        self.part(holder, "warm", value, below)?;
-        match value.get("exptime") {
-            Some(exptime) if !is_exptime(exptime) => {
-                self.enter(Step::Name("exptime"))?;
-                fail(Trouble::Wanted("a number in 0..=2147483647"))
-            }
-            _ => Ok(()),
-        }
-    }
-
-    #[cycle(walk)]
-    fn by_operation(
-        &mut self,
-        holder: Holder,
-        value: &'a Value,
-        below: u32,
-    ) -> Result<(), Stop<'a>> {
-        let policies = field(holder, "operation_policies", value)?;
-        self.enter(Step::Name("operation_policies"))?;
-        let Value::Object(map) = policies else {
-            return fail(Trouble::Wanted("an object that has a route under each operation"));
-        };
-        for (name, child) in map.iter() {
-            self.enter(Step::Name(name.as_str()))?;
-            if op_of(name.as_str()).is_none() {
-                return fail(Trouble::NoOperation(name.as_str()));
-            }
-            self.route(child, below)?;
-            self.leave();
-        }
-        self.leave();
-        self.rest("default_policy", value, below)
-    }
-
-    #[cycle(walk)]
-    fn by_prefix(&mut self, holder: Holder, value: &'a Value, below: u32) -> Result<(), Stop<'a>> {
-        let policies = field(holder, "policies", value)?;
-        self.enter(Step::Name("policies"))?;
-        let Value::Object(map) = policies else {
-            return fail(Trouble::Wanted("an object that has a route under each prefix"));
-        };
-        for (name, child) in map.iter() {
-            self.enter(Step::Name(name.as_str()))?;
-            if Key::read(name.as_str().as_bytes()).is_err() {
-                return fail(Trouble::NoPrefix(name.as_str()));
-            }
-            self.route(child, below)?;
-            self.leave();
-        }
-        self.leave();
-        self.rest("wildcard", value, below)
-    }
-
-    // The route in a field that may be left out; then it is an error route.
-    #[cycle(walk)]
-    fn rest(&mut self, name: &'static str, value: &'a Value, below: u32) -> Result<(), Stop<'a>> {
-        match value.get(name) {
-            None if below == 0 => fail(Trouble::TooDeep),
-            None => Ok(()),
-            Some(child) => {
-                self.enter(Step::Name(name))?;
-                self.route(child, below)?;
-                self.leave();
-                Ok(())
-            }
-        }
     }
 }

@@ -1,10 +1,8 @@
 //! Tests: words and what is wrong with them, names that are near, addresses that are none.
 
-use crate::address::address_trouble;
-use crate::names::nearest;
-use crate::reading::{fault_in_words, key_fault_in_words};
 use std::alloc::{AllocError, Global};
 use std::test::Fail;
+use word_faults::{address_trouble, fault_in_words, key_fault_in_words, nearest};
 
 // Words between spaces.
 fn words_of(alloc: Global, line: &str) -> Result<Vec<String>, AllocError> {

@@ -57,6 +57,38 @@ fn fields_of_route(kind: Kind) -> &'static [&'static str] {
     }
 }
 
+/// What stands under a field of a route.
+#[derive(Clone, Copy)]
+pub enum Part {
+    /// The route's type.
+    Kind,
+    /// The name of a pool.
+    Pool,
+    /// Routes, or the servers of a pool.
+    Children,
+    Route,
+    /// A route that may be left out; then it is an error route.
+    Rest,
+    /// A number that may be left out.
+    Exptime,
+    Operations,
+    Prefixes,
+}
+
+/// What stands under this field of a route.
+pub fn part_of(field: &str) -> Part {
+    match field {
+        "pool" => Part::Pool,
+        "children" => Part::Children,
+        "cold" | "warm" => Part::Route,
+        "exptime" => Part::Exptime,
+        "operation_policies" => Part::Operations,
+        "policies" => Part::Prefixes,
+        "default_policy" | "wildcard" => Part::Rest,
+        _ => Part::Kind,
+    }
+}
+
 /// What an object of this kind is called.
 pub fn name_of(holder: Holder) -> &'static str {
     match holder {

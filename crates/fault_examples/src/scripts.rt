@@ -1,6 +1,6 @@
 //! Tests: scripts with faults, and what is said of each.
 
-use crate::lines::{lines_of_bad_line, lines_of_script};
+use input_faults::{lines_of_bad_line, lines_of_script};
 use line_faults::bad_line_in_script;
 use std::alloc::Global;
 use std::test::Fail;

@@ -1,7 +1,7 @@
 //! Tests: texts that are no configurations, and what is said of each.
 
-use crate::fields::{OPERATIONS, ROUTES, fields_of};
-use crate::lines::{lines_of_configuration, lines_of_warnings};
+use input_faults::fields::{OPERATIONS, ROUTES, fields_of};
+use input_faults::{lines_of_configuration, lines_of_warnings};
 use route_names::{Holder, is_field, kind_of, op_of};
 use std::alloc::Global;
 use std::test::Fail;
