@@ -5,6 +5,8 @@ pub mod Names
 pub mod Kinds
 pub mod Phrases
 pub mod Pools
+pub mod Quoting
+pub mod Spellings
 pub mod PoolWords
 pub mod Pointing
 pub mod Lines

@@ -4,6 +4,9 @@ use Rattle.byte_escapes.specs.Escapes.{escaped}
 use Rattle.server_addresses.specs.Servers.{Addresses}
 use Rattle.gate_words.specs.Names.{address_of}
 use Rattle.gate_words.specs.Pools.{NamedPool, NamedPools}
+use Rattle.gate_words.specs.Spellings.{spelled}
+use Rattle.gate_words.specs.declared.spelling.Spelling.{Spelling}
+use Rattle.gate_words.specs.declared.spelling.Spelling.TheVariants.{Line}
 
 abbrev pub same_slots : List ℕ → List ℕ → Bool
 same_slots [] [] = true
@@ -11,34 +14,34 @@ same_slots [] (t ∷ ts) = false
 same_slots (s ∷ ss) [] = false
 same_slots (s ∷ ss) (t ∷ ts) = (s == t) && same_slots ss ts
 
-abbrev pub place_text : (name : List ℕ) → (place total : ℕ) → List ℕ
-place_text name place total = codes " (pool " ++ escaped name ++ codes ", place " ++ decimal place ++ codes " of " ++ decimal total ++ codes ")"
+abbrev pub place_text : Spelling → (name : List ℕ) → (place total : ℕ) → List ℕ
+place_text spelling name place total = codes " (pool " ++ spelled spelling name ++ codes ", place " ++ decimal place ++ codes " of " ++ decimal total ++ codes ")"
 
 -- the place, if the server stands there
-abbrev pub place_if : Bool → (name : List ℕ) → (place total : ℕ) → List ℕ
-place_if stands name place total = if stands then place_text name place total else []
+abbrev pub place_if : Spelling → Bool → (name : List ℕ) → (place total : ℕ) → List ℕ
+place_if spelling stands name place total = if stands then place_text spelling name place total else []
 
 -- the places of a server in the rest of a list, whose first one is this place
-abbrev pub places_from : (name : List ℕ) → (place total : ℕ) → List ℕ → ℕ → List ℕ
-places_from name place total [] server = []
-places_from name place total (s ∷ ss) server = place_if (s == server) name place total ++ places_from name (place + 1) total ss server
+abbrev pub places_from : Spelling → (name : List ℕ) → (place total : ℕ) → List ℕ → ℕ → List ℕ
+places_from spelling name place total [] server = []
+places_from spelling name place total (s ∷ ss) server = place_if spelling (s == server) name place total ++ places_from spelling name (place + 1) total ss server
 
 -- its places in the list of a pool
-abbrev pub places_in : ℕ → NamedPool → List ℕ
-places_in server pool = places_from pool.0 1 (length pool.1) pool.1 server
+abbrev pub places_in : Spelling → ℕ → NamedPool → List ℕ
+places_in spelling server pool = places_from spelling pool.0 1 (length pool.1) pool.1 server
 
 -- its places in the lists of all pools
-abbrev pub places_text : NamedPools → ℕ → List ℕ
-places_text pools server = flat_map (places_in server) pools
+abbrev pub places_text : Spelling → NamedPools → ℕ → List ℕ
+places_text spelling pools server = flat_map (places_in spelling server) pools
 
 -- a server by its address and its places
 abbrev pub server_text : Addresses → NamedPools → ℕ → List ℕ
-server_text servers pools server = escaped (address_of servers server) ++ places_text pools server
+server_text servers pools server = escaped (address_of servers server) ++ places_text Line pools server
 
 -- the name of a pool, if it has these slots
-abbrev pub name_if : List ℕ → NamedPool → List ℕ
-name_if slots pool = if same_slots pool.2 slots then codes " " ++ escaped pool.0 else []
+abbrev pub name_if : Spelling → List ℕ → NamedPool → List ℕ
+name_if spelling slots pool = if same_slots pool.2 slots then codes " " ++ spelled spelling pool.0 else []
 
 -- the names of the pools that have these slots
-abbrev pub pool_names : NamedPools → List ℕ → List ℕ
-pool_names pools slots = flat_map (name_if slots) pools
+abbrev pub pool_names : Spelling → NamedPools → List ℕ → List ℕ
+pool_names spelling pools slots = flat_map (name_if spelling slots) pools

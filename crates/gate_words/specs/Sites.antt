@@ -10,6 +10,7 @@ use Rattle.gate_words.specs.Phrases.{text_of}
 use Rattle.gate_words.specs.Pointing.{pointed}
 use Rattle.gate_words.specs.Pools.{NamedPools}
 use Rattle.gate_words.specs.PoolWords.{server_text, pool_names}
+use Rattle.gate_words.specs.declared.spelling.Spelling.TheVariants.{Line}
 use Rattle.gate_words.specs.declared.phrases.Phrase.{Phrase}
 use Rattle.gate_words.specs.declared.phrases.Phrase.TheVariants as phrases
 
@@ -20,7 +21,7 @@ longest_begun text (Prefix p r ps) = if begins p text && nat_lt (longest_begun t
 
 -- the names of the pools whose route this is
 abbrev pub pools_of_route : NamedPools → Route → List ℕ
-pools_of_route pools (Pool slots) = pool_names pools slots
+pools_of_route pools (Pool slots) = pool_names Line pools slots
 pools_of_route pools (Server s) = []
 pools_of_route pools Null = []
 pools_of_route pools Failing = []

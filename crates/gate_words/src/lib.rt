@@ -9,8 +9,10 @@ pub mod phrases;
 pub mod pointing;
 pub mod pool_words;
 pub mod pools;
+pub mod quoting;
 pub mod server_uses;
 pub mod sites;
+pub mod spelling;
 pub mod ways;
 pub mod writing;
 

@@ -6,6 +6,7 @@ ghost use Rattle.gate_words.specs.PoolWords.{same_slots, place_text, place_if, p
 
 use crate::names::address_of;
 use crate::pools::Pool;
+use crate::spelling::{Spelled, Spelling};
 use byte_escapes::Escaped;
 use mc_types::ServerId;
 use server_addresses::Servers;
@@ -27,25 +28,32 @@ pub fn same_slots(one: &[ServerId], other: &[ServerId]) -> bool
     }
 }
 
-fn write_place<W: Write>(name: &[u8], place: usize, total: usize, out: &mut W) -> io::Result<()>
-    ensures { OnOk result (Appends (W.contents out.old) (W.contents out.new) (place_text name.now place total)) }
+fn write_place<W: Write>(
+    spelling: Spelling,
+    name: &[u8],
+    place: usize,
+    total: usize,
+    out: &mut W,
+) -> io::Result<()>
+    ensures { OnOk result (Appends (W.contents out.old) (W.contents out.new) (place_text spelling name.now place total)) }
 {
-    let pool = Escaped(name);
+    let pool = Spelled(spelling, name);
     write!(out, " (pool {pool}, place {place} of {total})")
 }
 
 // The place, if the server stands there.
 fn write_place_if<W: Write>(
+    spelling: Spelling,
     stands: bool,
     name: &[u8],
     place: usize,
     total: usize,
     out: &mut W,
 ) -> io::Result<()>
-    ensures { OnOk result (Appends (W.contents out.old) (W.contents out.new) (place_if stands name.now place total)) }
+    ensures { OnOk result (Appends (W.contents out.old) (W.contents out.new) (place_if spelling stands name.now place total)) }
 {
     if stands {
-        write_place(name, place, total, out)
+        write_place(spelling, name, place, total, out)
     } else {
         Ok(())
     }
@@ -53,6 +61,7 @@ fn write_place_if<W: Write>(
 
 // The places of the server in the rest of a list, whose first one is this place.
 fn write_places_from<W: Write>(
+    spelling: Spelling,
     name: &[u8],
     place: usize,
     total: usize,
@@ -61,24 +70,30 @@ fn write_places_from<W: Write>(
     out: &mut W,
 ) -> io::Result<()>
     requires { place + length rest.now < 2 ^ 64 }
-    ensures { OnOk result (Appends (W.contents out.old) (W.contents out.new) (places_from name.now place total rest.now server)) }
+    ensures { OnOk result (Appends (W.contents out.old) (W.contents out.new) (places_from spelling name.now place total rest.now server)) }
 {
     match rest {
         [] => Ok(()),
         [first, others @ ..] => {
             let stands = first.number() == server.number();
-            write_place_if(stands, name, place, total, out)?;
-            write_places_from(name, place + 1, total, others, server, out)
+            write_place_if(spelling, stands, name, place, total, out)?;
+            write_places_from(spelling, name, place + 1, total, others, server, out)
         }
     }
 }
 
 // The places of the server in the list of a pool.
-fn write_places_in<W: Write>(pool: &Pool, server: ServerId, out: &mut W) -> io::Result<()>
-    ensures { OnOk result (Appends (W.contents out.old) (W.contents out.new) (places_in server pool.now)) }
+fn write_places_in<W: Write>(
+    spelling: Spelling,
+    pool: &Pool,
+    server: ServerId,
+    out: &mut W,
+) -> io::Result<()>
+    ensures { OnOk result (Appends (W.contents out.old) (W.contents out.new) (places_in spelling server pool.now)) }
 {
     let servers = pool.servers();
     write_places_from(
+        spelling,
         pool.name().as_bytes(),
         1,
         servers.len(),
@@ -89,11 +104,16 @@ fn write_places_in<W: Write>(pool: &Pool, server: ServerId, out: &mut W) -> io::
 }
 
 /// Writes each place of the server in the lists of the pools: ` (pool A, place 1 of 2)`.
-pub fn write_places<W: Write>(pools: &[Pool], server: ServerId, out: &mut W) -> io::Result<()>
-    ensures { OnOk result (Appends (W.contents out.old) (W.contents out.new) (places_text pools.now server)) }
+pub fn write_places<W: Write>(
+    spelling: Spelling,
+    pools: &[Pool],
+    server: ServerId,
+    out: &mut W,
+) -> io::Result<()>
+    ensures { OnOk result (Appends (W.contents out.old) (W.contents out.new) (places_text spelling pools.now server)) }
 {
     for pool in pools {
-        write_places_in(pool, server, out)?;
+        write_places_in(spelling, pool, server, out)?;
     }
     Ok(())
 }
@@ -109,15 +129,20 @@ pub fn write_server<W: Write>(
 {
     let address = Escaped(address_of(servers, server).as_bytes());
     write!(out, "{address}")?;
-    write_places(pools, server, out)?;
+    write_places(Spelling::Line, pools, server, out)?;
     Ok(())
 }
 
-fn write_name_if<W: Write>(pool: &Pool, slots: &[ServerId], out: &mut W) -> io::Result<()>
-    ensures { OnOk result (Appends (W.contents out.old) (W.contents out.new) (name_if slots.now pool.now)) }
+fn write_name_if<W: Write>(
+    spelling: Spelling,
+    pool: &Pool,
+    slots: &[ServerId],
+    out: &mut W,
+) -> io::Result<()>
+    ensures { OnOk result (Appends (W.contents out.old) (W.contents out.new) (name_if spelling slots.now pool.now)) }
 {
     if same_slots(pool.slots(), slots) {
-        let name = Escaped(pool.name().as_bytes());
+        let name = Spelled(spelling, pool.name().as_bytes());
         write!(out, " {name}")
     } else {
         Ok(())
@@ -125,11 +150,16 @@ fn write_name_if<W: Write>(pool: &Pool, slots: &[ServerId], out: &mut W) -> io::
 }
 
 /// Writes the name of each pool with these slots after a space.
-pub fn write_pool_names<W: Write>(pools: &[Pool], slots: &[ServerId], out: &mut W) -> io::Result<()>
-    ensures { OnOk result (Appends (W.contents out.old) (W.contents out.new) (pool_names pools.now slots.now)) }
+pub fn write_pool_names<W: Write>(
+    spelling: Spelling,
+    pools: &[Pool],
+    slots: &[ServerId],
+    out: &mut W,
+) -> io::Result<()>
+    ensures { OnOk result (Appends (W.contents out.old) (W.contents out.new) (pool_names spelling pools.now slots.now)) }
 {
     for pool in pools {
-        write_name_if(pool, slots, out)?;
+        write_name_if(spelling, pool, slots, out)?;
     }
     Ok(())
 }

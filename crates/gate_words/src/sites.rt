@@ -11,6 +11,7 @@ use crate::phrases::{Phrase, text_of};
 use crate::pointing::Pointed;
 use crate::pool_words::{write_pool_names, write_server};
 use crate::pools::Pool;
+use crate::spelling::Spelling;
 use coverage::stores::is_op;
 use mc_types::{Key, Op, ServerId};
 use route_tree::{Tree, TreeForm};
@@ -50,7 +51,7 @@ fn write_pools_of<W: Write>(pools: &[Pool], tree: &Tree, out: &mut W) -> io::Res
     ensures { OnOk result (Appends (W.contents out.old) (W.contents out.new) (pools_of_route pools.now tree.now)) }
 {
     match tree.form() {
-        TreeForm::Pool(slots) => write_pool_names(pools, slots, out),
+        TreeForm::Pool(slots) => write_pool_names(Spelling::Line, pools, slots, out),
         TreeForm::Server(_) | TreeForm::Null | TreeForm::Error => Ok(()),
         TreeForm::AllSync(_) | TreeForm::Failover(_) | TreeForm::MissFailover(_) => Ok(()),
         TreeForm::WarmUp { .. } | TreeForm::ByOperation { .. } | TreeForm::ByPrefix { .. } => Ok(

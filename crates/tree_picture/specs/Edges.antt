@@ -1,7 +1,7 @@
 -- What a child is to its route, in words. Source: mcgate's own.
 use Rattle.std.specs.Prelude.{ℕ, List, ◌++◌, codes, decimal}
 use Rattle.gate_words.specs.Names.{op_name}
-use Rattle.tree_picture.specs.Quoting.{quoted}
+use Rattle.gate_words.specs.Quoting.{quoted}
 use Rattle.tree_picture.specs.declared.edges.Edge.{Edge}
 use Rattle.tree_picture.specs.declared.edges.Edge.TheVariants as edges
 

@@ -5,37 +5,10 @@ use Rattle.route_json.specs.Servers.{Addresses}
 use Rattle.gate_words.specs.Kinds.{kind_name}
 use Rattle.gate_words.specs.Names.{address_of}
 use Rattle.gate_words.specs.Pools.{NamedPool, NamedPools}
-use Rattle.gate_words.specs.PoolWords.{same_slots}
-use Rattle.tree_picture.specs.Quoting.{quoted}
+use Rattle.gate_words.specs.PoolWords.{places_text, pool_names}
+use Rattle.gate_words.specs.Quoting.{quoted}
+use Rattle.gate_words.specs.declared.spelling.Spelling.TheVariants as spellings
 use Rattle.tree_picture.specs.declared.labels.TheConstants.{NAMED}
-
-abbrev pub place_text : (name : List ℕ) → (place total : ℕ) → List ℕ
-place_text name place total = codes " (pool " ++ quoted name ++ codes ", place " ++ decimal place ++ codes " of " ++ decimal total ++ codes ")"
-
--- the place, if the server stands there
-abbrev pub place_if : Bool → (name : List ℕ) → (place total : ℕ) → List ℕ
-place_if stands name place total = if stands then place_text name place total else []
-
--- the places of a server in the rest of a list, whose first one is this place
-abbrev pub places_from : (name : List ℕ) → (place total : ℕ) → List ℕ → ℕ → List ℕ
-places_from name place total [] server = []
-places_from name place total (s ∷ ss) server = place_if (s == server) name place total ++ places_from name (place + 1) total ss server
-
--- its places in the list of a pool
-abbrev pub places_in : ℕ → NamedPool → List ℕ
-places_in server pool = places_from pool.0 1 (length pool.1) pool.1 server
-
--- its places in the lists of all pools
-abbrev pub places_text : NamedPools → ℕ → List ℕ
-places_text pools server = flat_map (places_in server) pools
-
--- the name of a pool, if it has these slots
-abbrev pub name_if : List ℕ → NamedPool → List ℕ
-name_if slots pool = if same_slots pool.2 slots then codes " " ++ quoted pool.0 else []
-
--- the names of the pools that have these slots
-abbrev pub pool_names : NamedPools → List ℕ → List ℕ
-pool_names pools slots = flat_map (name_if slots) pools
 
 -- a line of its own for a server
 abbrev pub address_line : Addresses → ℕ → List ℕ
@@ -56,11 +29,11 @@ slots_text servers (s ∷ ss) = address_line servers s ++ later_slots servers (N
 
 -- the names and the servers of a pool
 abbrev pub pool_text : Addresses → NamedPools → List ℕ → List ℕ
-pool_text servers pools slots = pool_names pools slots ++ slots_text servers slots
+pool_text servers pools slots = pool_names spellings.Label pools slots ++ slots_text servers slots
 
 -- a server, with its places
 abbrev pub alone_text : Addresses → NamedPools → ℕ → List ℕ
-alone_text servers pools server = codes " " ++ quoted (address_of servers server) ++ places_text pools server
+alone_text servers pools server = codes " " ++ quoted (address_of servers server) ++ places_text spellings.Label pools server
 
 -- what a node says of a route beside its kind
 abbrev pub detail_text : Addresses → NamedPools → Route → List ℕ
@@ -81,7 +54,7 @@ one_text servers pools r = kind_name r ++ detail_text servers pools r
 
 -- a line for a pool's route or a server of a run
 abbrev pub leaf_line : Addresses → NamedPools → Route → List ℕ
-leaf_line servers pools (Pool slots) = codes "\\n" ++ pool_names pools slots
+leaf_line servers pools (Pool slots) = codes "\\n" ++ pool_names spellings.Label pools slots
 leaf_line servers pools (Server s) = address_line servers s
 leaf_line servers pools Null = []
 leaf_line servers pools Failing = []

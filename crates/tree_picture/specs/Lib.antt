@@ -1,4 +1,3 @@
-pub mod Quoting
 pub mod Phrases
 pub mod Edges
 pub mod Nodes

@@ -6,7 +6,7 @@ use Rattle.gate_words.specs.Names.{op_name}
 use Rattle.gate_words.specs.Pools.{NamedPools}
 use Rattle.tree_picture.specs.Alike.{next_run, next_prefix_run}
 use Rattle.tree_picture.specs.Nodes.{nodes}
-use Rattle.tree_picture.specs.Quoting.{quoted}
+use Rattle.gate_words.specs.Quoting.{quoted}
 use Rattle.tree_picture.specs.Statements.{edge_line, node_line, run_line, prefix_run_line}
 use Rattle.tree_picture.specs.declared.alike.Run.{Run}
 

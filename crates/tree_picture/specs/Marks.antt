@@ -12,7 +12,7 @@ use Rattle.gate_words.specs.declared.ways.Step.TheVariants as steps
 use Rattle.tree_picture.specs.Alike.{next_run, next_prefix_run}
 use Rattle.tree_picture.specs.Lines.{no_run}
 use Rattle.tree_picture.specs.Nodes.{nodes}
-use Rattle.tree_picture.specs.Quoting.{quoted}
+use Rattle.gate_words.specs.Quoting.{quoted}
 use Rattle.tree_picture.specs.Statements.{red_node_line, step_lines, read_line}
 use Rattle.tree_picture.specs.declared.alike.Run.{Run}
 

@@ -6,9 +6,11 @@ use Rattle.route_tree.specs.Route.{Route, Routes, Prefixes, Pool, Server, Null, 
 use Rattle.route_json.specs.Servers.{Addresses}
 use Rattle.gate_words.specs.Names.{op_name, delete_name, address_of}
 use Rattle.gate_words.specs.Pools.{NamedPools}
-use Rattle.tree_picture.specs.Labels.{places_text, one_text, run_text, prefix_run_text}
+use Rattle.gate_words.specs.PoolWords.{places_text}
+use Rattle.gate_words.specs.declared.spelling.Spelling.TheVariants as spellings
+use Rattle.tree_picture.specs.Labels.{one_text, run_text, prefix_run_text}
 use Rattle.tree_picture.specs.Phrases.{text_of}
-use Rattle.tree_picture.specs.Quoting.{quoted}
+use Rattle.gate_words.specs.Quoting.{quoted}
 use Rattle.tree_picture.specs.declared.phrases.Phrase.{Phrase}
 use Rattle.tree_picture.specs.declared.phrases.Phrase.TheVariants as phrases
 
@@ -82,4 +84,4 @@ left_end kind = text_of phrases.NotCleared ++ delete_name kind ++ text_of phrase
 
 -- the server that the delete leaves
 abbrev pub left_line : Addresses → NamedPools → ℕ → Deleting → List ℕ
-left_line servers pools server kind = left_front server (address_of servers server) ++ places_text pools server ++ left_end kind
+left_line servers pools server kind = left_front server (address_of servers server) ++ places_text spellings.Label pools server ++ left_end kind

@@ -37,36 +37,12 @@ fn write_below<W: Write>(
     match tree.form() {
         TreeForm::Pool(_) | TreeForm::Server(_) => Ok(()),
         TreeForm::Null | TreeForm::Error => Ok(()),
-        TreeForm::AllSync(children) => write_all(
-            servers,
-            pools,
-            number,
-            0,
-            number + 1,
-            start,
-            children,
-            out,
-        ),
-        TreeForm::Failover(children) => write_all(
-            servers,
-            pools,
-            number,
-            0,
-            number + 1,
-            start,
-            children,
-            out,
-        ),
-        TreeForm::MissFailover(children) => write_all(
-            servers,
-            pools,
-            number,
-            0,
-            number + 1,
-            start,
-            children,
-            out,
-        ),
+        TreeForm::AllSync(children)
+        | TreeForm::Failover(children)
+        | TreeForm::MissFailover(children) => {
+            let next = number + 1;
+            write_all(servers, pools, number, 0, next, start, children, out)
+        }
         TreeForm::WarmUp { cold, warm, .. } => {
             write_child(servers, pools, number, Edge::Cold, number + 1, cold, out)?;
             let next = number + 1 + node_count(cold);

@@ -3,8 +3,8 @@
 ghost use Rattle.std.specs.Prelude.{Some};
 ghost use Rattle.tree_picture.specs.Edges.{edge_text};
 
-use crate::quoting::Quoted;
 use gate_words::names::op_name;
+use gate_words::quoting::Quoted;
 use mc_types::{Key, Op};
 use std::fmt;
 use std::fmt::Display;

@@ -4,13 +4,14 @@ ghost use Rattle.std.specs.Prelude.{◌+◌, ◌<◌, ◌^◌, OnOk, length};
 ghost use Rattle.std.specs.Io.KnownBytes.{Appends};
 ghost use Rattle.gate_words.specs.Names.{address_of};
 ghost use Rattle.route_tree.specs.Form.{routes_of, prefixes_of};
-ghost use Rattle.tree_picture.specs.Labels.{place_text, place_if, places_from, places_in, places_text, name_if, pool_names, address_line, later_slots, slots_text, pool_text, alone_text, detail_text, one_text, leaf_line, dots_text, last_leaf, count_text, leaf_lines, prefix_leaf_lines, run_text, prefix_run_text};
+ghost use Rattle.tree_picture.specs.Labels.{address_line, later_slots, slots_text, pool_text, alone_text, detail_text, one_text, leaf_line, dots_text, last_leaf, count_text, leaf_lines, prefix_leaf_lines, run_text, prefix_run_text};
 
-use crate::quoting::Quoted;
 use gate_words::Pool;
 use gate_words::kinds::kind_name;
 use gate_words::names::address_of;
-use gate_words::pool_words::same_slots;
+use gate_words::pool_words::{write_places, write_pool_names};
+use gate_words::quoting::Quoted;
+use gate_words::spelling::Spelling;
 use mc_types::{Key, ServerId};
 use route_json::Servers;
 use route_tree::{Tree, TreeForm};
@@ -19,97 +20,6 @@ use std::io::Write;
 
 /// How many servers of a pool, or routes of a run, a label names.
 pub const NAMED: usize = 8;
-
-fn write_place<W: Write>(name: &[u8], place: usize, total: usize, out: &mut W) -> io::Result<()>
-    ensures { OnOk result (Appends (W.contents out.old) (W.contents out.new) (place_text name.now place total)) }
-{
-    let pool = Quoted(name);
-    write!(out, " (pool {pool}, place {place} of {total})")
-}
-
-// The place, if the server stands there.
-fn write_place_if<W: Write>(
-    stands: bool,
-    name: &[u8],
-    place: usize,
-    total: usize,
-    out: &mut W,
-) -> io::Result<()>
-    ensures { OnOk result (Appends (W.contents out.old) (W.contents out.new) (place_if stands name.now place total)) }
-{
-    if stands {
-        write_place(name, place, total, out)
-    } else {
-        Ok(())
-    }
-}
-
-// The places of the server in the rest of a list, whose first one is this place.
-fn write_places_from<W: Write>(
-    name: &[u8],
-    place: usize,
-    total: usize,
-    rest: &[ServerId],
-    server: ServerId,
-    out: &mut W,
-) -> io::Result<()>
-    requires { place + length rest.now < 2 ^ 64 }
-    ensures { OnOk result (Appends (W.contents out.old) (W.contents out.new) (places_from name.now place total rest.now server)) }
-{
-    match rest {
-        [] => Ok(()),
-        [first, others @ ..] => {
-            let stands = first.number() == server.number();
-            write_place_if(stands, name, place, total, out)?;
-            write_places_from(name, place + 1, total, others, server, out)
-        }
-    }
-}
-
-fn write_places_in<W: Write>(pool: &Pool, server: ServerId, out: &mut W) -> io::Result<()>
-    ensures { OnOk result (Appends (W.contents out.old) (W.contents out.new) (places_in server pool.now)) }
-{
-    let servers = pool.servers();
-    write_places_from(
-        pool.name().as_bytes(),
-        1,
-        servers.len(),
-        servers,
-        server,
-        out,
-    )
-}
-
-/// Each place of the server in the lists of the pools: ` (pool A, place 1 of 2)`.
-pub fn write_places<W: Write>(pools: &[Pool], server: ServerId, out: &mut W) -> io::Result<()>
-    ensures { OnOk result (Appends (W.contents out.old) (W.contents out.new) (places_text pools.now server)) }
-{
-    for pool in pools {
-        write_places_in(pool, server, out)?;
-    }
-    Ok(())
-}
-
-fn write_name_if<W: Write>(pool: &Pool, slots: &[ServerId], out: &mut W) -> io::Result<()>
-    ensures { OnOk result (Appends (W.contents out.old) (W.contents out.new) (name_if slots.now pool.now)) }
-{
-    if same_slots(pool.slots(), slots) {
-        let name = Quoted(pool.name().as_bytes());
-        write!(out, " {name}")
-    } else {
-        Ok(())
-    }
-}
-
-// The name of each pool with these slots after a space.
-fn write_pool_names<W: Write>(pools: &[Pool], slots: &[ServerId], out: &mut W) -> io::Result<()>
-    ensures { OnOk result (Appends (W.contents out.old) (W.contents out.new) (pool_names pools.now slots.now)) }
-{
-    for pool in pools {
-        write_name_if(pool, slots, out)?;
-    }
-    Ok(())
-}
 
 // A line of its own for a server.
 fn write_address<W: Write>(servers: &Servers, server: ServerId, out: &mut W) -> io::Result<()>
@@ -166,7 +76,7 @@ fn write_pool<W: Write>(
 ) -> io::Result<()>
     ensures { OnOk result (Appends (W.contents out.old) (W.contents out.new) (pool_text servers.now pools.now slots.now)) }
 {
-    write_pool_names(pools, slots, out)?;
+    write_pool_names(Spelling::Label, pools, slots, out)?;
     write_slots(servers, slots, out)?;
     Ok(())
 }
@@ -182,7 +92,7 @@ fn write_alone<W: Write>(
 {
     let address = Quoted(address_of(servers, server).as_bytes());
     write!(out, " {address}")?;
-    write_places(pools, server, out)?;
+    write_places(Spelling::Label, pools, server, out)?;
     Ok(())
 }
 
@@ -228,7 +138,7 @@ fn write_leaf<W: Write>(
     match tree.form() {
         TreeForm::Pool(slots) => {
             write!(out, "\\n")?;
-            write_pool_names(pools, slots, out)?;
+            write_pool_names(Spelling::Label, pools, slots, out)?;
             Ok(())
         }
         TreeForm::Server(server) => write_address(servers, *server, out),

@@ -9,7 +9,6 @@ pub mod labels;
 pub mod marking;
 pub mod phrases;
 pub mod picture;
-pub mod quoting;
 pub mod statements;
 
 pub use picture::{write_gap_picture, write_picture};

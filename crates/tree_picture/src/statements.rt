@@ -8,12 +8,14 @@ ghost use Rattle.tree_picture.specs.Edges.{edge_text};
 ghost use Rattle.tree_picture.specs.Statements.{graph_lines, more_text, edge_front, edge_line, node_front, node_end, end_phrase, node_line, run_line, prefix_run_line, red_node_line, red_edge_line, step_lines, read_line, left_front, left_end, left_line};
 
 use crate::edges::Edge;
-use crate::labels::{write_one, write_places, write_prefix_run, write_run};
+use crate::labels::{write_one, write_prefix_run, write_run};
 use crate::phrases::{Phrase, text_of};
-use crate::quoting::Quoted;
 use coverage::Deleting;
 use gate_words::Pool;
 use gate_words::names::{address_of, delete_name, op_name};
+use gate_words::pool_words::write_places;
+use gate_words::quoting::Quoted;
+use gate_words::spelling::Spelling;
 use mc_types::{Key, Op, ServerId};
 use route_json::Servers;
 use route_tree::{Tree, TreeForm};
@@ -225,7 +227,7 @@ pub fn write_left<W: Write>(
     ensures { OnOk result (Appends (W.contents out.old) (W.contents out.new) (left_line servers.now pools.now server deleting)) }
 {
     write_left_front(servers, server, out)?;
-    write_places(pools, server, out)?;
+    write_places(Spelling::Label, pools, server, out)?;
     write_left_end(deleting, out)?;
     Ok(())
 }

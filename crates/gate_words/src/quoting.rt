@@ -1,7 +1,7 @@
 //! Bytes inside a quoted label of Graphviz's language.
 
 ghost use Rattle.std.specs.Prelude.{Some};
-ghost use Rattle.tree_picture.specs.Quoting.{quoted_byte, quoted};
+ghost use Rattle.gate_words.specs.Quoting.{quoted_byte, quoted};
 
 use byte_escapes::EscapedByte;
 use std::fmt;

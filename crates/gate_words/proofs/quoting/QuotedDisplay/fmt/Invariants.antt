@@ -1,7 +1,7 @@
 use Rattle.std.proofs.Common.{take}
 use Rattle.std.specs.Fmt.{HasWritten, IsPlainFormatter}
-use Rattle.tree_picture.specs.Quoting.{quoted}
-use Rattle.tree_picture.proofs.quoting.QuotedDisplay.fmt.Given as goal
+use Rattle.gate_words.specs.Quoting.{quoted}
+use Rattle.gate_words.proofs.quoting.QuotedDisplay.fmt.Given as goal
 
 abbrev pub invariant-loop-byte : goal.invariant-loop-byte
 invariant-loop-byte g l =
