@@ -28,3 +28,15 @@ Grows at bytes old new = (j : ℕ) → new j ≡ (if at == j then old j ++ bytes
 -- one place is empty now
 abbrev pub Empties : ℕ → (ℕ → List ℕ) → (ℕ → List ℕ) → Type 0
 Empties at old new = (j : ℕ) → new j ≡ (if at == j then [] else old j)
+
+-- of this connection all is as it was
+pub record IsUntouched (d : ℕ) (h h' : List Event) : Type 0 where
+  pub same_role : role d h' ≡ role d h
+  pub same_address : address_of d h' ≡ address_of d h
+  pub same_came : delivered d h' ≡ delivered d h
+  pub same_went : taken d h' ≡ taken d h
+  pub same_over : is_over d h' ≡ is_over d h
+
+-- of all connections but this one all is as it was
+abbrev pub TouchesOnly : ℕ → List Event → List Event → Type 0
+TouchesOnly c h h' = (d : ℕ) → (c == d) ≡ false → IsUntouched d h h'
