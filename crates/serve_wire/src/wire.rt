@@ -29,7 +29,7 @@ pub trait Wire {
     fn wait(&mut self, limit: Option<Duration>) -> io::Result<usize>
         ensures { history self.new ≡ history self.old };
 
-    /// A report of the last wait, unless its connection was closed since.
+    /// A report of the last wait. It may be spurious, and come after the connection was closed.
     fn report(&self, at: usize) -> Option<Report>;
 
     /// Accepts a peer. Nothing is reported of it until it is admitted.

@@ -1,7 +1,7 @@
 use Rattle.std.proofs.Common.{◌≡◌, ◌++◌, length, take, drop, ◌+◌, ◌-◌, sym, ap, ◌∙◌, min}
 use Rattle.std.specs.Io.Slices.{io_slices_bytes}
 use Rattle.serve_wire.specs.Events.{with_more}
-use Rattle.serve_sockets.proofs.Pieces.{from_here, take_both, more_and_more}
+use Rattle.serve_wire.proofs.Pieces.{from_here, take_both, more_and_more}
 use Rattle.serve_sockets.proofs.open.Open.note_parts.Goals as goal
 
 pub loop-part-preserved : goal.loop-part-preserved
