@@ -195,7 +195,13 @@ impl Memory {
     pub fn add_host(&mut self, text: &[u8]) -> Result<(), AllocError> {
         let text = text.to_vec(self.alloc)?;
         let peers = VecDeque::new(self.alloc);
-        Ok(self.hosts.push(Host { text, is_known: false, peers })?)
+        Ok(
+            self.hosts.push(Host {
+                text,
+                is_known: false,
+                peers,
+            })?,
+        )
     }
 
     /// The next connection to this host has this far end.
@@ -282,7 +288,15 @@ impl Memory {
             return None;
         }
         let is_open = true;
-        if self.lines.push(Line { peer, owner, is_open }).is_err() {
+        if self
+            .lines
+            .push(Line {
+                peer,
+                owner,
+                is_open,
+            })
+            .is_err()
+        {
             return None;
         }
         self.count = number + 1;

@@ -40,8 +40,8 @@ pub struct Peer {
     /// A write after so many bytes fails.
     pub fails_at: Option<usize>,
     taken: Vec<u8>,
-    // How many bytes may be taken before the next wait.
-    left: usize,
+    // How many bytes were taken since the last wait.
+    went: usize,
     // Whether it was reported that it may be read, and that it takes bytes, and nothing has changed since.
     is_read_told: bool,
     is_write_told: bool,
@@ -59,7 +59,7 @@ impl Peer {
             room: usize::MAX,
             fails_at: None,
             taken: Vec::new(alloc),
-            left: usize::MAX,
+            went: 0,
             is_read_told: false,
             is_write_told: false,
         }
@@ -124,16 +124,18 @@ impl Peer {
     // How many bytes a write takes now.
     fn takes_now(&self) -> usize {
         let room = self.room.saturating_sub(self.taken.len());
-        self.piece.min(self.left).min(room)
+        let window = self.window.saturating_sub(self.went);
+        self.piece.min(window).min(room)
     }
 
     /// What a wait tells of it, if that is new. A wait opens its window.
     pub fn report(&mut self, now: u64) -> Option<Ready> {
         self.go_on(now);
-        self.left = self.window;
+        self.went = 0;
         let closes = self.has_failed() || self.has_ended();
         let reads = !self.is_read_told && (closes || !self.coming().is_empty());
-        let writes = !self.is_write_told && (self.has_failed() || self.takes_now() > 0);
+        let fails = reads && self.has_failed();
+        let writes = fails || (!self.is_write_told && self.takes_now() > 0);
         self.is_read_told = self.is_read_told || reads;
         self.is_write_told = self.is_write_told || writes;
         if reads || writes {
@@ -197,7 +199,7 @@ impl Peer {
             self.is_write_told = false;
             return WriteOutcome::NotReady;
         }
-        self.left = self.left.saturating_sub(count);
+        self.went = self.went.saturating_add(count);
         WriteOutcome::Bytes(count)
     }
 }

@@ -144,7 +144,7 @@ fn open_at_mut(open: &mut Slab<Open>, count: usize, conn: usize) -> Option<&mut 
         return None;
     }
     let found = open.get_mut(conn % SLOTS)?;
-    if found.number != conn {
+    if conn != found.number {
         return None;
     }
     Some(found)
@@ -169,9 +169,9 @@ fn put_address(
     text: &[u8],
     socket: SocketAddr,
 ) -> Result<(), AllocError> {
-    for address in addresses.iter_mut() {
-        if address.text.as_slice() == text {
-            address.socket = socket;
+    for known in addresses.iter_mut() {
+        if known.text.as_slice() == text {
+            known.socket = socket;
             return Ok(());
         }
     }

@@ -15,8 +15,8 @@ use std::time::Duration;
 fn texts() -> &'static str {
     r"Bytes come cut as they are sent and by the piece, and each once.
 peer 1
-sends get a
-sends  b c
+sends abcde
+sends fgh
 piece 4
 calls 0
 wait 5 => listener
@@ -24,14 +24,14 @@ accept 3 => 0
 accept 4 => nobody
 wait 5 => client 3 reads writes
 read 0 => bytes
-held 0 => get
+held 0 => abcd
 read 0 => bytes
-held 0 => get a
+held 0 => abcde
 readable 0 => no
 wait 5 => client 3 reads
 read 0 => bytes
 read 0 => nothing
-held 0 => get a b c
+held 0 => abcdefgh
 -- The clock goes on by what was waited.
 wait 5 => nothing
 time => 5
@@ -339,7 +339,10 @@ impl Ends<'_> {
 
     fn unsent(&self, at: usize) -> Result<String, Fail> {
         match self.ends.get(at) {
-            Some(end) => shown(self.rt.alloc(), end.unsent.to_vec(self.rt.alloc())?.as_slice()),
+            Some(end) => shown(
+                self.rt.alloc(),
+                end.unsent.to_vec(self.rt.alloc())?.as_slice(),
+            ),
             None => Err("no end has this number")?,
         }
     }
@@ -364,9 +367,7 @@ impl Ends<'_> {
                 self.place(verb, text)?;
                 Ok("")
             }
-            "resolve" => Ok(yes_or_no(
-                self.wire.resolve(self.rt, text.as_bytes()).is_ok(),
-            )),
+            "resolve" => Ok(yes_or_no(self.wire.resolve(self.rt, text.as_bytes()).is_ok())),
             "read" => self.read(text.parse::<usize>()?),
             "send" => self.send(text.parse::<usize>()?),
             "write" => self.write(text),
