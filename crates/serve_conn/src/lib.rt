@@ -1,0 +1,8 @@
+//! One end of a connection over a wire: what came over it, and what is to be sent.
+#![tactic(auto)]
+
+pub mod conn;
+pub mod turned_away;
+
+pub use conn::{Conn, Got, Limits, Sent};
+pub use turned_away::turn_away;
