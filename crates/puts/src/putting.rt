@@ -78,9 +78,7 @@ fn some_store(children: SeenAll, op: Op, server: ServerId) -> bool
     ensures { result ≡ stores_some op server (all_plans_of children.entry) }
 {
     match children.parted() {
-        Some(parts) => {
-            stores_at(parts.first, op, server) || some_store(parts.rest, op, server)
-        }
+        Some(parts) => { stores_at(parts.first, op, server) || some_store(parts.rest, op, server) }
         None => false,
     }
 }

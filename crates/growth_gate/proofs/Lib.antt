@@ -1,0 +1,3 @@
+pub mod Multiples
+pub mod Among
+pub mod Since
