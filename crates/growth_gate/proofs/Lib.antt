@@ -1,3 +1,4 @@
 pub mod Multiples
 pub mod Among
 pub mod Since
+pub mod Reload

@@ -34,7 +34,8 @@ use Rattle.certificates.specs.Valid.{all_sizes, all_prefixes}
 use Rattle.certificates.proofs.Placing.{longest_of}
 use Rattle.certificates.proofs.Validity.{in_either}
 use Rattle.fresh_gate.specs.Sound.{AreSound, AreLoaded}
-use Rattle.growth_gate.specs.Grown.{IsTaken, IsClear, IsPlaceAmong, NonePuts, AreSoundSince, OpensBy, SoundIsSoundSince, ArbitraryIsToday, SinceIsCovered, GrownGenerationsAreFresh}
+use Rattle.ledger.specs.Marks.{IsTaken, IsClear}
+use Rattle.growth_gate.specs.Grown.{IsPlaceAmong, NonePuts, AreSoundSince, OpensBy, SoundIsSoundSince, ArbitraryIsToday, SinceIsCovered, GrownGenerationsAreFresh}
 use Rattle.growth_gate.proofs.Multiples.{least_exists}
 use Rattle.growth_gate.proofs.Among.{sizes_of_one, prefix_of_all, sizes_some, some_text, all_sizes_some, left_at_place, key_place, key_is_among, key_tree, class_of}
 

@@ -1,6 +1,5 @@
 -- Generations in which a tree needn't clear a server on which no tree so far puts items. Source: mcgate's own.
-use Rattle.std.specs.Prelude.{◌≡◌, ◌↔◌, ℕ, suc, ◌<◌, ◌≤◌, Bool, true, false, List, Option, Some, None, ◌⊎◌, slice_get, take}
-use Rattle.mc_types.specs.declared.ask.Op.{Op}
+use Rattle.std.specs.Prelude.{◌≡◌, ◌↔◌, ℕ, suc, ◌<◌, ◌≤◌, Bool, true, false, List, [], ◌∷◌, ◌++◌, Option, Some, None, ◌⊎◌, slice_get, take}
 use Rattle.mc_types.specs.declared.ask.Ask.{Ask}
 use Rattle.mc_types.specs.Items.{Item}
 use Rattle.mc_runs.specs.Sharing.{Event, LosesOnly, Run, CopiesBar, AreAlone, IsFresh, IsFreshByNumber}
@@ -12,20 +11,11 @@ use Rattle.route_tree.specs.Route.{Route, IsTree}
 use Rattle.route_tree.specs.At.{tree_at}
 use Rattle.route_tree.specs.Place.{IsLeastCommonMultiple, tree_at_place}
 use Rattle.route_tree.specs.Word.{tree_words}
-use Rattle.coverage.specs.declared.deleting.Deleting.{Deleting}
-use Rattle.coverage.specs.Cover.{IsTaking, Takes, Clears}
 use Rattle.puts.specs.Puts.{Puts}
+use Rattle.ledger.specs.Marks.{IsTaken, IsClear, MayFollow}
 use Rattle.certificates.specs.Places.{IsClassOf}
 use Rattle.certificates.specs.Valid.{all_sizes, all_prefixes}
 use Rattle.fresh_gate.specs.Sound.{AreSound, AreLoaded}
-
--- some read takes the server
-abbrev pub IsTaken : Plan → ℕ → Type 0
-IsTaken plain server = (op : Op) × IsTaking op × Takes plain op server
-
--- each acknowledged delete clears it, of either kind
-abbrev pub IsClear : Plan → ℕ → Type 0
-IsClear plain server = (kind : Deleting) → Clears plain kind server
 
 -- a place of the trees together: no prefix or one of theirs, and a remainder by the least common multiple of their pools' sizes
 pub record IsPlaceAmong (trees : List Route) (place : Place) : Type 0 where
@@ -57,6 +47,18 @@ SoundIsSoundSince = (arbitrary : ℕ → Bool) (trees : List Route) → Each IsT
 -- where all servers are arbitrary, each tree clears all that it and later ones take
 abbrev pub ArbitraryIsToday : Type 0
 ArbitraryIsToday = (trees : List Route) → Each IsTree trees → AreSoundSince (λ _. true) trees ↔ AreSound trees
+
+-- what trees are at a place, in their order
+abbrev pub plans_at : Place → List Route → List Plan
+plans_at place [] = []
+plans_at place (tree ∷ trees) = tree_at_place tree place ∷ plans_at place trees
+
+-- one tree more is sound exactly where, at each place of all of them, it clears what it takes, and no tree before it may have left that
+abbrev pub ReloadIsSound : Type 0
+ReloadIsSound =
+    (arbitrary : ℕ → Bool) (trees : List Route) (tree : Route) → Each IsTree (trees ++ tree ∷ [])
+    → AreSoundSince arbitrary (trees ++ tree ∷ [])
+    ↔ (AreSoundSince arbitrary trees × ((place : Place) → IsPlaceAmong (trees ++ tree ∷ []) place → (server : ℕ) → MayFollow (arbitrary server) (plans_at place trees) (tree_at_place tree place) server))
 
 -- then each server that a later command takes is cleared by the delete, or was untouched
 abbrev pub SinceIsCovered : Type 0

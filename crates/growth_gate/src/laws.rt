@@ -4,7 +4,7 @@
 ghost use Rattle.std.specs.Prelude.{ℕ};
 ghost use Rattle.mc_types.specs.declared.ask.Ask.{Ask};
 ghost use Rattle.mc_runs.specs.SharingLaws.{nobody_bars};
-ghost use Rattle.growth_gate.specs.Grown.{SoundIsSoundSince, ArbitraryIsToday, SinceIsCovered, GrownGenerationsAreFresh};
+ghost use Rattle.growth_gate.specs.Grown.{SoundIsSoundSince, ArbitraryIsToday, ReloadIsSound, SinceIsCovered, GrownGenerationsAreFresh};
 
 use std::marker::Brand;
 
@@ -25,6 +25,11 @@ pub fn sound_is_sound_since()
 /// Where each server may hold anything at the beginning, each tree has to clear all that later ones take.
 pub fn arbitrary_is_today()
     ensures { ArbitraryIsToday }
+{}
+
+/// One tree more is sound exactly where the marks of those before it let it follow, at each place of all of them.
+pub fn reload_is_sound()
+    ensures { ReloadIsSound }
 {}
 
 /// Over sound generations each delete clears what later commands take, or nothing was put there before it.

@@ -1,2 +1,3 @@
 pub mod Nothing
 pub mod UntouchedFresh
+pub mod UntouchedAlone

@@ -7,6 +7,7 @@ ghost use Rattle.mc_types.specs.Items.{Item};
 ghost use Rattle.mc_runs.specs.Run.{Call};
 ghost use Rattle.mc_runs.specs.Single.{server_words};
 ghost use Rattle.mc_runs.specs.SharingLaws.{nobody_bars};
+ghost use Rattle.growth_laws.specs.UntouchedAlone.{GrownRunsAreFresh};
 ghost use Rattle.growth_laws.specs.UntouchedLaws.{NothingComesOfNothing, CoveredIsNoLess, GrownIsFresh, GrownIsFreshByNumber};
 
 use std::marker::Brand;
@@ -48,4 +49,9 @@ pub fn grown_is_fresh<W: HasOpening>()
 /// The same by numbers, where each command has its key alone.
 pub fn grown_is_fresh_by_number<W: HasOpening>()
     ensures { GrownIsFreshByNumber W.words W.bars W.opening }
+{}
+
+/// The same of runs in which a key has one command at a time.
+pub fn grown_runs_are_fresh<W: HasOpening>()
+    ensures { GrownRunsAreFresh W.words W.opening }
 {}

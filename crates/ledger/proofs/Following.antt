@@ -60,7 +60,7 @@ module _ (arbitrary : Bool) (plans : List Plan) (later : Plan) (s : ℕ) (good :
           (sound i (length plans) leaves.0 later (omega (arith, below)) (get_left plans (later ∷ []) i leaves.0 leaves.1) seam taken)
 
   -- one that leaves nothing clears the server, or nothing is there that it could leave
-  not_left : (i : ℕ) (a : Plan) → slice_get plans i ≡ Some a → NoneLeaves arbitrary plans s → IsClear a s ⊎ Untouched plans i
+  pub not_left : (i : ℕ) (a : Plan) → slice_get plans i ≡ Some a → NoneLeaves arbitrary plans s → IsClear a s ⊎ Untouched plans i
   not_left i a ga none =
       ⊎_elim
       (λ clear. inl clear)
