@@ -73,27 +73,24 @@ class_of ps key (Some q) h = h.0
 pub left_at_place : (t : Route) (hash : ℕ) (text : List ℕ) (o : Option (List ℕ)) (m : ℕ) → Each (λ n. n ∣ m) (sizes t) → Each (λ p. begins p text ≡ begins p (prefix_text o)) (prefixes t) → plain_for hash text t ≡ plain_for (hash % m) (prefix_text o) t
 left_at_place t hash text o m divides same = alike hash (hash % m) text (prefix_text o) t (rests hash m (sizes t) divides) same
 
--- the place of a key among the first k trees
-module _ (trees : List Route) (are : Each IsTree trees) (k : ℕ) (key : List ℕ) where
-  abbrev first_trees : List Route
-  first_trees = take k trees
-
-  pub key_place : Place
-  key_place =
+-- the place of a hash and a text among the first k trees
+module _ (trees : List Route) (are : Each IsTree trees) (k : ℕ) (hash : ℕ) (text : List ℕ) where
+  abbrev pub place_of : Place
+  place_of =
       let m = least_exists (all_sizes (take k trees)) (all_sizes_some trees k are) in
-      place_at (longest_of (all_prefixes (take k trees)) key).0 (key_hash key % m.0) m.0
+      place_at (longest_of (all_prefixes (take k trees)) text).0 (hash % m.0) m.0
 
-  pub key_is_among : IsPlaceAmong (take k trees) key_place
-  key_is_among =
+  pub is_among : IsPlaceAmong (take k trees) place_of
+  is_among =
       let m = least_exists (all_sizes (take k trees)) (all_sizes_some trees k are) in
-      let o = longest_of (all_prefixes (take k trees)) key in
+      let o = longest_of (all_prefixes (take k trees)) text in
       let some = m.1.some in
-      record { modulus = m.1; prefix = class_of (all_prefixes (take k trees)) key o.0 o.1; below = omega (arith, some) }
+      record { modulus = m.1; prefix = class_of (all_prefixes (take k trees)) text o.0 o.1; below = omega (arith, some) }
 
-  pub key_tree : (h : ℕ) (t : Route) → h < k → slice_get trees h ≡ Some t → tree_at t key ≡ tree_at_place t key_place
-  key_tree h t lt e =
+  pub tree_there : (h : ℕ) (t : Route) → h < k → slice_get trees h ≡ Some t → plain_for hash text t ≡ tree_at_place t place_of
+  tree_there h t lt e =
       let m = least_exists (all_sizes (take k trees)) (all_sizes_some trees k are) in
       let ps = all_prefixes (take k trees) in
-      let o = longest_of ps key in
-      let same = tests ps key o.0 (all_texts trees k are) o.1 in
-      left_at_place t (key_hash key) key o.0 m.0 (sizes_of_one (λ n. n ∣ m.0) trees k h t lt e m.1.common) (prefixes_of_one (λ p. begins p key ≡ begins p (prefix_text o.0)) trees k h t lt e same)
+      let o = longest_of ps text in
+      let same = tests ps text o.0 (all_texts trees k are) o.1 in
+      left_at_place t hash text o.0 m.0 (sizes_of_one (λ n. n ∣ m.0) trees k h t lt e m.1.common) (prefixes_of_one (λ p. begins p text ≡ begins p (prefix_text o.0)) trees k h t lt e same)

@@ -14,6 +14,8 @@ use Rattle.mc_runs.specs.Run.{Call}
 use Rattle.mc_runs.specs.Cover.{TakesIn, IsCleared}
 use Rattle.growth_laws.specs.Untouched.{PutsIn, IsUntouched, IsCoveredOrUntouched}
 use Rattle.growth_laws.proofs.UntouchedFresh.{fresh, fresh_by_number}
+use Rattle.growth_laws.proofs.UntouchedAlone as alone
+use Rattle.key_hash.specs.Tag.{key_hash}
 use Rattle.route_tree.specs.declared.place.Place.{Place}
 use Rattle.route_tree.specs.Each.{Each, IsIn}
 use Rattle.route_tree.specs.Plan.{Plan}
@@ -35,9 +37,9 @@ use Rattle.certificates.proofs.Placing.{longest_of}
 use Rattle.certificates.proofs.Validity.{in_either}
 use Rattle.fresh_gate.specs.Sound.{AreSound, AreLoaded}
 use Rattle.ledger.specs.Marks.{IsTaken, IsClear}
-use Rattle.growth_gate.specs.Grown.{IsPlaceAmong, NonePuts, AreSoundSince, OpensBy, SoundIsSoundSince, ArbitraryIsToday, SinceIsCovered, GrownGenerationsAreFresh}
+use Rattle.growth_gate.specs.Grown.{IsPlaceAmong, NonePuts, AreSoundSince, OpensBy, SoundIsSoundSince, ArbitraryIsToday, SinceIsCovered, GrownGenerationsAreFresh, GrownRunsOfTreesAreFresh}
 use Rattle.growth_gate.proofs.Multiples.{least_exists}
-use Rattle.growth_gate.proofs.Among.{sizes_of_one, prefix_of_all, sizes_some, some_text, all_sizes_some, left_at_place, key_place, key_is_among, key_tree, class_of}
+use Rattle.growth_gate.proofs.Among.{sizes_of_one, prefix_of_all, sizes_some, some_text, all_sizes_some, left_at_place, place_of, is_among, tree_there, class_of}
 
 -- ---- today's rule
 
@@ -92,7 +94,7 @@ arbitrary_is_today trees are = (covers_at trees are, sound_since (λ _. true) tr
 
 -- ---- what they give
 
-kind_of : Dialect → Deleting
+abbrev kind_of : Dialect → Deleting
 kind_of dialects.Classic = kinds.Delete
 kind_of dialects.Meta = kinds.Md
 
@@ -137,13 +139,13 @@ module _ (arbitrary : ℕ → Bool) (trees : List Route) (are : Each IsTree tree
       let i = loaded.generation n in
       let j = loaded.generation m in
       let le = loaded.rising n m lt in
-      let place = key_place trees are (suc j) key in
-      let at : (h : ℕ) (t : Route) → h ≤ j → slice_get trees h ≡ Some t → tree_at t key ≡ tree_at_place t place = λ h t small got. key_tree trees are (suc j) key h t (omega (arith, small)) got in
+      let place = place_of trees are (suc j) (key_hash key) key in
+      let at : (h : ℕ) (t : Route) → h ≤ j → slice_get trees h ≡ Some t → tree_at t key ≡ tree_at_place t place = λ h t small got. tree_there trees are (suc j) (key_hash key) key h t (omega (arith, small)) got in
       let taken : IsTaken (tree_at_place (tree m) place) server = subst (λ p. IsTaken p server) (at j (tree m) (omega arith) (loaded.loaded m)) (takes_of m ask key same calls reply from word server takes) in
       ⊎_elim
       (λ clear. inl (cleared_of n delete op server (subst (λ p. IsClear p server) (sym (at i (tree n) le (loaded.loaded n))) clear)))
       (λ other. inr (untouched_of n key server other.1 (λ h t small got puts. other.2 h t small got (subst (λ p. Puts p server) (at h t (omega (arith, small, le)) got) puts))))
-      (since i j (tree n) (tree m) le (loaded.loaded n) (loaded.loaded m) place (key_is_among trees are (suc j) key) server taken)
+      (since i j (tree n) (tree m) le (loaded.loaded n) (loaded.loaded m) place (is_among trees are (suc j) (key_hash key) key) server taken)
 
   pub is_covered : IsCoveredOrUntouched (tree_words plans) opening
   is_covered = record {
@@ -163,3 +165,7 @@ grown_are_fresh Bars arbitrary trees are since tree loaded opening opens events 
       (λ copies. fresh words Bars opening cover copies events lost fit run),
       (λ alone. fresh_by_number words Bars opening cover alone events lost fit run),
     )
+
+pub grown_runs_of_trees : GrownRunsOfTreesAreFresh
+grown_runs_of_trees arbitrary trees are since tree loaded opening opens events fit run =
+    alone.fresh (tree_words (λ n key. tree_at (tree n) key)) opening (is_covered arbitrary trees are since tree loaded opening opens) events fit run

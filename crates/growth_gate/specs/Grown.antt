@@ -1,9 +1,11 @@
 -- Generations in which a tree needn't clear a server on which no tree so far puts items. Source: mcgate's own.
-use Rattle.std.specs.Prelude.{◌≡◌, ◌↔◌, ℕ, suc, ◌<◌, ◌≤◌, Bool, true, false, List, [], ◌∷◌, ◌++◌, Option, Some, None, ◌⊎◌, slice_get, take}
+use Rattle.std.specs.Prelude.{◌≡◌, ◌↔◌, ℕ, suc, ◌%◌, ◌<◌, ◌≤◌, Bool, true, false, List, [], ◌∷◌, ◌++◌, Option, Some, None, ◌⊎◌, slice_get, take}
 use Rattle.mc_types.specs.declared.ask.Ask.{Ask}
 use Rattle.mc_types.specs.Items.{Item}
 use Rattle.mc_runs.specs.Sharing.{Event, LosesOnly, Run, CopiesBar, AreAlone, IsFresh, IsFreshByNumber}
+use Rattle.mc_runs.specs.Run as alone
 use Rattle.growth_laws.specs.Untouched.{IsCoveredOrUntouched, AnswersFit}
+use Rattle.growth_laws.specs.UntouchedAlone.{AnswersFitAlone}
 use Rattle.route_tree.specs.declared.place.Place.{Place}
 use Rattle.route_tree.specs.Each.{Each}
 use Rattle.route_tree.specs.Plan.{Plan}
@@ -60,6 +62,12 @@ ReloadIsSound =
     → AreSoundSince arbitrary (trees ++ tree ∷ [])
     ↔ (AreSoundSince arbitrary trees × ((place : Place) → IsPlaceAmong (trees ++ tree ∷ []) place → (server : ℕ) → MayFollow (arbitrary server) (plans_at place trees) (tree_at_place tree place) server))
 
+-- at any place of more trees, trees are what they are at a place of theirs, so that their marks there are known
+abbrev pub RefinedIsKnown : Type 0
+RefinedIsKnown =
+    (trees : List Route) → Each IsTree trees → (place : Place)
+    → (coarse : Place) × IsPlaceAmong trees coarse × (coarse.residue ≡ place.residue % coarse.modulus) × (plans_at place trees ≡ plans_at coarse trees)
+
 -- then each server that a later command takes is cleared by the delete, or was untouched
 abbrev pub SinceIsCovered : Type 0
 SinceIsCovered =
@@ -74,3 +82,13 @@ GrownGenerationsAreFresh Bars =
     → (tree : ℕ → Route) → AreLoaded trees tree → (opening : ℕ → List ℕ → Option Item) → OpensBy arbitrary trees opening
     → (events : List Event) → LosesOnly events → AnswersFit events → Run (tree_words (λ n key. tree_at (tree n) key)) Bars opening events
     → (CopiesBar (tree_words (λ n key. tree_at (tree n) key)) Bars → IsFresh opening events) × (AreAlone Bars → IsFreshByNumber opening events)
+
+-- every run in which a key has one command at a time, by the tree that is loaded when it begins, is fresh
+abbrev pub EveryGrownRunIsFresh : (ℕ → Bool) → List Route → Type 0
+EveryGrownRunIsFresh arbitrary trees =
+    (tree : ℕ → Route) → AreLoaded trees tree → (opening : ℕ → List ℕ → Option Item) → OpensBy arbitrary trees opening
+    → (events : List alone.Event) → AnswersFitAlone events → alone.Run (tree_words (λ n key. tree_at (tree n) key)) opening events → alone.IsFresh opening events
+
+-- so it is over sound generations
+abbrev pub GrownRunsOfTreesAreFresh : Type 0
+GrownRunsOfTreesAreFresh = (arbitrary : ℕ → Bool) (trees : List Route) → Each IsTree trees → AreSoundSince arbitrary trees → EveryGrownRunIsFresh arbitrary trees

@@ -4,7 +4,8 @@
 ghost use Rattle.std.specs.Prelude.{ℕ};
 ghost use Rattle.mc_types.specs.declared.ask.Ask.{Ask};
 ghost use Rattle.mc_runs.specs.SharingLaws.{nobody_bars};
-ghost use Rattle.growth_gate.specs.Grown.{SoundIsSoundSince, ArbitraryIsToday, ReloadIsSound, SinceIsCovered, GrownGenerationsAreFresh};
+ghost use Rattle.growth_gate.specs.Grown.{SoundIsSoundSince, ArbitraryIsToday, ReloadIsSound, RefinedIsKnown, SinceIsCovered, GrownGenerationsAreFresh, GrownRunsOfTreesAreFresh};
+ghost use Rattle.growth_gate.specs.Slots.{GrowingSlotsAreSound};
 
 use std::marker::Brand;
 
@@ -32,6 +33,11 @@ pub fn reload_is_sound()
     ensures { ReloadIsSound }
 {}
 
+/// At a place of more trees, the marks of those before are the ones at a place of theirs.
+pub fn refined_is_known()
+    ensures { RefinedIsKnown }
+{}
+
 /// Over sound generations each delete clears what later commands take, or nothing was put there before it.
 pub fn since_is_covered()
     ensures { SinceIsCovered }
@@ -40,4 +46,15 @@ pub fn since_is_covered()
 /// Every run over sound generations is fresh, whenever each of them was loaded.
 pub fn grown_generations_are_fresh<W: HasBars>()
     ensures { GrownGenerationsAreFresh W.bars }
+{}
+
+/// The same of runs in which a key has one command at a time.
+pub fn grown_runs_of_trees_are_fresh()
+    ensures { GrownRunsOfTreesAreFresh }
+{}
+
+/// A pool whose slots are given, one reload after another, to servers that began with nothing and never had these slots
+/// may grow for ever.
+pub fn growing_slots_are_sound()
+    ensures { GrowingSlotsAreSound }
 {}
