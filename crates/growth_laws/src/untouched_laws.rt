@@ -7,6 +7,7 @@ ghost use Rattle.mc_types.specs.Items.{Item};
 ghost use Rattle.mc_runs.specs.Run.{Call};
 ghost use Rattle.mc_runs.specs.Single.{server_words};
 ghost use Rattle.mc_runs.specs.SharingLaws.{nobody_bars};
+ghost use Rattle.growth_laws.specs.Emptied.{EmptiedIsFresh};
 ghost use Rattle.growth_laws.specs.UntouchedAlone.{GrownRunsAreFresh};
 ghost use Rattle.growth_laws.specs.UntouchedLaws.{NothingComesOfNothing, CoveredIsNoLess, GrownIsFresh, GrownIsFreshByNumber};
 
@@ -54,4 +55,9 @@ pub fn grown_is_fresh_by_number<W: HasOpening>()
 /// The same of runs in which a key has one command at a time.
 pub fn grown_runs_are_fresh<W: HasOpening>()
     ensures { GrownRunsAreFresh W.words W.opening }
+{}
+
+/// A server that is emptied before its first call counts as one that held nothing before the run.
+pub fn emptied_is_fresh<W: HasOpening>()
+    ensures { EmptiedIsFresh W.words W.bars W.opening }
 {}
