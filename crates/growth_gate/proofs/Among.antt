@@ -1,14 +1,12 @@
 -- The trees of a list up to one: their sizes and prefixes, and the place of a key among theirs.
-use Rattle.std.proofs.Common.{◌≡◌, ℕ, zero, suc, ◌%◌, ◌<◌, ◌≤◌, List, [], ◌∷◌, ◌++◌, length, Option, Some, None, inl, inr, refl, sym, subst, arith, slice_get, take}
+use Rattle.std.proofs.Common.{◌≡◌, ℕ, zero, suc, ◌%◌, ◌<◌, ◌≤◌, List, [], ◌∷◌, ◌++◌, length, Option, Some, None, inl, inr, subst, arith, slice_get, take}
 use Rattle.std.specs.Int.{◌∣◌}
 use Rattle.mc_types.specs.KeyText.{IsKey}
-use Rattle.key_hash.specs.Tag.{key_hash}
 use Rattle.route_tree.specs.declared.place.Place.{Place}
 use Rattle.route_tree.specs.Each.{Each, IsIn}
-use Rattle.route_tree.specs.Plan.{Plan}
 use Rattle.route_tree.specs.Route.{Route, IsTree}
-use Rattle.route_tree.specs.At.{begins, plain_for, tree_at}
-use Rattle.route_tree.specs.Place.{sizes, prefixes, IsLongest, prefix_text, IsLeastCommonMultiple, tree_at_place}
+use Rattle.route_tree.specs.At.{begins, plain_for}
+use Rattle.route_tree.specs.Place.{sizes, prefixes, IsLongest, prefix_text, tree_at_place}
 use Rattle.route_tree.proofs.Parts.{each_weaker}
 use Rattle.route_tree.proofs.Places.{each_append, each_left, each_right, alike, tests, rests, prefixes_are_keys}
 use Rattle.certificates.specs.Places.{IsClassOf, place_at}

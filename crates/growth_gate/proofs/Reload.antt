@@ -1,5 +1,5 @@
 -- One tree more is sound exactly where it may follow, at each place of all trees.
-use Rattle.std.proofs.Common.{◌≡◌, ◌↔◌, ℕ, zero, suc, ◌+◌, ◌<◌, ◌≤◌, Bool, true, false, List, [], ◌∷◌, ◌++◌, length, Option, Some, ◌⊎◌, inl, inr, ⊎_elim, refl, sym, ap, ap₂, ◌∙◌, subst, arith, slice_get, take, length-append}
+use Rattle.std.proofs.Common.{◌≡◌, ℕ, zero, suc, ◌+◌, ◌<◌, ◌≤◌, Bool, true, List, [], ◌∷◌, ◌++◌, length, Some, ◌⊎◌, inl, inr, ⊎_elim, refl, sym, ap, ap₂, subst, arith, slice_get, take, length-append}
 use Rattle.mc_runs.proofs.Lists.{get_last}
 use Rattle.mc_runs.proofs.Stamps.{get_left, get_seam}
 use Rattle.route_tree.specs.declared.place.Place.{Place}
@@ -10,7 +10,7 @@ use Rattle.route_tree.specs.Place.{prefix_text, tree_at_place}
 use Rattle.route_tree.proofs.Parts.{each_at}
 use Rattle.route_tree.proofs.Places.{each_left}
 use Rattle.puts.specs.Puts.{Puts}
-use Rattle.ledger.specs.Marks.{IsTaken, IsClear, MayHold, Leaves, NoneLeaves, MayFollow}
+use Rattle.ledger.specs.Marks.{IsTaken, IsClear, NoneLeaves, MayFollow}
 use Rattle.ledger.proofs.Marking.{get_below}
 use Rattle.ledger.proofs.Following.{not_left}
 use Rattle.fresh_gate.proofs.RowTests.{good_plain}
@@ -148,8 +148,7 @@ refined_is_known trees are place =
     let hash = place.residue in
     let text = prefix_text place.prefix in
     let coarse = place_of trees are k hash text in
-    let all : take k trees ≡ trees = take_whole trees k (let h : length trees ≤ length trees = omega arith in h) in
-    (
+    let all : take k trees ≡ trees = take_whole trees k (let h : length trees ≤ length trees = omega arith in h) in (
       coarse,
       subst (λ l. IsPlaceAmong l coarse) all (is_among trees are k hash text),
       refl,

@@ -1,34 +1,31 @@
 -- Sound generations, by today's rule and by this one, and what they give.
-use Rattle.std.proofs.Common.{◌≡◌, ◌↔◌, ℕ, zero, suc, ◌%◌, ◌<◌, ◌≤◌, Bool, true, false, List, [], ◌∷◌, ◌++◌, length, Option, Some, None, ◌⊎◌, inl, inr, ⊎_elim, refl, sym, ap, ◌∙◌, subst, arith, slice_get, take}
+use Rattle.std.proofs.Common.{◌≡◌, ℕ, suc, ◌%◌, ◌<◌, ◌≤◌, Bool, true, false, List, ◌++◌, length, Option, Some, None, ◌⊎◌, inl, inr, ⊎_elim, refl, sym, ap, ◌∙◌, subst, arith, slice_get, take}
 use Rattle.std.specs.Int.{◌∣◌}
-use Rattle.mc_types.specs.declared.ask.Op.{Op}
-use Rattle.mc_types.specs.declared.ask.Op.TheVariants.{Get, Delete}
+use Rattle.mc_types.specs.declared.ask.Op.TheVariants.{Delete}
 use Rattle.mc_types.specs.declared.ask.Dialect.{Dialect}
 use Rattle.mc_types.specs.declared.ask.Dialect.TheVariants as dialects
 use Rattle.mc_types.specs.declared.ask.Ask.{Ask}
 use Rattle.mc_types.specs.declared.answer.Answer.{Answer}
 use Rattle.mc_types.specs.declared.call.Origin.TheVariants.{Client}
-use Rattle.mc_types.specs.Acknowledged.{Acknowledges}
 use Rattle.mc_types.specs.Items.{Item}
 use Rattle.mc_runs.specs.Run.{Call}
 use Rattle.mc_runs.specs.Cover.{TakesIn, IsCleared}
-use Rattle.growth_laws.specs.Untouched.{PutsIn, IsUntouched, IsCoveredOrUntouched}
+use Rattle.growth_laws.specs.Untouched.{IsUntouched, IsCoveredOrUntouched}
 use Rattle.growth_laws.proofs.UntouchedFresh.{fresh, fresh_by_number}
 use Rattle.growth_laws.proofs.UntouchedAlone as alone
 use Rattle.key_hash.specs.Tag.{key_hash}
-use Rattle.route_tree.specs.declared.place.Place.{Place}
-use Rattle.route_tree.specs.Each.{Each, IsIn}
+use Rattle.route_tree.specs.Each.{Each}
 use Rattle.route_tree.specs.Plan.{Plan}
 use Rattle.route_tree.specs.Route.{Route, IsTree}
 use Rattle.route_tree.specs.At.{begins, plain_for, tree_at}
-use Rattle.route_tree.specs.Place.{sizes, prefixes, prefix_text, IsLeastCommonMultiple, tree_at_place}
+use Rattle.route_tree.specs.Place.{sizes, prefixes, prefix_text, tree_at_place}
 use Rattle.route_tree.specs.Word.{Given, Word, tree_words}
 use Rattle.route_tree.proofs.Parts.{each_at}
 use Rattle.route_tree.proofs.Words.{IsOwn, own_calls}
 use Rattle.route_tree.proofs.Places.{each_append, each_left, each_right, tests}
 use Rattle.coverage.specs.declared.deleting.Deleting.{Deleting}
 use Rattle.coverage.specs.declared.deleting.Deleting.TheVariants as kinds
-use Rattle.coverage.specs.Cover.{IsTaking, Takes, Clears, Covers, dialect_of}
+use Rattle.coverage.specs.Cover.{IsTaking, Covers, dialect_of}
 use Rattle.coverage.proofs.Covering.{from_takes, copy_is_get, taking_get}
 use Rattle.puts.specs.Puts.{Puts}
 use Rattle.certificates.specs.Places.{IsClassOf, place_at, CoversAt}
@@ -37,7 +34,7 @@ use Rattle.certificates.proofs.Placing.{longest_of}
 use Rattle.certificates.proofs.Validity.{in_either}
 use Rattle.fresh_gate.specs.Sound.{AreSound, AreLoaded}
 use Rattle.ledger.specs.Marks.{IsTaken, IsClear}
-use Rattle.growth_gate.specs.Grown.{IsPlaceAmong, NonePuts, AreSoundSince, OpensBy, SoundIsSoundSince, ArbitraryIsToday, SinceIsCovered, GrownGenerationsAreFresh, GrownRunsOfTreesAreFresh}
+use Rattle.growth_gate.specs.Grown.{IsPlaceAmong, AreSoundSince, OpensBy, SoundIsSoundSince, ArbitraryIsToday, SinceIsCovered, GrownGenerationsAreFresh, GrownRunsOfTreesAreFresh}
 use Rattle.growth_gate.proofs.Multiples.{least_exists}
 use Rattle.growth_gate.proofs.Among.{sizes_of_one, prefix_of_all, sizes_some, some_text, all_sizes_some, left_at_place, place_of, is_among, tree_there, class_of}
 
@@ -160,8 +157,7 @@ since_is_covered arbitrary trees are since tree loaded opening opens = is_covere
 pub grown_are_fresh : (Bars : ℕ → Ask → ℕ → Ask → Type 0) → GrownGenerationsAreFresh Bars
 grown_are_fresh Bars arbitrary trees are since tree loaded opening opens events lost fit run =
     let words = tree_words (λ n key. tree_at (tree n) key) in
-    let cover = is_covered arbitrary trees are since tree loaded opening opens in
-    (
+    let cover = is_covered arbitrary trees are since tree loaded opening opens in (
       (λ copies. fresh words Bars opening cover copies events lost fit run),
       (λ alone. fresh_by_number words Bars opening cover alone events lost fit run),
     )

@@ -1,10 +1,8 @@
 -- Where slots only go to servers that never had them, generations are sound.
-use Rattle.std.proofs.Common.{◌≡◌, ℕ, zero, suc, ◌%◌, ◌<◌, ◌≤◌, Bool, true, false, not, ◌&&◌, ◌||◌, List, [], ◌∷◌, length, Option, Some, ◌⊎◌, inl, inr, ⊎_elim, refl, sym, ap, ◌∙◌, subst, arith, nat_eq, slice_get, slice_index}
+use Rattle.std.proofs.Common.{◌≡◌, ℕ, zero, suc, ◌%◌, ◌<◌, ◌≤◌, Bool, true, false, not, ◌&&◌, ◌||◌, List, [], ◌∷◌, Some, ◌⊎◌, inl, inr, ⊎_elim, refl, sym, ap, ◌∙◌, subst, arith, nat_eq, slice_get, slice_index}
 use Rattle.std.proofs.lemmas.Bool.{eqb-true, eq-eqb, cases_lt}
-use Rattle.mc_types.specs.declared.ask.Op.{Op}
-use Rattle.mc_types.specs.declared.ask.Op.TheVariants.{Get, Set, Add}
 use Rattle.route_tree.specs.declared.place.Place.{Place}
-use Rattle.route_tree.specs.Plan.{Plan, Server}
+use Rattle.route_tree.specs.Plan.{Server}
 use Rattle.route_tree.specs.Route.{Route, Pool}
 use Rattle.route_tree.specs.Place.{tree_at_place}
 use Rattle.coverage.specs.Computed.{is_get, is_taking}

@@ -1,6 +1,6 @@
 -- What a server held before it was emptied doesn't matter to commands that ask it later.
-use Rattle.std.proofs.Common.{◌≡◌, ℕ, Bool, true, false, cond, List, [], ◌∷◌, ◌++◌, length, Option, Some, None, ◌⊎◌, inl, inr, ⊎_elim, refl, sym, ap, ap₂, ◌∙◌, subst, nat_eq}
-use Rattle.std.proofs.lemmas.Bool.{eqb-true, eq-eqb}
+use Rattle.std.proofs.Common.{◌≡◌, ℕ, Bool, true, false, cond, List, [], ◌∷◌, length, Option, None, ◌⊎◌, inl, inr, ⊎_elim, refl, sym, ap₂, ◌∙◌, subst, nat_eq}
+use Rattle.std.proofs.lemmas.Bool.{eq-eqb}
 use Rattle.mc_types.specs.declared.ask.Ask.{Ask}
 use Rattle.mc_types.specs.declared.answer.Answer.{Answer}
 use Rattle.mc_types.specs.declared.call.Origin.{Origin}
@@ -8,7 +8,7 @@ use Rattle.mc_types.specs.declared.call.Origin.TheVariants.{Client, CopyOf}
 use Rattle.mc_types.specs.Items.{Item}
 use Rattle.mc_types.specs.Agree.{Agrees}
 use Rattle.mc_runs.specs.Run.{Call, End, Read, Unread, Never}
-use Rattle.mc_runs.specs.Sharing.{Event, Begins, Calls, Replies, Breaks, Turns, Restarts, held, item_at, calls_so_far, GivesStamp, EndsWell, MayCome, Run, ShownBy, IsShown, IsFresh, IsFreshByNumber}
+use Rattle.mc_runs.specs.Sharing.{Event, Begins, Calls, Replies, Breaks, Turns, Restarts, held, item_at, calls_so_far, GivesStamp, EndsWell, Run, IsShown}
 use Rattle.mc_runs.proofs.SharingHeld.{held_after, event_same}
 use Rattle.growth_laws.specs.Emptied.{WasEmptied, AreEmptiedFirst, emptied_opening, EmptiedIsFresh}
 use Rattle.growth_laws.proofs.UntouchedFresh.{fresh, fresh_by_number}
@@ -94,8 +94,7 @@ module _ (emptied : ℕ → Bool) (opening : ℕ → List ℕ → Option Item) w
 
 pub emptied_is_fresh : (words : ℕ → Ask → List Call → Answer → Option ℕ → Type 0) (Bars : ℕ → Ask → ℕ → Ask → Type 0) (opening : ℕ → List ℕ → Option Item) → EmptiedIsFresh words Bars opening
 emptied_is_fresh words Bars opening emptied cover events first lost fit run =
-    let run' = run_same emptied opening words Bars events first run in
-    (
+    let run' = run_same emptied opening words Bars events first run in (
       (λ copies n m delete item ack shown. fresh words Bars (emptied_opening emptied opening) cover copies events lost fit run' n m delete item ack (shown_same emptied opening events first m delete.key item shown)),
       (λ alone n m delete item lt ack shown. fresh_by_number words Bars (emptied_opening emptied opening) cover alone events lost fit run' n m delete item lt ack (shown_same emptied opening events first m delete.key item shown)),
     )

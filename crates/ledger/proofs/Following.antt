@@ -1,5 +1,5 @@
 -- One tree more is sound exactly where it may follow.
-use Rattle.std.proofs.Common.{◌≡◌, ◌↔◌, ℕ, suc, ◌<◌, ◌≤◌, Bool, true, false, List, [], ◌∷◌, ◌++◌, length, Option, Some, ◌⊎◌, inl, inr, ⊎_elim, refl, sym, subst, arith, slice_get}
+use Rattle.std.proofs.Common.{◌≡◌, ℕ, ◌<◌, ◌≤◌, Bool, true, false, List, [], ◌∷◌, ◌++◌, length, Some, ◌⊎◌, inl, inr, ⊎_elim, sym, subst, arith, slice_get}
 use Rattle.mc_runs.proofs.Lists.{get_last}
 use Rattle.mc_runs.proofs.Stamps.{get_left, get_seam}
 use Rattle.route_tree.specs.Each.{Each}
@@ -10,7 +10,7 @@ use Rattle.coverage.specs.Computed.{cleared}
 use Rattle.coverage.proofs.Choices.{bool_is}
 use Rattle.coverage.proofs.Keeping.{cleared_is_exact}
 use Rattle.puts.specs.Puts.{Puts}
-use Rattle.ledger.specs.Marks.{IsTaken, IsClear, IsSoundAt, MayHold, Leaves, NoneLeaves, MayFollow, NoneIsSound, FollowingIsSound}
+use Rattle.ledger.specs.Marks.{IsTaken, IsClear, IsSoundAt, NoneLeaves, MayFollow, NoneIsSound, FollowingIsSound}
 use Rattle.ledger.proofs.Marking.{get_below}
 
 pub none_is_sound : NoneIsSound

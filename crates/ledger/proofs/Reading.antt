@@ -1,9 +1,8 @@
 -- Whether a server is taken by some operation.
-use Rattle.std.proofs.Common.{◌≡◌, ◌↔◌, ℕ, Bool, true, false, IsTrue}
-use Rattle.mc_types.specs.declared.ask.Op.{Op}
+use Rattle.std.proofs.Common.{◌≡◌, ◌↔◌, ℕ, Bool, false, IsTrue}
 use Rattle.mc_types.specs.declared.ask.Op.TheVariants.{Get, Gat, Set, Add, Replace, Append, Prepend, Cas, Delete, Incr, Decr, Touch}
 use Rattle.route_tree.specs.Plan.{Plan}
-use Rattle.coverage.specs.Cover.{IsTaking, Takes}
+use Rattle.coverage.specs.Cover.{Takes}
 use Rattle.ledger.specs.Marks.{IsTaken}
 
 pub not_so : (b : Bool) (A : Type 0) → IsTrue b ↔ A → b ≡ false → A → ⊥

@@ -1,5 +1,5 @@
 -- What trees may have left on a server at a place, and when another may follow them. Source: mcgate's own.
-use Rattle.std.specs.Prelude.{◌≡◌, ◌↔◌, ℕ, suc, ◌<◌, ◌≤◌, Bool, true, false, List, [], ◌∷◌, ◌++◌, length, Option, Some, MatchOption, IsTrue, ◌⊎◌, slice_get}
+use Rattle.std.specs.Prelude.{◌≡◌, ◌↔◌, ℕ, suc, ◌<◌, ◌≤◌, Bool, true, false, List, [], ◌∷◌, ◌++◌, length, Some, MatchOption, IsTrue, ◌⊎◌, slice_get}
 use Rattle.mc_types.specs.declared.ask.Op.{Op}
 use Rattle.route_tree.specs.Each.{Each}
 use Rattle.route_tree.specs.Plan.{Plan, IsGood}

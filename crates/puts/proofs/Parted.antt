@@ -1,9 +1,7 @@
 -- Calls that put an item on a server, in parts of a list of calls.
-use Rattle.std.proofs.Common.{◌≡◌, ℕ, ◌+◌, List, [], ◌∷◌, ◌++◌, length, Some, ◌⊎◌, inl, inr, ⊎_elim, refl, slice_get}
-use Rattle.mc_types.specs.declared.ask.Op.{Op}
-use Rattle.mc_types.specs.declared.ask.Op.TheVariants.{Get, Gat, Set, Add, Replace, Append, Prepend, Cas, Delete, Incr, Decr, Touch}
+use Rattle.std.proofs.Common.{ℕ, ◌+◌, List, [], ◌++◌, length, ◌⊎◌, inl, inr, ⊎_elim}
 use Rattle.mc_runs.specs.Run.{Call}
-use Rattle.growth_laws.specs.Untouched.{IsPutting, PutsIn}
+use Rattle.growth_laws.specs.Untouched.{PutsIn}
 use Rattle.route_tree.proofs.Showing.{get_front, get_back}
 use Rattle.coverage.proofs.Choices.{get_either}
 

@@ -1,5 +1,5 @@
 -- A word that puts an item on a server on which one is computed to be put.
-use Rattle.std.proofs.Common.{◌≡◌, ◌≢◌, ℕ, ◌+◌, ◌≤◌, pos, Bool, true, false, cond, not, ◌&&◌, ◌||◌, List, [], ◌∷◌, ◌++◌, length, Option, Some, None, ◌⊎◌, inl, inr, ⊎_elim, refl, sym, ap, ◌∙◌, subst, arith, nat_eq, slice_get, append_assoc, append-nil}
+use Rattle.std.proofs.Common.{◌≡◌, ◌≢◌, ℕ, ◌+◌, ◌≤◌, pos, true, false, not, ◌&&◌, ◌||◌, List, [], ◌∷◌, ◌++◌, length, Some, None, ◌⊎◌, inr, ⊎_elim, refl, sym, ap, ◌∙◌, subst, arith, nat_eq, append_assoc}
 use Rattle.std.proofs.lemmas.Bool.{eqb-true}
 use Rattle.std.proofs.lemmas.Int.{ints}
 use Rattle.mc_types.specs.declared.ask.Op.{Op}
@@ -14,13 +14,13 @@ use Rattle.mc_types.specs.Asks.{IsAsk}
 use Rattle.mc_runs.specs.Run.{Call}
 use Rattle.growth_laws.specs.Untouched.{IsPutting, PutsIn}
 use Rattle.route_tree.specs.Operation.{same_op}
-use Rattle.route_tree.specs.Plan.{Plan, Plans, PlanPolicies, Server, Null, Failing, AllSync, Failover, MissFailover, WarmUp, ByOperation, End, More, Otherwise, Policy, IsNotEmpty, IsGood, AreGood, ArePoliciesGood}
-use Rattle.route_tree.specs.Word.{Given, rank, given_by, plain_get, refill, is_plain_get, Word, WordOfAll, WordOfFirst, WordOfHead, WordOfPolicy, Then, AfterRefill, Refilled, AfterWarm, AfterCold, WarmUpWord}
+use Rattle.route_tree.specs.Plan.{Plan, Plans, PlanPolicies, Server, Null, Failing, AllSync, Failover, MissFailover, WarmUp, ByOperation, End, More, Otherwise, Policy, IsGood, AreGood, ArePoliciesGood}
+use Rattle.route_tree.specs.Word.{Given, rank, given_by, plain_get, refill, Word, WordOfAll, WordOfFirst, WordOfHead, WordOfPolicy, Then, AfterRefill, Refilled, AfterWarm, AfterCold, WarmUpWord}
 use Rattle.route_tree.proofs.Parts.{Replies, HasSome, Rest, then_rest}
 use Rattle.route_tree.proofs.Gets.{NamesHit, get_names_hit}
 use Rattle.route_tree.proofs.Going.{first_rest, has_word, all_some, first_some, after_refill_some, after_warm_some, after_cold_some}
 use Rattle.coverage.specs.Computed.{is_get, fails, hits}
-use Rattle.coverage.proofs.Choices.{both_split, either_split, bool_is, cond_true, cond_false, match_true, match_false, by_get, get_is, other_is, is_get_of, get_of, no_get_of, one_less, not_false}
+use Rattle.coverage.proofs.Choices.{both_split, either_split, bool_is, cond_true, cond_false, match_true, match_false, get_is, other_is, get_of, no_get_of, one_less}
 use Rattle.coverage.proofs.Low.{low, first_given}
 use Rattle.coverage.proofs.Copying.{refill_adds}
 use Rattle.coverage.proofs.Finding.{some_shown, shown_word, plain_get_readable}

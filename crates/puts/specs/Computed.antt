@@ -1,5 +1,5 @@
 -- On which servers an operation stores, computed part by part: each call may be answered anything that fits, so parts combine freely.
-use Rattle.std.specs.Prelude.{ℕ, Bool, true, false, ◌&&◌, ◌||◌, not, nat_eq, if◌then◌else◌}
+use Rattle.std.specs.Prelude.{ℕ, Bool, false, ◌&&◌, ◌||◌, not, nat_eq, if◌then◌else◌}
 use Rattle.mc_types.specs.declared.ask.Op.{Op}
 use Rattle.mc_types.specs.declared.ask.Op.TheVariants.{Get, Set, Add}
 use Rattle.route_tree.specs.Operation.{same_op}

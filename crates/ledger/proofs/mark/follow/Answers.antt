@@ -1,7 +1,5 @@
-use Rattle.std.proofs.Common.{◌≡◌, ◌++◌, ◌∷◌, [], List, ℕ, Some, None, sym, ap, ◌∙◌, subst}
-use Rattle.route_tree.specs.Plan.{Plan}
+use Rattle.std.proofs.Common.{◌++◌, ◌∷◌, [], sym, ap, ◌∙◌, subst}
 use Rattle.coverage.specs.Seen.{plan_of}
-use Rattle.ledger.specs.declared.mark.Mark.{Mark}
 use Rattle.ledger.specs.Marks.{IsMarkOf}
 use Rattle.ledger.specs.Computed.{refusal, mark_after}
 use Rattle.ledger.proofs.Marking.{marks, may_follow, refused}

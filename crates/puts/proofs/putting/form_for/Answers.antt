@@ -1,4 +1,4 @@
-use Rattle.std.proofs.Common.{◌≡◌, ◌≤◌, ap, ◌∙◌, sym, subst}
+use Rattle.std.proofs.Common.{◌≤◌, ap, ◌∙◌, sym, subst}
 use Rattle.route_tree.specs.Plan.{Plan}
 use Rattle.route_tree.specs.PlanCode.{plan_size}
 use Rattle.coverage.specs.Seen.{plan_of}
