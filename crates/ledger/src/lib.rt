@@ -3,5 +3,6 @@
 
 pub mod laws;
 pub mod mark;
+pub mod row;
 
 pub use mark::Mark;
