@@ -2,7 +2,9 @@
 use Rattle.std.proofs.Common.{◌≡◌, ◌↔◌, ℕ, zero, suc, ◌+◌, ◌<◌, ◌≤◌, Bool, true, false, cond, not, ◌&&◌, ◌||◌, List, [], ◌∷◌, ◌++◌, length, Option, Some, None, MatchOption, ◌⊎◌, inl, inr, ⊎_elim, refl, sym, ap, ◌∙◌, subst, arith, slice_get, length-append, IsTrue}
 use Rattle.mc_runs.proofs.Lists.{get_last}
 use Rattle.mc_runs.proofs.Stamps.{get_left, get_seam}
+use Rattle.route_tree.specs.Each.{Each}
 use Rattle.route_tree.specs.Plan.{Plan}
+use Rattle.route_tree.proofs.Parts.{each_at}
 use Rattle.coverage.proofs.Choices.{both, both_split, either_left, either_right, either_split, bool_is}
 use Rattle.puts.specs.Puts.{Puts}
 use Rattle.ledger.specs.declared.mark.Mark.{Mark}
@@ -138,3 +140,8 @@ module _ (arbitrary : Bool) (plans : List Plan) (later : Plan) (s : ℕ) where
           (λ t. (is_taken.0 t, left_by left g of (sym (ap (λ b. cond b (first_left left (length plans) (not clear)) None) t) ∙ e)))
           (λ t. absurd (let f : cond taken (first_left left (length plans) (not clear)) None ≡ None = ap (λ b. cond b (first_left left (length plans) (not clear)) None) t in cc))
           (bool_is taken)
+
+-- nothing is held of a server that isn't arbitrary where no tree puts items on it
+pub none_held : (plans : List Plan) (s n : ℕ) → Each (λ p. Puts p s → ⊥) plans → MayHold false plans n s → ⊥
+none_held plans s n none (inl any) = cc
+none_held plans s n none (inr h) = each_at (λ p. Puts p s → ⊥) plans h.0 h.1 none h.3 h.4

@@ -7,8 +7,8 @@ use Rattle.route_tree.proofs.Parts.{each_weaker}
 use Rattle.route_tree.proofs.Places.{each_append}
 use Rattle.ledger.specs.declared.row.Cell.{Cell}
 use Rattle.ledger.specs.declared.row.Refused.{Refused}
-use Rattle.ledger.specs.Marks.{NoneLeaves, IsFirstLeft, MayFollow, IsRefusedFor}
-use Rattle.ledger.specs.Rows.{IsRefusedAt, IsNotAfter, IsFirstRefused, IfRefused, lesser_of, lesser}
+use Rattle.ledger.specs.Marks.{IsFirstLeft, MayFollow, IsRefusedFor}
+use Rattle.ledger.specs.Rows.{IsRefusedAt, IsNotAfter, IfRefused, lesser_of, lesser}
 
 not_less : (n m : ℕ) → nat_lt n m ≡ false → m ≤ n
 not_less n m e = ⊎_elim (λ (lt : n < m). absurd (let h : ⊥ = grind arith in h)) (λ le. le) (cases_lt n m)
@@ -107,14 +107,14 @@ module _ (arbitrary : ℕ → Bool) (plans : List Plan) (later : Plan) where
   more_refused cells cell None (Some r) h at = record {
     refused = here_refuses cell r at.0 at.1;
     first = each_append (Stands r) cells (cell ∷ [])
-    (each_weaker May (Stands r) cells (λ c may g other. absurd (not_refused (arbitrary c.server) plans later c.server g may other)) h)
-    (itself cell r at.0 at.1, tt);
+        (each_weaker May (Stands r) cells (λ c may g other. absurd (not_refused (arbitrary c.server) plans later c.server g may other)) h)
+        (itself cell r at.0 at.1, tt);
   }
   more_refused cells cell (Some b) (Some r) h at = record {
     refused = lesser_is Refuses b r h.refused (here_refuses cell r at.0 at.1);
     first = each_append (Stands (lesser_of b r)) cells (cell ∷ [])
-    (each_weaker (Stands b) (Stands (lesser_of b r)) cells (λ c stands g other. lesser_stands b r c.server g (inl (stands g other))) h.first)
-    ((λ g other. lesser_stands b r cell.server g (inr (itself cell r at.0 at.1 g other))), tt);
+        (each_weaker (Stands b) (Stands (lesser_of b r)) cells (λ c stands g other. lesser_stands b r c.server g (inl (stands g other))) h.first)
+        ((λ g other. lesser_stands b r cell.server g (inr (itself cell r at.0 at.1 g other))), tt);
   }
 
 -- what each item has, one that is read has

@@ -1,8 +1,10 @@
 //! The marks of a server at a place, and when a tree may follow.
 
-ghost use Rattle.std.specs.Prelude.{◌≡◌, ◌↔◌, ℕ, List, [], ◌∷◌, ◌++◌, Bool, length, IsTrue, MatchResult};
+ghost use Rattle.std.specs.Prelude.{◌≡◌, ◌↔◌, ℕ, List, [], ◌∷◌, ◌++◌, Bool, false, length, IsTrue, MatchResult};
+ghost use Rattle.route_tree.specs.Each.{Each};
 ghost use Rattle.route_tree.specs.Plan.{Plan};
 ghost use Rattle.coverage.specs.Seen.{plan_of};
+ghost use Rattle.puts.specs.Puts.{Puts};
 ghost use Rattle.ledger.specs.Marks.{IsTaken, IsClear, IsMarkOf, MayFollow, IsRefusedFor};
 ghost use Rattle.ledger.specs.Computed.{first_left, refusal, mark_after};
 
@@ -28,6 +30,23 @@ pub fn new_mark(arbitrary: bool) -> Mark
         held: arbitrary,
         left: None,
     }
+}
+
+/// That of a server that isn't arbitrary and on which no tree so far puts items, as of one that a later tree brings.
+pub fn untouched_mark() -> Mark
+    ensures { (plans : List Plan) (server : ℕ) → Each (λ plan. Puts plan server → ⊥) plans → IsMarkOf false plans server result }
+{
+    Mark {
+        held: false,
+        left: None,
+    }
+}
+
+/// After one more tree, of this number, whether or not it may follow. It takes no memory.
+pub fn after(mark: Mark, number: u32, seen: Seen, server: ServerId) -> Mark
+    ensures { (arbitrary : Bool) (plans : List Plan) → length plans ≡ number → IsMarkOf arbitrary plans server mark → IsMarkOf arbitrary (plans ++ plan_of seen.entry ∷ []) server result }
+{
+    mark_after(mark, number, is_clear(seen, server), puts(seen, server))
 }
 
 /// After one more tree, of this number: or the first one whose deletes may leave what it takes, itself the last. It takes

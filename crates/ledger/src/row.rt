@@ -1,14 +1,15 @@
 //! The marks of several servers at a place, and one pass over them for one more tree.
 
-ghost use Rattle.std.specs.Prelude.{◌≡◌, ℕ, List, Bool, length};
+ghost use Rattle.std.specs.Prelude.{◌≡◌, ℕ, List, [], ◌∷◌, ◌++◌, Bool, length, IfOk};
 ghost use Rattle.route_tree.specs.Plan.{Plan};
 ghost use Rattle.coverage.specs.Seen.{plan_of};
 ghost use Rattle.ledger.specs.Marks.{IsMarkOf};
 ghost use Rattle.ledger.specs.Rows.{AreCellsOf, IfRefused, IsRefusedAt, lesser, lesser_of};
 
-use crate::mark::{Mark, follow};
+use crate::mark::{Mark, after, follow};
 use coverage::Seen;
 use mc_types::ServerId;
+use std::alloc::{AllocError, Global};
 
 /// The marks of a server.
 #[derive(Clone, Copy)]
@@ -35,6 +36,32 @@ pub fn first_refused(cells: &[Cell], number: u32, seen: Seen) -> Option<Refused>
         best = lesser(best, here);
     }
     best
+}
+
+/// The marks after the tree of this number. The only error is that memory was refused.
+pub fn cells_after(
+    alloc: Global,
+    cells: &[Cell],
+    number: u32,
+    seen: Seen,
+) -> Result<Vec<Cell>, AllocError>
+    ensures { IfOk result (λ new. (arbitrary : ℕ → Bool) (plans : List Plan) → length plans ≡ number → AreCellsOf arbitrary plans cells.now → AreCellsOf arbitrary (plans ++ plan_of seen.entry ∷ []) new.items) }
+{
+    let mut new = Vec::new(alloc);
+    for cell in cells {
+        new.push(cell_after(*cell, number, seen))?;
+    }
+    Ok(new)
+}
+
+// Of one server.
+fn cell_after(cell: Cell, number: u32, seen: Seen) -> Cell
+    ensures { (arbitrary : ℕ → Bool) (plans : List Plan) → length plans ≡ number → IsMarkOf (arbitrary cell.server) plans cell.server cell.mark → IsMarkOf (arbitrary result.server) (plans ++ plan_of seen.entry ∷ []) result.server result.mark }
+{
+    Cell {
+        server: cell.server,
+        mark: after(cell.mark, number, seen, cell.server),
+    }
 }
 
 // At one server.

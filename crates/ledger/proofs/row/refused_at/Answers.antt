@@ -1,4 +1,4 @@
-use Rattle.std.proofs.Common.{◌≡◌, ℕ, [], ◌∷◌, ◌++◌, Result, MatchResult, subst}
+use Rattle.std.proofs.Common.{ℕ, [], ◌∷◌, ◌++◌, Result, MatchResult, subst}
 use Rattle.coverage.specs.Seen.{plan_of}
 use Rattle.ledger.specs.declared.mark.Mark.{Mark}
 use Rattle.ledger.specs.Marks.{MayFollow, IsMarkOf, IsRefusedFor}
