@@ -1,0 +1,4 @@
+pub mod Nothing
+pub mod UntouchedFresh
+pub mod UntouchedAlone
+pub mod Emptied

@@ -1,0 +1,4 @@
+pub mod Untouched
+pub mod UntouchedLaws
+pub mod UntouchedAlone
+pub mod Emptied

@@ -1,0 +1,4 @@
+pub mod Marking
+pub mod Following
+pub mod Reading
+pub mod Rowing

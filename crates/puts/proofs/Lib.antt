@@ -1,0 +1,4 @@
+pub mod Parted
+pub mod Stored
+pub mod Storing
+pub mod Left
