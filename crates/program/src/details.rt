@@ -4,9 +4,7 @@ use crate::arguments::{ArgumentsFault, Task};
 use crate::input::InputFailure;
 use crate::refusal_details::{Origin, lines_of_refusal};
 use config_check::Form;
-use input_faults::{
-    lines_of_bad_line, lines_of_configuration, lines_of_script, lines_of_warnings,
-};
+use input_faults::{lines_of_bad_line, lines_of_configuration, lines_of_script, lines_of_warnings};
 use line_faults::BadLine;
 use script_text::front::front_of;
 use std::alloc::{AllocError, Global};
