@@ -2,7 +2,9 @@
 #![tactic(auto)]
 
 pub mod conn;
+pub mod sending;
 pub mod turned_away;
 
 pub use conn::{Conn, Got, Limits, Sent};
+pub use sending::send;
 pub use turned_away::turn_away;
