@@ -2,13 +2,13 @@
 
 use coverage::Deleting;
 use fresh_gate::Gap;
+use gate_words::quoting::Quoted;
 use gate_words::{Listed, Step, read_pools};
 use mc_types::{Key, Op, ServerId};
 use route_json::{Config, read_config};
 use route_tree::Place;
 use std::alloc::Global;
 use std::test::Fail;
-use tree_picture::quoting::Quoted;
 use tree_picture::{write_gap_picture, write_picture};
 
 fn config(alloc: Global, text: &str) -> Result<Config, Fail> {
