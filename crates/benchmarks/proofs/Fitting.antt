@@ -5,10 +5,10 @@ use Rattle.mc_types.specs.declared.ask.Ask.{Ask}
 use Rattle.mc_types.specs.declared.answer.Answer.{Answer}
 use Rattle.mc_types.specs.declared.call.Outcome.TheVariants.{Answered}
 use Rattle.route_job.specs.Rest.{ask_under}
-use Rattle.commands_under_way.specs.declared.command.Command.{Command}
-use Rattle.proxy_core.specs.declared.proxy.Core.{Core}
-use Rattle.proxy_core.specs.CoreState.{has_call_out}
-use Rattle.proxy_core.specs.Settles.{FitsCall, asked, asked_by}
+use Rattle.core_commands.specs.declared.command.Command.{Command}
+use Rattle.core_proxy.specs.declared.proxy.Core.{Core}
+use Rattle.core_proxy.specs.CoreState.{has_call_out}
+use Rattle.core_proxy.specs.Settles.{FitsCall, asked, asked_by}
 
 same_ask : {x y : Ask} → ◌≡◌ {A = Option Ask} (Some x) (Some y) → x ≡ y
 same_ask e = cc

@@ -26,7 +26,7 @@ enum Bench {
 
 /// What the command line asks for.
 #[derive(Clone, Copy)]
-enum Job {
+enum BenchmarkJob {
     /// The counts of all.
     Count,
     /// The measures of one.
@@ -35,15 +35,15 @@ enum Job {
 
 /// Why the program ends with a line on standard error.
 #[derive(Clone, Copy)]
-enum Stop {
+enum BenchmarkStop {
     Usage,
     /// Memory was refused, or a device failed.
     Failed,
 }
 
-impl From<io::Error> for Stop {
-    fn from(_error: io::Error) -> Stop {
-        Stop::Failed
+impl From<io::Error> for BenchmarkStop {
+    fn from(_error: io::Error) -> BenchmarkStop {
+        BenchmarkStop::Failed
     }
 }
 
@@ -58,10 +58,10 @@ fn bench_of(name: &str) -> Option<Bench> {
 }
 
 /// What these arguments ask for, the program's name first.
-fn job_of(words: &[String]) -> Option<Job> {
+fn job_of(words: &[String]) -> Option<BenchmarkJob> {
     match words {
-        [] | [_] => Some(Job::Count),
-        [_, word, name] if word.as_str() == "measure" => Some(Job::Measure(bench_of(
+        [] | [_] => Some(BenchmarkJob::Count),
+        [_, word, name] if word.as_str() == "measure" => Some(BenchmarkJob::Measure(bench_of(
             name.as_str(),
         )?)),
         _ => None,
@@ -84,14 +84,14 @@ fn print_measures<R: AllocGlobal + Print + CpuClock>(rt: &R, bench: Bench) -> io
     }
 }
 
-fn run<R: AllocGlobal + Env + Print + CpuClock>(rt: &R) -> Result<(), Stop> {
+fn run<R: AllocGlobal + Env + Print + CpuClock>(rt: &R) -> Result<(), BenchmarkStop> {
     let Ok(words) = std::env::args(rt)?.collect::<Vec<String>>(rt.alloc()) else {
-        return Err(Stop::Failed);
+        return Err(BenchmarkStop::Failed);
     };
     match job_of(words.as_slice()) {
-        Some(Job::Count) => print_counts(rt)?,
-        Some(Job::Measure(bench)) => print_measures(rt, bench)?,
-        None => return Err(Stop::Usage),
+        Some(BenchmarkJob::Count) => print_counts(rt)?,
+        Some(BenchmarkJob::Measure(bench)) => print_measures(rt, bench)?,
+        None => return Err(BenchmarkStop::Usage),
     }
     Ok(())
 }
@@ -99,8 +99,8 @@ fn run<R: AllocGlobal + Env + Print + CpuClock>(rt: &R) -> Result<(), Stop> {
 fn main(rt: HostRuntime) -> ExitCode {
     let (status, line) = match run(&rt) {
         Ok(()) => return ExitCode::SUCCESS,
-        Err(Stop::Usage) => (2, "usage: benchmarks [measure codec|jobs|gate|core]"),
-        Err(Stop::Failed) => (3, "benchmarks: memory refused, or a device failed"),
+        Err(BenchmarkStop::Usage) => (2, "usage: benchmarks [measure codec|jobs|gate|core]"),
+        Err(BenchmarkStop::Failed) => (3, "benchmarks: memory refused, or a device failed"),
     };
     let _ = rt.eprintln(line);
     ExitCode::from(status)

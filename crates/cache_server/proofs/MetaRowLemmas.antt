@@ -3,8 +3,8 @@ use Rattle.std.proofs.lemmas.Int.{ints}
 use Rattle.std.proofs.Common.{◌≡◌, ℕ, ◌+◌, ◌-◌, ◌<◌, ◌≤◌, ◌^◌, Bool, true, false, cond, ◌&&◌, List, [], ◌∷◌, ◌++◌, length, Option, Some, None, is_some, IsSome, IfSome, refl, sym, ap, subst, ◌∙◌, arith, ltb, append-nil}
 use Rattle.std.specs.Bool.{then_some}
 use Rattle.std.specs.Fmt.{decimal}
-use Rattle.mc_text.specs.Number.{number_below}
-use Rattle.mc_text.proofs.NumberLemmas.{number_below-decimal}
+use Rattle.text_words.specs.Number.{number_below}
+use Rattle.text_words.proofs.NumberLemmas.{number_below-decimal}
 use Rattle.mc_types.specs.Asks.{data_limit, HasShapeOf, meta_shape, of_store}
 use Rattle.mc_types.specs.Tokens.{LetterC, LetterF, LetterS, LetterT, LetterV, wants, are_served}
 use Rattle.mc_types.specs.declared.error_text.OwnText.TheVariants as texts

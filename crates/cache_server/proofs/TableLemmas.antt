@@ -6,8 +6,8 @@ use Rattle.std.specs.Map.{lookup}
 use Rattle.std.proofs.lemmas.Bool.{cond_both, ltb-true, ltb-false}
 use Rattle.std.proofs.lemmas.Fmt.{length-decimal-le}
 use Rattle.lru.proofs.CallerLemmas.{Contains-lookup}
-use Rattle.mc_text.specs.Number.{number_below, is_number}
-use Rattle.mc_text.specs.Arithmetic.{number_held, changed, without_spaces}
+use Rattle.text_words.specs.Number.{number_below, is_number}
+use Rattle.text_words.specs.Arithmetic.{number_held, changed, without_spaces}
 use Rattle.std.specs.Str.Parse.{digits_value}
 use Rattle.mc_types.specs.Asks.{IsAsk, IsExptime, data_limit}
 use Rattle.mc_types.specs.Items.{counted, is_up}

@@ -8,9 +8,9 @@ use crate::decision::{Change, Decision, Verdict};
 use crate::expiry::expiry_after_ask;
 use crate::item::{CacheItem, Entry};
 use itoa::Buffer;
-use mc_text::arithmetic::incr_or_decr;
 use mc_types::{Ask, Body, DATA_LIMIT, Op};
 use std::alloc::{AllocError, Global};
+use text_words::arithmetic::incr_or_decr;
 
 fn store(now: u64, stamp: u64, ask: &Ask) -> Result<Decision, AllocError>
     requires { now < 2 ^ 63 }

@@ -7,8 +7,7 @@ ghost use Rattle.cache_server.specs.Table.{bare, done_answer, left_by, meta_answ
 use crate::decision::{Change, Verdict};
 use crate::expiry::seconds_left;
 use crate::item::{CacheItem, Entry};
-use mc_types::{Answer, Code, ErrorText, Fields, OwnText, Tokens};
-use return_flags::Wanted;
+use mc_types::{Answer, Code, ErrorText, Fields, OwnText, Tokens, Wanted};
 use std::alloc::AllocError;
 
 fn bare(code: Code) -> Answer

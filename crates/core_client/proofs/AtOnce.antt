@@ -1,11 +1,11 @@
 -- A reply that is shown as it comes is one that came and was shown then.
 use Rattle.std.proofs.Common.{◌≡◌, ℕ, ◌+◌, ◌<◌, nat_lt, arith, Bool, true, false, not, cond, List, [], ◌∷◌, ◌++◌, length, position, slice_get, slice_set, drop, Some, None, refl, sym, ap, ◌∙◌, subst, nat_eq}
-use Rattle.send_buffer.specs.Sending.{bytes_of}
+use Rattle.wire_parts.specs.Sending.{bytes_of}
 use Rattle.mc_types.specs.declared.answer.Answer.{Answer}
-use Rattle.text_codec.specs.Replies.{shown_text}
+use Rattle.wire_stream.specs.Replies.{shown_text}
 use Rattle.core_client.specs.declared.client.Client.{Client}
 use Rattle.core_client.specs.declared.client.Pending.{Pending}
-use Rattle.core_client.specs.declared.replying.Place.{Place}
+use Rattle.core_client.specs.declared.replying.ReplyPlace.{ReplyPlace}
 use Rattle.core_client.specs.Replying.{Answers, GoesOn, IsOnward, IsPlace, is_numbered, replied}
 use Rattle.core_client.specs.Heads.{AnswersHead, is_next_of}
 use Rattle.core_client.proofs.Places.{some_pending}
@@ -31,7 +31,7 @@ module _ (x y : Client) (number : ℕ) (reply : Answer) (pending : Pending) (res
   abbrev between : Client
   between = record x { queue = record x.queue { items = replied reply pending ∷ rest; ok = (x.queue.ok.0 ∙ ap length head, x.queue.ok.1) } }
 
-  abbrev place : Place
+  abbrev place : ReplyPlace
   place = record { at = 0; onward = None }
 
   is_last : pending.last ≡ true

@@ -1,22 +1,22 @@
 -- A message at a client's front that was passed, or a key of it that began.
 use Rattle.std.proofs.Common.{◌≡◌, ℕ, ◌+◌, Bool, true, false, List, [], ◌∷◌, ◌++◌, length, drop, None, refl, sym, ap, ◌∙◌, subst, nat_eq, if◌then◌else◌}
-use Rattle.send_buffer.specs.Sending.{bytes_of}
-use Rattle.send_buffer.proofs.Growing.{text_grew}
+use Rattle.wire_parts.specs.Sending.{bytes_of}
+use Rattle.wire_parts.proofs.Growing.{text_grew}
 use Rattle.mc_types.specs.declared.ask.Ask.{Ask}
-use Rattle.mc_runs.specs.Log.{Part}
-use Rattle.mc_runs.specs.Overlap.{Front}
-use Rattle.request_parts.specs.declared.skip.Skip.TheVariants.{Nothing}
-use Rattle.request_parts.specs.Stream.{Place, Stands}
-use Rattle.client_requests.specs.declared.request.Request.{Request}
-use Rattle.client_requests.specs.Message.{Message, message_in, used_of}
-use Rattle.client_requests.specs.Asks.{asks_of, quiet_of}
-use Rattle.client_requests.specs.Stream.{after_message}
-use Rattle.text_codec.specs.Held.{held_at}
-use Rattle.text_codec.specs.TextProtocol.{passed_text, Whole}
-use Rattle.connections.specs.declared.front.Passed.{Passed}
-use Rattle.connections.specs.Fronts.{PassesMessage}
-use Rattle.connections.proofs.Fronts.{reads_front}
-use Rattle.connections.proofs.Requests.{request_after}
+use Rattle.fresh_runs.specs.Log.{Part}
+use Rattle.fresh_runs.specs.Overlap.{Front}
+use Rattle.wire_parts.specs.declared.skip.Skip.TheVariants.{Nothing}
+use Rattle.wire_parts.specs.Stream.{Place, Stands}
+use Rattle.wire_stream.specs.declared.requests.request.Request.{Request}
+use Rattle.wire_stream.specs.Message.{Message, message_in, used_of}
+use Rattle.wire_stream.specs.Asks.{asks_of, quiet_of}
+use Rattle.wire_stream.specs.Stream.{after_message}
+use Rattle.wire_stream.specs.Held.{held_at}
+use Rattle.wire_stream.specs.TextProtocol.{passed_text, Whole}
+use Rattle.wire_stream.specs.declared.connection.front.Passed.{Passed}
+use Rattle.wire_stream.specs.Fronts.{PassesMessage}
+use Rattle.wire_stream.proofs.Fronts.{reads_front}
+use Rattle.wire_stream.proofs.ConnectionRequests.{request_after}
 use Rattle.core_client.specs.declared.client.Client.{Client}
 use Rattle.core_client.specs.ClientState.{dialect}
 use Rattle.core_client.specs.Fronts.{PassesFront, IsAskAt, MovesOn, BeginsKey}

@@ -7,22 +7,22 @@ use Rattle.std.specs.List.{find, position_or_len}
 use Rattle.std.specs.Prelude.{◌⊎◌}
 use Rattle.mc_types.specs.declared.answer.Answer.{Answer}
 use Rattle.mc_types.specs.declared.ask.Ask.{Ask}
-use Rattle.mc_runs.specs.Overlap.{Front}
-use Rattle.request_parts.specs.declared.skip.Skip.TheVariants.{Nothing}
-use Rattle.request_parts.specs.Stream.{Stands}
-use Rattle.client_requests.specs.declared.request.Request.{Request}
-use Rattle.client_requests.specs.Message.{Message, message_in, used_of}
-use Rattle.client_requests.specs.Asks.{asks_of}
-use Rattle.client_requests.specs.Stream.{after_message}
-use Rattle.text_codec.specs.Held.{held_at}
-use Rattle.text_codec.specs.Replies.{is_failure}
-use Rattle.text_codec.specs.TextProtocol.{Whole}
-use Rattle.connections.proofs.Requests.{request_after}
+use Rattle.fresh_runs.specs.Overlap.{Front}
+use Rattle.wire_parts.specs.declared.skip.Skip.TheVariants.{Nothing}
+use Rattle.wire_parts.specs.Stream.{Stands}
+use Rattle.wire_stream.specs.declared.requests.request.Request.{Request}
+use Rattle.wire_stream.specs.Message.{Message, message_in, used_of}
+use Rattle.wire_stream.specs.Asks.{asks_of}
+use Rattle.wire_stream.specs.Stream.{after_message}
+use Rattle.wire_stream.specs.Held.{held_at}
+use Rattle.wire_stream.specs.Replies.{is_failure}
+use Rattle.wire_stream.specs.TextProtocol.{Whole}
+use Rattle.wire_stream.proofs.ConnectionRequests.{request_after}
 use Rattle.core_client.specs.declared.client.Client.{Client}
 use Rattle.core_client.specs.ClientState.{dialect, front_by}
 use Rattle.core_client.specs.declared.client.Pending.{Pending}
 use Rattle.core_client.specs.Replying.{GoesOn, pending_in, replied_in, IsAnswered, is_numbered, replied}
-use Rattle.connections.proofs.Fronts.{reads_front}
+use Rattle.wire_stream.proofs.Fronts.{reads_front}
 
 some_ask : (asks : List Ask) (i : ℕ) → i < length asks → (ask : Ask) × (slice_get asks i ≡ Some ask)
 some_ask asks i lt = by (slice_get_cases asks i).1

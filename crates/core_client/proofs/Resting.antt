@@ -3,21 +3,21 @@ use Rattle.std.proofs.Common.{◌≡◌, ◌↔◌, ℕ, ◌<◌, ◌≤◌, Boo
 use Rattle.std.specs.Prelude.{◌⊎◌}
 use Rattle.std.proofs.lemmas.Option.{slice_get_within}
 use Rattle.mc_types.specs.declared.ask.Ask.{Ask}
-use Rattle.mc_runs.specs.Log.{Part}
-use Rattle.mc_runs.specs.Overlap.{IsNext}
-use Rattle.request_parts.specs.Message.{Refusal}
-use Rattle.request_parts.specs.Stream.{Place, Closed}
-use Rattle.client_requests.specs.declared.reader.Read.{Read}
-use Rattle.client_requests.specs.declared.reader.Read.TheVariants as reads
-use Rattle.client_requests.specs.declared.request.Request.{Request}
-use Rattle.client_requests.specs.Message.{message_in}
-use Rattle.client_requests.specs.Asks.{asks_of}
-use Rattle.client_requests.specs.Stream.{after_message}
-use Rattle.text_codec.specs.Held.{held_at, IsReadAt}
-use Rattle.text_codec.specs.TextProtocol.{Said, Whole, LongLine, ReadsNext, asks_in}
-use Rattle.text_codec.proofs.ReaderLaws.{reader_is}
-use Rattle.connections.specs.Fronts.{AsksNone}
-use Rattle.connections.proofs.Fronts.{read_front, refused_is_some, long_is_some, more_stuck, front_is, reads_front}
+use Rattle.fresh_runs.specs.Log.{Part}
+use Rattle.fresh_runs.specs.Overlap.{IsNext}
+use Rattle.wire_parts.specs.Message.{Refusal}
+use Rattle.wire_parts.specs.Stream.{Place, Closed}
+use Rattle.wire_stream.specs.declared.requests.reader.Read.{Read}
+use Rattle.wire_stream.specs.declared.requests.reader.Read.TheVariants as reads
+use Rattle.wire_stream.specs.declared.requests.request.Request.{Request}
+use Rattle.wire_stream.specs.Message.{message_in}
+use Rattle.wire_stream.specs.Asks.{asks_of}
+use Rattle.wire_stream.specs.Stream.{after_message}
+use Rattle.wire_stream.specs.Held.{held_at, IsReadAt}
+use Rattle.wire_stream.specs.TextProtocol.{Said, Whole, LongLine, ReadsNext, asks_in}
+use Rattle.wire_stream.proofs.ReaderLaws.{reader_is}
+use Rattle.wire_stream.specs.Fronts.{AsksNone}
+use Rattle.wire_stream.proofs.Fronts.{read_front, refused_is_some, long_is_some, more_stuck, front_is, reads_front}
 use Rattle.core_client.specs.declared.client.Client.{Client}
 use Rattle.core_client.specs.declared.client.Pending.{Pending}
 use Rattle.core_client.specs.ClientState.{dialect, front_by}

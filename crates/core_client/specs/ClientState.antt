@@ -1,11 +1,11 @@
 -- What a client of the core and its commands stand for in the log of all that happened. Source: mcgate's own.
 use Rattle.std.specs.Prelude.{◌≡◌, ℕ, Bool, false, List, [], Option, Some, None, slice_get}
-use Rattle.send_buffer.specs.Sending.{bytes_of}
-use Rattle.mc_runs.specs.Protocol.{Protocol}
-use Rattle.mc_runs.specs.Overlap.{Front, Slot, is_last_slot, start_front}
-use Rattle.client_requests.specs.Asks.{quiet_of}
-use Rattle.text_codec.specs.Held.{held_at}
-use Rattle.text_codec.specs.TextProtocol.{memcached_text, Said, Whole, LongLine}
+use Rattle.wire_parts.specs.Sending.{bytes_of}
+use Rattle.fresh_runs.specs.Protocol.{Protocol}
+use Rattle.fresh_runs.specs.Overlap.{Front, Slot, is_last_slot, start_front}
+use Rattle.wire_stream.specs.Asks.{quiet_of}
+use Rattle.wire_stream.specs.Held.{held_at}
+use Rattle.wire_stream.specs.TextProtocol.{memcached_text, Said, Whole, LongLine}
 use Rattle.core_client.specs.declared.client.Pending.{Pending}
 use Rattle.core_client.specs.declared.client.Client.{Client}
 

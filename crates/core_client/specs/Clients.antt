@@ -2,9 +2,9 @@
 use Rattle.std.specs.Prelude.{◌≡◌, ℕ, Bool, true, false, List, [], is_none, if◌then◌else◌, nat_eq, ◌⊎◌}
 use Rattle.std.specs.Cmp.Lexicographic.{pointwise}
 use Rattle.std.specs.List.{list_any}
-use Rattle.send_buffer.specs.Sending.{bytes_of}
-use Rattle.request_parts.specs.declared.skip.Skip.TheVariants.{Nothing}
-use Rattle.request_parts.specs.Stream.{Stands, Closed, extended}
+use Rattle.wire_parts.specs.Sending.{bytes_of}
+use Rattle.wire_parts.specs.declared.skip.Skip.TheVariants.{Nothing}
+use Rattle.wire_parts.specs.Stream.{Stands, Closed, extended}
 use Rattle.core_client.specs.declared.client.Pending.{Pending}
 use Rattle.core_client.specs.declared.client.Client.{Client}
 

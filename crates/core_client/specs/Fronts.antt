@@ -1,17 +1,17 @@
 -- What stands at a client's front, and what is changed of one client where it is passed, or a key of it begins. Source: mcgate's own.
 use Rattle.std.specs.Prelude.{◌≡◌, ℕ, ◌<◌, Bool, true, false, List, [], ◌∷◌, ◌++◌, length, Some, slice_get, if◌then◌else◌}
-use Rattle.send_buffer.specs.Sending.{bytes_of}
+use Rattle.wire_parts.specs.Sending.{bytes_of}
 use Rattle.mc_types.specs.declared.ask.Ask.{Ask}
-use Rattle.mc_runs.specs.Log.{Part}
-use Rattle.mc_runs.specs.Overlap.{Front, IsNext, after_start, slot_of}
-use Rattle.request_parts.specs.declared.skip.Skip.TheVariants.{Nothing}
-use Rattle.request_parts.specs.Stream.{Place, Stands}
-use Rattle.client_requests.specs.declared.request.Request.{Request}
-use Rattle.client_requests.specs.Message.{IsReadFrom, message_in}
-use Rattle.client_requests.specs.Asks.{asks_of}
-use Rattle.text_codec.specs.Held.{held_at}
-use Rattle.connections.specs.declared.front.Passed.{Passed}
-use Rattle.connections.specs.Fronts.{told_of}
+use Rattle.fresh_runs.specs.Log.{Part}
+use Rattle.fresh_runs.specs.Overlap.{Front, IsNext, after_start, slot_of}
+use Rattle.wire_parts.specs.declared.skip.Skip.TheVariants.{Nothing}
+use Rattle.wire_parts.specs.Stream.{Place, Stands}
+use Rattle.wire_stream.specs.declared.requests.request.Request.{Request}
+use Rattle.wire_stream.specs.Message.{IsReadFrom, message_in}
+use Rattle.wire_stream.specs.Asks.{asks_of}
+use Rattle.wire_stream.specs.Held.{held_at}
+use Rattle.wire_stream.specs.declared.connection.front.Passed.{Passed}
+use Rattle.wire_stream.specs.Fronts.{told_of}
 use Rattle.core_client.specs.declared.client.Client.{Client}
 use Rattle.core_client.specs.declared.client.Pending.{Pending}
 use Rattle.core_client.specs.ClientState.{dialect, Message, front_by, IsSlot}

@@ -1,11 +1,11 @@
 -- What stands at the head of a client's commands, and what is changed of one client where it is shown. Source: mcgate's own.
 use Rattle.std.specs.Prelude.{◌≡◌, ℕ, Bool, true, false, List, [], ◌∷◌, ◌++◌, Some, None, if◌then◌else◌, nat_eq}
-use Rattle.send_buffer.specs.Sending.{bytes_of}
+use Rattle.wire_parts.specs.Sending.{bytes_of}
 use Rattle.mc_types.specs.declared.answer.Answer.{Answer}
-use Rattle.text_codec.specs.Replies.{shown_text}
+use Rattle.wire_stream.specs.Replies.{shown_text}
 use Rattle.core_client.specs.declared.client.Client.{Client}
 use Rattle.core_client.specs.declared.client.Pending.{Pending}
-use Rattle.core_client.specs.declared.replying.Place.{Place}
+use Rattle.core_client.specs.declared.replying.ReplyPlace.{ReplyPlace}
 use Rattle.core_client.specs.Replying.{Answers, IsPlace}
 
 -- whether it has a reply, and the output after it
@@ -48,7 +48,7 @@ is_next_reply number (pending ∷ rest) = is_next_of number pending
 -- this reply came to the command of this number, and then the head of the client's commands was shown
 pub record AnswersHead (x : Client) (number : ℕ) (reply : Answer) (y : Client) : Type 0 where
   pub between : Client
-  pub place : Place
+  pub place : ReplyPlace
   pub is : IsPlace x number place
   pub answers : Answers x place.at is.pending.last reply between
   pub shows : ShowsOne between true y

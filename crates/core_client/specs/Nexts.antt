@@ -1,18 +1,18 @@
 -- What is next for a client whose commands can't go on. Source: mcgate's own.
 use Rattle.std.specs.Prelude.{◌≡◌, ℕ, ◌<◌, ◌≤◌, false, [], length, Some}
 use Rattle.mc_types.specs.declared.ask.Ask.{Ask}
-use Rattle.mc_runs.specs.Log.{Part}
-use Rattle.mc_runs.specs.Overlap.{IsNext}
-use Rattle.mc_runs.specs.Protocol.{IsStuck}
-use Rattle.request_parts.specs.declared.skip.Skip.TheVariants.{Nothing}
-use Rattle.request_parts.specs.Stream.{Place, Stands}
-use Rattle.client_requests.specs.declared.reader.Read.{Read}
-use Rattle.client_requests.specs.declared.reader.Read.TheVariants as reads
-use Rattle.client_requests.specs.declared.request.Request.{Request}
-use Rattle.client_requests.specs.Message.{IsReadFrom, message_in}
-use Rattle.client_requests.specs.Asks.{asks_of}
-use Rattle.text_codec.specs.Held.{IsReadAt, held_at}
-use Rattle.connections.specs.Fronts.{AsksNone}
+use Rattle.fresh_runs.specs.Log.{Part}
+use Rattle.fresh_runs.specs.Overlap.{IsNext}
+use Rattle.fresh_runs.specs.Protocol.{IsStuck}
+use Rattle.wire_parts.specs.declared.skip.Skip.TheVariants.{Nothing}
+use Rattle.wire_parts.specs.Stream.{Place, Stands}
+use Rattle.wire_stream.specs.declared.requests.reader.Read.{Read}
+use Rattle.wire_stream.specs.declared.requests.reader.Read.TheVariants as reads
+use Rattle.wire_stream.specs.declared.requests.request.Request.{Request}
+use Rattle.wire_stream.specs.Message.{IsReadFrom, message_in}
+use Rattle.wire_stream.specs.Asks.{asks_of}
+use Rattle.wire_stream.specs.Held.{IsReadAt, held_at}
+use Rattle.wire_stream.specs.Fronts.{AsksNone}
 use Rattle.core_client.specs.declared.client.Client.{Client}
 use Rattle.core_client.specs.declared.nexts.Next.{Next}
 use Rattle.core_client.specs.declared.nexts.Next.TheVariants as nexts

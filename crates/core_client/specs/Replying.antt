@@ -1,18 +1,18 @@
 -- What is changed of one client where the reply of one of its commands comes. Source: mcgate's own.
 use Rattle.std.specs.Prelude.{◌≡◌, ℕ, ◌+◌, ◌<◌, Bool, true, false, List, [], ◌∷◌, Option, Some, None, if◌then◌else◌, length, nat_eq, position, slice_get, slice_set}
-use Rattle.send_buffer.specs.Sending.{bytes_of}
+use Rattle.wire_parts.specs.Sending.{bytes_of}
 use Rattle.mc_types.specs.declared.answer.Answer.{Answer}
 use Rattle.mc_types.specs.declared.ask.Ask.{Ask}
-use Rattle.mc_runs.specs.Overlap.{Front}
-use Rattle.request_parts.specs.declared.skip.Skip.TheVariants.{Nothing}
-use Rattle.request_parts.specs.Stream.{Place as ReaderPlace, Stands}
-use Rattle.client_requests.specs.declared.request.Request.{Request}
-use Rattle.client_requests.specs.Message.{IsReadFrom, message_in}
-use Rattle.client_requests.specs.Asks.{asks_of}
-use Rattle.text_codec.specs.Held.{held_at}
+use Rattle.fresh_runs.specs.Overlap.{Front}
+use Rattle.wire_parts.specs.declared.skip.Skip.TheVariants.{Nothing}
+use Rattle.wire_parts.specs.Stream.{ReplyPlace as ReaderPlace, Stands}
+use Rattle.wire_stream.specs.declared.requests.request.Request.{Request}
+use Rattle.wire_stream.specs.Message.{IsReadFrom, message_in}
+use Rattle.wire_stream.specs.Asks.{asks_of}
+use Rattle.wire_stream.specs.Held.{held_at}
 use Rattle.core_client.specs.declared.client.Client.{Client}
 use Rattle.core_client.specs.declared.client.Pending.{Pending}
-use Rattle.core_client.specs.declared.replying.Place.{Place}
+use Rattle.core_client.specs.declared.replying.ReplyPlace.{ReplyPlace}
 use Rattle.core_client.specs.ClientState.{dialect, Message, front_by}
 
 -- the first command of this number in a client's queue
@@ -63,7 +63,7 @@ pub record KeepsRest (x y : Client) : Type 0 where
   pub dropped : y.dropped ≡ x.dropped
 
 -- this is the place of the reply of the command of this number
-pub record IsPlace (x : Client) (number : ℕ) (place : Place) : Type 0 where
+pub record IsPlace (x : Client) (number : ℕ) (place : ReplyPlace) : Type 0 where
   pub pending : Pending
   pub first : position (is_numbered number) x.queue.items ≡ Some place.at
   pub is : slice_get x.queue.items place.at ≡ Some pending

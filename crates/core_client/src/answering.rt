@@ -1,14 +1,14 @@
 //! Messages at a client's front that ask no server: they are answered at once.
 
 ghost use Rattle.std.specs.Prelude.{◌≡◌, [], false, OnErr, IfOk};
-ghost use Rattle.text_codec.specs.Held.{IsReadAt};
-ghost use Rattle.connections.specs.Fronts.{AsksNone};
+ghost use Rattle.wire_stream.specs.Held.{IsReadAt};
+ghost use Rattle.wire_stream.specs.Fronts.{AsksNone};
 ghost use Rattle.core_client.specs.Fronts.{Stays, PassesFront};
 
 use crate::client::Client;
-use connections::{Passed, pass};
 use std::alloc::AllocError;
-use text_codec::Read;
+use wire_stream::Read;
+use wire_stream::connection::{Passed, pass};
 
 impl Client {
     /// The message that was read at the front, which asks no server, is answered and done. The only error is running out of

@@ -8,7 +8,7 @@ use crate::client::{Client, Pending};
 use crate::heads::take_head;
 use mc_types::Answer;
 use std::alloc::AllocError;
-use text_codec::send_part;
+use wire_stream::send_part;
 
 // Whether it is of this number, and asks the last key of its message.
 fn is_next_reply(number: u64, pending: &Pending) -> bool

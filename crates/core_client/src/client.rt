@@ -1,16 +1,16 @@
 //! One client of the core, and its commands whose replies were not shown yet.
 
 ghost use Rattle.std.specs.Prelude.{◌≡◌, ◌++◌, [], false, ◌↔◌, IsTrue, OnOk, OnErr, IfOk};
-ghost use Rattle.send_buffer.specs.Sending.{bytes_of};
-ghost use Rattle.text_codec.specs.Held.{held_at};
+ghost use Rattle.wire_parts.specs.Sending.{bytes_of};
+ghost use Rattle.wire_stream.specs.Held.{held_at};
 ghost use Rattle.core_client.specs.Clients.{has_own, IsNew, IsEnded, TakesPiece, LosesOutput};
 
 use crate::marked_ask::{MarkedAsk, MarkedKey};
-use connections::ClientStream;
 use mc_types::{Answer, Key};
-use send_buffer::SendBuffer;
 use std::alloc::{AllocError, Global};
 use std::collections::VecDeque;
+use wire_parts::to_send::SendBuffer;
+use wire_stream::connection::ClientStream;
 
 /// A command of a client whose reply was not shown yet.
 #[derive(Drop)]

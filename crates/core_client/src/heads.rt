@@ -1,15 +1,15 @@
 //! Replies at the head of a client's commands are shown.
 
 ghost use Rattle.std.specs.Prelude.{◌≡◌, MatchBool, false, IfOk, OnErr, drop};
-ghost use Rattle.send_buffer.specs.Sending.{bytes_of};
+ghost use Rattle.wire_parts.specs.Sending.{bytes_of};
 ghost use Rattle.core_client.specs.Fronts.{Stays};
 ghost use Rattle.core_client.specs.Heads.{WritesReply, ShowsOne};
 
 use crate::client::{Client, Pending};
-use send_buffer::SendBuffer;
 use std::alloc::AllocError;
 use std::collections::VecDeque;
-use text_codec::send_part;
+use wire_parts::to_send::SendBuffer;
+use wire_stream::send_part;
 
 // What its reply shows is written, if it has one: whether it has.
 fn write_reply(pending: &Pending, output: &mut SendBuffer) -> Result<bool, AllocError>

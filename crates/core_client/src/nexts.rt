@@ -2,18 +2,18 @@
 
 ghost use Rattle.std.specs.Prelude.{◌≡◌, ◌↔◌, ℕ, [], false, IsTrue, IfOk};
 ghost use Rattle.mc_types.specs.Asks.{IsAsk};
-ghost use Rattle.text_codec.specs.Held.{IsReadAt, held_at};
-ghost use Rattle.client_requests.specs.Message.{message_in};
-ghost use Rattle.client_requests.specs.Asks.{asks_of};
-ghost use Rattle.client_requests.specs.declared.reader.Read.TheVariants.{More, Request as Requests};
-ghost use Rattle.connections.specs.Fronts.{AsksNone};
+ghost use Rattle.wire_stream.specs.Held.{IsReadAt, held_at};
+ghost use Rattle.wire_stream.specs.Message.{message_in};
+ghost use Rattle.wire_stream.specs.Asks.{asks_of};
+ghost use Rattle.wire_stream.specs.declared.requests.reader.Read.TheVariants.{More, Request as Requests};
+ghost use Rattle.wire_stream.specs.Fronts.{AsksNone};
 ghost use Rattle.core_client.specs.Nexts.{CanAsk, CanBegin, IsNextOf};
 
 use crate::client::{Client, Pending};
 use mc_types::SharedAsk;
 use std::alloc::{AllocError, Global};
 use std::collections::VecDeque;
-use text_codec::{Read, Request};
+use wire_stream::{Read, Request};
 
 /// What is next, by what was read at the front: of that nothing is copied.
 #[derive(Clone, Copy)]

@@ -3,17 +3,17 @@
 ghost use Rattle.std.specs.Prelude.{◌≡◌, ◌<◌, ℕ, Bool, false, length, position, slice_set, slice_index_or, IfSome, IfNone};
 ghost use Rattle.core_client.specs.declared.client.Pending.{Pending as PendingOf};
 ghost use Rattle.core_client.specs.Replying.{GoesOn, is_numbered, IsAnswered, HasKeyAtFront, HasPlace, HasNoPlace, KeepsRest, IsPlace, IsOnward, IsOnwardOfSome, replied, Answers};
-ghost use Rattle.core_client.specs.declared.replying.Place.{Place as PlaceOf};
+ghost use Rattle.core_client.specs.declared.replying.ReplyPlace.{ReplyPlace as PlaceOf};
 
 use crate::client::{Client, Pending};
-use connections::Front;
 use mc_types::Answer;
 use std::collections::VecDeque;
-use text_codec::{Request, ends_message};
+use wire_stream::connection::Front;
+use wire_stream::{Request, ends_message};
 
 /// Where a reply goes: the place of its command, and where that isn't of its message's last key, the request at the front.
 #[derive(Clone, Copy)]
-pub struct Place {
+pub struct ReplyPlace {
     pub at: usize,
     pub onward: Option<Request>,
 }
@@ -84,24 +84,24 @@ impl Client {
     }
 
     /// The place of the reply of the command of this number, where one can come. It takes no memory.
-    pub fn place_of(&self, number: u64) -> Option<Place>
+    pub fn place_of(&self, number: u64) -> Option<ReplyPlace>
         ensures some { IfSome result (λ place. IsPlace self.now number place) }
         ensures none { IfNone result (HasNoPlace self.now number) }
     {
         let at = place_in(&self.queue, number)?;
         let pending = self.queue.get(at)?;
         if pending.last {
-            return Some(Place { at, onward: None });
+            return Some(ReplyPlace { at, onward: None });
         }
         let request = self.asked_at_front()?;
-        Some(Place {
+        Some(ReplyPlace {
             at,
             onward: Some(request),
         })
     }
 
     /// The reply came there.
-    pub fn answer(&mut self, place: Place, reply: Answer)
+    pub fn answer(&mut self, place: ReplyPlace, reply: Answer)
         requires { (number : ℕ) × IsPlace self.old number place }
         ensures { (number : ℕ) (is : IsPlace self.old number place) → Answers self.old place.at is.pending.last reply self.new }
     {

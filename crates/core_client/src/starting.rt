@@ -1,9 +1,9 @@
 //! The next key of the message at a client's front begins.
 
 ghost use Rattle.std.specs.Prelude.{◌≡◌, ◌≤◌, ◌++◌, ◌∷◌, ℕ, List, [], None, false, drop, length, OnOk, OnErr};
-ghost use Rattle.request_parts.specs.declared.skip.Skip.TheVariants.{Nothing};
-ghost use Rattle.request_parts.specs.Stream.{Stands};
-ghost use Rattle.text_codec.specs.Held.{held_at};
+ghost use Rattle.wire_parts.specs.declared.skip.Skip.TheVariants.{Nothing};
+ghost use Rattle.wire_parts.specs.Stream.{Stands};
+ghost use Rattle.wire_stream.specs.Held.{held_at};
 ghost use Rattle.core_client.specs.Fronts.{Stays, IsAskAt, MovesOn, BeginsKey};
 
 use crate::client::{Client, Pending};
@@ -11,7 +11,7 @@ use crate::marked_ask::MarkedAsk;
 use mc_types::SharedAsk;
 use std::alloc::AllocError;
 use std::collections::VecDeque;
-use text_codec::Request;
+use wire_stream::Request;
 
 // One more at the end of a queue.
 fn put_last(queue: &mut VecDeque<Pending>, pending: Pending) -> Result<(), AllocError>

@@ -2,7 +2,7 @@
 use Rattle.mc_types.specs.declared.limits.TheConstants.{ERROR_TEXT_LIMIT}
 use Rattle.std.specs.Prelude.{◌≡◌, ℕ, ◌<◌, ◌≤◌, ◌^◌, ◌&&◌, ℤ, pos, negsuc, ◌≤ℤ◌, ◌<ℤ◌, Bool, true, false, List, [], Option, Some, None, is_some, IsSome, IfSome, length, nat_le, not, ◌==◌}
 use Rattle.std.specs.List.{list_all}
-use Rattle.mc_text.specs.Number.{number_below}
+use Rattle.text_words.specs.Number.{number_below}
 use Rattle.mc_types.specs.Asks.{data_limit}
 use Rattle.mc_types.specs.Tokens.{wants, LetterC, LetterF, LetterS, LetterT, LetterV}
 use Rattle.mc_types.specs.declared.token.Token.{Token}

@@ -1,6 +1,6 @@
 -- Items, and what a done call makes of one. Source: memcached's protocol.txt, "Storage commands" and "Increment/Decrement"; the stamp is mcgate's own.
 use Rattle.std.specs.Prelude.{ℕ, ◌++◌, Bool, true, false, List, Option, Some, None, option_map, replicate, decimal, if◌then◌else◌}
-use Rattle.mc_text.specs.Arithmetic.{number_held, changed}
+use Rattle.text_words.specs.Arithmetic.{number_held, changed}
 use Rattle.mc_types.specs.Acknowledged.{says_gone}
 use Rattle.mc_types.specs.declared.ask.Op.{Op}
 use Rattle.mc_types.specs.declared.ask.Op.TheVariants.{Get, Gat, Set, Add, Replace, Append, Prepend, Cas, Delete, Incr, Decr, Touch}

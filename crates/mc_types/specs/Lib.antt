@@ -16,3 +16,5 @@ pub mod Parts
 pub mod Fits
 pub mod Items
 pub mod Agree
+pub mod Wanted
+pub mod ClientAsks

@@ -4,13 +4,13 @@ use Rattle.std.specs.Prelude.{IfOk}
 use Rattle.route_json.specs.Servers.{Addresses}
 use Rattle.route_json.specs.Configuration.{Configuration}
 use Rattle.route_tree.specs.Route.{Route}
-use Rattle.commands_under_way.specs.declared.sharing.Sharing.{Sharing}
-use Rattle.fresh_core.specs.declared.served.ServedCore.{ServedCore}
-use Rattle.proxy_connections.specs.declared.settings.Settings.{Settings}
-use Rattle.proxy_connections.specs.CoreSteps.{Step, Opened, NotOpened, Fed, Polled, Stopped, Settled, Gave, Closed, LeftLine, Loaded, AreOf, IsOfTurn, GoesOn}
-use Rattle.proxy_connections.proofs.Walked.{still, walks_keep}
-use Rattle.fresh_core.specs.Logs.{IsAccepted}
-use Rattle.tcp_proxy.specs.LogsGoOn.{LogsAreFresh}
+use Rattle.core_commands.specs.declared.sharing.Sharing.{Sharing}
+use Rattle.core_accepted.specs.declared.served.ServedCore.{ServedCore}
+use Rattle.serve_links.specs.declared.settings.Settings.{Settings}
+use Rattle.serve_links.specs.CoreSteps.{Step, Opened, NotOpened, Fed, Polled, Stopped, Settled, Gave, Closed, LeftLine, Loaded, AreOf, IsOfTurn, GoesOn}
+use Rattle.serve_links.proofs.Walked.{still, walks_keep}
+use Rattle.core_accepted.specs.Logs.{IsAccepted}
+use Rattle.serve_proxy.specs.LogsGoOn.{LogsAreFresh}
 use Rattle.mcgate.specs.declared.serve.Servable.{Servable}
 use Rattle.mcgate.specs.declared.serve.Servable.TheVariants as servables
 use Rattle.mcgate.specs.Sharing.{sharing_for}

@@ -3,10 +3,10 @@ use Rattle.std.specs.Prelude.{◌≡◌, ℕ, ◌⊎◌, Bool, true, false, List
 use Rattle.serde_json.specs.Read.{read}
 use Rattle.route_json.specs.Configs.{read_or}
 use Rattle.route_json.specs.Configuration.{Configuration}
-use Rattle.fresh_gate.specs.Gate.{IsCertified}
-use Rattle.config_check.specs.Checking.{PrintsRefused, PrintsFault}
-use Rattle.program.specs.declared.ends.Stop.{Stop}
-use Rattle.program.specs.Program.{IsBrokenOff}
+use Rattle.gate_check.specs.Gate.{IsCertified}
+use Rattle.mcgate_check.specs.Checking.{PrintsRefused, PrintsFault}
+use Rattle.mcgate_args.specs.declared.ends.Stop.{Stop}
+use Rattle.mcgate_args.specs.Program.{IsBrokenOff}
 use Rattle.mcgate.specs.declared.serve.Servable.{Servable}
 use Rattle.mcgate.specs.declared.serve.Servable.TheVariants as servables
 use Rattle.mcgate.specs.declared.serve.Judged.{Judged}

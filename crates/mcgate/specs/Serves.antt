@@ -5,13 +5,13 @@ use Rattle.route_json.specs.Servers.{Addresses}
 use Rattle.route_json.specs.Configs.{read_after}
 use Rattle.route_json.specs.Configuration.{Configuration}
 use Rattle.route_tree.specs.Route.{Route}
-use Rattle.fresh_gate.specs.Sound.{IsLast}
-use Rattle.fresh_core.specs.declared.served.ServedCore.{ServedCore}
-use Rattle.fresh_core.specs.Loading.{IsLoaded}
-use Rattle.proxy_connections.specs.declared.settings.Settings.{Settings}
-use Rattle.proxy_connections.specs.CoreSteps.{Step, Opened, NotOpened, Fed, Polled, Stopped, Settled, Gave, Closed, LeftLine, Loaded, GoesBy}
-use Rattle.tcp_proxy.specs.Beginning.{BeginsFresh, BeginsUnchecked}
-use Rattle.fresh_core.specs.Logs.{IsAccepted, EveryLogIsFresh}
+use Rattle.gate_check.specs.Sound.{IsLast}
+use Rattle.core_accepted.specs.declared.served.ServedCore.{ServedCore}
+use Rattle.core_accepted.specs.Loading.{IsLoaded}
+use Rattle.serve_links.specs.declared.settings.Settings.{Settings}
+use Rattle.serve_links.specs.CoreSteps.{Step, Opened, NotOpened, Fed, Polled, Stopped, Settled, Gave, Closed, LeftLine, Loaded, GoesBy}
+use Rattle.serve_proxy.specs.Beginning.{BeginsFresh, BeginsUnchecked}
+use Rattle.core_accepted.specs.Logs.{IsAccepted, EveryLogIsFresh}
 use Rattle.mcgate.specs.Sharing.{sharing_for}
 use Rattle.mcgate.specs.declared.serve.Servable.{Servable}
 use Rattle.mcgate.specs.declared.serve.Servable.TheVariants as servables

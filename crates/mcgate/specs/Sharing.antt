@@ -1,7 +1,7 @@
 -- By which rule the commands of a served tree share a key. Source: mcgate's own.
 use Rattle.std.specs.Prelude.{Bool, true, false, ◌||◌, if◌then◌else◌}
-use Rattle.commands_under_way.specs.declared.sharing.Sharing.{Sharing}
-use Rattle.commands_under_way.specs.declared.sharing.Sharing.TheVariants.{Alone, Shared}
+use Rattle.core_commands.specs.declared.sharing.Sharing.{Sharing}
+use Rattle.core_commands.specs.declared.sharing.Sharing.TheVariants.{Alone, Shared}
 use Rattle.route_tree.specs.Route.{Route, Routes, Policies, Prefixes, Pool, Server, Null, Failing, AllSync, Failover, MissFailover, WarmUp, ByOperation, ByPrefix, End, More, Otherwise, Policy, Wildcard, Prefix}
 
 abbrev mutual

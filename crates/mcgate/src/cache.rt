@@ -1,13 +1,13 @@
 //! `mcgate cache`: one cache server over TCP.
 
-use config_check::status::DONE;
-use program::cache_arguments::CacheJob;
-use program::details::Details;
-use program::ends::Stop;
+use cache_tcp::CacheEnd;
+use mcgate_args::cache_arguments::CacheJob;
+use mcgate_args::details::Details;
+use mcgate_args::ends::Stop;
+use mcgate_check::status::DONE;
 use std::io;
 use std::net::Net;
 use std::rt::Clock;
-use tcp_cache::CacheEnd;
 
 // Turns the server, as often as is asked.
 fn turn_cache<R: Net + Clock + AllocGlobal>(

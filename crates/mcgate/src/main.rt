@@ -9,17 +9,18 @@ mod special;
 mod warnings;
 
 use cache::serve_cache;
-use config_check::status::{BAD_INPUT, DONE, REFUSED};
-use line_faults::BadLine;
+use fault_words::script::BadLine;
 use mc_types::Key;
-use program::arguments::{Job, Task, read_arguments};
-use program::bad_lines::{bad_line_of_events, bad_line_of_task};
-use program::details::{Details, name_of};
-use program::ends::{
+use mcgate_args::arguments::{Job, Task, read_arguments};
+use mcgate_args::bad_lines::{bad_line_of_events, bad_line_of_task};
+use mcgate_args::details::{Details, name_of};
+use mcgate_args::ends::{
     Stop, decline, end_of, read_configuration, run_events, run_input, run_keys, run_over_tcp,
 };
-use program::input::text_noting;
-use program::serve_arguments::ServeJob;
+use mcgate_args::input::text_noting;
+use mcgate_args::input_text::InputFault;
+use mcgate_args::serve_arguments::ServeJob;
+use mcgate_check::status::{BAD_INPUT, DONE, REFUSED};
 use route_json::Config;
 use serve::{Judged, judge_text, serve};
 use special::{is_special, special_line};
@@ -29,7 +30,6 @@ use std::io::{BufWriter, ErrorKind, Write};
 use std::net::Net;
 use std::process::ExitCode;
 use std::rt::{Clock, Env, Files};
-use text_input::InputFault;
 use warnings::say_warnings;
 
 /// The arguments, the program's name first. One that isn't UTF-8 is refused as the program has none such.

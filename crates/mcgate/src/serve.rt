@@ -6,19 +6,19 @@ ghost use Rattle.mcgate.specs.Serves.{Begins, HasServed, StaysFresh};
 
 use crate::serving::{Serving, addresses_of, resolve};
 use crate::sharing::sharing_for;
-use config_check::checking::{print_fault, print_refused};
-use fresh_gate::{Accepted, judge};
-use program::details::Details;
-use program::ends::Stop;
-use program::serve_arguments::ServeJob;
+use gate_check::{Accepted, judge};
+use mcgate_args::details::Details;
+use mcgate_args::ends::Stop;
+use mcgate_args::serve_arguments::ServeJob;
+use mcgate_check::checking::{print_fault, print_refused};
+use route_json::addresses::Servers;
 use route_json::{Config, read_config};
-use server_addresses::Servers;
+use serve_proxy::{ProxyEnd, Settings};
 use std::alloc::{AllocError, Global};
 use std::io;
 use std::io::Write;
 use std::net::{Net, SocketAddr};
 use std::rt::{Clock, Files};
-use tcp_proxy::{ProxyEnd, Settings};
 
 /// A configuration that may be served.
 #[derive(Drop)]

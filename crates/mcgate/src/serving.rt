@@ -1,29 +1,29 @@
 //! A proxy that runs: its turns, what is told of its servers, and the configurations that are loaded meanwhile.
 
 ghost use Rattle.std.specs.Prelude.{◌≡◌, IfOk, string_bytes};
-ghost use Rattle.proxy_connections.specs.CoreSteps.{GoesOn};
-ghost use Rattle.tcp_proxy.specs.LogsGoOn.{LogsAreFresh};
+ghost use Rattle.serve_links.specs.CoreSteps.{GoesOn};
+ghost use Rattle.serve_proxy.specs.LogsGoOn.{LogsAreFresh};
 ghost use Rattle.mcgate.specs.Serves.{SaysAfter, Serves, MayLoad, MayLoadText};
 
 use crate::special::is_special;
-use config_check::reload_lines::{write_kept, write_loaded, write_unchecked};
-use config_check::status::DONE;
-use fresh_core::LoadFault;
-use fresh_gate::ReloadFault;
+use core_accepted::LoadFault;
+use gate_check::ReloadFault;
 use mc_types::ServerId;
-use program::ends::Stop;
-use program::input::text_of;
-use program::serve_arguments::ServeJob;
+use mcgate_args::ends::Stop;
+use mcgate_args::input::text_of;
+use mcgate_args::input_text::InputFault;
+use mcgate_args::serve_arguments::ServeJob;
+use mcgate_check::reload_lines::{write_kept, write_loaded, write_unchecked};
+use mcgate_check::status::DONE;
+use route_json::addresses::Servers;
 use route_json::{Config, ConfigFault, read_config_after};
-use server_addresses::Servers;
+use serve_proxy::ProxyEnd;
 use std::alloc::{AllocError, Global};
 use std::io;
 use std::io::{ErrorKind, Write};
 use std::net::{Net, SocketAddr, ToSocketAddrs};
 use std::rt::{Clock, Files};
 use std::time::{Duration, Instant};
-use tcp_proxy::ProxyEnd;
-use text_input::InputFault;
 
 /// The first address that a text names, or why it names none.
 pub fn resolve<N: Net>(net: &N, text: &str) -> io::Result<SocketAddr> {

@@ -4,8 +4,8 @@ ghost use Rattle.std.specs.Prelude.{◌≡◌};
 ghost use Rattle.route_tree.specs.Form.{routes_of, policies_of, prefixes_of};
 ghost use Rattle.mcgate.specs.Sharing.{has_warm_up, have_warm_up, policies_have_warm_up, prefixes_have_warm_up, sharing_for};
 
+use core_proxy::Sharing;
 use mc_types::{Key, Op};
-use proxy_core::Sharing;
 use route_tree::{Tree, TreeForm};
 
 /// Commands share their keys, unless the tree has a warm-up: gets that copy would then follow each other without a gap on a key that is asked

@@ -1,6 +1,6 @@
 //! What is said of a configuration before it is served.
 
-use input_faults::lines_of_warnings;
+use fault_inputs::lines_of_warnings;
 
 /// Says on standard error which names stand twice in an object, and which pools no route names. Where memory is refused nothing is said.
 pub fn say_warnings<R: AllocGlobal + Eprint>(rt: &R, file: &str, text: &str) {

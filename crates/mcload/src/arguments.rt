@@ -15,7 +15,7 @@ pub const USAGE: &str = "usage: mcload fill|load|freshness HOST:PORT [FLAG N ..]
 
 /// What the clients do.
 #[derive(Clone, Copy, PartialEq, Eq)]
-pub enum Job {
+pub enum LoadJob {
     /// They set each key once.
     Fill,
     /// They get and set keys.
@@ -26,8 +26,8 @@ pub enum Job {
 
 /// What the arguments ask for.
 #[derive(Clone, Copy)]
-pub struct Settings<'a> {
-    pub job: Job,
+pub struct LoadSettings<'a> {
+    pub job: LoadJob,
     /// A host and a port.
     pub address: &'a str,
     pub clients: u64,
@@ -47,11 +47,11 @@ pub struct Settings<'a> {
     pub seed: u64,
 }
 
-fn job_of(word: &str) -> Option<Job> {
+fn job_of(word: &str) -> Option<LoadJob> {
     match word {
-        "fill" => Some(Job::Fill),
-        "load" => Some(Job::Load),
-        "freshness" => Some(Job::Freshness),
+        "fill" => Some(LoadJob::Fill),
+        "load" => Some(LoadJob::Load),
+        "freshness" => Some(LoadJob::Freshness),
         _ => None,
     }
 }
@@ -65,9 +65,9 @@ fn number_of(word: &str, least: u64, most: u64) -> Option<u64> {
     Some(number)
 }
 
-impl<'a> Settings<'a> {
-    fn new(job: Job, address: &'a str) -> Settings<'a> {
-        Settings {
+impl<'a> LoadSettings<'a> {
+    fn new(job: LoadJob, address: &'a str) -> LoadSettings<'a> {
+        LoadSettings {
             job,
             address,
             clients: 8,
@@ -99,18 +99,18 @@ impl<'a> Settings<'a> {
 }
 
 /// What these arguments ask for, the program's name first. `None` where the program has no such arguments.
-pub fn settings_of(arguments: &[String]) -> Option<Settings<'_>> {
+pub fn settings_of(arguments: &[String]) -> Option<LoadSettings<'_>> {
     let [_, job, address, flags @ ..] = arguments else {
         return None;
     };
-    let mut settings = Settings::new(job_of(job.as_str())?, address.as_str());
+    let mut settings = LoadSettings::new(job_of(job.as_str())?, address.as_str());
     for pair in flags.chunks(2) {
         match pair {
             [flag, number] => settings.set(flag.as_str(), number.as_str())?,
             _ => return None,
         }
     }
-    if settings.job == Job::Fill {
+    if settings.job == LoadJob::Fill {
         settings.commands = settings.keys;
     }
     Some(settings)

@@ -2,9 +2,9 @@
 
 use bytes::BytesMut;
 use itoa::Buffer;
-use mc_text::number::number;
 use memchr::memchr;
 use std::alloc::{AllocError, Global};
+use text_words::number::number;
 
 // The digits of a key's number, and of the number that a value begins with.
 const DIGITS: usize = 16;
@@ -16,7 +16,7 @@ const END: &[u8] = b"\r\nEND\r\n";
 
 /// What a command does with its key.
 #[derive(Clone, Copy, PartialEq, Eq)]
-pub enum Kind {
+pub enum LoadKind {
     Get,
     Set,
     Delete,
@@ -24,8 +24,8 @@ pub enum Kind {
 
 /// A command.
 #[derive(Clone, Copy)]
-pub struct Command {
-    pub kind: Kind,
+pub struct LoadCommand {
+    pub kind: LoadKind,
     /// The number of its key.
     pub key: u64,
     /// Of a set the number that its value carries.
@@ -88,14 +88,14 @@ impl Wire {
     }
 
     /// Appends a command.
-    pub fn write(&self, out: &mut BytesMut, command: Command) -> Result<(), AllocError> {
+    pub fn write(&self, out: &mut BytesMut, command: LoadCommand) -> Result<(), AllocError> {
         match command.kind {
-            Kind::Get => out.extend_from_slice(b"get ")?,
-            Kind::Set => out.extend_from_slice(b"set ")?,
-            Kind::Delete => out.extend_from_slice(b"delete ")?,
+            LoadKind::Get => out.extend_from_slice(b"get ")?,
+            LoadKind::Set => out.extend_from_slice(b"set ")?,
+            LoadKind::Delete => out.extend_from_slice(b"delete ")?,
         }
         put_key(out, command.key)?;
-        if command.kind == Kind::Set {
+        if command.kind == LoadKind::Set {
             self.write_value(out, command.value)?;
         }
         out.extend_from_slice(b"\r\n")
@@ -160,14 +160,14 @@ impl Wire {
     pub fn read(
         &mut self,
         held: &[u8],
-        command: Command,
+        command: LoadCommand,
     ) -> Result<Option<(Answer, usize)>, AllocError> {
         let Some(at) = memchr(b'\n', held) else {
             return Ok(None);
         };
         let line = at.saturating_add(1);
         let text = held.get(..line).unwrap_or(held);
-        if command.kind == Kind::Get && text.starts_with(b"VALUE ") {
+        if command.kind == LoadKind::Get && text.starts_with(b"VALUE ") {
             return self.read_value(held, line, command.key);
         }
         Ok(Some((answer_of(text, command.kind), line)))
@@ -175,11 +175,11 @@ impl Wire {
 }
 
 // What an answer of one line says to a command.
-fn answer_of(line: &[u8], kind: Kind) -> Answer {
+fn answer_of(line: &[u8], kind: LoadKind) -> Answer {
     match (kind, line) {
-        (Kind::Get, b"END\r\n") => Answer::Missed,
-        (Kind::Set, b"STORED\r\n") => Answer::Stored,
-        (Kind::Delete, b"DELETED\r\n" | b"NOT_FOUND\r\n") => Answer::Deleted,
+        (LoadKind::Get, b"END\r\n") => Answer::Missed,
+        (LoadKind::Set, b"STORED\r\n") => Answer::Stored,
+        (LoadKind::Delete, b"DELETED\r\n" | b"NOT_FOUND\r\n") => Answer::Deleted,
         _ if line.starts_with(b"SERVER_ERROR") || line.starts_with(b"ERROR") => Answer::Error,
         _ => Answer::Wrong,
     }

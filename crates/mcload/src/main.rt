@@ -10,7 +10,7 @@ mod plan;
 mod run;
 mod tally;
 
-use arguments::{Settings, USAGE, settings_of};
+use arguments::{LoadSettings, USAGE, settings_of};
 use run::run_job;
 use std::alloc::AllocError;
 use std::io;
@@ -20,7 +20,7 @@ use std::rt::{Clock, Env};
 
 /// Why the program ends with a line on standard error.
 #[derive(Clone, Copy)]
-pub enum Stop {
+pub enum LoadStop {
     Usage,
     /// The bytes of an answer aren't those of any answer to its command.
     WrongAnswer,
@@ -30,35 +30,35 @@ pub enum Stop {
     Failed,
 }
 
-impl From<io::Error> for Stop {
-    fn from(_error: io::Error) -> Stop {
-        Stop::Failed
+impl From<io::Error> for LoadStop {
+    fn from(_error: io::Error) -> LoadStop {
+        LoadStop::Failed
     }
 }
 
-impl From<AllocError> for Stop {
-    fn from(_error: AllocError) -> Stop {
-        Stop::Failed
+impl From<AllocError> for LoadStop {
+    fn from(_error: AllocError) -> LoadStop {
+        LoadStop::Failed
     }
 }
 
-fn run_with_arguments<R: AllocGlobal + Env + Net + Clock + Print>(rt: &R) -> Result<(), Stop> {
+fn run_with_arguments<R: AllocGlobal + Env + Net + Clock + Print>(rt: &R) -> Result<(), LoadStop> {
     let Ok(arguments) = std::env::args(rt)?.collect::<Vec<String>>(rt.alloc()) else {
-        return Err(Stop::Failed);
+        return Err(LoadStop::Failed);
     };
     match settings_of(arguments.as_slice()) {
         Some(settings) => run_job(rt, settings),
-        None => Err(Stop::Usage),
+        None => Err(LoadStop::Usage),
     }
 }
 
 fn main(rt: HostRuntime) -> ExitCode {
     let (status, line) = match run_with_arguments(&rt) {
         Ok(()) => return ExitCode::SUCCESS,
-        Err(Stop::WrongAnswer) => (1, "mcload: an answer with wrong bytes"),
-        Err(Stop::Usage) => (2, USAGE),
-        Err(Stop::Lost) => (3, "mcload: a connection was lost"),
-        Err(Stop::Failed) => (3, "mcload: memory refused, or a device failed"),
+        Err(LoadStop::WrongAnswer) => (1, "mcload: an answer with wrong bytes"),
+        Err(LoadStop::Usage) => (2, USAGE),
+        Err(LoadStop::Lost) => (3, "mcload: a connection was lost"),
+        Err(LoadStop::Failed) => (3, "mcload: memory refused, or a device failed"),
     };
     let _ = rt.eprintln(line);
     ExitCode::from(status)

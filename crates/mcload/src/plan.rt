@@ -1,12 +1,12 @@
 //! Which command comes next.
 
-use crate::arguments::{Job, Settings};
-use crate::commands::{Command, Kind};
+use crate::arguments::{LoadJob, LoadSettings};
+use crate::commands::{LoadCommand, LoadKind};
 
 /// The choice of commands. A value carries a number, which with what there are of keys as the modulus is its key's.
 #[derive(Clone, Copy)]
 pub struct Plan {
-    job: Job,
+    job: LoadJob,
     keys: u64,
     gets: u64,
     state: u64,
@@ -16,7 +16,7 @@ pub struct Plan {
 
 impl Plan {
     /// The plan of these settings, with no command chosen yet.
-    pub fn new(settings: Settings<'_>) -> Plan {
+    pub fn new(settings: LoadSettings<'_>) -> Plan {
         Plan {
             job: settings.job,
             keys: settings.keys,
@@ -49,30 +49,30 @@ impl Plan {
         self.chosen.saturating_mul(self.keys).saturating_add(key)
     }
 
-    fn kind(&mut self) -> Kind {
+    fn kind(&mut self) -> LoadKind {
         let hundredth = self.random() % 100;
         match self.job {
-            Job::Fill => Kind::Set,
-            Job::Load if hundredth < self.gets => Kind::Get,
-            Job::Load => Kind::Set,
-            Job::Freshness if hundredth < 60 => Kind::Get,
-            Job::Freshness if hundredth < 90 => Kind::Set,
-            Job::Freshness => Kind::Delete,
+            LoadJob::Fill => LoadKind::Set,
+            LoadJob::Load if hundredth < self.gets => LoadKind::Get,
+            LoadJob::Load => LoadKind::Set,
+            LoadJob::Freshness if hundredth < 60 => LoadKind::Get,
+            LoadJob::Freshness if hundredth < 90 => LoadKind::Set,
+            LoadJob::Freshness => LoadKind::Delete,
         }
     }
 
     /// The next command.
-    pub fn next(&mut self) -> Command {
+    pub fn next(&mut self) -> LoadCommand {
         let kind = self.kind();
         let key = match self.job {
-            Job::Fill => self.key_of(self.chosen),
-            Job::Load | Job::Freshness => self.random_key(),
+            LoadJob::Fill => self.key_of(self.chosen),
+            LoadJob::Load | LoadJob::Freshness => self.random_key(),
         };
         let value = match self.job {
-            Job::Fill | Job::Load => key,
-            Job::Freshness => self.new_value(key),
+            LoadJob::Fill | LoadJob::Load => key,
+            LoadJob::Freshness => self.new_value(key),
         };
         self.chosen = self.chosen.saturating_add(1);
-        Command { kind, key, value }
+        LoadCommand { kind, key, value }
     }
 }

@@ -1,12 +1,13 @@
 //! The clients' sockets, in turns: who is ready is read and answered commands are counted, and then each sends new ones.
 
-use crate::Stop;
-use crate::arguments::Settings;
+use crate::LoadStop;
+use crate::arguments::LoadSettings;
 use crate::commands::Wire;
 use crate::plan::Plan;
-use crate::tally::{Asked, Tally};
+use crate::tally::{Asked, LoadTally};
 use mio::net::TcpStream;
 use mio::{Events, Poll, Token};
+use serve_clients::socket::{Conn, Got, Limits, Ready, Sent, watch};
 use std::alloc::Global;
 use std::collections::VecDeque;
 use std::io;
@@ -14,7 +15,6 @@ use std::net::{Net, SocketAddr, ToSocketAddrs};
 use std::os::fd::AsRawFd;
 use std::rt::Clock;
 use std::time::{Duration, Instant};
-use tcp_socket::{Conn, Got, Limits, Ready, Sent, watch};
 
 // The room of one read, in bytes.
 const READ_ROOM: usize = 65_536;
@@ -67,7 +67,7 @@ impl Peer {
     }
 
     // One read. Whether the connection stands.
-    fn read(&mut self) -> Result<bool, Stop> {
+    fn read(&mut self) -> Result<bool, LoadStop> {
         if !self.conn.readable {
             return Ok(true);
         }
@@ -95,15 +95,15 @@ impl Peer {
 
 /// The clients and what came of their commands.
 #[derive(Drop)]
-struct Run<'a> {
-    settings: Settings<'a>,
+struct LoadRun<'a> {
+    settings: LoadSettings<'a>,
     poll: Poll,
     events: Events,
     none: Events,
     peers: Vec<Peer>,
     wire: Wire,
     plan: Plan,
-    tally: Tally,
+    tally: LoadTally,
     start: Instant,
     // In nanoseconds since the start.
     now: u64,
@@ -124,32 +124,35 @@ fn connect<N: Net>(
 }
 
 // The first address that a text names.
-fn address_of<N: Net>(net: &N, text: &str) -> Result<SocketAddr, Stop> {
-    text.to_socket_addrs(net)?.next().ok_or(Stop::Failed)
+fn address_of<N: Net>(net: &N, text: &str) -> Result<SocketAddr, LoadStop> {
+    text.to_socket_addrs(net)?.next().ok_or(LoadStop::Failed)
 }
 
 fn connect_all<R: Net + AllocGlobal>(
     rt: &R,
     poll: &Poll,
-    settings: Settings<'_>,
-) -> Result<Vec<Peer>, Stop> {
+    settings: LoadSettings<'_>,
+) -> Result<Vec<Peer>, LoadStop> {
     let address = address_of(rt, settings.address)?;
     let mut peers = Vec::new(rt.alloc());
     for token in 0..settings.clients as usize {
         let stream = connect(rt, poll, address, token)?;
         if peers.push(Peer::new(rt.alloc(), stream)).is_err() {
-            return Err(Stop::Failed);
+            return Err(LoadStop::Failed);
         }
     }
     Ok(peers)
 }
 
-impl<'a> Run<'a> {
-    fn new<R: Net + Clock + AllocGlobal>(rt: &R, settings: Settings<'a>) -> Result<Run<'a>, Stop> {
+impl<'a> LoadRun<'a> {
+    fn new<R: Net + Clock + AllocGlobal>(
+        rt: &R,
+        settings: LoadSettings<'a>,
+    ) -> Result<LoadRun<'a>, LoadStop> {
         let alloc = rt.alloc();
         let poll = Poll::new(rt)?;
         let peers = connect_all(rt, &poll, settings)?;
-        Ok(Run {
+        Ok(LoadRun {
             settings,
             poll,
             events: Events::with_capacity(alloc, 1_024)?,
@@ -157,7 +160,7 @@ impl<'a> Run<'a> {
             peers,
             wire: Wire::new(alloc, settings.size)?,
             plan: Plan::new(settings),
-            tally: Tally::new(alloc, settings)?,
+            tally: LoadTally::new(alloc, settings)?,
             start: Instant::now(rt)?,
             now: 0,
             begun: 0,
@@ -183,7 +186,7 @@ impl<'a> Run<'a> {
     }
 
     // The answers of a client that are whole are counted.
-    fn settle(&mut self, id: usize) -> Result<(), Stop> {
+    fn settle(&mut self, id: usize) -> Result<(), LoadStop> {
         let Some(peer) = self.peers.get_mut(id) else {
             return Ok(());
         };
@@ -200,7 +203,7 @@ impl<'a> Run<'a> {
             self.tally.end(asked, answer, self.now)?;
         }
         if peer.asked.is_empty() && !peer.conn.held.is_empty() {
-            return Err(Stop::WrongAnswer);
+            return Err(LoadStop::WrongAnswer);
         }
         Ok(())
     }
@@ -212,7 +215,7 @@ impl<'a> Run<'a> {
     }
 
     // New commands of a client, as many as it may have under way.
-    fn ask(&mut self, id: usize) -> Result<(), Stop> {
+    fn ask(&mut self, id: usize) -> Result<(), LoadStop> {
         for _ in 0..self.settings.depth {
             if !self.is_going_on() {
                 break;
@@ -222,7 +225,7 @@ impl<'a> Run<'a> {
         Ok(())
     }
 
-    fn ask_once(&mut self, id: usize) -> Result<(), Stop> {
+    fn ask_once(&mut self, id: usize) -> Result<(), LoadStop> {
         let Some(peer) = self.peers.get_mut(id) else {
             return Ok(());
         };
@@ -233,13 +236,13 @@ impl<'a> Run<'a> {
         let asked = self.tally.begin(command, self.now);
         self.wire.write(&mut peer.conn.unsent.text, command)?;
         if peer.asked.push_back(asked).is_err() {
-            return Err(Stop::Failed);
+            return Err(LoadStop::Failed);
         }
         self.begun = self.begun.saturating_add(1);
         Ok(())
     }
 
-    fn read_some<R: Clock>(&mut self, rt: &R, id: usize) -> Result<(), Stop> {
+    fn read_some<R: Clock>(&mut self, rt: &R, id: usize) -> Result<(), LoadStop> {
         for _ in 0..STEPS {
             let Some(peer) = self.peers.get_mut(id) else {
                 break;
@@ -248,7 +251,7 @@ impl<'a> Run<'a> {
                 break;
             }
             if !peer.read()? {
-                return Err(Stop::Lost);
+                return Err(LoadStop::Lost);
             }
             self.look_at_clock(rt)?;
             self.settle(id)?;
@@ -256,18 +259,18 @@ impl<'a> Run<'a> {
         Ok(())
     }
 
-    fn send(&mut self, id: usize) -> Result<(), Stop> {
+    fn send(&mut self, id: usize) -> Result<(), LoadStop> {
         let Some(peer) = self.peers.get_mut(id) else {
             return Ok(());
         };
         if !peer.send() {
-            return Err(Stop::Lost);
+            return Err(LoadStop::Lost);
         }
         self.has_work = self.has_work || peer.has_work();
         Ok(())
     }
 
-    fn turn<R: Clock>(&mut self, rt: &R) -> Result<(), Stop> {
+    fn turn<R: Clock>(&mut self, rt: &R) -> Result<(), LoadStop> {
         let limit = if self.has_work { 0 } else { 100 };
         self.poll
             .poll(&mut self.events, Some(Duration::from_millis(limit)))?;
@@ -312,9 +315,9 @@ impl<'a> Run<'a> {
 /// Runs what is asked for, and prints a line of what came of it. The times are nanoseconds, the rate commands a second.
 pub fn run_job<R: Net + Clock + AllocGlobal + Print>(
     rt: &R,
-    settings: Settings<'_>,
-) -> Result<(), Stop> {
-    let mut run = Run::new(rt, settings)?;
+    settings: LoadSettings<'_>,
+) -> Result<(), LoadStop> {
+    let mut run = LoadRun::new(rt, settings)?;
     for _ in 0..u64::MAX {
         run.turn(rt)?;
         if run.is_over() {

@@ -1,8 +1,8 @@
 //! What came of the commands.
 
-use crate::Stop;
-use crate::arguments::{Job, Settings};
-use crate::commands::{Answer, Command, Kind};
+use crate::LoadStop;
+use crate::arguments::{LoadJob, LoadSettings};
+use crate::commands::{Answer, LoadCommand, LoadKind};
 use crate::freshness::{Begun, Freshness};
 use crate::latency::Latencies;
 use std::alloc::{AllocError, Global};
@@ -10,7 +10,7 @@ use std::alloc::{AllocError, Global};
 /// A command under way.
 #[derive(Clone, Copy)]
 pub struct Asked {
-    pub command: Command,
+    pub command: LoadCommand,
     begun: Begun,
     // When it began, in nanoseconds.
     since: u64,
@@ -18,7 +18,7 @@ pub struct Asked {
 
 /// How many answers there were of each kind.
 #[derive(Clone, Copy)]
-pub struct Counts {
+pub struct LoadCounts {
     pub hits: u64,
     pub misses: u64,
     pub stored: u64,
@@ -26,9 +26,9 @@ pub struct Counts {
     pub errors: u64,
 }
 
-impl Counts {
-    fn new() -> Counts {
-        Counts {
+impl LoadCounts {
+    fn new() -> LoadCounts {
+        LoadCounts {
             hits: 0,
             misses: 0,
             stored: 0,
@@ -60,28 +60,28 @@ impl Counts {
 
 /// The answers so far.
 #[derive(Drop)]
-pub struct Tally {
+pub struct LoadTally {
     keys: u64,
     is_judging: bool,
-    pub counts: Counts,
+    pub counts: LoadCounts,
     pub latencies: Latencies,
     pub freshness: Freshness,
 }
 
-impl Tally {
+impl LoadTally {
     /// Nothing counted yet. The only error is that memory ran out.
-    pub fn new(alloc: Global, settings: Settings<'_>) -> Result<Tally, AllocError> {
-        Ok(Tally {
+    pub fn new(alloc: Global, settings: LoadSettings<'_>) -> Result<LoadTally, AllocError> {
+        Ok(LoadTally {
             keys: settings.keys,
-            is_judging: settings.job == Job::Freshness,
-            counts: Counts::new(),
+            is_judging: settings.job == LoadJob::Freshness,
+            counts: LoadCounts::new(),
             latencies: Latencies::new(alloc, settings.commands),
             freshness: Freshness::new(alloc, settings.keys as usize)?,
         })
     }
 
     /// A command begins.
-    pub fn begin(&mut self, command: Command, now: u64) -> Asked {
+    pub fn begin(&mut self, command: LoadCommand, now: u64) -> Asked {
         Asked {
             command,
             begun: self.freshness.begin(command.key),
@@ -97,20 +97,22 @@ impl Tally {
     fn judge(&mut self, asked: Asked, answer: Answer) -> Result<(), AllocError> {
         let command = asked.command;
         match (command.kind, answer) {
-            (Kind::Set, Answer::Stored) => self.freshness.has_stored(command.value)?,
-            (Kind::Delete, Answer::Deleted) => self.freshness.has_deleted(command.key, asked.begun),
-            (Kind::Get, Answer::Value(value)) => self.freshness.has_shown(value, asked.begun),
+            (LoadKind::Set, Answer::Stored) => self.freshness.has_stored(command.value)?,
+            (LoadKind::Delete, Answer::Deleted) => self
+                .freshness
+                .has_deleted(command.key, asked.begun),
+            (LoadKind::Get, Answer::Value(value)) => self.freshness.has_shown(value, asked.begun),
             _ => {}
         }
         Ok(())
     }
 
     /// A command was answered. [`Stop::WrongAnswer`] where that can't be its answer.
-    pub fn end(&mut self, asked: Asked, answer: Answer, now: u64) -> Result<(), Stop> {
+    pub fn end(&mut self, asked: Asked, answer: Answer, now: u64) -> Result<(), LoadStop> {
         match answer {
-            Answer::Wrong => return Err(Stop::WrongAnswer),
+            Answer::Wrong => return Err(LoadStop::WrongAnswer),
             Answer::Value(value) if !self.fits(value, asked.command.key) => {
-                return Err(Stop::WrongAnswer);
+                return Err(LoadStop::WrongAnswer);
             }
             _ => {}
         }

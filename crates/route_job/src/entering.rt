@@ -1,7 +1,7 @@
 //! What each form of route begins with.
 
 ghost use Rattle.std.specs.Prelude.{◌≡◌, ◌<◌, ◌+◌, ◌*◌, ◌≤◌, ◌%◌, ℕ, List, length, slice_index, IfOk, IfSome};
-ghost use Rattle.key_hash.specs.Tag.{key_hash};
+ghost use Rattle.route_tree.specs.Tag.{key_hash};
 ghost use Rattle.mc_types.specs.declared.ask.Ask.{Ask};
 ghost use Rattle.mc_types.specs.declared.call.Origin.{Origin};
 ghost use Rattle.route_tree.specs.At.{plain_for, plain_for_all, plain_for_policies, tree_at};
@@ -16,10 +16,9 @@ ghost use Rattle.route_job.specs.Settling.{IsSure, advance_work};
 use crate::asks::is_get;
 use crate::done::{failing_done, null_done};
 use crate::frame::{Advance, Frame, Pending, Sides};
-use key_hash::key_hash;
 use mc_types::{Ask, Key, Op, ServerId};
 use route_tree::at::longest;
-use route_tree::{Children, Level, Tree, TreeForm, policy_of};
+use route_tree::{Children, Level, Tree, TreeForm, key_hash, policy_of};
 use std::alloc::AllocError;
 
 // All children in order.

@@ -2,8 +2,8 @@
 
 ghost use Rattle.std.specs.Prelude.{◌≡◌, ◌↔◌, MatchBool, ◌+◌, ◌≤◌, List, [], ◌∷◌, IfNone, IfOk, IfSome, OnOk, OnErr};
 ghost use Rattle.mc_types.specs.declared.call.Origin.TheVariants.{Client};
-ghost use Rattle.mc_runs.specs.Run.{Call as CallMade};
-ghost use Rattle.mc_runs.specs.Single.{FitsOutcome};
+ghost use Rattle.fresh_runs.specs.Run.{Call as CallMade};
+ghost use Rattle.fresh_runs.specs.Single.{FitsOutcome};
 ghost use Rattle.route_tree.specs.At.{tree_at};
 ghost use Rattle.route_tree.specs.Word.{Given, Word};
 ghost use Rattle.route_job.specs.Given.{given_of};
@@ -13,9 +13,8 @@ use crate::done::{Done, broken_done, done_by};
 use crate::entering::server_at_once;
 use crate::frame::{Frame, Pending};
 use crate::walk::{ask_under, origin_under, settle};
-use key_hash::key_hash;
 use mc_types::{Origin, Outcome, ServerId, SharedAsk};
-use route_tree::Tree;
+use route_tree::{Tree, key_hash};
 use std::alloc::{AllocError, Global};
 use std::mem::replace;
 

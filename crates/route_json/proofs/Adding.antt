@@ -6,8 +6,8 @@ use Rattle.std.proofs.lemmas.Bool.{cases_Bool}
 use Rattle.std.proofs.lemmas.List.{append-nil}
 use Rattle.serde_json.specs.Data.{Data, null, boolean, number, string, array, object, Members}
 use Rattle.serde_json.specs.Find.{get}
-use Rattle.route_names.specs.declared.holders.Holder.TheVariants as holders
-use Rattle.server_addresses.specs.ServerTexts.{server_in}
+use Rattle.route_json.specs.declared.names.holders.Holder.TheVariants as holders
+use Rattle.route_json.specs.ServerTexts.{server_in}
 use Rattle.route_json.specs.Fault.{Fault}
 use Rattle.route_json.specs.Fields.{only, value_or, list_or, object_or}
 use Rattle.route_json.specs.Servers.{Addresses, numbered_at, numbered, server_or}

@@ -4,8 +4,8 @@ use Rattle.mc_types.specs.KeyText.{IsKey}
 use Rattle.mc_types.specs.declared.ask.Op.{Op}
 use Rattle.route_tree.specs.Route.{Route, ByOperation, ByPrefix, IsNotEmpty, IsGood, AreGood, ArePoliciesGood, ArePrefixesGood, depth, depth_of_all, depth_of_policies, depth_of_prefixes, count, count_of_all, count_of_policies, count_of_prefixes}
 use Rattle.route_tree.specs.Form.{routes_of, policies_of, prefixes_of}
-use Rattle.route_names.specs.declared.kinds.Lists.{Lists}
-use Rattle.route_names.specs.declared.kinds.Lists.TheVariants.{AllSync, Failover, MissFailover}
+use Rattle.route_json.specs.declared.names.kinds.Lists.{Lists}
+use Rattle.route_json.specs.declared.names.kinds.Lists.TheVariants.{AllSync, Failover, MissFailover}
 use Rattle.route_json.specs.Fault.{Fault}
 use Rattle.route_json.specs.Fits.{IsBelow, AreBelow, ArePoliciesBelow, ArePrefixesBelow, Fits, AllFit, NodeFits, seconds, AreKeys}
 use Rattle.route_json.specs.Reading.{Reading}

@@ -1,3 +1,6 @@
+pub mod Fronts
+pub mod Colons
+pub mod Known
 pub mod Adding
 pub mod Each
 pub mod Numbers

@@ -5,7 +5,7 @@ use Rattle.std.specs.Prelude.{[], codes, Option, Some, None, Result, Ok, Err}
 use Rattle.serde_json.specs.Data.{Data, object}
 use Rattle.serde_json.specs.Find.{get}
 use Rattle.route_tree.specs.Route.{Route}
-use Rattle.route_names.specs.declared.holders.Holder.TheVariants as holders
+use Rattle.route_json.specs.declared.names.holders.Holder.TheVariants as holders
 use Rattle.route_json.specs.Fault.{Fault, NotJson}
 use Rattle.route_json.specs.Fields.{only, value_or, object_or}
 use Rattle.route_json.specs.Pools.{Pools, pools_in}

@@ -5,8 +5,8 @@ use Rattle.std.specs.List.{list_any}
 use Rattle.std.specs.Str.{bytes_eq}
 use Rattle.mc_types.specs.declared.ask.Op.{Op}
 use Rattle.serde_json.specs.Data.{Data, unsigned, number, string, array, object, Items, Members}
-use Rattle.route_names.specs.declared.holders.Holder.{Holder}
-use Rattle.route_names.specs.Names.{fields_of}
+use Rattle.route_json.specs.declared.names.holders.Holder.{Holder}
+use Rattle.route_json.specs.Names.{fields_of}
 use Rattle.route_json.specs.Fault.{Fault, BadField}
 use Rattle.route_json.specs.Reading.{members}
 

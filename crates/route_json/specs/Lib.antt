@@ -1,3 +1,7 @@
+pub mod Names
+pub mod Addresses
+pub mod ServerTexts
+pub mod NumberedServers
 pub mod Fault
 pub mod Printed
 pub mod Reading

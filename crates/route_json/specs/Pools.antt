@@ -1,12 +1,12 @@
 -- Pools of servers. Source: mcgate's own.
-use Rattle.server_addresses.specs.declared.server_text.TheConstants.{MAX_WEIGHT}
+use Rattle.route_json.specs.declared.addresses.server_text.TheConstants.{MAX_WEIGHT}
 use Rattle.route_tree.specs.declared.limits.TheConstants.{SLOT_LIMIT, POOL_LIMIT}
 use Rattle.std.specs.Prelude.{ℕ, ◌<◌, ◌≤◌, ◌==◌, List, [], ◌∷◌, codes, length, replicate, nat_lt, Option, Some, None, Result, Ok, Err, if◌then◌else◌, string_bytes}
 use Rattle.std.specs.List.{flat_map}
 use Rattle.std.specs.Str.{bytes_eq}
 use Rattle.serde_json.specs.Data.{Data, string, object, Members}
 use Rattle.serde_json.specs.Find.{get}
-use Rattle.route_names.specs.declared.holders.Holder.TheVariants as holders
+use Rattle.route_json.specs.declared.names.holders.Holder.TheVariants as holders
 use Rattle.route_json.specs.declared.pools.Pool.{Pool}
 use Rattle.route_json.specs.declared.pools.WeightedServer.{WeightedServer}
 use Rattle.route_json.specs.Fault.{Fault, BadField, EmptyPool, TooManyServers, TooManySlots}

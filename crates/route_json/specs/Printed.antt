@@ -2,7 +2,7 @@
 use Rattle.std.specs.Prelude.{ℕ, List, ◌++◌, codes, string_bytes}
 use Rattle.route_json.specs.declared.fault.ConfigFault.{ConfigFault}
 use Rattle.route_json.specs.declared.fault.ConfigFault.TheVariants.{NotJson, BadField, BadAddress, EmptyPool, TooManyServers, TooManySlots, TooDeep, TooManyNodes, UnknownType, NoPool, EmptyChildren, BadPrefix, NoMemory}
-use Rattle.byte_escapes.specs.Escapes.{escaped}
+use Rattle.text_words.specs.Escapes.{escaped}
 
 -- the words of a fault, with its name or text escaped
 abbrev pub fault_line : ConfigFault → List ℕ

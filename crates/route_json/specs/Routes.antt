@@ -10,12 +10,12 @@ use Rattle.serde_json.specs.Find.{get}
 use Rattle.route_tree.specs.Route as forms
 use Rattle.route_tree.specs.Route.{Route, Routes, Server, Failing}
 use Rattle.route_tree.specs.Form.{routes_of, policies_of, prefixes_of}
-use Rattle.route_names.specs.declared.kinds.Lists.{Lists}
-use Rattle.route_names.specs.declared.kinds.Lists.TheVariants as lists
-use Rattle.route_names.specs.declared.kinds.Kind.{Kind}
-use Rattle.route_names.specs.declared.kinds.Kind.TheVariants as kinds
-use Rattle.route_names.specs.declared.holders.Holder.TheVariants as holders
-use Rattle.route_names.specs.Names.{kind_of, op_of, rest_after}
+use Rattle.route_json.specs.declared.names.kinds.Lists.{Lists}
+use Rattle.route_json.specs.declared.names.kinds.Lists.TheVariants as lists
+use Rattle.route_json.specs.declared.names.kinds.Kind.{Kind}
+use Rattle.route_json.specs.declared.names.kinds.Kind.TheVariants as kinds
+use Rattle.route_json.specs.declared.names.holders.Holder.TheVariants as holders
+use Rattle.route_json.specs.Names.{kind_of, op_of, rest_after}
 use Rattle.route_json.specs.Fault.{Fault, BadField, TooDeep, TooManyNodes, UnknownType, NoPool, EmptyChildren, BadPrefix}
 use Rattle.route_json.specs.Fields.{only, value_or, text_or, object_or, exptime_or, op_or}
 use Rattle.route_json.specs.declared.pools.WeightedServer.{WeightedServer}

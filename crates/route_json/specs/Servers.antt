@@ -1,9 +1,9 @@
 -- Servers by their first appearance. Source: mcgate's own.
-use Rattle.server_addresses.specs.declared.servers.TheConstants.{MAX_SERVERS}
+use Rattle.route_json.specs.declared.addresses.servers.TheConstants.{MAX_SERVERS}
 use Rattle.std.specs.Prelude.{ℕ, List, [], ◌∷◌, ◌++◌, length, nat_lt, Option, Some, None, Ok, Err, if◌then◌else◌, position}
 use Rattle.std.specs.Str.{bytes_eq}
-pub use Rattle.server_addresses.specs.Servers.{Addresses}
-use Rattle.server_addresses.specs.ServerTexts.{server_in}
+pub use Rattle.route_json.specs.NumberedServers.{Addresses}
+use Rattle.route_json.specs.ServerTexts.{server_in}
 use Rattle.route_json.specs.declared.pools.WeightedServer.{WeightedServer}
 use Rattle.route_json.specs.Fault.{BadAddress, TooManyServers}
 use Rattle.route_json.specs.Reading.{Reading, ◌>>=◌, give, fail}

@@ -7,15 +7,15 @@ ghost use Rattle.route_json.specs.Configs.{object_after, config_after, read_or, 
 ghost use Rattle.route_json.specs.Fault.{Gives};
 ghost use Rattle.route_json.specs.Fits.{IsBelow};
 
+use crate::addresses::Servers;
 use crate::fault::ConfigFault;
 use crate::fields::{object_field, only, value_field};
-use crate::place::{Place, RouteCount};
+use crate::names::Holder;
+use crate::place::{RouteCount, RoutePlace};
 use crate::pools::Pools;
 use crate::route::route;
-use route_names::Holder;
 use route_tree::{DEPTH_LIMIT, Tree};
 use serde_json::Value;
-use server_addresses::Servers;
 use std::alloc::{AllocError, Global};
 use std::marker::Model;
 
@@ -125,7 +125,7 @@ fn object_after(alloc: Global, servers: Servers, value: &Value) -> Result<Config
     let map = object_field(alloc, "pools", value)?;
     let pools = Pools::read(alloc, servers, map)?;
     let mut count = RouteCount { routes: 0 };
-    let place = Place {
+    let place = RoutePlace {
         levels: DEPTH_LIMIT,
         weight: 1,
     };

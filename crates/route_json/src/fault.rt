@@ -3,11 +3,11 @@
 ghost use Rattle.std.specs.Prelude.{Some};
 ghost use Rattle.route_json.specs.Printed.{fault_line};
 
-use byte_escapes::Escaped;
 use std::alloc::{AllocError, AllocFailed, Global};
 use std::error::Error;
 use std::fmt;
 use std::fmt::Display;
+use text_words::escapes::Escaped;
 
 /// The first fault of a configuration. `Display` writes what mcgate prints of it after `config: `.
 ///

@@ -8,7 +8,7 @@ ghost use Rattle.route_json.specs.Fields.{only_members, only, value_or, text_or,
 ghost use Rattle.route_json.specs.Reading.{members};
 
 use crate::fault::ConfigFault;
-use route_names::{Holder, is_field};
+use crate::names::{Holder, is_field};
 use serde_json::{Map, Value};
 use std::alloc::Global;
 

@@ -5,17 +5,17 @@ ghost use Rattle.mc_types.specs.KeyText.{IsKey};
 ghost use Rattle.route_tree.specs.Route.{Failing, Server};
 ghost use Rattle.route_tree.specs.Form.{route_of_form, routes_of};
 ghost use Rattle.route_json.specs.Fault.{Gives};
-ghost use Rattle.route_names.specs.Names.{kind_of, rest_after};
+ghost use Rattle.route_json.specs.Names.{kind_of, rest_after};
 ghost use Rattle.route_json.specs.Fits.{IsLeaf, Fits, AllFit, NodeFits};
 ghost use Rattle.route_json.specs.Pools.{AreWeighted, IsPool, servers_of};
 ghost use Rattle.route_json.specs.Reading.{each};
 ghost use Rattle.route_json.specs.Routes.{leaf, kind_or, policy_op, prefix_of, listed, known_pool, pool_route, server_routes, short_list, short, text_children};
 
 use crate::fault::ConfigFault;
+use crate::names::{Kind, Lists, kind_of, op_of, rest_after};
 use crate::place::{Below, RouteCount};
 use crate::pools::{Pools, WeightedServer, slots_of};
 use mc_types::{Key, Op, ServerId};
-use route_names::{Kind, Lists, kind_of, op_of, rest_after};
 use route_tree::{Tree, TreeForm};
 use std::alloc::Global;
 

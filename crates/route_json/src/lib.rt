@@ -1,11 +1,14 @@
-//! Configurations: the tree of routes and the servers that a JSON text means, or its first fault.
+//! Configurations: the tree of routes and the servers that a JSON text means, or its first fault; the names in it, and
+//! its addresses.
 #![tactic(auto)]
 
+pub mod addresses;
 pub mod config;
 pub mod fault;
 mod fields;
 pub mod laws;
 mod leaf;
+pub mod names;
 mod numbering;
 pub mod one_pool;
 mod place;
@@ -13,6 +16,6 @@ mod pools;
 mod route;
 mod selector;
 
+pub use addresses::Servers;
 pub use config::{Config, read_config, read_config_after};
 pub use fault::ConfigFault;
-pub use server_addresses::Servers;

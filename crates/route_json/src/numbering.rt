@@ -4,12 +4,12 @@ ghost use Rattle.std.specs.Prelude.{◌≡◌, ◌<◌, ◌≤◌, IfOk, length}
 ghost use Rattle.route_json.specs.Fault.{Gives};
 ghost use Rattle.route_json.specs.Servers.{numbered, server_of_text};
 
+use crate::addresses::server_text::MAX_WEIGHT;
+use crate::addresses::servers::MAX_SERVERS;
+use crate::addresses::{Servers, read_server};
 use crate::fault::ConfigFault;
 use crate::pools::WeightedServer;
 use mc_types::ServerId;
-use server_addresses::server_text::MAX_WEIGHT;
-use server_addresses::servers::MAX_SERVERS;
-use server_addresses::{Servers, read_server};
 use std::alloc::Global;
 
 /// The server of a text in the list of this pool: a new address goes last. `BadAddress` where the text says no server,

@@ -4,9 +4,9 @@ ghost use Rattle.std.specs.Prelude.{◌≡◌, ◌<◌, ◌≤◌, IfOk};
 ghost use Rattle.route_json.specs.PoolConfiguration.{pool_configuration};
 ghost use Rattle.route_tree.specs.declared.limits.TheConstants.{POOL_LIMIT};
 
+use crate::addresses::Servers;
 use crate::config::Config;
 use route_tree::{Tree, TreeForm};
-use server_addresses::Servers;
 use std::alloc::{AllocError, Global};
 
 impl Config {

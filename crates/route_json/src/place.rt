@@ -17,7 +17,7 @@ pub struct RouteCount {
 
 /// Where a route is read: how many levels it may have, itself counted, and how often it counts.
 #[derive(Clone, Copy)]
-pub struct Place {
+pub struct RoutePlace {
     pub levels: u32,
     pub weight: u32,
     ghost shallow: { levels ≤ DEPTH_LIMIT },

@@ -6,15 +6,15 @@ ghost use Rattle.route_json.specs.Fault.{Gives};
 ghost use Rattle.route_json.specs.Pools.{pools_of, slots_of, AreWeighted, IsPool, ArePools, servers_of, server_of, few_slots, servers_in, pool_list, pool_object, pool_of, pools_in};
 ghost use Rattle.route_json.specs.Reading.{each, values};
 
+use crate::addresses::Servers;
+use crate::addresses::server_text::MAX_WEIGHT;
 use crate::fault::ConfigFault;
 use crate::fields::{list_field, only};
+use crate::names::Holder;
 use crate::numbering::server_of_text;
 use mc_types::ServerId;
-use route_names::Holder;
 use route_tree::{POOL_LIMIT, SLOT_LIMIT};
 use serde_json::{Map, Value};
-use server_addresses::Servers;
-use server_addresses::server_text::MAX_WEIGHT;
 use std::alloc::{AllocError, Global};
 use std::marker::Model;
 

@@ -12,10 +12,10 @@ ghost use Rattle.route_json.specs.Routes.{children_of, warm_up, fields, typed, n
 use crate::fault::ConfigFault;
 use crate::fields::{exptime_field, only, text_field, value_field};
 use crate::leaf::{known_kind, listed, pool_route, short, text_children};
-use crate::place::{Below, Place, RouteCount};
+use crate::names::{Holder, Kind};
+use crate::place::{Below, RouteCount, RoutePlace};
 use crate::pools::Pools;
 use crate::selector::{by_operation, by_prefix};
-use route_names::{Holder, Kind};
 use route_tree::{Tree, TreeForm};
 use serde_json::Value;
 use std::alloc::Global;
@@ -29,7 +29,7 @@ pub fn route(
     alloc: Global,
     pools: &Pools,
     count: &mut RouteCount,
-    place: Place,
+    place: RoutePlace,
     field: &str,
     value: &Value,
 ) -> Result<Tree, ConfigFault>
@@ -124,13 +124,13 @@ fn warm_up(
     ensures fits { IfOk result (λ r. NodeFits (length pools.now.1) below.levels below.weight count.old.routes (route_of_form r) count.new.routes) }
 {
     let cold = value_field(alloc, "cold", value)?;
-    let cold_place = Place {
+    let cold_place = RoutePlace {
         levels: below.levels,
         weight: COLD * below.weight,
     };
     let cold = route(alloc, pools, count, cold_place, "cold", cold)?;
     let warm = value_field(alloc, "warm", value)?;
-    let warm_place = Place {
+    let warm_place = RoutePlace {
         levels: below.levels,
         weight: below.weight,
     };
@@ -181,7 +181,7 @@ fn each_child(
     ensures fits { IfOk result (λ r. AllFit (length pools.now.1) below.levels below.weight count.old.routes r.items count.new.routes) }
     ensures many { IfOk result (λ r. length r.items ≡ length items.now) }
 {
-    let place = Place {
+    let place = RoutePlace {
         levels: below.levels,
         weight: below.weight,
     };

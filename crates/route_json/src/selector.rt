@@ -12,7 +12,7 @@ ghost use Rattle.route_json.specs.Routes.{policy_op, prefix_of, default_of, by_o
 use crate::fault::ConfigFault;
 use crate::fields::object_field;
 use crate::leaf::{error_leaf, policy_op, policy_prefix};
-use crate::place::{Below, Place, RouteCount};
+use crate::place::{Below, RouteCount, RoutePlace};
 use crate::pools::Pools;
 use crate::route::route;
 use mc_types::{Key, Op};
@@ -71,7 +71,7 @@ fn default_route(
     ensures gives { Gives (λ r. (r, count.new.routes)) result (default_of pools.now.0 below.levels below.weight (route pools.now.0 below.levels) name.now (get name.now (view value.now)) count.old.routes) }
     ensures fits { IfOk result (λ r. Fits (length pools.now.1) below.levels below.weight count.old.routes r count.new.routes) }
 {
-    let place = Place {
+    let place = RoutePlace {
         levels: below.levels,
         weight: below.weight,
     };
@@ -92,7 +92,7 @@ fn operations(
     ensures gives { Gives (λ r. (r.items, count.new.routes)) result (each (named policy_op (route pools.now.0 below.levels below.weight)) (members (members_view map.now.entries)) count.old.routes) }
     ensures fits { IfOk result (λ r. AllFit (length pools.now.1) below.levels below.weight count.old.routes (seconds r.items) count.new.routes) }
 {
-    let place = Place {
+    let place = RoutePlace {
         levels: below.levels,
         weight: below.weight,
     };
@@ -118,7 +118,7 @@ fn prefixes(
     ensures fits { IfOk result (λ r. AllFit (length pools.now.1) below.levels below.weight count.old.routes (seconds r.items) count.new.routes) }
     ensures keys { IfOk result (λ r. AreKeys r.items) }
 {
-    let place = Place {
+    let place = RoutePlace {
         levels: below.levels,
         weight: below.weight,
     };

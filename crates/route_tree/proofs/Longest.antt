@@ -1,7 +1,7 @@
 -- Of policies by prefix the longest that begins the key is taken.
 use Rattle.std.proofs.Common.{◌≡◌, ℕ, ◌≤◌, Bool, true, false, cond, ◌&&◌, List, length, Option, Some, None, IfSome, ◌⊎◌, inl, inr, ⊎_elim, refl, ap, ◌∙◌, arith}
 use Rattle.std.proofs.lemmas.Bool.{leb-true, le-leb, cases_lt}
-use Rattle.key_hash.specs.Tag.{key_hash}
+use Rattle.route_tree.specs.Tag.{key_hash}
 use Rattle.route_tree.specs.Each.{Each, IsIn}
 use Rattle.route_tree.specs.Route.{Route, Prefixes, Wildcard, Prefix}
 use Rattle.route_tree.specs.At.{begins, is_longer, plain_for, policy_list, wildcard_of, LongestIsTaken}

@@ -4,8 +4,8 @@ use Rattle.mc_types.specs.declared.ask.Op.{Op}
 use Rattle.mc_types.specs.declared.ask.Op.TheVariants.{Get}
 use Rattle.mc_types.specs.declared.call.Outcome.{Outcome}
 use Rattle.mc_types.specs.Rank.{IsWorst}
-use Rattle.mc_runs.specs.Run.{Call}
-use Rattle.mc_runs.specs.Single.{FitsOutcome}
+use Rattle.fresh_runs.specs.Run.{Call}
+use Rattle.fresh_runs.specs.Single.{FitsOutcome}
 use Rattle.route_tree.specs.Each.{Each}
 use Rattle.route_tree.specs.Word.{Given, rank, IfGet, Then, Gives}
 use Rattle.route_tree.specs.WordLaws.{ended}

@@ -10,7 +10,7 @@ use Rattle.route_tree.specs.Route.{Route, Routes, Policies, Prefixes, Pool, Serv
 use Rattle.route_tree.specs.At.{begins, is_longer, best_or, plain_for, plain_for_all, plain_for_policies, plain_for_prefixes}
 use Rattle.route_tree.specs.Each.{Each}
 use Rattle.route_tree.specs.Place.{sizes, sizes_of_all, sizes_of_policies, sizes_of_prefixes, prefixes, prefixes_of_all, prefixes_of_policies, prefixes_of_prefixes, IsLongest, prefix_text, PlaceIsEnough}
-use Rattle.key_hash.specs.Tag.{key_hash}
+use Rattle.route_tree.specs.Tag.{key_hash}
 use Rattle.mc_types.specs.KeyText.{IsKey}
 
 pub each_append : {A : Type 0} (P : A → Type 0) (xs ys : List A) → Each P xs → Each P ys → Each P (xs ++ ys)

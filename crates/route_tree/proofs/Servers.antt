@@ -7,9 +7,9 @@ use Rattle.mc_types.specs.declared.answer.Answer.{Answer}
 use Rattle.mc_types.specs.declared.answer.Answer.TheVariants.{Hit}
 use Rattle.mc_types.specs.declared.call.Origin.{Origin}
 use Rattle.mc_types.specs.declared.call.Origin.TheVariants.{CopyOf}
-use Rattle.mc_runs.specs.Run.{Call}
-use Rattle.mc_runs.specs.Fleet.{AreOn}
-use Rattle.key_hash.specs.Tag.{key_hash}
+use Rattle.fresh_runs.specs.Run.{Call}
+use Rattle.fresh_runs.specs.Fleet.{AreOn}
+use Rattle.route_tree.specs.Tag.{key_hash}
 use Rattle.route_tree.specs.Each.{Each, IsIn}
 use Rattle.route_tree.specs.Operation.{same_op}
 use Rattle.route_tree.specs.Plan as plan

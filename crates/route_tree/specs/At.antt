@@ -1,7 +1,7 @@
 -- The plain tree of a key. Source: mcgate's own; of a pool the key's slot is taken, of policies by prefix the longest that begins the key.
 use Rattle.std.specs.Prelude.{◌≡◌, ℕ, ◌%◌, ◌≤◌, Bool, true, false, ◌&&◌, List, [], ◌∷◌, length, slice_index, nat_eq, nat_lt, Option, Some, None, ◌⊎◌, if◌then◌else◌}
 use Rattle.std.specs.List.{starts_with}
-use Rattle.key_hash.specs.Tag.{key_hash}
+use Rattle.route_tree.specs.Tag.{key_hash}
 use Rattle.route_tree.specs.Each.{Each, IsIn}
 use Rattle.route_tree.specs.Plan as plan
 use Rattle.route_tree.specs.Plan.{Plan, Plans, PlanPolicies}

@@ -2,8 +2,8 @@
 use Rattle.std.specs.Prelude.{◌≡◌, ◌↔◌, ℕ, Bool, true, false, ◌&&◌, List, Option}
 use Rattle.mc_types.specs.declared.ask.Ask.{Ask}
 use Rattle.mc_types.specs.declared.answer.Answer.{Answer}
-use Rattle.mc_runs.specs.Run.{Call}
-use Rattle.mc_runs.specs.Single.{server_words}
+use Rattle.fresh_runs.specs.Run.{Call}
+use Rattle.fresh_runs.specs.Single.{server_words}
 use Rattle.route_tree.specs.Plan as plan
 use Rattle.route_tree.specs.Plan.{Plan}
 use Rattle.route_tree.specs.Route.{Route, Prefixes, Pool, Server, Null, Failing, AllSync, Failover, MissFailover, WarmUp, ByOperation, ByPrefix, Wildcard, Prefix}

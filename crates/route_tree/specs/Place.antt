@@ -1,7 +1,7 @@
 -- The place of a key in a tree: which of the tree's prefixes begins it, and the remainder of its hash. Source: mcgate's own.
 use Rattle.std.specs.Prelude.{◌≡◌, ℕ, ◌%◌, ◌<◌, ◌≤◌, true, false, List, [], ◌∷◌, ◌++◌, length, Option, Some, None, MatchOption}
 use Rattle.std.specs.Int.{◌∣◌}
-use Rattle.key_hash.specs.Tag.{key_hash}
+use Rattle.route_tree.specs.Tag.{key_hash}
 use Rattle.route_tree.specs.declared.place.Place.{Place}
 use Rattle.route_tree.specs.Each.{Each, IsIn}
 use Rattle.route_tree.specs.At.{begins, plain_for, tree_at}

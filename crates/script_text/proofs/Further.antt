@@ -2,9 +2,9 @@
 use Rattle.std.proofs.Common.{◌≡◌, ℕ, ◌+◌, List, [], ◌∷◌, ◌++◌, length, map, Some, None, refl, sym, ap, ◌∙◌, append_assoc, length-append}
 use Rattle.std.proofs.lemmas.List.{append-nil}
 use Rattle.route_json.specs.Servers.{Addresses}
-use Rattle.fleet_run.specs.declared.script.Event.{Event}
-use Rattle.fleet_run.specs.declared.script.Reload.{Reload}
-use Rattle.fleet_run.specs.Scripted.{Scripted, scripted_of}
+use Rattle.script_events.specs.declared.script.Event.{Event}
+use Rattle.script_events.specs.declared.script.Reload.{Reload}
+use Rattle.script_events.specs.Scripted.{Scripted, scripted_of}
 use Rattle.script_text.specs.declared.meaning.Reading.{Reading}
 use Rattle.script_text.specs.Read.{ReadsLines}
 use Rattle.script_text.specs.Script.{Meaning, Nothing, Unreadable, Says, Loads, line_means, used_after, count_after, Numbered, and_then, numbered, or_after, first_unreadable, load_then, loaded, servers_known}

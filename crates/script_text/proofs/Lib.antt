@@ -3,3 +3,6 @@ pub mod LineLemmas
 pub mod Further
 pub mod Loads
 pub mod ReadBack
+pub mod Cuts
+pub mod LinesReadBack
+pub mod Widths

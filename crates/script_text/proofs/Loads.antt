@@ -11,10 +11,10 @@ use Rattle.route_json.specs.Configuration.{Configuration}
 use Rattle.route_json.specs.Configs.{read_after}
 use Rattle.route_json.specs.Servers.{Addresses}
 use Rattle.route_json.proofs.Adding.{Begins, Adds_to, begins_more, read_adds}
-use Rattle.fresh_gate.specs.Reload.{AreKept}
-use Rattle.fleet_run.specs.declared.script.Reload.{Reload}
-use Rattle.fleet_run.specs.Reloads.{AreInOrder}
-use Rattle.fleet_run.specs.Scripted.{Scripted, scripted_of}
+use Rattle.gate_check.specs.Reload.{AreKept}
+use Rattle.script_events.specs.declared.script.Reload.{Reload}
+use Rattle.script_events.specs.Reloads.{AreInOrder}
+use Rattle.script_events.specs.Scripted.{Scripted, scripted_of}
 use Rattle.script_text.specs.declared.configured.ConfiguredScript.{ConfiguredScript}
 use Rattle.script_text.specs.declared.meaning.Reading.{Reading}
 use Rattle.script_text.specs.Events.{event_said}

@@ -3,7 +3,7 @@ use Rattle.std.proofs.Common.{◌≡◌, ℕ, ◌+◌, ◌-◌, ◌*◌, ◌/◌
 use Rattle.std.proofs.lemmas.Bool.{cases_lt, cases_Bool, lt-ltb, le-ltb, le-leb, lt-leb, eqb-true}
 use Rattle.std.proofs.lemmas.List.Elements.{All-head, All-tail}
 use Rattle.script_text.specs.Escapes.{hex_value, hex_byte, escape, escaped, unescaped, onto}
-use Rattle.byte_escapes.specs.Escapes.{hex_digit}
+use Rattle.text_words.specs.Escapes.{hex_digit}
 use Rattle.script_text.specs.Laws.{EscapesAreReadBack}
 
 -- a digit that was written is read

@@ -1,7 +1,7 @@
 -- How bytes are spelled in a line of text. Source: mcgate's own.
 use Rattle.std.specs.Prelude.{ℕ, ◌+◌, ◌-◌, ◌*◌, ◌==◌, ◌&&◌, List, [], ◌∷◌, nat_le, if◌then◌else◌, Option, Some, None}
 use Rattle.std.specs.Option.{option_map}
-pub use Rattle.byte_escapes.specs.Escapes.{escape, escaped}
+pub use Rattle.text_words.specs.Escapes.{escape, escaped}
 
 -- the value of a hexadecimal digit, in either case of letters
 abbrev pub hex_value : ℕ → Option ℕ

@@ -3,9 +3,9 @@ use Rattle.mc_types.specs.declared.limits.TheConstants.{SCRIPT_CLIENTS}
 use Rattle.std.specs.Prelude.{ℕ, ◌^◌, pos, List, codes, ◌==◌, if◌then◌else◌, Option, Some, None, option_and_then}
 use Rattle.std.specs.Result.{result_ok}
 use Rattle.std.specs.Str.{bytes_eq}
-use Rattle.mc_text.specs.Number.{number_below}
+use Rattle.text_words.specs.Number.{number_below}
 use Rattle.mc_types.specs.Fault.{read_key}
-use Rattle.fleet_run.specs.Scripted.{Scripted, Piece, Add, Result, Fail, Hold, At, Now, Moment, Manner, Before, After, Junk, Cut, Loss, Lose, Restart}
+use Rattle.script_events.specs.Scripted.{Scripted, Piece, Add, Result, Fail, Hold, At, Now, Moment, Manner, Before, After, Junk, Cut, Loss, Lose, Restart}
 use Rattle.script_text.specs.Escapes.{unescaped}
 use Rattle.script_text.specs.Lines.{cut}
 

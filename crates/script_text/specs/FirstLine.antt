@@ -2,7 +2,7 @@
 use Rattle.std.specs.Prelude.{◌≡◌, ℕ, nat_eq, List, codes, Bool, if◌then◌else◌, Option, Some, None, Result, Ok, Err}
 use Rattle.std.specs.List.{starts_with}
 use Rattle.std.specs.Str.{bytes_eq}
-use Rattle.mc_text.specs.Number.{number_below}
+use Rattle.text_words.specs.Number.{number_below}
 use Rattle.serde_json.specs.Read.{read}
 use Rattle.route_tree.specs.Route.{Route}
 use Rattle.route_json.specs.declared.fault.ConfigFault.{ConfigFault}

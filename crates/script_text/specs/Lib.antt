@@ -9,3 +9,5 @@ pub mod Script
 pub mod Read
 pub mod Printed
 pub mod Laws
+pub mod ScriptLines
+pub mod LineLaws

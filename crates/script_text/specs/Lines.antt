@@ -2,7 +2,7 @@
 use Rattle.std.specs.Prelude.{ℕ, ◌+◌, ◌==◌, Bool, List, take, drop, position, Option}
 use Rattle.std.specs.List.{slice_split}
 use Rattle.std.specs.Option.{option_map}
-use Rattle.mc_text.specs.Word.{is_space}
+use Rattle.text_words.specs.Word.{is_space}
 
 -- the byte that ends a line
 abbrev pub is_line_end : ℕ → Bool

@@ -1,7 +1,7 @@
 -- The lines that a run prints. Source: mcgate's own.
 use Rattle.std.specs.Prelude.{ℕ, List, ◌++◌, codes, decimal, flat_map}
-use Rattle.fleet_run.specs.Scripted.{Shown}
-use Rattle.fleet_run.specs.declared.script.Report.{Report}
+use Rattle.script_events.specs.Scripted.{Shown}
+use Rattle.script_events.specs.declared.script.Report.{Report}
 use Rattle.route_json.specs.declared.fault.ConfigFault.{ConfigFault}
 use Rattle.route_json.specs.Printed.{fault_line}
 use Rattle.script_text.specs.Escapes.{escaped}

@@ -1,7 +1,7 @@
 -- What the reader's own types stand for.
 use Rattle.std.specs.Prelude.{◌≡◌, ℕ, List, map}
 use Rattle.route_json.specs.Servers.{Addresses}
-use Rattle.fleet_run.specs.Scripted.{scripted_of}
+use Rattle.script_events.specs.Scripted.{scripted_of}
 use Rattle.script_text.specs.Script.{Meaning, Nothing, Unreadable, Says, Loads, Numbered, numbered, first_unreadable, loaded}
 use Rattle.script_text.specs.declared.meaning.Meaning as read
 use Rattle.script_text.specs.declared.meaning.Meaning.TheVariants as m

@@ -5,10 +5,10 @@ use Rattle.serde_json.specs.Read.{read}
 use Rattle.route_json.specs.Configs.{read_after}
 use Rattle.route_json.specs.Configuration.{Configuration}
 use Rattle.route_json.specs.Servers.{Addresses}
-use Rattle.fresh_gate.specs.Reload.{AreKept}
-use Rattle.fleet_run.specs.declared.script.Reload.{Reload}
-use Rattle.fleet_run.specs.Scripted.{Scripted, scripted_of}
-use Rattle.fleet_run.specs.Bad.{first_bad}
+use Rattle.gate_check.specs.Reload.{AreKept}
+use Rattle.script_events.specs.declared.script.Reload.{Reload}
+use Rattle.script_events.specs.Scripted.{Scripted, scripted_of}
+use Rattle.script_events.specs.Bad.{first_bad}
 use Rattle.script_text.specs.Lines.{lines_of, cut}
 use Rattle.script_text.specs.Events.{event_said, ◌>>=◌}
 use Rattle.script_text.specs.FirstLine.{WhyNot, BadFirstLine, HasFault, first_said, read_or_fault, TellsFault}

@@ -5,8 +5,8 @@ ghost use Rattle.route_json.specs.Fault.{fault_of};
 ghost use Rattle.script_text.specs.Script.{servers_known};
 ghost use Rattle.script_text.specs.declared.configured.ScriptFault.TheVariants.{Config as ConfigFaulty, NoMemory};
 
-use fleet_run::{Reload, Script};
 use route_json::{Config, ConfigFault, Servers};
+use script_events::{Reload, Script};
 use std::alloc::AllocError;
 
 /// A script over the servers of a configuration.
@@ -30,7 +30,7 @@ impl ConfiguredScript {
         servers_known(self.config.servers(), &self.reloads).len() as u32
     }
 
-    /// The number of this event's line. Events are counted from 0, as [`fleet_run::DriveFault::BadEvent`] counts them.
+    /// The number of this event's line. Events are counted from 0, as [`script_events::DriveFault::BadEvent`] counts them.
     pub fn line_of(&self, event: usize) -> Option<usize>
         ensures { result ≡ slice_get self.now.lines.items event }
     {

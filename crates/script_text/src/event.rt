@@ -1,6 +1,6 @@
 //! The events of a script, line by line.
 ghost use Rattle.std.specs.Prelude.{◌≡◌, ◌^◌, Some};
-ghost use Rattle.fleet_run.specs.Scripted.{manner_of, loss_of, scripted_of};
+ghost use Rattle.script_events.specs.Scripted.{manner_of, loss_of, scripted_of};
 ghost use Rattle.script_text.specs.Reads.{Reads};
 ghost use Rattle.script_text.specs.Seen.{sent_seen};
 ghost use Rattle.script_text.specs.Events.{client_said, server_said, turn_said, key_said, count_said, cut_said, manner_said, sent_said, piece_said, add_said, result_said, hold_said, fail_said, item_loss_said, restart_loss_said, loss_said, lose_said, restart_said, at_said, moment_said, said_after, event_said};
@@ -8,8 +8,8 @@ ghost use Rattle.script_text.specs.Events.{client_said, server_said, turn_said, 
 use crate::escapes::unescape;
 use crate::fault::LineFault;
 use crate::words::{cut, number_under};
-use fleet_run::{Event, Loss, Manner};
 use mc_types::{Key, SCRIPT_CLIENTS, ServerId};
+use script_events::{Event, Loss, Manner};
 use std::alloc::Global;
 
 fn read_client(word: &[u8]) -> Result<u8, LineFault>

@@ -1,4 +1,4 @@
-//! Scripts as text: what their lines say, and the lines that a run prints.
+//! Scripts as text: what their lines say, how they are written as lines, and the lines that a run prints.
 #![tactic(auto)]
 
 pub mod configured;
@@ -7,6 +7,7 @@ pub mod event;
 pub mod fault;
 pub mod front;
 pub mod laws;
+pub mod lines;
 pub mod meaning;
 pub mod printer;
 pub mod reader;

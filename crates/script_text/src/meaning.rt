@@ -1,7 +1,7 @@
 //! What a line of a script says, and what all lines say together.
 
-use fleet_run::{Event, Reload};
 use route_json::Config;
+use script_events::{Event, Reload};
 
 /// What a line of a script is.
 #[derive(Drop)]

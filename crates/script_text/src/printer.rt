@@ -2,15 +2,15 @@
 
 ghost use Rattle.std.specs.Prelude.{OnOk, IsSome, map};
 ghost use Rattle.std.specs.Io.KnownBytes.{Appends};
-ghost use Rattle.fleet_run.specs.Scripted.{shown_by};
+ghost use Rattle.script_events.specs.Scripted.{shown_by};
 ghost use Rattle.route_json.specs.Fault.{fault_of};
 ghost use Rattle.script_text.specs.Printed.{shown_lines, report_line, bad_line_line, config_fault_line};
 
-use byte_escapes::Escaped;
-use fleet_run::{Output, Report};
 use route_json::ConfigFault;
+use script_events::{Output, Report};
 use std::io;
 use std::io::Write;
+use text_words::escapes::Escaped;
 
 /// Writes a line `< C TEXT` for each output of a transcript, with the bytes in the escapes. The format is mcgate's own.
 pub fn write_outputs<W: Write>(outputs: &[Output], out: &mut W) -> io::Result<()>

@@ -1,8 +1,8 @@
 //! Scripts as text: their first line, and their events.
 ghost use Rattle.std.specs.Prelude.{◌≡◌, ◌+◌, ◌≤◌, ◌<◌, ◌^◌, Ok, IfOk, IfSome, map, length};
 ghost use Rattle.serde_json.specs.Read.{read};
-ghost use Rattle.fleet_run.specs.Reloads.{AreInOrder};
-ghost use Rattle.fleet_run.specs.Scripted.{scripted_of};
+ghost use Rattle.script_events.specs.Reloads.{AreInOrder};
+ghost use Rattle.script_events.specs.Scripted.{scripted_of};
 ghost use Rattle.route_json.specs.Configs.{read_or, read_after};
 ghost use Rattle.script_text.specs.LinesAfter.{lines_after};
 ghost use Rattle.script_text.specs.FirstLine.{size_said, pool_said, pool_or_bad, read_or_fault, first_said, ReadsFirst};
@@ -17,9 +17,9 @@ use crate::fault::LineFault;
 use crate::front::front_of;
 use crate::meaning::{Meaning, Reading};
 use crate::words::{cut, number_under, reload_json};
-use fleet_run::{Reload, Script, first_bad_event};
 use route_json::{Config, Servers, read_config, read_config_after};
 use route_tree::POOL_LIMIT;
+use script_events::{Reload, Script, first_bad_event};
 use std::alloc::{AllocError, Global};
 
 fn read_size(word: &[u8]) -> Option<u32>

@@ -1,13 +1,13 @@
 //! The words of a line of a script, and their numbers.
 
 ghost use Rattle.std.specs.Prelude.{◌≡◌, ◌^◌, option_map, position, IfSome, ◌<◌};
-ghost use Rattle.mc_text.specs.Number.{number_below};
-ghost use Rattle.mc_text.specs.Word.{is_space};
+ghost use Rattle.text_words.specs.Number.{number_below};
+ghost use Rattle.text_words.specs.Word.{is_space};
 ghost use Rattle.script_text.specs.Lines.{cut};
 ghost use Rattle.script_text.specs.Script.{reload_said};
 ghost use Rattle.script_text.specs.Seen.{parts_seen, texts_seen};
 
-use mc_text::number::number;
+use text_words::number::number;
 
 /// A word, and what stands after the one space that ends it.
 #[derive(Clone, Copy)]

@@ -12,8 +12,11 @@
 //! makes the call which it notes is seen by reading it; a stream and its number stand in one struct, which notes its own number.
 #![tactic(auto)]
 
+pub mod conn;
+pub mod memory;
 pub mod outcomes;
 pub mod record;
+pub mod sockets;
 pub mod wire;
 
 pub use outcomes::{Accepted, Connected, ReadOutcome, Ready, Report, WriteOutcome};

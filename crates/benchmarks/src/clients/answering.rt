@@ -2,10 +2,10 @@
 
 ghost use Rattle.std.specs.Prelude.{IfSome};
 ghost use Rattle.mc_types.specs.Fits.{Fits};
-ghost use Rattle.proxy_core.specs.Settles.{FitsCall};
+ghost use Rattle.core_proxy.specs.Settles.{FitsCall};
 
+use core_proxy::{Core, OutCall, Servers};
 use mc_types::{Answer, Ask, Dialect, Op, Outcome};
-use proxy_core::{Core, OutCall, Servers};
 
 /// Servers that hold nothing, and keep nothing that they are sent.
 #[derive(Clone, Copy)]

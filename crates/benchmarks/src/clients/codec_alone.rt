@@ -1,15 +1,15 @@
 //! What the codec does for clients' commands, without a core: their requests are read, their asks made, and the replies written.
 
-ghost use Rattle.client_requests.specs.Message.{IsReadFrom};
+ghost use Rattle.wire_stream.specs.Message.{IsReadFrom};
 
 use crate::clients::answering::answer_to;
-use crate::clients::driving::{Counts, Rounds, Stop, as_count};
+use crate::clients::driving::{RoundCounts, RoundStop, Rounds, as_count};
 use crate::clients::saying::{Load, pieces_of};
 use crate::codec::{after_request, one_more};
 use bytes::BytesMut;
 use mc_types::Ask;
 use std::alloc::{AllocError, Global};
-use text_codec::{Read, Received, Request, read_request, write_part};
+use wire_stream::{Read, Received, Request, read_request, write_part};
 
 /// What clients say in a round, and room for what they are answered.
 #[derive(Drop)]
@@ -17,7 +17,7 @@ pub struct CodecAlone {
     alloc: Global,
     pieces: Vec<BytesMut>,
     out: BytesMut,
-    counts: Counts,
+    counts: RoundCounts,
 }
 
 // The ask is answered, and what its reply shows is written.
@@ -67,18 +67,18 @@ fn answer_piece(alloc: Global, bytes: &[u8], out: &mut BytesMut) -> Result<u64, 
 
 impl CodecAlone {
     /// These clients, who have said nothing yet.
-    pub fn new(alloc: Global, load: Load) -> Result<CodecAlone, Stop> {
+    pub fn new(alloc: Global, load: Load) -> Result<CodecAlone, RoundStop> {
         Ok(CodecAlone {
             alloc,
             pieces: pieces_of(alloc, load)?,
             out: BytesMut::new(alloc),
-            counts: Counts::new(),
+            counts: RoundCounts::new(),
         })
     }
 }
 
 impl Rounds for CodecAlone {
-    fn round(&mut self) -> Result<(), Stop> {
+    fn round(&mut self) -> Result<(), RoundStop> {
         for piece in self.pieces.iter() {
             self.out.truncate(0);
             let commands = answer_piece(self.alloc, piece.as_slice(), &mut self.out)?;
@@ -87,7 +87,7 @@ impl Rounds for CodecAlone {
         Ok(())
     }
 
-    fn counts(&self) -> Counts {
+    fn counts(&self) -> RoundCounts {
         self.counts
     }
 }

@@ -1,7 +1,7 @@
 //! What a few commands come to.
 
 use crate::clients::codec_alone::CodecAlone;
-use crate::clients::driving::{Counts, Drive, Rounds, Stop};
+use crate::clients::driving::{Drive, RoundCounts, RoundStop, Rounds};
 use crate::clients::saying::{Keys, Load};
 use std::alloc::Global;
 use std::io;
@@ -45,18 +45,18 @@ pub const LOADS: [Load; 7] = [
     },
 ];
 
-fn after_two_rounds<D: Rounds>(driven: &mut D) -> Result<Counts, Stop> {
+fn after_two_rounds<D: Rounds>(driven: &mut D) -> Result<RoundCounts, RoundStop> {
     driven.round()?;
     driven.round()?;
     Ok(driven.counts())
 }
 
-fn counts_of(alloc: Global, load: Load) -> Result<Counts, Stop> {
+fn counts_of(alloc: Global, load: Load) -> Result<RoundCounts, RoundStop> {
     let mut drive = Drive::new(alloc, load)?;
     after_two_rounds(&mut drive)
 }
 
-fn counts_alone(alloc: Global, load: Load) -> Result<Counts, Stop> {
+fn counts_alone(alloc: Global, load: Load) -> Result<RoundCounts, RoundStop> {
     let mut codec = CodecAlone::new(alloc, load)?;
     after_two_rounds(&mut codec)
 }
@@ -69,12 +69,12 @@ fn print_count<R: AllocGlobal + Print>(rt: &R, load: Load) -> io::Result<()> {
     } = load;
     let keys = keys.words();
     match counts_of(rt.alloc(), load) {
-        Ok(Counts { commands, bytes }) => {
+        Ok(RoundCounts { commands, bytes }) => {
             println!(rt;
                 "{clients} clients, {depth} commands of each{keys}: {commands} ended, {bytes} bytes"
             )
         }
-        Err(Stop::Failed) => println!(rt;
+        Err(RoundStop::Failed) => println!(rt;
             "{clients} clients, {depth} commands of each{keys}: failed"
         ),
     }
@@ -82,10 +82,10 @@ fn print_count<R: AllocGlobal + Print>(rt: &R, load: Load) -> io::Result<()> {
 
 fn print_count_alone<R: AllocGlobal + Print>(rt: &R, load: Load) -> io::Result<()> {
     match counts_alone(rt.alloc(), load) {
-        Ok(Counts { commands, bytes }) => {
+        Ok(RoundCounts { commands, bytes }) => {
             println!(rt; "the codec alone: {commands} answered, {bytes} bytes")
         }
-        Err(Stop::Failed) => println!(rt; "the codec alone: failed"),
+        Err(RoundStop::Failed) => println!(rt; "the codec alone: failed"),
     }
 }
 

@@ -4,48 +4,48 @@ use crate::clients::answering::{EmptyServers, outcome_of};
 use crate::clients::saying::{Load, pieces_of};
 use crate::jobs::pool;
 use bytes::BytesMut;
-use proxy_core::{Core, CoreFault, Limits, Poll, ServedOne, Sharing, Ticket};
+use core_proxy::{Core, CoreFault, Limits, Poll, ServedOne, Sharing, Ticket};
 use std::alloc::{AllocError, AllocFailed, Global};
 use std::collections::VecDeque;
 
 /// Why a round doesn't end.
 #[derive(Clone, Copy)]
-pub enum Stop {
+pub enum RoundStop {
     /// Memory was refused, or the core answered what it doesn't answer here.
     Failed,
 }
 
-impl From<CoreFault> for Stop {
-    fn from(_fault: CoreFault) -> Stop {
-        Stop::Failed
+impl From<CoreFault> for RoundStop {
+    fn from(_fault: CoreFault) -> RoundStop {
+        RoundStop::Failed
     }
 }
 
-impl From<AllocError> for Stop {
-    fn from(_error: AllocError) -> Stop {
-        Stop::Failed
+impl From<AllocError> for RoundStop {
+    fn from(_error: AllocError) -> RoundStop {
+        RoundStop::Failed
     }
 }
 
-impl From<AllocFailed<Ticket>> for Stop {
-    fn from(_failed: AllocFailed<Ticket>) -> Stop {
-        Stop::Failed
+impl From<AllocFailed<Ticket>> for RoundStop {
+    fn from(_failed: AllocFailed<Ticket>) -> RoundStop {
+        RoundStop::Failed
     }
 }
 
 /// What rounds came to.
 #[derive(Clone, Copy)]
-pub struct Counts {
+pub struct RoundCounts {
     /// How many commands ended.
     pub commands: u64,
     /// How many bytes clients were given.
     pub bytes: u64,
 }
 
-impl Counts {
+impl RoundCounts {
     /// Nothing yet.
-    pub fn new() -> Counts {
-        Counts {
+    pub fn new() -> RoundCounts {
+        RoundCounts {
             commands: 0,
             bytes: 0,
         }
@@ -60,10 +60,10 @@ impl Counts {
 
 /// What is driven in rounds: each client says its commands, and is given all replies.
 pub trait Rounds {
-    fn round(&mut self) -> Result<(), Stop>;
+    fn round(&mut self) -> Result<(), RoundStop>;
 
     /// What all rounds so far came to.
-    fn counts(&self) -> Counts;
+    fn counts(&self) -> RoundCounts;
 }
 
 /// A core, and the calls that are out, the first of them in front.
@@ -72,7 +72,7 @@ pub struct Drive {
     core: Core,
     calls: VecDeque<Ticket>,
     pieces: Vec<BytesMut>,
-    counts: Counts,
+    counts: RoundCounts,
     /// Whether there is one client with one command, whose calls are answered as they come.
     is_alone: bool,
 }
@@ -90,7 +90,7 @@ pub fn as_count(bytes: usize) -> u64 {
 
 impl Drive {
     /// A core on a pool of three servers, with these clients.
-    pub fn new(alloc: Global, load: Load) -> Result<Drive, Stop> {
+    pub fn new(alloc: Global, load: Load) -> Result<Drive, RoundStop> {
         let limits = Limits {
             clients: load.clients,
             held: 2_097_152,
@@ -106,13 +106,13 @@ impl Drive {
             core,
             calls: VecDeque::new(alloc),
             pieces: pieces_of(alloc, load)?,
-            counts: Counts::new(),
+            counts: RoundCounts::new(),
             is_alone: load.clients == 1 && load.depth == 1,
         })
     }
 
     // One poll of a client: whether there may be more to do for it.
-    fn poll_once(&mut self, client: usize) -> Result<bool, Stop> {
+    fn poll_once(&mut self, client: usize) -> Result<bool, RoundStop> {
         match self.core.poll(client)? {
             Poll::Call(ticket) => {
                 self.calls.push_back(ticket)?;
@@ -128,7 +128,7 @@ impl Drive {
     }
 
     // Polls of a client until there is nothing to do for it.
-    fn poll_client(&mut self, client: usize) -> Result<(), Stop> {
+    fn poll_client(&mut self, client: usize) -> Result<(), RoundStop> {
         for _ in 0..POLLS {
             if !self.poll_once(client)? {
                 break;
@@ -138,7 +138,7 @@ impl Drive {
     }
 
     // All that can be done for clients.
-    fn poll_all(&mut self) -> Result<(), Stop> {
+    fn poll_all(&mut self) -> Result<(), RoundStop> {
         for client in 0..self.pieces.len() {
             self.poll_client(client)?;
         }
@@ -146,7 +146,7 @@ impl Drive {
     }
 
     // All calls that are out are answered.
-    fn answer_all(&mut self) -> Result<(), Stop> {
+    fn answer_all(&mut self) -> Result<(), RoundStop> {
         for _ in 0..self.calls.len() {
             let Some(ticket) = self.calls.pop_front() else {
                 break;
@@ -158,14 +158,14 @@ impl Drive {
         Ok(())
     }
 
-    fn feed_all(&mut self) -> Result<(), Stop> {
+    fn feed_all(&mut self) -> Result<(), RoundStop> {
         for (client, piece) in self.pieces.iter().enumerate() {
             self.core.feed(client, piece.as_slice())?;
         }
         Ok(())
     }
 
-    fn take_all(&mut self) -> Result<(), Stop> {
+    fn take_all(&mut self) -> Result<(), RoundStop> {
         for client in 0..self.pieces.len() {
             let bytes = self.core.take_output(client)?;
             self.counts.add(0, bytes.len());
@@ -174,7 +174,7 @@ impl Drive {
     }
 
     // All calls are answered, and all that can be done for clients is done, until no call is out.
-    fn settle_all(&mut self) -> Result<(), Stop> {
+    fn settle_all(&mut self) -> Result<(), RoundStop> {
         self.poll_all()?;
         for _ in 0..POLLS {
             if self.calls.is_empty() {
@@ -187,7 +187,7 @@ impl Drive {
     }
 
     // The next message or key of the first client is done: whether there may be more to do for it.
-    fn serve_once(&mut self) -> Result<bool, Stop> {
+    fn serve_once(&mut self) -> Result<bool, RoundStop> {
         match self.core.serve_one(0, &mut EmptyServers {})? {
             ServedOne::Did(_) => {
                 self.counts.add(1, 0);
@@ -199,7 +199,7 @@ impl Drive {
     }
 
     // All that can be done for the first client.
-    fn serve_first(&mut self) -> Result<(), Stop> {
+    fn serve_first(&mut self) -> Result<(), RoundStop> {
         for _ in 0..POLLS {
             if !self.serve_once()? {
                 break;
@@ -210,7 +210,7 @@ impl Drive {
 }
 
 impl Rounds for Drive {
-    fn round(&mut self) -> Result<(), Stop> {
+    fn round(&mut self) -> Result<(), RoundStop> {
         self.feed_all()?;
         if self.is_alone {
             self.serve_first()?;
@@ -220,7 +220,7 @@ impl Rounds for Drive {
         self.take_all()
     }
 
-    fn counts(&self) -> Counts {
+    fn counts(&self) -> RoundCounts {
         self.counts
     }
 }

@@ -2,7 +2,7 @@
 
 use crate::clients::codec_alone::CodecAlone;
 use crate::clients::counting::LOADS;
-use crate::clients::driving::{Drive, Rounds, Stop};
+use crate::clients::driving::{Drive, RoundStop, Rounds};
 use crate::clients::saying::Load;
 use std::io;
 use std::time::{CpuClock, Duration};
@@ -17,7 +17,7 @@ fn nanos_of(time: Duration) -> u64 {
     u64::try_from(time.as_nanos()).unwrap_or(u64::MAX)
 }
 
-fn run_rounds<D: Rounds>(driven: &mut D, rounds: usize) -> Result<(), Stop> {
+fn run_rounds<D: Rounds>(driven: &mut D, rounds: usize) -> Result<(), RoundStop> {
     for _ in 0..rounds {
         driven.round()?;
     }

@@ -1,7 +1,6 @@
 //! Answers for the asks of the mix.
 
-use mc_types::{Answer, Ask, Body, Code, Dialect, Fields, Op};
-use return_flags::Wanted;
+use mc_types::{Answer, Ask, Body, Code, Dialect, Fields, Op, Wanted};
 use std::alloc::{AllocError, Global};
 
 /// The cas number of each hit that shows one.

@@ -1,10 +1,10 @@
 //! What was met in the bytes of a client, counted.
 
-use text_codec::Request;
+use wire_stream::Request;
 
 /// What was met in the bytes of a client.
 #[derive(Clone, Copy)]
-pub struct Counts {
+pub struct CodecCounts {
     /// All messages, also those that are refused.
     pub messages: u64,
     pub refused: u64,
@@ -20,10 +20,10 @@ pub fn one_more(count: u64) -> u64 {
     count.saturating_add(1)
 }
 
-impl Counts {
+impl CodecCounts {
     /// Nothing yet.
-    pub fn new() -> Counts {
-        Counts {
+    pub fn new() -> CodecCounts {
+        CodecCounts {
             messages: 0,
             refused: 0,
             own: 0,

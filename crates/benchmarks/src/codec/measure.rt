@@ -1,6 +1,6 @@
 //! The times of reading and writing the mix.
 
-use crate::codec::counts::Counts;
+use crate::codec::counts::CodecCounts;
 use crate::codec::mix::{Mix, large_mix};
 use crate::codec::passes::{
     exchanges_of, read_answers, read_asks, read_messages, split_lines, write_answers, write_asks,
@@ -70,7 +70,7 @@ struct Reading {
     messages: Fastest,
     asks: Fastest,
     lines: u64,
-    counts: Counts,
+    counts: CodecCounts,
 }
 
 // The three ways take turns, so that what else the machine does strikes them alike.
@@ -82,7 +82,7 @@ fn measure_reading<R: AllocGlobal + CpuClock>(rt: &R, kind: Mix) -> io::Result<R
         messages: Fastest::new(),
         asks: Fastest::new(),
         lines: 0,
-        counts: Counts::new(),
+        counts: CodecCounts::new(),
     };
     for _ in 0..TIMES {
         let moment = rt.thread_cpu_time()?;

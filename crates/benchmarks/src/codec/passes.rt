@@ -1,16 +1,16 @@
 //! One pass over some bytes: lines alone, messages, asks, answers.
 
-ghost use Rattle.client_requests.specs.Message.{IsReadFrom, Begins};
-ghost use Rattle.request_parts.specs.Message.{Refusal};
+ghost use Rattle.wire_stream.specs.Message.{IsReadFrom, Begins};
+ghost use Rattle.wire_parts.specs.Message.{Refusal};
 
 use crate::codec::answering::answer_to;
-use crate::codec::counts::{Counts, one_more};
+use crate::codec::counts::{CodecCounts, one_more};
 use crate::codec::exchange::Exchange;
 use bytes::BytesMut;
-use mc_text::search::first_byte;
 use mc_types::Ask;
 use std::alloc::{AllocError, Global};
-use text_codec::{
+use text_words::search::first_byte;
+use wire_stream::{
     AnswerRead, Read, Received, RefusalReason, Request, Skip, read_answer, read_request,
     write_answer, write_ask,
 };
@@ -60,8 +60,8 @@ pub fn after_request<'a>(bytes: &'a [u8], request: &Request) -> &'a [u8]
 }
 
 /// Reads all messages of the bytes, and makes no asks.
-pub fn read_messages(bytes: &[u8]) -> Counts {
-    let mut counts = Counts::new();
+pub fn read_messages(bytes: &[u8]) -> CodecCounts {
+    let mut counts = CodecCounts::new();
     let mut rest = bytes;
     for _ in 0..bytes.len() {
         match read_request(rest) {
@@ -99,8 +99,8 @@ fn make_asks(alloc: Global, request: &Request, bytes: &[u8]) -> Result<u64, Allo
 }
 
 /// Reads all messages of the bytes, and makes their asks. The only error is running out of memory.
-pub fn read_asks(alloc: Global, bytes: &[u8]) -> Result<Counts, AllocError> {
-    let mut counts = Counts::new();
+pub fn read_asks(alloc: Global, bytes: &[u8]) -> Result<CodecCounts, AllocError> {
+    let mut counts = CodecCounts::new();
     let mut rest = bytes;
     for _ in 0..bytes.len() {
         match read_request(rest) {

@@ -1,7 +1,7 @@
 //! Servers that answer at once: one always with an error, the others as servers that hold nothing.
 
 ghost use Rattle.mc_types.specs.Fits.{Fits};
-ghost use Rattle.mc_runs.specs.Single.{FitsOutcome};
+ghost use Rattle.fresh_runs.specs.Single.{FitsOutcome};
 
 use mc_types::{Answer, Ask, Dialect, ErrorText, Op, Outcome, OwnText, ServerId};
 

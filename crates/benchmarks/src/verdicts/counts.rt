@@ -1,8 +1,8 @@
 //! Verdicts on small configurations, and the size of their certificates.
 
 use crate::verdicts::configs::{Shape, config_of};
-use certificates::{Certificate, places, propose};
-use fresh_gate::{Accepted, Reason, Refused, judge};
+use gate_check::places::{Certificate, places, propose};
+use gate_check::{Accepted, Reason, Refused, judge};
 use std::alloc::Global;
 use std::io;
 

@@ -2,8 +2,8 @@
 
 use crate::verdicts::configs::{Shape, config_of};
 use crate::verdicts::counts::{runs_in, word_of};
-use certificates::propose;
-use fresh_gate::{check, judge};
+use gate_check::places::propose;
+use gate_check::{check, judge};
 use std::io;
 use std::time::{CpuClock, Duration};
 

@@ -1,8 +1,8 @@
 use Rattle.std.proofs.Common.{◌∙◌, subst}
 use Rattle.std.specs.Prelude.{IfOk}
 use Rattle.route_tree.specs.Route.{Route}
-use Rattle.tcp_proxy.specs.declared.proxy.ProxyEnd.{ProxyEnd}
-use Rattle.tcp_proxy.specs.Beginning.{BeginsUnchecked}
+use Rattle.serve_proxy.specs.declared.proxy.ProxyEnd.{ProxyEnd}
+use Rattle.serve_proxy.specs.Beginning.{BeginsUnchecked}
 use Rattle.mcgate.specs.declared.serve.Servable.TheVariants as servables
 use Rattle.mcgate.proofs.Loads.{begins_on}
 use Rattle.mcgate.proofs.serve.end_over.Goals as goal

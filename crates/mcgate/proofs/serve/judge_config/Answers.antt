@@ -1,6 +1,6 @@
 use Rattle.std.proofs.Common.{sym, subst}
 use Rattle.route_json.specs.Configuration.{Configuration}
-use Rattle.fresh_gate.specs.Gate.{IsJudged}
+use Rattle.gate_check.specs.Gate.{IsJudged}
 use Rattle.mcgate.proofs.serve.judge_config.Goals as goal
 
 pub print_refused-requires : goal.print_refused-requires

@@ -1,6 +1,6 @@
 use Rattle.std.proofs.Common.{sym, ap, ap₂, ◌∙◌, arith, None}
 use Rattle.std.proofs.lemmas.Option.{IfSome_then}
-use Rattle.key_hash.specs.Tag.{key_hash}
+use Rattle.route_tree.specs.Tag.{key_hash}
 use Rattle.route_tree.specs.Route.{ByPrefix}
 use Rattle.route_tree.specs.RouteCode.{route_size}
 use Rattle.route_tree.specs.Form.{route_of_form, prefixes_of}

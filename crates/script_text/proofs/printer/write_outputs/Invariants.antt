@@ -1,6 +1,6 @@
 use Rattle.std.proofs.Common.{take, map}
 use Rattle.std.specs.Io.KnownBytes.{Appends}
-use Rattle.fleet_run.specs.Scripted.{shown_by}
+use Rattle.script_events.specs.Scripted.{shown_by}
 use Rattle.script_text.specs.Printed.{shown_lines}
 use Rattle.script_text.proofs.printer.write_outputs.Given as goal
 

@@ -1,4 +1,4 @@
-use Rattle.client_requests.specs.Asks.{IsWalk}
+use Rattle.wire_stream.specs.Asks.{IsWalk}
 use Rattle.benchmarks.proofs.clients.codec_alone.answer_request.Given as goal
 
 abbrev pub invariant-loop : goal.invariant-loop

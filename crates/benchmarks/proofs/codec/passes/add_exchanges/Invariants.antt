@@ -1,4 +1,4 @@
-use Rattle.client_requests.specs.Asks.{IsWalk}
+use Rattle.wire_stream.specs.Asks.{IsWalk}
 use Rattle.benchmarks.proofs.codec.passes.add_exchanges.Given as goal
 
 abbrev pub invariant-loop : goal.invariant-loop

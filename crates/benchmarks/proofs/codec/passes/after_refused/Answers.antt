@@ -1,6 +1,6 @@
-use Rattle.request_parts.specs.Message.{Refusal}
-use Rattle.request_parts.proofs.Streams.{used_within}
-use Rattle.client_requests.specs.Both.{both_grammar}
+use Rattle.wire_parts.specs.Message.{Refusal}
+use Rattle.wire_parts.proofs.Streams.{used_within}
+use Rattle.wire_stream.specs.Both.{both_grammar}
 use Rattle.benchmarks.proofs.codec.passes.after_refused.Goals as goal
 
 pub slice_bounds-passed-start : goal.slice_bounds-passed-start

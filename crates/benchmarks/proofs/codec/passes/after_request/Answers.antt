@@ -1,7 +1,7 @@
 use Rattle.std.proofs.Common.{ℕ, ◌≤◌, length, sym, subst}
-use Rattle.client_requests.specs.Message.{message_in, used_of}
-use Rattle.client_requests.specs.Both.{both_grammar}
-use Rattle.request_parts.proofs.Streams.{used_within}
+use Rattle.wire_stream.specs.Message.{message_in, used_of}
+use Rattle.wire_stream.specs.Both.{both_grammar}
+use Rattle.wire_parts.proofs.Streams.{used_within}
 use Rattle.benchmarks.proofs.codec.passes.after_request.Goals as goal
 
 pub slice_bounds-result-start : goal.slice_bounds-result-start

@@ -1,5 +1,5 @@
 use Rattle.std.proofs.Common.{ℕ, ◌<◌, ◌≤◌, subst}
-use Rattle.connections.proofs.Fronts.{more_stuck, front_is}
+use Rattle.wire_stream.proofs.Fronts.{more_stuck, front_is}
 use Rattle.core_client.proofs.Resting.{no_key, no_more_keys}
 use Rattle.core_client.proofs.client.Client.asked_at_front.Goals as goal
 

@@ -1,7 +1,7 @@
 use Rattle.std.proofs.Common.{◌≡◌, ℕ, ◌+◌, ◌≤◌, eqb, [], ◌∷◌, ◌++◌, None, length, refl, sym, subst}
 use Rattle.mc_types.specs.declared.ask.Ask.{Ask}
-use Rattle.text_codec.specs.Held.{held_at}
-use Rattle.connections.proofs.Fronts.{used_held}
+use Rattle.wire_stream.specs.Held.{held_at}
+use Rattle.wire_stream.proofs.Fronts.{used_held}
 use Rattle.core_client.proofs.Fronts.{begins_key}
 use Rattle.core_client.proofs.client.Client.begin.Goals as goal
 

@@ -1,10 +1,10 @@
 use Rattle.std.proofs.Common.{ℕ, ◌+◌, ◌≤◌, ◌||◌, length, drop, sym, refl, ap, ◌∙◌, subst, nat_eq, arith}
 use Rattle.std.specs.Prelude.{true, false}
-use Rattle.request_parts.specs.declared.skip.Skip.TheVariants.{Nothing}
-use Rattle.request_parts.specs.Stream.{Stands}
-use Rattle.text_codec.specs.Held.{held_at}
-use Rattle.text_codec.specs.Replies.{is_failure}
-use Rattle.connections.proofs.Fronts.{used_held}
+use Rattle.wire_parts.specs.declared.skip.Skip.TheVariants.{Nothing}
+use Rattle.wire_parts.specs.Stream.{Stands}
+use Rattle.wire_stream.specs.Held.{held_at}
+use Rattle.wire_stream.specs.Replies.{is_failure}
+use Rattle.wire_stream.proofs.Fronts.{used_held}
 use Rattle.core_client.proofs.Places.{went_on}
 use Rattle.core_client.proofs.client.Client.go_on.Goals as goal
 

@@ -1,5 +1,5 @@
 use Rattle.std.proofs.Common.{ℕ, ◌<◌, ◌≤◌, inl, inr, ◌∙◌, subst}
-use Rattle.connections.proofs.Fronts.{front_is}
+use Rattle.wire_stream.proofs.Fronts.{front_is}
 use Rattle.core_client.proofs.Resting.{later_key}
 use Rattle.core_client.proofs.client.Client.key_of.Goals.{then-self-via-then-self, then-self-via-else-self+then-depth-len, then-self-via-else-self+else-depth-len+then-asks-self}
 use Rattle.core_client.proofs.client.Client.key_of.Goals as goal

@@ -1,5 +1,5 @@
 use Rattle.std.proofs.Common.{sym, subst}
-use Rattle.client_requests.specs.declared.reader.Read.{Read}
+use Rattle.wire_stream.specs.declared.requests.reader.Read.{Read}
 use Rattle.core_client.specs.Nexts.{IsNextOf}
 use Rattle.core_client.proofs.client.Client.next.Goals as goal
 

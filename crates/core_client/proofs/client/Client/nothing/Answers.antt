@@ -1,4 +1,4 @@
-use Rattle.connections.proofs.Fronts.{more_stuck}
+use Rattle.wire_stream.proofs.Fronts.{more_stuck}
 use Rattle.core_client.proofs.Resting.{later_none}
 use Rattle.core_client.proofs.client.Client.nothing.Goals as goal
 

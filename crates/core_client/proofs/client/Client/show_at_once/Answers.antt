@@ -1,8 +1,8 @@
 use Rattle.std.proofs.Common.{refl, sym, ap, ◌∙◌, ◌++◌, length, drop}
 use Rattle.std.proofs.lemmas.Option.{slice_get_read}
-use Rattle.send_buffer.specs.Sending.{bytes_of}
+use Rattle.wire_parts.specs.Sending.{bytes_of}
 use Rattle.mc_types.specs.declared.ask.Ask.{Ask}
-use Rattle.text_codec.specs.Replies.{shown_text}
+use Rattle.wire_stream.specs.Replies.{shown_text}
 use Rattle.core_client.proofs.AtOnce.{head_of, at_once}
 use Rattle.core_client.proofs.client.Client.show_at_once.Goals as goal
 

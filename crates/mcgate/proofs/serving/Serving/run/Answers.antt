@@ -1,4 +1,4 @@
-use Rattle.proxy_connections.proofs.Walked.{and_stood, then}
+use Rattle.serve_links.proofs.Walked.{and_stood, then}
 use Rattle.mcgate.proofs.Loads.{turned}
 use Rattle.mcgate.proofs.serving.Serving.run.Goals as goal
 

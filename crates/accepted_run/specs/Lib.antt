@@ -1,2 +1,0 @@
-pub mod Reloads
-pub mod Stepped

@@ -1,8 +1,0 @@
-//! Scripts through configurations that the gate accepted: nothing that they show was deleted before.
-#![tactic(auto)]
-
-pub mod judging;
-pub mod stepping;
-
-pub use judging::{Judged, Loading, judge_reloads};
-pub use stepping::drive_judged;

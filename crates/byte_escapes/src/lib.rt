@@ -1,6 +1,0 @@
-//! The escapes in which mcgate prints bytes: in transcripts, and in the faults of configurations.
-#![tactic(auto)]
-
-pub mod printing;
-
-pub use printing::{Escaped, EscapedByte};

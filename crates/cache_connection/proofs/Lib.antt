@@ -1,6 +1,0 @@
-pub mod Joined
-pub mod Closing
-pub mod Keys
-pub mod Fronts
-pub mod Exits
-pub mod Determined

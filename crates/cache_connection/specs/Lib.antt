@@ -1,3 +1,0 @@
-pub mod Serving
-pub mod Laws
-pub mod Steps

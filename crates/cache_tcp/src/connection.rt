@@ -1,0 +1,10 @@
+//! One connection of a memcached cache server: what a client sends, in any pieces, is answered by a cache.
+
+pub mod laws;
+mod moment;
+mod reply;
+mod serve;
+pub mod served;
+
+pub use cache_server::Cache;
+pub use served::Served;

@@ -1,0 +1,24 @@
+//! Laws of the serving of a connection. Each is a function without a body, whose contract is the law.
+
+ghost use Rattle.cache_tcp.specs.Laws.{PiecesAreOne, ClosesAfterLast, NothingAfterEnd, FeedIsDetermined};
+
+/// What a client sends in two pieces at one moment is answered as if it came in one: the texts of both, joined.
+pub fn pieces_are_one()
+    ensures { PiecesAreOne }
+{}
+
+/// A connection is closed by `quit` and by a line that is too long, and by no other message.
+pub fn closes_after_last()
+    ensures { ClosesAfterLast }
+{}
+
+/// After the end of a connection nothing is served, and nothing is given.
+pub fn nothing_after_end()
+    ensures { NothingAfterEnd }
+{}
+
+/// Where no reply says that memory ran out, the definition leaves no choice: what is given, where the stream stands then,
+/// and what the cache holds follow from what came and what it held.
+pub fn feed_is_determined()
+    ensures { FeedIsDetermined }
+{}

@@ -1,5 +1,0 @@
-use Rattle.std.proofs.Common.{length}
-use Rattle.certificates.proofs.making.+least_multiple.Given as goal
-
-abbrev pub decreases-least_multiple : goal.decreases-least_multiple
-decreases-least_multiple l = length l.sizes.now

@@ -1,5 +1,0 @@
-use Rattle.std.proofs.Common.{◌≡◌, ℕ, ◌*◌, ◌%◌, ◌<◌}
-use Rattle.certificates.proofs.multiples.common_multiple.Given as goal
-
-abbrev pub invariant-loop-times : goal.invariant-loop-times
-invariant-loop-times l = (k : ℕ) → 0 < k → k < l.times → l.a * k % l.b ≡ 0 → ⊥

@@ -1,5 +1,0 @@
-use Rattle.certificates.specs.Proposed.{AreRowsBelow}
-use Rattle.certificates.proofs.proposing.class_rows.Given as goal
-
-abbrev pub invariant-loop-residue : goal.invariant-loop-residue
-invariant-loop-residue l = AreRowsBelow l.tree l.class.prefix l.modulus l.residue l.runs.items

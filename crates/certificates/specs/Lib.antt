@@ -1,9 +1,0 @@
-pub mod Resolved
-pub mod Places
-pub mod Valid
-pub mod ValidLaws
-pub mod Texts
-pub mod Tables
-pub mod Lookup
-pub mod Rows
-pub mod Proposed

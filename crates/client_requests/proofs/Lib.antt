@@ -1,4 +1,0 @@
-pub mod WordLengths
-pub mod Lifting
-pub mod Dialects
-pub mod RequestLaws

@@ -1,7 +1,0 @@
-use Rattle.std.proofs.Common.{sym}
-use Rattle.commands_under_way.specs.Lines.{before}
-use Rattle.commands_under_way.proofs.Lines.{nobody_in_way}
-use Rattle.commands_under_way.proofs.key_lines.KeyLines.is_behind.Goals as goal
-
-pub returns-then-not-claim-2 : goal.returns-then-not-claim-2
-returns-then-not-claim-2 c = sym (nobody_in_way c.args.key.now c.args.claim (before c.args.client c.args.key.now c.args.self.now) c.if-not-claim.true c.if-not-claim-2.true)

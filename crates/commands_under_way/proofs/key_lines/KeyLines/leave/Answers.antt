@@ -1,8 +1,0 @@
-use Rattle.std.proofs.Common.{◌∙◌, ap, rules, not, nat_eq}
-use Rattle.std.proofs.lemmas.Fn.{filter_same}
-use Rattle.commands_under_way.specs.declared.key_lines.Standing.{Standing}
-use Rattle.commands_under_way.specs.Lines.{others}
-use Rattle.commands_under_way.proofs.key_lines.KeyLines.leave.Goals as goal
-
-pub returns : goal.returns
-returns c = filter_same _ (λ (it : Standing). not (nat_eq it.client c.args.client)) _ (λ x b f' k. search rules) _ _ c.retain.ensures.filtered ∙ ap (others c.args.client) c.self.view_is

@@ -1,8 +1,0 @@
-//! A law of the lines of keys: a function without a body, whose contract is the law.
-
-ghost use Rattle.commands_under_way.specs.Lines.{NobodyIsPassed};
-
-/// Who stands in the line of a key is passed by nobody who comes after it.
-pub fn nobody_is_passed()
-    ensures { NobodyIsPassed }
-{}

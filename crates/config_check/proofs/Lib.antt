@@ -1,3 +1,0 @@
-pub mod Statuses
-pub mod Runs
-pub mod RunLines

@@ -1,5 +1,0 @@
-use Rattle.gate_words.proofs.Written.{both_written}
-use Rattle.config_check.proofs.explaining.write_number.Goals as goal
-
-pub returns : goal.returns
-returns g c = both_written _ _ _ _ _ (both_written _ _ _ _ _ c.in_ok-write_number_front.ensures c.in_ok-write_server.ensures) c.in_ok-writeln.ensures.bytes

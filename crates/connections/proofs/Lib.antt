@@ -1,5 +1,0 @@
-pub mod ClientStreams
-pub mod Shorter
-pub mod Fronts
-pub mod Requests
-pub mod Passing

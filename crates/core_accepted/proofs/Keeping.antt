@@ -1,0 +1,168 @@
+-- What the core's steps are for a core that is served.
+use Rattle.std.proofs.Common.{◌≡◌, ℕ, zero, suc, ◌-◌, Bool, true, false, List, [], ◌∷◌, ◌++◌, length, slice_get, Option, Some, None, Result, Ok, Err, refl, sym, ap, ◌∙◌, subst, arith}
+use Rattle.std.specs.Prelude.{IfOk, IfErr}
+use Rattle.fresh_runs.specs.Overlap as log
+use Rattle.fresh_runs.specs.Overlap.{Entry}
+use Rattle.fresh_runs.specs.OverlapState.{LeadsTo}
+use Rattle.fresh_runs.specs.Cover.{IsCovered}
+use Rattle.mc_types.specs.Items.{Item}
+use Rattle.fresh_runs.specs.Overlap.{run_of}
+use Rattle.fresh_runs.specs.OverlapState.{OverlapState}
+use Rattle.fresh_runs.specs.Sharing.{AreAlone, CopiesBar, IsFreshByNumber}
+use Rattle.fresh_runs.proofs.OverlapRuns.{runs}
+use Rattle.fresh_runs.proofs.SharingFresh as sharing
+use Rattle.fresh_runs.proofs.SharingStale.{counts_stale}
+use Rattle.route_tree.specs.At.{tree_at}
+use Rattle.route_tree.specs.Plan.{Plan}
+use Rattle.route_tree.specs.Route.{Route}
+use Rattle.route_tree.specs.Word.{tree_words}
+use Rattle.route_tree.proofs.Copies.{trees_bar}
+use Rattle.route_json.specs.Configuration.{Configuration}
+use Rattle.gate_check.specs.Sound.{AreGenerations, AreLoaded, GenerationsAreFresh, IsLast, trees_of}
+use Rattle.core_proxy.specs.declared.limits.Limits.{Limits}
+use Rattle.core_proxy.specs.declared.proxy.Core.{Core}
+use Rattle.core_proxy.specs.declared.fault.CoreFault.{CoreFault}
+use Rattle.core_proxy.specs.declared.fault.CoreFault.TheVariants as faults
+use Rattle.core_commands.specs.declared.sharing.Sharing.{Sharing}
+use Rattle.core_commands.specs.declared.sharing.Sharing.TheVariants as sharings
+use Rattle.core_proxy.specs.Claims.{is_delete, clears_by, copies_by, bars_by}
+use Rattle.core_proxy.specs.Faults.{CanOpen, OpenFault}
+use Rattle.core_proxy.specs.CoreState as core_state
+use Rattle.core_proxy.specs.CoreState.{dialect, bars_of, nothing_beside, state_of, FeedsOpen, GoesBy}
+use Rattle.core_accepted.specs.declared.served.ServedCore.{ServedCore}
+use Rattle.core_accepted.specs.Logs.{MayBeLoaded, MayHaveLed, LogsGoBy, IsNew, IsUnchecked, fed, EveryLogIsFresh}
+
+same_config : (xs : List Configuration) (c d : Configuration) → IsLast xs c → IsLast xs d → c ≡ d
+same_config xs c d e f = cc
+
+tree_at_number : (xs : List Configuration) (i : ℕ) (c : Configuration) → slice_get xs i ≡ Some c → slice_get (trees_of xs) i ≡ Some c.tree
+tree_at_number [] i c e = absurd (cc)
+tree_at_number (x ∷ xs) zero c e = cc
+tree_at_number (x ∷ xs) (suc i) c e = tree_at_number xs i c e
+
+-- the tree in use for all numbers
+all_by_last : (xs : List Configuration) (c : Configuration) → IsLast xs c → AreLoaded (trees_of xs) (λ _. c.tree)
+all_by_last xs c at = record { generation = λ _. length xs - 1; loaded = λ n. tree_at_number xs (length xs - 1) c at; rising = λ n m lt. omega arith }
+
+-- a log leads by the bars of each core of the same limits
+pub led_there :
+    (old x : Core) (opening : ℕ → List ℕ → Option Item) (at plans : ℕ → List ℕ → Plan) (log : List (Entry dialect)) (now : OverlapState dialect) → plans ≡ at → x.limits ≡ old.limits
+    → LeadsTo (tree_words at) (bars_by old.limits.sharing at) opening log now → LeadsTo (tree_words plans) (bars_by x.limits.sharing plans) opening log now
+led_there old x opening at plans log now same limits leads =
+    subst (λ (l : Limits). LeadsTo (tree_words plans) (bars_by l.sharing plans) opening log now) (sym limits)
+    (subst (λ (p : ℕ → List ℕ → Plan). LeadsTo (tree_words p) (bars_by old.limits.sharing p) opening log now) (sym same) leads)
+
+-- the empty log led to a new core by its tree
+led_by_none :
+    (word : Option (List Configuration)) (tree : Route) (limits : Limits) (x : Core) → MayBeLoaded word (λ _. tree) → core_state.IsFresh tree limits x
+    → (opening : ℕ → List ℕ → Option Item) → MayHaveLed opening [] (record { core = x; accepted = word })
+led_by_none word tree limits x loaded new opening =
+    let plans : ℕ → List ℕ → Plan = λ n key. tree_at tree key in
+    record {
+      tree = λ _. tree;
+      loaded = loaded;
+      beside = nothing_beside plans opening;
+      plain = refl;
+      fits = new.fits plans opening (λ n key lt. refl);
+      leads = subst (λ (l : Limits). LeadsTo (tree_words plans) (bars_by l.sharing plans) opening [] (state_of x (nothing_beside plans opening))) (sym new.limits_are) (new.leads plans opening);
+    }
+
+pub new_is_led : (xs : List Configuration) (c : Configuration) (limits : Limits) (x : Core) → IsLast xs c → core_state.IsFresh c.tree limits x → IsNew xs limits (record { core = x; accepted = Some xs })
+new_is_led xs c limits x at new =
+    record {
+      word = refl;
+      core_is = λ d other. subst (λ (k : Configuration). core_state.IsFresh k.tree limits x) (same_config xs c d at other) new;
+      led = led_by_none (Some xs) c.tree limits x (all_by_last xs c at) new;
+    }
+
+pub unchecked_is_led : (tree : Route) (limits : Limits) (x : Core) → core_state.IsFresh tree limits x → IsUnchecked tree limits (record { core = x; accepted = None })
+unchecked_is_led tree limits x new = record { word = refl; core_is = new; led = led_by_none None tree limits x tt new }
+
+-- a step of the core
+pub goes : (old : ServedCore) (x : Core) (IsKind : List (Entry dialect) → Type 0) → GoesBy old.core IsKind x → LogsGoBy old IsKind (record old { core = x })
+goes old x IsKind step = record {
+  word = refl;
+  logs = λ opening past led.
+      let s = step led.beside led.fits in
+      let at = s.3.at in (
+        s.1,
+        s.4,
+        record {
+          tree = led.tree;
+          loaded = led.loaded;
+          beside = s.0;
+          plain = at ∙ led.plain;
+          fits = s.2;
+          leads = led_there old.core x opening led.beside.at s.0.at (s.1 ++ past) (state_of x s.0) at s.6 (s.5 opening past led.leads);
+        },
+        s.3,
+      );
+}
+
+-- nothing happened
+pub stays : (old : ServedCore) → LogsGoBy old (λ entries. entries ≡ []) old
+stays old = record { word = refl; logs = λ opening past led. ([], refl, led, record { at = refl; holds = refl; found = refl; turn = refl }) }
+
+-- a piece came
+pub feeds : (b : Bool) (old : ServedCore) (x : Core) (client : ℕ) (bytes : List ℕ) → FeedsOpen b old.core client bytes x → LogsGoBy old (λ entries. entries ≡ fed b client bytes) (record old { core = x })
+feeds true old x client bytes same = subst (λ (y : Core). LogsGoBy old (λ entries. entries ≡ []) (record old { core = y })) (sym same) (stays old)
+feeds false old x client bytes step = goes old x (λ entries. entries ≡ log.Feeds client bytes ∷ []) step
+
+-- what copies bars deletes of its key, by either rule
+pub copies : (sharing : Sharing) (at : ℕ → List ℕ → Plan) → CopiesBar (tree_words at) (bars_by sharing at)
+copies sharings.Alone at number ask calls reply from word j call i made copied n delete is same = (refl, refl)
+copies sharings.Shared at number ask calls reply from word j call i made copied n delete is same =
+    let bars = trees_bar at number ask calls reply from word j call i made copied n delete is same in (bars.0, ap is_delete bars.1)
+
+-- by the first rule each command has its key alone
+pub alone : (sharing : Sharing) (at : ℕ → List ℕ → Plan) → sharing ≡ sharings.Alone → AreAlone (bars_by sharing at)
+alone sharing at e number other ask client same = (ap (λ s. copies_by s ask.op (at number ask.key)) e, ap (λ s. clears_by s client.op) e)
+
+-- each log is fresh
+pub logs_are_fresh : GenerationsAreFresh → (served : ServedCore) (accepted : List Configuration) → served.accepted ≡ Some accepted → AreGenerations (trees_of accepted) → EveryLogIsFresh served
+logs_are_fresh law served accepted word are opening past led lost =
+    let words = tree_words led.beside.at in
+    let loaded : AreLoaded (trees_of accepted) led.tree = subst (λ (w : Option (List Configuration)). MayBeLoaded w led.tree) word led.loaded in
+    let covered : IsCovered words = subst (λ (plans : ℕ → List ℕ → Plan). IsCovered (tree_words plans)) (sym led.plain) ((law (trees_of accepted) are).1 led.tree loaded) in
+    let rule = served.core.limits.sharing in
+    let Bars = bars_of served.core led.beside in
+    let run = runs dialect words Bars opening past led.leads.follows in
+    let by : rule ≡ sharings.Alone → IsFreshByNumber opening (run_of past) = λ e. sharing.fresh_by_number words Bars covered (alone rule led.beside.at e) opening _ lost run in
+    record {
+      fresh = sharing.fresh words Bars covered (copies rule led.beside.at) opening _ lost run;
+      by_number = by;
+      none_stale = λ e. (counts_stale words Bars opening (alone rule led.beside.at e)).none _ run (by e);
+    }
+
+-- room for more clients
+grown : (old : ServedCore) (n : ℕ) → LogsGoBy old (λ entries. entries ≡ []) (record old { core = record old.core { clients = record old.core.clients { capacity = n } } })
+grown old n = record {
+  word = refl;
+  logs = λ opening past led.
+      let f = led.fits in (
+        [],
+        refl,
+        record {
+          tree = led.tree;
+          loaded = led.loaded;
+          beside = led.beside;
+          plain = led.plain;
+          fits = record { queues = f.queues; held = f.held; numbered = f.numbered; to_come = f.to_come; tickets = f.tickets; single = f.single; numbers = f.numbers; unseen = f.unseen; trees = f.trees };
+          leads = led.leads;
+        },
+        record { at = refl; holds = refl; found = refl; turn = refl },
+      );
+}
+
+-- a client came, or none
+pub opens :
+    (old : ServedCore) (x : Core) (result : Result ℕ CoreFault) → IfOk result (λ client. CanOpen old.core × core_state.Opens old.core client x) → IfErr result (λ fault. OpenFault old.core fault x)
+    → LogsGoBy old (λ entries. entries ≡ []) (record old { core = x })
+opens old x (Ok client) opened failed = goes old x (λ entries. entries ≡ []) opened.1.goes
+opens old x (Err faults.TooManyClients) opened failed = subst (λ (y : Core). LogsGoBy old (λ entries. entries ≡ []) (record old { core = y })) (sym failed.1) (stays old)
+opens old x (Err faults.NoMemory) opened failed = subst (λ (y : Core). LogsGoBy old (λ entries. entries ≡ []) (record old { core = y })) (sym failed) (grown old x.clients.capacity)
+opens old x (Err faults.NoTicket) opened failed = absurd failed
+opens old x (Err faults.NoClient) opened failed = absurd failed
+opens old x (Err faults.InputFull) opened failed = absurd failed
+opens old x (Err faults.UnderWay) opened failed = absurd failed
+opens old x (Err faults.Spent) opened failed = absurd failed

@@ -1,0 +1,5 @@
+use Rattle.core_accepted.proofs.Keeping.{unchecked_is_led}
+use Rattle.core_accepted.proofs.served.ServedCore.unchecked.Goals as goal
+
+pub returns : goal.returns
+returns c = unchecked_is_led c.args.tree c.args.limits c.unchecked.result c.unchecked.ensures

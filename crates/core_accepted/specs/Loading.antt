@@ -1,0 +1,55 @@
+-- When a core that is served takes one more tree, and when not. Source: mcgate's own.
+use Rattle.std.specs.Prelude.{◌≡◌, ℕ, ◌<◌, ◌≤◌, List, [], ◌∷◌, ◌++◌, length, Option, Some, None, option_map, ◌⊎◌}
+use Rattle.mc_types.specs.Items.{Item}
+use Rattle.fresh_runs.specs.Overlap.{Entry}
+use Rattle.route_tree.specs.Route.{Route}
+use Rattle.route_json.specs.Configuration.{Configuration}
+use Rattle.gate_check.specs.Sound.{trees_of}
+use Rattle.gate_check.specs.Reload.{IsReloadFault, KeepsNumbers}
+use Rattle.gate_check.specs.declared.reloading.ReloadFault.TheVariants as gate
+use Rattle.core_proxy.specs.declared.limits.TheConstants.{LAST_GENERATION}
+use Rattle.core_proxy.specs.declared.proxy.Core.{Core}
+use Rattle.core_proxy.specs.CoreState as core_state
+use Rattle.core_proxy.specs.CoreState.{dialect}
+use Rattle.core_accepted.specs.declared.loading.LoadFault.{LoadFault}
+use Rattle.core_accepted.specs.declared.loading.LoadFault.TheVariants.{Refused, OtherServers}
+use Rattle.core_accepted.specs.declared.served.ServedCore.{ServedCore}
+use Rattle.core_accepted.specs.Logs.{MayHaveLed}
+
+-- the same log: commands that have begun keep their trees, those to come run by this one, and nothing else changes
+pub record TakesOver (opening : ℕ → List ℕ → Option Item) (past : List (Entry dialect)) (tree : Route) (old new : ServedCore) (led : MayHaveLed opening past old) : Type 0 where
+  pub after : MayHaveLed opening past new
+  pub begun : (n : ℕ) → n ≤ old.core.number → after.tree n ≡ led.tree n
+  pub coming : (n : ℕ) → old.core.number < n → after.tree n ≡ tree
+  pub others : after.beside ≡ record led.beside { at = after.beside.at }
+
+-- where the gate was asked, the number of configurations that it accepted; else the core's generation
+abbrev pub IsGeneration : Option (List Configuration) → Core → ℕ → Type 0
+IsGeneration (Some accepted) core number = number ≡ length accepted
+IsGeneration None core number = number ≡ core.generation
+
+-- the configuration is the next one that the gate accepted, if it was asked; it has this number, and its tree is the core's
+pub record IsLoaded (old : ServedCore) (config : Configuration) (number : ℕ) (new : ServedCore) : Type 0 where
+  pub word : new.accepted ≡ option_map (λ accepted. accepted ++ config ∷ []) old.accepted
+  pub number_is : IsGeneration new.accepted new.core number
+  pub reloads : core_state.Reloads old.core config.tree new.core
+  pub goes : (opening : ℕ → List ℕ → Option Item) (past : List (Entry dialect)) (led : MayHaveLed opening past old) → TakesOver opening past config.tree old new led
+
+-- the servers don't keep their numbers; or the gate's fault, or the core has no number for one more tree
+abbrev pub RefusesNext : Core → List Configuration → Configuration → LoadFault → Type 0
+RefusesNext core accepted config OtherServers = KeepsNumbers accepted config → ⊥
+RefusesNext core accepted config (Refused fault) =
+    KeepsNumbers accepted config × (IsReloadFault (trees_of accepted) config.tree fault ⊎ ((core.generation ≡ LAST_GENERATION) × (fault ≡ gate.TooManyGenerations)))
+
+-- memory was refused, or the core has no number for one more tree
+abbrev pub RefusesAny : Core → LoadFault → Type 0
+RefusesAny core OtherServers = ⊥
+RefusesAny core (Refused fault) = (fault ≡ gate.NoMemory) ⊎ ((core.generation ≡ LAST_GENERATION) × (fault ≡ gate.TooManyGenerations))
+
+-- of the core that is served, by the gate's word
+abbrev pub RefusesBy : Option (List Configuration) → Core → Configuration → LoadFault → Type 0
+RefusesBy (Some accepted) core config fault = RefusesNext core accepted config fault
+RefusesBy None core config fault = RefusesAny core fault
+
+abbrev pub RefusesLoad : ServedCore → Configuration → LoadFault → Type 0
+RefusesLoad served config fault = RefusesBy served.accepted served.core config fault

@@ -1,0 +1,71 @@
+-- What may have led to a core that is served, and what each of its calls adds to it. Source: mcgate's own.
+use Rattle.std.specs.Prelude.{◌≡◌, ℕ, Bool, true, false, List, [], ◌∷◌, ◌++◌, Option, Some, None}
+use Rattle.mc_types.specs.Items.{Item}
+use Rattle.fresh_runs.specs.Overlap as log
+use Rattle.fresh_runs.specs.Overlap.{Entry, run_of}
+use Rattle.fresh_runs.specs.OverlapState.{LeadsTo}
+use Rattle.fresh_runs.specs.Sharing.{LosesOnly, IsFresh, IsFreshByNumber}
+use Rattle.fresh_runs.specs.SharingStale.{stale_in}
+use Rattle.route_tree.specs.At.{tree_at}
+use Rattle.route_tree.specs.Route.{Route}
+use Rattle.route_tree.specs.Word.{tree_words}
+use Rattle.route_json.specs.Configuration.{Configuration}
+use Rattle.gate_check.specs.Sound.{AreLoaded, IsLast, trees_of}
+use Rattle.core_proxy.specs.declared.limits.Limits.{Limits}
+use Rattle.core_commands.specs.declared.sharing.Sharing.{Sharing}
+use Rattle.core_commands.specs.declared.sharing.Sharing.TheVariants.{Alone}
+use Rattle.core_proxy.specs.CoreState as core_state
+use Rattle.core_proxy.specs.CoreState.{dialect, bars_of, Beside, Fits, IsBeside, state_of}
+use Rattle.core_accepted.specs.declared.served.ServedCore.{ServedCore}
+
+-- the trees by which commands run, by the commands' numbers: where the gate was asked, those that it accepted, one after another; else any
+abbrev pub MayBeLoaded : Option (List Configuration) → (ℕ → Route) → Type 0
+MayBeLoaded (Some accepted) tree = AreLoaded (trees_of accepted) tree
+MayBeLoaded None tree = Unit {0}
+
+-- servers that held these opening items, and this log, may have led to the core: each command runs by the tree that was loaded when it began
+pub record MayHaveLed (opening : ℕ → List ℕ → Option Item) (past : List (Entry dialect)) (served : ServedCore) : Type 0 where
+  pub tree : ℕ → Route
+  pub loaded : MayBeLoaded served.accepted tree
+  pub beside : Beside
+  pub plain : beside.at ≡ (λ n key. tree_at (tree n) key)
+  pub fits : Fits served.core beside
+  pub leads : LeadsTo (tree_words beside.at) (bars_of served.core beside) opening past (state_of served.core beside)
+
+-- the gate's word stays as it is; and each log that may have led to the core before goes on by entries of this kind, the latest first, and may have led to the core after. Servers stay
+pub record LogsGoBy (old : ServedCore) (IsKind : List (Entry dialect) → Type 0) (new : ServedCore) : Type 0 where
+  pub word : new.accepted ≡ old.accepted
+  pub logs :
+      (opening : ℕ → List ℕ → Option Item) (past : List (Entry dialect)) (led : MayHaveLed opening past old)
+      → (entries : List (Entry dialect)) × IsKind entries × (led' : MayHaveLed opening (entries ++ past) new) × IsBeside led.beside led'.beside
+
+-- the gate accepted these configurations, the core is a new one on the tree of the last of them, and the empty log led to it
+pub record IsNew (accepted : List Configuration) (limits : Limits) (served : ServedCore) : Type 0 where
+  pub word : served.accepted ≡ Some accepted
+  pub core_is : (config : Configuration) → IsLast accepted config → core_state.IsFresh config.tree limits served.core
+  pub led : (opening : ℕ → List ℕ → Option Item) → MayHaveLed opening [] served
+
+-- no gate was asked, the core is a new one on this tree, and the empty log led to it
+pub record IsUnchecked (tree : Route) (limits : Limits) (served : ServedCore) : Type 0 where
+  pub word : served.accepted ≡ None
+  pub core_is : core_state.IsFresh tree limits served.core
+  pub led : (opening : ℕ → List ℕ → Option Item) → MayHaveLed opening [] served
+
+-- the entry of a piece; a client for whom nothing is done any more takes none
+abbrev pub fed : Bool → ℕ → List ℕ → List (Entry dialect)
+fed true client bytes = []
+fed false client bytes = log.Feeds client bytes ∷ []
+
+-- a command that begins after a delete of its key was acknowledged shows no item of a store that was over when the delete began; where each command has its key alone that holds by numbers too, and none is counted that does
+pub record IsFreshLog (sharing : Sharing) (opening : ℕ → List ℕ → Option Item) (past : List (Entry dialect)) : Type 0 where
+  pub fresh : IsFresh opening (run_of past)
+  pub by_number : sharing ≡ Alone → IsFreshByNumber opening (run_of past)
+  pub none_stale : sharing ≡ Alone → stale_in opening (run_of past) ≡ 0
+
+-- the gate accepted its trees
+abbrev pub IsAccepted : ServedCore → Type 0
+IsAccepted served = (accepted : List Configuration) × (served.accepted ≡ Some accepted)
+
+-- each log that may have led to the core is fresh, where nobody else writes the servers
+abbrev pub EveryLogIsFresh : ServedCore → Type 0
+EveryLogIsFresh served = (opening : ℕ → List ℕ → Option Item) (past : List (Entry dialect)) → MayHaveLed opening past served → LosesOnly (run_of past) → IsFreshLog served.core.limits.sharing opening past

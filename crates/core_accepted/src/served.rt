@@ -1,0 +1,178 @@
+//! The core that is served: with the configurations that the gate accepted, or on a tree of which no gate was asked.
+
+ghost use Rattle.std.specs.Prelude.{◌≡◌, [], ◌∷◌, ◌++◌, ◌↔◌, IsTrue, IfOk, IfErr, OnOk, OnErr, option_map};
+ghost use Rattle.wire_parts.specs.Sending.{bytes_of};
+ghost use Rattle.fresh_runs.specs.Overlap as log;
+ghost use Rattle.core_proxy.specs.Faults.{IsClosed, CanOpen, CanFeed, CanClose, OpenFault, FeedFault, OutputFault, CloseFault};
+ghost use Rattle.core_proxy.specs.CoreState.{IsOut, Opens, Feeds, Gives, Closes, LeavesLine, client_at, dropped_by, held_by, output_by};
+ghost use Rattle.core_commands.specs.Lines.{is_standing};
+ghost use Rattle.core_proxy.specs.Polls.{Polls, PollFault, Then, Perhaps, BeginsOne, IsPolled};
+ghost use Rattle.core_proxy.specs.Settles.{FitsCall, asked, SettleFault};
+ghost use Rattle.core_accepted.specs.Logs.{IsNew, IsUnchecked, LogsGoBy, fed};
+ghost use Rattle.core_accepted.specs.Loading.{IsLoaded, RefusesLoad};
+ghost use Rattle.core_accepted.specs.Results.{PollStops, TakesResult, SettleStops, IsSettled};
+
+use crate::loading::{LoadFault, load_accepted, load_any};
+use core_proxy::{Core, CoreFault, Limits, Poll, Ticket};
+use gate_check::Accepted;
+use mc_types::{Ask, Outcome};
+use route_json::Config;
+use route_tree::Tree;
+use std::alloc::{AllocError, Global};
+use wire_parts::to_send::SendBuffer;
+
+/// The core that is served.
+///
+/// Each of its commands runs by the tree that was loaded when it began. Each call does what the core's own call of that name
+/// does, and goes on with each log that may have led to this core. Where the gate accepted its trees, each such log is fresh,
+/// whatever calls were made ([`crate::laws::accepted_core_is_fresh`]); of other trees nothing is promised of what replies show.
+#[derive(Drop)]
+pub struct ServedCore {
+    pub(crate) core: Core,
+    // The configurations that the gate accepted; `None` where it wasn't asked.
+    pub(crate) accepted: Option<Accepted>,
+}
+
+impl ServedCore {
+    /// A core without clients, on the tree of the accepted configuration in use. The only error: memory was refused.
+    pub fn new(alloc: Global, accepted: Accepted, limits: Limits) -> Result<ServedCore, AllocError>
+        ensures { IfOk result (λ served. IsNew accepted limits served) }
+    {
+        let tree = accepted.config().tree().copy()?;
+        Ok(ServedCore {
+            core: Core::unchecked(alloc, tree, limits),
+            accepted: Some(accepted),
+        })
+    }
+
+    /// A core without clients, on a tree of which no gate was asked.
+    pub fn unchecked(alloc: Global, tree: Tree, limits: Limits) -> ServedCore
+        ensures { IsUnchecked tree limits result }
+    {
+        ServedCore {
+            core: Core::unchecked(alloc, tree, limits),
+            accepted: None,
+        }
+    }
+
+    /// As `Core::open_client`.
+    pub fn open_client(&mut self) -> Result<usize, CoreFault>
+        ensures ok { IfOk result (λ client. CanOpen self.old.core × Opens self.old.core client self.new.core) }
+        ensures err { IfErr result (λ fault. OpenFault self.old.core fault self.new.core) }
+        ensures fresh { LogsGoBy self.old (λ entries. entries ≡ []) self.new }
+    {
+        self.core.open_client()
+    }
+
+    /// As `Core::feed`.
+    pub fn feed(&mut self, client: usize, piece: &[u8]) -> Result<(), CoreFault>
+        ensures ok { OnOk result (CanFeed self.old.core client piece.now × Feeds self.old.core client piece.now self.new.core) }
+        ensures err { IfErr result (λ fault. FeedFault self.old.core client piece.now fault × (self.new ≡ self.old)) }
+        ensures fresh { OnOk result (LogsGoBy self.old (λ entries. entries ≡ fed (dropped_by (client_at self.old.core client)) client piece.now) self.new) }
+    {
+        self.core.feed(client, piece)
+    }
+
+    /// As `Core::give_back_room`.
+    pub fn give_back_room(&mut self, client: usize) -> bool
+        ensures none { IsTrue result ↔ (held_by (client_at self.old.core client) ≡ []) }
+        ensures same { self.new ≡ self.old }
+    {
+        self.core.give_back_room(client)
+    }
+
+    /// As `Core::move_output`.
+    pub fn move_output(&mut self, client: usize, out: &mut SendBuffer) -> Result<(), CoreFault>
+        ensures bytes { OnOk result (bytes_of out.new ≡ bytes_of out.old ++ output_by (client_at self.old.core client)) }
+        ensures ok { OnOk result (Gives self.old.core client (output_by (client_at self.old.core client)) self.new.core) }
+        ensures err { IfErr result (λ fault. OutputFault self.old.core client fault × (self.new ≡ self.old)) }
+        ensures out { OnErr result (bytes_of out.new ≡ bytes_of out.old) }
+        ensures fresh { OnOk result (LogsGoBy self.old (λ entries. entries ≡ log.Gives client (output_by (client_at self.old.core client)) ∷ []) self.new) }
+    {
+        self.core.move_output(client, out)
+    }
+
+    /// As `Core::take_output`.
+    pub fn take_output(&mut self, client: usize) -> Result<Vec<u8>, CoreFault>
+        ensures ok { IfOk result (λ bytes. Gives self.old.core client bytes.items self.new.core) }
+        ensures err { IfErr result (λ fault. OutputFault self.old.core client fault × (self.new ≡ self.old)) }
+        ensures fresh { IfOk result (λ bytes. LogsGoBy self.old (λ entries. entries ≡ log.Gives client bytes.items ∷ []) self.new) }
+    {
+        self.core.take_output(client)
+    }
+
+    /// As `Core::close`.
+    pub fn close(&mut self, client: usize) -> Result<(), CoreFault>
+        ensures ok { OnOk result (CanClose self.old.core client × Closes self.old.core client self.new.core) }
+        ensures err { IfErr result (λ fault. CloseFault self.old.core client fault × (self.new ≡ self.old)) }
+        ensures fresh { OnOk result (LogsGoBy self.old (λ entries. entries ≡ log.Resets client ∷ []) self.new) }
+    {
+        self.core.close(client)
+    }
+
+    /// As `Core::poll`.
+    pub fn poll(&mut self, client: usize) -> Result<Poll, CoreFault>
+        ensures ok { IfOk result (λ poll. Polls self.old.core client poll self.new.core) }
+        ensures err { IfErr result (λ fault. PollFault self.old.core client fault self.new.core) }
+        ensures fresh { IfOk result (λ poll. LogsGoBy self.old (Then (Perhaps (BeginsOne client)) (IsPolled client poll)) self.new) }
+        ensures stops { IfErr result (λ fault. PollStops self.old client fault self.new) }
+    {
+        self.core.poll(client)
+    }
+
+    /// As `Core::leave_line`.
+    pub fn leave_line(&mut self, client: usize) -> bool
+        ensures stood { result ≡ is_standing client self.old.core.lines }
+        ensures left { LeavesLine self.old.core client self.new.core }
+        ensures fresh { LogsGoBy self.old (λ entries. entries ≡ []) self.new }
+    {
+        self.core.leave_line(client)
+    }
+
+    /// As `Core::asked`.
+    pub fn asked(&self, number: u64) -> Option<&Ask>
+        ensures { option_map (λ ask. ask.now) result ≡ asked self.now.core number }
+    {
+        self.core.asked(number)
+    }
+
+    /// As `Core::settle`. The call had this outcome also where memory was refused for what comes of it.
+    pub fn settle(&mut self, ticket: Ticket, outcome: Outcome) -> Result<(), CoreFault>
+        requires fits { FitsCall self.old.core ticket.number outcome }
+        ensures ok { OnOk result (TakesResult self.old ticket.number outcome self.new) }
+        ensures err { IfErr result (λ fault. SettleFault self.old.core ticket.number outcome fault self.new.core) }
+        ensures stops { IfErr result (λ fault. SettleStops self.old ticket.number outcome fault self.new) }
+        ensures settled { IsSettled self.old ticket.number outcome self.new }
+    {
+        self.core.settle(ticket, outcome)
+    }
+
+    /// As `Core::is_closed`.
+    pub fn is_closed(&self, client: usize) -> bool
+        ensures { IsTrue result ↔ IsClosed self.now.core client }
+    {
+        self.core.is_closed(client)
+    }
+
+    /// As `Core::is_out`.
+    pub fn is_out(&self) -> bool
+        ensures { IsTrue result ↔ IsOut self.now.core }
+    {
+        self.core.is_out()
+    }
+
+    /// Commands that begin from now on run by this configuration's tree, and those that are under way end on the trees on which
+    /// they began. It gives the number of the generation.
+    ///
+    /// Where the gate accepted its trees, each generation's tree and the new one have to cover it, and the list of servers has to
+    /// begin with the one in use. After a fault all is as it was.
+    pub fn load(&mut self, alloc: Global, config: Config) -> Result<u32, LoadFault>
+        ensures loaded { IfOk result (λ number. IsLoaded self.old config number self.new) }
+        ensures refused { IfErr result (λ fault. RefusesLoad self.old config fault × (self.new ≡ self.old)) }
+    {
+        match &mut self.accepted {
+            Some(accepted) => load_accepted(&mut self.core, accepted, alloc, config),
+            None => load_any(&mut self.core, config),
+        }
+    }
+}

@@ -1,0 +1,14 @@
+pub mod Late
+pub mod Landed
+pub mod LateFresh
+pub mod Pipes
+pub mod Fleets
+pub mod Examples
+pub mod Parts
+pub mod OneWay
+pub mod Weakest
+pub mod Mirror
+pub mod Rollout
+pub mod Copying
+pub mod Logs
+pub mod Cores

@@ -1,0 +1,12 @@
+pub mod Late
+pub mod LateLaws
+pub mod Pipes
+pub mod FleetLaws
+pub mod Examples
+pub mod Parts
+pub mod Weakest
+pub mod Mirror
+pub mod Rollout
+pub mod Copying
+pub mod Grown
+pub mod Cores

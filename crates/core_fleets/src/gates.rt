@@ -1,0 +1,3 @@
+//! Fleets of proxies whose commands run by trees that cover one another.
+
+pub mod laws;

@@ -1,0 +1,22 @@
+//! The laws of a fleet of cores.
+
+ghost use Rattle.core_fleets.specs.Cores.{FleetOfCoresIsFresh, LateFleetOfCoresIsFresh, StickyFleetOfCoresIsFresh};
+
+/// Any number of cores, on trees that cover one another as far as they may be in use together and copy nothing, before the same
+/// servers, which only they write, and where a store that failed was applied before or never is: whatever they and the servers
+/// do, a command that begins at any of them after a delete of its key was acknowledged at any of them shows no item of a store
+/// that was over when the delete began.
+pub fn fleet_of_cores_is_fresh()
+    ensures { FleetOfCoresIsFresh }
+{}
+
+/// The same, but for stores that had failed over another connection than the delete's, where servers apply what came over a
+/// connection in order, however late.
+pub fn late_fleet_of_cores_is_fresh()
+    ensures { LateFleetOfCoresIsFresh }
+{}
+
+/// The same with regard to all stores, where each key has its connections.
+pub fn sticky_fleet_of_cores_is_fresh()
+    ensures { StickyFleetOfCoresIsFresh }
+{}

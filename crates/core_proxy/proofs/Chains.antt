@@ -1,0 +1,44 @@
+-- One step of the core after another.
+use Rattle.std.proofs.Common.{◌≡◌, List, [], ◌++◌, refl, ◌∙◌, subst}
+use Rattle.fresh_runs.specs.Overlap.{Entry}
+use Rattle.fresh_runs.specs.OverlapState.{Leads}
+use Rattle.fresh_runs.proofs.OverlapSteps.{leads_on}
+use Rattle.route_tree.specs.Word.{tree_words}
+use Rattle.core_proxy.specs.declared.limits.Limits.{Limits}
+use Rattle.core_proxy.specs.declared.proxy.Core.{Core}
+use Rattle.core_proxy.specs.Claims.{bars_by}
+use Rattle.core_client.specs.ClientState.{dialect}
+use Rattle.core_proxy.specs.CoreState.{bars_of, Beside, state_of, IsBeside, GoesBy}
+
+pub beside_on : (old mid new : Beside) → IsBeside old mid → IsBeside mid new → IsBeside old new
+beside_on old mid new a b = record { at = b.at ∙ a.at; holds = b.holds ∙ a.holds; found = b.found ∙ a.found; turn = b.turn ∙ a.turn }
+
+-- entries of the one kind, and after them some of the other
+abbrev pub Then : (List (Entry dialect) → Type 0) → (List (Entry dialect) → Type 0) → List (Entry dialect) → Type 0
+Then IsFirst IsSecond entries = (first second : List (Entry dialect)) × IsFirst first × IsSecond second × (entries ≡ second ++ first)
+
+-- what leads on by the bars of one core does so by those of another of the same limits
+pub leads_there :
+    (mid old new : Core) (beside between : Beside) (entries : List (Entry dialect)) (after : Beside) → between.at ≡ beside.at → mid.limits ≡ old.limits
+    → Leads (tree_words between.at) (bars_of mid between) (state_of mid between) entries (state_of new after) → Leads (tree_words beside.at) (bars_of old beside) (state_of mid between) entries (state_of new after)
+leads_there mid old new beside between entries after at limits leads =
+    subst (λ (l : Limits). Leads (tree_words beside.at) (bars_by l.sharing beside.at) (state_of mid between) entries (state_of new after)) limits
+    (subst (λ at. Leads (tree_words at) (bars_by mid.limits.sharing at) (state_of mid between) entries (state_of new after)) at leads)
+
+pub goes_then : (old mid new : Core) (IsFirst IsSecond : List (Entry dialect) → Type 0) → GoesBy old IsFirst mid → GoesBy mid IsSecond new → GoesBy old (Then IsFirst IsSecond) new
+goes_then old mid new IsFirst IsSecond a b = λ beside fits.
+    let x = a beside fits in
+    let y = b x.0 x.2 in
+    let words = tree_words beside.at in
+    let second = leads_there mid old new beside x.0 y.1 y.0 x.3.at x.6 y.5 in
+    (y.0, y.1 ++ x.1, y.2, beside_on beside x.0 y.0 x.3 y.3, (x.1, y.1, x.4, y.4, refl), leads_on words (bars_of old beside) (state_of old beside) (state_of mid x.0) (state_of new y.0) x.1 y.1 x.5 second, y.6 ∙ x.6)
+
+-- entries of a kind are of a wider one
+pub goes_as : (old new : Core) (IsOne IsOther : List (Entry dialect) → Type 0) → ((entries : List (Entry dialect)) → IsOne entries → IsOther entries) → GoesBy old IsOne new → GoesBy old IsOther new
+goes_as old new IsOne IsOther f a = λ beside fits.
+    let x = a beside fits in
+    (x.0, x.1, x.2, x.3, f x.1 x.4, x.5, x.6)
+
+-- nothing happens where nothing changed
+pub goes_nowhere : (core : Core) → GoesBy core (λ entries. entries ≡ []) core
+goes_nowhere core = λ beside fits. (beside, [], fits, record { at = refl; holds = refl; found = refl; turn = refl }, refl, (λ opening log h. h), refl)

@@ -1,0 +1,196 @@
+//! A command ends, and replies are shown.
+
+ghost use Rattle.std.specs.Prelude.{◌≡◌, ◌↔◌, [], IsTrue, None, false, OnOk, IfOk, IfErr, IfSome, IfNone, IsSome, MatchBool};
+ghost use Rattle.route_job.specs.Given.{given_of};
+ghost use Rattle.route_job.specs.Jobs.{Comes, IsDone};
+ghost use Rattle.core_proxy.specs.CoreState.{GoesBy, command_at};
+ghost use Rattle.core_proxy.specs.Polls.{ForClient, IsServed, IsEnded, AreShown, IsShown, IsNothing, Then, ShowsNext, StandsStill, StopsFirst, StopsAfter};
+ghost use Rattle.core_proxy.specs.Finishing.{CanEnd, IsNote, ShowsDone, TakesAway};
+ghost use Rattle.core_client.specs.Fronts.{Stays};
+ghost use Rattle.mc_types.specs.Acknowledged.{Acknowledges};
+
+use crate::fault::CoreFault;
+use crate::note::Note;
+use crate::proxy::Core;
+use core_client::Client;
+use core_commands::{Command, CommandTable};
+use mc_types::{Answer, Ask, SharedAsk};
+use route_job::{Done, Step};
+use std::alloc::Global;
+
+/// What is told of a command that ended, beside its ask.
+#[derive(Clone, Copy)]
+pub struct EndedCommand {
+    pub from: Option<u64>,
+    pub acknowledged: bool,
+}
+
+// What is told of a command of this ask that ended so.
+fn told_of(ask: &Ask, done: &Done) -> EndedCommand
+    ensures from { result.from ≡ (given_of done.now).from }
+    ensures acknowledged { IsTrue result.acknowledged ↔ Acknowledges ask.now (given_of done.now).reply }
+{
+    EndedCommand {
+        from: done.from,
+        acknowledged: done.reply.acknowledges(ask),
+    }
+}
+
+// The reply of a command of the client whose job is done is shown at once, where nothing stands before it: what is told of the command
+// then. Else, and where memory is refused, nothing has changed.
+fn show_done(number: u64, command: &Command, client: &mut Client) -> Option<EndedCommand>
+    requires done { IsDone command.now.job }
+    requires served { client.old.dropped ≡ false }
+    ensures some { IfSome result (λ told. ShowsDone number command.now client.old told client.new) }
+    ensures none { IfNone result (Stays client.old client.new) }
+{
+    match command.job.next() {
+        Step::Call { .. } => unreachable!(),
+        Step::Done(done) => match client.show_at_once(number, &done.reply) {
+            Ok(true) => Some(told_of(command.ask.get(), done)),
+            _ => None,
+        },
+    }
+}
+
+// How a command ended whose job is done, which isn't among the commands any more. Its memory is kept for others.
+fn done_of(alloc: Global, command: Command, commands: &mut CommandTable) -> (SharedAsk, Done)
+    requires { IsDone command.job }
+    ensures ask { result.0 ≡ command.ask }
+    ensures done { Comes command.job [] (given_of result.1) }
+    ensures same { commands.new ≡ commands.old }
+{
+    let Command {
+        job,
+        ask,
+        client: _client,
+        claim: _claim,
+        is_out: _is_out,
+    } = command;
+    let done = commands.end(alloc, &ask, job);
+    (ask, done)
+}
+
+// What is told of it, and its reply.
+fn note_of(number: u64, ask: SharedAsk, done: Done) -> (Note, Answer)
+    ensures { IsNote number ask (given_of done) result.0 result.1 }
+{
+    let Done { from, reply } = done;
+    let acknowledged = reply.acknowledges(ask.get());
+    let note = Note {
+        ask,
+        from,
+        number,
+        acknowledged,
+    };
+    (note, reply)
+}
+
+impl Core {
+    // A command is taken out whose reply was shown: its ask. Its memory is kept for others.
+    fn take_away(&mut self, number: u64) -> SharedAsk
+        requires { IsSome (command_at self.old number) }
+        ensures { TakesAway self.old number result self.new }
+    {
+        let Some(command) = self.commands.remove(number) else {
+            unreachable!();
+        };
+        let Command {
+            job,
+            ask,
+            client: _client,
+            claim: _claim,
+            is_out: _is_out,
+        } = command;
+        self.commands.keep(self.alloc, &ask, job);
+        ask
+    }
+
+    // A command of the client whose job is done has its reply, which isn't shown yet.
+    fn end_unshown(&mut self, client: usize, number: u64) -> Note
+        requires served { ForClient self.old client IsServed }
+        requires done { CanEnd self.old client number }
+        ensures ended { GoesBy self.old (IsEnded client result) self.new }
+        ensures served { ForClient self.new client IsServed }
+        ensures still { StandsStill self.old self.new }
+    {
+        let Some(command) = self.commands.remove(number) else {
+            unreachable!();
+        };
+        let (ask, done) = done_of(self.alloc, command, &mut self.commands);
+        let (note, reply) = note_of(number, ask, done);
+        match self.clients.get_mut(client) {
+            None => unreachable!(),
+            Some(x) => x.take_reply(number, reply),
+        }
+        note
+    }
+
+    // The reply of a command of the client whose job is done is shown at once, where nothing stands before it, and the command is over:
+    // what is told of it. Else nothing has changed.
+    fn end_at_once(&mut self, client: usize, number: u64) -> Option<Note>
+        requires served { ForClient self.old client IsServed }
+        requires done { CanEnd self.old client number }
+        ensures some { IfSome result (λ note. GoesBy self.old (Then (IsEnded client note) (AreShown client)) self.new) }
+        ensures none { IfNone result (GoesBy self.old IsNothing self.new × CanEnd self.new client number) }
+        ensures served { ForClient self.new client IsServed }
+        ensures still { StandsStill self.old self.new }
+    {
+        let Some(command) = self.commands.get(number) else {
+            unreachable!();
+        };
+        let Some(x) = self.clients.get_mut(client) else {
+            unreachable!();
+        };
+        let told = show_done(number, command, x)?;
+        let ask = self.take_away(number);
+        Some(Note {
+            ask,
+            from: told.from,
+            number,
+            acknowledged: told.acknowledged,
+        })
+    }
+
+    // A command of the client whose job is done has its reply, which is shown where nothing stands before it.
+    pub(crate) fn end(&mut self, client: usize, number: u64) -> Note
+        requires served { ForClient self.old client IsServed }
+        requires done { CanEnd self.old client number }
+        ensures ended { GoesBy self.old (Then (IsEnded client result) (AreShown client)) self.new }
+        ensures served { ForClient self.new client IsServed }
+        ensures still { StandsStill self.old self.new }
+    {
+        match self.end_at_once(client, number) {
+            Some(note) => note,
+            None => self.end_unshown(client, number),
+        }
+    }
+
+    // The reply at the head of the client's commands is shown, if there is one: whether there was.
+    fn show_next(&mut self, client: usize) -> Result<bool, CoreFault>
+        requires { ForClient self.old client IsServed }
+        ensures ok { IfOk result (λ shown. ShowsNext self.old client shown self.new) }
+        ensures err { IfErr result (λ fault. StopsFirst client self.old fault self.new) }
+        ensures still { StandsStill self.old self.new }
+    {
+        match self.clients.get_mut(client) {
+            None => unreachable!(),
+            Some(x) => match x.show_head() {
+                Ok(shown) => Ok(shown),
+                Err(_) => Err(CoreFault::NoMemory),
+            },
+        }
+    }
+
+    // All replies at the head of the client's commands are shown. Where memory is refused, some of them are.
+    pub(crate) fn show_all(&mut self, client: usize) -> Result<(), CoreFault>
+        requires { ForClient self.old client IsServed }
+        ensures ok { OnOk result (GoesBy self.old (AreShown client) self.new) }
+        ensures shown { OnOk result (IsShown self.new client) }
+        ensures err { IfErr result (λ fault. StopsAfter client (AreShown client) self.old fault self.new) }
+        ensures still { StandsStill self.old self.new }
+    {
+        while self.show_next(client)? {}
+        Ok(())
+    }
+}

@@ -1,0 +1,22 @@
+//! The proxy's core: commands of many clients under way at once, each client's replies in its own order.
+#![tactic(auto)]
+
+pub mod fault;
+pub mod feeding;
+pub mod finishing;
+pub mod freeing;
+pub mod laws;
+pub mod limits;
+pub mod looking;
+pub mod note;
+pub mod polling;
+pub mod proxy;
+pub mod results;
+pub mod serving;
+
+pub use core_commands::{Claim, Command, OutCall, Sharing, Ticket};
+pub use fault::{CoreFault, TreeFault};
+pub use limits::Limits;
+pub use note::{Note, Poll, ServedOne};
+pub use proxy::Core;
+pub use serving::Servers;

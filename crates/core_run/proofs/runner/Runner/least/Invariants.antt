@@ -1,6 +1,0 @@
-use Rattle.std.proofs.Common.{take}
-use Rattle.core_run.specs.Turns.{IsLeast}
-use Rattle.core_run.proofs.runner.Runner.least.Given as goal
-
-abbrev pub invariant-loop-ticket : goal.invariant-loop-ticket
-invariant-loop-ticket l = IsLeast l.least (take l.ticket-index l.out)

@@ -1,4 +1,0 @@
-use Rattle.core_run.proofs.runner.Runner.take_poll.Goals as goal
-
-pub returns-in_ok-count-in-Did-clause-counts : goal.returns-in_ok-count-in-Did-clause-counts
-returns-in_ok-count-in-Did-clause-counts c = rw c.in-Did.is c.in_ok-count-in-Did.ensures.counts

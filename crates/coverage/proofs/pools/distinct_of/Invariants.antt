@@ -1,6 +1,0 @@
-use Rattle.std.proofs.Common.{◌≡◌, take, []}
-use Rattle.coverage.specs.Pools.{distinct_after}
-use Rattle.coverage.proofs.pools.distinct_of.Given as goal
-
-abbrev pub invariant-loop-pool : goal.invariant-loop-pool
-invariant-loop-pool l = l.pools.items ≡ distinct_after [] (take l.pool-index l.sought)

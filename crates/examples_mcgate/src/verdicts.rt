@@ -1,0 +1,11 @@
+//! Worked examples of what is printed of a configuration: verdicts, explanations, pictures, and the places of keys. They stand
+//! above the crates that they show, so that a change of an example proves the example alone.
+
+#[cfg(test)]
+mod explanations;
+#[cfg(test)]
+mod pictures;
+#[cfg(test)]
+mod places;
+#[cfg(test)]
+mod verdicts;

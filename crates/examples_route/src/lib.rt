@@ -1,0 +1,17 @@
+//! Worked examples of routes: hashes, plain trees, jobs of one command on small trees, the places of trees, and the gate's verdicts.
+//! They stand above the crates that they show, so that a change of an example proves the example alone.
+#![tactic(auto)]
+
+mod configs;
+#[cfg(test)]
+mod gates;
+#[cfg(test)]
+mod hashes;
+#[cfg(test)]
+mod jobs;
+#[cfg(test)]
+mod places;
+#[cfg(test)]
+mod route_trees;
+#[cfg(test)]
+mod trees;

@@ -1,0 +1,725 @@
+//! Ends on 127.0.0.1 that are turned by turns: cache servers, a proxy, and the clients' ends of connections.
+
+use cache_tcp::CacheEnd;
+use examples_tables::configs::with_configs;
+use examples_tables::playing::{
+    Stage, cut, first_line, numbered, plain, play_lines, shown, yes_or_no,
+};
+use gate_check::{Accepted, judge};
+use route_json::{Config, read_config, read_config_after};
+use serve_proxy::{LinkNews, ProxyEnd, Settings};
+use std::alloc::{AllocError, Global};
+use std::io::{ErrorKind, Read, Write};
+use std::net::{IpAddr, Ipv4Addr, Shutdown, SocketAddr, TcpListener, TcpStream};
+use std::test::Fail;
+use std::time::{Duration, Instant};
+use std::{io, thread};
+
+type Cache = CacheEnd<HostRuntime>;
+
+/// The ends. One that is gone is none any more.
+#[derive(Drop)]
+pub struct TurnedEnds<'a> {
+    rt: &'a HostRuntime,
+    caches: Vec<Option<Cache>>,
+    // Where the one listened that was killed last.
+    gone: Option<SocketAddr>,
+    proxy: Option<ProxyEnd>,
+    // A proxy that isn't turned any more. Its connections stand.
+    ended: Option<ProxyEnd>,
+    // The text of the configuration by which the proxy began.
+    config: String,
+    // When news were asked for last.
+    asked: Option<Instant>,
+    // Where a server listens whose part the example plays.
+    played: Option<TcpListener>,
+    // Clients, and what such a server accepted.
+    streams: Vec<Option<TcpStream>>,
+}
+
+fn listen(rt: &HostRuntime, settings: cache_tcp::Settings) -> io::Result<Cache> {
+    CacheEnd::listen(rt, "127.0.0.1:0", settings)
+}
+
+fn listen_at(rt: &HostRuntime, address: SocketAddr) -> Result<Cache, Fail> {
+    let address = format!(in rt.alloc(); "{address}")?;
+    Ok(CacheEnd::listen(rt, address.as_str(), sixteen())?)
+}
+
+// The settings of a cache of 16 items.
+fn sixteen() -> cache_tcp::Settings {
+    cache_tcp::Settings::of(16)
+}
+
+fn drop_cache(_cache: Cache) {}
+
+// 127.0.0.1, at a port that the system picks.
+fn any_port() -> SocketAddr {
+    SocketAddr::new(IpAddr::V4(Ipv4Addr::LOCALHOST), 0)
+}
+
+// The configuration that a text is.
+fn read(alloc: Global, text: &str) -> Result<Config, Fail> {
+    Ok(read_config(alloc, text)?)
+}
+
+// The same, over the servers of another one.
+fn read_after(alloc: Global, first: &Config, text: &str) -> Result<Config, Fail> {
+    let servers = first.servers().copy(alloc)?;
+    Ok(read_config_after(alloc, servers, text)?)
+}
+
+fn judged(alloc: Global, config: Config) -> Result<Accepted, Fail> {
+    match judge(alloc, config) {
+        Ok(accepted) => Ok(accepted),
+        Err(_) => Err("the gate refuses the configuration")?,
+    }
+}
+
+// As many of these servers as the configuration has.
+fn used<'a>(config: &Config, servers: &'a [Option<SocketAddr>]) -> &'a [Option<SocketAddr>] {
+    &servers[..config.servers().len().min(servers.len())]
+}
+
+fn proxy(
+    rt: &HostRuntime,
+    accepted: Accepted,
+    servers: &[Option<SocketAddr>],
+    settings: Settings,
+) -> io::Result<ProxyEnd> {
+    ProxyEnd::new(rt, any_port(), accepted, servers, settings)
+}
+
+// A proxy over as many of these servers as the configuration has, on its tree.
+fn proxy_by(
+    rt: &HostRuntime,
+    text: &str,
+    servers: &[Option<SocketAddr>],
+    settings: Settings,
+) -> Result<ProxyEnd, Fail> {
+    let config = read(rt.alloc(), text)?;
+    let servers = used(&config, servers);
+    let accepted = judged(rt.alloc(), config)?;
+    Ok(proxy(rt, accepted, servers, settings)?)
+}
+
+// Drops the configuration.
+fn drop_config(_config: Config) {}
+
+// The number of the generation that a configuration is.
+fn load(
+    alloc: Global,
+    proxy: &mut ProxyEnd,
+    config: Config,
+    servers: &[Option<SocketAddr>],
+) -> Result<String, Fail> {
+    match proxy.load(config, servers) {
+        Ok(number) => Ok(number.to_string(alloc)?),
+        Err(_) => Ok("refused".to_string(alloc)?),
+    }
+}
+
+fn address(end: &Option<Cache>) -> io::Result<Option<SocketAddr>> {
+    match end {
+        Some(end) => Ok(Some(end.address()?)),
+        None => Ok(None),
+    }
+}
+
+fn turn_cache(rt: &HostRuntime, end: &mut Option<Cache>, most: Duration) -> io::Result<()> {
+    match end {
+        Some(end) => end.turn_within(rt, most),
+        None => Ok(()),
+    }
+}
+
+// One read. The answer is whether there is more to come.
+fn read_some(stream: &mut TcpStream, given: &mut Vec<u8>) -> io::Result<bool> {
+    let mut part = [0; 65_536];
+    match stream.read(&mut part) {
+        Ok(count) => {
+            given.extend_from_slice(&part[..count])?;
+            Ok(count > 0)
+        }
+        Err(error) if error.kind() == ErrorKind::WouldBlock => Ok(true),
+        Err(error) => Err(error),
+    }
+}
+
+// A text so often.
+fn times(alloc: Global, count: usize, text: &str) -> Result<String, AllocError> {
+    let mut all = String::new(alloc);
+    for _ in 0..count {
+        all.push_str(text)?;
+    }
+    Ok(all)
+}
+
+// How many bytes these are, and the last ten.
+fn counted(alloc: Global, bytes: &[u8]) -> Result<String, Fail> {
+    let (_, last) = bytes.split_at(bytes.len().saturating_sub(10));
+    let count = bytes.len();
+    let last = shown(alloc, last)?;
+    Ok(format!(in alloc; "{count} bytes, at the end {last}")?)
+}
+
+impl<'a> TurnedEnds<'a> {
+    /// No end.
+    pub fn new(rt: &'a HostRuntime) -> TurnedEnds<'a> {
+        TurnedEnds {
+            rt,
+            caches: Vec::new(rt.alloc()),
+            gone: None,
+            proxy: None,
+            ended: None,
+            config: String::new(rt.alloc()),
+            asked: None,
+            played: None,
+            streams: Vec::new(rt.alloc()),
+        }
+    }
+
+    // Where the servers listen: the caches, or the one that the example plays.
+    fn servers(&self) -> io::Result<Vec<Option<SocketAddr>>> {
+        let mut servers = Vec::new(self.rt.alloc());
+        for end in self.caches.as_slice() {
+            servers.push(address(end)?)?;
+        }
+        if let Some(listener) = &self.played {
+            servers.push(Some(listener.local_addr()?))?;
+        }
+        Ok(servers)
+    }
+
+    // Where clients connect: to the proxy, or to the first cache where there is none.
+    fn front(&self) -> Result<SocketAddr, Fail> {
+        if let Some(proxy) = &self.proxy {
+            return Ok(proxy.local_addr()?);
+        }
+        match self.caches.first() {
+            Some(Some(cache)) => Ok(cache.address()?),
+            _ => Err("there is no end to connect to")?,
+        }
+    }
+
+    fn turn_proxy(&mut self) -> io::Result<()> {
+        match &mut self.proxy {
+            Some(proxy) => proxy.turn_within(self.rt, Duration::from_millis(1)),
+            None => Ok(()),
+        }
+    }
+
+    // Whether so many of the proxy's calls are out, and nothing is left for it to do.
+    fn is_still(&self, calls: usize) -> bool {
+        match &self.proxy {
+            Some(proxy) => proxy.is_still(calls),
+            None => false,
+        }
+    }
+
+    // The proxy is turned until it is so, or until it isn't any more.
+    fn turn_until(&mut self, calls: usize, is_still: bool) -> Result<(), Fail> {
+        for _ in 0..4_000 {
+            if self.is_still(calls) == is_still {
+                return Ok(());
+            }
+            self.turn_proxy()?;
+        }
+        Err("the proxy didn't come to it")?
+    }
+
+    // So many of the proxy's calls are out when the caches answer. The turn that settles one of them is the proxy's last: its turns end with
+    // what is held back.
+    fn end_turns(&mut self, calls: usize) -> Result<(), Fail> {
+        self.turn_until(calls, true)?;
+        for end in self.caches.as_mut_slice() {
+            turn_cache(self.rt, end, Duration::from_millis(5))?;
+        }
+        self.turn_until(calls, false)?;
+        if let Some(mut proxy) = self.proxy.take() {
+            proxy.end_turns()?;
+            self.ended = Some(proxy);
+        }
+        Ok(())
+    }
+
+    // How long a cache waits in a turn where nothing is ready.
+    fn wait(&self) -> Duration {
+        Duration::from_millis(if self.proxy.is_some() { 1 } else { 5 })
+    }
+
+    fn turn(&mut self) -> io::Result<()> {
+        self.turn_proxy()?;
+        let wait = self.wait();
+        for end in self.caches.as_mut_slice() {
+            turn_cache(self.rt, end, wait)?;
+        }
+        Ok(())
+    }
+
+    fn stream(&mut self, at: usize) -> Option<&mut TcpStream> {
+        self.streams.get_mut(at)?.as_mut()
+    }
+
+    fn read(&mut self, at: usize, given: &mut Vec<u8>) -> io::Result<bool> {
+        match self.stream(at) {
+            Some(stream) => read_some(stream, given),
+            None => Ok(false),
+        }
+    }
+
+    // What comes by a stream in turns: so many bytes, or fewer where its connection ends before.
+    fn given(&mut self, at: usize, count: usize) -> io::Result<Vec<u8>> {
+        let mut given = Vec::new(self.rt.alloc());
+        for _ in 0..4_000 {
+            self.turn()?;
+            if !self.read(at, &mut given)? || given.len() >= count {
+                break;
+            }
+        }
+        Ok(given)
+    }
+
+    // Whether a connection ends, and nothing comes before.
+    fn is_closed(&mut self, at: usize) -> io::Result<bool> {
+        let given = self.given(at, 1)?;
+        Ok(given.is_empty())
+    }
+
+    fn listen(&mut self, settings: cache_tcp::Settings) -> Result<(), Fail> {
+        let cache = listen(self.rt, settings)?;
+        if self.caches.push(Some(cache)).is_err() {
+            return Err("no memory")?;
+        }
+        Ok(())
+    }
+
+    fn play_server(&mut self) -> Result<(), Fail> {
+        let listener = TcpListener::bind(self.rt, "127.0.0.1:0")?;
+        listener.set_nonblocking(true)?;
+        self.played = Some(listener);
+        Ok(())
+    }
+
+    // A server to which no connection stands any more: its system has room for 128 that it doesn't accept. Those that come then are given up.
+    fn play_full_server(&mut self) -> Result<(), Fail> {
+        let listener = TcpListener::bind(self.rt, "127.0.0.1:0")?;
+        let address = listener.local_addr()?;
+        for _ in 0..250 {
+            let _ = TcpStream::connect_timeout(self.rt, &address, Duration::from_millis(1));
+        }
+        self.played = Some(listener);
+        Ok(())
+    }
+
+    fn begin_proxy(&mut self, text: &str, settings: Settings) -> Result<(), Fail> {
+        let servers = self.servers()?;
+        self.proxy = Some(proxy_by(self.rt, text, servers.as_slice(), settings)?);
+        self.config = text.to_string(self.rt.alloc())?;
+        Ok(())
+    }
+
+    // Its number. What is sent by it comes in the pieces in which it was sent.
+    fn keep(&mut self, stream: TcpStream) -> Result<usize, Fail> {
+        stream.set_nonblocking(true)?;
+        stream.set_nodelay(true)?;
+        if self.streams.push(Some(stream)).is_err() {
+            return Err("no memory")?;
+        }
+        Ok(self.streams.len() - 1)
+    }
+
+    fn connect(&mut self) -> Result<usize, Fail> {
+        let stream = TcpStream::connect(self.rt, self.front()?)?;
+        self.keep(stream)
+    }
+
+    fn accepted(&self) -> Result<TcpStream, Fail> {
+        match &self.played {
+            Some(listener) => Ok(listener.accept()?.0),
+            None => Err("no server is played")?,
+        }
+    }
+
+    // The proxy is turned until its connection to the server has come: a few turns, as time limits pass meanwhile.
+    fn accept(&mut self) -> Result<usize, Fail> {
+        self.turn_often(10)?;
+        let stream = self.accepted()?;
+        self.keep(stream)
+    }
+
+    fn turn_often(&mut self, count: usize) -> io::Result<()> {
+        for _ in 0..count {
+            self.turn()?;
+        }
+        Ok(())
+    }
+
+    // Nothing is turned for so many milliseconds.
+    fn pause(&self, millis: usize) -> Result<(), Fail> {
+        thread::sleep(self.rt, Duration::from_millis(millis as u64));
+        Ok(())
+    }
+
+    fn write(&mut self, at: usize, bytes: &[u8]) -> Result<(), Fail> {
+        match self.stream(at) {
+            Some(stream) => Ok(stream.write_all(bytes)?),
+            None => Err("no stream has this number")?,
+        }
+    }
+
+    fn send(&mut self, at: usize, text: &str) -> Result<(), Fail> {
+        let piece = plain(self.rt.alloc(), text)?;
+        self.write(at, piece.as_bytes())
+    }
+
+    fn send_often(&mut self, at: usize, text: &str) -> Result<(), Fail> {
+        let (count, text) = numbered(text)?;
+        let text = plain(self.rt.alloc(), text)?;
+        let all = times(self.rt.alloc(), count, text.as_str())?;
+        self.write(at, all.as_bytes())
+    }
+
+    // The same in pieces that end anywhere, with a turn after each.
+    fn send_in_pieces(&mut self, at: usize, text: &str) -> Result<(), Fail> {
+        let (count, text) = numbered(text)?;
+        let text = plain(self.rt.alloc(), text)?;
+        let all = times(self.rt.alloc(), count, text.as_str())?;
+        for piece in all.as_bytes().chunks(997) {
+            self.write(at, piece)?;
+            self.turn()?;
+        }
+        Ok(())
+    }
+
+    // So many clients connect, and each stores a million bytes under this key and its own number.
+    fn store_all(&mut self, count: usize, key: &str) -> Result<(), Fail> {
+        for _ in 0..count {
+            let at = self.connect()?;
+            let line = format!(in self.rt.alloc(); "set {key}{at} 0 0 1000000\r\n")?;
+            self.write(at, line.as_bytes())?;
+            self.send_often(at, "100000 xxxxxxxxxx")?;
+            self.send(at, r"\r\n")?;
+            self.turn()?;
+        }
+        Ok(())
+    }
+
+    fn shut(&mut self, at: usize) -> Result<(), Fail> {
+        match self.stream(at) {
+            Some(stream) => Ok(stream.shutdown(Shutdown::Write)?),
+            None => Err("no stream has this number")?,
+        }
+    }
+
+    fn leave(&mut self, at: usize) {
+        if let Some(place) = self.streams.get_mut(at) {
+            *place = None;
+        }
+    }
+
+    fn address_of(&self, at: usize) -> io::Result<Option<SocketAddr>> {
+        match self.caches.get(at) {
+            Some(end) => address(end),
+            None => Ok(None),
+        }
+    }
+
+    fn put(&mut self, at: usize, cache: Cache) {
+        match self.caches.get_mut(at) {
+            Some(place) => *place = Some(cache),
+            None => drop_cache(cache),
+        }
+    }
+
+    fn kill(&mut self, at: usize) -> io::Result<()> {
+        self.gone = self.address_of(at)?;
+        if let Some(place) = self.caches.get_mut(at) {
+            *place = None;
+        }
+        Ok(())
+    }
+
+    // A cache begins, empty, where the one listened that was killed last.
+    fn begin_again(&mut self, at: usize) -> Result<(), Fail> {
+        match self.gone {
+            Some(address) => {
+                let cache = listen_at(self.rt, address)?;
+                self.put(at, cache);
+                Ok(())
+            }
+            None => Err("no server was killed")?,
+        }
+    }
+
+    // As many bytes as are wanted, and those that came with them.
+    fn gets(&mut self, at: usize, want: &str) -> Result<String, Fail> {
+        let count = plain(self.rt.alloc(), want)?.len();
+        let given = self.given(at, count)?;
+        shown(self.rt.alloc(), given.as_slice())
+    }
+
+    fn ask(&mut self, at: usize, text: &str, want: &str) -> Result<String, Fail> {
+        self.send(at, text)?;
+        self.gets(at, want)
+    }
+
+    // So many clients connect and say this.
+    fn connect_all(&mut self, count: usize, text: &str) -> Result<(), Fail> {
+        for _ in 0..count {
+            let at = self.connect()?;
+            self.send(at, text)?;
+            self.turn()?;
+        }
+        Ok(())
+    }
+
+    // So many clients connect and say this, and then each reads. The answer is what all of them get, or the first other one.
+    fn crowd(&mut self, count: usize, text: &str, want: &str) -> Result<String, Fail> {
+        let first = self.streams.len();
+        self.connect_all(count, text)?;
+        for at in first..self.streams.len() {
+            let got = self.gets(at, want)?;
+            if got.as_str() != want {
+                return Ok(got);
+            }
+        }
+        Ok(want.to_string(self.rt.alloc())?)
+    }
+
+    fn count(&mut self, at: usize, text: &str) -> Result<String, Fail> {
+        let given = self.given(at, text.parse::<usize>()?)?;
+        counted(self.rt.alloc(), given.as_slice())
+    }
+
+    // Whether a text comes so often, and nothing else.
+    fn gets_often(&mut self, at: usize, text: &str) -> Result<bool, Fail> {
+        let (count, text) = numbered(text)?;
+        let text = plain(self.rt.alloc(), text)?;
+        let all = times(self.rt.alloc(), count, text.as_str())?;
+        let given = self.given(at, all.len())?;
+        Ok(given.as_slice() == all.as_bytes())
+    }
+
+    fn clients(&self) -> usize {
+        match self.caches.first() {
+            Some(Some(cache)) => cache.clients(),
+            _ => 0,
+        }
+    }
+
+    fn next_config(&self, text: &str) -> Result<Config, Fail> {
+        let first = read(self.rt.alloc(), self.config.as_str())?;
+        read_after(self.rt.alloc(), &first, text)
+    }
+
+    fn loaded(&mut self, config: Config, servers: &[Option<SocketAddr>]) -> Result<String, Fail> {
+        let alloc = self.rt.alloc();
+        match self.proxy.as_mut() {
+            Some(proxy) => load(alloc, proxy, config, servers),
+            None => {
+                drop_config(config);
+                Err("there is no proxy")?
+            }
+        }
+    }
+
+    fn load(&mut self, text: &str) -> Result<String, Fail> {
+        let servers = self.servers()?;
+        let config = self.next_config(text)?;
+        self.loaded(config, servers.as_slice())
+    }
+
+    fn next_news(&mut self) -> Option<(usize, LinkNews)> {
+        match &mut self.proxy {
+            Some(proxy) => proxy.next_news(),
+            None => None,
+        }
+    }
+
+    // What is told of a link next.
+    fn news(&mut self) -> io::Result<Option<(usize, LinkNews)>> {
+        for _ in 0..4_000 {
+            self.turn()?;
+            let news = self.next_news();
+            if news.is_some() {
+                return Ok(news);
+            }
+        }
+        Ok(None)
+    }
+
+    // Whether news were asked for before, and a second has passed since: but for a millisecond, as the proxy counts whole ones.
+    fn is_second_later(&self) -> io::Result<bool> {
+        match self.asked {
+            Some(asked) => Ok(Duration::from_millis(999) <= asked.elapsed(self.rt)?),
+            None => Ok(false),
+        }
+    }
+
+    fn news_text(&mut self) -> Result<String, Fail> {
+        let alloc = self.rt.alloc();
+        let now = Instant::now(self.rt)?;
+        let Some((server, news)) = self.news()? else {
+            return Ok("none".to_string(alloc)?);
+        };
+        let is_later = self.is_second_later()?;
+        self.asked = Some(now);
+        let later = if is_later { ", a second later" } else { "" };
+        let text = format!(in alloc; "server {server}: {news}")?;
+        Ok(format!(in alloc; "{text}{later}")?)
+    }
+}
+
+impl TurnedEnds<'_> {
+    // Events of servers, which give nothing.
+    fn set_server(&mut self, verb: &str, text: &str) -> Result<(), Fail> {
+        match verb {
+            "cache" => self.listen(sixteen()),
+            "small-cache" => self.listen(one_client()),
+            "server" => self.play_server(),
+            "full-server" => self.play_full_server(),
+            "proxy" => self.begin_proxy(text, Settings::usual()),
+            "small-proxy" => self.begin_proxy(text, one_client_of_a_proxy()),
+            "strict-proxy" => self.begin_proxy(text, strict()),
+            "slow-retry-proxy" => self.begin_proxy(text, retried_after(u64::MAX)),
+            "quick-retry-proxy" => self.begin_proxy(text, retried_after(1)),
+            "hasty-proxy" => self.begin_proxy(text, hasty()),
+            _ => Err("no such event")?,
+        }
+    }
+
+    // Events that give nothing, of what has this number.
+    fn set(&mut self, verb: &str, at: usize, text: &str) -> Result<(), Fail> {
+        match verb {
+            "send" => self.send(at, text),
+            "repeat" => self.send_often(at, text),
+            "pieces" => self.send_in_pieces(at, text),
+            "store" => self.store_all(at, text),
+            "shut" => self.shut(at),
+            "turn" => Ok(self.turn_often(at)?),
+            "pause" => self.pause(at),
+            "end" => self.end_turns(at),
+            "leave" => {
+                self.leave(at);
+                Ok(())
+            }
+            "kill" => Ok(self.kill(at)?),
+            "again" => self.begin_again(at),
+            _ => Err("no such event")?,
+        }
+    }
+
+    // Events of streams.
+    fn answer_of(&mut self, verb: &str, text: &str, want: &str) -> Result<String, Fail> {
+        let (at, text) = numbered(text)?;
+        match verb {
+            "ask" => self.ask(at, text, want),
+            "gets" => self.gets(at, want),
+            "crowd" => self.crowd(at, text, want),
+            "count" => self.count(at, text),
+            "often" => Ok(yes_or_no(self.gets_often(at, text)?).to_string(self.rt.alloc())?),
+            "closed" => Ok(yes_or_no(self.is_closed(at)?).to_string(self.rt.alloc())?),
+            _ => {
+                self.set(verb, at, text)?;
+                Ok(String::new(self.rt.alloc()))
+            }
+        }
+    }
+
+    fn number(&mut self, verb: &str) -> Result<usize, Fail> {
+        match verb {
+            "connect" => self.connect(),
+            "accept" => self.accept(),
+            _ => Ok(self.clients()),
+        }
+    }
+}
+
+// The settings of a cache that serves one client.
+fn one_client() -> cache_tcp::Settings {
+    cache_tcp::Settings {
+        capacity: 16,
+        clients: 1,
+    }
+}
+
+// The settings of a proxy that serves one client.
+fn one_client_of_a_proxy() -> Settings {
+    Settings {
+        clients: 1,
+        ..Settings::usual()
+    }
+}
+
+// So long that no call of an example is late.
+const LONG: u64 = 3_600_000;
+
+// The settings of a proxy whose links may be read three times in a row without a whole answer.
+fn strict() -> Settings {
+    Settings {
+        call_ms: LONG,
+        polls: Some(3),
+        ..Settings::usual()
+    }
+}
+
+// The settings of a proxy that tries a server again so many milliseconds after it failed twice in a row.
+fn retried_after(retry_ms: u64) -> Settings {
+    Settings {
+        call_ms: LONG,
+        fail_limit: 2,
+        retry_ms,
+        ..Settings::usual()
+    }
+}
+
+// The settings of a proxy whose connections to servers may take 20 milliseconds to stand.
+fn hasty() -> Settings {
+    Settings {
+        call_ms: LONG,
+        connect_ms: 20,
+        ..Settings::usual()
+    }
+}
+
+impl Stage for TurnedEnds<'_> {
+    fn answer(&mut self, event: &str, want: &str) -> Result<String, Fail> {
+        let (verb, text) = cut(event);
+        match verb {
+            "cache"
+            | "small-cache"
+            | "server"
+            | "full-server"
+            | "proxy"
+            | "small-proxy"
+            | "strict-proxy"
+            | "slow-retry-proxy"
+            | "quick-retry-proxy"
+            | "hasty-proxy" => {
+                self.set_server(verb, text)?;
+                Ok(String::new(self.rt.alloc()))
+            }
+            "connect" | "accept" | "clients" => Ok(self.number(verb)?.to_string(self.rt.alloc())?),
+            "load" => self.load(text),
+            "news" => self.news_text(),
+            _ => self.answer_of(verb, text, want),
+        }
+    }
+}
+
+/// Plays an example: its name, and its events.
+pub fn play(rt: &HostRuntime, example: &str) -> Result<(), Fail> {
+    let (name, lines) = first_line(example);
+    let lines = with_configs(rt.alloc(), lines)?;
+    let mut ends = TurnedEnds::new(rt);
+    play_lines(&mut ends, name, lines.as_str())
+}
+
+/// Plays the examples of a text, between which a line is empty.
+pub fn play_all(rt: &HostRuntime, text: &str) -> Result<(), Fail> {
+    for example in text.split("\n\n") {
+        play(rt, example)?;
+    }
+    Ok(())
+}

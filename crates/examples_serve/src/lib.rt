@@ -1,0 +1,16 @@
+//! Worked examples over TCP on 127.0.0.1: a proxy's end, cache servers' ends and a client, turned in one thread.
+#![tactic(auto)]
+
+#[cfg(test)]
+mod caches;
+#[cfg(test)]
+mod dialects;
+#[cfg(test)]
+mod ends;
+#[cfg(test)]
+mod link_news;
+#[cfg(test)]
+mod proxies;
+#[cfg(test)]
+mod scripts;
+mod wires;

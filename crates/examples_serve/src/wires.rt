@@ -1,0 +1,6 @@
+//! Worked examples of wires: ends over a wire in memory whose far ends do what a script says, and real sockets.
+
+#[cfg(test)]
+mod scripts;
+#[cfg(test)]
+mod sockets;

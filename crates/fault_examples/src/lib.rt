@@ -1,9 +1,0 @@
-//! Worked examples of faults in words: of the program's arguments, of configurations and of scripts.
-#![tactic(auto)]
-
-#[cfg(test)]
-mod configurations;
-#[cfg(test)]
-mod scripts;
-#[cfg(test)]
-mod words;

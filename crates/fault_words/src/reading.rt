@@ -1,0 +1,304 @@
+//! The first fault of the program's words.
+
+use crate::commands::{COMMANDS, Command, DIALECTS, TOP_FLAGS, Takes, takes_of};
+use crate::fault::{Cause, WordFault};
+use crate::names::nearest;
+use mc_types::Key;
+use std::alloc::{AllocError, Global};
+use text_words::number::u32_number;
+
+// The flag of this name among these.
+fn flag_named(flags: &'static [&'static str], name: &str) -> Option<&'static str> {
+    flags.iter().copied().find(|flag| *flag == name)
+}
+
+// Whether a value is one that a flag takes.
+fn is_value(flag: &str, text: &str) -> bool {
+    match takes_of(flag) {
+        Takes::Nothing => false,
+        Takes::File | Takes::Address => true,
+        Takes::Count => !matches!(u32_number(text.as_bytes()), None | Some(0)),
+        Takes::Dialect => DIALECTS.contains(&text),
+    }
+}
+
+// Whether a word can be no value after a flag, as it begins like one itself.
+fn is_like_flag(word: &str) -> bool {
+    word.len() > 1 && word.starts_with("-")
+}
+
+fn is_like_number(word: &str) -> bool {
+    match word.as_bytes() {
+        [b'-', digit, ..] => digit.is_ascii_digit(),
+        _ => false,
+    }
+}
+
+/// What was read of a command's words so far.
+#[derive(Drop)]
+struct Reader {
+    command: Command,
+    /// The flags that stood there.
+    given: Vec<&'static str>,
+    /// The flag whose value comes next.
+    waiting: Option<&'static str>,
+    /// How many words stood there that are no flags and no values of theirs.
+    words: usize,
+    /// No flags come any more.
+    ended: bool,
+}
+
+impl Reader {
+    fn new(alloc: Global, command: Command) -> Reader {
+        Reader {
+            command,
+            given: Vec::new(alloc),
+            waiting: None,
+            words: 0,
+            ended: false,
+        }
+    }
+
+    fn value<'a>(&self, flag: &'static str, text: &'a str) -> Option<Cause<'a>> {
+        if is_value(flag, text) {
+            None
+        } else {
+            Some(Cause::BadValue(flag, text))
+        }
+    }
+
+    // The value of a flag as a word of its own.
+    fn next_value<'a>(&mut self, flag: &'static str, word: &'a str) -> Option<Cause<'a>> {
+        self.waiting = None;
+        if is_like_flag(word) {
+            return if takes_of(flag) == Takes::Count && is_like_number(word) {
+                Some(Cause::BadValue(flag, word))
+            } else {
+                Some(Cause::NoValue(flag))
+            };
+        }
+        self.value(flag, word)
+    }
+
+    // A flag with the value that stands in its own word, if one does.
+    fn flag<'a>(
+        &mut self,
+        word: &'a str,
+        name: &str,
+        own: Option<&'a str>,
+    ) -> Result<Option<Cause<'a>>, AllocError> {
+        let Some(flag) = flag_named(self.command.flags(), name) else {
+            return Ok(Some(Cause::NoFlag(word)));
+        };
+        if self.given.as_slice().contains(&flag) {
+            return Ok(Some(Cause::Twice(flag)));
+        }
+        self.given.push(flag)?;
+        Ok(match (takes_of(flag), own) {
+            (Takes::Nothing, None) => None,
+            (Takes::Nothing, Some(_)) => Some(Cause::OwnValue(flag)),
+            (_, Some(text)) => self.value(flag, text),
+            (_, None) => {
+                self.waiting = Some(flag);
+                None
+            }
+        })
+    }
+
+    // A word that is no flag.
+    fn plain<'a>(&mut self, word: &'a str) -> Option<Cause<'a>> {
+        if self.words >= self.command.most_words() {
+            return Some(Cause::Extra(word));
+        }
+        self.words = self.words.saturating_add(1);
+        if self.command == Command::Help && Command::of(word).is_none() {
+            return Some(Cause::NoCommand(word));
+        }
+        None
+    }
+
+    // The next word; what is wrong with it, if something is.
+    fn take<'a>(&mut self, word: &'a str) -> Result<Option<Cause<'a>>, AllocError> {
+        if let Some(flag) = self.waiting {
+            return Ok(self.next_value(flag, word));
+        }
+        if self.ended || word == "-" {
+            return Ok(self.plain(word));
+        }
+        if word == "--" {
+            self.ended = true;
+            return Ok(None);
+        }
+        if word == "-h" {
+            return self.flag(word, "help", None);
+        }
+        match word.strip_prefix("--") {
+            Some(rest) => match rest.split_once('=') {
+                Some((name, value)) => self.flag(word, name, Some(value)),
+                None => self.flag(word, rest, None),
+            },
+            None if is_like_flag(word) => Ok(Some(Cause::NoFlag(word))),
+            None => Ok(self.plain(word)),
+        }
+    }
+
+    fn has(&self, name: &'static str) -> bool {
+        self.given.as_slice().contains(&name)
+    }
+
+    fn missing(&self) -> Option<&'static str> {
+        self.command
+            .needed()
+            .iter()
+            .copied()
+            .find(|flag| !self.has(flag))
+    }
+
+    // What is wrong once there are no more words.
+    fn end<'a>(&self) -> Option<Cause<'a>> {
+        if let Some(flag) = self.waiting {
+            return Some(Cause::NoValue(flag));
+        }
+        if self.has("explain") && self.has("dot") {
+            return Some(Cause::TwoForms);
+        }
+        if let Some(flag) = self.missing() {
+            return Some(Cause::Missing(flag));
+        }
+        if self.words < self.command.least_words() {
+            return Some(Cause::NoWord);
+        }
+        None
+    }
+}
+
+// What is wrong with the words after a command.
+fn cause_after<'a>(
+    alloc: Global,
+    command: Command,
+    words: &'a [String],
+) -> Result<Option<Cause<'a>>, AllocError> {
+    let mut reader = Reader::new(alloc, command);
+    for word in words {
+        if let Some(cause) = reader.take(word.as_str())? {
+            return Ok(Some(cause));
+        }
+    }
+    Ok(reader.end())
+}
+
+// The name that was likely meant, among those of flags.
+fn meant_flag(
+    alloc: Global,
+    flags: &'static [&'static str],
+    word: &str,
+) -> Result<Option<&'static str>, AllocError> {
+    let name = word.trim_start_matches('-');
+    let name = match name.split_once('=') {
+        Some((name, _)) => name,
+        None => name,
+    };
+    nearest(alloc, name, flags)
+}
+
+// The name that was likely meant after a command.
+fn meant_after(
+    alloc: Global,
+    command: Command,
+    cause: Cause<'_>,
+) -> Result<Option<&'static str>, AllocError> {
+    match cause {
+        Cause::NoCommand(word) => nearest(alloc, word, COMMANDS.as_slice()),
+        Cause::NoFlag(word) => meant_flag(alloc, command.flags(), word),
+        Cause::BadValue(flag, text) if takes_of(flag) == Takes::Dialect => {
+            nearest(alloc, text, DIALECTS.as_slice())
+        }
+        _ => Ok(None),
+    }
+}
+
+// Whether a command has a flag of this name.
+fn is_flag_of_commands(name: &str) -> bool {
+    COMMANDS
+        .iter()
+        .filter_map(|command| Command::of(command))
+        .any(|command| flag_named(command.flags(), name).is_some())
+}
+
+// What is wrong where the words begin with no command.
+fn fault_at_top<'a>(alloc: Global, word: &'a str) -> Result<WordFault<'a>, AllocError> {
+    if !is_like_flag(word) {
+        return Ok(WordFault {
+            command: None,
+            cause: Cause::NoCommand(word),
+            meant: nearest(alloc, word, COMMANDS.as_slice())?,
+        });
+    }
+    if is_flag_of_commands(word.trim_start_matches('-')) {
+        return Ok(WordFault {
+            command: None,
+            cause: Cause::TooEarly(word),
+            meant: None,
+        });
+    }
+    Ok(WordFault {
+        command: None,
+        cause: Cause::NoFlag(word),
+        meant: meant_flag(alloc, TOP_FLAGS.as_slice(), word)?,
+    })
+}
+
+fn is_top_flag(word: &str) -> bool {
+    word == "-h" || word == "--help" || word == "--version"
+}
+
+/// The first fault of the program's words, its name first. `None` where they have none that this crate knows. The only error is running
+/// out of memory.
+pub fn fault_in_words<'a>(
+    alloc: Global,
+    words: &'a [String],
+) -> Result<Option<WordFault<'a>>, AllocError> {
+    let mut words = match words {
+        [] => return Ok(None),
+        [_, rest @ ..] => rest,
+    };
+    for _ in 0..words.len() {
+        match words {
+            [word, rest @ ..] if is_top_flag(word.as_str()) => words = rest,
+            _ => break,
+        }
+    }
+    let (word, rest) = match words {
+        [] => return Ok(None),
+        [word, rest @ ..] => (word.as_str(), rest),
+    };
+    let Some(command) = Command::of(word) else {
+        return Ok(Some(fault_at_top(alloc, word)?));
+    };
+    match cause_after(alloc, command, rest)? {
+        None => Ok(None),
+        Some(cause) => Ok(Some(WordFault {
+            command: Some(command),
+            cause,
+            meant: meant_after(alloc, command, cause)?,
+        })),
+    }
+}
+
+/// The first of the words after `where` that is no key, the program's name first.
+pub fn key_fault_in_words<'a>(words: &'a [String]) -> Option<WordFault<'a>> {
+    let mut is_value = false;
+    for word in words.get(2..)? {
+        let word = word.as_str();
+        if is_value || (is_like_flag(word)) {
+            is_value = word == "--config";
+        } else if let Err(fault) = Key::read(word.as_bytes()) {
+            return Some(WordFault {
+                command: Some(Command::Where),
+                cause: Cause::NoKey(word, fault),
+                meant: None,
+            });
+        }
+    }
+    None
+}

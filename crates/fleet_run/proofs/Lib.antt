@@ -1,3 +1,0 @@
-pub mod BadEvents
-pub mod Due
-pub mod Quiet

@@ -1,4 +1,0 @@
-pub mod Scripted
-pub mod Bad
-pub mod Opening
-pub mod Reloads

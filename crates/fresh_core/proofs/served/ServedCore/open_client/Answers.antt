@@ -1,5 +1,0 @@
-use Rattle.fresh_core.proofs.Keeping.{opens}
-use Rattle.fresh_core.proofs.served.ServedCore.open_client.Goals as goal
-
-pub returns-clause-fresh : goal.returns-clause-fresh
-returns-clause-fresh c = opens c.args.self.now c.open_client.new.self c.open_client.result c.open_client.ensures.ok c.open_client.ensures.err

@@ -1,5 +1,0 @@
-use Rattle.fresh_gate.proofs.Answering.{checked}
-use Rattle.fresh_gate.proofs.gate.verdict.Goals as goal
-
-pub returns-in-Ok : goal.returns-in-Ok
-returns-in-Ok c = checked c.args.tree.now c.in-Ok.table c.args.certificate.now c.verdict_by.result c.in-Ok.ensures c.verdict_by.ensures

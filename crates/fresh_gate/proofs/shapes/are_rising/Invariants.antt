@@ -1,6 +1,0 @@
-use Rattle.std.proofs.Common.{◌≡◌, drop}
-use Rattle.fresh_gate.specs.Shapes.{is_rising}
-use Rattle.fresh_gate.proofs.shapes.are_rising.Given as goal
-
-abbrev pub invariant-loop-run : goal.invariant-loop-run
-invariant-loop-run l = is_rising l.last l.modulus l.runs ≡ is_rising l.before l.modulus (drop l.run-index l.runs)

@@ -1,8 +1,0 @@
-use Rattle.std.proofs.Common.{◌≡◌, drop}
-use Rattle.route_tree.specs.At.{plain_for}
-use Rattle.coverage.specs.Pools.{servers_at}
-use Rattle.fresh_gate.specs.Rows.{all_cleared}
-use Rattle.fresh_gate.proofs.validity.are_pools_cleared.Given as goal
-
-abbrev pub invariant-loop-pool : goal.invariant-loop-pool
-invariant-loop-pool l = all_cleared (plain_for l.hash l.text l.tree) (servers_at l.hash l.pools) ≡ all_cleared (plain_for l.hash l.text l.tree) (servers_at l.hash (drop l.pool-index l.pools))

@@ -1,9 +1,0 @@
-pub mod Gate
-pub mod Sound
-pub mod Looking
-pub mod Rows
-pub mod Ends
-pub mod Shapes
-pub mod Pairs
-pub mod Reload
-pub mod Numbered

@@ -1,0 +1,304 @@
+-- What a script's events bring about, the latest first: over the log of overlapping commands, with the failures, losses and trees that the script names. Source: mcgate's own.
+use Rattle.std.specs.Prelude.{◌≡◌, ℕ, ℤ, ◌+◌, ◌<◌, ◌≤◌, List, [], ◌∷◌, ◌++◌, length, Option, Some, None, if◌then◌else◌, nat_eq, nat_lt, ◌⊎◌}
+use Rattle.mc_types.specs.declared.ask.Ask.{Ask}
+use Rattle.mc_types.specs.declared.answer.Answer.{Answer}
+use Rattle.mc_types.specs.declared.call.Origin.{Origin}
+use Rattle.mc_types.specs.Items.{Item}
+use Rattle.fresh_runs.specs.Run.{Words, Call, End, Read, Unread, Never}
+use Rattle.fresh_runs.specs.Sharing.{Event, Calls, Turns, Restarts, calls_so_far, commands_in, IsApart}
+pub use Rattle.fresh_runs.specs.Log.{Manner, Before, After, Junk, Cut}
+use Rattle.fresh_runs.specs.Log.{Loss, Lose, Restart, Part}
+use Rattle.fresh_runs.specs.Protocol.{Protocol}
+use Rattle.fresh_runs.specs.Overlap.{Slot, Owner, Ticket, ticket_in, Entry, Feeds, Starts, Sends, Happens, Ends, Shows, Passes, Gives, Drops, Frees, Resets, run_of, front_of, queue_of, output_of, given_of, owner_of, out_of, IsNext, IsFirst, MayFollow}
+
+-- an event of a script; a turn counts the calls from there on, from 1
+pub data Scripted (T : Type 0) : Type 0 where
+  -- these bytes come from a client, and all calls have their results (`>`)
+  Piece : (client : ℕ) (bytes : List ℕ) → Scripted T
+  -- these bytes come from a client, and calls stay out (`+`)
+  Add : (client : ℕ) (bytes : List ℕ) → Scripted T
+  -- the first call that is out at a server has its result, where there is one
+  Result : (server : ℕ) → Scripted T
+  -- the call of this turn fails
+  Fail : (turn : ℕ) (manner : Manner) → Scripted T
+  -- a server holds this before the run
+  Hold : (server : ℕ) (key content : List ℕ) → Scripted T
+  -- something is lost just before the call of this turn
+  At : (turn : ℕ) (loss : Loss) → Scripted T
+  -- something is lost now
+  Now : Loss → Scripted T
+  -- the time from now on
+  Moment : ℤ → Scripted T
+  -- a new tree
+  Reload : T → Scripted T
+
+pub data Line (P : Protocol) (T : Type 0) : Type 0 where
+  -- the script's next event is taken up
+  Takes : Scripted T → Line P T
+  -- a call that was out has its result, after what the script says is lost just before it
+  Results : (number server : ℕ) (ask : Ask) (origin : Origin) (end : End) → Line P T
+  -- a server drops a key by itself: it expired, or there was no room
+  Spills : (server : ℕ) (key : List ℕ) → Line P T
+  -- the tree for commands that begin from now on
+  Loads : T → Line P T
+  -- anything else of clients and the core
+  Does : Entry P → Line P T
+
+abbrev pub lost_by : Loss → Event
+lost_by (Lose server key) = Turns server key None
+lost_by (Restart server) = Restarts server
+
+-- the entries of losses, the latest first
+abbrev pub entries_by : {P : Protocol} → List Loss → List (Entry P) → List (Entry P)
+entries_by [] log = log
+entries_by (loss ∷ losses) log = entries_by losses (Happens (lost_by loss) ∷ log)
+
+-- how the call of this turn is to fail after an event, at which so many calls had their results
+abbrev pub named_by : {T : Type 0} → Scripted T → ℕ → ℕ → Option Manner → Option Manner
+named_by (Fail turn manner) made t before = if nat_eq (made + turn) t then Some manner else before
+named_by (Piece client bytes) made t before = before
+named_by (Add client bytes) made t before = before
+named_by (Result server) made t before = before
+named_by (Hold server key content) made t before = before
+named_by (At turn loss) made t before = before
+named_by (Now loss) made t before = before
+named_by (Moment moment) made t before = before
+named_by (Reload tree) made t before = before
+
+-- what is to be lost just before the call of this turn
+abbrev pub lost_at : {T : Type 0} → Scripted T → ℕ → ℕ → List Loss → List Loss
+lost_at (At turn loss) made t before = if nat_eq (made + turn) t then before ++ loss ∷ [] else before
+lost_at (Piece client bytes) made t before = before
+lost_at (Add client bytes) made t before = before
+lost_at (Result server) made t before = before
+lost_at (Fail turn manner) made t before = before
+lost_at (Hold server key content) made t before = before
+lost_at (Now loss) made t before = before
+lost_at (Moment moment) made t before = before
+lost_at (Reload tree) made t before = before
+
+-- the bytes that an event brings from a client
+abbrev pub said_by : {T : Type 0} → Scripted T → ℕ → List ℕ
+said_by (Piece client bytes) c = if nat_eq client c then bytes else []
+said_by (Add client bytes) c = if nat_eq client c then bytes else []
+said_by (Result server) c = []
+said_by (Fail turn manner) c = []
+said_by (Hold server key content) c = []
+said_by (At turn loss) c = []
+said_by (Now loss) c = []
+said_by (Moment moment) c = []
+said_by (Reload tree) c = []
+
+-- the entries that an event is by itself
+abbrev pub core_by : {P : Protocol} {T : Type 0} → Scripted T → List (Entry P) → List (Entry P)
+core_by (Now loss) log = Happens (lost_by loss) ∷ log
+core_by (Piece client bytes) log = log
+core_by (Add client bytes) log = log
+core_by (Result server) log = log
+core_by (Fail turn manner) log = log
+core_by (Hold server key content) log = log
+core_by (At turn loss) log = log
+core_by (Moment moment) log = log
+core_by (Reload tree) log = log
+
+-- an entry that is no event, and gives no client's number away
+abbrev pub IsPlain : {P : Protocol} → Entry P → Type 0
+IsPlain (Feeds client bytes) = Unit {0}
+IsPlain (Starts client number part) = Unit {0}
+IsPlain (Sends number server ask origin) = Unit {0}
+IsPlain (Ends client number part reply from) = Unit {0}
+IsPlain (Shows client slot reply) = Unit {0}
+IsPlain (Passes client message next) = Unit {0}
+IsPlain (Gives client bytes) = Unit {0}
+IsPlain (Drops client) = Unit {0}
+IsPlain (Frees number) = Unit {0}
+IsPlain (Happens event) = ⊥
+IsPlain (Resets client) = ⊥
+
+-- the bytes of a client that an entry feeds
+abbrev pub fed_by : {P : Protocol} → Entry P → ℕ → List ℕ
+fed_by (Feeds client bytes) c = if nat_eq client c then bytes else []
+fed_by (Starts client number part) c = []
+fed_by (Sends number server ask origin) c = []
+fed_by (Happens event) c = []
+fed_by (Ends client number part reply from) c = []
+fed_by (Shows client slot reply) c = []
+fed_by (Passes client message next) c = []
+fed_by (Gives client bytes) c = []
+fed_by (Drops client) c = []
+fed_by (Frees number) c = []
+fed_by (Resets client) c = []
+
+module _ {P : Protocol} {T : Type 0} where
+  -- how many calls had their results
+  abbrev pub made_in : List (Line P T) → ℕ
+  made_in [] = 0
+  made_in (Takes event ∷ log) = made_in log
+  made_in (Results number server ask origin end ∷ log) = made_in log + 1
+  made_in (Spills server key ∷ log) = made_in log
+  made_in (Loads tree ∷ log) = made_in log
+  made_in (Does entry ∷ log) = made_in log
+
+  -- what is to be lost just before the call of a turn, in order
+  abbrev pub losses_of : List (Line P T) → ℕ → List Loss
+  losses_of [] t = []
+  losses_of (Takes event ∷ log) t = lost_at event (made_in log) t (losses_of log t)
+  losses_of (Results number server ask origin end ∷ log) t = losses_of log t
+  losses_of (Spills server key ∷ log) t = losses_of log t
+  losses_of (Loads tree ∷ log) t = losses_of log t
+  losses_of (Does entry ∷ log) t = losses_of log t
+
+  -- the log of the core
+  abbrev pub core_of : List (Line P T) → List (Entry P)
+  core_of [] = []
+  core_of (Takes event ∷ log) = core_by event (core_of log)
+  core_of (Results number server ask origin end ∷ log) = Happens (Calls number server ask origin end) ∷ entries_by (losses_of log (made_in log + 1)) (core_of log)
+  core_of (Spills server key ∷ log) = Happens (Turns server key None) ∷ core_of log
+  core_of (Loads tree ∷ log) = core_of log
+  core_of (Does entry ∷ log) = entry ∷ core_of log
+
+  -- how the call of a turn is to fail; of two events that name it the later counts
+  abbrev pub named_in : List (Line P T) → ℕ → Option Manner
+  named_in [] t = None
+  named_in (Takes event ∷ log) t = named_by event (made_in log) t (named_in log t)
+  named_in (Results number server ask origin end ∷ log) t = named_in log t
+  named_in (Spills server key ∷ log) t = named_in log t
+  named_in (Loads tree ∷ log) t = named_in log t
+  named_in (Does entry ∷ log) t = named_in log t
+
+  -- the script's events, in order
+  abbrev pub script_of : List (Line P T) → List (Scripted T)
+  script_of [] = []
+  script_of (Takes event ∷ log) = script_of log ++ event ∷ []
+  script_of (Results number server ask origin end ∷ log) = script_of log
+  script_of (Spills server key ∷ log) = script_of log
+  script_of (Loads tree ∷ log) = script_of log
+  script_of (Does entry ∷ log) = script_of log
+
+  -- what a client said by the script, and what of it was fed
+  abbrev pub said_of : List (Line P T) → ℕ → List ℕ
+  said_of [] c = []
+  said_of (Takes event ∷ log) c = said_of log c ++ said_by event c
+  said_of (Results number server ask origin end ∷ log) c = said_of log c
+  said_of (Spills server key ∷ log) c = said_of log c
+  said_of (Loads tree ∷ log) c = said_of log c
+  said_of (Does entry ∷ log) c = said_of log c
+
+  abbrev pub fed_of : List (Line P T) → ℕ → List ℕ
+  fed_of [] c = []
+  fed_of (Takes event ∷ log) c = fed_of log c
+  fed_of (Results number server ask origin end ∷ log) c = fed_of log c
+  fed_of (Spills server key ∷ log) c = fed_of log c
+  fed_of (Loads tree ∷ log) c = fed_of log c
+  fed_of (Does entry ∷ log) c = fed_of log c ++ fed_by entry c
+
+  -- the latest event of the script, where no call had its result since
+  abbrev pub current : List (Line P T) → Option (Scripted T)
+  current [] = None
+  current (Takes event ∷ log) = Some event
+  current (Results number server ask origin end ∷ log) = None
+  current (Spills server key ∷ log) = current log
+  current (Loads tree ∷ log) = current log
+  current (Does entry ∷ log) = current log
+
+  -- the latest event of the script
+  abbrev pub latest : List (Line P T) → Option (Scripted T)
+  latest [] = None
+  latest (Takes event ∷ log) = Some event
+  latest (Results number server ask origin end ∷ log) = latest log
+  latest (Spills server key ∷ log) = latest log
+  latest (Loads tree ∷ log) = latest log
+  latest (Does entry ∷ log) = latest log
+
+  module _ (first : T) where
+    -- the tree of a command, by its number: that which was loaded when it began
+    abbrev pub tree_at : List (Line P T) → ℕ → T
+    tree_at [] n = first
+    tree_at (Takes event ∷ log) n = tree_at log n
+    tree_at (Results number server ask origin end ∷ log) n = tree_at log n
+    tree_at (Spills server key ∷ log) n = tree_at log n
+    tree_at (Loads tree ∷ log) n = if nat_lt (commands_in (run_of (core_of log))) n then tree else tree_at log n
+    tree_at (Does entry ∷ log) n = tree_at log n
+
+    module _ (words_of : T → Words) where
+      -- the words of commands by their numbers
+      abbrev pub words_in : List (Line P T) → Words
+      words_in log number = words_of (tree_at log number) number
+
+module _ {P : Protocol} {T : Type 0} (first : T) (words_of : T → Words) (Bars : ℕ → Ask → ℕ → Ask → Type 0) (opening : ℕ → List ℕ → Option Item) (depth window : ℕ) (text_of : Ask → Answer → List ℕ) (MaySpill : List (Line P T) → ℕ → List ℕ → Type 0) where
+  -- a call ends as it was named, and is answered where it wasn't; an answer that isn't cut short is read
+  abbrev pub EndsAs : Ask → Option Manner → End → Type 0
+  EndsAs ask None (Read stamp answer spaces) = Unit {0}
+  EndsAs ask (Some Before) Never = Unit {0}
+  EndsAs ask (Some After) (Unread stamp answer spaces) = Unit {0}
+  EndsAs ask (Some Junk) (Unread stamp answer spaces) = Unit {0}
+  EndsAs ask (Some (Cut count)) (Read stamp answer spaces) = length (text_of ask answer) ≤ count
+  EndsAs ask (Some (Cut count)) (Unread stamp answer spaces) = count < length (text_of ask answer)
+  EndsAs ask None (Unread stamp answer spaces) = ⊥
+  EndsAs ask None Never = ⊥
+  EndsAs ask (Some Before) (Read stamp answer spaces) = ⊥
+  EndsAs ask (Some Before) (Unread stamp answer spaces) = ⊥
+  EndsAs ask (Some After) (Read stamp answer spaces) = ⊥
+  EndsAs ask (Some After) Never = ⊥
+  EndsAs ask (Some Junk) (Read stamp answer spaces) = ⊥
+  EndsAs ask (Some Junk) Never = ⊥
+  EndsAs ask (Some (Cut count)) Never = ⊥
+
+  -- whose result comes: after `result` the first call of that server, once; after `>` the first of the least server that has one out; after others none
+  abbrev pub IsAwaited : Option (Scripted T) → Option (Scripted T) → List (Entry P) → ℕ → Type 0
+  IsAwaited (Some (Result s)) late log server = s ≡ server
+  IsAwaited now (Some (Piece client bytes)) log server = (s : ℕ) → s < server → out_of log s ≡ []
+  IsAwaited now late log server = ⊥
+
+  -- the next call of a command is one of this server
+  abbrev pub IsNextAt : Words → List (Entry P) → ℕ → Owner → ℕ → Type 0
+  IsNextAt words log n o server = (call : Call) × (rest : List Call) × (reply : Answer) × (from : Option ℕ) × words n o.ask (calls_so_far (run_of log) n ++ call ∷ rest) reply from × (call.server ≡ server)
+
+  -- nothing more can be done without a result
+  pub record IsStill (words : Words) (log : List (Entry P)) : Type 0 where
+    -- no reply waits to be shown
+    pub shown : (c : ℕ) (slot : Slot P) (slots : List (Slot P)) → queue_of log c ≡ slot ∷ slots → slot.reply ≡ None
+    -- a client that could start one more command has one on that key under way, or one there bars it or is barred
+    pub started : (c : ℕ) (part : Part P) → IsNext (front_of log c) part → length (queue_of log c) < depth → IsFirst (owner_of log) c part.ask.key → IsApart Bars (run_of log) (commands_in (run_of log) + 1) part.ask → ⊥
+    -- a message that asks no server stands after a command
+    pub passed : (c : ℕ) (message : P.Message) (next : P.Place) → P.Reads (front_of log c).place message next → P.asks_of message ≡ [] → queue_of log c ≡ [] → ⊥
+    -- no command has all its calls
+    pub ended : (n : ℕ) (o : Owner) (reply : Answer) (from : Option ℕ) → owner_of log n ≡ Some o → words n o.ask (calls_so_far (run_of log) n) reply from → ⊥
+    -- each command has its call out, or waits for its server
+    pub sent : (n : ℕ) (o : Owner) → owner_of log n ≡ Some o → ((s : ℕ) × (ticket : Ticket) × (ticket_in (out_of log s) n ≡ Some ticket)) ⊎ ((s : ℕ) × IsNextAt words log n o s × (window ≤ length (out_of log s)))
+
+  -- and each client was given its output
+  abbrev pub IsQuiet : Words → List (Entry P) → Type 0
+  IsQuiet words log = IsStill words log × ((c : ℕ) → given_of log c ≡ output_of log c)
+
+  -- after `>` no call stays out
+  abbrev pub IsOver : Option (Scripted T) → List (Entry P) → Type 0
+  IsOver (Some (Piece client bytes)) log = (s : ℕ) → out_of log s ≡ []
+  IsOver late log = Unit {0}
+
+  -- after `result` no call is out at that server, where none had its result
+  abbrev pub IsMade : Option (Scripted T) → List (Entry P) → Type 0
+  IsMade (Some (Result server)) log = out_of log server ≡ []
+  IsMade now log = Unit {0}
+
+  -- an entry feeds no more than was said
+  abbrev pub IsSaid : List (Line P T) → Entry P → Type 0
+  IsSaid log (Feeds client bytes) = (rest : List ℕ) × (fed_of log client ++ (bytes ++ rest) ≡ said_of log client)
+  IsSaid log entry = Unit {0}
+
+  -- the line may come after the log
+  abbrev pub MayBe : List (Line P T) → Line P T → Type 0
+  MayBe log (Takes event) = IsQuiet (words_in first words_of log) (core_of log) × IsOver (latest log) (core_of log) × IsMade (current log) (core_of log) × ((c : ℕ) → fed_of log c ≡ said_of log c)
+  MayBe log (Results number server ask origin end) =
+      MayFollow (words_in first words_of log) Bars opening (entries_by (losses_of log (made_in log + 1)) (core_of log)) (Happens (Calls number server ask origin end))
+      × EndsAs ask (named_in log (made_in log + 1)) end
+      × IsAwaited (current log) (latest log) (core_of log) server
+      × IsStill (words_in first words_of log) (core_of log)
+      × ((rest : List Ticket) × (out_of (core_of log) server ≡ record { number = number; ask = ask; origin = origin } ∷ rest))
+  MayBe log (Spills server key) = MaySpill log server key
+  MayBe log (Loads tree) = current log ≡ Some (Reload tree)
+  MayBe log (Does entry) = IsPlain entry × IsSaid log entry × MayFollow (words_in first words_of log) Bars opening (core_of log) entry
+
+  abbrev pub IsScript : List (Line P T) → Type 0
+  IsScript [] = Unit {0}
+  IsScript (line ∷ log) = MayBe log line × IsScript log

@@ -1,0 +1,14 @@
+use Rattle.gate_check.specs.declared.pairs.TwoEnd.TheVariants as tables
+use Rattle.gate_check.proofs.PlacesAnswering.{at_index}
+use Rattle.gate_check.proofs.Two.{covers_two, gap_of_two, two_end_of}
+use Rattle.gate_check.proofs.pairs.covers_by.Goals as goal
+
+pub returns-in-Ok-Covered : goal.returns-in-Ok-Covered
+returns-in-Ok-Covered c =
+    covers_two c.args.earlier.now c.args.later.now c.args.table.now c.requires.is_table
+    (two_end_of c.args.earlier.now c.args.later.now c.args.table.now.modulus c.deref.result.now c.args.table.now.classes.items c.in-Ok-Covered.field-0 tables.Covered c.deref.ensures.value c.in-Ok-Covered.field-0-is c.in-Ok-Covered.ensures)
+
+pub returns-in-Ok-Gap : goal.returns-in-Ok-Gap
+returns-in-Ok-Gap c =
+    let ended = two_end_of c.args.earlier.now c.args.later.now c.args.table.now.modulus c.deref.result.now c.args.table.now.classes.items c.in-Ok-Gap.field-0 (tables.Gap c.in-Ok-Gap.index c.in-Ok-Gap.residue c.in-Ok-Gap.found) c.deref.ensures.value c.in-Ok-Gap.field-0-is c.in-Ok-Gap.ensures in
+    (c.args.table.now, c.requires.is_table, gap_of_two c.args.earlier.now c.args.later.now c.args.table.now c.requires.is_table c.in-Ok-Gap.index c.in-Ok-Gap.residue c.in-Ok-Gap.found c.gap_of.result c.index.result.now ended (at_index c.args.table.now.classes.items c.in-Ok-Gap.index c.index.result.now ended.0 c.index.ensures) c.gap_of.ensures)

@@ -1,0 +1,67 @@
+//! Configurations judged without a certificate: by looks at all places, of which none is written down.
+
+ghost use Rattle.std.specs.Prelude.{[], ◌∷◌, ◌≡◌, IfErr, IfOk, MatchResult, OnOk};
+ghost use Rattle.fresh_runs.specs.Freshness.{RunsAreFresh};
+ghost use Rattle.route_tree.specs.Direct.{words_of};
+ghost use Rattle.gate_check.specs.Tables.{IsTable};
+ghost use Rattle.gate_check.specs.Gate.{IsCertified, IsCertifiedBy, IsJudged};
+ghost use Rattle.gate_check.specs.Shapes.{IsJudgedBy};
+
+use crate::accepted::{Accepted, accept};
+use crate::gap::{Reason, Refused};
+use crate::gate::gap_of;
+use crate::laws::certified_is_fresh;
+use crate::pairs::{TwoEnd, pair_classes};
+use crate::places::{PlaceFault, PlaceTable, places};
+use route_json::Config;
+use route_tree::{Place, Tree};
+use std::alloc::Global;
+
+/// Looks at all places of the configuration's tree, and takes no memory for them.
+///
+/// Memory aside, it accepts exactly the trees of at most 262,144 places for which some certificate is valid, and never
+/// answers `BadCertificate`. Else the configuration is given back with the reason.
+pub fn judge(alloc: Global, config: Config) -> Result<Accepted, Refused>
+    ensures accepted { IfOk result (λ accepted. (accepted ≡ config ∷ []) × IsCertified config.tree) }
+    ensures fresh { OnOk result (RunsAreFresh (words_of config.tree)) }
+    ensures refused { IfErr result (λ refused. (refused.config ≡ config) × IsJudged config.tree refused.reason) }
+{
+    certified_is_fresh();
+    let _form = config.tree().form();
+    match judgement(alloc, config.tree()) {
+        Ok(()) => accept(alloc, config),
+        Err(reason) => Err(Refused { config, reason }),
+    }
+}
+
+// Whether some certificate is valid for the tree.
+fn judgement(alloc: Global, tree: &Tree) -> Result<(), Reason>
+    ensures { MatchResult result (λ _. IsCertified tree.now) (λ reason. IsJudged tree.now reason) }
+{
+    match places(alloc, tree) {
+        Ok(table) => judgement_by(alloc, tree, &table),
+        Err(PlaceFault::TooManyPlaces) => Err(Reason::TooManyPlaces),
+        Err(PlaceFault::NoMemory) => Err(Reason::NoMemory),
+    }
+}
+
+// The same by the tree's table: where each place is covered, the servers that are taken make a valid certificate, which
+// isn't written down.
+fn judgement_by(alloc: Global, tree: &Tree, table: &PlaceTable) -> Result<(), Reason>
+    requires { IsTable (tree.now ∷ []) table.now }
+    ensures { MatchResult result (λ _. IsCertifiedBy tree.now table.now) (λ reason. IsJudgedBy tree.now table.now reason) }
+{
+    let _form = tree.form();
+    match pair_classes(alloc, tree, tree, &table.classes, table.modulus) {
+        Err(_) => Err(Reason::NoMemory),
+        Ok(TwoEnd::Covered) => Ok(()),
+        Ok(TwoEnd::Gap(index, residue, found)) => {
+            let place = Place {
+                prefix: table.classes[index].prefix,
+                residue,
+                modulus: table.modulus,
+            };
+            Err(Reason::Uncovered(gap_of(place, found)))
+        }
+    }
+}

@@ -1,0 +1,13 @@
+pub mod Determining
+pub mod Trying
+pub mod Beside
+pub mod Few
+pub mod Leaking
+pub mod Bait
+pub mod Scripts
+pub mod Gaps
+pub mod Counting
+mod Reaching
+mod Naming
+pub mod Written
+mod Pooling

@@ -1,0 +1,35 @@
+-- The fixed texts of an explanation. Source: mcgate's own.
+use Rattle.std.specs.Prelude.{ℕ, List, codes}
+use Rattle.gate_gaps.specs.declared.phrases.Phrase.{Phrase}
+use Rattle.gate_gaps.specs.declared.phrases.Phrase.TheVariants as phrases
+
+unfoldable pub text_of : Phrase → List ℕ
+text_of phrases.CanShow = codes "of these keys can show or copy what"
+text_of phrases.Holds = codes "holds:"
+text_of phrases.Reads = codes "# reads of them can show or copy what these hold:"
+text_of phrases.HasCleared = codes "that is acknowledged has cleared:"
+text_of phrases.Left = codes "# and can have left as they were:"
+text_of phrases.AllSync = codes "AllSyncRoute"
+text_of phrases.Failover = codes "FailoverRoute"
+text_of phrases.MissFailover = codes "MissFailoverRoute"
+text_of phrases.Cold = codes "WarmUpRoute cold"
+text_of phrases.Warm = codes "WarmUpRoute warm"
+text_of phrases.Policies = codes "OperationSelectorRoute operation_policies"
+text_of phrases.Default = codes "OperationSelectorRoute default_policy"
+text_of phrases.DeletesGo = codes "# deletes of these keys go by /route"
+text_of phrases.DefaultPath = codes "/default_policy"
+text_of phrases.DeletePath = codes "/operation_policies/delete"
+text_of phrases.WildcardPath = codes "/wildcard"
+text_of phrases.ToChange = codes "# to change: it"
+text_of phrases.Lacks = codes "lacks"
+text_of phrases.LacksChild = codes "lacks a child that always clears"
+text_of phrases.StopsBefore = codes "can stop before"
+text_of phrases.FirstAlone = codes "asks its first child alone, not"
+text_of phrases.ColdAlone = codes "asks its cold side alone, not"
+text_of phrases.ClearsNothing = codes "clears nothing, not even"
+text_of phrases.OverBoth = codes ": put an AllSyncRoute there, over it and a route to that server"
+text_of phrases.AddOne = codes ": add one"
+text_of phrases.OfChildren = codes ": put an AllSyncRoute of its children there for deletes"
+text_of phrases.OfSides = codes ": put an AllSyncRoute of both sides there for deletes"
+text_of phrases.SendThere = codes ": send deletes to that server"
+text_of phrases.Else = codes "# or: let no read of these keys go to that server, or send their deletes to an ErrorRoute, which acknowledges none"

@@ -1,0 +1,93 @@
+-- The pools that a configuration's text names. Source: mcgate's own.
+use Rattle.std.specs.Prelude.{ℕ, List, [], ◌∷◌, codes, Option, Some, None, option_to_list, replicate, position, map}
+use Rattle.std.specs.List.{flat_map}
+use Rattle.std.specs.Str.{bytes_eq}
+use Rattle.serde_json.specs.Data.{Data, null, boolean, number, string, array, object, Items, no_items, item, Members, no_members, member}
+use Rattle.serde_json.specs.Find.{get, as_str}
+use Rattle.route_json.specs.NumberedServers.{Addresses}
+use Rattle.route_json.specs.ServerTexts.{server_in}
+use Rattle.gate_gaps.specs.declared.pools.Member.{Member}
+
+-- a pool's name, the servers of its list in order, and its slots
+abbrev pub NamedPool : Type 0
+NamedPool = List ℕ × List ℕ × List ℕ
+
+-- pools in byte order of their names
+abbrev pub NamedPools : Type 0
+NamedPools = List NamedPool
+
+-- the values of a JSON list
+abbrev pub values : Items → List Data
+values no_items = []
+values (item d ds) = d ∷ values ds
+
+-- the names and values of a JSON object, in byte order of the names
+abbrev pub members : Members → List (List ℕ × Data)
+members no_members = []
+members (member name d ms) = (name, d) ∷ members ms
+
+-- a server of this weight
+abbrev pub with_weight : ℕ → Option ℕ → Option Member
+with_weight w None = None
+with_weight w (Some n) = Some (record { server = n; weight = w })
+
+-- the server of an address and a weight
+abbrev pub member_at : Addresses → Option (List ℕ × ℕ) → Option Member
+member_at servers None = None
+member_at servers (Some s) = with_weight s.1 (position (bytes_eq s.0) servers)
+
+-- the server that a text names
+abbrev pub member_or : Addresses → Option (List ℕ) → Option Member
+member_or servers None = None
+member_or servers (Some text) = member_at servers (server_in text)
+
+-- the server that a value names
+abbrev pub member_of : Addresses → Data → Option Member
+member_of servers d = member_or servers (as_str d)
+
+abbrev pub members_of : Addresses → List Data → List Member
+members_of servers ds = flat_map (λ d. option_to_list (member_of servers d)) ds
+
+-- the servers that a list names
+abbrev pub members_in : Addresses → Option Data → List Member
+members_in servers None = []
+members_in servers (Some null) = []
+members_in servers (Some (boolean b)) = []
+members_in servers (Some (number n)) = []
+members_in servers (Some (string s)) = []
+members_in servers (Some (array ds)) = members_of servers (values ds)
+members_in servers (Some (object ms)) = []
+
+abbrev pub servers_of : List Member → List ℕ
+servers_of ms = map (λ (m : Member). m.server) ms
+
+-- each server as often in a row as its weight says
+abbrev pub slots_of : List Member → List ℕ
+slots_of ms = flat_map (λ (m : Member). replicate m.weight m.server) ms
+
+-- the pool of a name and an object
+abbrev pub pool_of : Addresses → List ℕ × Data → NamedPool
+pool_of servers m = (m.0, servers_of (members_in servers (get (codes "servers") m.1)), slots_of (members_in servers (get (codes "servers") m.1)))
+
+abbrev pub pools_of : Addresses → List (List ℕ × Data) → NamedPools
+pools_of servers ms = map (pool_of servers) ms
+
+-- the members of a value that is an object
+abbrev pub object_in : Option Data → Option Members
+object_in None = None
+object_in (Some null) = None
+object_in (Some (boolean b)) = None
+object_in (Some (number n)) = None
+object_in (Some (string s)) = None
+object_in (Some (array ds)) = None
+object_in (Some (object ms)) = Some ms
+
+-- the pools of an object
+abbrev pub pools_at : Addresses → Option Members → NamedPools
+pools_at servers None = []
+pools_at servers (Some ms) = pools_of servers (members ms)
+
+-- the pools of a text of a configuration with these servers; none where it is no JSON
+abbrev pub pools_in : Addresses → Option Data → NamedPools
+pools_in servers None = []
+pools_in servers (Some d) = pools_at servers (object_in (get (codes "pools") d))

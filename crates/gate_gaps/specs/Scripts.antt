@@ -1,0 +1,51 @@
+-- Scripts that leak, and their logs, whatever the protocol. Source: mcgate's own.
+use Rattle.std.specs.Prelude.{◌≡◌, ℕ, zero, suc, ◌≤◌, true, List, [], ◌∷◌, ◌++◌, map, Option}
+use Rattle.mc_types.specs.declared.ask.Ask.{Ask}
+use Rattle.mc_types.specs.declared.answer.Answer.{Answer}
+use Rattle.mc_types.specs.Items.{Item}
+use Rattle.fresh_runs.specs.Run.{Words}
+use Rattle.fresh_runs.specs.Sharing.{IsFreshByNumber, commands_in}
+use Rattle.fresh_runs.specs.Protocol.{Protocol, IsStuck}
+use Rattle.fresh_runs.specs.Log.{Scripted, Piece, Add, Result, Fail, Hold, At, Now, Moment, Before}
+use Rattle.fresh_runs.specs.Overlap.{run_of, IsSettled}
+use Rattle.fresh_runs.specs.OverlapStream.{IsReplied}
+use Rattle.fresh_runs.specs.ScriptLog as logged
+use Rattle.fresh_runs.specs.ScriptLog.{Line, core_of, script_of, said_of, fed_of, IsScript}
+
+-- `fail 1 before` .. `fail n before`
+abbrev pub fail_lines : ℕ → List Scripted
+fail_lines zero = []
+fail_lines (suc n) = fail_lines n ++ Fail (suc n) Before ∷ []
+
+-- server s holds `1`; the first i calls of the delete fail, and the first j of the read
+abbrev pub leaking_script : (s : ℕ) (key : List ℕ) (i : ℕ) (delete_text : List ℕ) (j : ℕ) (read_text : List ℕ) → List Scripted
+leaking_script s key i delete_text j read_text =
+    (((Hold s key (49 ∷ []) ∷ [] ++ fail_lines i) ++ Piece 0 delete_text ∷ []) ++ fail_lines j) ++ Piece 0 read_text ∷ []
+
+-- the event in a log in which trees could be loaded
+abbrev pub in_log : {T : Type 0} → Scripted → logged.Scripted T
+in_log (Piece client bytes) = logged.Piece client bytes
+in_log (Add client bytes) = logged.Add client bytes
+in_log (Result server) = logged.Result server
+in_log (Fail turn manner) = logged.Fail turn manner
+in_log (Hold server key content) = logged.Hold server key content
+in_log (At turn loss) = logged.At turn loss
+in_log (Now loss) = logged.Now loss
+in_log (Moment moment) = logged.Moment moment
+
+-- a log of the script, however much may be under way and whatever the texts of answers, in which no tree is loaded and servers drop nothing by themselves: all that the script says was fed, and each command has its reply, yet its run isn't fresh
+pub record Leaks (P : Protocol) (words : Words) (Bars : ℕ → Ask → ℕ → Ask → Type 0) (opening : ℕ → List ℕ → Option Item) (events : List Scripted) : Type 0 where
+  pub log : List (Line P (Unit {0}))
+  pub script : (depth window : ℕ) (text_of : Ask → Answer → List ℕ) → IsScript tt (λ tree. words) Bars opening depth window text_of (λ log server key. ⊥) log
+  pub script_is : script_of log ≡ map in_log events
+  pub fed : (c : ℕ) → fed_of log c ≡ said_of log c
+  pub settled : IsSettled (core_of log)
+  pub replied : (n : ℕ) → 1 ≤ n → n ≤ commands_in (run_of (core_of log)) → (key : List ℕ) × (reply : Answer) × IsReplied (run_of (core_of log)) n key reply
+  pub leaks : IsFreshByNumber opening (run_of (core_of log)) → ⊥
+
+-- from that place the text is read as one message that asks this alone, and is done with its reply
+pub record IsOneAsk (P : Protocol) (place : P.Place) (text : List ℕ) (ask : Ask) (reply : Answer) (message : P.Message) (next : P.Place) : Type 0 where
+  pub reads : P.Reads (P.fed place text) message next
+  pub asks : P.asks_of message ≡ ask ∷ []
+  pub ends : P.ends message 0 reply ≡ true
+  pub stuck : IsStuck P next

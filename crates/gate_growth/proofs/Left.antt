@@ -1,0 +1,10 @@
+-- What is left of a plain tree for an operation stores the same by the operation.
+use Rattle.std.proofs.Common.{◌≡◌, ℕ, Bool, refl}
+use Rattle.mc_types.specs.declared.ask.Op.{Op}
+use Rattle.route_tree.specs.Plan.{Plan}
+use Rattle.gate_coverage.specs.Seen.{for_op}
+use Rattle.gate_coverage.proofs.Left.{left_same}
+use Rattle.gate_growth.specs.PutsComputed.{stores, stores_policy}
+
+pub left_stores : (op : Op) (s : ℕ) (p : Plan) → stores op s (for_op op p) ≡ stores op s p
+left_stores op s p = left_same op Bool (stores op s) (stores_policy op s) (λ ps. refl) (λ q. refl) (λ o q rest. refl) (λ c w e. refl) p

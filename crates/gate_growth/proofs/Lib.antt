@@ -1,0 +1,17 @@
+pub mod Nothing
+pub mod UntouchedFresh
+pub mod UntouchedAlone
+pub mod Emptied
+pub mod Parted
+pub mod Stored
+pub mod Storing
+pub mod Left
+pub mod Marking
+pub mod Following
+pub mod Reading
+pub mod Rowing
+pub mod Multiples
+pub mod Among
+pub mod Since
+pub mod Reload
+pub mod Slots

@@ -1,0 +1,4 @@
+use Rattle.gate_growth.proofs.ledger.row.cell_after.Goals as goal
+
+pub returns : goal.returns
+returns c = λ arbitrary plans size of. c.after.ensures (arbitrary c.args.cell.server) plans size of

@@ -1,0 +1,5 @@
+use Rattle.gate_growth.proofs.UntouchedFresh.{no_less}
+use Rattle.gate_growth.proofs.runs.untouched_laws.covered_is_no_less.Goals as goal
+
+pub returns : goal.returns
+returns g c = no_less g.W.HasOpening.words g.W.HasOpening.opening

@@ -1,0 +1,12 @@
+pub mod Untouched
+pub mod UntouchedLaws
+pub mod UntouchedAlone
+pub mod Emptied
+pub mod Puts
+pub mod PutsComputed
+pub mod Exact
+pub mod Marks
+pub mod Computed
+pub mod Rows
+pub mod Grown
+pub mod Slots

@@ -1,0 +1,43 @@
+-- The marks of several servers at a place, and the first refusal among them. Source: mcgate's own.
+use Rattle.std.specs.Prelude.{◌≡◌, ℕ, ◌<◌, ◌≤◌, Bool, List, Option, Some, None, MatchOption, nat_lt, ◌⊎◌, if◌then◌else◌}
+use Rattle.route_tree.specs.Each.{Each}
+use Rattle.route_tree.specs.Plan.{Plan}
+use Rattle.gate_growth.specs.declared.ledger.row.Cell.{Cell}
+use Rattle.gate_growth.specs.declared.ledger.row.Refused.{Refused}
+use Rattle.gate_growth.specs.Marks.{IsMarkOf, MayFollow, IsRefusedFor}
+
+-- each has the marks of its server after these trees
+abbrev pub AreCellsOf : (ℕ → Bool) → List Plan → List Cell → Type 0
+AreCellsOf arbitrary plans cells = Each (λ (c : Cell). IsMarkOf (arbitrary c.server) plans c.server c.mark) cells
+
+-- at one server: the tree may follow, or is refused for this generation
+abbrev pub IsRefusedAt : Bool → List Plan → Plan → ℕ → Option Refused → Type 0
+IsRefusedAt arbitrary plans later server found =
+    MatchOption found (MayFollow arbitrary plans later server) (λ r. (r.server ≡ server) × IsRefusedFor arbitrary plans later server r.generation)
+
+-- a refusal stands before another, or is it: by generations, then by servers
+abbrev pub IsNotAfter : Refused → ℕ → ℕ → Type 0
+IsNotAfter r server generation = (r.generation < generation) ⊎ ((r.generation ≡ generation) × (r.server ≤ server))
+
+-- the first refusal at these servers
+pub record IsFirstRefused (arbitrary : ℕ → Bool) (plans : List Plan) (later : Plan) (cells : List Cell) (r : Refused) : Type 0 where
+  pub refused : IsRefusedFor (arbitrary r.server) plans later r.server r.generation
+  pub first : Each (λ (c : Cell). (g : ℕ) → IsRefusedFor (arbitrary c.server) plans later c.server g → IsNotAfter r c.server g) cells
+
+-- the tree may follow at all of them, or is refused
+abbrev pub IfRefused : (ℕ → Bool) → List Plan → Plan → List Cell → Option Refused → Type 0
+IfRefused arbitrary plans later cells found =
+    MatchOption found (Each (λ (c : Cell). MayFollow (arbitrary c.server) plans later c.server) cells) (IsFirstRefused arbitrary plans later cells)
+
+-- of equal ones the first
+abbrev pub lesser_of : Refused → Refused → Refused
+lesser_of other refused =
+    if nat_lt refused.generation other.generation then refused
+    else if nat_lt other.generation refused.generation then other
+    else if nat_lt refused.server other.server then refused
+    else other
+
+abbrev pub lesser : Option Refused → Option Refused → Option Refused
+lesser best None = best
+lesser None (Some refused) = Some refused
+lesser (Some other) (Some refused) = Some (lesser_of other refused)

@@ -1,0 +1,63 @@
+//! The laws of runs in which a delete clears what later commands take, or nothing was stored there before it.
+
+ghost use Rattle.std.specs.Prelude.{ℕ, List, Option, None};
+ghost use Rattle.mc_types.specs.declared.ask.Ask.{Ask};
+ghost use Rattle.mc_types.specs.declared.answer.Answer.{Answer};
+ghost use Rattle.mc_types.specs.Items.{Item};
+ghost use Rattle.fresh_runs.specs.Run.{Call};
+ghost use Rattle.fresh_runs.specs.Single.{server_words};
+ghost use Rattle.fresh_runs.specs.SharingLaws.{nobody_bars};
+ghost use Rattle.gate_growth.specs.Emptied.{EmptiedIsFresh};
+ghost use Rattle.gate_growth.specs.UntouchedAlone.{GrownRunsAreFresh};
+ghost use Rattle.gate_growth.specs.UntouchedLaws.{NothingComesOfNothing, CoveredIsNoLess, GrownIsFresh, GrownIsFreshByNumber};
+
+use std::marker::Brand;
+
+/// The words of commands, which of them bar which others from their key, and what servers hold before the run; a
+/// caller picks them at the marker type `Brand`.
+pub trait HasOpening {
+    ghost words: { ℕ → Ask → List Call → Answer → Option ℕ → Type 0 };
+
+    ghost bars: { ℕ → Ask → ℕ → Ask → Type 0 };
+
+    ghost opening: { ℕ → List ℕ → Option Item };
+}
+
+impl HasOpening for Brand {
+    ghost words = { server_words (λ _. 0) };
+
+    ghost bars = { nobody_bars };
+
+    ghost opening = { λ _ _. None };
+}
+
+/// Where nothing is held, only a set and an add leave an item.
+pub fn nothing_comes_of_nothing()
+    ensures { NothingComesOfNothing }
+{}
+
+/// Where deletes clear what later commands take, no server need be untouched.
+pub fn covered_is_no_less<W: HasOpening>()
+    ensures { CoveredIsNoLess W.words W.opening }
+{}
+
+/// Where each server that a later command takes is cleared by the delete, or nothing was stored there before the delete
+/// began, and what copies bars deletes of its key, every run in which nobody else writes the servers is fresh.
+pub fn grown_is_fresh<W: HasOpening>()
+    ensures { GrownIsFresh W.words W.bars W.opening }
+{}
+
+/// The same by numbers, where each command has its key alone.
+pub fn grown_is_fresh_by_number<W: HasOpening>()
+    ensures { GrownIsFreshByNumber W.words W.bars W.opening }
+{}
+
+/// The same of runs in which a key has one command at a time.
+pub fn grown_runs_are_fresh<W: HasOpening>()
+    ensures { GrownRunsAreFresh W.words W.opening }
+{}
+
+/// A server that is emptied before its first call counts as one that held nothing before the run.
+pub fn emptied_is_fresh<W: HasOpening>()
+    ensures { EmptiedIsFresh W.words W.bars W.opening }
+{}

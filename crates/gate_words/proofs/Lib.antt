@@ -1,4 +1,0 @@
-mod Reaching
-mod Naming
-pub mod Written
-mod Pooling

@@ -1,8 +1,0 @@
-use Rattle.std.proofs.Common.{◌≡◌, ◌++◌, drop}
-use Rattle.serde_json.specs.View.{items_view}
-use Rattle.gate_words.specs.Pools.{members_of, values}
-use Rattle.gate_words.proofs.pools.members_of.Given as goal
-
-abbrev pub invariant-loop-item : goal.invariant-loop-item
-invariant-loop-item l =
-    l.members.items ++ members_of l.servers (values (items_view (drop l.item-index l.items))) ≡ members_of l.servers (values (items_view l.items))

@@ -1,6 +1,0 @@
-use Rattle.std.proofs.Common.{◌≡◌, take}
-use Rattle.gate_words.specs.Pools.{servers_of}
-use Rattle.gate_words.proofs.pools.servers_of.Given as goal
-
-abbrev pub invariant-loop-member : goal.invariant-loop-member
-invariant-loop-member l = l.servers.items ≡ servers_of (take l.member-index l.members)

@@ -1,5 +1,0 @@
-pub mod Multiples
-pub mod Among
-pub mod Since
-pub mod Reload
-pub mod Slots

@@ -1,4 +1,0 @@
-pub mod Nothing
-pub mod UntouchedFresh
-pub mod UntouchedAlone
-pub mod Emptied

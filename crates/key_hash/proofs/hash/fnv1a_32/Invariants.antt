@@ -1,7 +1,0 @@
-use Rattle.std.proofs.Common.{◌≡◌, take}
-use Rattle.std.specs.Prelude.{fold}
-use Rattle.key_hash.specs.Fnv.{with_byte}
-use Rattle.key_hash.proofs.hash.fnv1a_32.Given as goal
-
-abbrev pub invariant-loop-byte : goal.invariant-loop-byte
-invariant-loop-byte l = l.hash ≡ fold with_byte 2166136261 (take l.byte-index l.bytes)

@@ -1,9 +1,0 @@
-use Rattle.std.proofs.Common.{◌≡◌, take}
-use Rattle.std.specs.Prelude.{fold}
-use Rattle.std.specs.List.{position_or_len}
-use Rattle.key_hash.specs.Fnv.{with_byte}
-use Rattle.key_hash.specs.Tag.{is_open}
-use Rattle.key_hash.proofs.tag.plain_hash.Given as goal
-
-abbrev pub invariant-loop-byte : goal.invariant-loop-byte
-invariant-loop-byte l = (l.hash ≡ fold with_byte 2166136261 (take l.byte-index l.text)) × (position_or_len is_open (take l.byte-index l.text) ≡ l.byte-index)

@@ -1,4 +1,0 @@
-pub mod Marking
-pub mod Following
-pub mod Reading
-pub mod Rowing

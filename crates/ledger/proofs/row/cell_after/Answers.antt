@@ -1,4 +1,0 @@
-use Rattle.ledger.proofs.row.cell_after.Goals as goal
-
-pub returns : goal.returns
-returns c = λ arbitrary plans size of. c.after.ensures (arbitrary c.args.cell.server) plans size of

@@ -1,2 +1,0 @@
-pub mod CallOrder
-pub mod StoreLines

@@ -1,8 +1,0 @@
-use Rattle.std.proofs.Common.{sym, ◌∙◌}
-use Rattle.mc_types.specs.declared.call.Outcome.TheVariants.{Answered}
-use Rattle.link_calls.proofs.CallOrder.{fits_first}
-use Rattle.link_calls.proofs.calls.LinkCalls.settle_next.Goals as goal
-
-pub settle_first-requires : goal.settle_first-requires
-settle_first-requires c =
-    fits_first c.args.self.now.sent.items c.args.core.now.core c.in-Some.number c.in-Some.dialect (Answered c.in-Answer.answer) (sym c.first_asked.ensures ∙ c.in-Some.is) c.in-Answer.ensures.3

@@ -1,3 +1,0 @@
-pub mod Dialects
-pub mod Calls
-pub mod Sending

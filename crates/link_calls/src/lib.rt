@@ -1,9 +1,0 @@
-//! The calls of one server that are out: written one after the other, and settled in that order by what the server answers.
-//! No socket is known here; the bytes are values.
-#![tactic(auto)]
-
-mod calls;
-mod sending;
-
-pub use calls::{LinkCalls, Next, SentCall, fail_call};
-pub use sending::send_ask;

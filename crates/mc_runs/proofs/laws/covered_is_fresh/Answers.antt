@@ -1,5 +1,0 @@
-use Rattle.mc_runs.proofs.Fresh.{fresh}
-use Rattle.mc_runs.proofs.laws.covered_is_fresh.Goals as goal
-
-pub returns : goal.returns
-returns g c = fresh g.W.HasWords.words

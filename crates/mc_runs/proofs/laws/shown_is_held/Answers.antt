@@ -1,5 +1,0 @@
-use Rattle.mc_runs.proofs.Finding as finding
-use Rattle.mc_runs.proofs.laws.shown_is_held.Goals as goal
-
-pub returns : goal.returns
-returns g c = finding.shown_is_held g.W.HasWords.words

@@ -1,5 +1,0 @@
-use Rattle.mc_text.proofs.ReadBack.{numbers_are_read_back}
-use Rattle.mc_text.proofs.laws.numbers_are_read_back.Goals as goal
-
-pub returns : goal.returns
-returns c = numbers_are_read_back

@@ -1,5 +1,0 @@
-use Rattle.mc_text.proofs.ReadBack.{words_are_read_back}
-use Rattle.mc_text.proofs.laws.words_are_read_back.Goals as goal
-
-pub returns : goal.returns
-returns c = words_are_read_back

@@ -1,6 +1,0 @@
-use Rattle.std.proofs.Common.{arith}
-use Rattle.mc_text.proofs.LineLemmas.{open_is}
-use Rattle.mc_text.proofs.reading.line.Goals as goal
-
-pub returns-in-None : goal.returns-in-None
-returns-in-None c = open_is c.args.bytes.now (omega arith) c.in-None.ensures

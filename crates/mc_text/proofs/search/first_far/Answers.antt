@@ -1,5 +1,0 @@
-use Rattle.mc_text.proofs.Firsts.{first_is}
-use Rattle.mc_text.proofs.search.first_far.Goals as goal
-
-pub returns : goal.returns
-returns c = first_is c.args.byte c.args.bytes.now c.memchr.result c.memchr.ensures

@@ -1,8 +1,0 @@
-use Rattle.std.proofs.Common.{◌∙◌, ap, length}
-use Rattle.std.specs.Prelude.{unwrap_or}
-use Rattle.mc_text.specs.Word.{is_space}
-use Rattle.mc_text.proofs.WordLemmas.{position-or}
-use Rattle.mc_text.proofs.word.word_len.Goals as goal
-
-pub returns-clause-value : goal.returns-clause-value
-returns-clause-value c = c.unwrap_or.ensures ∙ ap (λ o. unwrap_or o (length c.args.text.now)) c.first_space.ensures ∙ position-or is_space c.args.text.now

@@ -1,0 +1,9 @@
+use Rattle.mcgate_loopback.specs.Running.{Runs}
+use Rattle.mcgate_args.specs.Program.{NeverOverruns, LoopMemoryRefused}
+use Rattle.mcgate_args.proofs.StopLemmas.{ran, never}
+use Rattle.mcgate_args.proofs.ends.loop_text.Goals as goal
+
+pub returns : goal.returns
+returns g c =
+    ran Runs LoopMemoryRefused NeverOverruns c.args.text.now _ _ c.run_loopback.result c.ended.result c.ended.ensures c.run_loopback.ensures.wrote c.run_loopback.ensures.refused
+    (never c.run_loopback.result c.run_loopback.ensures.status)

@@ -1,0 +1,4 @@
+pub mod Input
+pub mod Stops
+pub mod Program
+pub mod BadLines

@@ -1,0 +1,372 @@
+//! The program's arguments, and what they ask for.
+
+ghost use Rattle.std.specs.Prelude.{◌≡◌};
+ghost use Rattle.clap.specs.Values.{kind_of};
+ghost use Rattle.mcgate_args.specs.Stops.{arguments_fault_at};
+
+use crate::cache_arguments::{CACHE_HELP, CacheJob, cache_command, cache_job};
+use crate::loopback_arguments::{LOOPBACK_HELP, loopback_command, loopback_job};
+use crate::serve_arguments::{SERVE_HELP, ServeJob, serve_command, serve_job};
+use clap::error::ErrorKind;
+use clap::{Arg, ArgAction, ArgMatches, Command, Error};
+use mc_types::{Key, KeyFault};
+use mcgate_check::Form;
+use std::alloc::{AllocError, Global};
+use text_words::number::u32_number;
+
+/// What is done with an input.
+#[derive(Clone, Copy, PartialEq, Eq)]
+pub enum Task {
+    /// It is a configuration, and the gate's verdict on it is printed in this form.
+    Check { form: Form },
+    /// It is a script, and it is run: with `any` whatever the gate says of its tree.
+    Replay { any: bool },
+}
+
+/// What the arguments ask for.
+#[derive(Drop)]
+pub enum Job<'a> {
+    /// Do this with a file, or with standard input.
+    Run {
+        task: Task,
+        file: Option<&'a str>,
+    },
+    /// Run a script of events, of a file or of standard input, over the configuration in this file: with `any` whatever the gate
+    /// says of its tree.
+    RunOver {
+        any: bool,
+        config: &'a str,
+        file: Option<&'a str>,
+    },
+    /// Print where these keys live in the tree of the configuration in this file.
+    Where {
+        file: &'a str,
+        keys: Vec<Key>,
+    },
+    /// Run a script, of a file or of standard input, over TCP.
+    Loopback {
+        file: Option<&'a str>,
+    },
+    /// Be a cache server.
+    Cache(CacheJob<'a>),
+    /// Serve a configuration over TCP.
+    Serve(ServeJob<'a>),
+    /// Print this text.
+    Print(&'static str),
+}
+
+/// Why the arguments ask for nothing.
+#[derive(Clone, Copy)]
+pub enum ArgumentsFault {
+    /// The program has no such arguments.
+    Refused,
+    /// One that is to be a key is none.
+    Key(KeyFault),
+    /// Memory was refused.
+    NoMemory,
+}
+
+impl From<Error> for ArgumentsFault {
+    ghost from_gives = { λ error fault. fault ≡ arguments_fault_at (kind_of error) };
+
+    fn from(error: Error) -> ArgumentsFault {
+        match error.kind() {
+            ErrorKind::OutOfMemory => ArgumentsFault::NoMemory,
+            _ => ArgumentsFault::Refused,
+        }
+    }
+}
+
+const VERSION: &str = "mcgate 1\n";
+
+const HELP: &str =
+    "mcgate sends memcached commands through a tree of routes, and asks of a tree whether it can show deleted data.
+
+usage: mcgate check [--explain | --dot] [FILE]
+                                     print the gate's verdict on a configuration, with --explain also in words,
+                                     with --dot as a picture
+       mcgate replay [--any] [--config FILE] [SCRIPT]
+                                     run a script, and print what each client gets
+       mcgate where --config FILE KEY..
+                                     print where keys live in the tree of a configuration
+       mcgate serve --config FILE --listen HOST:PORT [--any]
+                                     serve a configuration that the gate accepts, between clients and servers
+       mcgate cache --listen HOST:PORT --capacity C
+                                     be a memcached server of C items
+       mcgate loopback [SCRIPT]      run a script with proxy, clients and servers as ends of TCP connections
+       mcgate help [COMMAND]         print this, or more of a command; so do -h and --help after it
+       mcgate --version              print the version
+
+Without FILE or SCRIPT the input is standard input. Without any arguments mcgate is mcgate replay.
+Exit status: 0 accepted or done, 1 refused by the gate, 2 bad arguments or input, 3 memory or a device failed, or too many calls.
+";
+
+const CHECK_HELP: &str = "usage: mcgate check [--explain | --dot] [FILE]
+
+Reads a configuration in JSON, of FILE or of standard input, and prints the gate's verdict:
+  accepted places=N      no run of the tree shows deleted data; the keys have N places
+  refused: server=A read=OP delete=D prefix=P residue=R/L
+                         at this place a read OP may be answered from server A, which a delete D may leave as it was;
+                         the events of a script that shows it follow, where one is found
+  refused: too many places
+                         there are more than 262,144
+  config: ..             the first fault of what is no configuration
+With --explain lines that begin with # follow: by which way a read reaches the server, which servers the delete clears and
+which it leaves, and what to change.
+With --dot the tree and its servers are printed as a graph for Graphviz, in place of accepted and refused lines: of a refused
+tree the way by which a read reaches the server and the server are red.
+Exit status: 0 accepted, 1 refused, 2 no configuration, 3 memory or a device failed.
+";
+
+const REPLAY_HELP: &str = "usage: mcgate replay [--any] [--config FILE] [SCRIPT]
+
+Reads a script, of the file SCRIPT or of standard input: a configuration on its first line, or pool N, and then one event a line,
+or reload and a configuration, which is loaded there.
+With --config the configuration is the text of FILE, of any number of lines, and each line of the script is one of the others.
+Runs it over servers in memory, and prints what each client gets, what became of reloads, and a report:
+  < C TEXT               new output of client C
+  reload accepted generation=G
+                         the G-th tree is in use from here on
+  reload refused ..      the gate refuses it with the trees before it, and the one in use stays
+  done N commands M calls K stale
+                         K replies showed what had been deleted
+A first tree that the gate refuses isn't run, and its refused: line is printed; with --any every tree is run, and a reload is
+unchecked in place of accepted.
+Exit status: 0 done, 1 refused by the gate, 2 bad script, 3 memory or a device failed, or too many calls.
+";
+
+const WHERE_HELP: &str = "usage: mcgate where --config FILE KEY..
+
+Reads a configuration in JSON, of FILE, and prints a block for each KEY:
+  key=K hash_part=H hash=N prefix=P residue=R/L
+                         what of the key is hashed, its hash, and its place
+    OP A ..              for each operation the servers that the tree has for it at this key
+  refused: too many places
+                         there are more than 262,144
+  config: ..             the first fault of what is no configuration
+Exit status: 0 done, 1 too many places or a KEY that is none, 2 bad arguments or no configuration, 3 memory or a device failed.
+";
+
+// The flag that asks for help on a command.
+pub fn help_flag<'a>(alloc: Global) -> Arg<'a> {
+    Arg::new(alloc, "help")
+        .long("help")
+        .short('h')
+        .action(ArgAction::SetTrue)
+}
+
+/// The flag that asks no gate.
+pub fn any_flag<'a>(alloc: Global) -> Arg<'a> {
+    Arg::new(alloc, "any")
+        .long("any")
+        .action(ArgAction::SetTrue)
+}
+
+/// A flag with a value.
+pub fn option<'a>(alloc: Global, name: &'static str) -> Arg<'a> {
+    Arg::new(alloc, name).long(name).action(ArgAction::Set)
+}
+
+/// The number after a flag, if the flag stands there: of 1 to 20 digits, in 1..=4294967295.
+pub fn count_of(given: &ArgMatches<'_>, name: &str) -> Result<Option<u32>, ArgumentsFault> {
+    match given.get_str(name) {
+        None => Ok(None),
+        Some(text) => match u32_number(text.as_bytes()) {
+            None | Some(0) => Err(ArgumentsFault::Refused),
+            Some(count) => Ok(Some(count)),
+        },
+    }
+}
+
+fn check_command<'a>(alloc: Global) -> Result<Command<'a>, AllocError> {
+    let explain = Arg::new(alloc, "explain")
+        .long("explain")
+        .action(ArgAction::SetTrue);
+    let dot = Arg::new(alloc, "dot")
+        .long("dot")
+        .action(ArgAction::SetTrue);
+    Command::new(alloc, "check")
+        .disable_help_flag(true)
+        .arg(help_flag(alloc))?
+        .arg(explain)?
+        .arg(dot)?
+        .arg(Arg::new(alloc, "FILE"))
+}
+
+fn replay_command<'a>(alloc: Global) -> Result<Command<'a>, AllocError> {
+    let config = Arg::new(alloc, "config")
+        .long("config")
+        .action(ArgAction::Set);
+    Command::new(alloc, "replay")
+        .disable_help_flag(true)
+        .arg(help_flag(alloc))?
+        .arg(any_flag(alloc))?
+        .arg(config)?
+        .arg(Arg::new(alloc, "SCRIPT"))
+}
+
+fn where_command<'a>(alloc: Global) -> Result<Command<'a>, AllocError> {
+    let config = Arg::new(alloc, "config")
+        .long("config")
+        .action(ArgAction::Set);
+    let keys = Arg::new(alloc, "KEY")
+        .num_args(1..)
+        .action(ArgAction::Append);
+    Command::new(alloc, "where")
+        .disable_help_flag(true)
+        .arg(help_flag(alloc))?
+        .arg(config)?
+        .arg(keys)
+}
+
+fn help_command<'a>(alloc: Global) -> Result<Command<'a>, AllocError> {
+    Command::new(alloc, "help")
+        .disable_help_flag(true)
+        .arg(help_flag(alloc))?
+        .arg(Arg::new(alloc, "COMMAND"))
+}
+
+fn command<'a>(alloc: Global) -> Result<Command<'a>, AllocError> {
+    let version = Arg::new(alloc, "version")
+        .long("version")
+        .action(ArgAction::SetTrue);
+    Command::new(alloc, "mcgate")
+        .disable_help_flag(true)
+        .disable_help_subcommand(true)
+        .arg(help_flag(alloc))?
+        .arg(version)?
+        .subcommand(check_command(alloc)?)?
+        .subcommand(replay_command(alloc)?)?
+        .subcommand(where_command(alloc)?)?
+        .subcommand(cache_command(alloc)?)?
+        .subcommand(loopback_command(alloc)?)?
+        .subcommand(help_command(alloc)?)?
+        .subcommand(serve_command(alloc)?)
+}
+
+// The form of a verdict by its two flags, of which at most one may be given.
+fn form_of(explain: bool, dot: bool) -> Result<Form, ArgumentsFault> {
+    match (explain, dot) {
+        (false, false) => Ok(Form::Lines),
+        (true, false) => Ok(Form::Explained),
+        (false, true) => Ok(Form::Picture),
+        (true, true) => Err(ArgumentsFault::Refused),
+    }
+}
+
+// What the arguments after `check` ask for.
+fn check_job<'a>(given: &ArgMatches<'a>) -> Result<Job<'a>, ArgumentsFault> {
+    if given.get_flag("help") {
+        return Ok(Job::Print(CHECK_HELP));
+    }
+    let form = form_of(given.get_flag("explain"), given.get_flag("dot"))?;
+    Ok(Job::Run {
+        task: Task::Check { form },
+        file: given.get_str("FILE"),
+    })
+}
+
+// What the arguments after `replay` ask for.
+fn replay_job<'a>(given: &ArgMatches<'a>) -> Job<'a> {
+    if given.get_flag("help") {
+        return Job::Print(REPLAY_HELP);
+    }
+    let any = given.get_flag("any");
+    let file = given.get_str("SCRIPT");
+    match given.get_str("config") {
+        Some(config) => Job::RunOver { any, config, file },
+        None => Job::Run {
+            task: Task::Replay { any },
+            file,
+        },
+    }
+}
+
+// The keys of these texts.
+fn keys_of(alloc: Global, texts: &[&str]) -> Result<Vec<Key>, ArgumentsFault> {
+    let mut keys = Vec::new(alloc);
+    for text in texts {
+        match Key::read(text.as_bytes()) {
+            Ok(key) => {
+                if keys.push(key).is_err() {
+                    return Err(ArgumentsFault::NoMemory);
+                }
+            }
+            Err(fault) => return Err(ArgumentsFault::Key(fault)),
+        }
+    }
+    Ok(keys)
+}
+
+// What the arguments after `where` ask for.
+fn where_job<'a>(alloc: Global, given: &ArgMatches<'a>) -> Result<Job<'a>, ArgumentsFault> {
+    if given.get_flag("help") {
+        return Ok(Job::Print(WHERE_HELP));
+    }
+    let (Some(file), Some(texts)) = (given.get_str("config"), given.get_strs("KEY")) else {
+        return Err(ArgumentsFault::Refused);
+    };
+    let keys = keys_of(alloc, texts)?;
+    Ok(Job::Where { file, keys })
+}
+
+// To print the help of the command of this name.
+fn help_on<'a>(name: &str) -> Result<Job<'a>, ArgumentsFault> {
+    match name {
+        "check" => Ok(Job::Print(CHECK_HELP)),
+        "replay" => Ok(Job::Print(REPLAY_HELP)),
+        "where" => Ok(Job::Print(WHERE_HELP)),
+        "cache" => Ok(Job::Print(CACHE_HELP)),
+        "loopback" => Ok(Job::Print(LOOPBACK_HELP)),
+        "serve" => Ok(Job::Print(SERVE_HELP)),
+        "help" => Ok(Job::Print(HELP)),
+        _ => Err(ArgumentsFault::Refused),
+    }
+}
+
+// What the arguments after `help` ask for.
+fn help_job<'a>(given: &ArgMatches<'a>) -> Result<Job<'a>, ArgumentsFault> {
+    match given.get_str("COMMAND") {
+        None => Ok(Job::Print(HELP)),
+        Some(name) => help_on(name),
+    }
+}
+
+// What arguments without a command ask for.
+fn plain_job<'a>(given: &ArgMatches<'a>) -> Job<'a> {
+    if given.get_flag("help") {
+        return Job::Print(HELP);
+    }
+    if given.get_flag("version") {
+        return Job::Print(VERSION);
+    }
+    Job::Run {
+        task: Task::Replay { any: false },
+        file: None,
+    }
+}
+
+/// What the arguments ask for, the program's name first: `check [--explain | --dot] [FILE]`, `replay [--any] [--config FILE] [SCRIPT]`,
+/// `where --config FILE KEY..`, `cache --listen HOST:PORT --capacity C [--turns N]`, `loopback [SCRIPT]`, `serve` with its flags, or none
+/// at all after it, which is `replay`. Also `help [COMMAND]`, `-h` and `--help`, before or after a command, and `--version`.
+///
+/// A KEY that is none is [`ArgumentsFault::Key`], and any other arguments are [`ArgumentsFault::Refused`].
+pub fn read_arguments<'a>(
+    alloc: Global,
+    arguments: &'a [String],
+) -> Result<Job<'a>, ArgumentsFault> {
+    let Ok(command) = command(alloc) else {
+        return Err(ArgumentsFault::NoMemory);
+    };
+    let matches = command.try_get_matches_from(arguments)?;
+    match matches.subcommand() {
+        Some(("check", given)) => check_job(given),
+        Some(("where", given)) => where_job(alloc, given),
+        Some(("cache", given)) => cache_job(given),
+        Some(("loopback", given)) => Ok(loopback_job(given)),
+        Some(("serve", given)) => serve_job(given),
+        Some(("help", given)) => help_job(given),
+        Some((_, given)) => Ok(replay_job(given)),
+        None => Ok(plain_job(&matches)),
+    }
+}

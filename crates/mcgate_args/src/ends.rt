@@ -1,0 +1,309 @@
+//! How the program ends: what it prints on which stream, and its exit statuses.
+
+ghost use Rattle.std.specs.Prelude.{◌≡◌, ◌≤◌, Ok, option_map};
+ghost use Rattle.script_text.specs.Script.{told_over};
+ghost use Rattle.std.specs.IoError.{error_kind};
+ghost use Rattle.mcgate_args.specs.Program.{Answers, Runs, AnswersInput, RunsBy, AnswersBy, NeverOverruns, SaysNothing, LoopMemoryRefused, Declines, GivesConfig, ReadsConfig};
+ghost use Rattle.mcgate_replay.specs.Replay.{ReplaysOver, Overran, IsBrokenOff as IsCutShort};
+ghost use Rattle.mcgate_check.specs.Finding.{FindsKeys};
+ghost use Rattle.mcgate_loopback.specs.Running.{Runs as RunsOverTcp};
+ghost use Rattle.mcgate_args.specs.Stops.{stop_at, stop_by, stop_of, key_line, calls_line, Ends, end_of};
+
+use crate::arguments::{ArgumentsFault, Task};
+use crate::input_text::InputFault;
+use mc_types::{Key, KeyFault};
+use mcgate_check::checking::print_fault;
+use mcgate_check::key_places::run_where;
+use mcgate_check::status::{BAD_INPUT, NO_MEMORY, TOO_MANY_CALLS, WRITER};
+use mcgate_check::{RunFault, run_check};
+use mcgate_loopback::run_loopback;
+use mcgate_replay::{run_replay, run_replay_over};
+use route_json::{Config, read_config};
+use std::alloc::Global;
+use std::io;
+use std::io::{ErrorKind, Write};
+use std::net::Net;
+use std::rt::Clock;
+
+/// Why the program ends with a line on standard error.
+#[derive(Clone, Copy)]
+pub enum Stop {
+    /// It has no such arguments.
+    Usage,
+    /// An argument that is to be a key is none.
+    Key(KeyFault),
+    /// Memory was refused.
+    Memory,
+    /// A device failed.
+    Device,
+    /// A script had more calls than are counted.
+    Calls,
+}
+
+impl From<io::Error> for Stop {
+    ghost from_gives = { λ error stop. stop ≡ stop_at (error_kind error) };
+
+    fn from(error: io::Error) -> Stop {
+        match error.kind() {
+            ErrorKind::OutOfMemory => Stop::Memory,
+            _ => Stop::Device,
+        }
+    }
+}
+
+impl From<RunFault> for Stop {
+    ghost from_gives = { λ fault stop. stop ≡ stop_by fault };
+
+    fn from(fault: RunFault) -> Stop {
+        match fault {
+            RunFault::NoMemory => Stop::Memory,
+            RunFault::Writer => Stop::Device,
+            RunFault::TooManyCalls => Stop::Calls,
+        }
+    }
+}
+
+impl From<ArgumentsFault> for Stop {
+    ghost from_gives = { λ fault stop. stop ≡ stop_of fault };
+
+    fn from(fault: ArgumentsFault) -> Stop {
+        match fault {
+            ArgumentsFault::Refused => Stop::Usage,
+            ArgumentsFault::Key(fault) => Stop::Key(fault),
+            ArgumentsFault::NoMemory => Stop::Memory,
+        }
+    }
+}
+
+// Why a text is no key.
+fn key_line(fault: KeyFault) -> &'static str
+    ensures { result.now ≡ key_line fault }
+{
+    match fault {
+        KeyFault::Empty => "key: empty",
+        KeyFault::TooLong => "key: longer than 250 bytes",
+        KeyFault::BadByte(_) => "key: a space or a control character",
+    }
+}
+
+// How many calls a script can have.
+fn calls_line() -> &'static str
+    ensures { result.now ≡ calls_line }
+{
+    "calls: more than 18446744073709551615"
+}
+
+/// The exit status, and the line that is printed on standard error, if there is one.
+#[derive(Clone, Copy)]
+pub struct End {
+    pub status: u8,
+    pub complaint: Option<&'static str>,
+}
+
+/// How the program ends, by what its run answered.
+///
+/// Source: mcgate's own.
+pub fn end_of(ended: Result<u8, Stop>) -> End
+    ensures { (result.status, option_map (λ s. s.now) result.complaint) ≡ end_of ended }
+{
+    match ended {
+        Ok(status) => End {
+            status,
+            complaint: None,
+        },
+        Err(Stop::Usage) => End {
+            status: 2,
+            complaint: Some("usage: mcgate check, replay, serve, cache or loopback"),
+        },
+        Err(Stop::Key(fault)) => End {
+            status: 1,
+            complaint: Some(key_line(fault)),
+        },
+        Err(Stop::Memory) => End {
+            status: 3,
+            complaint: Some("memory: refused"),
+        },
+        Err(Stop::Device) => End {
+            status: 3,
+            complaint: Some("device: failed"),
+        },
+        Err(Stop::Calls) => End {
+            status: 3,
+            complaint: Some(calls_line()),
+        },
+    }
+}
+
+// What the answer of a run means for the program.
+fn ended(answer: u8) -> Result<u8, Stop>
+    requires { answer ≤ 5 }
+    ensures { Ends answer result }
+{
+    match answer {
+        NO_MEMORY => Err(Stop::Memory),
+        WRITER => Err(Stop::Device),
+        TOO_MANY_CALLS => Err(Stop::Calls),
+        status => Ok(status),
+    }
+}
+
+// What a task answers of a text.
+fn answer<W: Write>(alloc: Global, task: Task, text: &str, out: &mut W) -> u8
+    ensures { Answers task text.now (W.contents out.old) (W.contents out.new) result }
+{
+    match task {
+        Task::Check { form } => run_check(alloc, form, text, out),
+        Task::Replay { any } => run_replay(alloc, any, text, out),
+    }
+}
+
+fn run_text<W: Write>(alloc: Global, task: Task, text: &str, out: &mut W) -> Result<u8, Stop>
+    ensures { Runs task text.now (W.contents out.old) (W.contents out.new) result }
+{
+    ended(answer(alloc, task, text, out))
+}
+
+/// Prints why an input was not taken, unless memory or a device failed.
+pub fn decline<W: Write>(fault: InputFault, out: &mut W) -> Result<u8, Stop>
+    ensures { Declines fault (W.contents out.old) (W.contents out.new) result }
+{
+    match fault {
+        InputFault::TooLarge => {
+            writeln!(out, "input: too large")?;
+            Ok(BAD_INPUT)
+        }
+        InputFault::NotUtf8 => {
+            writeln!(out, "input: not UTF-8")?;
+            Ok(BAD_INPUT)
+        }
+        InputFault::NoMemory => Err(Stop::Memory),
+        InputFault::Device => Err(Stop::Device),
+    }
+}
+
+/// Does the task with an input, or prints why it is none. The answer is the exit status where all that was to be printed was written.
+///
+/// `Stop::Memory` and `Stop::Device` come where the input could not be read for that cause, and then nothing was written; also
+/// where the run was refused memory, or the output could not be written. `Stop::Calls` comes where the run of a script had more calls
+/// than are counted, after its transcript so far.
+pub fn run_input<W: Write>(
+    alloc: Global,
+    task: Task,
+    input: &Result<String, InputFault>,
+    out: &mut W,
+) -> Result<u8, Stop>
+    ensures { AnswersInput task input.now (W.contents out.old) (W.contents out.new) result }
+{
+    match input {
+        Ok(text) => run_text(alloc, task, text.as_str(), out),
+        Err(fault) => decline(*fault, out),
+    }
+}
+
+fn find_in_text<W: Write>(alloc: Global, keys: &[Key], text: &str, out: &mut W) -> Result<u8, Stop>
+    ensures { RunsBy (λ text old new status. FindsKeys text keys.now old new status) SaysNothing NeverOverruns text.now (W.contents out.old) (W.contents out.new) result }
+{
+    ended(run_where(alloc, text, keys, out))
+}
+
+/// Prints where the keys live in the tree of an input, or why it is no input. The answer and the faults are as those of
+/// [`run_input`].
+pub fn run_keys<W: Write>(
+    alloc: Global,
+    keys: &[Key],
+    input: &Result<String, InputFault>,
+    out: &mut W,
+) -> Result<u8, Stop>
+    ensures { AnswersBy (λ text old new status. FindsKeys text keys.now old new status) SaysNothing NeverOverruns input.now (W.contents out.old) (W.contents out.new) result }
+{
+    match input {
+        Ok(text) => find_in_text(alloc, keys, text.as_str(), out),
+        Err(fault) => decline(*fault, out),
+    }
+}
+
+// The configuration of a text; where it is none, its first fault was printed.
+fn config_of<W: Write>(alloc: Global, text: &str, out: &mut W) -> Result<Option<Config>, Stop>
+    ensures { GivesConfig text.now (W.contents out.old) (W.contents out.new) result }
+{
+    match read_config(alloc, text) {
+        Ok(config) => Ok(Some(config)),
+        Err(fault) => {
+            print_fault(text, &fault, out)?;
+            Ok(None)
+        }
+    }
+}
+
+/// The configuration of an input. Where it has none, that was printed: why it is no input, or the text's first fault.
+///
+/// The faults are as those of [`run_input`].
+pub fn read_configuration<W: Write>(
+    alloc: Global,
+    input: &Result<String, InputFault>,
+    out: &mut W,
+) -> Result<Option<Config>, Stop>
+    ensures { ReadsConfig input.now (W.contents out.old) (W.contents out.new) result }
+{
+    match input {
+        Ok(text) => config_of(alloc, text.as_str(), out),
+        Err(fault) => {
+            decline(*fault, out)?;
+            Ok(None)
+        }
+    }
+}
+
+fn replay_events<W: Write>(
+    alloc: Global,
+    any: bool,
+    config: Config,
+    text: &str,
+    out: &mut W,
+) -> Result<u8, Stop>
+    ensures { RunsBy (λ text old new status. ReplaysOver any config text old new status) (λ text old new. IsCutShort any (Ok (told_over config text)) old new) (λ text old new. Overran any (Ok (told_over config text)) old new) text.now (W.contents out.old) (W.contents out.new) result }
+{
+    ended(run_replay_over(alloc, any, config, text, out))
+}
+
+/// Runs the events of an input over a configuration, or prints why it is no input. The answer and the faults are as those of
+/// [`run_input`].
+pub fn run_events<W: Write>(
+    alloc: Global,
+    any: bool,
+    config: Config,
+    input: &Result<String, InputFault>,
+    out: &mut W,
+) -> Result<u8, Stop>
+    ensures { AnswersBy (λ text old new status. ReplaysOver any config text old new status) (λ text old new. IsCutShort any (Ok (told_over config text)) old new) (λ text old new. Overran any (Ok (told_over config text)) old new) input.now (W.contents out.old) (W.contents out.new) result }
+{
+    match input {
+        Ok(text) => replay_events(alloc, any, config, text.as_str(), out),
+        Err(fault) => decline(*fault, out),
+    }
+}
+
+fn loop_text<R: Net + Clock + AllocGlobal, W: Write>(
+    rt: &R,
+    text: &str,
+    out: &mut W,
+) -> Result<u8, Stop>
+    ensures { RunsBy RunsOverTcp LoopMemoryRefused NeverOverruns text.now (W.contents out.old) (W.contents out.new) result }
+{
+    ended(run_loopback(rt, text, out))
+}
+
+/// Runs the script of an input over TCP, or prints why it is no input. The answer and the faults are as those of [`run_input`]; a
+/// socket is a device.
+pub fn run_over_tcp<R: Net + Clock + AllocGlobal, W: Write>(
+    rt: &R,
+    input: &Result<String, InputFault>,
+    out: &mut W,
+) -> Result<u8, Stop>
+    ensures { AnswersBy RunsOverTcp LoopMemoryRefused NeverOverruns input.now (W.contents out.old) (W.contents out.new) result }
+{
+    match input {
+        Ok(text) => loop_text(rt, text.as_str(), out),
+        Err(fault) => decline(*fault, out),
+    }
+}

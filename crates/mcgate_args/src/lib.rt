@@ -1,0 +1,13 @@
+//! What the program's arguments ask for, and how each input ends: what is printed on which stream, and the exit status.
+#![tactic(auto)]
+
+pub mod arguments;
+pub mod bad_lines;
+pub mod cache_arguments;
+pub mod details;
+pub mod ends;
+pub mod input;
+pub mod input_text;
+pub mod loopback_arguments;
+pub mod refusal_details;
+pub mod serve_arguments;

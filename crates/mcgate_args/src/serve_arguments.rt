@@ -1,0 +1,134 @@
+//! The arguments of `mcgate serve`, and what they ask for.
+
+use crate::arguments::{ArgumentsFault, Job, any_flag, count_of, help_flag, option};
+use clap::{ArgMatches, Command};
+use serve_proxy::{ServerDialect, Settings};
+use std::alloc::{AllocError, Global};
+
+/// What `mcgate serve` is to do.
+#[derive(Clone, Copy)]
+pub struct ServeJob<'a> {
+    /// The file of the configuration.
+    pub file: &'a str,
+    /// Where to listen: a host and a port.
+    pub listen: &'a str,
+    pub settings: Settings,
+    /// A tree that the gate refuses is served too.
+    pub any: bool,
+    /// After so many turns the file is read again.
+    pub reload_every: Option<u32>,
+    /// After so many milliseconds the file is read again.
+    pub reload_ms: Option<u32>,
+    /// After so many turns it ends; without a number it doesn't.
+    pub turns: Option<u32>,
+}
+
+pub const SERVE_HELP: &str =
+    "usage: mcgate serve --config FILE --listen HOST:PORT [--any] [FLAG N ..]
+
+Reads a configuration in JSON, of FILE, and asks the gate. A tree that it accepts is served at HOST:PORT: what clients send goes
+to the configuration's servers, at their addresses. Lines on standard error tell when it listens, and when a server's connection
+opens, fails or comes back.
+  --clients N            at most so many clients at once, 1024 where it is left out
+  --client-window N      at most so many commands of one client without a shown reply, 32
+  --link-window N        at most so many calls out at one server, 256
+  --call-ms N            a call that takes longer than so many milliseconds has failed, 1000
+  --connect-ms N         so has a connection to a server that takes longer to stand, 1000
+  --fail-limit N         the calls of a server that failed so many times in a row fail at once, 3
+  --retry-ms N           for so long, and then one call tries, 1000
+  --polls N              after so many reads of a server in a row without a whole answer its calls have failed; without it, any number
+  --server-dialect WORD  how servers are asked for classic gets: classic, meta, or auto, by what each answers to an mn; auto
+  --reload-ms N          FILE is read again each N milliseconds; without it and the next one, it isn't
+  --reload-every N       FILE is read again each N turns
+  --turns N              ends after so many turns; without it, it doesn't end
+  --any                  serves a tree that the gate refuses too: nothing is promised then
+Each N is 1..=4294967295.
+A tree that the gate refuses isn't served, and its refused: line is printed.
+A text of FILE that is new is judged against each configuration that was loaded, and one of these lines is printed:
+  reload accepted generation=G     commands that begin from now on run by its tree
+  reload refused ..                or config: .., and the tree in use is kept
+Exit status: 0 done, 1 refused by the gate, 2 bad arguments or no configuration, 3 memory or a device failed, also where it can't listen there.
+";
+
+/// The command and its flags.
+pub fn serve_command<'a>(alloc: Global) -> Result<Command<'a>, AllocError> {
+    Command::new(alloc, "serve")
+        .disable_help_flag(true)
+        .arg(help_flag(alloc))?
+        .arg(option(alloc, "config"))?
+        .arg(option(alloc, "listen"))?
+        .arg(option(alloc, "clients"))?
+        .arg(option(alloc, "client-window"))?
+        .arg(option(alloc, "link-window"))?
+        .arg(option(alloc, "call-ms"))?
+        .arg(option(alloc, "connect-ms"))?
+        .arg(option(alloc, "fail-limit"))?
+        .arg(option(alloc, "retry-ms"))?
+        .arg(option(alloc, "polls"))?
+        .arg(option(alloc, "server-dialect"))?
+        .arg(option(alloc, "reload-every"))?
+        .arg(option(alloc, "reload-ms"))?
+        .arg(option(alloc, "turns"))?
+        .arg(any_flag(alloc))
+}
+
+// The number after a flag, or the usual one.
+fn size_of(given: &ArgMatches<'_>, name: &str, usual: usize) -> Result<usize, ArgumentsFault> {
+    Ok(count_of(given, name)?.map_or(usual, |count| count as usize))
+}
+
+// The milliseconds after a flag, or the usual ones.
+fn millis_of(given: &ArgMatches<'_>, name: &str, usual: u64) -> Result<u64, ArgumentsFault> {
+    Ok(count_of(given, name)?.map_or(usual, u64::from))
+}
+
+// The dialect after its flag, or the usual one.
+fn dialect_of(
+    given: &ArgMatches<'_>,
+    usual: ServerDialect,
+) -> Result<ServerDialect, ArgumentsFault> {
+    let Some(word) = given.get_str("server-dialect") else {
+        return Ok(usual);
+    };
+    match word {
+        "auto" => Ok(ServerDialect::Auto),
+        "classic" => Ok(ServerDialect::Classic),
+        "meta" => Ok(ServerDialect::Meta),
+        _ => Err(ArgumentsFault::Refused),
+    }
+}
+
+fn settings_of(given: &ArgMatches<'_>) -> Result<Settings, ArgumentsFault> {
+    let usual = Settings::usual();
+    Ok(Settings {
+        clients: size_of(given, "clients", usual.clients)?,
+        client_window: size_of(given, "client-window", usual.client_window)?,
+        link_window: size_of(given, "link-window", usual.link_window)?,
+        sharing: usual.sharing,
+        call_ms: millis_of(given, "call-ms", usual.call_ms)?,
+        connect_ms: millis_of(given, "connect-ms", usual.connect_ms)?,
+        fail_limit: count_of(given, "fail-limit")?.unwrap_or(usual.fail_limit),
+        retry_ms: millis_of(given, "retry-ms", usual.retry_ms)?,
+        polls: count_of(given, "polls")?,
+        server_dialect: dialect_of(given, usual.server_dialect)?,
+    })
+}
+
+/// What the arguments after `serve` ask for.
+pub fn serve_job<'a>(given: &ArgMatches<'a>) -> Result<Job<'a>, ArgumentsFault> {
+    if given.get_flag("help") {
+        return Ok(Job::Print(SERVE_HELP));
+    }
+    let (Some(file), Some(listen)) = (given.get_str("config"), given.get_str("listen")) else {
+        return Err(ArgumentsFault::Refused);
+    };
+    Ok(Job::Serve(ServeJob {
+        file,
+        listen,
+        settings: settings_of(given)?,
+        any: given.get_flag("any"),
+        reload_every: count_of(given, "reload-every")?,
+        reload_ms: count_of(given, "reload-ms")?,
+        turns: count_of(given, "turns")?,
+    }))
+}

@@ -1,0 +1,10 @@
+pub mod OneAsk
+pub mod Baited
+pub mod Placed
+pub mod Below
+pub mod Drivable
+pub mod Answering
+pub mod Whole
+pub mod Statuses
+pub mod Runs
+pub mod RunLines

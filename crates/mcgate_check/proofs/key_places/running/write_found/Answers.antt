@@ -1,0 +1,13 @@
+use Rattle.std.proofs.Common.{◌∙◌, ap, subst}
+use Rattle.std.specs.Prelude.{OnOk}
+use Rattle.serde_json.specs.Read.{read}
+use Rattle.route_json.specs.Servers.{Addresses}
+use Rattle.gate_gaps.specs.Pools.{NamedPools, pools_in}
+use Rattle.mcgate_check.specs.Blocks.{WritesBlocks}
+use Rattle.mcgate_check.proofs.key_places.running.write_found.Goals as goal
+
+pub returns-clause-ok : goal.returns-clause-ok
+returns-clause-ok g c =
+    let config = c.args.config.now in
+    let named = c.deref.ensures.value ∙ c.in_ok-pools.ensures ∙ ap (λ (s : Addresses). pools_in s (read c.args.text.now)) c.servers.ensures.servers in
+    subst (λ (ps : NamedPools). OnOk c.write_keys.result (WritesBlocks config.servers ps config.tree c.args.keys.now (g.W.Write.contents c.args.out.now) (g.W.Write.contents c.write_keys.new.out))) named c.write_keys.ensures.ok

@@ -1,0 +1,31 @@
+-- The servers that a plain tree has for an operation, in its order; what a warm-up adds for a get is an operation of its own. Source: mcgate's own: a failover of misses and a warm-up go on from one child to the next for a get alone.
+use Rattle.std.specs.Prelude.{ℕ, List, [], ◌∷◌, ◌++◌, if◌then◌else◌}
+use Rattle.mc_types.specs.declared.ask.Op.{Op}
+use Rattle.route_tree.specs.Operation.{same_op}
+use Rattle.route_tree.specs.Plan.{Plan, Plans, PlanPolicies, Server, Null, Failing, AllSync, Failover, MissFailover, WarmUp, ByOperation, End, More, Otherwise, Policy}
+use Rattle.gate_coverage.specs.Computed.{is_get}
+
+module _ (op : Op) where
+  abbrev mutual
+    pub asked : Plan → List ℕ
+    asked (Server s) = s ∷ []
+    asked Null = []
+    asked Failing = []
+    asked (AllSync ps) = asked_of_all ps
+    asked (Failover ps) = asked_of_all ps
+    asked (MissFailover ps) = if is_get op then asked_of_all ps else asked_of_head ps
+    asked (WarmUp cold warm e) = if is_get op then asked cold ++ asked warm else asked cold
+    asked (ByOperation ps) = asked_by ps
+
+    pub asked_of_all : Plans → List ℕ
+    asked_of_all End = []
+    asked_of_all (More p ps) = asked p ++ asked_of_all ps
+
+    pub asked_of_head : Plans → List ℕ
+    asked_of_head End = []
+    asked_of_head (More p ps) = asked p
+
+    -- the child of the operation, else the default
+    pub asked_by : PlanPolicies → List ℕ
+    asked_by (Otherwise p) = asked p
+    asked_by (Policy o p ps) = if same_op o op then asked p else asked_by ps

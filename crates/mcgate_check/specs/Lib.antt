@@ -1,0 +1,14 @@
+pub mod Tried
+pub mod Commands
+pub mod Failing
+pub mod Refusals
+pub mod Stepped
+pub mod Verdict
+pub mod Reloads
+pub mod Checking
+pub mod Explaining
+pub mod Drawing
+pub mod Reporting
+pub mod Asking
+pub mod Blocks
+pub mod Finding

@@ -1,0 +1,154 @@
+//! What is printed of a configuration that is accepted or refused, and of a text that is none.
+
+ghost use Rattle.std.specs.Prelude.{◌≡◌, ◌≤◌, IfOk, IfErr, IfSome, OnOk, All};
+ghost use Rattle.std.specs.Io.KnownBytes.{Appends};
+ghost use Rattle.serde_json.specs.Read.{read};
+ghost use Rattle.route_json.specs.Configs.{read_or};
+ghost use Rattle.route_json.specs.Fault.{Fails, fault_of};
+ghost use Rattle.gate_check.specs.Gate.{IsCertified, IsJudged};
+ghost use Rattle.script_events.specs.Scripted.{scripted_of};
+ghost use Rattle.script_text.specs.LineLaws.{HasWidths};
+ghost use Rattle.mcgate_check.specs.Verdict.{refusal_line};
+ghost use Rattle.mcgate_check.specs.Checking.{ChecksRefused, ChecksFound, IsTold, PrintsAccepted, PrintsRefused, IsFoundFor, PrintsFault, StopsUnwritten, HasPlaces, run_lines};
+
+use crate::leaks::refusal_run;
+use crate::status::{BAD_INPUT, DONE, REFUSED, RunFault};
+use crate::verdict::{write_accepted, write_refusal};
+use gate_check::Reason;
+use gate_check::places::places;
+use route_json::{Config, ConfigFault};
+use route_tree::Tree;
+use script_events::Script;
+use script_text::lines::write_script;
+use script_text::printer::write_config_fault;
+use std::alloc::{AllocError, Global};
+use std::io;
+use std::io::Write;
+
+// How many places an accepted tree has.
+fn place_count(alloc: Global, tree: &Tree) -> Result<u32, AllocError>
+    requires { IsCertified tree.now }
+    ensures { IfOk result (HasPlaces tree.now) }
+{
+    match places(alloc, tree) {
+        Ok(table) => Ok(table.rows()),
+        Err(_) => Err(AllocError),
+    }
+}
+
+/// Writes that a tree is accepted, with the number of its places.
+pub fn print_accepted<W: Write>(alloc: Global, tree: &Tree, out: &mut W) -> Result<u8, RunFault>
+    requires { IsCertified tree.now }
+    ensures ok { IfOk result (λ status. (status ≡ 0) × PrintsAccepted tree.now (W.contents out.old) (W.contents out.new)) }
+    ensures err { IfErr result (StopsUnwritten (W.contents out.old) (W.contents out.new)) }
+{
+    let count = place_count(alloc, tree)?;
+    write_accepted(count, out)?;
+    Ok(DONE)
+}
+
+/// Writes the line of a reason; where that is running out of memory, it is the error, and nothing was written.
+pub(crate) fn print_reason<W: Write>(
+    config: &Config,
+    reason: &Reason,
+    out: &mut W,
+) -> Result<u8, RunFault>
+    ensures ok { IfOk result (λ status. (status ≡ 1) × IsTold reason.now × Appends (W.contents out.old) (W.contents out.new) (refusal_line config.now.servers reason.now)) }
+    ensures err { IfErr result (StopsUnwritten (W.contents out.old) (W.contents out.new)) }
+{
+    match reason {
+        Reason::NoMemory => Err(RunFault::NoMemory),
+        told => {
+            write_refusal(config.servers(), told, out)?;
+            Ok(REFUSED)
+        }
+    }
+}
+
+/// Writes why a configuration is refused; where that is running out of memory, it is the error, and nothing was written.
+pub fn print_refused<W: Write>(
+    config: &Config,
+    reason: &Reason,
+    out: &mut W,
+) -> Result<u8, RunFault>
+    requires { IsJudged config.now.tree reason.now }
+    ensures ok { IfOk result (λ status. (status ≡ 1) × PrintsRefused config.now (W.contents out.old) (W.contents out.new)) }
+    ensures err { IfErr result (StopsUnwritten (W.contents out.old) (W.contents out.new)) }
+{
+    print_reason(config, reason, out)
+}
+
+/// The script that shows why a configuration is refused, if that is a gap that has one.
+pub(crate) fn run_of(
+    alloc: Global,
+    config: &Config,
+    reason: &Reason,
+) -> Result<Option<Script>, AllocError>
+    requires { IsJudged config.now.tree reason.now }
+    ensures { IfOk result (IsFoundFor config.now reason.now) }
+{
+    match reason {
+        Reason::Uncovered(gap) => refusal_run(alloc, config, gap),
+        _ => Ok(None),
+    }
+}
+
+// Writes the lines of a script, if there is one.
+fn print_run<W: Write>(run: &Option<Script>, out: &mut W) -> io::Result<()>
+    ensures lines { OnOk result (Appends (W.contents out.old) (W.contents out.new) (run_lines run.now)) }
+    ensures widths { OnOk result (IfSome run.now (λ script. All (λ event. HasWidths (scripted_of event)) script.events.items)) }
+{
+    match run {
+        Some(script) => write_script(script, out),
+        None => Ok(()),
+    }
+}
+
+/// Writes why a configuration is refused, and this script, which shows it.
+pub(crate) fn print_found<W: Write>(
+    config: &Config,
+    reason: &Reason,
+    run: &Option<Script>,
+    out: &mut W,
+) -> Result<u8, RunFault>
+    requires judged { IsJudged config.now.tree reason.now }
+    requires found { IsFoundFor config.now reason.now run.now }
+    ensures ok { IfOk result (λ status. (status ≡ 1) × ChecksFound config.now reason.now run.now (W.contents out.old) (W.contents out.new)) }
+    ensures err { IfErr result (StopsUnwritten (W.contents out.old) (W.contents out.new)) }
+{
+    let status = print_reason(config, reason, out)?;
+    print_run(run, out)?;
+    Ok(status)
+}
+
+/// Writes why a configuration is refused, and the script that shows it. The script is looked for before that, so that nothing was
+/// written where memory for it was refused.
+pub fn check_refused<W: Write>(
+    alloc: Global,
+    config: &Config,
+    reason: &Reason,
+    out: &mut W,
+) -> Result<u8, RunFault>
+    requires { IsJudged config.now.tree reason.now }
+    ensures ok { IfOk result (λ status. (status ≡ 1) × ChecksRefused config.now reason.now (W.contents out.old) (W.contents out.new)) }
+    ensures err { IfErr result (StopsUnwritten (W.contents out.old) (W.contents out.new)) }
+{
+    let run = run_of(alloc, config, reason)?;
+    print_found(config, reason, &run, out)
+}
+
+/// Writes the fault of a text that is no configuration, unless that is running out of memory.
+pub fn print_fault<W: Write>(text: &str, fault: &ConfigFault, out: &mut W) -> Result<u8, RunFault>
+    requires { Fails (fault_of fault.now) (read_or (read text.now)) }
+    ensures ok { IfOk result (λ status. (status ≡ 2) × PrintsFault text.now (W.contents out.old) (W.contents out.new)) }
+    ensures err { IfErr result (StopsUnwritten (W.contents out.old) (W.contents out.new)) }
+{
+    let _text = text;
+    match fault {
+        ConfigFault::NoMemory => Err(RunFault::NoMemory),
+        told => {
+            write_config_fault(told, out)?;
+            Ok(BAD_INPUT)
+        }
+    }
+}

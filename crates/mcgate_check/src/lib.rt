@@ -1,0 +1,24 @@
+//! What `mcgate check` and `mcgate where` print: the gate's verdict on a configuration, as lines, in words or as a
+//! picture, or its fault; a script that shows a gap; and where keys live.
+//!
+//! ```text
+//! arguments --mcgate_args--> check, where  --> here
+//!                            replay        --> mcgate_replay    --> script_run
+//!                            loopback      --> mcgate_loopback  --> serve_proxy and cache_tcp, in one thread
+//!                            serve, cache  --> mcgate           --> serve_proxy; cache_tcp
+//! ```
+#![tactic(auto)]
+
+pub mod checking;
+pub mod drawing;
+pub mod explaining;
+pub mod key_places;
+pub mod leaks;
+pub mod reload_lines;
+pub mod reporting;
+pub mod status;
+pub mod verdict;
+
+pub use reporting::{Form, run_check};
+pub use status::RunFault;
+pub use verdict::{write_accepted, write_refusal};

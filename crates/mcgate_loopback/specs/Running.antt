@@ -1,0 +1,106 @@
+-- What is printed of a script that is run over TCP, by how that ends. No clause says what sockets carry: of a run it is said that the gate accepted its tree, and that
+-- lines of what clients got and of what became of reloads were written, with the last one after them. Source: mcgate's own.
+use Rattle.std.specs.Prelude.{◌≡◌, ℕ, ◌++◌, ◌⊎◌, List, length, map, Option, Some, None, Result, Ok}
+use Rattle.std.specs.Io.KnownBytes.{Appends}
+use Rattle.route_json.specs.Configuration.{Configuration}
+use Rattle.route_json.specs.declared.fault.ConfigFault.{ConfigFault}
+use Rattle.gate_check.specs.Gate.{IsCertified}
+use Rattle.script_events.specs.declared.script.Reload.{Reload}
+use Rattle.script_events.specs.Scripted.{Scripted, scripted_of}
+use Rattle.script_events.specs.Bad.{first_bad}
+use Rattle.script_text.specs.FirstLine.{WhyNot, TellsFault}
+use Rattle.script_text.specs.Script.{Told, told, bad_line, bad_event_line, servers_known, ReadsScript}
+use Rattle.script_text.specs.declared.configured.ConfiguredScript.{ConfiguredScript}
+use Rattle.script_text.specs.declared.configured.ScriptFault.{ScriptFault}
+use Rattle.script_text.specs.Printed.{bad_line_line, config_fault_line}
+use Rattle.mcgate_check.specs.Checking.{PrintsRefused}
+use Rattle.mcgate_check.specs.declared.status.RunFault.{RunFault}
+use Rattle.mcgate_check.specs.declared.status.RunFault.TheVariants.{NoMemory, Writer, TooManyCalls}
+use Rattle.mcgate_loopback.specs.declared.ends.Counts.{Counts}
+use Rattle.mcgate_loopback.specs.declared.entries.Entry.{Entry}
+use Rattle.mcgate_loopback.specs.Printed.{entry_lines, done_line}
+
+-- ---- a script of which no line is bad
+
+-- lines of what clients got and of what became of these reloads were written, and the last one
+pub record WritesRun (reloads : List Reload) (old new : Option (List ℕ)) : Type 0 where
+  pub shown : List Entry
+  pub counts : Counts
+  pub printed : Appends old new (entry_lines reloads shown ++ done_line counts)
+
+-- such lines were written, of some reloads
+pub record WritesPart (old new : Option (List ℕ)) : Type 0 where
+  pub reloads : List Reload
+  pub shown : List Entry
+  pub printed : Appends old new (entry_lines reloads shown)
+
+-- memory was refused: before the run, and nothing was written; or during it. Nothing is said of a writer or a device that failed. It never is that there were too many calls
+abbrev pub BreaksOff : Option (List ℕ) → Option (List ℕ) → RunFault → Type 0
+BreaksOff old new NoMemory = (new ≡ old) ⊎ WritesPart old new
+BreaksOff old new Writer = Unit {0}
+BreaksOff old new TooManyCalls = ⊥
+
+-- status 0: the gate accepted the configuration, and the script ran; status 1: it refused it, and that was written
+abbrev pub RunsGood : Configuration → List Reload → Option (List ℕ) → Option (List ℕ) → ℕ → Type 0
+RunsGood config reloads old new status = ((status ≡ 0) × IsCertified config.tree × WritesRun reloads old new) ⊎ ((status ≡ 1) × PrintsRefused config old new)
+
+-- ---- a script that was read
+
+-- its events
+abbrev pub events_of : ConfiguredScript → List Scripted
+events_of script = map scripted_of script.script.events.items
+
+-- how many servers all its configurations have together
+abbrev pub servers_of : ConfiguredScript → ℕ
+servers_of script = length (servers_known script.config.servers script.reloads.items)
+
+-- an event can't be, and the line of the first such was written
+pub record HasBadEvent (script : ConfiguredScript) (old new : Option (List ℕ)) : Type 0 where
+  pub line : ℕ
+  pub bad : bad_event_line (servers_of script) (events_of script) script.lines.items ≡ Some line
+  pub printed : Appends old new (bad_line_line line)
+
+-- each of its events can be, and it ran or was refused; or one can't, and the line of the first was written
+abbrev pub RunsScript : ConfiguredScript → Option (List ℕ) → Option (List ℕ) → ℕ → Type 0
+RunsScript script old new status =
+    ((first_bad (servers_of script) (events_of script) ≡ None) × RunsGood script.config script.reloads.items old new status)
+    ⊎ ((status ≡ 2) × HasBadEvent script old new)
+
+-- ---- what a text says
+
+-- no line is bad, and the script ran or was refused
+pub record Ran (t : Result Told WhyNot) (old new : Option (List ℕ)) (status : ℕ) : Type 0 where
+  pub script : Told
+  pub said : t ≡ Ok script
+  pub good : bad_line (Ok script) ≡ None
+  pub runs : RunsGood script.configuration script.loads old new status
+
+-- a line is bad, and that was written
+pub record HasBadLine (t : Result Told WhyNot) (old new : Option (List ℕ)) : Type 0 where
+  pub line : ℕ
+  pub bad : bad_line t ≡ Some line
+  pub printed : Appends old new (bad_line_line line)
+
+-- the configuration has a fault, and that was written
+pub record HasFaultyConfig (t : Result Told WhyNot) (old new : Option (List ℕ)) : Type 0 where
+  pub fault : ConfigFault
+  pub tells : TellsFault t fault
+  pub printed : Appends old new (config_fault_line fault)
+
+-- status 0: it ran; status 1: the gate refused its tree; status 2: the configuration has a fault, or a line is bad
+abbrev pub RunsTold : Result Told WhyNot → Option (List ℕ) → Option (List ℕ) → ℕ → Type 0
+RunsTold t old new status = Ran t old new status ⊎ ((status ≡ 2) × (HasFaultyConfig t old new ⊎ HasBadLine t old new))
+
+abbrev pub Runs : List ℕ → Option (List ℕ) → Option (List ℕ) → ℕ → Type 0
+Runs text = RunsTold (told text)
+
+-- ---- what was read of a text
+
+-- some text is read so
+pub record IsReading (read : Result ConfiguredScript ScriptFault) : Type 0 where
+  pub told : Result Told WhyNot
+  pub reads : ReadsScript told read
+
+-- so is each text run that is read so
+abbrev pub RunsRead : Result ConfiguredScript ScriptFault → Option (List ℕ) → Option (List ℕ) → ℕ → Type 0
+RunsRead read old new status = (t : Result Told WhyNot) → ReadsScript t read → RunsTold t old new status

@@ -1,0 +1,347 @@
+//! The servers' ends: their caches, the script's clock, and what becomes of each call.
+
+use crate::calls::Calls;
+use crate::clients::READ_ROOM;
+use bytes::BytesMut;
+use cache_tcp::client::CacheClient;
+use cache_tcp::clock::Moment;
+use cache_tcp::connection::Cache;
+use mc_types::{DATA_LIMIT, Key, ServerId};
+use mio::net::{TcpListener, TcpStream};
+use script_events::servers::losing::lose_all;
+use script_events::servers::{CAPACITY, Loss, Manner};
+use serve_clients::socket::{Conn, Got, Limits, Sent};
+use std::alloc::{AllocError, Global};
+use std::io;
+use std::net::{Net, SocketAddr};
+use wire_stream::{Read, read_request};
+
+// More than one ask, or one answer, is never held.
+const LIMITS: Limits = Limits {
+    held: 4_194_304,
+    unsent: 4_194_304,
+};
+
+// So many writes are made in one turn at most.
+const WRITES: usize = 64;
+
+// One server's end: where it listens, and the proxy's connection to it, over which one ask comes after the answer to the last.
+#[derive(Drop)]
+struct ServerEnd {
+    listener: TcpListener,
+    link: Option<CacheClient<TcpStream>>,
+    // The call has failed whose answer is to be sent: it comes late, before that to the next ask over this connection.
+    is_late: bool,
+    // The connection is closed as soon as what is to be sent was sent.
+    is_last: bool,
+}
+
+// What comes in an answer's place.
+const JUNK: &[u8] = b"JUNK\r\n";
+
+// Of the answer only the front comes, or junk in its place, where the call is to fail so. Whether it does: then nothing more comes over
+// the connection.
+fn break_answer(answer: &mut BytesMut, failing: Option<Manner>) -> Result<bool, AllocError> {
+    match failing {
+        Some(Manner::Cut(count)) if (count as usize) < answer.len() => {
+            answer.truncate(count as usize);
+            Ok(true)
+        }
+        Some(Manner::Junk) => {
+            answer.clear();
+            answer.extend_from_slice(JUNK)?;
+            Ok(true)
+        }
+        _ => Ok(false),
+    }
+}
+
+// Whether a whole message stands in front.
+fn is_whole(bytes: &[u8]) -> bool {
+    match read_request(bytes) {
+        Read::More => false,
+        Read::Request(_) | Read::Refused { .. } | Read::TooLong => true,
+    }
+}
+
+impl ServerEnd {
+    fn listen<N: Net>(net: &N, address: SocketAddr) -> io::Result<ServerEnd> {
+        Ok(ServerEnd {
+            listener: TcpListener::bind(net, address)?,
+            link: None,
+            is_late: false,
+            is_last: false,
+        })
+    }
+
+    // The connection is closed.
+    fn close(&mut self) {
+        self.link = None;
+        self.is_late = false;
+        self.is_last = false;
+    }
+
+    // A connection that waits is taken where there is none.
+    fn accept(&mut self, alloc: Global) {
+        if self.link.is_some() {
+            return;
+        }
+        if let Ok((stream, _)) = self.listener.accept() {
+            let _ = stream.set_nodelay(true);
+            self.link = Some(CacheClient::new(alloc, Conn::new(alloc, stream, LIMITS)));
+        }
+    }
+
+    // One read. The answer is how many bytes came.
+    fn read(&mut self) -> Result<usize, AllocError> {
+        let Some(link) = self.link.as_mut() else {
+            return Ok(0);
+        };
+        let before = link.conn.held.len();
+        match link.conn.read_once(READ_ROOM)? {
+            Got::Bytes => Ok(link.conn.held.len().saturating_sub(before)),
+            Got::Nothing | Got::Full => Ok(0),
+            Got::Ended | Got::Failed => {
+                self.close();
+                Ok(0)
+            }
+        }
+    }
+
+    // Whether a whole ask came that isn't answered.
+    fn is_asked(&self) -> bool {
+        match &self.link {
+            Some(link) => is_whole(link.conn.held.as_slice()),
+            None => false,
+        }
+    }
+
+    // The call that came is made: it is answered, or it fails so. Whether it has failed already, before its answer or without one.
+    fn make_call(
+        &mut self,
+        failing: Option<Manner>,
+        cache: &mut Cache,
+        moment: Moment,
+    ) -> Result<bool, AllocError> {
+        self.is_late = false;
+        if failing == Some(Manner::Before) {
+            self.close();
+            return Ok(true);
+        }
+        let Some(link) = self.link.as_mut() else {
+            return Ok(false);
+        };
+        link.serve(cache, moment)?;
+        if failing == Some(Manner::After) {
+            self.is_late = true;
+            return Ok(true);
+        }
+        self.is_last = break_answer(&mut link.conn.unsent.text, failing)?;
+        Ok(false)
+    }
+
+    // Sends what the connection takes now. The answer is how many bytes that were.
+    fn send(&mut self) -> usize {
+        let Some(link) = self.link.as_mut() else {
+            return 0;
+        };
+        if self.is_late {
+            return 0;
+        }
+        let before = link.conn.unsent.len();
+        link.conn.writable = true;
+        for _ in 0..WRITES {
+            match link.conn.send_once() {
+                Sent::Bytes => {}
+                Sent::Nothing | Sent::Failed => break,
+            }
+        }
+        before.saturating_sub(link.conn.unsent.len())
+    }
+
+    // The connection is closed where nothing more is to come over it.
+    fn close_last(&mut self) {
+        let is_sent = match &self.link {
+            Some(link) => link.conn.unsent.is_empty(),
+            None => true,
+        };
+        if self.is_last && is_sent {
+            self.close();
+        }
+    }
+}
+
+/// All servers' ends.
+#[derive(Drop)]
+pub struct ServerEnds {
+    alloc: Global,
+    caches: Vec<Cache>,
+    ends: Vec<ServerEnd>,
+    calls: Calls,
+    moment: Moment,
+    // How many bytes came and were sent.
+    moved: u64,
+}
+
+// So many empty caches.
+fn empty_caches(alloc: Global, servers: usize) -> Result<Vec<Cache>, AllocError> {
+    let mut caches = Vec::new(alloc);
+    for _ in 0..servers {
+        caches.push(Cache::new(alloc, CAPACITY)?)?;
+    }
+    Ok(caches)
+}
+
+// So many ends, each of which listens at a port of its own that the system picks.
+fn listen_all<N: Net>(
+    net: &N,
+    alloc: Global,
+    servers: usize,
+    address: SocketAddr,
+) -> io::Result<Vec<ServerEnd>> {
+    let mut ends = Vec::new(alloc);
+    for _ in 0..servers {
+        ends.push(ServerEnd::listen(net, address)?)?;
+    }
+    Ok(ends)
+}
+
+// A moment of a script; one before the first is that one.
+fn moment_of(seconds: i64) -> Moment {
+    let seconds = u64::try_from(seconds).unwrap_or(0);
+    let seconds = i64::try_from(seconds).unwrap_or(i64::MAX);
+    Moment { seconds }
+}
+
+impl ServerEnds {
+    /// So many servers, each of which holds nothing and listens at this address, at a port that the system picks.
+    pub fn listen<N: Net>(
+        net: &N,
+        alloc: Global,
+        servers: usize,
+        address: SocketAddr,
+    ) -> io::Result<ServerEnds> {
+        Ok(ServerEnds {
+            alloc,
+            caches: empty_caches(alloc, servers)?,
+            ends: listen_all(net, alloc, servers, address)?,
+            calls: Calls::new(alloc),
+            moment: moment_of(0),
+            moved: 0,
+        })
+    }
+
+    /// Where they listen, in their order.
+    pub fn addresses(&self) -> io::Result<Vec<Option<SocketAddr>>> {
+        let mut addresses = Vec::new(self.alloc);
+        for end in self.ends.as_slice() {
+            addresses.push(Some(end.listener.local_addr()?))?;
+        }
+        Ok(addresses)
+    }
+
+    /// How many calls were made.
+    pub fn calls(&self) -> u64 {
+        self.calls.made()
+    }
+
+    /// How many bytes came and were sent.
+    pub fn moved(&self) -> u64 {
+        self.moved
+    }
+
+    /// The server holds these data under the key.
+    pub fn hold(&mut self, server: ServerId, key: &Key, data: &[u8]) -> Result<(), AllocError> {
+        if data.len() > DATA_LIMIT as usize {
+            return Ok(());
+        }
+        match self.caches.get_mut(server.number() as usize) {
+            Some(cache) => cache.hold(key, data),
+            None => Ok(()),
+        }
+    }
+
+    /// The call of this turn from here, which is 1 for the next one, fails.
+    pub fn fail(&mut self, turn: u32, manner: Manner) -> Result<(), AllocError> {
+        self.calls.fail(turn, manner)
+    }
+
+    /// This is lost just before the call of this turn from here.
+    pub fn lose_at(&mut self, turn: u32, loss: Loss) -> Result<(), AllocError> {
+        self.calls.lose_at(turn, loss)
+    }
+
+    /// This is lost.
+    pub fn lose(&mut self, loss: Loss) {
+        lose_all(&mut self.caches, [loss].as_slice());
+    }
+
+    /// The time from now on, in seconds.
+    pub fn set_moment(&mut self, seconds: i64) {
+        self.moment = moment_of(seconds);
+    }
+
+    /// How many of them were asked and didn't answer yet.
+    pub fn asked(&self) -> usize {
+        self.ends.iter().filter(|end| end.is_asked()).count()
+    }
+
+    /// The least of them that was asked and didn't answer yet.
+    pub fn first_asked(&self) -> Option<usize> {
+        self.ends.iter().position(|end| end.is_asked())
+    }
+
+    /// Whether this one was asked and didn't answer yet.
+    pub fn is_asked(&self, at: usize) -> bool {
+        match self.ends.get(at) {
+            Some(end) => end.is_asked(),
+            None => false,
+        }
+    }
+
+    /// The call that this one was asked is made. Whether it has failed already, so that the proxy's connection is to be dropped.
+    pub fn make_call(&mut self, at: usize) -> Result<bool, AllocError> {
+        let failing = self.calls.begin(&mut self.caches);
+        match (self.ends.get_mut(at), self.caches.get_mut(at)) {
+            (Some(end), Some(cache)) => end.make_call(failing, cache, self.moment),
+            _ => Ok(false),
+        }
+    }
+
+    /// One turn: what came is read, and what is to be sent is sent.
+    pub fn turn(&mut self) -> Result<(), AllocError> {
+        for at in 0..self.ends.len() {
+            let read = self.read(at)?;
+            self.note_moved(read);
+            let sent = self.send(at);
+            self.note_moved(sent);
+            self.close_last(at);
+        }
+        Ok(())
+    }
+
+    fn note_moved(&mut self, count: usize) {
+        self.moved = self.moved.saturating_add(count as u64);
+    }
+
+    fn read(&mut self, at: usize) -> Result<usize, AllocError> {
+        let Some(end) = self.ends.get_mut(at) else {
+            return Ok(0);
+        };
+        end.accept(self.alloc);
+        end.read()
+    }
+
+    fn send(&mut self, at: usize) -> usize {
+        match self.ends.get_mut(at) {
+            Some(end) => end.send(),
+            None => 0,
+        }
+    }
+
+    fn close_last(&mut self, at: usize) {
+        if let Some(end) = self.ends.get_mut(at) {
+            end.close_last();
+        }
+    }
+}

@@ -1,0 +1,209 @@
+-- From the script that was read to what its text says, and from what a drive did to what was printed of it.
+use Rattle.std.proofs.Common.{◌≡◌, ℕ, ◌+◌, ◌-◌, ◌≤◌, arith, ◌<◌, ◌++◌, Bool, false, List, [], ◌∷◌, length, map, take, drop, get_or, slice_get, zero, suc, Option, Some, None, Result, Ok, Err, refl, sym, ap, ◌∙◌, subst, inl, inr, append_assoc}
+use Rattle.std.specs.Prelude.{IsSome, IfOk, ◌⊎◌}
+use Rattle.std.specs.Io.KnownBytes.{Appends}
+use Rattle.std.proofs.Math.Seq.{drop-cons}
+use Rattle.std.proofs.lemmas.List.{length-map, take_all, drop_all, take-map, drop-map}
+use Rattle.std.proofs.lemmas.Option.{slice_get-get_or, slice_get_within}
+use Rattle.route_json.specs.Configuration.{Configuration}
+use Rattle.route_json.specs.Servers.{Addresses}
+use Rattle.script_text.specs.FirstLine.{WhyNot}
+use Rattle.script_text.specs.Printed.{shown_lines}
+use Rattle.script_text.specs.Script.{Told, bad_line, bad_event_line, either, servers_said, events_said, lines_said, servers_known, AreChainedFrom, IsScriptOf, ReadsScript, Numbered}
+use Rattle.script_text.specs.declared.configured.ConfiguredScript.{ConfiguredScript}
+use Rattle.script_events.specs.declared.script.Output.{Output}
+use Rattle.script_events.specs.Reloads.{AreInOrder}
+use Rattle.script_events.specs.declared.script.Reload.{Reload}
+use Rattle.script_events.specs.declared.script.Report.{Report}
+use Rattle.script_events.specs.declared.script.DriveFault.{DriveFault}
+use Rattle.script_events.specs.declared.script.DriveFault.TheVariants as faults
+use Rattle.script_events.specs.Scripted.{Scripted, Shown, shown_by, scripted_of}
+use Rattle.script_events.specs.Bad.{first_bad}
+use Rattle.gate_check.specs.Gate.{IsCertified}
+use Rattle.gate_check.specs.Sound.{IsLast, AreGenerations, trees_of}
+use Rattle.gate_check.specs.Reload.{AreKept}
+use Rattle.script_text.specs.declared.configured.ScriptFault.{ScriptFault}
+use Rattle.script_run.specs.declared.accepted.judging.Loading.{Loading}
+use Rattle.script_run.specs.Reloads.{InUse, AreChained, AreJudged, Judges, is_refused}
+use Rattle.mcgate_check.specs.Checking.{PrintsRefused, StopsUnwritten}
+use Rattle.mcgate_check.specs.declared.status.RunFault.{RunFault}
+use Rattle.mcgate_check.specs.declared.status.RunFault.TheVariants.{NoMemory, Writer, TooManyCalls}
+use Rattle.mcgate_replay.specs.Replay.{ReplaysTold, RunsScript, RunsGood, BreaksTreeOff, BreaksScriptOff, BreaksOff, BrokeOff, run_fault_of, AreLoadings, HasReloads, events_of, reloads_of, servers_of, load_line, load_lines, with_loads}
+
+pub both_written : (old mid new : Option (List ℕ)) (a b : List ℕ) → Appends old mid a → Appends mid new b → Appends old new (a ++ b)
+both_written None mid new a b x y = tt
+both_written (Some xs) None new a b x y = absurd x
+both_written (Some xs) (Some ys) None a b x y = y
+both_written (Some xs) (Some ys) (Some zs) a b x y = y ∙ ap (λ (t : List ℕ). t ++ b) x ∙ append_assoc xs a b
+
+pub is_there : (lines : List ℕ) (at : ℕ) (o : Option ℕ) → o ≡ slice_get lines at → at < length lines → IsSome o
+is_there lines at o e lt = rw (e, slice_get-get_or lines at 0 lt)
+
+-- ---- the lines of outputs and reloads
+
+-- so many as are there
+capped : (xs : List Output) (k n : ℕ) → (k ≤ n) × (k ≤ length xs) → (k ≡ n) ⊎ (k ≡ length xs) → (take k xs ≡ take n xs) × (drop k xs ≡ drop n xs)
+capped xs k n fits (inl e) = (ap (λ (m : ℕ). take m xs) e, ap (λ (m : ℕ). drop m xs) e)
+capped xs k n fits (inr e) =
+    let f = fits.0 in
+    let all : length xs ≤ n = omega (arith, e, f) in
+    let here : length xs ≤ k = omega (arith, e) in
+    (take_all k xs here ∙ sym (take_all n xs all), drop_all k xs here ∙ sym (drop_all n xs all))
+
+module _ (any : Bool) (reloads : List Reload) (loadings : List Loading) (marks : List ℕ) where
+  -- what is still to be written, where so many reloads have their lines
+  abbrev pub left : (number before : ℕ) → List Output → List ℕ
+  left number before rest = with_loads before (map shown_by rest) (drop number marks) (load_lines any number (drop number reloads) loadings)
+
+  pub one_more_load : (number before mark cut due : ℕ) (reload : Reload) (rest shown later : List Output) → number < length marks → number < length reloads → mark ≡ get_or marks number 0 → reload ≡ get_or reloads number reload
+      → cut ≡ mark - before → (due ≤ cut) × (due ≤ length rest) → (due ≡ cut) ⊎ (due ≡ length rest) → shown ≡ take due rest → later ≡ drop due rest
+      → left number before rest ≡ shown_lines (map shown_by shown) ++ load_line any number reload (slice_get loadings number) ++ left (number + 1) mark later
+  one_more_load number before mark cut due reload rest shown later marked there mark_is reload_is cut_is fits is shown_is later_is =
+      let ends = capped rest due cut fits is in
+      let head = ap (λ (n : ℕ). take n rest) (sym cut_is) ∙ sym ends.0 ∙ sym shown_is in
+      let tail = ap (λ (n : ℕ). drop n rest) (sym cut_is) ∙ sym ends.1 ∙ sym later_is in
+      let next : suc number ≡ number + 1 = omega arith in
+      let ms = drop-cons marks number 0 marked ∙ ap (λ (n : ℕ). get_or marks number 0 ∷ drop n marks) next ∙ ap (λ (m : ℕ). m ∷ drop (number + 1) marks) (sym mark_is) in
+      let rs = drop-cons reloads number reload there ∙ ap (λ (n : ℕ). get_or reloads number reload ∷ drop n reloads) next ∙ ap (λ (r : Reload). r ∷ drop (number + 1) reloads) (sym reload_is) in
+      let line = load_line any number reload (slice_get loadings number) in
+      let behind = load_lines any (number + 1) (drop (number + 1) reloads) loadings in
+      ap (λ (m : List ℕ). with_loads before (map shown_by rest) m (load_lines any number (drop number reloads) loadings)) ms
+      ∙ ap (λ (r : List Reload). with_loads before (map shown_by rest) (mark ∷ drop (number + 1) marks) (load_lines any number r loadings)) rs
+      ∙ ap (λ (s : List Shown). shown_lines s ++ line ++ with_loads mark (drop (mark - before) (map shown_by rest)) (drop (number + 1) marks) behind) (take-map shown_by (mark - before) rest ∙ ap (map shown_by) head)
+      ∙ ap (λ (s : List Shown). shown_lines (map shown_by shown) ++ line ++ with_loads mark s (drop (number + 1) marks) behind) (drop-map shown_by (mark - before) rest ∙ ap (map shown_by) tail)
+
+  -- where no further reload has a mark, or none is there
+  no_lines : (before : ℕ) (shown : List Shown) (ms : List ℕ) → with_loads before shown ms [] ≡ shown_lines shown
+  no_lines before shown [] = refl
+  no_lines before shown (m ∷ ms) = refl
+
+  pub none_left : (number before : ℕ) (rest : List Output) → (length marks ≤ number) ⊎ (length reloads ≤ number) → left number before rest ≡ shown_lines (map shown_by rest)
+  none_left number before rest (inl few) = ap (λ (m : List ℕ). with_loads before (map shown_by rest) m (load_lines any number (drop number reloads) loadings)) (drop_all number marks few)
+  none_left number before rest (inr few) =
+      ap (λ (r : List Reload). with_loads before (map shown_by rest) (drop number marks) (load_lines any number r loadings)) (drop_all number reloads few) ∙ no_lines before (map shown_by rest) (drop number marks)
+
+-- a count that ended by the end of one of two lists
+pub ended : (a b count n : ℕ) → (count ≡ a) ⊎ (count ≡ b) → count ≤ n → (a ≤ n) ⊎ (b ≤ n)
+ended a b count n (inl e) le = inl (omega (arith, e, le))
+ended a b count n (inr e) le = inr (omega (arith, e, le))
+
+-- ---- servers
+
+there : (xs : Addresses) (i : ℕ) → i < length xs → (e : List ℕ) × (slice_get xs i ≡ Some e)
+there [] i lt = absurd (omega (arith, lt))
+there (z ∷ xs) zero lt = (z, refl)
+there (z ∷ xs) (suc i) lt = there xs i (omega (arith, lt))
+
+no_fewer : (used new : Addresses) → AreKept used new → length used ≤ length new
+no_fewer [] new kept = omega arith
+no_fewer (x ∷ xs) new kept =
+    let lt : length xs < length (x ∷ xs) = omega arith in
+    let last = there (x ∷ xs) (length xs) lt in
+    let within = slice_get_within new (length xs) last.0 (kept (length xs) lt ∙ last.1) in
+    omega (arith, within)
+
+-- those of the first configuration are among those known in the end
+pub first_few : (used : Addresses) (rs : List Reload) → AreChainedFrom used rs → length used ≤ length (servers_known used rs)
+first_few used [] chained = omega arith
+first_few used (r ∷ rs) chained =
+    let one = no_fewer used r.config.servers chained.0 in
+    let more = first_few r.config.servers rs chained.1 in
+    omega (arith, one, more)
+
+pub chained_also : (used : Addresses) (rs : List Reload) → AreChainedFrom used rs → AreChained used rs
+chained_also used [] chained = chained
+chained_also used (r ∷ rs) chained = (chained.0, chained_also r.config.servers rs chained.1)
+
+same : (a b : Configuration) → Some a ≡ Some b → a ≡ b
+same a b e = cc
+
+-- what the gate is asked for, the first configuration alone being in use
+pub chain_in_use : (script : ConfiguredScript) (accepted : List Configuration) (rs : List Reload) → rs ≡ reloads_of script → accepted ≡ script.config ∷ [] → HasReloads script → InUse accepted (λ config. AreChained config.servers rs)
+chain_in_use script accepted rs rs_are one has config last =
+    let is = same script.config config (subst (λ (cs : List Configuration). IsLast cs config) one last) in
+    subst (λ (x : List Reload). AreChained config.servers x) (sym rs_are)
+    (subst (λ (c : Configuration). AreChained c.servers (reloads_of script)) is (chained_also script.config.servers (reloads_of script) has.chained))
+
+pub are_judged : (first : Configuration) (rs : List Reload) (ls : List Loading) (refused : List Bool) (before accepted : List Configuration) → before ≡ first ∷ [] → Judges before rs ls accepted → refused ≡ map is_refused ls → AreJudged first rs ls refused accepted
+are_judged first rs ls refused before accepted one judged are =
+    record { configs = before; first_is = subst (λ (cs : List Configuration). IsLast cs first) (sym one) refl; judged = judged; refused_are = are }
+
+pub are_loadings : (first : Configuration) (reloads rs : List Reload) (ls : List Loading) (before accepted : List Configuration) → rs ≡ reloads → IsCertified first.tree → before ≡ first ∷ [] → Judges before rs ls accepted → AreGenerations (trees_of accepted) → AreLoadings false first reloads ls
+are_loadings first reloads rs ls before accepted rs_are certified one judged generations =
+    (certified, accepted, subst (λ (x : List Reload). Judges (first ∷ []) x ls accepted) rs_are (subst (λ (cs : List Configuration). Judges cs rs ls accepted) one judged), generations)
+
+pub has_reloads : (read : Result ConfiguredScript ScriptFault)
+    → IfOk read (λ s. AreInOrder (length s.script.events.items) (length (servers_known s.config.servers s.reloads.items)) 0 s.reloads.items)
+    → IfOk read (λ s. AreChainedFrom s.config.servers s.reloads.items) → IfOk read HasReloads
+has_reloads (Ok s) order chained = record { order = order; chained = chained }
+has_reloads (Err fault) order chained = tt
+
+-- ---- what a text says
+
+runs_said : (any : Bool) (t : Told) (script : ConfiguredScript) (old new : Option (List ℕ)) (status : ℕ) → IsScriptOf t script → RunsGood any script.config (reloads_of script) (events_of script) old new status → RunsGood any t.configuration t.loads (events_said t) old new status
+runs_said any t script old new status h p = rw (← h.configuration, ← h.events, ← h.reloads) p
+
+either_none : (o : Option ℕ) → either o None ≡ o
+either_none None = refl
+either_none (Some n) = refl
+
+-- each event has its line
+pub paired : (t : Result Told WhyNot) (script : ConfiguredScript) → ReadsScript t (Ok script) → length script.lines.items ≡ length script.script.events.items
+paired (Err why) script h = absurd h
+paired (Ok t) script h =
+    ap length h.lines ∙ length-map t.said (λ (x : Numbered). x.line) ∙ sym (length-map t.said (λ (x : Numbered). x.event)) ∙ ap length (sym h.events) ∙ length-map script.script.events.items scripted_of
+
+-- where each line can be read, the bad line is that of an event that can't be
+bad_is : (t : Told) (script : ConfiguredScript) → IsScriptOf t script → bad_line (Ok t) ≡ bad_event_line (servers_of script) (events_of script) script.lines.items
+bad_is t script h =
+    ap (λ (o : Option ℕ). either (bad_event_line (servers_said t) (events_said t) (lines_said t)) o) h.whole ∙ either_none (bad_event_line (servers_said t) (events_said t) (lines_said t))
+    ∙ ap (λ (c : Configuration). bad_event_line (length (servers_known c.servers t.loads)) (events_said t) (lines_said t)) (sym h.configuration)
+    ∙ ap (λ (rs : List Reload). bad_event_line (length (servers_known script.config.servers rs)) (events_said t) (lines_said t)) (sym h.reloads)
+    ∙ ap (λ (es : List Scripted). bad_event_line (servers_of script) es (lines_said t)) (sym h.events)
+    ∙ ap (λ (ls : List ℕ). bad_event_line (servers_of script) (events_of script) ls) (sym h.lines)
+
+pub replays : (any : Bool) (t : Result Told WhyNot) (script : ConfiguredScript) (old new : Option (List ℕ)) (status : ℕ) → ReadsScript t (Ok script) → RunsScript any script old new status → ReplaysTold any t old new status
+replays any (Err why) script old new status h r = absurd h
+replays any (Ok t) script old new status h (inl r) = inl (record { script = t; said = refl; good = bad_is t script h ∙ rw (r.good) refl; runs = runs_said any t script old new status h r.runs })
+replays any (Ok t) script old new status h (inr r) = inr (r.0, inr (record { line = r.1.line; bad = bad_is t script h ∙ r.1.bad; printed = r.1.printed }))
+
+broken_said : (any : Bool) (t : Told) (script : ConfiguredScript) (old new : Option (List ℕ)) (fault : RunFault) → IsScriptOf t script → BreaksTreeOff any script.config (reloads_of script) (events_of script) old new fault → BreaksTreeOff any t.configuration t.loads (events_said t) old new fault
+broken_said any t script old new fault h p = rw (← h.configuration, ← h.events, ← h.reloads) p
+
+pub breaks_off : (any : Bool) (t : Result Told WhyNot) (script : ConfiguredScript) (old new : Option (List ℕ)) (fault : RunFault) → ReadsScript t (Ok script) → BreaksScriptOff any script old new fault → BreaksOff any t old new fault
+breaks_off any (Err why) script old new fault h b = absurd h
+breaks_off any (Ok t) script old new NoMemory h b = elim (broken_said any t script old new NoMemory h b) [ inl kept ↦ inl kept | inr part ↦ inr (record { script = t; said = refl; prints = part }) ]
+breaks_off any (Ok t) script old new TooManyCalls h b = record { script = t; said = refl; prints = broken_said any t script old new TooManyCalls h b }
+breaks_off any (Ok t) script old new Writer h b = tt
+
+-- ---- what a drive did
+
+-- a fault of the driver, after which these lines were written
+by_fault : (driven : Result Report DriveFault) (fault : DriveFault) (lines : List ℕ) (old new : Option (List ℕ)) → driven ≡ Err fault → Appends old new lines → BrokeOff driven lines old new (run_fault_of fault)
+by_fault driven (faults.BadEvent index) lines old new is wrote = tt
+by_fault driven faults.NoMemory lines old new is wrote = (is, wrote)
+by_fault driven faults.Spent lines old new is wrote = (is, wrote)
+
+pub broke_off : (driven : Result Report DriveFault) (fault : DriveFault) (lines : List ℕ) (old new : Option (List ℕ)) (told : RunFault) → driven ≡ Err fault → told ≡ run_fault_of fault → Appends old new lines → BrokeOff driven lines old new told
+broke_off driven fault lines old new told is told_is wrote = subst (BrokeOff driven lines old new) (sym told_is) (by_fault driven fault lines old new is wrote)
+
+-- through a first tree that the gate refused
+pub refused_first : (config refused : Configuration) (reloads : List Reload) (events : List Scripted) (old new : Option (List ℕ)) (status : ℕ) → refused ≡ config → (status ≡ 1) × PrintsRefused refused old new → RunsGood false config reloads events old new status
+refused_first config refused reloads events old new status is p = inr (p.0, refl, subst (λ (c : Configuration). PrintsRefused c old new) is p.1)
+
+pub unwritten : (config : Configuration) (reloads : List Reload) (events : List Scripted) (old new : Option (List ℕ)) (fault : RunFault) → StopsUnwritten old new fault → BreaksTreeOff false config reloads events old new fault
+unwritten config reloads events old new NoMemory kept = inl kept
+unwritten config reloads events old new TooManyCalls kept = absurd kept
+unwritten config reloads events old new Writer kept = tt
+
+good_status : (any : Bool) (config : Configuration) (reloads : List Reload) (events : List Scripted) (old new : Option (List ℕ)) (status : ℕ) → RunsGood any config reloads events old new status → status ≤ 1
+good_status any config reloads events old new status (inl ran) = let e = ran.0 in omega (arith, e)
+good_status any config reloads events old new status (inr refused) = let e = refused.0 in omega (arith, e)
+
+pub replays_status : (any : Bool) (t : Result Told WhyNot) (old new : Option (List ℕ)) (status : ℕ) → ReplaysTold any t old new status → status ≤ 2
+replays_status any t old new status (inl ran) = let few = good_status any ran.script.configuration ran.script.loads (events_said ran.script) old new status ran.runs in omega (arith, few)
+replays_status any t old new status (inr bad) = let e = bad.0 in omega (arith, e)
+
+-- the line of an event that can't be
+pub event_line : (servers n : ℕ) (events : List Scripted) (lines : List ℕ) (at : ℕ) (o : Option ℕ) (line : ℕ) → n ≡ servers → Some at ≡ first_bad n events → o ≡ slice_get lines at → o ≡ Some line → bad_event_line servers events lines ≡ Some line
+event_line servers n events lines at o line e found is some = rw (← e, ← found, ← is) some

@@ -1,0 +1,241 @@
+-- What a replay prints, by how it ends. Source: mcgate's own.
+use Rattle.std.specs.Prelude.{◌≡◌, ℕ, ◌+◌, ◌-◌, Bool, true, false, ◌++◌, ◌⊎◌, List, [], ◌∷◌, length, map, take, drop, slice_get, Option, Some, None, Result, Ok, Err}
+use Rattle.std.specs.Io.KnownBytes.{Appends}
+use Rattle.route_json.specs.declared.fault.ConfigFault.{ConfigFault}
+use Rattle.route_json.specs.Configuration.{Configuration}
+use Rattle.route_json.specs.Servers.{Addresses}
+use Rattle.gate_check.specs.Gate.{IsCertified}
+use Rattle.gate_check.specs.Sound.{AreGenerations, trees_of}
+use Rattle.script_events.specs.declared.servers.servers.ScriptServers.{ScriptServers}
+use Rattle.script_events.specs.declared.script.Script.{Script}
+use Rattle.script_events.specs.declared.script.Reload.{Reload}
+use Rattle.script_events.specs.declared.script.Report.{Report}
+use Rattle.script_events.specs.declared.script.DriveFault.{DriveFault}
+use Rattle.script_events.specs.declared.script.DriveFault.TheVariants as drive_faults
+use Rattle.script_events.specs.Scripted.{Scripted, Shown, scripted_of}
+use Rattle.script_events.specs.Opening.{opening_of}
+use Rattle.script_events.specs.Reloads.{AreInOrder}
+use Rattle.fresh_runs.specs.Overlap.{run_of}
+use Rattle.fresh_runs.specs.Sharing.{IsFreshByNumber}
+use Rattle.script_run.specs.Driving.{DrivesStepped, StepsPart, AreSpentIn, AreMarks}
+use Rattle.script_run.specs.declared.accepted.judging.Loading.{Loading}
+use Rattle.script_run.specs.declared.accepted.judging.Loading.TheVariants.{Loaded, Refused}
+use Rattle.script_run.specs.Reloads.{Judges, is_refused}
+use Rattle.script_text.specs.FirstLine.{WhyNot, TellsFault}
+use Rattle.script_text.specs.Script.{Told, told, told_over, bad_line, bad_event_line, events_said, servers_known, AreChainedFrom, ReadsScript}
+use Rattle.script_text.specs.declared.configured.ConfiguredScript.{ConfiguredScript}
+use Rattle.script_text.specs.declared.configured.ScriptFault.{ScriptFault}
+use Rattle.script_text.specs.Printed.{shown_lines, report_line, bad_line_line, config_fault_line}
+use Rattle.script_events.specs.Bad.{first_bad}
+use Rattle.mcgate_check.specs.Checking.{PrintsRefused}
+use Rattle.mcgate_check.specs.Reloads.{loaded_line, unchecked_line, kept_line}
+use Rattle.mcgate_check.specs.declared.status.RunFault.{RunFault}
+use Rattle.mcgate_check.specs.declared.status.RunFault.TheVariants.{NoMemory, Writer, TooManyCalls}
+
+-- the events of a script
+abbrev pub scripted : Script → List Scripted
+scripted script = map scripted_of script.events.items
+
+-- the same of a script that was read
+abbrev pub events_of : ConfiguredScript → List Scripted
+events_of script = scripted script.script
+
+-- the configurations that it loads
+abbrev pub reloads_of : ConfiguredScript → List Reload
+reloads_of script = script.reloads.items
+
+-- how many servers all its configurations have together
+abbrev pub servers_of : ConfiguredScript → ℕ
+servers_of script = length (servers_known script.config.servers script.reloads.items)
+
+-- ---- the lines of a transcript
+
+-- the line of what the gate answered to a configuration of these servers
+abbrev pub loading_line : Addresses → Loading → List ℕ
+loading_line servers (Loaded generation) = loaded_line generation
+loading_line servers (Refused fault) = kept_line servers fault
+
+-- the line of a reload of this number, counted from 0: what the gate answered, or where it isn't asked that it is the next generation; the first configuration is generation 1
+abbrev pub load_line : Bool → ℕ → Reload → Option Loading → List ℕ
+load_line true number reload loading = unchecked_line (number + 2)
+load_line false number reload None = []
+load_line false number reload (Some loading) = loading_line reload.config.servers loading
+
+-- the lines of reloads, of which the first has this number
+abbrev pub load_lines : Bool → ℕ → List Reload → List Loading → List (List ℕ)
+load_lines any number [] loadings = []
+load_lines any number (reload ∷ reloads) loadings = load_line any number reload (slice_get loadings number) ∷ load_lines any (number + 1) reloads loadings
+
+-- the lines of outputs and of reloads: each reload's stands before the output of its mark, counted from 0, or after the last; so many outputs stand before these. A reload without a mark has no line
+abbrev pub with_loads : ℕ → List Shown → List ℕ → List (List ℕ) → List ℕ
+with_loads before shown [] lines = shown_lines shown
+with_loads before shown (mark ∷ marks) [] = shown_lines shown
+with_loads before shown (mark ∷ marks) (line ∷ lines) = shown_lines (take (mark - before) shown) ++ line ++ with_loads mark (drop (mark - before) shown) marks lines
+
+-- the lines of a run's transcript
+abbrev pub transcript_lines : Bool → List Reload → List Loading → List Shown → List ℕ → List ℕ
+transcript_lines any reloads loadings shown marks = with_loads 0 shown marks (load_lines any 0 reloads loadings)
+
+-- ---- what was printed of a script by how it ran
+
+-- it ran to its end, and these lines and that of the report were written
+pub record Wrote (driven : Result Report DriveFault) (lines : List ℕ) (old new : Option (List ℕ)) : Type 0 where
+  pub report : Report
+  pub driven_is : driven ≡ Ok report
+  pub printed : Appends old new (lines ++ report_line report)
+
+-- what a fault of the driver is to the run. That an event can't be is told before the run begins, so it is none of its faults
+abbrev pub run_fault_of : DriveFault → RunFault
+run_fault_of (drive_faults.BadEvent index) = Writer
+run_fault_of drive_faults.NoMemory = NoMemory
+run_fault_of drive_faults.Spent = TooManyCalls
+
+-- memory was refused, or calls had no more numbers, and these lines were written; nothing is said of a writer that failed
+abbrev pub BrokeOff : Result Report DriveFault → List ℕ → Option (List ℕ) → Option (List ℕ) → RunFault → Type 0
+BrokeOff driven lines old new NoMemory = (driven ≡ Err drive_faults.NoMemory) × Appends old new lines
+BrokeOff driven lines old new TooManyCalls = (driven ≡ Err drive_faults.Spent) × Appends old new lines
+BrokeOff driven lines old new Writer = Unit {0}
+
+-- ---- a script through a configuration's tree and those that it loads, which are gated unless they may be any
+
+-- what became of the reloads: the gate wasn't asked, and each is loaded; or it accepted the first configuration, and answered so of each reload's against all accepted before, and all that it accepted are generations
+abbrev pub AreLoadings : Bool → Configuration → List Reload → List Loading → Type 0
+AreLoadings true config reloads loadings = loadings ≡ []
+AreLoadings false config reloads loadings = IsCertified config.tree × (accepted : List Configuration) × Judges (config ∷ []) reloads loadings accepted × AreGenerations (trees_of accepted)
+
+-- the events ran, each command through the tree in use when it began, and the lines of the transcript and of the report were written. Where the gate was asked the run is fresh, and no reply is stale
+pub record RunsEvents (any : Bool) (config : Configuration) (reloads : List Reload) (events : List Scripted) (old new : Option (List ℕ)) : Type 0 where
+  pub loadings : List Loading
+  pub shown : List Shown
+  pub marks : List ℕ
+  pub report : Report
+  pub drives : DrivesStepped config.tree (map is_refused loadings) reloads events shown marks report
+  pub marked : length marks ≡ length reloads
+  pub within : AreMarks (length shown) marks
+  pub printed : Appends old new (transcript_lines any reloads loadings shown marks ++ report_line report)
+  pub are_loadings : AreLoadings any config reloads loadings
+  pub fresh : any ≡ false → IsFreshByNumber (opening_of events) (run_of drives.log)
+  pub none_stale : any ≡ false → report.stale ≡ 0
+
+-- a part of the events ran so, and left the servers so; the lines of its transcript were written
+pub record PrintsPart (any : Bool) (config : Configuration) (reloads : List Reload) (events : List Scripted) (old new : Option (List ℕ)) : Type 0 where
+  pub loadings : List Loading
+  pub shown : List Shown
+  pub marks : List ℕ
+  pub servers : ScriptServers
+  pub part : StepsPart config.tree (map is_refused loadings) reloads events shown marks servers
+  pub within : AreMarks (length shown) marks
+  pub printed : Appends old new (transcript_lines any reloads loadings shown marks)
+  pub are_loadings : AreLoadings any config reloads loadings
+  pub fresh : any ≡ false → IsFreshByNumber (opening_of events) (run_of part.log)
+
+-- the same, until there were no more numbers for calls or commands
+pub record PrintsSpent (any : Bool) (config : Configuration) (reloads : List Reload) (events : List Scripted) (old new : Option (List ℕ)) : Type 0 where
+  pub prints : PrintsPart any config reloads events old new
+  pub spent : AreSpentIn prints.part.log
+
+-- memory was refused before the run, and nothing was written; or during it, and the transcript so far was, as it was where there were too
+-- many calls. Nothing is said of a writer that failed
+abbrev pub BreaksTreeOff : Bool → Configuration → List Reload → List Scripted → Option (List ℕ) → Option (List ℕ) → RunFault → Type 0
+BreaksTreeOff any config reloads events old new NoMemory = (new ≡ old) ⊎ PrintsPart any config reloads events old new
+BreaksTreeOff any config reloads events old new TooManyCalls = PrintsSpent any config reloads events old new
+BreaksTreeOff any config reloads events old new Writer = Unit {0}
+
+-- status 0: it ran; status 1: the gate was asked, it refused the first configuration, and that was written
+abbrev pub RunsGood : Bool → Configuration → List Reload → List Scripted → Option (List ℕ) → Option (List ℕ) → ℕ → Type 0
+RunsGood any config reloads events old new status =
+    ((status ≡ 0) × RunsEvents any config reloads events old new) ⊎ ((status ≡ 1) × (any ≡ false) × PrintsRefused config old new)
+
+-- ---- a script that was read
+
+-- each of its events can be, and it ran or was refused
+pub record RanScript (any : Bool) (script : ConfiguredScript) (old new : Option (List ℕ)) (status : ℕ) : Type 0 where
+  pub good : first_bad (servers_of script) (events_of script) ≡ None
+  pub runs : RunsGood any script.config (reloads_of script) (events_of script) old new status
+
+-- one can't, and the line of the first was written
+pub record HasBadEvent (script : ConfiguredScript) (old new : Option (List ℕ)) : Type 0 where
+  pub line : ℕ
+  pub bad : bad_event_line (servers_of script) (events_of script) script.lines.items ≡ Some line
+  pub printed : Appends old new (bad_line_line line)
+
+abbrev pub RunsScript : Bool → ConfiguredScript → Option (List ℕ) → Option (List ℕ) → ℕ → Type 0
+RunsScript any script old new status = RanScript any script old new status ⊎ ((status ≡ 2) × HasBadEvent script old new)
+
+abbrev pub BreaksScriptOff : Bool → ConfiguredScript → Option (List ℕ) → Option (List ℕ) → RunFault → Type 0
+BreaksScriptOff any script old new fault = BreaksTreeOff any script.config (reloads_of script) (events_of script) old new fault
+
+-- its reloads stand in the order of their places, and each list of servers begins with the one before it
+pub record HasReloads (script : ConfiguredScript) : Type 0 where
+  pub order : AreInOrder (length script.script.events.items) (servers_of script) 0 (reloads_of script)
+  pub chained : AreChainedFrom script.config.servers (reloads_of script)
+
+-- ---- what a text says
+
+-- no line is bad, and the script ran or was refused
+pub record Ran (any : Bool) (t : Result Told WhyNot) (old new : Option (List ℕ)) (status : ℕ) : Type 0 where
+  pub script : Told
+  pub said : t ≡ Ok script
+  pub good : bad_line (Ok script) ≡ None
+  pub runs : RunsGood any script.configuration script.loads (events_said script) old new status
+
+-- a line is bad, and that was written
+pub record HasBadLine (t : Result Told WhyNot) (old new : Option (List ℕ)) : Type 0 where
+  pub line : ℕ
+  pub bad : bad_line t ≡ Some line
+  pub printed : Appends old new (bad_line_line line)
+
+-- the configuration has a fault, and that was written
+pub record HasFaultyConfig (t : Result Told WhyNot) (old new : Option (List ℕ)) : Type 0 where
+  pub fault : ConfigFault
+  pub tells : TellsFault t fault
+  pub printed : Appends old new (config_fault_line fault)
+
+-- status 0: it ran; status 1: the gate refused its tree; status 2: the configuration has a fault, or a line is bad
+abbrev pub ReplaysTold : Bool → Result Told WhyNot → Option (List ℕ) → Option (List ℕ) → ℕ → Type 0
+ReplaysTold any t old new status = Ran any t old new status ⊎ ((status ≡ 2) × (HasFaultyConfig t old new ⊎ HasBadLine t old new))
+
+-- the script ran in part
+pub record RanInPart (any : Bool) (t : Result Told WhyNot) (old new : Option (List ℕ)) : Type 0 where
+  pub script : Told
+  pub said : t ≡ Ok script
+  pub prints : PrintsPart any script.configuration script.loads (events_said script) old new
+
+-- the script ran in part, and had more calls than are counted
+pub record Overran (any : Bool) (t : Result Told WhyNot) (old new : Option (List ℕ)) : Type 0 where
+  pub script : Told
+  pub said : t ≡ Ok script
+  pub prints : PrintsSpent any script.configuration script.loads (events_said script) old new
+
+-- memory was refused before the run, and nothing was written; or during it
+abbrev pub IsBrokenOff : Bool → Result Told WhyNot → Option (List ℕ) → Option (List ℕ) → Type 0
+IsBrokenOff any t old new = (new ≡ old) ⊎ RanInPart any t old new
+
+abbrev pub BreaksOff : Bool → Result Told WhyNot → Option (List ℕ) → Option (List ℕ) → RunFault → Type 0
+BreaksOff any t old new NoMemory = IsBrokenOff any t old new
+BreaksOff any t old new TooManyCalls = Overran any t old new
+BreaksOff any t old new Writer = Unit {0}
+
+-- ---- what was read of a text
+
+-- some text is read so
+pub record IsReading (read : Result ConfiguredScript ScriptFault) : Type 0 where
+  pub told : Result Told WhyNot
+  pub reads : ReadsScript told read
+
+-- so is each text replayed that is read so
+abbrev pub ReplaysRead : Bool → Result ConfiguredScript ScriptFault → Option (List ℕ) → Option (List ℕ) → ℕ → Type 0
+ReplaysRead any read old new status = (t : Result Told WhyNot) → ReadsScript t read → ReplaysTold any t old new status
+
+abbrev pub BreaksReadOff : Bool → Result ConfiguredScript ScriptFault → Option (List ℕ) → Option (List ℕ) → RunFault → Type 0
+BreaksReadOff any read old new fault = (t : Result Told WhyNot) → ReadsScript t read → BreaksOff any t old new fault
+
+-- ---- a text
+
+-- of a script with its configuration
+abbrev pub Replays : Bool → List ℕ → Option (List ℕ) → Option (List ℕ) → ℕ → Type 0
+Replays any text = ReplaysTold any (told text)
+
+-- of a script of events alone, over a configuration from elsewhere
+abbrev pub ReplaysOver : Bool → Configuration → List ℕ → Option (List ℕ) → Option (List ℕ) → ℕ → Type 0
+ReplaysOver any config text = ReplaysTold any (Ok (told_over config text))

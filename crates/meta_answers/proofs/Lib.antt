@@ -1,6 +1,0 @@
-pub mod Pieces
-pub mod FitLemmas
-pub mod Fitting
-pub mod TokensBack
-pub mod LineBack
-pub mod Plain

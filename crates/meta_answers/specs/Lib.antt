@@ -1,5 +1,0 @@
-pub mod Told
-pub mod Tokens
-pub mod Line
-pub mod Spelling
-pub mod Fitting

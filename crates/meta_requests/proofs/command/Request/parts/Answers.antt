@@ -1,6 +1,0 @@
-use Rattle.mc_types.specs.Parts.{ask_of}
-use Rattle.meta_requests.proofs.Sound.{made}
-use Rattle.meta_requests.proofs.command.Request.parts.Goals as goal
-
-pub returns-clause-ask : goal.returns-clause-ask
-returns-clause-ask c = made c.args.received.now c.args.self.now c.in-Keyed.key c.in-Keyed.flags c.in-Keyed.length c.in-Keyed.kind c.key_in.result.now c.in_ok-tokens-in-Keyed.tokens c.in_ok-body-in-Keyed.body (ask_of c.ask_by.result) c.requires.read c.in-Keyed.is c.key_in.ensures c.in_ok-tokens-in-Keyed.ensures c.in_ok-body-in-Keyed.ensures c.ask_by.ensures

@@ -1,6 +1,0 @@
-use Rattle.std.proofs.Common.{◌≡◌, ◌++◌, take}
-use Rattle.meta_requests.specs.Spelling.{led, token_words}
-use Rattle.meta_requests.proofs.writer.put_tokens.Given as goal
-
-abbrev pub invariant-loop-token : goal.invariant-loop-token
-invariant-loop-token l = l.out.items ≡ l.initial.out.items ++ led (token_words (take l.token-index l.tokens))

@@ -1,9 +1,0 @@
-use Rattle.loopback.specs.Running.{Runs}
-use Rattle.program.specs.Program.{NeverOverruns, LoopMemoryRefused}
-use Rattle.program.proofs.StopLemmas.{ran, never}
-use Rattle.program.proofs.ends.loop_text.Goals as goal
-
-pub returns : goal.returns
-returns g c =
-    ran Runs LoopMemoryRefused NeverOverruns c.args.text.now _ _ c.run_loopback.result c.ended.result c.ended.ensures c.run_loopback.ensures.wrote c.run_loopback.ensures.refused
-    (never c.run_loopback.result c.run_loopback.ensures.status)

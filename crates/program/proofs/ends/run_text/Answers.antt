@@ -1,8 +1,0 @@
-use Rattle.program.specs.Program.{Does, MemoryRefused, Overruns}
-use Rattle.program.proofs.StopLemmas.{ran}
-use Rattle.program.proofs.ends.run_text.Goals as goal
-
-pub returns : goal.returns
-returns g c =
-    ran (Does c.args.task) (MemoryRefused c.args.task) (Overruns c.args.task) c.args.text.now _ _ c.answer.result c.ended.result c.ended.ensures c.answer.ensures.does c.answer.ensures.refused
-    c.answer.ensures.too_many

@@ -1,8 +1,0 @@
-//! Worked examples of the program: inputs, and its arguments up to its exit status. They stand above the crates that they show,
-//! so that a change of an example proves the example alone.
-#![tactic(auto)]
-
-#[cfg(test)]
-mod inputs;
-#[cfg(test)]
-mod program_ends;

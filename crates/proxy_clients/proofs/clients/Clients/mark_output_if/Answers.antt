@@ -1,5 +1,0 @@
-use Rattle.proxy_clients.proofs.Marked.{sent}
-use Rattle.proxy_clients.proofs.clients.Clients.mark_output_if.Goals as goal
-
-pub returns-clause-client : goal.returns-clause-client
-returns-clause-client c = sent c.args.writes c.args.self.now.all.items c.args.id c.if-writes.false

@@ -1,4 +1,0 @@
-pub mod Walked
-pub mod Failing
-pub mod Feeding
-pub mod Leaving

@@ -1,5 +1,0 @@
-use Rattle.proxy_connections.proofs.Walked.{by_output}
-use Rattle.proxy_connections.proofs.client_bytes.show.Goals as goal
-
-pub returns-clause-core : goal.returns-clause-core
-returns-clause-core c = by_output c.args.id c.move_output.result c.args.core.now c.move_output.new.self c.move_output.ensures.ok c.move_output.ensures.err c.move_output.ensures.fresh

@@ -1,8 +1,0 @@
-use Rattle.std.proofs.Common.{◌≡◌, ◌+◌, length}
-use Rattle.proxy_connections.specs.CoreSteps.{Fails}
-use Rattle.fresh_core.specs.declared.served.ServedCore.{ServedCore}
-use Rattle.proxy_connections.specs.Links.{AllFail}
-use Rattle.proxy_connections.proofs.outcomes.fail_waiting.Given as goal
-
-abbrev pub invariant-loop : goal.invariant-loop
-invariant-loop l = record { core : Fails l.fn.core l.core; few : l.counter + length l.link.waiting.items ≡ l.end; all : (new : ServedCore) → AllFail l.link.waiting.items l.core new → AllFail l.fn.link.waiting.items l.fn.core new; rest : l.link ≡ record l.fn.link { waiting = l.link.waiting } }

@@ -1,6 +1,0 @@
-use Rattle.proxy_connections.specs.CoreSteps.{GoesOn}
-use Rattle.proxy_connections.specs.Settled.{SettlesSome}
-use Rattle.proxy_connections.proofs.outcomes.settle_held.Given as goal
-
-abbrev pub invariant-loop : goal.invariant-loop
-invariant-loop l = record { core : GoesOn l.fn.core l.core; settled : SettlesSome l.fn.calls.sent.items l.fn.conn.held.items l.fn.core l.calls.sent.items l.conn.held.items l.core }

@@ -1,4 +1,0 @@
-pub mod CoreSteps
-pub mod Links
-pub mod Pieces
-pub mod Settled

@@ -1,6 +1,0 @@
-use Rattle.std.proofs.Common.{refl}
-use Rattle.proxy_core.proofs.Reloading.{reloaded}
-use Rattle.proxy_core.proofs.proxy.Core.reload.Goals as goal
-
-pub returns-clause-ok : goal.returns-clause-ok
-returns-clause-ok c = (refl, reloaded c.args.self.now c.args.tree)

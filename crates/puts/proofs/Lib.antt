@@ -1,4 +1,0 @@
-pub mod Parted
-pub mod Stored
-pub mod Storing
-pub mod Left

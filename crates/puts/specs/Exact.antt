@@ -1,8 +1,0 @@
--- What is computed is what the words say.
-use Rattle.std.specs.Prelude.{◌↔◌, ℕ, IsTrue}
-use Rattle.route_tree.specs.Plan.{Plan, IsGood}
-use Rattle.puts.specs.Puts.{Puts}
-use Rattle.puts.specs.Computed.{puts}
-
-abbrev pub PutsIsExact : Type 0
-PutsIsExact = (plain : Plan) (s : ℕ) → IsGood plain → IsTrue (puts plain s) ↔ Puts plain s

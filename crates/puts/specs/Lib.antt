@@ -1,3 +1,0 @@
-pub mod Puts
-pub mod Computed
-pub mod Exact

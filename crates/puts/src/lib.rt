@@ -1,7 +1,0 @@
-//! On which servers a plain tree's commands may leave an item where nothing was held.
-#![tactic(auto)]
-
-pub mod laws;
-pub mod putting;
-
-pub use putting::puts;

@@ -1,5 +1,0 @@
-use Rattle.replay.proofs.Printing.{has_reloads}
-use Rattle.replay.proofs.replaying.replay_events.Goals as goal
-
-pub replay_read-requires-clause-reloads : goal.replay_read-requires-clause-reloads
-replay_read-requires-clause-reloads g c = has_reloads c.read_events.result c.read_events.ensures.order c.read_events.ensures.chained

@@ -1,5 +1,0 @@
-use Rattle.text_requests.specs.Asks.{IsWalk}
-use Rattle.request_examples.proofs.requests_classic.keys_of_a_line.Given as goal
-
-abbrev pub invariant-loop-key : goal.invariant-loop-key
-invariant-loop-key g l = IsWalk l.bytes l.walk

@@ -1,6 +1,0 @@
-//! Which return flags a meta ask has.
-#![tactic(auto)]
-
-mod wanted;
-
-pub use wanted::Wanted;

@@ -1,0 +1,36 @@
+-- Addresses of servers. Source: mcgate's own.
+use Rattle.std.specs.Prelude.{ℕ, ◌^◌, ◌==◌, ◌&&◌, List, [], ◌∷◌, length, nat_lt, nat_le, Bool, false, Option, Some, None, if◌then◌else◌}
+use Rattle.std.specs.List.{list_all}
+use Rattle.text_words.specs.Number.{number_below}
+
+-- a byte that an address may have
+abbrev pub is_printable : ℕ → Bool
+is_printable b = nat_lt 32 b && nat_lt b 127
+
+-- the parts around a colon: one further on, or here
+abbrev pub colon_or : Option (List ℕ × List ℕ) → ℕ → List ℕ → Option (List ℕ × List ℕ)
+colon_or (Some p) x xs = Some (x ∷ p.0, p.1)
+colon_or None x xs = if x == 58 then Some ([], xs) else None
+
+-- what stands before the last colon and what stands after it, where there is a colon
+abbrev pub around_colon : List ℕ → Option (List ℕ × List ℕ)
+around_colon [] = None
+around_colon (x ∷ xs) = colon_or (around_colon xs) x xs
+
+-- 1..=65535
+abbrev pub is_port_number : Option ℕ → Bool
+is_port_number None = false
+is_port_number (Some n) = nat_lt 0 n && nat_lt n 65536
+
+-- a port of 1 to 5 digits
+abbrev pub is_port : List ℕ → Bool
+is_port digits = nat_le (length digits) 5 && is_port_number (number_below (2 ^ 32) digits)
+
+-- something before a colon and a port after it
+abbrev pub is_host_and_port : Option (List ℕ × List ℕ) → Bool
+is_host_and_port None = false
+is_host_and_port (Some p) = nat_lt 0 (length p.0) && is_port p.1
+
+-- 3 to 255 bytes, each 33..=126, with a port after the last colon and something before it
+abbrev pub is_address : List ℕ → Bool
+is_address a = nat_le 3 (length a) && nat_le (length a) 255 && list_all is_printable a && is_host_and_port (around_colon a)

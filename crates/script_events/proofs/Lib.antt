@@ -1,0 +1,10 @@
+pub mod Places
+pub mod CacheLosses
+pub mod Losses
+pub mod Cuts
+pub mod Calls
+pub mod Found
+pub mod Steps
+pub mod BadEvents
+pub mod Due
+pub mod Quiet

@@ -1,0 +1,63 @@
+-- The caches of servers by their places, what a loss leaves of them, and which losses are named for a call. Source: mcgate's own.
+use Rattle.std.specs.Prelude.{ℕ, zero, suc, List, [], ◌∷◌, Option, Some, None, Vec}
+use Rattle.std.specs.Ordering.{nat_cmp}
+use Rattle.std.specs.BTreeMap.{BTreeMap, get}
+use Rattle.std.specs.declared.alloc.Global.{Global}
+use Rattle.mc_types.specs.Items.{Item}
+use Rattle.fresh_runs.specs.Run.{Event, Loses, Restarts}
+use Rattle.cache_server.specs.Contents.{Contents, losing, restarted}
+use Rattle.cache_server.specs.Held as cache
+use Rattle.script_events.specs.declared.servers.event.Loss.{Loss}
+use Rattle.script_events.specs.declared.servers.event.Loss.TheVariants as losses
+
+-- a loss, as an event of a run
+abbrev pub loss_of : Loss → Event
+loss_of (losses.Item server key) = Loses server key
+loss_of (losses.Restart server) = Restarts server
+
+-- the server of a loss
+abbrev pub server_of : Loss → ℕ
+server_of (losses.Item server key) = server
+server_of (losses.Restart server) = server
+
+-- what the cache at a place holds of a key
+abbrev pub held_at : List Contents → ℕ → List ℕ → Option Item
+held_at [] s k = None
+held_at (c ∷ caches) zero k = cache.holds c k
+held_at (c ∷ caches) (suc s) k = held_at caches s k
+
+-- what a loss leaves of the cache of its server
+abbrev pub plain_for : Event → Contents → Contents
+plain_for (Loses server key) c = losing c key
+plain_for (Restarts server) c = restarted c
+plain_for _ c = c
+
+-- the server of a loss
+abbrev pub place_of : Event → ℕ
+place_of (Loses server key) = server
+place_of (Restarts server) = server
+place_of _ = 0
+
+-- the cache at a place is changed, where there is one
+abbrev pub changed_at : ℕ → (Contents → Contents) → List Contents → List Contents
+changed_at s change [] = []
+changed_at zero change (c ∷ caches) = change c ∷ caches
+changed_at (suc s) change (c ∷ caches) = c ∷ changed_at s change caches
+
+-- what a loss leaves of the caches
+abbrev pub after_loss : Event → List Contents → List Contents
+after_loss loss caches = changed_at (place_of loss) (plain_for loss) caches
+
+-- what losses leave of them, the first one first
+abbrev pub lost_in : List Event → List Contents → List Contents
+lost_in [] caches = caches
+lost_in (loss ∷ more) caches = lost_in more (after_loss loss caches)
+
+-- the losses of an entry
+abbrev pub losses_of : Option (Vec Loss Global) → List Loss
+losses_of None = []
+losses_of (Some named) = named.items
+
+-- those that are named for the call of this number, in order
+abbrev pub listed : BTreeMap ℕ (Vec Loss Global) → ℕ → List Loss
+listed named t = losses_of (get nat_cmp named t)

@@ -1,0 +1,12 @@
+pub mod Caches
+pub mod Losing
+pub mod Limits
+pub mod Cutting
+pub mod Calling
+pub mod Servers
+pub mod Found
+pub mod Law
+pub mod Scripted
+pub mod Bad
+pub mod Opening
+pub mod Reloads

@@ -1,0 +1,138 @@
+-- A script that steps its calls, by trees that the gate accepted, has a fresh run.
+use Rattle.std.proofs.Common.{◌≡◌, ℕ, zero, suc, ◌+◌, ◌-◌, ◌<◌, ◌≤◌, Bool, true, false, cond, List, [], ◌∷◌, length, map, nat_lt, slice_get, Option, Some, None, refl, sym, ap, ◌∙◌, subst, arith}
+use Rattle.std.proofs.lemmas.Bool.{ltb-true, lt-ltb}
+use Rattle.fresh_runs.specs.Cover.{IsCovered}
+use Rattle.fresh_runs.specs.Log.{Shown}
+use Rattle.fresh_runs.specs.Overlap.{Entry, run_of}
+use Rattle.fresh_runs.specs.Sharing.{AreAlone, LosesOnly, IsFreshByNumber}
+use Rattle.fresh_runs.proofs.SharingFresh.{fresh_by_number}
+use Rattle.fresh_runs.proofs.SharingStale.{counts_stale}
+use Rattle.route_tree.specs.At.{tree_at}
+use Rattle.route_tree.specs.Plan.{Plan}
+use Rattle.route_tree.specs.Route.{Route}
+use Rattle.route_tree.specs.Word.{tree_words}
+use Rattle.core_proxy.specs.Claims.{bars_by}
+use Rattle.core_proxy.specs.CoreState.{dialect}
+use Rattle.core_commands.specs.declared.sharing.Sharing.TheVariants.{Alone}
+use Rattle.route_json.specs.Configuration.{Configuration}
+use Rattle.gate_check.specs.Sound.{AreGenerations, GenerationsAreFresh, IsLast, trees_of}
+use Rattle.script_events.specs.declared.script.Reload.{Reload}
+use Rattle.script_events.specs.declared.script.Report.{Report}
+use Rattle.script_events.specs.declared.script.Transcript.{Transcript}
+use Rattle.script_events.specs.declared.script.DriveFault.{DriveFault}
+use Rattle.script_events.specs.declared.script.DriveFault.TheVariants.{BadEvent, NoMemory, Spent}
+use Rattle.script_events.specs.Scripted.{Scripted, transcript_of}
+use Rattle.script_events.specs.Opening.{opening_of}
+use Rattle.script_events.specs.Reloads.{one_more, tree_after}
+use Rattle.script_events.specs.Reloads as reloads
+use Rattle.script_run.specs.Standing.{tree_by}
+use Rattle.script_events.specs.declared.servers.servers.ScriptServers.{ScriptServers}
+use Rattle.script_run.specs.Driving.{one_loaded, trees_loaded, loaded_trees, RunsBy, DrivesStepped, StepsPart, EndsStepped}
+use Rattle.script_run.specs.declared.accepted.judging.Loading.{Loading}
+use Rattle.script_run.specs.Reloads.{Judges, is_refused}
+use Rattle.script_run.specs.Stepped.{StepsFreshly, StepsPartFreshly, EndsSteps}
+use Rattle.script_run.proofs.Loadings.{accepted_in, accepted_rise, loaded_at}
+
+-- ---- the tree of a command, by how many reloads had come when it began
+
+record HaveCome (first : Route) (refused : List Bool) (rs : List Reload) (loads : List (ℕ × Route)) (many : ℕ) : Type 0 where
+  at : ℕ → ℕ
+  within : (n : ℕ) → at n ≤ many
+  tree : (n : ℕ) → tree_by first loads n ≡ tree_after first refused rs (at n)
+  rising : (n m : ℕ) → n < m → at n ≤ at m
+
+none_some : (t : Route) (ts : List Route) → t ∷ ts ≡ [] → ⊥
+none_some t ts e = cc
+
+same_head : (t u : Route) (ts us : List Route) → t ∷ ts ≡ u ∷ us → t ≡ u
+same_head t u ts us e = cc
+
+same_tail : (t u : Route) (ts us : List Route) → t ∷ ts ≡ u ∷ us → ts ≡ us
+same_tail t u ts us e = cc
+
+module _ (first : Route) (refused : List Bool) (rs : List Reload) where
+  -- one more that loads no tree
+  come_more : (loads : List (ℕ × Route)) (many : ℕ) → HaveCome first refused rs loads many → HaveCome first refused rs loads (suc many)
+  come_more loads many p = record { at = p.at; within = λ n. let le = p.within n in omega (arith, le); tree = p.tree; rising = p.rising }
+
+  at_most : (b : Bool) (many k : ℕ) → k ≤ many → cond b (suc many) k ≤ suc many
+  at_most true many k le = omega arith
+  at_most false many k le = omega (arith, le)
+
+  -- one more that loads one
+  come_loaded : (load : ℕ × Route) (loads : List (ℕ × Route)) (many : ℕ) → load.1 ≡ tree_after first refused rs (suc many) → HaveCome first refused rs loads many → HaveCome first refused rs (load ∷ loads) (suc many)
+  come_loaded load loads many is p = record {
+    at = λ n. cond (nat_lt load.0 n) (suc many) (p.at n);
+    within = λ n. at_most (nat_lt load.0 n) many (p.at n) (p.within n);
+    tree = λ n. by_tree n (nat_lt load.0 n);
+    rising = λ n m lt. by_rise n m lt (nat_lt load.0 n) refl;
+  }
+    where
+      by_tree : (n : ℕ) (b : Bool) → cond b load.1 (tree_by first loads n) ≡ tree_after first refused rs (cond b (suc many) (p.at n))
+      by_tree n true = is
+      by_tree n false = p.tree n
+
+      rest : (b : Bool) (k j : ℕ) → k ≤ j → k ≤ many → k ≤ cond b (suc many) j
+      rest true k j le few = omega (arith, few)
+      rest false k j le few = le
+
+      by_rise : (n m : ℕ) → n < m → (b : Bool) → nat_lt load.0 n ≡ b → cond b (suc many) (p.at n) ≤ cond (nat_lt load.0 m) (suc many) (p.at m)
+      by_rise n m lt true e =
+          let below = ltb-true load.0 n e in
+          subst (λ (b : Bool). suc many ≤ cond b (suc many) (p.at m)) (sym (lt-ltb load.0 m (omega (arith, below, lt)))) (omega arith)
+      by_rise n m lt false e = rest (nat_lt load.0 m) (p.at n) (p.at m) (p.rising n m lt) (p.within n)
+
+  have_come : (many : ℕ) (loads : List (ℕ × Route)) → loaded_trees loads ≡ trees_loaded refused rs many → HaveCome first refused rs loads many
+  have_come zero [] e = record { at = λ n. zero; within = λ n. omega arith; tree = λ n. refl; rising = λ n m lt. omega arith }
+  have_come zero (load ∷ loads) e = absurd (none_some load.1 (loaded_trees loads) e)
+  have_come (suc many) loads e = by (λ ls is. have_come many ls is) (reloads.is_refused (slice_get refused many)) refl (slice_get rs many) refl loads e
+    where
+      by :
+          ((ls : List (ℕ × Route)) → loaded_trees ls ≡ trees_loaded refused rs many → HaveCome first refused rs ls many)
+          → (b : Bool) → reloads.is_refused (slice_get refused many) ≡ b → (o : Option Reload) → slice_get rs many ≡ o → (ls : List (ℕ × Route))
+          → loaded_trees ls ≡ one_loaded b o (trees_loaded refused rs many) → HaveCome first refused rs ls (suc many)
+      by before true eb o eo ls is = come_more ls many (before ls is)
+      by before false eb None eo ls is = come_more ls many (before ls is)
+      by before false eb (Some r) eo [] is = absurd (none_some r.config.tree (trees_loaded refused rs many) (sym is))
+      by before false eb (Some r) eo (load ∷ ls) is =
+          come_loaded load ls many
+          (same_head load.1 r.config.tree (loaded_trees ls) (trees_loaded refused rs many) is
+          ∙ sym (ap (λ b. one_more b (slice_get rs many) (tree_after first refused rs many)) eb ∙ ap (λ o. one_more false o (tree_after first refused rs many)) eo))
+          (before ls (same_tail load.1 r.config.tree (loaded_trees ls) (trees_loaded refused rs many) is))
+
+-- ---- freshness
+
+-- each command has its key alone
+alone : (plans : ℕ → List ℕ → Plan) → AreAlone (bars_by Alone plans)
+alone plans number other ask client same = (refl, refl)
+
+module _ (law : GenerationsAreFresh) (configs configs' : List Configuration) (rs : List Reload) (ls : List Loading) (c : Configuration) (events : List Scripted) (judged : Judges configs rs ls configs') (are : AreGenerations (trees_of configs')) (some : 0 < length configs) (last : IsLast configs c) where
+  -- what a delete clears is all that later commands take, whichever trees the two run by
+  steps_covered : (many : ℕ) (loads : List (ℕ × Route)) → loaded_trees loads ≡ trees_loaded (map is_refused ls) rs many → IsCovered (tree_words (λ n key. tree_at (tree_by c.tree loads n) key))
+  steps_covered many loads is =
+      let come = have_come c.tree (map is_refused ls) rs many loads is in
+      (law (trees_of configs') are).1 (tree_by c.tree loads)
+      (record {
+        generation = λ n. (length configs - 1) + accepted_in ls (come.at n);
+        loaded = λ n. loaded_at configs configs' rs ls c judged some last (come.at n) ∙ ap Some (sym (come.tree n));
+        rising = λ n m lt. let h = accepted_rise ls (come.at n) (come.at m) (come.rising n m lt) in omega (arith, h);
+      })
+
+  steps_fresh : (many : ℕ) (loads : List (ℕ × Route)) (log : List (Entry dialect)) → loaded_trees loads ≡ trees_loaded (map is_refused ls) rs many → LosesOnly (run_of log) → RunsBy c.tree loads events log → IsFreshByNumber (opening_of events) (run_of log)
+  steps_fresh many loads log is lost run =
+      let plans : ℕ → List ℕ → Plan = λ n key. tree_at (tree_by c.tree loads n) key in
+      fresh_by_number (tree_words plans) (bars_by Alone plans) (steps_covered many loads is) (alone plans) (opening_of events) (run_of log) lost run
+
+  pub steps_freshly : (given : List Shown) (marks : List ℕ) (report : Report) → DrivesStepped c.tree (map is_refused ls) rs events given marks report → StepsFreshly c.tree ls rs events given marks report
+  steps_freshly given marks report d =
+      let plans : ℕ → List ℕ → Plan = λ n key. tree_at (tree_by c.tree d.loads n) key in
+      let by : IsFreshByNumber (opening_of events) (run_of d.log) = steps_fresh (length rs) d.loads d.log d.loads_are d.loses d.run in
+      record { drives = d; fresh = by; none_stale = d.stale ∙ (counts_stale (tree_words plans) (bars_by Alone plans) (opening_of events) (alone plans)).none (run_of d.log) d.run by }
+
+  part_freshly : (given : List Shown) (marks : List ℕ) (servers : ScriptServers) → StepsPart c.tree (map is_refused ls) rs events given marks servers → StepsPartFreshly c.tree ls rs events given marks servers
+  part_freshly given marks servers p = record { part = p; fresh = steps_fresh p.loaded p.loads p.log p.loads_are p.loses p.run }
+
+  pub ends_steps : (t : Transcript) (marks : List ℕ) (before after : ScriptServers) (fault : DriveFault) → EndsStepped c.tree (map is_refused ls) rs events t marks before after fault → EndsSteps c.tree ls rs events t marks before after fault
+  ends_steps t marks before after (BadEvent index) e = e
+  ends_steps t marks before after NoMemory e = part_freshly (transcript_of t) marks after e
+  ends_steps t marks before after Spent e = (record { part = e.0; fresh = steps_fresh e.0.loaded e.0.loads e.0.log e.0.loads_are e.0.loses e.0.run }, e.1)

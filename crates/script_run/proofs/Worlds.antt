@@ -1,0 +1,172 @@
+-- The world of a log goes on by events and by results, and which results an event brings.
+use Rattle.std.proofs.Common.{◌≡◌, ℕ, List, [], ◌∷◌, ◌++◌, map, Option, refl, sym, ap, ◌∙◌, subst, append_assoc}
+use Rattle.std.proofs.lemmas.List.{map-append}
+use Rattle.mc_types.specs.Items.{Item}
+use Rattle.fresh_runs.specs.Overlap.{Entry, Ticket, run_of, out_of}
+use Rattle.route_tree.specs.Route.{Route}
+use Rattle.core_proxy.specs.CoreState.{dialect}
+use Rattle.script_events.specs.Scripted.{Scripted, Piece, Add, Result, Fail, Hold, At, Now, Moment}
+use Rattle.script_events.specs.declared.servers.servers.ScriptServers.{ScriptServers}
+use Rattle.script_run.specs.Results.{CallResult, AreOfFirst, NumberedCall, AreGiven, call_of, calls_of}
+use Rattle.script_run.specs.Standing.{Stands}
+use Rattle.script_run.specs.Running.{kept_of, AreOfOne}
+use Rattle.script_run.specs.declared.driver.runner.Runner.{Runner}
+use Rattle.script_run.specs.Driving.{HasNoResult, FirstHasResult, BringsResults, BringsSome}
+use Rattle.script_run.specs.World.{Deed, Takes, Ends, Gives, Changes, LeadTo, AreMany, IsAwaited, AreInTurn, World, script_of, results_of}
+use Rattle.script_run.proofs.DriverRunning.{in_turn_on}
+use Rattle.script_run.specs.Stepping.{HasCalls, AreFit, AreAskedBy, TakesTurns}
+
+-- results after deeds, the latest first
+abbrev then_given : List CallResult → List Deed → List Deed
+then_given [] deeds = deeds
+then_given (r ∷ rs) deeds = Gives r ∷ then_given rs deeds
+
+script_same : (rs : List CallResult) (deeds : List Deed) → script_of (then_given rs deeds) ≡ script_of deeds
+script_same [] deeds = refl
+script_same (r ∷ rs) deeds = script_same rs deeds
+
+results_more : (rs : List CallResult) (deeds : List Deed) → results_of (then_given rs deeds) ≡ rs ++ results_of deeds
+results_more [] deeds = refl
+results_more (r ∷ rs) deeds = ap (λ (l : List CallResult). r ∷ l) (results_more rs deeds)
+
+led_on : (events : List Scripted) (rs : List CallResult) (deeds : List Deed) (old new : ScriptServers) → LeadTo events deeds old → AreGiven rs old new → LeadTo events (then_given rs deeds) new
+led_on events [] deeds old new lead given = subst (LeadTo events deeds) (sym given) lead
+led_on events (r ∷ rs) deeds old new lead given = (given.0, led_on events rs deeds old given.0 lead given.1, given.2, given.3)
+
+-- after deeds of this kind come as many results as there are
+record AreOpen (deeds : List Deed) : Type 0 where
+  pub many : AreMany deeds
+  pub awaited : (r : CallResult) → IsAwaited r deeds
+
+still_many : (rs : List CallResult) (deeds : List Deed) → AreMany deeds → AreMany (then_given rs deeds)
+still_many [] deeds h = h
+still_many (r ∷ rs) deeds h = still_many rs deeds h
+
+awaited_then : (r : CallResult) (rs : List CallResult) (deeds : List Deed) → AreOpen deeds → IsAwaited r (then_given rs deeds)
+awaited_then r [] deeds h = h.awaited r
+awaited_then r (s ∷ rs) deeds h = still_many rs deeds h.many
+
+turns_on : (rs : List CallResult) (deeds : List Deed) → AreOpen deeds → AreInTurn deeds → AreInTurn (then_given rs deeds)
+turns_on [] deeds h turns = turns
+turns_on (r ∷ rs) deeds h turns = (awaited_then r rs deeds h, turns_on rs deeds h turns)
+
+-- the results that an event asks for
+turns_fit : (event : Scripted) (rs : List CallResult) (deeds : List Deed) → AreFit event rs → AreInTurn deeds → AreInTurn (then_given rs (Takes event ∷ deeds))
+turns_fit (Piece client bytes) rs deeds fit turns = turns_on rs (Takes (Piece client bytes) ∷ deeds) (record { many = tt; awaited = λ r. tt }) turns
+turns_fit (Result server) rs deeds fit turns = by rs fit
+  where
+    by : (rs : List CallResult) → AreOfOne server rs → AreInTurn (then_given rs (Takes (Result server) ∷ deeds))
+    by [] one = turns
+    by (r ∷ []) one = (one, turns)
+    by (r ∷ s ∷ more) one = absurd one
+turns_fit (Add client bytes) rs deeds fit turns = subst (λ (l : List CallResult). AreInTurn (then_given l (Takes (Add client bytes) ∷ deeds))) (sym fit) turns
+turns_fit (Fail turn manner) rs deeds fit turns = subst (λ (l : List CallResult). AreInTurn (then_given l (Takes (Fail turn manner) ∷ deeds))) (sym fit) turns
+turns_fit (Hold server key content) rs deeds fit turns = subst (λ (l : List CallResult). AreInTurn (then_given l (Takes (Hold server key content) ∷ deeds))) (sym fit) turns
+turns_fit (At turn loss) rs deeds fit turns = subst (λ (l : List CallResult). AreInTurn (then_given l (Takes (At turn loss) ∷ deeds))) (sym fit) turns
+turns_fit (Now loss) rs deeds fit turns = subst (λ (l : List CallResult). AreInTurn (then_given l (Takes (Now loss) ∷ deeds))) (sym fit) turns
+turns_fit (Moment moment) rs deeds fit turns = subst (λ (l : List CallResult). AreInTurn (then_given l (Takes (Moment moment) ∷ deeds))) (sym fit) turns
+
+calls_then : (rs : List CallResult) (deeds : List Deed) (more log : List (Entry dialect)) → map call_of (results_of deeds) ≡ calls_of (run_of log) → HasCalls rs more log → map call_of (results_of (then_given rs deeds)) ≡ calls_of (run_of (more ++ log))
+calls_then rs deeds more log same has =
+    ap (map call_of) (results_more rs deeds) ∙ map-append call_of rs (results_of deeds) ∙ ap (λ (cs : List NumberedCall). map call_of rs ++ cs) same ∙ sym has
+
+module _ (events done : List Scripted) (log more : List (Entry dialect)) where
+  -- the next event, and its results
+  pub world_next :
+      (event : Scripted) (rs : List CallResult) (old mid new : ScriptServers) → World events done log old → Changes event old mid → AreGiven rs mid new → AreFit event rs → HasCalls rs more log
+      → World events (done ++ event ∷ []) (more ++ log) new
+  world_next event rs old mid new w changes given fit has =
+      record {
+        deeds = then_given rs (Takes event ∷ w.deeds);
+        script_is = script_same rs (Takes event ∷ w.deeds) ∙ ap (λ (l : List Scripted). l ++ event ∷ []) w.script_is;
+        lead = led_on events rs (Takes event ∷ w.deeds) mid new (old, w.lead, changes) given;
+        in_turn = turns_fit event rs w.deeds fit w.in_turn;
+        calls = calls_then rs (Takes event ∷ w.deeds) more log w.calls has;
+      }
+
+  -- the script's end, and the results of what is still out
+  pub world_ended : (rs : List CallResult) (old new : ScriptServers) → World events done log old → AreGiven rs old new → HasCalls rs more log → World events done (more ++ log) new
+  world_ended rs old new w given has =
+      record {
+        deeds = then_given rs (Ends ∷ w.deeds);
+        script_is = script_same rs (Ends ∷ w.deeds) ∙ w.script_is;
+        lead = led_on events rs (Ends ∷ w.deeds) old new w.lead given;
+        in_turn = turns_on rs (Ends ∷ w.deeds) (record { many = tt; awaited = λ r. tt }) w.in_turn;
+        calls = calls_then rs (Ends ∷ w.deeds) more log w.calls has;
+      }
+
+  -- no call had its result
+  pub world_stays : (servers : ScriptServers) → World events done log servers → calls_of (run_of (more ++ log)) ≡ calls_of (run_of log) → World events done (more ++ log) servers
+  world_stays servers w same = record { deeds = w.deeds; script_is = w.script_is; lead = w.lead; in_turn = w.in_turn; calls = w.calls ∙ sym same }
+
+-- ---- which results an event brings
+
+-- none came
+pub none_had : (rs : List CallResult) (more log : List (Entry dialect)) → rs ≡ [] → HasCalls rs more log → HasNoResult log (more ++ log)
+none_had rs more log none has = has ∙ ap (λ (l : List CallResult). map call_of l ++ calls_of (run_of log)) none
+
+-- that of the first call came
+first_had : (server : ℕ) (calls : List Ticket) (rs : List CallResult) (more log : List (Entry dialect)) → AreOfFirst server calls rs → HasCalls rs more log → FirstHasResult server calls log (more ++ log)
+first_had server [] rs more log of has = none_had rs more log of has
+first_had server (call ∷ calls) rs more log of has =
+    let r = of.0 in
+    let outcome = r.made.outcome in
+    let past = calls_of (run_of log) in (
+      outcome,
+      has ∙ ap (λ (l : List CallResult). map call_of l ++ past) of.1
+          ∙ ap (λ (s : ℕ). record { number = r.number; call = record { server = s; ask = r.ask; origin = r.origin; outcome = outcome } } ∷ past) of.2.server_is
+          ∙ ap (λ (t : Ticket). record { number = t.number; call = record { server = server; ask = t.ask; origin = t.origin; outcome = outcome } } ∷ past) of.2.call_is,
+    )
+
+-- those that it asks for come, of a piece in whichever turn
+pub brought_some :
+    (event : Scripted) (rs : List CallResult) (a : Runner) (s : ScriptServers) (opening : ℕ → List ℕ → Option Item) (tree : ℕ → Route) (more log : List (Entry dialect)) → Stands opening tree log (kept_of a s)
+    → AreFit event rs → AreAskedBy event a s rs → HasCalls rs more log → BringsSome event log (more ++ log)
+brought_some (Piece client bytes) rs a s opening tree more log stands fit asked has = tt
+brought_some (Add client bytes) rs a s opening tree more log stands fit asked has = none_had rs more log fit has
+brought_some (Result server) rs a s opening tree more log stands fit asked has = first_had server (out_of log server) rs more log (asked.first opening tree log stands) has
+brought_some (Fail turn manner) rs a s opening tree more log stands fit asked has = none_had rs more log fit has
+brought_some (Hold server key content) rs a s opening tree more log stands fit asked has = none_had rs more log fit has
+brought_some (At turn loss) rs a s opening tree more log stands fit asked has = none_had rs more log fit has
+brought_some (Now loss) rs a s opening tree more log stands fit asked has = none_had rs more log fit has
+brought_some (Moment moment) rs a s opening tree more log stands fit asked has = none_had rs more log fit has
+
+-- those that it asks for come
+pub brought :
+    (event : Scripted) (rs : List CallResult) (a : Runner) (s : ScriptServers) (opening : ℕ → List ℕ → Option Item) (tree : ℕ → Route) (more log : List (Entry dialect)) → Stands opening tree log (kept_of a s)
+    → AreFit event rs → AreAskedBy event a s rs → HasCalls rs more log → TakesTurns event rs more log → BringsResults event log (more ++ log)
+brought (Piece client bytes) rs a s opening tree more log stands fit asked has turns = record { results = rs; more = more; goes = refl; calls = has; in_turn = turns }
+brought (Add client bytes) rs a s opening tree more log stands fit asked has turns = brought_some (Add client bytes) rs a s opening tree more log stands fit asked has
+brought (Result server) rs a s opening tree more log stands fit asked has turns = brought_some (Result server) rs a s opening tree more log stands fit asked has
+brought (Fail turn manner) rs a s opening tree more log stands fit asked has turns = brought_some (Fail turn manner) rs a s opening tree more log stands fit asked has
+brought (Hold server key content) rs a s opening tree more log stands fit asked has turns = brought_some (Hold server key content) rs a s opening tree more log stands fit asked has
+brought (At turn loss) rs a s opening tree more log stands fit asked has turns = brought_some (At turn loss) rs a s opening tree more log stands fit asked has
+brought (Now loss) rs a s opening tree more log stands fit asked has turns = brought_some (Now loss) rs a s opening tree more log stands fit asked has
+brought (Moment moment) rs a s opening tree more log stands fit asked has turns = brought_some (Moment moment) rs a s opening tree more log stands fit asked has
+
+-- so they do where it isn't said in which turn
+pub some_brought : (event : Scripted) (before after : List (Entry dialect)) → BringsResults event before after → BringsSome event before after
+some_brought (Piece client bytes) before after h = tt
+some_brought (Add client bytes) before after h = h
+some_brought (Result server) before after h = h
+some_brought (Fail turn manner) before after h = h
+some_brought (Hold server key content) before after h = h
+some_brought (At turn loss) before after h = h
+some_brought (Now loss) before after h = h
+some_brought (Moment moment) before after h = h
+
+-- and where no call has its result later, the event brings the same
+first_still : (server : ℕ) (calls : List Ticket) (log mid after : List (Entry dialect)) → HasNoResult mid after → FirstHasResult server calls log mid → FirstHasResult server calls log after
+first_still server [] log mid after none h = none ∙ h
+first_still server (call ∷ calls) log mid after none h = (h.0, none ∙ h.1)
+
+pub brought_still : (event : Scripted) (log mid newer : List (Entry dialect)) → HasNoResult mid (newer ++ mid) → BringsResults event log mid → BringsResults event log (newer ++ mid)
+brought_still (Piece client bytes) log mid newer none h =
+    record { results = h.results; more = newer ++ h.more; goes = ap (λ l. newer ++ l) h.goes ∙ sym (append_assoc newer h.more log); calls = none ∙ h.calls; in_turn = in_turn_on h.results newer h.more log h.in_turn }
+brought_still (Add client bytes) log mid newer none h = none ∙ h
+brought_still (Result server) log mid newer none h = first_still server (out_of log server) log mid (newer ++ mid) none h
+brought_still (Fail turn manner) log mid newer none h = none ∙ h
+brought_still (Hold server key content) log mid newer none h = none ∙ h
+brought_still (At turn loss) log mid newer none h = none ∙ h
+brought_still (Now loss) log mid newer none h = none ∙ h
+brought_still (Moment moment) log mid newer none h = none ∙ h

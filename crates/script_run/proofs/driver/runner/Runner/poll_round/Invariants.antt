@@ -1,0 +1,12 @@
+use Rattle.std.proofs.Common.{◌≡◌}
+use Rattle.script_events.specs.declared.servers.servers.ScriptServers.{ScriptServers}
+use Rattle.script_run.specs.Progressing.{AreStillBelow}
+use Rattle.script_run.specs.Running.{Moves}
+use Rattle.script_run.proofs.driver.runner.Runner.poll_round.Given as goal
+
+abbrev pub invariant-loop-client : goal.invariant-loop-client
+invariant-loop-client l = record {
+  moves : (servers : ScriptServers) → Moves l.fn.self servers l.self servers;
+  clients : l.self.clients ≡ l.fn.self.clients;
+  still : AreStillBelow l.progress l.client l.self.core;
+}

@@ -1,0 +1,346 @@
+-- What a script that steps its calls does. Source: mcgate's own.
+use Rattle.std.specs.Prelude.{◌⊎◌, ◌≡◌, ℕ, zero, suc, ◌+◌, ◌<◌, ◌≤◌, ◌^◌, Bool, true, false, List, [], ◌∷◌, ◌++◌, length, map, take, Option, Some, None, slice_get, if◌then◌else◌, nat_eq}
+use Rattle.std.specs.List.{All}
+use Rattle.fresh_runs.specs.Log.{Shown}
+use Rattle.mc_types.specs.declared.call.Outcome.{Outcome}
+use Rattle.fresh_runs.specs.Overlap.{Entry, Ticket, Follows, run_of, front_of, queue_of, output_of, given_of, owner_of, out_of}
+use Rattle.fresh_runs.specs.Protocol.{IsStuck}
+use Rattle.fresh_runs.specs.OverlapStream.{stream_of}
+use Rattle.fresh_runs.specs.OverlapLaws.{WritesAll}
+use Rattle.fresh_runs.specs.Sharing.{Run, LosesOnly, IsFreshByNumber, calls_in, commands_in}
+use Rattle.fresh_runs.specs.SharingStale.{stale_in}
+use Rattle.route_tree.specs.At.{tree_at}
+use Rattle.route_tree.specs.Direct.{is_direct}
+use Rattle.route_tree.specs.Route.{Route}
+use Rattle.route_tree.specs.Word.{tree_words}
+use Rattle.core_proxy.specs.Claims.{bars_by}
+use Rattle.core_proxy.specs.CoreState.{dialect}
+use Rattle.core_proxy.specs.Polls.{IsStalled}
+use Rattle.core_commands.specs.declared.sharing.Sharing.TheVariants.{Alone}
+use Rattle.script_events.specs.declared.script.Reload.{Reload}
+use Rattle.script_events.specs.declared.script.Transcript.{Transcript}
+use Rattle.script_events.specs.declared.script.Report.{Report}
+use Rattle.script_events.specs.declared.script.DriveFault.{DriveFault}
+use Rattle.script_events.specs.declared.script.DriveFault.TheVariants.{BadEvent, NoMemory, Spent}
+use Rattle.script_events.specs.Scripted.{Scripted, Piece, Add, Result, Fail, Hold, At, Now, Moment, transcript_of}
+use Rattle.script_events.specs.Opening.{opening_of}
+use Rattle.script_events.specs.Reloads.{is_refused}
+use Rattle.script_events.specs.Limits.{last_turn}
+use Rattle.core_proxy.specs.declared.limits.TheConstants.{LAST_COMMAND}
+use Rattle.script_events.specs.Servers.{turn_of}
+use Rattle.script_events.specs.declared.servers.servers.ScriptServers.{ScriptServers}
+use Rattle.script_run.specs.Results.{CallResult, call_of, calls_of}
+use Rattle.script_run.specs.Turns.{AreInTurn}
+use Rattle.script_run.specs.Standing.{Kept, Stands, replied_in, tree_by}
+use Rattle.script_run.specs.World.{World}
+
+-- ---- what a script says
+
+-- the bytes that an event says for a client
+abbrev pub said_by : Scripted → ℕ → List ℕ
+said_by (Piece client bytes) c = if nat_eq client c then bytes else []
+said_by (Add client bytes) c = if nat_eq client c then bytes else []
+said_by (Result server) c = []
+said_by (Fail turn manner) c = []
+said_by (Hold server key content) c = []
+said_by (At turn loss) c = []
+said_by (Now loss) c = []
+said_by (Moment moment) c = []
+
+-- all bytes that events say for a client, in order
+abbrev pub said_in : List Scripted → ℕ → List ℕ
+said_in [] c = []
+said_in (event ∷ events) c = said_by event c ++ said_in events c
+
+-- all bytes that a client was given, in order
+abbrev pub shown_to : List Shown → ℕ → List ℕ
+shown_to [] c = []
+shown_to (shown ∷ more) c = (if nat_eq shown.client c then shown.bytes else []) ++ shown_to more c
+
+-- a part of the log had come, in which clients were given just these outputs
+pub record IsHanded (log : List (Entry dialect)) (outputs : List Shown) : Type 0 where
+  pub newer : List (Entry dialect)
+  pub older : List (Entry dialect)
+  pub log_is : log ≡ newer ++ older
+  pub given : (c : ℕ) → given_of older c ≡ shown_to outputs c
+
+-- outputs were handed out one after another, whichever clients they were for
+abbrev pub AreHandedInTurn : List Shown → List (Entry dialect) → Type 0
+AreHandedInTurn given log = (n : ℕ) → n ≤ length given → IsHanded log (take n given)
+
+-- ---- where nothing is left to do
+
+-- calls may be out after an event: what is added stays out, and so may what comes of a result by hand; after a piece none is
+abbrev pub may_be_out : Scripted → Bool → Bool
+may_be_out (Piece client bytes) before = false
+may_be_out (Add client bytes) before = true
+may_be_out (Result server) before = true
+may_be_out (Fail turn manner) before = before
+may_be_out (Hold server key content) before = before
+may_be_out (At turn loss) before = before
+may_be_out (Now loss) before = before
+may_be_out (Moment moment) before = before
+
+-- so may they after these events, one after another
+abbrev pub leaves_out : Bool → List Scripted → Bool
+leaves_out before [] = before
+leaves_out before (event ∷ events) = leaves_out (may_be_out event before) events
+
+-- nothing is left to do for a client: no whole message of it, no command without a reply, no output that it wasn't given
+pub record IsDoneFor (log : List (Entry dialect)) (c : ℕ) : Type 0 where
+  pub stuck : IsStuck dialect (front_of log c).place
+  pub shown : queue_of log c ≡ []
+  pub given : given_of log c ≡ output_of log c
+
+-- nor for any client that said something in these events, and no command is under way
+pub record IsSettled (events : List Scripted) (log : List (Entry dialect)) : Type 0 where
+  pub clients : (c : ℕ) → (said_in events c ≡ []) ⊎ IsDoneFor log c
+  pub free : (n : ℕ) → owner_of log n ≡ None
+
+-- a core that had done just this log: without a result of a call it could do nothing for a client that said something in these events
+pub record IsStalledIn (events done : List Scripted) (log : List (Entry dialect)) : Type 0 where
+  pub trees : ℕ → Route
+  pub kept : Kept
+  pub stands : Stands (opening_of events) trees log kept
+  pub clients : (c : ℕ) → (said_in done c ≡ []) ⊎ IsStalled kept.core c
+
+-- a part of the log, after the first events of a script: clients had said what these say, and were given the first outputs; servers were what they and the results made of them; nothing more could be done without a result; and unless calls may be out nothing was left to do
+pub record IsThrough (events done : List Scripted) (log : List (Entry dialect)) (given : List Shown) : Type 0 where
+  pub newer : List (Entry dialect)
+  pub older : List (Entry dialect)
+  pub log_is : log ≡ newer ++ older
+  pub shown : ℕ
+  pub within : shown ≤ length given
+  pub streams : (c : ℕ) → stream_of older c ≡ said_in done c
+  pub given_is : (c : ℕ) → given_of older c ≡ shown_to (take shown given) c
+  pub servers : ScriptServers
+  pub world : World events done older servers
+  pub stalled : IsStalledIn events done older
+  pub settled : leaves_out false done ≡ false → IsSettled done older
+
+-- there is such a part after each of so many events
+abbrev pub AreThrough : List Scripted → ℕ → List (Entry dialect) → List Shown → Type 0
+AreThrough events count log given = (n : ℕ) → n ≤ count → IsThrough events (take n events) log given
+
+-- ---- which results come
+
+-- no call had its result between two parts of the log
+abbrev pub HasNoResult : List (Entry dialect) → List (Entry dialect) → Type 0
+HasNoResult before after = calls_of (run_of after) ≡ calls_of (run_of before)
+
+-- of these calls that were out at a server before, in order, the first had its result, and no other call had one; where none was out none had
+abbrev pub FirstHasResult : ℕ → List Ticket → List (Entry dialect) → List (Entry dialect) → Type 0
+FirstHasResult server [] before after = HasNoResult before after
+FirstHasResult server (call ∷ calls) before after =
+    (outcome : Outcome) × (calls_of (run_of after) ≡ record { number = call.number; call = record { server = server; ask = call.ask; origin = call.origin; outcome = outcome } } ∷ calls_of (run_of before))
+
+-- between them results came in their turn, each that of the first call that was out at the least server at which one was
+pub record HasTurns (before after : List (Entry dialect)) : Type 0 where
+  pub results : List CallResult
+  pub more : List (Entry dialect)
+  pub goes : after ≡ more ++ before
+  pub calls : calls_of (run_of after) ≡ map call_of results ++ calls_of (run_of before)
+  pub in_turn : AreInTurn results more before
+
+-- a piece brings as many results as there are, in their turn; where one is asked of a server, the first call that is out there has it; other events bring none
+abbrev pub BringsResults : Scripted → List (Entry dialect) → List (Entry dialect) → Type 0
+BringsResults (Piece client bytes) before after = HasTurns before after
+BringsResults (Add client bytes) before after = HasNoResult before after
+BringsResults (Result server) before after = FirstHasResult server (out_of before server) before after
+BringsResults (Fail turn manner) before after = HasNoResult before after
+BringsResults (Hold server key content) before after = HasNoResult before after
+BringsResults (At turn loss) before after = HasNoResult before after
+BringsResults (Now loss) before after = HasNoResult before after
+BringsResults (Moment moment) before after = HasNoResult before after
+
+-- the same where a fault came before they all had: in which turn those of a piece came isn't said
+abbrev pub BringsSome : Scripted → List (Entry dialect) → List (Entry dialect) → Type 0
+BringsSome (Piece client bytes) before after = Unit {0}
+BringsSome (Add client bytes) before after = HasNoResult before after
+BringsSome (Result server) before after = FirstHasResult server (out_of before server) before after
+BringsSome (Fail turn manner) before after = HasNoResult before after
+BringsSome (Hold server key content) before after = HasNoResult before after
+BringsSome (At turn loss) before after = HasNoResult before after
+BringsSome (Now loss) before after = HasNoResult before after
+BringsSome (Moment moment) before after = HasNoResult before after
+
+-- two parts of the log: one after the events before this one, and a later one after this one too, with what results it brings between them
+pub record IsStep (events done : List Scripted) (event : Scripted) (log : List (Entry dialect)) (given : List Shown) : Type 0 where
+  pub before : IsThrough events done log given
+  pub after : IsThrough events (done ++ event ∷ []) log given
+  pub more : List (Entry dialect)
+  pub goes : after.older ≡ more ++ before.older
+  pub brings : BringsResults event before.older after.older
+
+-- there are such parts for each of so many events
+abbrev pub AreSteps : List Scripted → ℕ → List (Entry dialect) → List Shown → Type 0
+AreSteps events count log given = (n : ℕ) (event : Scripted) → n < count → slice_get events n ≡ Some event → IsStep events (take n events) event log given
+
+-- the log may have gone on by this event, which may have brought its results
+pub record IsStepPart (events done : List Scripted) (event : Scripted) (log : List (Entry dialect)) (given : List Shown) : Type 0 where
+  pub before : IsThrough events done log given
+  pub brings : HasNoResult before.older log ⊎ BringsSome event before.older log
+
+-- ---- reloads' marks
+
+-- a part of the log, before a reload: clients had said what the events before its place say, and were given so many outputs; unless calls may be out nothing was left to do, so that these are all that there were
+pub record IsMarked (events : List Scripted) (log : List (Entry dialect)) (given : List Shown) (place mark : ℕ) : Type 0 where
+  pub newer : List (Entry dialect)
+  pub older : List (Entry dialect)
+  pub log_is : log ≡ newer ++ older
+  pub within : mark ≤ length given
+  pub streams : (c : ℕ) → stream_of older c ≡ said_in (take place events) c
+  pub given_is : (c : ℕ) → given_of older c ≡ shown_to (take mark given) c
+  pub settled : leaves_out false (take place events) ≡ false → IsSettled (take place events) older
+
+-- so it is with each reload that has a mark
+abbrev pub AreMarked : List Scripted → List (Entry dialect) → List Shown → List Reload → List ℕ → Type 0
+AreMarked events log given [] marks = Unit {0}
+AreMarked events log given (r ∷ rs) [] = Unit {0}
+AreMarked events log given (r ∷ rs) (mark ∷ marks) = IsMarked events log given r.at mark × AreMarked events log given rs marks
+
+-- ---- the trees that are loaded
+
+-- the loaded trees after one more reload, the latest first: a refused one loads none
+abbrev pub one_loaded : Bool → Option Reload → List Route → List Route
+one_loaded true reload trees = trees
+one_loaded false None trees = trees
+one_loaded false (Some reload) trees = reload.config.tree ∷ trees
+
+-- the trees that so many reloads loaded, the latest first
+abbrev pub trees_loaded : List Bool → List Reload → ℕ → List Route
+trees_loaded refused reloads zero = []
+trees_loaded refused reloads (suc n) = one_loaded (is_refused (slice_get refused n)) (slice_get reloads n) (trees_loaded refused reloads n)
+
+-- of each tree that was loaded it is known how many commands had begun
+abbrev pub loaded_trees : List (ℕ × Route) → List Route
+loaded_trees loads = map (λ load. load.1) loads
+
+-- ---- logs by these trees
+
+-- the log follows, each command by the tree that was loaded last before it began, and each alone on its key, from what the script put on the servers
+abbrev pub FollowsBy : Route → List (ℕ × Route) → List Scripted → List (Entry dialect) → Type 0
+FollowsBy first loads events log =
+    Follows (tree_words (λ n key. tree_at (tree_by first loads n) key)) (bars_by Alone (λ n key. tree_at (tree_by first loads n) key)) (opening_of events) log
+
+-- its run is a run of these trees
+abbrev pub RunsBy : Route → List (ℕ × Route) → List Scripted → List (Entry dialect) → Type 0
+RunsBy first loads events log =
+    Run (tree_words (λ n key. tree_at (tree_by first loads n) key)) (bars_by Alone (λ n key. tree_at (tree_by first loads n) key)) (opening_of events) (run_of log)
+
+-- a client's stream is its messages and less than a whole one; it was given what they and the replies of their commands show, and nothing else
+abbrev pub IsWritten : Route → List (ℕ × Route) → List Scripted → List (Entry dialect) → ℕ → Type 0
+IsWritten first loads events log c =
+    WritesAll dialect (tree_words (λ n key. tree_at (tree_by first loads n) key)) (bars_by Alone (λ n key. tree_at (tree_by first loads n) key)) (opening_of events) log c
+
+-- where each key has one server and no other tree comes, the run is fresh, whatever the gate would say
+abbrev pub IsFreshIfDirect : Route → List Reload → List Scripted → List (Entry dialect) → Type 0
+IsFreshIfDirect first reloads events log = is_direct first ≡ true → reloads ≡ [] → IsFreshByNumber (opening_of events) (run_of log)
+
+-- a part of the log, before a reload: its clients had said what the events before the reload's place say, and so many commands had begun
+pub record IsReached (log : List (Entry dialect)) (events : List Scripted) (place begun : ℕ) : Type 0 where
+  pub newer : List (Entry dialect)
+  pub older : List (Entry dialect)
+  pub log_is : log ≡ newer ++ older
+  pub streams : (c : ℕ) → stream_of older c ≡ said_in (take place events) c
+  pub begun_is : begun ≡ commands_in (run_of older)
+
+-- a reload that isn't refused came at its place, and its tree was loaded then
+abbrev pub CameSo : Bool → Option Reload → List Scripted → List (Entry dialect) → List (ℕ × Route) → (List (ℕ × Route) → Type 0) → Type 0
+CameSo true reload events log loads Before = Before loads
+CameSo false None events log loads Before = Before loads
+CameSo false (Some reload) events log loads Before =
+    (begun : ℕ) × (earlier : List (ℕ × Route)) × (loads ≡ (begun, reload.config.tree) ∷ earlier) × IsReached log events reload.at begun × Before earlier
+
+-- so did the first so many reloads, and these are the trees that they loaded
+abbrev pub CameInTurn : List Bool → List Reload → List Scripted → List (Entry dialect) → ℕ → List (ℕ × Route) → Type 0
+CameInTurn refused reloads events log zero loads = loads ≡ []
+CameInTurn refused reloads events log (suc n) loads = CameSo (is_refused (slice_get refused n)) (slice_get reloads n) events log loads (CameInTurn refused reloads events log n)
+
+-- there is one log of overlapping commands from what the script put on the servers, each by the tree that was loaded last before it began: its clients say what the script says, event after event, and are given what was handed out, in its order; reloads have their marks, nothing is left to do in the end, and the report counts what is in it
+pub record DrivesStepped (first : Route) (refused : List Bool) (reloads : List Reload) (events : List Scripted) (given : List Shown) (marks : List ℕ) (report : Report) : Type 0 where
+  pub log : List (Entry dialect)
+  -- each loaded tree with how many commands had begun, the latest first
+  pub loads : List (ℕ × Route)
+  pub loads_are : loaded_trees loads ≡ trees_loaded refused reloads (length reloads)
+  pub in_turn : CameInTurn refused reloads events log (length reloads) loads
+  pub follows : FollowsBy first loads events log
+  pub streams : (c : ℕ) → stream_of log c ≡ said_in events c
+  pub given_is : (c : ℕ) → given_of log c ≡ shown_to given c
+  pub order : AreHandedInTurn given log
+  pub through : AreThrough events (length events) log given
+  pub steps : AreSteps events (length events) log given
+  pub marked : AreMarked events log given reloads marks
+  pub settled : IsSettled events log
+  pub written : (c : ℕ) → IsWritten first loads events log c
+  pub commands : report.commands ≡ commands_in (run_of log)
+  -- each of them had its reply
+  pub replied : replied_in (run_of log) ≡ commands_in (run_of log)
+  pub calls : report.calls ≡ calls_in (run_of log)
+  pub run : RunsBy first loads events log
+  -- nobody but the core writes the servers
+  pub loses : LosesOnly (run_of log)
+  pub stale : report.stale ≡ stale_in (opening_of events) (run_of log)
+  pub direct : IsFreshIfDirect first reloads events log
+  -- failures, losses and the time are the script's, and each answer its server's by its table at that time
+  pub servers : ScriptServers
+  pub world : World events events log servers
+
+-- ---- what a fault leaves
+
+-- a beginning of what the next event says was said, after all that earlier ones say
+pub record IsSaid (done next : List Scripted) (log : List (Entry dialect)) (c : ℕ) : Type 0 where
+  pub said : List ℕ
+  pub unsaid : List ℕ
+  pub cut : said_in next c ≡ said ++ unsaid
+  pub stream : stream_of log c ≡ said_in done c ++ said
+
+-- servers have made the calls of the log, or one more
+abbrev pub HaveMade : List (Entry dialect) → ScriptServers → Type 0
+HaveMade log servers = (turn_of servers ≡ calls_in (run_of log)) ⊎ (turn_of servers ≡ calls_in (run_of log) + 1)
+
+-- the world of a log is what these events, and the next one where it had come, make of it
+abbrev pub HasWorldOf : List Scripted → List Scripted → List Scripted → List (Entry dialect) → Type 0
+HasWorldOf events done next log = (at : ScriptServers) × (World events done log at ⊎ World events (done ++ next) log at)
+
+-- the same of what was done until a fault: these events were done, at most one more had begun, and so many reloads had come
+pub record StepsPart (first : Route) (refused : List Bool) (reloads : List Reload) (events : List Scripted) (given : List Shown) (marks : List ℕ) (servers : ScriptServers) : Type 0 where
+  pub log : List (Entry dialect)
+  pub loads : List (ℕ × Route)
+  pub loaded : ℕ
+  pub within : loaded ≤ length reloads
+  pub loads_are : loaded_trees loads ≡ trees_loaded refused reloads loaded
+  pub in_turn : CameInTurn refused reloads events log loaded loads
+  pub follows : FollowsBy first loads events log
+  pub done : List Scripted
+  pub next : List Scripted
+  pub later : List Scripted
+  pub events_are : events ≡ done ++ (next ++ later)
+  pub one : length next ≤ 1
+  pub streams : (c : ℕ) → IsSaid done next log c
+  pub given_is : (c : ℕ) → given_of log c ≡ shown_to given c
+  pub order : AreHandedInTurn given log
+  pub through : (log ≡ []) ⊎ AreThrough events (length done) log given
+  pub steps : AreSteps events (length done) log given
+  pub begun : (event : Scripted) → next ≡ event ∷ [] → IsStepPart events done event log given
+  pub marked : AreMarked events log given reloads marks
+  pub run : RunsBy first loads events log
+  -- nobody but the core writes the servers
+  pub loses : LosesOnly (run_of log)
+  pub direct : IsFreshIfDirect first reloads events log
+  pub world : (log ≡ []) ⊎ HasWorldOf events done next log
+  pub made : HaveMade log servers
+
+-- numbers are spent only where the last command has its number, or none of the next 2^32 calls can be numbered
+abbrev pub AreSpentIn : List (Entry dialect) → Type 0
+AreSpentIn log = (commands_in (run_of log) ≡ LAST_COMMAND) ⊎ (last_turn < calls_in (run_of log) + 2 ^ 32)
+
+-- what a fault leaves: where an event can't be nothing was handed out, and the servers are as they were
+abbrev pub EndsStepped : Route → List Bool → List Reload → List Scripted → Transcript → List ℕ → ScriptServers → ScriptServers → DriveFault → Type 0
+EndsStepped first refused reloads events transcript marks old new (BadEvent index) = (transcript.shown.items ≡ []) × (marks ≡ []) × (new ≡ old)
+EndsStepped first refused reloads events transcript marks old new NoMemory = StepsPart first refused reloads events (transcript_of transcript) marks new
+EndsStepped first refused reloads events transcript marks old new Spent = (part : StepsPart first refused reloads events (transcript_of transcript) marks new) × AreSpentIn part.log
+
+-- each mark tells how many of so many outputs came before its reload
+abbrev pub AreMarks : ℕ → List ℕ → Type 0
+AreMarks shown marks = All (λ mark. mark ≤ shown) marks

@@ -1,0 +1,16 @@
+pub mod Standing
+pub mod Results
+pub mod Laws
+pub mod Finding
+pub mod Tallying
+pub mod Counting
+pub mod Running
+pub mod Progressing
+pub mod Turns
+pub mod Breaking
+pub mod World
+pub mod Driving
+pub mod Holding
+pub mod Stepping
+pub mod Reloads
+pub mod Stepped

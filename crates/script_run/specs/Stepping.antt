@@ -1,0 +1,245 @@
+-- How far a script that steps its calls has come, and what each step makes of its log. Source: mcgate's own.
+use Rattle.std.specs.Prelude.{◌≡◌, ◌⊎◌, ℕ, ◌<◌, ◌≤◌, Bool, true, false, List, [], ◌++◌, length, map, drop, Option, IfSome, slice_get}
+use Rattle.mc_types.specs.Items.{Item}
+use Rattle.fresh_runs.specs.Log.{Shown}
+use Rattle.fresh_runs.specs.Overlap.{Entry, given_of, output_of, run_of}
+use Rattle.fresh_runs.specs.OverlapStream.{stream_of}
+use Rattle.route_tree.specs.Route.{Route}
+use Rattle.core_proxy.specs.CoreState.{dialect}
+use Rattle.core_proxy.specs.Polls.{IsStalled}
+use Rattle.core_commands.specs.declared.sharing.Sharing.TheVariants.{Alone}
+use Rattle.script_events.specs.declared.script.Reload.{Reload}
+use Rattle.script_events.specs.Scripted.{Scripted, Piece, Add, Result, Fail, Hold, At, Now, Moment}
+use Rattle.script_events.specs.Opening.{opening_of}
+use Rattle.script_events.specs.declared.servers.servers.ScriptServers.{ScriptServers}
+use Rattle.script_run.specs.Results.{CallResult, AreGiven, call_of, calls_of}
+use Rattle.script_run.specs.Standing.{Kept, Stands, GoesOnFed, LeavesAsMuch, tree_by}
+use Rattle.script_events.specs.declared.servers.event.FleetFault.{FleetFault}
+use Rattle.script_events.specs.declared.servers.event.FleetFault.TheVariants.{Spent}
+use Rattle.script_run.specs.Breaking.{AreSpent, IsWithinOne}
+use Rattle.script_run.specs.Turns.{AreInTurn}
+use Rattle.script_run.specs.Running.{kept_of, IsLoadedBy, AreOfOne, AreAsked, AreStalled, KeepStalled, IsAtRest}
+use Rattle.script_run.specs.declared.driver.runner.Runner.{Runner}
+use Rattle.script_run.specs.World.{Changes, World}
+use Rattle.script_run.specs.Driving.{said_by, said_in, shown_to, AreHandedInTurn, trees_loaded, loaded_trees, CameInTurn, leaves_out, IsSettled, AreThrough, AreSteps, AreMarked, StepsPart, AreSpentIn}
+
+-- an event that asks clients nothing leaves as much to do as there was
+abbrev pub LeavesBy : Scripted → List (Entry dialect) → List (Entry dialect) → Type 0
+LeavesBy (Piece client bytes) before after = Unit {0}
+LeavesBy (Add client bytes) before after = Unit {0}
+LeavesBy (Result server) before after = Unit {0}
+LeavesBy (Fail turn manner) before after = LeavesAsMuch before after
+LeavesBy (Hold server key content) before after = LeavesAsMuch before after
+LeavesBy (At turn loss) before after = LeavesAsMuch before after
+LeavesBy (Now loss) before after = LeavesAsMuch before after
+LeavesBy (Moment moment) before after = LeavesAsMuch before after
+
+-- the log goes on, and clients said what the event says
+pub record GoesOnSaid (opening : ℕ → List ℕ → Option Item) (tree : ℕ → Route) (log : List (Entry dialect)) (event : Scripted) (k : Kept) : Type 0 where
+  pub more : List (Entry dialect)
+  pub stands : Stands opening tree (more ++ log) k
+  pub streams : (c : ℕ) → stream_of (more ++ log) c ≡ stream_of log c ++ said_by event c
+  pub given : (c : ℕ) → given_of (more ++ log) c ≡ given_of log c
+  pub left : LeavesBy event log (more ++ log)
+
+-- the calls of the run are those of these results, and then those of before
+abbrev pub HasCalls : List CallResult → List (Entry dialect) → List (Entry dialect) → Type 0
+HasCalls results more log = calls_of (run_of (more ++ log)) ≡ map call_of results ++ calls_of (run_of log)
+
+-- a client said these bytes, and the servers gave some results: each log that stood before goes on so
+pub record FedBy (client : ℕ) (bytes : List ℕ) (old : Runner) (before : ScriptServers) (new : Runner) (after : ScriptServers) : Type 0 where
+  pub results : List CallResult
+  pub given : AreGiven results before after
+  pub goes : (opening : ℕ → List ℕ → Option Item) (tree : ℕ → Route) (log : List (Entry dialect)) → Stands opening tree log (kept_of old before) → (g : GoesOnFed opening tree log client bytes (kept_of new after)) × HasCalls results g.more log
+
+-- the same, and the results come in their turn
+pub record FedInTurn (client : ℕ) (bytes : List ℕ) (old : Runner) (before : ScriptServers) (new : Runner) (after : ScriptServers) : Type 0 where
+  pub fed : FedBy client bytes old before new after
+  pub in_turn :
+      (opening : ℕ → List ℕ → Option Item) (tree : ℕ → Route) (log : List (Entry dialect)) (stands : Stands opening tree log (kept_of old before)) → AreInTurn fed.results (fed.goes opening tree log stands).0.more log
+
+-- which results an event asks for
+abbrev pub AreFit : Scripted → List CallResult → Type 0
+AreFit (Piece client bytes) results = Unit {0}
+AreFit (Result server) results = AreOfOne server results
+AreFit (Add client bytes) results = results ≡ []
+AreFit (Fail turn manner) results = results ≡ []
+AreFit (Hold server key content) results = results ≡ []
+AreFit (At turn loss) results = results ≡ []
+AreFit (Now loss) results = results ≡ []
+AreFit (Moment moment) results = results ≡ []
+
+-- where it asks a server for a result, they are those that come then
+abbrev pub AreAskedBy : Scripted → Runner → ScriptServers → List CallResult → Type 0
+AreAskedBy (Piece client bytes) old before results = Unit {0}
+AreAskedBy (Add client bytes) old before results = Unit {0}
+AreAskedBy (Result server) old before results = AreAsked server old before results
+AreAskedBy (Fail turn manner) old before results = Unit {0}
+AreAskedBy (Hold server key content) old before results = Unit {0}
+AreAskedBy (At turn loss) old before results = Unit {0}
+AreAskedBy (Now loss) old before results = Unit {0}
+AreAskedBy (Moment moment) old before results = Unit {0}
+
+-- those of a piece come in their turn
+abbrev pub TakesTurns : Scripted → List CallResult → List (Entry dialect) → List (Entry dialect) → Type 0
+TakesTurns (Piece client bytes) results more log = AreInTurn results more log
+TakesTurns (Add client bytes) results more log = Unit {0}
+TakesTurns (Result server) results more log = Unit {0}
+TakesTurns (Fail turn manner) results more log = Unit {0}
+TakesTurns (Hold server key content) results more log = Unit {0}
+TakesTurns (At turn loss) results more log = Unit {0}
+TakesTurns (Now loss) results more log = Unit {0}
+TakesTurns (Moment moment) results more log = Unit {0}
+
+-- the event changes the servers, and then they give the results that it asks for: each log that stood before goes on so
+pub record Befalls (event : Scripted) (old : Runner) (before : ScriptServers) (new : Runner) (after : ScriptServers) : Type 0 where
+  pub mid : ScriptServers
+  pub changes : Changes event before mid
+  pub results : List CallResult
+  pub given : AreGiven results mid after
+  pub fit : AreFit event results
+  pub asked : AreAskedBy event old before results
+  pub goes : (opening : ℕ → List ℕ → Option Item) (tree : ℕ → Route) (log : List (Entry dialect)) → Stands opening tree log (kept_of old before) → (g : GoesOnSaid opening tree log event (kept_of new after)) × HasCalls results g.more log
+  pub turns : (opening : ℕ → List ℕ → Option Item) (tree : ℕ → Route) (log : List (Entry dialect)) (stands : Stands opening tree log (kept_of old before)) → TakesTurns event results (goes opening tree log stands).0.more log
+
+-- the log goes on, and clients said a beginning of what the event says
+pub record GoesOnInPart (opening : ℕ → List ℕ → Option Item) (tree : ℕ → Route) (log : List (Entry dialect)) (event : Scripted) (k : Kept) : Type 0 where
+  pub more : List (Entry dialect)
+  pub stands : Stands opening tree (more ++ log) k
+  pub said : ℕ → List ℕ
+  pub unsaid : ℕ → List ℕ
+  pub cut : (c : ℕ) → said_by event c ≡ said c ++ unsaid c
+  pub streams : (c : ℕ) → stream_of (more ++ log) c ≡ stream_of log c ++ said c
+  pub given : (c : ℕ) → given_of (more ++ log) c ≡ given_of log c
+
+-- a client said a beginning of these bytes, and the servers gave some results, until nothing more could be done, nor one result more be taken
+pub record FedInPart (client : ℕ) (bytes : List ℕ) (old : Runner) (before : ScriptServers) (fault : FleetFault) (after : ScriptServers) : Type 0 where
+  pub mid : Runner
+  pub at : ScriptServers
+  pub said : List ℕ
+  pub unsaid : List ℕ
+  pub cut : bytes ≡ said ++ unsaid
+  pub fed : FedBy client said old before mid at
+  pub within : IsWithinOne at after
+  pub spent : AreSpent fault mid.core at
+
+-- an event that asks for results, or hadn't come, was broken off: until then each log that stood before goes on so
+pub record BreaksOff (event : Scripted) (old : Runner) (before : ScriptServers) (fault : FleetFault) (after : ScriptServers) : Type 0 where
+  pub mid : Runner
+  pub at : ScriptServers
+  pub results : List CallResult
+  pub given : AreGiven results before at
+  pub come : (results ≡ []) ⊎ Changes event before before
+  pub fit : AreFit event results
+  pub asked : (results ≡ []) ⊎ AreAskedBy event old before results
+  pub goes : (opening : ℕ → List ℕ → Option Item) (tree : ℕ → Route) (log : List (Entry dialect)) → Stands opening tree log (kept_of old before) → (g : GoesOnInPart opening tree log event (kept_of mid at)) × HasCalls results g.more log
+  pub within : IsWithinOne at after
+  pub spent : AreSpent fault mid.core at
+
+-- clients that weren't opened said nothing in the event
+pub record IsHeard (event : Scripted) (old new : Runner) : Type 0 where
+  pub unheard : (c : ℕ) → new.clients ≤ c → (old.clients ≤ c) × (said_by event c ≡ [])
+
+-- after a piece nothing is left to do but to hand out, and after what is added, or a result, nothing more can be done without one; other events are none to clients
+abbrev pub RestsAfter : Scripted → Runner → Runner → Type 0
+RestsAfter (Piece client bytes) old new = IsAtRest new
+RestsAfter (Add client bytes) old new = AreStalled new
+RestsAfter (Result server) old new = AreStalled new
+RestsAfter (Fail turn manner) old new = new ≡ old
+RestsAfter (Hold server key content) old new = new ≡ old
+RestsAfter (At turn loss) old new = new ≡ old
+RestsAfter (Now loss) old new = new ≡ old
+RestsAfter (Moment moment) old new = new ≡ old
+
+-- the client was given all that there was for it
+abbrev pub IsGivenAll : List (Entry dialect) → ℕ → Type 0
+IsGivenAll log c = given_of log c ≡ output_of log c
+
+-- the log goes on, and where clients were given what was handed out before, they are given what is handed out after, in its order; these are given all that there is for them, and nothing else is done
+pub record GoesOnShown (AreGiven : ℕ → Type 0) (opening : ℕ → List ℕ → Option Item) (tree : ℕ → Route) (log : List (Entry dialect)) (before after : List Shown) (k : Kept) : Type 0 where
+  pub more : List (Entry dialect)
+  pub stands : Stands opening tree (more ++ log) k
+  pub streams : (c : ℕ) → stream_of (more ++ log) c ≡ stream_of log c
+  pub given : ((c : ℕ) → given_of log c ≡ shown_to before c) → (c : ℕ) → given_of (more ++ log) c ≡ shown_to after c
+  pub order : ((c : ℕ) → given_of log c ≡ shown_to before c) → AreHandedInTurn before log → AreHandedInTurn after (more ++ log)
+  pub left : LeavesAsMuch log (more ++ log)
+  pub kept : (c : ℕ) → IsGivenAll log c → IsGivenAll (more ++ log) c
+  pub all : (c : ℕ) → AreGiven c → IsGivenAll (more ++ log) c
+  pub longer : (rest : List Shown) × (after ≡ before ++ rest)
+
+-- each log that stood before goes on so
+abbrev pub HandsOut : (ℕ → Type 0) → List Shown → List Shown → Runner → Runner → Type 0
+HandsOut AreGiven before after old new =
+    (servers : ScriptServers) (opening : ℕ → List ℕ → Option Item) (tree : ℕ → Route) (log : List (Entry dialect)) → Stands opening tree log (kept_of old servers) → GoesOnShown AreGiven opening tree log before after (kept_of new servers)
+
+-- to all clients that were opened
+abbrev pub HandsOutAll : List Shown → List Shown → Runner → Runner → Type 0
+HandsOutAll before after old new = HandsOut (λ c. c < old.clients) before after old new
+
+-- so far, until a fault came
+abbrev pub HandsSome : List Shown → List Shown → Runner → Type 0
+HandsSome before after old =
+    (servers : ScriptServers) (opening : ℕ → List ℕ → Option Item) (tree : ℕ → Route) (log : List (Entry dialect)) → Stands opening tree log (kept_of old servers)
+    → (new : Runner) × GoesOnShown (λ c. ⊥) opening tree log before after (kept_of new servers)
+
+-- so many reloads came, and these events are left: a log stands with the trees loaded, in which clients said what came before and were given what was handed out, and the servers are what those events and the results made of them
+pub record HasCome (first : Route) (refused : List Bool) (reloads : List Reload) (events : List Scripted) (loaded : ℕ) (left : List Scripted) (given : List Shown) (k : Kept) : Type 0 where
+  pub log : List (Entry dialect)
+  pub loads : List (ℕ × Route)
+  pub loads_are : loaded_trees loads ≡ trees_loaded refused reloads loaded
+  pub in_turn : CameInTurn refused reloads events log loaded loads
+  pub stands : Stands (opening_of events) (tree_by first loads) log k
+  pub streams : (c : ℕ) → said_in events c ≡ stream_of log c ++ said_in left c
+  pub given_is : (c : ℕ) → given_of log c ≡ shown_to given c
+  pub order : AreHandedInTurn given log
+  pub done : List Scripted
+  pub done_is : events ≡ done ++ left
+  pub world : World events done log k.servers
+
+-- and so it stood after each event: clients that weren't opened said nothing yet, nothing more can be done without a result, and unless calls may be out nothing is left to do
+pub record HasStood (first : Route) (refused : List Bool) (reloads : List Reload) (events : List Scripted) (loaded : ℕ) (left : List Scripted) (given : List Shown) (marks : List ℕ) (clients : ℕ) (k : Kept) : Type 0 where
+  pub come : HasCome first refused reloads events loaded left given k
+  pub through : AreThrough events (length come.done) come.log given
+  pub steps : AreSteps events (length come.done) come.log given
+  pub settled : leaves_out false come.done ≡ false → IsSettled come.done come.log
+  pub stalled : (c : ℕ) → c < clients → IsStalled k.core c
+  pub heard : (c : ℕ) → clients ≤ c → said_in come.done c ≡ []
+  pub marked : AreMarked events come.log given reloads marks
+  pub counted : length marks ≡ loaded
+
+-- a reload's tree is loaded, unless it is refused
+abbrev pub TakesUp : Bool → Route → Runner → Runner → Type 0
+TakesUp true tree old new = new ≡ old
+TakesUp false tree old new = ((servers : ScriptServers) → IsLoadedBy tree old servers new servers) × (old.core.limits.sharing ≡ Alone → KeepStalled old new)
+
+-- a script has come from these reloads to those, before the event of this place, where so many outputs were handed out
+abbrev pub Loads : List Bool → List Reload → ℕ → ℕ → ℕ → ℕ → List ℕ → List ℕ → Runner → Runner → Type 0
+Loads refused reloads next shown before after marks marks' old new =
+    (first : Route) (events left : List Scripted) (given : List Shown) (clients : ℕ) (servers : ScriptServers) → left ≡ drop next events → shown ≡ length given
+    → HasStood first refused reloads events before left given marks clients (kept_of old servers)
+    → HasStood first refused reloads events after left given marks' clients (kept_of new servers)
+
+-- so many of these reloads were loaded until memory was refused, and marks stand at their places
+pub record LoadsSome (first : Route) (refused : List Bool) (reloads : List Reload) (events left : List Scripted) (given : List Shown) (marks : List ℕ) (clients : ℕ) (servers : ScriptServers) : Type 0 where
+  pub loaded : ℕ
+  pub within : loaded ≤ length reloads
+  pub own : List ℕ
+  pub runner : Runner
+  pub stood : HasStood first refused reloads events loaded left given own clients (kept_of runner servers)
+  pub marked : AreMarked events stood.come.log given reloads marks
+
+-- a script has come that far from these reloads
+abbrev pub LoadsInPart : List Bool → List Reload → ℕ → ℕ → ℕ → List ℕ → List ℕ → Runner → Type 0
+LoadsInPart refused reloads next shown before marks marks' old =
+    (first : Route) (events left : List Scripted) (given : List Shown) (clients : ℕ) (servers : ScriptServers) → left ≡ drop next events → shown ≡ length given
+    → HasStood first refused reloads events before left given marks clients (kept_of old servers)
+    → LoadsSome first refused reloads events left given marks' clients servers
+
+-- what was done until a fault of the servers or of memory
+pub record StopsPart (first : Route) (refused : List Bool) (reloads : List Reload) (events : List Scripted) (given : List Shown) (marks : List ℕ) (servers : ScriptServers) (fault : FleetFault) : Type 0 where
+  pub part : StepsPart first refused reloads events given marks servers
+  pub spent : fault ≡ Spent → AreSpentIn part.log
+
+-- the reload of this number comes before the event of this place
+abbrev pub IsDue : List Reload → ℕ → ℕ → Type 0
+IsDue reloads loaded next = (loaded < length reloads) × IfSome (slice_get reloads loaded) (λ r. r.at ≤ next)

@@ -1,0 +1,106 @@
+-- What a script's events and the results of calls make of the servers, one after another. Source: mcgate's own.
+use Rattle.std.specs.Prelude.{◌≡◌, ℕ, ◌+◌, pos, List, [], ◌∷◌, ◌++◌, map, Some, None, slice_get, if◌then◌else◌, nat_eq}
+use Rattle.fresh_runs.specs.Overlap.{Entry, run_of}
+use Rattle.cache_server.specs.Contents.{Contents}
+use Rattle.script_events.specs.Caches as losing
+use Rattle.script_events.specs.declared.servers.event.Loss.{Loss}
+use Rattle.script_events.specs.Servers.{caches_of, turn_of, moment_of, named_of, lost_of, Answers}
+use Rattle.script_events.specs.declared.servers.servers.ScriptServers.{ScriptServers}
+use Rattle.core_proxy.specs.CoreState.{dialect}
+use Rattle.script_events.specs.Opening.{opening_cache}
+use Rattle.script_events.specs.Scripted.{Scripted, Piece, Add, Result, Fail, Hold, At, Now, Moment, loss_of}
+use Rattle.script_run.specs.Results.{CallResult, call_of, calls_of}
+
+-- The latest deed comes first.
+pub data Deed : Type 0 where
+  -- the script's next event
+  Takes : Scripted → Deed
+  -- the script is at its end
+  Ends : Deed
+  -- a call had this result
+  Gives : CallResult → Deed
+
+-- the events, in order
+abbrev pub script_of : List Deed → List Scripted
+script_of [] = []
+script_of (Takes event ∷ deeds) = script_of deeds ++ event ∷ []
+script_of (Ends ∷ deeds) = script_of deeds
+script_of (Gives r ∷ deeds) = script_of deeds
+
+-- the results, the latest first
+abbrev pub results_of : List Deed → List CallResult
+results_of [] = []
+results_of (Takes event ∷ deeds) = results_of deeds
+results_of (Ends ∷ deeds) = results_of deeds
+results_of (Gives r ∷ deeds) = r ∷ results_of deeds
+
+-- servers at the start: they hold what the script puts there, no call was made or named, and the time is 0
+pub record AreOpened (events : List Scripted) (servers : ScriptServers) : Type 0 where
+  pub caches : (s : ℕ) (cache : Contents) → slice_get (caches_of servers) s ≡ Some cache → cache ≡ opening_cache events s
+  pub turn : turn_of servers ≡ 0
+  pub moment : moment_of servers ≡ pos 0
+  pub named : (t : ℕ) → named_of servers t ≡ None
+  pub lost : (t : ℕ) → lost_of servers t ≡ []
+
+-- what an event is to the servers by itself: a failure or a loss is named for a call to come, something is lost now, or it is another time. What it puts there is there from the start
+abbrev pub Changes : Scripted → ScriptServers → ScriptServers → Type 0
+Changes (Piece client bytes) old new = new ≡ old
+Changes (Add client bytes) old new = new ≡ old
+Changes (Result server) old new = new ≡ old
+Changes (Hold server key content) old new = new ≡ old
+Changes (Fail turn manner) old new =
+    ((t : ℕ) → named_of new t ≡ (if nat_eq (turn_of old + turn) t then Some manner else named_of old t)) × (new ≡ record old { failures = new.failures })
+Changes (At turn loss) old new =
+    ((t : ℕ) → map loss_of (lost_of new t) ≡ (if nat_eq (turn_of old + turn) t then map loss_of (lost_of old t) ++ loss ∷ [] else map loss_of (lost_of old t))) × (new ≡ record old { losses = new.losses })
+Changes (Now loss) old new = ((lost : Loss) × (loss_of lost ≡ loss) × (caches_of new ≡ losing.after_loss (losing.loss_of lost) (caches_of old))) × (new ≡ record old { caches = new.caches })
+Changes (Moment moment) old new = (moment_of new ≡ moment) × (new ≡ record old { moment = new.moment })
+
+-- these deeds led to the servers: each result is the answer of its server's table at that time, after what was named to be lost just before it, or it fails in the manner that was named
+abbrev pub LeadTo : List Scripted → List Deed → ScriptServers → Type 0
+LeadTo events [] servers = AreOpened events servers
+LeadTo events (Takes event ∷ deeds) servers = (old : ScriptServers) × LeadTo events deeds old × Changes event old servers
+LeadTo events (Ends ∷ deeds) servers = LeadTo events deeds servers
+LeadTo events (Gives r ∷ deeds) servers =
+    (old : ScriptServers) × LeadTo events deeds old × Answers r.stamp old r.server r.ask r.made servers × (servers ≡ record old { caches = servers.caches; turn = servers.turn })
+
+-- results come after a piece and at the end, as many as there are
+abbrev pub AreMany : List Deed → Type 0
+AreMany (Gives r ∷ deeds) = AreMany deeds
+AreMany (Takes (Piece client bytes) ∷ deeds) = Unit {0}
+AreMany (Ends ∷ deeds) = Unit {0}
+AreMany [] = ⊥
+AreMany (Takes (Add client bytes) ∷ deeds) = ⊥
+AreMany (Takes (Result server) ∷ deeds) = ⊥
+AreMany (Takes (Hold server key content) ∷ deeds) = ⊥
+AreMany (Takes (Fail turn manner) ∷ deeds) = ⊥
+AreMany (Takes (At turn loss) ∷ deeds) = ⊥
+AreMany (Takes (Now loss) ∷ deeds) = ⊥
+AreMany (Takes (Moment moment) ∷ deeds) = ⊥
+
+-- and where a result is asked of a server at most one, of a call of that server
+abbrev pub IsAwaited : CallResult → List Deed → Type 0
+IsAwaited r (Takes (Result server) ∷ deeds) = r.server ≡ server
+IsAwaited r (Gives earlier ∷ deeds) = AreMany deeds
+IsAwaited r (Takes (Piece client bytes) ∷ deeds) = Unit {0}
+IsAwaited r (Ends ∷ deeds) = Unit {0}
+IsAwaited r [] = ⊥
+IsAwaited r (Takes (Add client bytes) ∷ deeds) = ⊥
+IsAwaited r (Takes (Hold server key content) ∷ deeds) = ⊥
+IsAwaited r (Takes (Fail turn manner) ∷ deeds) = ⊥
+IsAwaited r (Takes (At turn loss) ∷ deeds) = ⊥
+IsAwaited r (Takes (Now loss) ∷ deeds) = ⊥
+IsAwaited r (Takes (Moment moment) ∷ deeds) = ⊥
+
+abbrev pub AreInTurn : List Deed → Type 0
+AreInTurn [] = Unit {0}
+AreInTurn (Takes event ∷ deeds) = AreInTurn deeds
+AreInTurn (Ends ∷ deeds) = AreInTurn deeds
+AreInTurn (Gives r ∷ deeds) = IsAwaited r deeds × AreInTurn deeds
+
+-- the world of a log is what its script makes of it: there are deeds of these events whose results are the calls of its run, in order
+pub record World (events done : List Scripted) (log : List (Entry dialect)) (servers : ScriptServers) : Type 0 where
+  pub deeds : List Deed
+  pub script_is : script_of deeds ≡ done
+  pub lead : LeadTo events deeds servers
+  pub in_turn : AreInTurn deeds
+  pub calls : map call_of (results_of deeds) ≡ calls_of (run_of log)

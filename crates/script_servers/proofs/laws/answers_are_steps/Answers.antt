@@ -1,5 +1,0 @@
-use Rattle.script_servers.proofs.Steps.{answers_are_steps}
-use Rattle.script_servers.proofs.laws.answers_are_steps.Goals as goal
-
-pub returns : goal.returns
-returns c = answers_are_steps

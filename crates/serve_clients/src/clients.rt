@@ -1,0 +1,577 @@
+//! The clients' ends, by their ids in the core, and which of them are to be served.
+
+ghost use Rattle.std.specs.Prelude.{◌≡◌, ◌≢◌, ℕ, ◌+◌, ◌-◌, ◌<◌, ◌++◌, ◌∷◌, [], OnOk, OnErr, Some, None, if◌then◌else◌, true, false, length, min, nat_lt, filter, slice_get, slice_set};
+ghost use Rattle.std.specs.Option.{option_map, option_flatten, option_copied_mut};
+ghost use Rattle.wire_parts.specs.Sending.{bytes_of};
+ghost use Rattle.serve_clients.specs.Marks.{client_of, Changes, AreAlike, EndsBusy, ids_with, ids_if, is_idle, with_ready, with_unsent, with_busy, ready_if, unsent_if, told_of, noted, will_send, one_settled, one_waits, one_waited};
+ghost use Rattle.serve_clients.specs.Waits.{waits_a_turn};
+ghost use Rattle.serve_clients.specs.declared.clients.TheConstants.{HELD_BACK};
+
+use crate::socket::{Conn, Limits, Ready};
+use crate::sockets::note;
+use mio::net::TcpStream;
+use std::alloc::{AllocError, Global};
+
+// What is kept of a client, and for one that does not read it. Above the latter nothing is read of the client, and none of its
+// commands begins.
+const LIMITS: Limits = Limits {
+    held: 1_048_576,
+    unsent: 1_048_576,
+};
+
+// How much room a client's read has at least, and where long data come.
+const READ: usize = 16_384;
+
+const LONG_READ: usize = 262_144;
+
+// So many bytes or more that are to be sent aren't held back.
+const HELD_BACK: usize = 65_536;
+
+/// One client's end.
+#[derive(Drop)]
+pub struct Client {
+    pub conn: Conn<TcpStream>,
+    /// Whether its last read filled its room, so that long data come.
+    reads_long: bool,
+    /// How many of its commands can go on since their calls were settled: so many polls begin none.
+    pub settled: usize,
+    /// How many of its calls wait until their server takes more.
+    waiting: usize,
+    /// How many of its calls have no outcome yet.
+    calls_out: usize,
+    /// Whether what is to be sent to it was held back in the turn before.
+    is_held_back: bool,
+    /// It sends no more, or nothing more is read of it.
+    pub is_ended: bool,
+    pub is_ready: bool,
+    pub has_output: bool,
+    /// A command of it waits for a key or a server.
+    pub is_busy: bool,
+    /// More of it is wanted: the core has no message of it that waits for a key, for a server or for its turn.
+    pub wants_more: bool,
+}
+
+impl Client {
+    /// A client that has just connected.
+    pub fn new(alloc: Global, stream: TcpStream) -> Client {
+        Client {
+            conn: Conn::new(alloc, stream, LIMITS),
+            reads_long: false,
+            settled: 0,
+            waiting: 0,
+            calls_out: 0,
+            is_held_back: false,
+            is_ended: false,
+            is_ready: false,
+            has_output: false,
+            is_busy: false,
+            wants_more: true,
+        }
+    }
+
+    /// Whether it takes what is shown to it.
+    pub fn has_room(&self) -> bool {
+        !self.conn.has_backlog()
+    }
+
+    /// Whether a command of it may begin: it takes what is shown to it, and none of its calls waits.
+    fn may_begin(&self) -> bool {
+        self.waiting == 0 && self.has_room()
+    }
+
+    /// Whether one of its commands may go on, or begin.
+    pub fn may_go_on(&self) -> bool {
+        self.settled > 0 || self.may_begin()
+    }
+
+    /// Whether something may be read of it. Behind a message that waits nothing is read: the core would move it, byte by byte, when
+    /// that message is done.
+    pub fn can_read(&self) -> bool {
+        self.conn.readable
+            && self.wants_more
+            && !self.is_ended
+            && self.conn.held.is_empty()
+            && self.may_begin()
+    }
+
+    /// Whether bytes that were read wait for room in the core.
+    pub fn has_held(&self) -> bool {
+        !self.conn.held.is_empty()
+    }
+
+    /// How much room its next read has at least.
+    pub fn read_room(&self) -> usize
+        ensures { 0 < result }
+    {
+        if self.reads_long { LONG_READ } else { READ }
+    }
+
+    /// A read gave something.
+    pub fn has_read(&mut self) {
+        self.reads_long = self.conn.held.len() >= self.read_room();
+    }
+
+    /// One of its commands went on.
+    pub fn went_on(&mut self)
+        ensures { self.new ≡ record self.old { settled = self.old.settled - 1 } }
+    {
+        self.settled = self.settled.saturating_sub(1);
+    }
+
+    /// One of its commands went on, or began, by a call.
+    pub fn has_called(&mut self)
+        ensures { self.new ≡ record self.old { settled = self.old.settled - 1; calls_out = min (self.old.calls_out + 1) usize.MAX } }
+    {
+        self.went_on();
+        self.calls_out = self.calls_out.saturating_add(1);
+    }
+
+    // One of its calls was settled, or has failed.
+    fn has_settled(&mut self)
+        ensures { self.new ≡ one_settled self.old }
+    {
+        self.settled = self.settled.saturating_add(1);
+        self.calls_out = self.calls_out.saturating_sub(1);
+    }
+
+    // One of its calls waits no longer.
+    fn has_waited(&mut self)
+        ensures { self.new ≡ one_waited self.old }
+    {
+        self.waiting = self.waiting.saturating_sub(1);
+    }
+
+    // Whether few bytes are to be sent to it.
+    fn has_few(&self) -> bool
+        ensures { result ≡ nat_lt (length (bytes_of self.now.conn.unsent)) HELD_BACK }
+    {
+        self.conn.unsent.len() < HELD_BACK
+    }
+
+    /// Whether what is to be sent to it is held back in this turn: where few bytes are to be sent and calls of it are out, whose replies then
+    /// go out by the same write if they come in the next turn. What was held back isn't again.
+    pub fn holds_back(&mut self) -> bool
+        ensures waits { result ≡ waits_a_turn self.old }
+        ensures noted { self.new ≡ record self.old { is_held_back = result } }
+    {
+        self.is_held_back = !self.is_held_back
+            && !self.is_ended
+            && 0 < self.calls_out
+            && self.has_few();
+        self.is_held_back
+    }
+
+    /// Its connection is gone: what is still to be sent is lost.
+    pub fn break_off(&mut self) {
+        self.is_ended = true;
+        self.conn.held.clear();
+        self.conn.unsent.clear();
+    }
+}
+
+// A flag is set, and where it wasn't, the id comes to the end of these. Where memory is refused for that, nothing changes.
+fn mark(flag: &mut bool, ids: &mut Vec<usize>, id: usize) -> Result<(), AllocError>
+    ensures flag { OnOk result (flag.new ≡ true) }
+    ensures listed { OnOk result (ids.new.items ≡ (if flag.old then ids.old.items else ids.old.items ++ id ∷ [])) }
+    ensures refused { OnErr result (flag.new ≡ flag.old) }
+    ensures unlisted { OnErr result (ids.new.items ≡ ids.old.items) }
+{
+    if *flag {
+        return Ok(());
+    }
+    ids.push(id)?;
+    *flag = true;
+    Ok(())
+}
+
+// The client of this place, if there is one, is to be served.
+fn mark_ready_at(
+    place: &mut Option<Client>,
+    ids: &mut Vec<usize>,
+    id: usize,
+) -> Result<(), AllocError>
+    ensures client { OnOk result (place.new ≡ option_map (with_ready true) place.old) }
+    ensures listed { OnOk result (ids.new.items ≡ ids_with (λ x. x.is_ready) place.old id ids.old.items) }
+    ensures refused { OnErr result (place.new ≡ place.old) }
+    ensures unlisted { OnErr result (ids.new.items ≡ ids.old.items) }
+{
+    match place {
+        Some(client) => mark(&mut client.is_ready, ids, id),
+        None => Ok(()),
+    }
+}
+
+// It has something to send.
+fn mark_output_at(
+    place: &mut Option<Client>,
+    ids: &mut Vec<usize>,
+    id: usize,
+) -> Result<(), AllocError>
+    ensures client { OnOk result (place.new ≡ option_map (with_unsent true) place.old) }
+    ensures listed { OnOk result (ids.new.items ≡ ids_with (λ x. x.has_output) place.old id ids.old.items) }
+    ensures refused { OnErr result (place.new ≡ place.old) }
+    ensures unlisted { OnErr result (ids.new.items ≡ ids.old.items) }
+{
+    match place {
+        Some(client) => mark(&mut client.has_output, ids, id),
+        None => Ok(()),
+    }
+}
+
+// A command of it waits.
+fn mark_busy_at(
+    place: &mut Option<Client>,
+    ids: &mut Vec<usize>,
+    id: usize,
+) -> Result<(), AllocError>
+    ensures client { OnOk result (place.new ≡ option_map (with_busy true) place.old) }
+    ensures listed { OnOk result (ids.new.items ≡ ids_with (λ x. x.is_busy) place.old id ids.old.items) }
+    ensures refused { OnErr result (place.new ≡ place.old) }
+    ensures unlisted { OnErr result (ids.new.items ≡ ids.old.items) }
+{
+    match place {
+        Some(client) => mark(&mut client.is_busy, ids, id),
+        None => Ok(()),
+    }
+}
+
+// A call of it was settled, or has failed.
+fn mark_settled_at(
+    place: &mut Option<Client>,
+    ids: &mut Vec<usize>,
+    id: usize,
+) -> Result<(), AllocError>
+    ensures client { OnOk result (place.new ≡ option_map (λ x. with_ready true (one_settled x)) place.old) }
+    ensures listed { OnOk result (ids.new.items ≡ ids_with (λ x. x.is_ready) place.old id ids.old.items) }
+    ensures refused { OnErr result (place.new ≡ option_map one_settled place.old) }
+    ensures unlisted { OnErr result (ids.new.items ≡ ids.old.items) }
+{
+    match place {
+        Some(client) => {
+            client.has_settled();
+            mark(&mut client.is_ready, ids, id)
+        }
+        None => Ok(()),
+    }
+}
+
+// A call of it waits no longer.
+fn end_waiting_at(
+    place: &mut Option<Client>,
+    ids: &mut Vec<usize>,
+    id: usize,
+) -> Result<(), AllocError>
+    ensures client { OnOk result (place.new ≡ option_map (λ x. with_ready true (one_waited x)) place.old) }
+    ensures listed { OnOk result (ids.new.items ≡ ids_with (λ x. x.is_ready) place.old id ids.old.items) }
+    ensures refused { OnErr result (place.new ≡ option_map one_waited place.old) }
+    ensures unlisted { OnErr result (ids.new.items ≡ ids.old.items) }
+{
+    match place {
+        Some(client) => {
+            client.has_waited();
+            mark(&mut client.is_ready, ids, id)
+        }
+        None => Ok(()),
+    }
+}
+
+// A call of it waits.
+fn mark_waiting_at(place: &mut Option<Client>)
+    ensures { place.new ≡ option_map one_waits place.old }
+{
+    if let Some(client) = place {
+        client.waiting = client.waiting.saturating_add(1);
+    }
+}
+
+// It is ready no longer.
+fn end_ready_at(place: &mut Option<Client>)
+    ensures { place.new ≡ option_map (with_ready false) place.old }
+{
+    if let Some(client) = place {
+        client.is_ready = false;
+    }
+}
+
+// It is busy no longer: whether it is there, and isn't ready.
+fn end_busy_at(place: &mut Option<Client>) -> bool
+    ensures client { place.new ≡ option_map (with_busy false) place.old }
+    ensures idle { result ≡ is_idle place.old }
+{
+    match place {
+        Some(client) => {
+            client.is_busy = false;
+            !client.is_ready
+        }
+        None => false,
+    }
+}
+
+// What the system told of its socket: whether something can be sent to it, and is there.
+fn note_at(place: &mut Option<Client>, told: Ready) -> bool
+    ensures client { place.new ≡ option_map (told_of told) place.old }
+    ensures sends { result ≡ will_send told place.old }
+{
+    match place {
+        Some(client) => {
+            note(&mut client.conn, told);
+            told.writes && !client.conn.unsent.is_empty()
+        }
+        None => false,
+    }
+}
+
+// There are places up to this one at least, and nobody stands at a new one.
+fn make_place(all: &mut Vec<Option<Client>>, id: usize) -> Result<(), AllocError>
+    ensures there { OnOk result (id < length all.new.items) }
+    ensures same { (other : ℕ) → option_flatten (slice_get all.new.items other) ≡ option_flatten (slice_get all.old.items other) }
+{
+    for _ in all.len()..=id {
+        all.push(None)?;
+    }
+    Ok(())
+}
+
+// The client stands at this place.
+fn put_at(all: &mut Vec<Option<Client>>, id: usize, client: Client)
+    requires { id < length all.old.items }
+    ensures { all.new.items ≡ slice_set all.old.items id (Some client) }
+{
+    all[id] = Some(client);
+}
+
+/// All clients. Each stands once at most in each list.
+#[derive(Drop)]
+pub struct Clients {
+    all: Vec<Option<Client>>,
+    pub ready: Vec<usize>,
+    pub with_output: Vec<usize>,
+    pub busy: Vec<usize>,
+}
+
+impl Clients {
+    /// No clients.
+    pub fn new(alloc: Global) -> Clients {
+        Clients {
+            all: Vec::new(alloc),
+            ready: Vec::new(alloc),
+            with_output: Vec::new(alloc),
+            busy: Vec::new(alloc),
+        }
+    }
+
+    /// The ids of clients are below this.
+    pub fn len(&self) -> usize
+        ensures { result ≡ length self.now.all.items }
+    {
+        self.all.len()
+    }
+
+    /// The client of this id.
+    pub fn get_mut(&mut self, id: usize) -> Option<&mut Client>
+        ensures { option_copied_mut result ≡ client_of self.old id }
+    {
+        self.all.get_mut(id)?.as_mut()
+    }
+
+    /// There is one more, of this id, and it is to be served.
+    pub fn insert(&mut self, id: usize, client: Client) -> Result<(), AllocError>
+        ensures there { OnOk result (client_of self.new id ≡ Some (with_ready true client)) }
+        ensures listed { OnOk result (self.new.ready.items ≡ ids_with (λ x. x.is_ready) (Some client) id self.old.ready.items) }
+        ensures unlisted { OnErr result (self.new.ready.items ≡ self.old.ready.items) }
+        ensures others { (other : ℕ) → other ≢ id → client_of self.new other ≡ client_of self.old other }
+        ensures rest { self.new ≡ record self.old { all = self.new.all; ready = self.new.ready } }
+    {
+        make_place(&mut self.all, id)?;
+        put_at(&mut self.all, id, client);
+        self.mark_ready(id)
+    }
+
+    /// It is gone.
+    pub fn remove(&mut self, id: usize)
+        ensures gone { self.new.all.items ≡ slice_set self.old.all.items id None }
+        ensures rest { self.new ≡ record self.old { all = self.new.all } }
+    {
+        if let Some(place) = self.all.get_mut(id) {
+            *place = None;
+        }
+    }
+
+    /// It is to be served. Where memory is refused for that, nothing changes.
+    pub fn mark_ready(&mut self, id: usize) -> Result<(), AllocError>
+        ensures client { OnOk result (Changes (with_ready true) id self.old self.new) }
+        ensures listed { OnOk result (self.new.ready.items ≡ ids_with (λ x. x.is_ready) (client_of self.old id) id self.old.ready.items) }
+        ensures refused { OnErr result (AreAlike self.old self.new) }
+        ensures rest { self.new ≡ record self.old { all = self.new.all; ready = self.new.ready } }
+    {
+        match self.all.get_mut(id) {
+            Some(place) => mark_ready_at(place, &mut self.ready, id),
+            None => Ok(()),
+        }
+    }
+
+    /// It has something to send. Where memory is refused for that, nothing changes.
+    pub fn mark_output(&mut self, id: usize) -> Result<(), AllocError>
+        ensures client { OnOk result (Changes (with_unsent true) id self.old self.new) }
+        ensures listed { OnOk result (self.new.with_output.items ≡ ids_with (λ x. x.has_output) (client_of self.old id) id self.old.with_output.items) }
+        ensures refused { OnErr result (AreAlike self.old self.new) }
+        ensures rest { self.new ≡ record self.old { all = self.new.all; with_output = self.new.with_output } }
+    {
+        match self.all.get_mut(id) {
+            Some(place) => mark_output_at(place, &mut self.with_output, id),
+            None => Ok(()),
+        }
+    }
+
+    /// A command of it waits for a key or a server. Where memory is refused for that, nothing changes.
+    pub fn mark_busy(&mut self, id: usize) -> Result<(), AllocError>
+        ensures client { OnOk result (Changes (with_busy true) id self.old self.new) }
+        ensures listed { OnOk result (self.new.busy.items ≡ ids_with (λ x. x.is_busy) (client_of self.old id) id self.old.busy.items) }
+        ensures refused { OnErr result (AreAlike self.old self.new) }
+        ensures rest { self.new ≡ record self.old { all = self.new.all; busy = self.new.busy } }
+    {
+        match self.all.get_mut(id) {
+            Some(place) => mark_busy_at(place, &mut self.busy, id),
+            None => Ok(()),
+        }
+    }
+
+    /// Those that wait for a key or a server, but for those that are ready too, go after these.
+    pub fn move_busy(&mut self, to: &mut Vec<usize>) -> Result<(), AllocError>
+        ensures moved { OnOk result (to.new.items ≡ to.old.items ++ filter (λ id. is_idle (client_of self.old id)) self.old.busy.items) }
+        ensures clients { OnOk result (EndsBusy self.old.busy.items self.old self.new) }
+        ensures none { OnOk result (self.new.busy.items ≡ []) }
+        ensures rest { self.new ≡ record self.old { all = self.new.all; busy = self.new.busy } }
+    {
+        for i in 0..self.busy.len() {
+            let id = self.busy[i];
+            self.move_one(id, to)?;
+        }
+        self.busy.clear();
+        Ok(())
+    }
+
+    // One that waits for a key or a server does so no longer, and goes after these if it isn't ready.
+    fn move_one(&mut self, id: usize, to: &mut Vec<usize>) -> Result<(), AllocError>
+        ensures client { Changes (with_busy false) id self.old self.new }
+        ensures moved { OnOk result (to.new.items ≡ (if is_idle (client_of self.old id) then to.old.items ++ id ∷ [] else to.old.items)) }
+        ensures rest { self.new ≡ record self.old { all = self.new.all } }
+    {
+        if self.end_busy(id) {
+            to.push(id)?;
+        }
+        Ok(())
+    }
+
+    /// It stands no longer among those that are ready.
+    pub fn end_ready(&mut self, id: usize)
+        ensures client { Changes (with_ready false) id self.old self.new }
+        ensures rest { self.new ≡ record self.old { all = self.new.all } }
+    {
+        if let Some(place) = self.all.get_mut(id) {
+            end_ready_at(place);
+        }
+    }
+
+    /// It stands no longer among those that wait: whether it is to be served for that, as it isn't ready.
+    pub fn end_busy(&mut self, id: usize) -> bool
+        ensures client { Changes (with_busy false) id self.old self.new }
+        ensures idle { result ≡ is_idle (client_of self.old id) }
+        ensures rest { self.new ≡ record self.old { all = self.new.all } }
+    {
+        match self.all.get_mut(id) {
+            Some(place) => end_busy_at(place),
+            None => false,
+        }
+    }
+
+    /// A call of it was settled, or has failed.
+    pub fn mark_settled(&mut self, id: usize) -> Result<(), AllocError>
+        ensures client { OnOk result (Changes (λ x. with_ready true (one_settled x)) id self.old self.new) }
+        ensures listed { OnOk result (self.new.ready.items ≡ ids_with (λ x. x.is_ready) (client_of self.old id) id self.old.ready.items) }
+        ensures refused { OnErr result (Changes one_settled id self.old self.new) }
+        ensures unlisted { OnErr result (self.new.ready.items ≡ self.old.ready.items) }
+        ensures rest { self.new ≡ record self.old { all = self.new.all; ready = self.new.ready } }
+    {
+        match self.all.get_mut(id) {
+            Some(place) => mark_settled_at(place, &mut self.ready, id),
+            None => Ok(()),
+        }
+    }
+
+    /// A call of it waits until its server takes more.
+    pub fn mark_waiting(&mut self, id: usize)
+        ensures client { Changes one_waits id self.old self.new }
+        ensures rest { self.new ≡ record self.old { all = self.new.all } }
+    {
+        if let Some(place) = self.all.get_mut(id) {
+            mark_waiting_at(place);
+        }
+    }
+
+    /// A call of it waits no longer.
+    pub fn end_waiting(&mut self, id: usize) -> Result<(), AllocError>
+        ensures client { OnOk result (Changes (λ x. with_ready true (one_waited x)) id self.old self.new) }
+        ensures listed { OnOk result (self.new.ready.items ≡ ids_with (λ x. x.is_ready) (client_of self.old id) id self.old.ready.items) }
+        ensures refused { OnErr result (Changes one_waited id self.old self.new) }
+        ensures unlisted { OnErr result (self.new.ready.items ≡ self.old.ready.items) }
+        ensures rest { self.new ≡ record self.old { all = self.new.all; ready = self.new.ready } }
+    {
+        match self.all.get_mut(id) {
+            Some(place) => end_waiting_at(place, &mut self.ready, id),
+            None => Ok(()),
+        }
+    }
+
+    /// What the system told of its socket is noted beside what it told before, and the client is to be served where something can be read, and has something
+    /// to send where something can be sent and is there.
+    pub fn note(&mut self, id: usize, told: Ready) -> Result<(), AllocError>
+        ensures client { OnOk result (Changes (noted told) id self.old self.new) }
+        ensures served { OnOk result (self.new.ready.items ≡ ids_if told.reads (λ x. x.is_ready) (client_of self.old id) id self.old.ready.items) }
+        ensures unsent { OnOk result (self.new.with_output.items ≡ ids_if (will_send told (client_of self.old id)) (λ x. x.has_output) (client_of self.old id) id self.old.with_output.items) }
+        ensures others { (other : ℕ) → other ≢ id → client_of self.new other ≡ client_of self.old other }
+        ensures rest { self.new ≡ record self.old { all = self.new.all; ready = self.new.ready; with_output = self.new.with_output } }
+    {
+        let sends = self.note_told(id, told);
+        self.mark_ready_if(id, told.reads)?;
+        self.mark_output_if(id, sends)
+    }
+
+    // What the system told: whether something can be sent to it, and is there.
+    fn note_told(&mut self, id: usize, told: Ready) -> bool
+        ensures client { Changes (told_of told) id self.old self.new }
+        ensures sends { result ≡ will_send told (client_of self.old id) }
+        ensures rest { self.new ≡ record self.old { all = self.new.all } }
+    {
+        match self.all.get_mut(id) {
+            Some(place) => note_at(place, told),
+            None => false,
+        }
+    }
+
+    // It is to be served, if it is so.
+    fn mark_ready_if(&mut self, id: usize, reads: bool) -> Result<(), AllocError>
+        ensures client { OnOk result (Changes (ready_if reads) id self.old self.new) }
+        ensures listed { OnOk result (self.new.ready.items ≡ ids_if reads (λ x. x.is_ready) (client_of self.old id) id self.old.ready.items) }
+        ensures refused { OnErr result (AreAlike self.old self.new) }
+        ensures rest { self.new ≡ record self.old { all = self.new.all; ready = self.new.ready } }
+    {
+        if reads {
+            return self.mark_ready(id);
+        }
+        Ok(())
+    }
+
+    // It has something to send, if it is so.
+    fn mark_output_if(&mut self, id: usize, writes: bool) -> Result<(), AllocError>
+        ensures client { OnOk result (Changes (unsent_if writes) id self.old self.new) }
+        ensures listed { OnOk result (self.new.with_output.items ≡ ids_if writes (λ x. x.has_output) (client_of self.old id) id self.old.with_output.items) }
+        ensures refused { OnErr result (AreAlike self.old self.new) }
+        ensures rest { self.new ≡ record self.old { all = self.new.all; with_output = self.new.with_output } }
+    {
+        if writes {
+            return self.mark_output(id);
+        }
+        Ok(())
+    }
+}

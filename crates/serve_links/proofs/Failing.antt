@@ -1,0 +1,61 @@
+-- Calls of a link that fail, one after another.
+use Rattle.std.proofs.Common.{◌≡◌, ℕ, zero, suc, ◌+◌, List, [], ◌∷◌, ◌++◌, length, Option, Some, None, Result, Ok, Err, refl, sym, ap, subst, arith}
+use Rattle.std.proofs.Math.ListN.{set}
+use Rattle.std.specs.Prelude.{OnOk, IfSome, slice_get}
+use Rattle.mc_types.specs.declared.call.Outcome.TheVariants.{Failed}
+use Rattle.core_accepted.specs.declared.served.ServedCore.{ServedCore}
+use Rattle.serve_links.specs.declared.calls.calls.SentCall.{SentCall}
+use Rattle.core_accepted.specs.Results.{IsSettled}
+use Rattle.serve_links.specs.Calls.{SettlesFirst}
+use Rattle.serve_links.specs.declared.link.Link.{Link}
+use Rattle.serve_links.specs.Links.{AllFail}
+
+pub all_then : (xs ys : List SentCall) (a b c : ServedCore) → AllFail xs a b → AllFail ys b c → AllFail (xs ++ ys) a c
+all_then [] ys a b c f g = subst (λ x. AllFail ys x c) f g
+all_then (call ∷ xs) ys a b c f g = (f.0, f.1, all_then xs ys f.0 b c f.2 g)
+
+-- the first has failed, and then the others
+pub first_then : (sent : List SentCall) (client : ℕ) (sent' : List SentCall) (a b c : ServedCore) → SettlesFirst sent a Failed (Some client) sent' b → AllFail sent' b c → AllFail sent a c
+first_then [] client sent' a b c is g = let e = is.0 in absurd (some_none client e)
+  where
+    some_none : (n : ℕ) → ◌≡◌ {A = Option ℕ} (Some n) None → ⊥
+    some_none n e = cc
+first_then (call ∷ rest) client sent' a b c is g = (b, is.2, subst (λ xs. AllFail xs b c) is.1 g)
+
+pub one_less : (sent : List SentCall) (client : ℕ) (sent' : List SentCall) (a b : ServedCore) → SettlesFirst sent a Failed (Some client) sent' b → length sent ≡ length sent' + 1
+one_less [] client sent' a b is = absurd (some_none client is.0)
+  where
+    some_none : (n : ℕ) → ◌≡◌ {A = Option ℕ} (Some n) None → ⊥
+    some_none n e = cc
+one_less (call ∷ rest) client sent' a b is = let e = ap length is.1 in omega arith
+
+-- none was there
+pub none_left : (sent sent' : List SentCall) (a b : ServedCore) → SettlesFirst sent a Failed None sent' b → (sent' ≡ []) × AllFail sent a b
+none_left [] sent' a b is = (is.1, is.2)
+none_left (call ∷ rest) sent' a b is = absurd (none_some call.client is.0)
+  where
+    none_some : (n : ℕ) → ◌≡◌ {A = Option ℕ} None (Some n) → ⊥
+    none_some n e = cc
+
+pub is_none : (sent : List SentCall) → length sent ≡ 0 → sent ≡ []
+is_none [] e = refl
+is_none (call ∷ rest) e = absurd (omega arith)
+
+-- no call is left: all that were there have failed
+pub all_by_none : (sent : List SentCall) (a : ServedCore) → sent ≡ [] → AllFail sent a a
+all_by_none sent a e = subst (λ xs. AllFail xs a a) (sym e) refl
+
+-- of calls that wait the first has failed
+pub waiting_then : (waiting : List SentCall) (call : SentCall) (rest : List SentCall) (a b c : ServedCore) → waiting ≡ call ∷ rest → IsSettled a call.ticket.number Failed b → AllFail rest b c → AllFail waiting a c
+waiting_then waiting call rest a b c e is g = subst (λ xs. AllFail xs a c) (sym e) (b, is, g)
+
+-- of a result that came
+pub on_ok : {A E : Type 0} (r : Result A E) (P Q : Type 0) → (P → Q) → OnOk r P → OnOk r Q
+on_ok (Ok a) P Q f p = f p
+on_ok (Err e) P Q f p = tt
+
+-- what holds of a link that was put in its place
+pub at_set : (P : Link → Type 0) (links : List Link) (at : ℕ) (link : Link) → P link → IfSome (slice_get (set links at link) at) P
+at_set P [] at link p = tt
+at_set P (first ∷ links) zero link p = p
+at_set P (first ∷ links) (suc at) link p = at_set P links at link p

@@ -1,0 +1,97 @@
+-- What is settled of the bytes that a link holds, and what is left of them.
+use Rattle.std.proofs.Common.{◌≡◌, ℕ, ◌≤◌, min, List, [], ◌∷◌, ◌++◌, length, take, drop, Result, Ok, Err, refl, sym, subst, ap, ◌∙◌, inr, append_assoc, arith}
+use Rattle.std.proofs.lemmas.List.{append-nil, drop_min, take-append-drop}
+use Rattle.std.specs.Prelude.{IfOk}
+use Rattle.mc_types.specs.declared.answer.Answer.{Answer}
+use Rattle.core_accepted.specs.declared.served.ServedCore.{ServedCore}
+use Rattle.serve_links.specs.declared.calls.calls.SentCall.{SentCall}
+use Rattle.serve_links.specs.declared.calls.calls.Next.{Next}
+use Rattle.serve_links.specs.declared.calls.calls.Next.TheVariants as nexts
+use Rattle.serve_links.specs.Calls.{AwaitsFirst, SettlesNext}
+use Rattle.serve_links.specs.Settled.{HoldsNoAnswer, SettlesOne, SettlesEach, SettlesSome, used_by}
+
+-- more is awaited, and nothing has changed
+pub awaited : (sent : List SentCall) (bytes : List ℕ) (a : ServedCore) (sent' : List SentCall) (b : ServedCore) → SettlesNext sent bytes a nexts.More sent' b → HoldsNoAnswer sent' bytes b
+awaited sent bytes a sent' b is =
+    inr (subst (λ (s : List SentCall). AwaitsFirst s bytes b.core) (sym is.1) (subst (λ (c : ServedCore). AwaitsFirst sent bytes c.core) (sym is.2) is.0))
+
+-- the same of equal bytes
+pub settles_as : (sent : List SentCall) (xs ys : List ℕ) (a : ServedCore) (next : Next) (sent' : List SentCall) (b : ServedCore) → ys ≡ xs → SettlesNext sent xs a next sent' b → SettlesNext sent ys a next sent' b
+settles_as sent xs ys a next sent' b e is = subst (λ (bytes : List ℕ). SettlesNext sent bytes a next sent' b) (sym e) is
+
+-- nothing was settled
+pub none : {sent : List SentCall} {bytes : List ℕ} {a : ServedCore} {sent' : List SentCall} {bytes' : List ℕ} {b : ServedCore} → sent' ≡ sent → bytes' ≡ bytes → b ≡ a → SettlesSome sent bytes a sent' bytes' b
+none s x c = record { answers = []; each = (s, x, c) }
+
+both_each :
+    (first later : List Answer) (s : List SentCall) (x : List ℕ) (a : ServedCore) (t : List SentCall) (y : List ℕ) (b : ServedCore) (u : List SentCall) (z : List ℕ) (c : ServedCore)
+    → SettlesEach first s x a t y b → SettlesEach later t y b u z c → SettlesEach (first ++ later) s x a u z c
+both_each [] later s x a t y b u z c f l =
+    subst (λ (v : List SentCall). SettlesEach later v x a u z c) f.0 (subst (λ (w : List ℕ). SettlesEach later t w a u z c) f.1 (subst (λ (d : ServedCore). SettlesEach later t y d u z c) f.2 l))
+both_each (answer ∷ first) later s x a t y b u z c f l = (f.0, f.1, f.2, f.3, both_each first later f.0 f.1 f.2 t y b u z c f.4 l)
+
+-- one after another
+pub both :
+    {s : List SentCall} {x : List ℕ} {a : ServedCore} {t : List SentCall} {y : List ℕ} {b : ServedCore} {u : List SentCall} {z : List ℕ} {c : ServedCore}
+    → SettlesSome s x a t y b → SettlesSome t y b u z c → SettlesSome s x a u z c
+both {s} {x} {a} {t} {y} {b} {u} {z} {c} f l = record { answers = f.answers ++ l.answers; each = both_each f.answers l.answers s x a t y b u z c f.each l.each }
+
+-- the first was settled
+pub one :
+    (sent : List SentCall) (bytes : List ℕ) (a : ServedCore) (client used : ℕ) (sent' : List SentCall) (bytes' : List ℕ) (b : ServedCore) → bytes' ≡ drop used bytes
+    → SettlesNext sent bytes a (nexts.Settled client used) sent' b → SettlesSome sent bytes a sent' bytes' b
+one sent bytes a client used sent' bytes' b e is = record { answers = is.0 ∷ []; each = (sent', bytes', b, first, (refl, refl, refl)) }
+  where
+    first : SettlesOne sent bytes a is.0 sent' bytes' b
+    first = record { front = bytes; more = []; whole = sym (append-nil bytes); used = used; answers = is.1; rest = e ∙ sym (append-nil (drop used bytes)); client = client; settles = is.2 }
+
+-- it was, or nothing has changed
+pub by_next :
+    (sent : List SentCall) (bytes : List ℕ) (a : ServedCore) (next : Next) (sent' : List SentCall) (b : ServedCore) → SettlesNext sent bytes a next sent' b
+    → SettlesSome sent bytes a sent' (drop (used_by next) bytes) b
+by_next sent bytes a (nexts.Settled client used) sent' b is = one sent bytes a client used sent' (drop used bytes) b refl is
+by_next sent bytes a nexts.More sent' b is = none is.1 refl is.2
+by_next sent bytes a nexts.Foreign sent' b is = none is.0 refl is.1
+
+over_each :
+    (answers : List Answer) (s : List SentCall) (x : List ℕ) (a : ServedCore) (t : List SentCall) (y : List ℕ) (b : ServedCore) (more : List ℕ)
+    → SettlesEach answers s x a t y b → SettlesEach answers s (x ++ more) a t (y ++ more) b
+over_each [] s x a t y b more f = (f.0, ap (λ (l : List ℕ). l ++ more) f.1, f.2)
+over_each (answer ∷ answers) s x a t y b more f = (f.0, f.1 ++ more, f.2, over_one s x a answer f.0 f.1 f.2 more f.3, over_each answers f.0 f.1 f.2 t y b more f.4)
+  where
+    over_one :
+        (s : List SentCall) (x : List ℕ) (a : ServedCore) (answer : Answer) (t : List SentCall) (y : List ℕ) (b : ServedCore) (more : List ℕ)
+        → SettlesOne s x a answer t y b → SettlesOne s (x ++ more) a answer t (y ++ more) b
+    over_one s x a answer t y b more is = record {
+      front = is.front;
+      more = is.more ++ more;
+      whole = ap (λ (l : List ℕ). l ++ more) is.whole ∙ append_assoc is.front is.more more;
+      used = is.used;
+      answers = is.answers;
+      rest = ap (λ (l : List ℕ). l ++ more) is.rest ∙ append_assoc (drop is.used is.front) is.more more;
+      client = is.client;
+      settles = is.settles;
+    }
+
+-- more stands after the bytes
+pub over :
+    {s : List SentCall} {x : List ℕ} {a : ServedCore} {t : List SentCall} {y : List ℕ} {b : ServedCore} (more : List ℕ) → SettlesSome s x a t y b → SettlesSome s (x ++ more) a t (y ++ more) b
+over {s} {x} {a} {t} {y} {b} more f = record { answers = f.answers; each = over_each f.answers s x a t y b more f.each }
+
+-- the same of equal bytes
+pub between :
+    {s : List SentCall} {x y : List ℕ} {a : ServedCore} {t : List SentCall} {v w : List ℕ} {b : ServedCore} → y ≡ x → w ≡ v → SettlesSome s x a t v b → SettlesSome s y a t w b
+between {s} {x} {y} {a} {t} {v} {w} {b} e f is = subst (λ (l : List ℕ). SettlesSome s l a t w b) (sym e) (subst (λ (l : List ℕ). SettlesSome s x a t l b) (sym f) is)
+
+-- so many bytes that were cut off, and the others
+pub cut_apart : (count : ℕ) (held front rest : List ℕ) → front ≡ take count held → rest ≡ drop count held → held ≡ front ++ rest
+cut_apart count held front rest f r = sym (take-append-drop count held) ∙ ap (λ (l : List ℕ). l ++ drop count held) (sym f) ∙ ap (λ (l : List ℕ). front ++ l) (sym r)
+
+-- a number that is cut above the length
+pub drop_few : (k most : ℕ) (bytes : List ℕ) → length bytes ≤ most → drop (min k most) bytes ≡ drop k bytes
+drop_few k most bytes h = let e : min (min k most) (length bytes) ≡ min k (length bytes) = omega arith in sym (drop_min (min k most) bytes) ∙ ap (λ (n : ℕ). drop n bytes) e ∙ drop_min k bytes
+
+-- of a result that came
+pub if_ok : {A E : Type 0} (r : Result A E) (P Q : A → Type 0) → ((x : A) → P x → Q x) → IfOk r P → IfOk r Q
+if_ok (Ok x) P Q f p = f x p
+if_ok (Err e) P Q f p = tt

@@ -1,0 +1,6 @@
+pub mod CallOrder
+pub mod StoreLines
+pub mod Walked
+pub mod Failing
+pub mod Feeding
+pub mod Leaving

@@ -1,0 +1,9 @@
+use Rattle.serve_links.proofs.Walked.{then}
+use Rattle.serve_links.proofs.Failing.{on_ok, all_then}
+use Rattle.serve_links.proofs.outcomes.fail_all.Goals as goal
+
+pub returns-clause-core : goal.returns-clause-core
+returns-clause-core c = then c.fail_sent.ensures.core c.fail_waiting.ensures.core
+
+pub returns-clause-all : goal.returns-clause-all
+returns-clause-all c = on_ok c.fail_waiting.result _ _ (λ f. all_then c.args.link.now.calls.sent.items c.args.link.now.waiting.items c.args.core.now c.fail_sent.new.core c.fail_waiting.new.core c.in_ok-fail_sent.ensures.all f) c.fail_waiting.ensures.all

@@ -1,0 +1,13 @@
+use Rattle.std.proofs.Common.{◌≡◌}
+use Rattle.serve_links.specs.declared.calls.calls.Next.TheVariants as nexts
+use Rattle.serve_links.proofs.Leaving.{settles_as, one}
+use Rattle.serve_links.proofs.outcomes.settle_copied.Goals as goal
+
+pub returns-in_ok-mark_settled-in-Settled-clause-settled : goal.returns-in_ok-mark_settled-in-Settled-clause-settled
+returns-in_ok-mark_settled-in-Settled-clause-settled c =
+    let sent = c.args.calls.now.sent.items in
+    let held = c.args.conn.now.held.items in
+    let sent' = c.settle_first.new.calls.sent.items in
+    let same : held ≡ c.copied.result = cc in
+    let is = settles_as sent c.copied.result held c.args.core.now (nexts.Settled c.in-Settled.client c.in-Settled.used) sent' c.settle_first.new.core same c.in-Settled.ensures.next in
+    λ came. one sent held c.args.core.now c.in-Settled.client c.in-Settled.used sent' c.use_held.new.conn.held.items c.settle_first.new.core c.use_held.ensures is

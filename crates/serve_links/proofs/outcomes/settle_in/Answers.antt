@@ -1,0 +1,29 @@
+use Rattle.std.proofs.Common.{ℕ, ◌+◌, ◌-◌, ◌^◌, ◌≤◌, List, length, drop, sym, ap, ◌∙◌, arith}
+use Rattle.std.proofs.lemmas.List.{drop-drop}
+use Rattle.serve_links.proofs.Walked.{then}
+use Rattle.serve_links.proofs.Leaving.{awaited, both, one, drop_few}
+use Rattle.serve_links.proofs.outcomes.settle_in.Goals as goal
+
+pub loop-preserved : goal.loop-preserved
+loop-preserved c =
+    let bytes = c.args.received.now in
+    let used = c.saturating_add-used.ensures in
+    let len = ap (λ (l : List ℕ). length l) c.bytes-held.ensures in
+    let fits : length bytes ≤ 2 ^ 64 - 1 = omega arith in
+    let rest = ap (λ (n : ℕ). drop n bytes) used ∙ drop_few (c.loop.used + c.in-Settled.len) (2 ^ 64 - 1) bytes fits ∙ sym (drop-drop c.in-Settled.len c.loop.used bytes) in
+    record {
+      core = then c.loop.invariant.core c.settle_at.ensures.core;
+      settled = both c.loop.invariant.settled (one c.loop.calls.sent.items (drop c.loop.used bytes) c.loop.core c.in-Settled.client c.in-Settled.len c.settle_at.new.calls.sent.items (drop c.saturating_add-used.result bytes) c.settle_at.new.core rest c.in-Settled.ensures.next);
+    }
+
+pub returns-in_err-mark_settled-in-Settled-clause-core : goal.returns-in_err-mark_settled-in-Settled-clause-core
+returns-in_err-mark_settled-in-Settled-clause-core c = then c.loop.invariant.core c.settle_at.ensures.core
+
+pub returns-in-More-clause-core : goal.returns-in-More-clause-core
+returns-in-More-clause-core c = then c.loop.invariant.core c.settle_at.ensures.core
+
+pub returns-in-More-clause-left : goal.returns-in-More-clause-left
+returns-in-More-clause-left c = λ same. awaited c.loop.calls.sent.items (drop c.loop.used c.args.received.now) c.loop.core c.settle_at.new.calls.sent.items c.settle_at.new.core c.in-More.ensures.next
+
+pub returns-in-Foreign-clause-core : goal.returns-in-Foreign-clause-core
+returns-in-Foreign-clause-core c = then c.loop.invariant.core c.settle_at.ensures.core

@@ -1,0 +1,70 @@
+-- What is done with the calls of one server that are out. Source: mcgate's own.
+use Rattle.std.specs.Prelude.{◌≡◌, ℕ, List, [], ◌∷◌, Option, Some, None}
+use Rattle.mc_types.specs.Fits.{Fits}
+use Rattle.mc_types.specs.declared.ask.Ask.{Ask}
+use Rattle.mc_types.specs.declared.ask.Dialect.{Dialect}
+use Rattle.mc_types.specs.declared.answer.Answer.{Answer}
+use Rattle.mc_types.specs.declared.call.Outcome.{Outcome}
+use Rattle.mc_types.specs.declared.call.Outcome.TheVariants.{Answered}
+use Rattle.wire_answers.specs.declared.reader.AnswerRead.{AnswerRead}
+use Rattle.wire_answers.specs.declared.reader.AnswerRead.TheVariants as reads
+use Rattle.core_proxy.specs.declared.proxy.Core.{Core}
+use Rattle.core_proxy.specs.Settles.{FitsCall, asked}
+use Rattle.core_accepted.specs.declared.served.ServedCore.{ServedCore}
+use Rattle.core_accepted.specs.Results.{IsSettled}
+use Rattle.serve_links.specs.Dialects.{SpellsIn, IsCutIn}
+use Rattle.serve_links.specs.declared.calls.calls.SentCall.{SentCall}
+use Rattle.serve_links.specs.declared.calls.calls.Next.{Next}
+use Rattle.serve_links.specs.declared.calls.calls.Next.TheVariants as nexts
+
+-- what was read is the answer to the ask, as it was asked in this dialect, or the bytes are cut before its end
+abbrev pub IsReadFor : Dialect → Ask → List ℕ → AnswerRead → Type 0
+IsReadFor dialect ask bytes (reads.Answer answer used) = SpellsIn dialect ask bytes answer used × Fits ask answer
+IsReadFor dialect ask bytes reads.More = IsCutIn dialect ask bytes
+IsReadFor dialect ask bytes reads.Foreign = Unit {0}
+
+-- the same of what the core's call of this number asks
+abbrev pub IsReadNext : Dialect → Core → ℕ → List ℕ → AnswerRead → Type 0
+IsReadNext dialect core number bytes (reads.Answer answer used) = (ask : Ask) × (asked core number ≡ Some ask) × SpellsIn dialect ask bytes answer used × FitsCall core number (Answered answer)
+IsReadNext dialect core number bytes reads.More = (ask : Ask) × (asked core number ≡ Some ask) × IsCutIn dialect ask bytes
+IsReadNext dialect core number bytes reads.Foreign = Unit {0}
+
+-- the number of the call that went out first, and the dialect in which it was asked
+abbrev pub first_asked : List SentCall → Option (ℕ × Dialect)
+first_asked [] = None
+first_asked (call ∷ sent) = Some (call.ticket.number, call.dialect)
+
+-- the outcome fits what the first call asks
+abbrev pub FitsFirst : List SentCall → Core → Outcome → Type 0
+FitsFirst [] core outcome = Unit {0}
+FitsFirst (call ∷ sent) core outcome = FitsCall core call.ticket.number outcome
+
+-- the first call had this outcome and is out no more, and the core went on by that alone; it was this client's
+abbrev pub SettlesFirst : List SentCall → ServedCore → Outcome → Option ℕ → List SentCall → ServedCore → Type 0
+SettlesFirst [] core outcome client sent core' = (client ≡ None) × (sent ≡ []) × (core' ≡ core)
+SettlesFirst (call ∷ rest) core outcome client sent core' = (client ≡ Some call.client) × (sent ≡ rest) × IsSettled core call.ticket.number outcome core'
+
+-- the bytes begin with this answer to the first call
+pub record AnswersFirst (sent : List SentCall) (bytes : List ℕ) (core : Core) (answer : Answer) (used : ℕ) : Type 0 where
+  pub number : ℕ
+  pub dialect : Dialect
+  pub is_first : first_asked sent ≡ Some (number, dialect)
+  pub ask : Ask
+  pub asks : asked core number ≡ Some ask
+  pub spells : SpellsIn dialect ask bytes answer used
+
+-- the bytes are cut before the end of the first call's answer
+pub record AwaitsFirst (sent : List SentCall) (bytes : List ℕ) (core : Core) : Type 0 where
+  pub number : ℕ
+  pub dialect : Dialect
+  pub is_first : first_asked sent ≡ Some (number, dialect)
+  pub ask : Ask
+  pub asks : asked core number ≡ Some ask
+  pub cut : IsCutIn dialect ask bytes
+
+-- the first call is settled by its answer, which the bytes begin with, or nothing is done
+abbrev pub SettlesNext : List SentCall → List ℕ → ServedCore → Next → List SentCall → ServedCore → Type 0
+SettlesNext sent bytes core (nexts.Settled client used) sent' core' =
+    (answer : Answer) × AnswersFirst sent bytes core.core answer used × SettlesFirst sent core (Answered answer) (Some client) sent' core'
+SettlesNext sent bytes core nexts.More sent' core' = AwaitsFirst sent bytes core.core × (sent' ≡ sent) × (core' ≡ core)
+SettlesNext sent bytes core nexts.Foreign sent' core' = (sent' ≡ sent) × (core' ≡ core)

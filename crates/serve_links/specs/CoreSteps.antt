@@ -1,0 +1,98 @@
+-- What may happen to the core of a proxy, one call after another. Source: mcgate's own.
+use Rattle.std.specs.Prelude.{◌≡◌, ℕ, List, [], ◌∷◌}
+use Rattle.mc_types.specs.declared.call.Outcome.{Outcome}
+use Rattle.mc_types.specs.declared.call.Outcome.TheVariants.{Failed}
+use Rattle.fresh_runs.specs.Overlap as log
+use Rattle.route_json.specs.Configuration.{Configuration}
+use Rattle.core_proxy.specs.declared.fault.CoreFault.{CoreFault}
+use Rattle.core_proxy.specs.declared.note.Poll.{Poll}
+use Rattle.core_proxy.specs.Faults.{CanOpen, CanFeed, CanClose, OpenFault}
+use Rattle.core_proxy.specs.CoreState.{Opens, Feeds, Gives, Closes, LeavesLine, client_at, dropped_by}
+use Rattle.core_proxy.specs.Polls.{Polls, PollFault, Then, Perhaps, BeginsOne, IsPolled}
+use Rattle.core_accepted.specs.Logs.{LogsGoBy, IsAccepted, fed}
+use Rattle.core_accepted.specs.Results.{PollStops}
+use Rattle.core_accepted.specs.declared.served.ServedCore.{ServedCore}
+use Rattle.core_accepted.specs.Results.{IsSettled}
+use Rattle.core_accepted.specs.Loading.{IsLoaded}
+
+-- one call of a core that changes it, and what came of it
+pub data Step : Type 0 where
+  Opened : (client : ℕ) → Step
+  NotOpened : (fault : CoreFault) → Step
+  Fed : (client : ℕ) (piece : List ℕ) → Step
+  Polled : (client : ℕ) (poll : Poll) → Step
+  Stopped : (client : ℕ) (fault : CoreFault) → Step
+  Settled : (number : ℕ) (outcome : Outcome) → Step
+  Gave : (client : ℕ) (bytes : List ℕ) → Step
+  Closed : (client : ℕ) → Step
+  LeftLine : (client : ℕ) → Step
+  Loaded : (configuration : Configuration) (generation : ℕ) → Step
+
+-- a core goes from one state to another by this call: as the core's own call of that name goes, and with each log that may have led to it
+abbrev pub Does : Step → ServedCore → ServedCore → Type 0
+Does (Opened client) old new = CanOpen old.core × Opens old.core client new.core × LogsGoBy old (λ entries. entries ≡ []) new
+Does (NotOpened fault) old new = OpenFault old.core fault new.core × LogsGoBy old (λ entries. entries ≡ []) new
+Does (Fed client piece) old new =
+    CanFeed old.core client piece × Feeds old.core client piece new.core
+    × LogsGoBy old (λ entries. entries ≡ fed (dropped_by (client_at old.core client)) client piece) new
+Does (Polled client poll) old new = Polls old.core client poll new.core × LogsGoBy old (Then (Perhaps (BeginsOne client)) (IsPolled client poll)) new
+Does (Stopped client fault) old new = PollFault old.core client fault new.core × PollStops old client fault new
+Does (Settled number outcome) old new = IsSettled old number outcome new
+Does (Gave client bytes) old new = Gives old.core client bytes new.core × LogsGoBy old (λ entries. entries ≡ log.Gives client bytes ∷ []) new
+Does (Closed client) old new = CanClose old.core client × Closes old.core client new.core × LogsGoBy old (λ entries. entries ≡ log.Resets client ∷ []) new
+Does (LeftLine client) old new = LeavesLine old.core client new.core × LogsGoBy old (λ entries. entries ≡ []) new
+Does (Loaded configuration generation) old new = IsLoaded old configuration generation new
+
+-- these calls, the latest first, lead from one state to the other
+abbrev pub Walks : List Step → ServedCore → ServedCore → Type 0
+Walks [] old new = new ≡ old
+Walks (step ∷ steps) old new = (mid : ServedCore) × Walks steps old mid × Does step mid new
+
+-- each is of this kind
+abbrev pub AreOf : (Step → Type 0) → List Step → Type 0
+AreOf Is [] = Unit {0}
+AreOf Is (step ∷ steps) = Is step × AreOf Is steps
+
+-- some calls, each of this kind, lead from one state to the other
+pub record GoesBy (Is : Step → Type 0) (old new : ServedCore) : Type 0 where
+  pub steps : List Step
+  pub kinds : AreOf Is steps
+  pub walks : Walks steps old new
+
+-- any call but a load
+abbrev pub IsOfTurn : Step → Type 0
+IsOfTurn (Loaded configuration generation) = ⊥
+IsOfTurn (Opened client) = Unit {0}
+IsOfTurn (NotOpened fault) = Unit {0}
+IsOfTurn (Fed client piece) = Unit {0}
+IsOfTurn (Polled client poll) = Unit {0}
+IsOfTurn (Stopped client fault) = Unit {0}
+IsOfTurn (Settled number outcome) = Unit {0}
+IsOfTurn (Gave client bytes) = Unit {0}
+IsOfTurn (Closed client) = Unit {0}
+IsOfTurn (LeftLine client) = Unit {0}
+
+-- a call of a server has failed
+abbrev pub IsFailure : Step → Type 0
+IsFailure (Settled number outcome) = outcome ≡ Failed
+IsFailure (Opened client) = ⊥
+IsFailure (NotOpened fault) = ⊥
+IsFailure (Fed client piece) = ⊥
+IsFailure (Polled client poll) = ⊥
+IsFailure (Stopped client fault) = ⊥
+IsFailure (Gave client bytes) = ⊥
+IsFailure (Closed client) = ⊥
+IsFailure (LeftLine client) = ⊥
+IsFailure (Loaded configuration generation) = ⊥
+
+-- it goes on by calls of it alone, and keeps its configuration
+abbrev pub GoesOn : ServedCore → ServedCore → Type 0
+GoesOn old new = GoesBy IsOfTurn old new
+
+-- nothing is done but that calls fail
+abbrev pub Fails : ServedCore → ServedCore → Type 0
+Fails old new = GoesBy IsFailure old new
+
+-- a law of all walks: a core whose trees the gate accepted stays one, and so does one on other trees
+abbrev pub WalksKeep : Type 0
+WalksKeep = (steps : List Step) (old new : ServedCore) → Walks steps old new → (IsAccepted old → IsAccepted new) × (IsAccepted new → IsAccepted old)

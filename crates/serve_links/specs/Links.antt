@@ -1,0 +1,30 @@
+-- The links of a proxy to its servers. Source: mcgate's own.
+use Rattle.std.specs.Prelude.{◌≡◌, ℕ, ◌+◌, List, [], ◌∷◌, length, None, IfSome, slice_get}
+use Rattle.mc_types.specs.declared.call.Outcome.TheVariants.{Failed}
+use Rattle.core_accepted.specs.declared.served.ServedCore.{ServedCore}
+use Rattle.serve_links.specs.declared.calls.calls.SentCall.{SentCall}
+use Rattle.core_accepted.specs.Results.{IsSettled}
+use Rattle.serve_links.specs.declared.link.Link.{Link}
+
+-- how many calls are out on these links: sent, or waiting to be sent
+abbrev pub calls_out : List Link → ℕ
+calls_out [] = 0
+calls_out (link ∷ links) = length link.calls.sent.items + length link.waiting.items + calls_out links
+
+-- each of these calls has failed, in this order, and nothing else was done
+abbrev pub AllFail : List SentCall → ServedCore → ServedCore → Type 0
+AllFail [] old new = new ≡ old
+AllFail (call ∷ calls) old new = (mid : ServedCore) × IsSettled old call.ticket.number Failed mid × AllFail calls mid new
+
+-- the link has no connection, and none of its calls is out
+pub record IsDown (link : Link) : Type 0 where
+  pub closed : link.conn ≡ None
+  pub sent : link.calls.sent.items ≡ []
+  pub waiting : link.waiting.items ≡ []
+
+-- so it is with the link of this number, if there is one
+abbrev pub IsDownAt : ℕ → List Link → Type 0
+IsDownAt at links = IfSome (slice_get links at) IsDown
+
+abbrev pub IsClosedAt : ℕ → List Link → Type 0
+IsClosedAt at links = IfSome (slice_get links at) (λ link. link.conn ≡ None)

@@ -1,0 +1,41 @@
+-- The answers that are settled of the bytes that a link holds, and what is left of them. Source: mcgate's own.
+use Rattle.std.specs.Prelude.{◌≡◌, ℕ, ◌++◌, ◌⊎◌, List, [], ◌∷◌, drop, Some}
+use Rattle.mc_types.specs.declared.answer.Answer.{Answer}
+use Rattle.mc_types.specs.declared.call.Outcome.TheVariants.{Answered}
+use Rattle.core_accepted.specs.declared.served.ServedCore.{ServedCore}
+use Rattle.serve_links.specs.declared.calls.calls.SentCall.{SentCall}
+use Rattle.serve_links.specs.declared.calls.calls.Next.{Next}
+use Rattle.serve_links.specs.declared.calls.calls.Next.TheVariants as nexts
+use Rattle.serve_links.specs.Calls.{AnswersFirst, AwaitsFirst, SettlesFirst}
+
+-- nothing is held, or what is held is cut before the end of the first call's answer
+abbrev pub HoldsNoAnswer : List SentCall → List ℕ → ServedCore → Type 0
+HoldsNoAnswer sent bytes core = (bytes ≡ []) ⊎ AwaitsFirst sent bytes core.core
+
+-- the bytes begin with this answer to the first call, as a part of them tells: the call is settled by it, what the answer takes goes, and the core goes on by that alone
+pub record SettlesOne (sent : List SentCall) (bytes : List ℕ) (core : ServedCore) (answer : Answer) (sent' : List SentCall) (bytes' : List ℕ) (core' : ServedCore) : Type 0 where
+  pub front : List ℕ
+  pub more : List ℕ
+  pub whole : bytes ≡ front ++ more
+  pub used : ℕ
+  pub answers : AnswersFirst sent front core.core answer used
+  pub rest : bytes' ≡ drop used front ++ more
+  pub client : ℕ
+  pub settles : SettlesFirst sent core (Answered answer) (Some client) sent' core'
+
+-- so it is with each of these answers, one after another, and nothing else is done
+abbrev pub SettlesEach : List Answer → List SentCall → List ℕ → ServedCore → List SentCall → List ℕ → ServedCore → Type 0
+SettlesEach [] sent bytes core sent' bytes' core' = (sent' ≡ sent) × (bytes' ≡ bytes) × (core' ≡ core)
+SettlesEach (answer ∷ answers) sent bytes core sent' bytes' core' =
+    (s : List SentCall) × (b : List ℕ) × (c : ServedCore) × SettlesOne sent bytes core answer s b c × SettlesEach answers s b c sent' bytes' core'
+
+-- so it is with some answers, or none: the bytes begin with them, and the others are left
+pub record SettlesSome (sent : List SentCall) (bytes : List ℕ) (core : ServedCore) (sent' : List SentCall) (bytes' : List ℕ) (core' : ServedCore) : Type 0 where
+  pub answers : List Answer
+  pub each : SettlesEach answers sent bytes core sent' bytes' core'
+
+-- how many bytes the answer took that was settled, if one was
+abbrev pub used_by : Next → ℕ
+used_by (nexts.Settled client used) = used
+used_by nexts.More = 0
+used_by nexts.Foreign = 0

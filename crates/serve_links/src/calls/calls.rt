@@ -1,0 +1,327 @@
+//! The calls of one server that are out, the one that went out first in front.
+
+ghost use Rattle.std.specs.Prelude.{◌≡◌, [], ◌∷◌, ◌++◌, ◌↔◌, true, false, IsTrue, OnOk, OnErr, IfOk, IfErr, IfSome, length, option_map};
+ghost use Rattle.mc_types.specs.Asks.{IsAsk};
+ghost use Rattle.wire_stream.specs.Spelling.{spelling_of};
+ghost use Rattle.wire_parts.specs.Sending.{bytes_of};
+ghost use Rattle.mc_types.specs.declared.ask.Dialect.TheVariants.{Meta};
+ghost use Rattle.wire_meta_gets.specs.Usual.{IsUsualTo};
+ghost use Rattle.serve_links.specs.Dialects.{asked_in};
+ghost use Rattle.core_accepted.specs.Results.{IsSettled};
+ghost use Rattle.serve_links.specs.Calls.{IsReadFor, IsReadNext, first_asked, FitsFirst, SettlesFirst, SettlesNext};
+ghost use Rattle.mc_types.specs.declared.call.Outcome.TheVariants.{Failed};
+
+use crate::calls::sending::send_ask;
+use core_accepted::ServedCore;
+use core_proxy::Ticket;
+use mc_types::{Ask, Dialect, Outcome, SpareBodies, is_ask};
+use std::alloc::{AllocError, Global};
+use std::collections::VecDeque;
+use wire_answers::laws::spelled_answers_fit;
+use wire_meta_gets::form::is_retrieval;
+use wire_meta_gets::{
+    MetaForms, UsualHit, is_plain_get, read_hit, read_in_meta, usual_hit, write_get, write_in_meta,
+};
+use wire_parts::to_send::SendBuffer;
+use wire_stream::{AnswerRead, Received, read_received};
+
+/// A call that went out to a server.
+#[derive(Drop)]
+pub struct SentCall {
+    pub ticket: Ticket,
+    /// Whose command it is.
+    pub client: usize,
+    /// When it began, in milliseconds.
+    pub since: u64,
+    /// In which dialect its server is asked for a classic get; all else is asked as it is.
+    pub dialect: Dialect,
+}
+
+/// What was done with a server's bytes.
+#[derive(Clone, Copy)]
+pub enum Next {
+    /// The first call of those that are out was settled: it was this client's, and its answer so many bytes.
+    Settled { client: usize, used: usize },
+    /// Its answer isn't whole yet.
+    More,
+    /// No answer to it begins so, or none is out, or memory was refused for it.
+    Foreign,
+}
+
+/// The calls of one server that are out, in the order in which they went out.
+#[derive(Drop)]
+pub struct LinkCalls {
+    alloc: Global,
+    sent: VecDeque<SentCall>,
+    // Those of the last gets that were asked in the meta dialect.
+    forms: MetaForms,
+    // Bodies of earlier answers, for later ones.
+    spares: SpareBodies,
+}
+
+/// A call that could not go out has failed.
+pub fn fail_call(core: &mut ServedCore, ticket: Ticket)
+    ensures { IsSettled core.old ticket.number Failed core.new }
+{
+    let _ = core.settle(ticket, Outcome::Failed);
+}
+
+// Appends what a server is asked that speaks the meta dialect.
+#[tactic(auto, using(crate::proofs::CallOrder::asked_else))]
+fn send_in_meta(
+    alloc: Global,
+    forms: &mut MetaForms,
+    ask: &Ask,
+    out: &mut SendBuffer,
+) -> Result<(), AllocError>
+    requires { IsAsk ask.now }
+    ensures ok { OnOk result (bytes_of out.new ≡ bytes_of out.old ++ spelling_of (asked_in Meta ask.now)) }
+    ensures err { OnErr result (bytes_of out.new ≡ bytes_of out.old) }
+{
+    if is_retrieval(ask) {
+        return write_in_meta(alloc, forms, ask, &mut out.text);
+    }
+    send_ask(ask, out)
+}
+
+// Appends what a server is asked in this dialect.
+fn send_in(
+    dialect: Dialect,
+    alloc: Global,
+    forms: &mut MetaForms,
+    ask: &Ask,
+    out: &mut SendBuffer,
+) -> Result<(), AllocError>
+    requires { IsAsk ask.now }
+    ensures ok { OnOk result (bytes_of out.new ≡ bytes_of out.old ++ spelling_of (asked_in dialect ask.now)) }
+    ensures err { OnErr result (bytes_of out.new ≡ bytes_of out.old) }
+{
+    match dialect {
+        Dialect::Classic => send_ask(ask, out),
+        Dialect::Meta => send_in_meta(alloc, forms, ask, out),
+    }
+}
+
+// Appends what a server is asked in this dialect: whether it was. A get without an expiry in the meta dialect, which is most of what is asked,
+// is one that a client can write, and isn't tested for that.
+#[tactic(auto, using(crate::proofs::CallOrder::asked_get))]
+fn send_any(
+    dialect: Dialect,
+    alloc: Global,
+    forms: &mut MetaForms,
+    ask: &Ask,
+    out: &mut SendBuffer,
+) -> bool
+    ensures sent { result ≡ true → bytes_of out.new ≡ bytes_of out.old ++ spelling_of (asked_in dialect ask.now) }
+    ensures refused { result ≡ false → bytes_of out.new ≡ bytes_of out.old }
+{
+    if dialect == Dialect::Meta && is_plain_get(ask) {
+        return write_get(ask, &mut out.text).is_ok();
+    }
+    is_ask(ask) && send_in(dialect, alloc, forms, ask, out).is_ok()
+}
+
+// The hit that the bytes begin with, where they are spelled as servers mostly do.
+fn hit_in(dialect: Dialect, ask: &Ask, bytes: &[u8]) -> Option<UsualHit>
+    ensures { IfSome result (λ hit. (dialect ≡ Meta) × IsUsualTo ask.now bytes.now hit) }
+{
+    match dialect {
+        Dialect::Classic => None,
+        Dialect::Meta => usual_hit(ask, bytes),
+    }
+}
+
+// What the bytes say to the ask, as it was asked in this dialect.
+#[tactic(auto, using(crate::proofs::CallOrder::read_classic, crate::proofs::CallOrder::read_meta))]
+fn read_in(
+    dialect: Dialect,
+    alloc: Global,
+    forms: &mut MetaForms,
+    spares: &mut SpareBodies,
+    ask: &Ask,
+    received: &Received,
+) -> Result<AnswerRead, AllocError>
+    requires { IsAsk ask.now }
+    ensures { IfOk result (IsReadFor dialect ask.now received.now) }
+{
+    spelled_answers_fit();
+    match dialect {
+        Dialect::Classic => read_received(alloc, spares, ask, received),
+        Dialect::Meta => read_in_meta(alloc, forms, spares, ask, received),
+    }
+}
+
+#[tactic(auto, using(crate::proofs::CallOrder::read_meta))]
+fn read_for(
+    dialect: Dialect,
+    alloc: Global,
+    forms: &mut MetaForms,
+    spares: &mut SpareBodies,
+    ask: &Ask,
+    received: &Received,
+) -> AnswerRead
+    ensures { IsReadFor dialect ask.now received.now result }
+{
+    if let Some(hit) = hit_in(dialect, ask, received.bytes()) {
+        return match read_hit(alloc, spares, ask, hit, received) {
+            Ok(read) => read,
+            Err(_) => AnswerRead::Foreign,
+        };
+    }
+    if !is_ask(ask) {
+        return AnswerRead::Foreign;
+    }
+    match read_in(dialect, alloc, forms, spares, ask, received) {
+        Ok(read) => read,
+        Err(_) => AnswerRead::Foreign,
+    }
+}
+
+// What they say to the core's call of this number.
+#[tactic(auto, using(crate::proofs::CallOrder::read_next))]
+fn read_next(
+    dialect: Dialect,
+    alloc: Global,
+    forms: &mut MetaForms,
+    spares: &mut SpareBodies,
+    core: &ServedCore,
+    number: u64,
+    received: &Received,
+) -> AnswerRead
+    ensures { IsReadNext dialect core.now.core number received.now result }
+{
+    match core.asked(number) {
+        None => AnswerRead::Foreign,
+        Some(ask) => read_for(dialect, alloc, forms, spares, ask, received),
+    }
+}
+
+impl LinkCalls {
+    /// No call is out. It takes no memory.
+    pub fn new(alloc: Global) -> LinkCalls
+        ensures { result.sent.items ≡ [] }
+    {
+        LinkCalls {
+            alloc,
+            sent: VecDeque::new(alloc),
+            forms: MetaForms::new(),
+            spares: SpareBodies::new(alloc),
+        }
+    }
+
+    /// How many calls are out.
+    pub fn len(&self) -> usize
+        ensures { result ≡ length self.now.sent.items }
+    {
+        self.sent.len()
+    }
+
+    /// Whether none is out.
+    pub fn is_empty(&self) -> bool
+        ensures { IsTrue result ↔ (self.now.sent.items ≡ []) }
+    {
+        self.sent.is_empty()
+    }
+
+    /// When the first of those that are out began.
+    pub fn oldest(&self) -> Option<u64> {
+        match self.sent.front() {
+            Some(call) => Some(call.since),
+            None => None,
+        }
+    }
+
+    // The number of the call that went out first, and the dialect in which it was asked.
+    fn first_asked(&self) -> Option<(u64, Dialect)>
+        ensures { result ≡ first_asked self.now.sent.items }
+    {
+        match self.sent.front() {
+            None => None,
+            Some(call) => Some((call.ticket.number, call.dialect)),
+        }
+    }
+
+    /// The call's ask is appended in its dialect to what is to be sent, and the call is after those that are out. Large data of a store
+    /// aren't copied, as [`send_ask`] says.
+    ///
+    /// Where memory was refused the call is given back, and nothing has changed.
+    ///
+    /// Source: mcgate's own.
+    pub fn begin(&mut self, call: SentCall, out: &mut SendBuffer) -> Result<(), SentCall>
+        ensures ok { OnOk result ((self.new.sent.items ≡ self.old.sent.items ++ call ∷ []) × (bytes_of out.new ≡ bytes_of out.old ++ spelling_of (asked_in call.dialect call.ticket.ask))) }
+        ensures err { IfErr result (λ given. (given ≡ call) × (self.new.sent.items ≡ self.old.sent.items) × (bytes_of out.new ≡ bytes_of out.old)) }
+    {
+        if self.sent.reserve(1).is_err() {
+            return Err(call);
+        }
+        let ask = call.ticket.ask.get();
+        if !send_any(call.dialect, self.alloc, &mut self.forms, ask, out) {
+            return Err(call);
+        }
+        self.sent.push_back_reserved(call);
+        Ok(())
+    }
+
+    // The first call had this outcome: whose it was.
+    #[tactic(auto, using(crate::proofs::CallOrder::popped, crate::proofs::CallOrder::fits_popped))]
+    fn settle_first(&mut self, core: &mut ServedCore, outcome: Outcome) -> Option<usize>
+        requires { FitsFirst self.old.sent.items core.old.core outcome }
+        ensures { SettlesFirst self.old.sent.items core.old outcome result self.new.sent.items core.new }
+    {
+        match self.sent.pop_front() {
+            None => None,
+            Some(call) => {
+                let client = call.client;
+                let _ = core.settle(call.ticket, outcome);
+                Some(client)
+            }
+        }
+    }
+
+    /// The first of the calls that are out is settled by its answer, where the bytes begin with one, in the dialect in which it was
+    /// asked: nothing else is, and the core goes on by that alone. Without one nothing has changed.
+    ///
+    /// Of the gets that were asked in the meta dialect the first takes memory for its form, and the first `gets` does, where their answers
+    /// aren't hits that are spelled as servers mostly do; later ones are read by the form that is kept. Data are copied, or share the buffer that they came in, as [`Received::data`] says.
+    ///
+    /// Source: mcgate's own.
+    pub fn settle_next(&mut self, core: &mut ServedCore, received: &Received) -> Next
+        ensures { SettlesNext self.old.sent.items received.now core.old result self.new.sent.items core.new }
+    {
+        let Some((number, dialect)) = self.first_asked() else {
+            return Next::Foreign;
+        };
+        match read_next(
+            dialect,
+            self.alloc,
+            &mut self.forms,
+            &mut self.spares,
+            core,
+            number,
+            received,
+        ) {
+            AnswerRead::More => Next::More,
+            AnswerRead::Foreign => Next::Foreign,
+            AnswerRead::Answer(answer, used) => {
+                match self.settle_first(core, Outcome::Answered(answer)) {
+                    Some(client) => Next::Settled { client, used },
+                    None => unreachable!(),
+                }
+            }
+        }
+    }
+
+    /// Buffers in which answers came whose data nobody has any more are let go, so that their room can be used again.
+    pub fn let_go(&mut self)
+        ensures { self.new.sent ≡ self.old.sent }
+    {
+        self.spares.let_go();
+    }
+
+    /// The first of the calls that are out has failed, if one is: whose it was.
+    pub fn fail_next(&mut self, core: &mut ServedCore) -> Option<usize>
+        ensures { SettlesFirst self.old.sent.items core.old Failed result self.new.sent.items core.new }
+    {
+        self.settle_first(core, Outcome::Failed)
+    }
+}

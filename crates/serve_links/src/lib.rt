@@ -1,0 +1,20 @@
+//! The connections of a proxy: one client's bytes, one server's link with its calls that are out, and what each of them
+//! does to the core.
+#![tactic(auto)]
+
+pub mod calls;
+mod client_bytes;
+mod link;
+mod news;
+mod outcomes;
+mod room;
+mod settings;
+mod tally;
+
+pub use client_bytes::{feed_held, read_once, send_once, show};
+pub use link::{Link, vain};
+pub use news::{Cause, LinkNews};
+pub use outcomes::{HeldAnswers, fail_all, settle_held};
+pub use room::{IDLE_ROOM, KEPT_ROOM, OWN_ROOM, give_back, has_spare};
+pub use settings::{ServerDialect, Settings};
+pub use tally::Tally;

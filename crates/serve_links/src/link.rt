@@ -1,0 +1,372 @@
+//! One server's link: its connection, if it has one, and the calls that are out.
+
+ghost use Rattle.std.specs.Prelude.{◌≡◌, ◌+◌, ◌<◌, false, ◌∷◌, [], None, length, MatchOption};
+ghost use Rattle.serve_links.specs.Links.{IsDown};
+
+use crate::calls::{LinkCalls, SentCall};
+use crate::news::{Cause, LinkNews};
+use crate::settings::{ServerDialect, Settings};
+use mc_types::Dialect;
+use mio::net::TcpStream;
+use serve_clients::socket::{Conn, Limits};
+use serve_clients::use_held;
+use std::alloc::{AllocError, AllocFailed, Global};
+use std::collections::VecDeque;
+use std::net::SocketAddr;
+use wire_meta_gets::{DialectRead, read_dialect, write_noop};
+
+// An answer is shorter than what is held at most. No further call goes out while so much is to be sent.
+const LIMITS: Limits = Limits {
+    held: 4_194_304,
+    unsent: 1_048_576,
+};
+
+// One read has room for so many bytes, besides what is missing of an answer with large data: for sixteen answers of 4 KiB with their lines, so that
+// those to one client mostly come whole.
+const LINK_READ: usize = 73_728;
+
+// And for so many where the read before filled its room: the answers to two such clients.
+const LONG_READ: usize = 147_456;
+
+// Of each link news are told once in so many milliseconds at most.
+const NEWS_MS: u64 = 1_000;
+
+// Why a connection that didn't stand yet failed.
+fn unconnected(cause: Cause) -> Cause {
+    match cause {
+        Cause::Closed | Cause::Broken => Cause::Unreachable,
+        other => other,
+    }
+}
+
+// In which dialect the first calls go out.
+fn first_dialect(dialect: ServerDialect) -> Dialect {
+    match dialect {
+        ServerDialect::Auto | ServerDialect::Classic => Dialect::Classic,
+        ServerDialect::Meta => Dialect::Meta,
+    }
+}
+
+/// Why a link failed, if too many reads were in vain.
+pub fn vain(has_failed: bool) -> Option<Cause> {
+    if has_failed {
+        Some(Cause::VainReads)
+    } else {
+        None
+    }
+}
+
+/// One server's link.
+#[derive(Drop)]
+pub struct Link {
+    /// None where its server's text names no host.
+    pub address: Option<SocketAddr>,
+    pub conn: Option<Conn<TcpStream>>,
+    pub calls: LinkCalls,
+    // Calls that wait until the server takes more, the one that came first in front. Some are out while one waits.
+    waiting: VecDeque<SentCall>,
+    /// In which dialect calls go out from now on.
+    pub dialect: Dialect,
+    /// Whether the answer to `mn` is still to come, before those to all calls.
+    pub awaits_dialect: bool,
+    /// When the connection was begun, in milliseconds.
+    pub opened: u64,
+    /// Whether it has stood since.
+    pub is_connected: bool,
+    /// How many times in a row it failed since its server last answered.
+    failures: u32,
+    /// Where those are as many as are allowed: until then its calls fail at once.
+    held_until: u64,
+    /// How many reads in a row brought no whole answer.
+    pub vain_reads: u32,
+    /// How many bytes the answer takes whose begin is held, where it has large data and its first line told so.
+    pub awaited: Option<usize>,
+    /// Whether the last read filled its room, so that more is there.
+    pub reads_long: bool,
+    pub is_ready: bool,
+    pub has_output: bool,
+    /// What happened last, if that wasn't told yet.
+    news: Option<LinkNews>,
+    /// From when on it may be told.
+    news_from: u64,
+    /// Whether a connection failed since one last stood.
+    was_down: bool,
+}
+
+impl Link {
+    /// A link without a connection.
+    pub fn new(alloc: Global, address: Option<SocketAddr>) -> Link
+        ensures { IsDown result }
+    {
+        Link {
+            address,
+            conn: None,
+            calls: LinkCalls::new(alloc),
+            waiting: VecDeque::new(alloc),
+            dialect: Dialect::Classic,
+            awaits_dialect: false,
+            opened: 0,
+            is_connected: false,
+            failures: 0,
+            held_until: 0,
+            vain_reads: 0,
+            awaited: None,
+            reads_long: false,
+            is_ready: false,
+            has_output: false,
+            news: None,
+            news_from: 0,
+            was_down: false,
+        }
+    }
+
+    // Whether what is to be sent is a backlog.
+    fn has_backlog(&self) -> bool
+        ensures { self.now.conn ≡ None → result ≡ false }
+    {
+        match &self.conn {
+            Some(conn) => conn.has_backlog(),
+            None => false,
+        }
+    }
+
+    /// Whether a further call has to wait.
+    pub fn is_full(&self) -> bool {
+        !self.waiting.is_empty() || self.has_backlog()
+    }
+
+    /// The call waits. Where memory was refused it is given back.
+    pub fn let_wait(&mut self, call: SentCall) -> Result<(), SentCall> {
+        match self.waiting.push_back(call) {
+            Ok(()) => Ok(()),
+            Err(AllocFailed { value }) => Err(value),
+        }
+    }
+
+    /// The first of the calls that wait, if it may go out now.
+    pub fn next_waiting(&mut self) -> Option<SentCall>
+        ensures waiting { MatchOption result (self.new.waiting.items ≡ self.old.waiting.items) (λ call. self.old.waiting.items ≡ call ∷ self.new.waiting.items) }
+        ensures none { self.old.conn ≡ None → result ≡ None → self.old.waiting.items ≡ [] }
+        ensures rest { self.new ≡ record self.old { waiting = self.new.waiting } }
+    {
+        if self.has_backlog() {
+            return None;
+        }
+        self.waiting.pop_front()
+    }
+
+    /// How many calls wait.
+    pub fn waiting(&self) -> usize
+        ensures { result ≡ length self.now.waiting.items }
+    {
+        self.waiting.len()
+    }
+
+    /// What is left of a number after the calls that are out, if they are no more than that.
+    pub fn without_calls(&self, count: usize) -> Option<usize>
+        ensures { MatchOption result (count < length self.now.calls.sent.items + length self.now.waiting.items) (λ left. length self.now.calls.sent.items + length self.now.waiting.items + left ≡ count) }
+    {
+        let sent = self.calls.len();
+        if count < sent {
+            return None;
+        }
+        let left = count - sent;
+        let waiting = self.waiting();
+        if left < waiting {
+            return None;
+        }
+        Some(left - waiting)
+    }
+
+    /// When it fails if nothing comes, in milliseconds: its first call, or its connection, has taken too long then.
+    pub fn time_limit(&self, settings: &Settings) -> Option<u64> {
+        if self.conn.is_none() {
+            return None;
+        }
+        if !self.is_connected {
+            return Some(self.opened.saturating_add(settings.connect_ms));
+        }
+        match self.calls.oldest() {
+            Some(since) => Some(since.saturating_add(settings.call_ms)),
+            None => None,
+        }
+    }
+
+    /// Why it has failed by now, if it has taken too long.
+    pub fn lateness(&self, now: u64, settings: &Settings) -> Option<Cause> {
+        match self.time_limit(settings) {
+            Some(limit) if limit < now => {
+                if self.is_connected {
+                    Some(Cause::CallLate)
+                } else {
+                    Some(Cause::ConnectLate)
+                }
+            }
+            _ => None,
+        }
+    }
+
+    /// Whether more may have come over it than was read.
+    pub fn may_have_more(&self) -> bool {
+        match &self.conn {
+            Some(conn) => conn.readable,
+            None => false,
+        }
+    }
+
+    /// The system is asked whether its connection stands by now, though it told of nothing: whether that is news. Where it stood before, a read may
+    /// give something.
+    pub fn look_again(&mut self) -> bool {
+        let Some(conn) = self.conn.as_mut() else {
+            return false;
+        };
+        if self.is_connected {
+            conn.readable = true;
+            return false;
+        }
+        if conn.stream.peer_addr().is_err() {
+            return false;
+        }
+        conn.readable = true;
+        conn.writable = true;
+        self.stand()
+    }
+
+    /// Whether a call fails at once: the server failed too many times in a row, and either it isn't to be tried yet, or a call tries.
+    pub fn is_held_back(&self, now: u64, settings: &Settings) -> bool {
+        settings.fail_limit <= self.failures && (now < self.held_until || !self.calls.is_empty())
+    }
+
+    /// A read brought whole answers, or none. Whether it has failed by that: where calls are out, and so many reads in a row brought none.
+    pub fn has_read(&mut self, has_settled: bool, polls: Option<u32>) -> bool {
+        if has_settled {
+            self.failures = 0;
+        }
+        if has_settled || self.calls.is_empty() {
+            self.vain_reads = 0;
+            return false;
+        }
+        self.vain_reads = self.vain_reads.saturating_add(1);
+        match polls {
+            Some(polls) => polls <= self.vain_reads,
+            None => false,
+        }
+    }
+
+    /// A connection was begun. Where its server is to tell its dialects, calls go out in the classic one until it has.
+    pub fn open(
+        &mut self,
+        alloc: Global,
+        stream: TcpStream,
+        now: u64,
+        dialect: ServerDialect,
+    ) -> Result<(), AllocError> {
+        let mut conn = Conn::new(alloc, stream, LIMITS);
+        conn.readable = false;
+        conn.writable = false;
+        self.awaits_dialect = dialect == ServerDialect::Auto;
+        self.dialect = first_dialect(dialect);
+        if self.awaits_dialect {
+            write_noop(&mut conn.unsent.text)?;
+        }
+        self.conn = Some(conn);
+        self.opened = now;
+        self.vain_reads = 0;
+        self.awaited = None;
+        self.reads_long = false;
+        self.is_connected = false;
+        Ok(())
+    }
+
+    /// For how many bytes the next read makes room: for the rest of an answer with large data too, so that it comes into one buffer of
+    /// its size.
+    pub fn read_room(&self) -> usize
+        ensures { 0 < result }
+    {
+        let Some(conn) = &self.conn else {
+            return LINK_READ;
+        };
+        match self.awaited {
+            Some(len) => len
+                .saturating_sub(conn.held.len())
+                .saturating_add(LINK_READ),
+            None => {
+                if self.reads_long {
+                    LONG_READ
+                } else {
+                    LINK_READ
+                }
+            }
+        }
+    }
+
+    /// What its server tells of its dialects is taken from its bytes, where that is still to come and whole. Whether it can be that.
+    pub fn learn(&mut self) -> bool {
+        let Some(conn) = self.conn.as_mut() else {
+            return true;
+        };
+        match read_dialect(conn.held.as_slice()) {
+            DialectRead::More => true,
+            DialectRead::Foreign => false,
+            DialectRead::Told(dialect, used) => {
+                use_held(conn, used);
+                self.dialect = dialect;
+                self.awaits_dialect = false;
+                true
+            }
+        }
+    }
+
+    /// Its connection stands. Whether that is news.
+    pub fn stand(&mut self) -> bool {
+        if self.is_connected {
+            return false;
+        }
+        self.is_connected = true;
+        self.news = if self.was_down {
+            Some(LinkNews::Back)
+        } else {
+            Some(LinkNews::Opened)
+        };
+        self.was_down = false;
+        true
+    }
+
+    /// The connection is gone, or could not be made.
+    pub fn close(&mut self, cause: Cause, now: u64, settings: &Settings)
+        ensures conn { self.new.conn ≡ None }
+        ensures calls { self.new.calls ≡ self.old.calls }
+        ensures waiting { self.new.waiting ≡ self.old.waiting }
+    {
+        let cause = if self.is_connected {
+            cause
+        } else {
+            unconnected(cause)
+        };
+        self.conn = None;
+        self.is_connected = false;
+        self.was_down = true;
+        self.failures = self.failures.saturating_add(1);
+        self.held_until = now.saturating_add(settings.retry_ms);
+        self.news = Some(LinkNews::Failed(cause, self.failures));
+    }
+
+    /// When its news may be told, if there are any.
+    pub fn news_limit(&self) -> Option<u64> {
+        if self.news.is_none() {
+            return None;
+        }
+        Some(self.news_from)
+    }
+
+    /// Its news, if they may be told now. Of several the last is told.
+    pub fn take_news(&mut self, now: u64) -> Option<LinkNews> {
+        if now < self.news_from {
+            return None;
+        }
+        let news = self.news?;
+        self.news = None;
+        self.news_from = now.saturating_add(NEWS_MS);
+        Some(news)
+    }
+}

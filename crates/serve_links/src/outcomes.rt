@@ -1,0 +1,501 @@
+//! The outcomes of a link's calls, for the core and the clients: answers settle them, or they fail.
+
+ghost use Rattle.std.specs.Prelude.{◌≡◌, ◌≢◌, true, ◌++◌, [], drop, None, IfSome, IfOk, OnOk};
+ghost use Rattle.serve_links.specs.Calls.{SettlesNext};
+ghost use Rattle.serve_links.specs.CoreSteps.{GoesOn, Fails};
+ghost use Rattle.serve_links.specs.Links.{AllFail, IsDown};
+ghost use Rattle.serve_links.specs.Settled.{HoldsNoAnswer, SettlesSome, used_by};
+
+use crate::calls::{LinkCalls, Next, fail_call};
+use crate::link::Link;
+use bytes::Bytes;
+use core_accepted::ServedCore;
+use mio::net::TcpStream;
+use serve_clients::socket::Conn;
+use serve_clients::{Clients, use_held};
+use std::alloc::AllocError;
+use wire_stream::{CUT_FROM, Received, SHARED_FROM, large_len};
+
+// Where so many bytes or more are held, long data share them.
+const MUCH_HELD: usize = 16_384;
+
+// For so many bytes there is room after what is held again: as many as the longest read of answers that aren't large has.
+const ROOM_AFTER: usize = 147_456;
+
+// The calls that are out on a link have failed.
+fn fail_sent(
+    calls: &mut LinkCalls,
+    core: &mut ServedCore,
+    clients: &mut Clients,
+) -> Result<(), AllocError>
+    ensures core { Fails core.old core.new }
+    ensures none { OnOk result (calls.new.sent.items ≡ []) }
+    ensures all { OnOk result (AllFail calls.old.sent.items core.old core.new) }
+{
+    for _ in 0..calls.len() {
+        let Some(client) = calls.fail_next(core) else {
+            return Ok(());
+        };
+        clients.mark_settled(client)?;
+    }
+    Ok(())
+}
+
+// The calls that wait for the link have failed.
+fn fail_waiting(
+    link: &mut Link,
+    core: &mut ServedCore,
+    clients: &mut Clients,
+) -> Result<(), AllocError>
+    requires { link.old.conn ≡ None }
+    ensures core { Fails core.old core.new }
+    ensures none { OnOk result (link.new.waiting.items ≡ []) }
+    ensures all { OnOk result (AllFail link.old.waiting.items core.old core.new) }
+    ensures rest { link.new ≡ record link.old { waiting = link.new.waiting } }
+{
+    for _ in 0..link.waiting() {
+        let Some(call) = link.next_waiting() else {
+            return Ok(());
+        };
+        let client = call.client;
+        fail_call(core, call.ticket);
+        clients.end_waiting(client)?;
+        clients.mark_settled(client)?;
+    }
+    Ok(())
+}
+
+/// All calls of the link, which has no connection, have failed: those that are out, and then those that wait.
+pub fn fail_all(
+    link: &mut Link,
+    core: &mut ServedCore,
+    clients: &mut Clients,
+) -> Result<(), AllocError>
+    requires { link.old.conn ≡ None }
+    ensures core { Fails core.old core.new }
+    ensures down { OnOk result (IsDown link.new) }
+    ensures all { OnOk result (AllFail (link.old.calls.sent.items ++ link.old.waiting.items) core.old core.new) }
+    ensures closed { link.new.conn ≡ None }
+{
+    fail_sent(&mut link.calls, core, clients)?;
+    fail_waiting(link, core, clients)
+}
+
+/// What came of the answers that a link holds.
+#[derive(Clone, Copy)]
+pub struct HeldAnswers {
+    /// Whether one was settled at least.
+    pub has_settled: bool,
+    /// Whether what is left may be the begin of the next one.
+    pub is_kept: bool,
+    /// How many bytes that one takes, where its first line is there and tells of large data.
+    pub awaited: Option<usize>,
+}
+
+// At which answers settling stops before their end.
+#[derive(Clone, Copy, PartialEq, Eq)]
+enum Stops {
+    // At none: what is held is shared.
+    Never,
+    // At those with long data.
+    AtLong,
+    // At those with large data.
+    AtLarge,
+}
+
+// What the answers that were settled end with.
+#[derive(Clone, Copy)]
+enum HeldStop {
+    // What is left may be the begin of the next one.
+    More,
+    // No answer to the next call begins so.
+    Foreign,
+    // The next one has long data, and is there: they are to be shared, and so are those of the ones after it.
+    Long,
+    // The next one has large data, and is there: it takes so many bytes, if it is spelled as usual.
+    Large(usize),
+}
+
+// What was done with the answer in front.
+#[derive(Clone, Copy)]
+enum HeldFront {
+    // It was settled, and is held no more.
+    Settled,
+    // It isn't whole yet.
+    More,
+    // No answer to the first call begins so, or memory was refused for what follows it.
+    Foreign,
+}
+
+// What stands from this place on.
+fn rest_of(bytes: &[u8], at: usize) -> &[u8]
+    ensures { result.now ≡ drop at bytes.now }
+{
+    bytes.get(at..).unwrap_or(b"".as_slice())
+}
+
+// Whether the answer in front may have long data, by its first bytes: after `VA` a length of four digits follows at once. Among many small answers no
+// further word of them is read for that. A classic one tells its length later, and is looked at only where much is held.
+fn may_be_long(held: &[u8]) -> bool {
+    match held {
+        [b'V', b'A', b' ', _, _, _, digit, ..] => digit.is_ascii_digit(),
+        _ => held.len() >= SHARED_FROM && held.starts_with(b"VALUE "),
+    }
+}
+
+// How many bytes the answer in front takes, where it has so many bytes of data or more and is there.
+fn whole_front(from: usize, held: &[u8]) -> Option<usize> {
+    if held.len() < from || !may_be_long(held) {
+        return None;
+    }
+    let len = large_len(from, held)?;
+    if held.len() < len {
+        return None;
+    }
+    Some(len)
+}
+
+// What stands in front, if that is an answer to stop at.
+fn front_stop(stops: Stops, held: &[u8]) -> Option<HeldStop>
+    ensures { IfSome result (λ stop. stop ≢ HeldStop.More) }
+{
+    let from = match stops {
+        Stops::Never => return None,
+        Stops::AtLong => CUT_FROM,
+        Stops::AtLarge => SHARED_FROM,
+    };
+    match whole_front(from, held) {
+        None => None,
+        Some(len) if len > SHARED_FROM => Some(HeldStop::Large(len)),
+        Some(_) => Some(HeldStop::Long),
+    }
+}
+
+// The first call is settled by its answer, if these bytes begin with it.
+fn settle_first(calls: &mut LinkCalls, core: &mut ServedCore, received: &Received) -> Next
+    ensures core { GoesOn core.old core.new }
+    ensures next { SettlesNext calls.old.sent.items received.now core.old result calls.new.sent.items core.new }
+{
+    calls.settle_next(core, received)
+}
+
+// The first call is settled by its answer, if what stands from this place on begins with it. (apart, so that what is made for it is gone by the end)
+fn settle_at(calls: &mut LinkCalls, core: &mut ServedCore, received: &Received, at: usize) -> Next
+    ensures core { GoesOn core.old core.new }
+    ensures next { SettlesNext calls.old.sent.items (drop at received.now) core.old result calls.new.sent.items core.new }
+{
+    let at = at.min(received.bytes().len());
+    settle_first(calls, core, &received.after(at))
+}
+
+// Whole answers in these bytes are settled, up to one to stop at: how many bytes they are, and what follows.
+fn settle_in(
+    calls: &mut LinkCalls,
+    core: &mut ServedCore,
+    clients: &mut Clients,
+    is_freed: &mut bool,
+    received: &Received,
+    stops: Stops,
+) -> Result<(usize, HeldStop), AllocError>
+    ensures core { GoesOn core.old core.new }
+    ensures left { IfOk result (λ did. did.1 ≡ HeldStop.More → HoldsNoAnswer calls.new.sent.items (drop did.0 received.now) core.new) }
+    ensures settled { IfOk result (λ did. SettlesSome calls.old.sent.items received.now core.old calls.new.sent.items (drop did.0 received.now) core.new) }
+{
+    let held = received.bytes();
+    let mut used = 0usize;
+    for _ in 0..held.len() {
+        let rest = rest_of(held, used);
+        if rest.is_empty() {
+            return Ok((used, HeldStop::More));
+        }
+        if let Some(stop) = front_stop(stops, rest) {
+            return Ok((used, stop));
+        }
+        match settle_at(calls, core, received, used) {
+            Next::Settled { client, used: len } => {
+                used = used.saturating_add(len);
+                *is_freed = true;
+                clients.mark_settled(client)?;
+            }
+            Next::More => return Ok((used, HeldStop::More)),
+            Next::Foreign => return Ok((used, HeldStop::Foreign)),
+        }
+    }
+    // No answer is empty, so nothing is left here.
+    if used < held.len() {
+        return Ok((used, HeldStop::Foreign));
+    }
+    Ok((used, HeldStop::More))
+}
+
+// The same in bytes that aren't shared.
+fn settle_here(
+    calls: &mut LinkCalls,
+    core: &mut ServedCore,
+    clients: &mut Clients,
+    is_freed: &mut bool,
+    held: &[u8],
+    stops: Stops,
+) -> Result<(usize, HeldStop), AllocError>
+    ensures core { GoesOn core.old core.new }
+    ensures left { IfOk result (λ did. did.1 ≡ HeldStop.More → HoldsNoAnswer calls.new.sent.items (drop did.0 held.now) core.new) }
+    ensures settled { IfOk result (λ did. SettlesSome calls.old.sent.items held.now core.old calls.new.sent.items (drop did.0 held.now) core.new) }
+{
+    settle_in(
+        calls,
+        core,
+        clients,
+        is_freed,
+        &Received::copied(held),
+        stops,
+    )
+}
+
+// All whole answers in bytes that are shared are settled.
+fn settle_cut(
+    calls: &mut LinkCalls,
+    core: &mut ServedCore,
+    clients: &mut Clients,
+    is_freed: &mut bool,
+    front: &Bytes,
+) -> Result<(usize, HeldStop), AllocError>
+    ensures core { GoesOn core.old core.new }
+    ensures left { IfOk result (λ did. did.1 ≡ HeldStop.More → HoldsNoAnswer calls.new.sent.items (drop did.0 front.now) core.new) }
+    ensures settled { IfOk result (λ did. SettlesSome calls.old.sent.items front.now core.old calls.new.sent.items (drop did.0 front.now) core.new) }
+{
+    settle_in(
+        calls,
+        core,
+        clients,
+        is_freed,
+        &Received::shared(front),
+        Stops::Never,
+    )
+}
+
+// The answer in front is settled by a copy of its data.
+fn settle_copied(
+    calls: &mut LinkCalls,
+    core: &mut ServedCore,
+    clients: &mut Clients,
+    is_freed: &mut bool,
+    conn: &mut Conn<TcpStream>,
+) -> Result<HeldFront, AllocError>
+    ensures core { GoesOn core.old core.new }
+    ensures left { IfOk result (λ front. front ≡ HeldFront.More → HoldsNoAnswer calls.new.sent.items conn.new.held.items core.new) }
+    ensures settled { IfOk result (λ front. front ≢ HeldFront.Foreign → SettlesSome calls.old.sent.items conn.old.held.items core.old calls.new.sent.items conn.new.held.items core.new) }
+{
+    match settle_first(calls, core, &Received::copied(conn.held.as_slice())) {
+        Next::Settled { client, used } => {
+            use_held(conn, used);
+            *is_freed = true;
+            clients.mark_settled(client)?;
+            Ok(HeldFront::Settled)
+        }
+        Next::More => Ok(HeldFront::More),
+        Next::Foreign => Ok(HeldFront::Foreign),
+    }
+}
+
+// What these bytes have besides so many is held again. Whether memory was there for that.
+fn hold_rest(conn: &mut Conn<TcpStream>, front: &Bytes, used: usize) -> bool
+    ensures { result ≡ true → conn.new.held.items ≡ drop used front.now ++ conn.old.held.items }
+{
+    let rest = rest_of(front.as_slice(), used);
+    conn.hold_again(rest, ROOM_AFTER).is_ok()
+}
+
+// What was done with the answer after those that were settled from a part that was cut off, of which the rest is held again or not.
+fn front_after(stop: HeldStop, is_kept: bool) -> HeldFront
+    ensures stop { result ≡ HeldFront.More → stop ≡ HeldStop.More }
+    ensures kept { result ≢ HeldFront.Foreign → is_kept ≡ true }
+{
+    match stop {
+        HeldStop::More if is_kept => HeldFront::More,
+        _ => HeldFront::Foreign,
+    }
+}
+
+// Whole answers are settled, and long data of them share the buffer that they came in: whether one was, and what was done with the last.
+fn settle_long(
+    calls: &mut LinkCalls,
+    core: &mut ServedCore,
+    clients: &mut Clients,
+    is_freed: &mut bool,
+    conn: &mut Conn<TcpStream>,
+) -> Result<(bool, HeldFront), AllocError>
+    ensures core { GoesOn core.old core.new }
+    ensures left { IfOk result (λ did. did.1 ≡ HeldFront.More → HoldsNoAnswer calls.new.sent.items conn.new.held.items core.new) }
+    ensures settled { IfOk result (λ did. did.1 ≢ HeldFront.Foreign → SettlesSome calls.old.sent.items conn.old.held.items core.old calls.new.sent.items conn.new.held.items core.new) }
+{
+    let Ok(front) = conn.held.freeze_to(conn.held.len()) else {
+        let front = settle_copied(calls, core, clients, is_freed, conn)?;
+        return Ok((false, front));
+    };
+    let (used, stop) = settle_cut(calls, core, clients, is_freed, &front)?;
+    let is_kept = hold_rest(conn, &front, used);
+    Ok((used > 0, front_after(stop, is_kept)))
+}
+
+// How many bytes the answer took that was settled, if one was.
+fn used_by(next: Next) -> usize
+    ensures { result ≡ used_by next }
+{
+    match next {
+        Next::Settled { client: _, used } => used,
+        _ => 0,
+    }
+}
+
+// The first call is settled by its answer, if these bytes begin with it, and what they have besides is held again: what was done, and
+// whether memory was there for that.
+fn settle_shared(
+    calls: &mut LinkCalls,
+    core: &mut ServedCore,
+    front: &Bytes,
+    conn: &mut Conn<TcpStream>,
+) -> (Next, bool)
+    ensures core { GoesOn core.old core.new }
+    ensures settled { result.1 ≡ true → SettlesSome calls.old.sent.items (front.now ++ conn.old.held.items) core.old calls.new.sent.items conn.new.held.items core.new }
+{
+    let next = settle_first(calls, core, &Received::shared(front));
+    let used = used_by(next);
+    let is_kept = used == front.len() || hold_rest(conn, front, used);
+    (next, is_kept)
+}
+
+// The answer in front, which takes so many bytes if it is spelled as usual, is settled, and its data share the buffer that they came in.
+// Where memory is refused for that, or it is spelled otherwise, they are copied.
+fn settle_large(
+    calls: &mut LinkCalls,
+    core: &mut ServedCore,
+    clients: &mut Clients,
+    is_freed: &mut bool,
+    conn: &mut Conn<TcpStream>,
+    len: usize,
+) -> Result<HeldFront, AllocError>
+    ensures core { GoesOn core.old core.new }
+    ensures left { IfOk result (λ front. front ≡ HeldFront.More → HoldsNoAnswer calls.new.sent.items conn.new.held.items core.new) }
+    ensures settled { IfOk result (λ front. front ≢ HeldFront.Foreign → SettlesSome calls.old.sent.items conn.old.held.items core.old calls.new.sent.items conn.new.held.items core.new) }
+{
+    let len = len.min(conn.held.len());
+    let Ok(front) = conn.held.freeze_to(len) else {
+        return settle_copied(calls, core, clients, is_freed, conn);
+    };
+    match settle_shared(calls, core, &front, conn) {
+        (Next::Settled { client, used: _ }, is_kept) => {
+            *is_freed = true;
+            clients.mark_settled(client)?;
+            if is_kept {
+                Ok(HeldFront::Settled)
+            } else {
+                Ok(HeldFront::Foreign)
+            }
+        }
+        (Next::More, true) => settle_copied(calls, core, clients, is_freed, conn),
+        _ => Ok(HeldFront::Foreign),
+    }
+}
+
+// What settling stopped at is settled, if it is there: whether others than the last were, and what was done with that.
+fn settle_stop(
+    calls: &mut LinkCalls,
+    core: &mut ServedCore,
+    clients: &mut Clients,
+    is_freed: &mut bool,
+    conn: &mut Conn<TcpStream>,
+    stop: HeldStop,
+) -> Result<(bool, HeldFront), AllocError>
+    requires { stop ≡ HeldStop.More → HoldsNoAnswer calls.old.sent.items conn.old.held.items core.old }
+    ensures core { GoesOn core.old core.new }
+    ensures left { IfOk result (λ did. did.1 ≡ HeldFront.More → HoldsNoAnswer calls.new.sent.items conn.new.held.items core.new) }
+    ensures settled { IfOk result (λ did. did.1 ≢ HeldFront.Foreign → SettlesSome calls.old.sent.items conn.old.held.items core.old calls.new.sent.items conn.new.held.items core.new) }
+{
+    match stop {
+        HeldStop::More => Ok((false, HeldFront::More)),
+        HeldStop::Foreign => Ok((false, HeldFront::Foreign)),
+        HeldStop::Long => settle_long(calls, core, clients, is_freed, conn),
+        HeldStop::Large(len) => match settle_large(calls, core, clients, is_freed, conn, len) {
+            Ok(front) => Ok((false, front)),
+            Err(refused) => Err(refused),
+        },
+    }
+}
+
+// Whole answers are settled, up to one to stop at, and that one: whether others than the last were, and what was done with that.
+fn settle_some(
+    calls: &mut LinkCalls,
+    core: &mut ServedCore,
+    clients: &mut Clients,
+    is_freed: &mut bool,
+    conn: &mut Conn<TcpStream>,
+    stops: Stops,
+) -> Result<(bool, HeldFront), AllocError>
+    ensures core { GoesOn core.old core.new }
+    ensures left { IfOk result (λ did. did.1 ≡ HeldFront.More → HoldsNoAnswer calls.new.sent.items conn.new.held.items core.new) }
+    ensures settled { IfOk result (λ did. did.1 ≢ HeldFront.Foreign → SettlesSome calls.old.sent.items conn.old.held.items core.old calls.new.sent.items conn.new.held.items core.new) }
+{
+    let (used, stop) = settle_here(calls, core, clients, is_freed, conn.held.as_slice(), stops)?;
+    use_held(conn, used);
+    let (others, front) = settle_stop(calls, core, clients, is_freed, conn, stop)?;
+    Ok((used > 0 || others, front))
+}
+
+// At which answers settling stops: sharing long data is worth its cost where much is held, and what was cut off before must be gone.
+fn stops_for(calls: &mut LinkCalls, conn: &mut Conn<TcpStream>) -> Stops
+    ensures calls { calls.new.sent ≡ calls.old.sent }
+    ensures held { conn.new.held ≡ conn.old.held }
+{
+    if conn.held.len() < MUCH_HELD {
+        return Stops::AtLarge;
+    }
+    calls.let_go();
+    if conn.may_cut() {
+        Stops::AtLong
+    } else {
+        Stops::AtLarge
+    }
+}
+
+fn told(has_settled: bool, is_kept: bool, held: &[u8]) -> HeldAnswers
+    ensures { result.is_kept ≡ is_kept }
+{
+    HeldAnswers {
+        has_settled,
+        is_kept,
+        awaited: large_len(SHARED_FROM, held),
+    }
+}
+
+/// All whole answers that the link's connection holds are settled, one after another, and are held no more: nothing is left, or the begin of the next one.
+/// Where what is left can't be kept, nothing is said of it. Large data, of [`SHARED_FROM`] bytes or more, share the buffer that they came in. So do long
+/// ones, of [`CUT_FROM`] bytes or more, where 16,384 bytes or more are held and none that shared another buffer before is in use. All others are copied.
+pub fn settle_held(
+    calls: &mut LinkCalls,
+    core: &mut ServedCore,
+    clients: &mut Clients,
+    is_freed: &mut bool,
+    conn: &mut Conn<TcpStream>,
+) -> Result<HeldAnswers, AllocError>
+    ensures core { GoesOn core.old core.new }
+    ensures left { IfOk result (λ answers. answers.is_kept ≡ true → HoldsNoAnswer calls.new.sent.items conn.new.held.items core.new) }
+    ensures settled { IfOk result (λ answers. answers.is_kept ≡ true → SettlesSome calls.old.sent.items conn.old.held.items core.old calls.new.sent.items conn.new.held.items core.new) }
+{
+    let stops = stops_for(calls, conn);
+    let mut has_settled = false;
+    for _ in 0..conn.held.len() {
+        let (others, front) = settle_some(calls, core, clients, is_freed, conn, stops)?;
+        match front {
+            HeldFront::Settled => has_settled = true,
+            HeldFront::More => return Ok(told(has_settled || others, true, conn.held.as_slice())),
+            HeldFront::Foreign => return Ok(told(
+                has_settled || others,
+                false,
+                conn.held.as_slice(),
+            )),
+        }
+    }
+    // Nothing is held here either.
+    let is_kept = conn.held.is_empty();
+    Ok(told(has_settled, is_kept, conn.held.as_slice()))
+}

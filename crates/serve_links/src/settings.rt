@@ -1,0 +1,56 @@
+//! How a proxy is set: how many clients, commands and calls, how long is waited, and how servers are asked.
+
+use core_proxy::Sharing;
+
+/// In which dialect a server is asked for classic gets. All else is asked as the client wrote it.
+#[derive(Clone, Copy, PartialEq, Eq)]
+pub enum ServerDialect {
+    /// Each connection begins with an `mn`, whose answer tells.
+    Auto,
+    Classic,
+    /// As meta gets, whose answers memcached sends together.
+    Meta,
+}
+
+/// How many clients there may be, how many calls may be out, how long is waited, and how servers are asked.
+#[derive(Clone, Copy)]
+pub struct Settings {
+    /// How many clients may be connected.
+    pub clients: usize,
+    /// How many commands of one client may have no shown reply.
+    pub client_window: usize,
+    /// How many calls may be out at one server.
+    pub link_window: usize,
+    /// Which commands may be under way together on one key.
+    pub sharing: Sharing,
+    /// How many milliseconds a call may take.
+    pub call_ms: u64,
+    /// How many milliseconds a connection to a server may take to stand.
+    pub connect_ms: u64,
+    /// After how many failures of a server in a row its calls fail at once.
+    pub fail_limit: u32,
+    /// For how many milliseconds they do, before one call tries it.
+    pub retry_ms: u64,
+    /// After so many reads of a server in a row that brought no whole answer its calls have failed; without a number they may be any.
+    pub polls: Option<u32>,
+    pub server_dialect: ServerDialect,
+}
+
+impl Settings {
+    /// 1,024 clients, 32 commands of each, 256 calls at each server, keys shared, one second each time, three failures, any number of reads,
+    /// and dialects as servers tell.
+    pub fn usual() -> Settings {
+        Settings {
+            clients: 1_024,
+            client_window: 32,
+            link_window: 256,
+            sharing: Sharing::Shared,
+            call_ms: 1_000,
+            connect_ms: 1_000,
+            fail_limit: 3,
+            retry_ms: 1_000,
+            polls: None,
+            server_dialect: ServerDialect::Auto,
+        }
+    }
+}

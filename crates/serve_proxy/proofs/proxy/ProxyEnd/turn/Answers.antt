@@ -1,0 +1,5 @@
+use Rattle.serve_links.proofs.Walked.{from}
+use Rattle.serve_proxy.proofs.proxy.ProxyEnd.turn.Goals as goal
+
+pub returns : goal.returns
+returns g c = record { core = from c.as_mut.ensures.value c.run_turn.ensures.core }

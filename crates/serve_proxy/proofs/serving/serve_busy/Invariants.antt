@@ -1,0 +1,5 @@
+use Rattle.serve_links.specs.CoreSteps.{GoesOn}
+use Rattle.serve_proxy.proofs.serving.serve_busy.Given as goal
+
+abbrev pub invariant-loop-id : goal.invariant-loop-id
+invariant-loop-id g l = GoesOn l.fn.core l.core

@@ -1,0 +1,29 @@
+-- How the core of a proxy begins, and what a load makes of it. Source: mcgate's own.
+use Rattle.std.specs.Prelude.{◌≡◌, ℕ, List, ◌⊎◌}
+use Rattle.route_tree.specs.Route.{Route}
+use Rattle.route_json.specs.Configuration.{Configuration}
+use Rattle.gate_check.specs.declared.reloading.ReloadFault.TheVariants.{NoMemory}
+use Rattle.core_proxy.specs.declared.limits.Limits.{Limits}
+use Rattle.core_accepted.specs.Logs.{IsNew, IsUnchecked}
+use Rattle.core_accepted.specs.declared.served.ServedCore.{ServedCore}
+use Rattle.core_accepted.specs.declared.loading.LoadFault.{LoadFault}
+use Rattle.core_accepted.specs.declared.loading.LoadFault.TheVariants.{Refused}
+use Rattle.core_accepted.specs.Loading.{IsLoaded}
+use Rattle.serve_links.specs.declared.settings.Settings.{Settings}
+use Rattle.serve_proxy.specs.declared.beginning.TheConstants.{HELD_LIMIT}
+
+-- the core's limits
+abbrev pub limits_by : Settings → Limits
+limits_by settings = record { clients = settings.clients; held = HELD_LIMIT; depth = settings.client_window; window = settings.link_window; sharing = settings.sharing }
+
+-- it is a new core on accepted trees
+abbrev pub BeginsFresh : List Configuration → Settings → ServedCore → Type 0
+BeginsFresh accepted settings core = IsNew accepted (limits_by settings) core
+
+-- it is a new core on this tree, which no gate was asked about
+abbrev pub BeginsUnchecked : Route → Settings → ServedCore → Type 0
+BeginsUnchecked tree settings core = IsUnchecked tree (limits_by settings) core
+
+-- after a fault it is as it was; where there was no memory for new links, it may be loaded
+abbrev pub LoadStops : ServedCore → Configuration → LoadFault → ServedCore → Type 0
+LoadStops old configuration fault new = (new ≡ old) ⊎ ((fault ≡ Refused NoMemory) × ((generation : ℕ) × IsLoaded old configuration generation new))

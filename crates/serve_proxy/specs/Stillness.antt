@@ -1,0 +1,29 @@
+-- When nothing is left to do for a proxy until something comes. Source: mcgate's own.
+use Rattle.std.specs.Prelude.{◌≡◌, ℕ, ◌≤◌, true, []}
+use Rattle.serve_proxy.specs.declared.accepting.Accepting.TheVariants as accepting
+use Rattle.serve_proxy.specs.declared.sockets.Sockets.{Sockets}
+use Rattle.serve_proxy.specs.declared.proxy.ProxyEnd.{ProxyEnd}
+use Rattle.serve_links.specs.Links.{calls_out}
+
+-- clients may wait to be accepted, and it is time for it
+abbrev pub MayAccept : accepting.the_data → ℕ → Type 0
+MayAccept accepting.Now now = Unit {0}
+MayAccept (accepting.From time) now = time ≤ now
+MayAccept accepting.Idle now = ⊥
+
+-- nothing is ready, and none that waits can go on
+pub record HasNoWork (sockets : Sockets) : Type 0 where
+  pub accepting : MayAccept sockets.accepting sockets.clock.time → ⊥
+  pub clients : sockets.clients.ready.items ≡ []
+  pub links : sockets.links.ready.items ≡ []
+  pub output : sockets.links.with_output.items ≡ []
+  pub replies : sockets.clients.with_output.items ≡ []
+  pub busy : sockets.is_freed ≡ true → sockets.clients.busy.items ≡ []
+
+-- and so many calls are out
+abbrev pub AreStill : ℕ → Sockets → Type 0
+AreStill calls sockets = HasNoWork sockets × (calls_out sockets.links.all.items ≡ calls)
+
+-- so it is with a proxy's end
+abbrev pub IsStill : ℕ → ProxyEnd → Type 0
+IsStill calls end = AreStill calls end.sockets

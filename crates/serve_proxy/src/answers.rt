@@ -1,0 +1,139 @@
+//! Links are read, and whole answers settle the calls that are out.
+
+ghost use Rattle.serve_links.specs.CoreSteps.{GoesOn};
+
+use crate::failing::fail_link;
+use crate::sockets::Sockets;
+use core_accepted::ServedCore;
+use serve_clients::socket::Got;
+use serve_links::{Cause, KEPT_ROOM, settle_held, vain};
+use std::alloc::AllocError;
+use std::io;
+
+/// Links that are ready are read.
+pub fn read_links(core: &mut ServedCore, sockets: &mut Sockets) -> io::Result<()>
+    ensures core { GoesOn core.old core.new }
+{
+    let links = sockets.work.take(&mut sockets.links.ready);
+    for at in links.as_slice() {
+        sockets.links.end_ready(*at);
+        serve_link(core, sockets, *at)?;
+    }
+    sockets.work.end(links);
+    Ok(())
+}
+
+/// The link is read, and fails where it has failed by that.
+pub fn serve_link(core: &mut ServedCore, sockets: &mut Sockets, at: usize) -> io::Result<()>
+    ensures core { GoesOn core.old core.new }
+{
+    if let Some(cause) = read_link(core, sockets, at)? {
+        return Ok(fail_link(core, sockets, at, cause)?);
+    }
+    if sockets.links.may_have_more(at) {
+        sockets.links.mark_ready(at)?;
+    }
+    Ok(())
+}
+
+// One read, and all whole answers are settled. Why the link fails by that, if it does.
+fn read_link(core: &mut ServedCore, sockets: &mut Sockets, at: usize) -> io::Result<Option<Cause>>
+    ensures core { GoesOn core.old core.new }
+{
+    match sockets.read_link_once(at)? {
+        None => Ok(None),
+        Some(Got::Nothing) => Ok(sockets.read_in_vain(at)),
+        Some(Got::Ended) => Ok(Some(Cause::Closed)),
+        Some(Got::Failed) => Ok(Some(Cause::Broken)),
+        Some(Got::Full) => Ok(Some(Cause::Foreign)),
+        Some(Got::Bytes) => learn_and_settle(core, sockets, at),
+    }
+}
+
+// What the server tells of its dialects comes before all answers to calls. Why the link fails by that, if it does.
+fn learn_and_settle(
+    core: &mut ServedCore,
+    sockets: &mut Sockets,
+    at: usize,
+) -> io::Result<Option<Cause>>
+    ensures core { GoesOn core.old core.new }
+{
+    let Some(link) = sockets.links.all.get_mut(at) else {
+        return Ok(None);
+    };
+    if !link.awaits_dialect {
+        return settle_all(core, sockets, at, false);
+    }
+    if !link.learn() {
+        return Ok(Some(Cause::Foreign));
+    }
+    if link.awaits_dialect {
+        return Ok(sockets.read_in_vain(at));
+    }
+    settle_all(core, sockets, at, true)
+}
+
+// All whole answers are settled, after another whole answer or not. Why the link fails by that, if it does.
+fn settle_all(
+    core: &mut ServedCore,
+    sockets: &mut Sockets,
+    at: usize,
+    has_answered: bool,
+) -> io::Result<Option<Cause>>
+    ensures core { GoesOn core.old core.new }
+{
+    let Some(link) = sockets.links.all.get_mut(at) else {
+        return Ok(None);
+    };
+    let Some(conn) = link.conn.as_mut() else {
+        return Ok(None);
+    };
+    let answers = settle_held(
+        &mut link.calls,
+        core,
+        &mut sockets.clients,
+        &mut sockets.is_freed,
+        conn,
+    )?;
+    link.awaited = answers.awaited;
+    let polls = sockets.links.settings.polls;
+    let has_failed = link.has_read(has_answered || answers.has_settled, polls);
+    if !answers.is_kept {
+        return Ok(Some(Cause::Foreign));
+    }
+    Ok(vain(has_failed))
+}
+
+impl Sockets {
+    // One read of the link, if something may have come over it: what it gave.
+    fn read_link_once(&mut self, at: usize) -> Result<Option<Got>, AllocError> {
+        let Some(link) = self.links.all.get_mut(at) else {
+            return Ok(None);
+        };
+        let room = link.read_room();
+        let Some(conn) = link.conn.as_mut() else {
+            return Ok(None);
+        };
+        if !conn.readable {
+            return Ok(None);
+        }
+        let got = conn.read_once(room)?;
+        if got == Got::Bytes {
+            let is_large = conn.held.len() > KEPT_ROOM;
+            let has_room = conn.has_room_above(KEPT_ROOM);
+            link.reads_long = conn.readable;
+            if link.stand() {
+                self.links.has_stood(at);
+            }
+            self.rooms.note(is_large, has_room, self.clock.time);
+        }
+        Ok(Some(got))
+    }
+
+    // A read of the link brought no whole answer. Why the link fails by that, if it does.
+    fn read_in_vain(&mut self, at: usize) -> Option<Cause> {
+        let polls = self.links.settings.polls;
+        let link = self.links.all.get_mut(at)?;
+        vain(link.has_read(false, polls))
+    }
+}

@@ -1,0 +1,50 @@
+//! The core with which an end begins.
+
+ghost use Rattle.std.specs.Prelude.{◌≡◌, IfOk};
+ghost use Rattle.serve_proxy.specs.Beginning.{limits_by, BeginsFresh, BeginsUnchecked};
+
+use core_accepted::ServedCore;
+use core_proxy::Limits;
+use gate_check::Accepted;
+use route_tree::Tree;
+use serve_links::Settings;
+use std::alloc::{AllocError, Global};
+
+// How many bytes of a client the core holds.
+const HELD_LIMIT: usize = 2_097_152;
+
+fn limits_of(settings: Settings) -> Limits
+    ensures { result ≡ limits_by settings }
+{
+    Limits {
+        clients: settings.clients,
+        held: HELD_LIMIT,
+        depth: settings.client_window,
+        window: settings.link_window,
+        sharing: settings.sharing,
+    }
+}
+
+/// A new core on accepted trees.
+pub fn fresh_core(
+    alloc: Global,
+    accepted: Accepted,
+    settings: Settings,
+) -> Result<Box<ServedCore>, AllocError>
+    ensures { IfOk result (λ core. BeginsFresh accepted settings core.value) }
+{
+    let core = ServedCore::new(alloc, accepted, limits_of(settings))?;
+    Ok(Box::new(alloc, core)?)
+}
+
+/// A new core on a tree of which no gate was asked.
+pub fn unchecked_core(
+    alloc: Global,
+    tree: Tree,
+    settings: Settings,
+) -> Result<Box<ServedCore>, AllocError>
+    ensures { IfOk result (λ core. BeginsUnchecked tree settings core.value) }
+{
+    let core = ServedCore::unchecked(alloc, tree, limits_of(settings));
+    Ok(Box::new(alloc, core)?)
+}

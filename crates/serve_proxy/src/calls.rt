@@ -1,0 +1,115 @@
+//! A call that the core makes goes to its server's link: it is written there, waits there, or has failed.
+
+ghost use Rattle.serve_links.specs.CoreSteps.{Fails};
+
+use crate::sockets::Sockets;
+use core_accepted::ServedCore;
+use core_proxy::Ticket;
+use serve_links::calls::{SentCall, fail_call};
+use std::alloc::AllocError;
+use std::net::Net;
+
+/// The call is written to its server's link or waits for it, or has failed.
+pub fn send_call<N: Net>(
+    net: &N,
+    core: &mut ServedCore,
+    sockets: &mut Sockets,
+    id: usize,
+    ticket: Ticket,
+) -> Result<(), AllocError>
+    ensures core { Fails core.old core.new }
+{
+    let at = ticket.server.number() as usize;
+    let time = sockets.clock.time;
+    if !sockets.links.is_open(net, &sockets.wire, at, time) {
+        return refuse_call(core, sockets, id, ticket);
+    }
+    let call = SentCall {
+        ticket,
+        client: id,
+        since: time,
+        dialect: sockets.links.dialect_of(at),
+    };
+    if sockets.links.is_full(at) {
+        return let_wait(core, sockets, at, call);
+    }
+    begin_call(core, sockets, at, call)?;
+    sockets.links.mark_output(at)
+}
+
+// The call waits until its server takes more, or has failed. Until then none of its client's commands begins.
+fn let_wait(
+    core: &mut ServedCore,
+    sockets: &mut Sockets,
+    at: usize,
+    call: SentCall,
+) -> Result<(), AllocError>
+    ensures core { Fails core.old core.new }
+{
+    let client = call.client;
+    match sockets.links.let_wait(at, call) {
+        Ok(()) => {
+            sockets.clients.mark_waiting(client);
+            Ok(())
+        }
+        Err(call) => refuse_call(core, sockets, client, call.ticket),
+    }
+}
+
+// The call is written to its server's link, or has failed.
+fn begin_call(
+    core: &mut ServedCore,
+    sockets: &mut Sockets,
+    at: usize,
+    call: SentCall,
+) -> Result<(), AllocError>
+    ensures core { Fails core.old core.new }
+{
+    match sockets.links.write_call(at, call) {
+        Ok(()) => Ok(()),
+        Err(call) => refuse_call(core, sockets, call.client, call.ticket),
+    }
+}
+
+// The call has failed, and never went out.
+fn refuse_call(
+    core: &mut ServedCore,
+    sockets: &mut Sockets,
+    id: usize,
+    ticket: Ticket,
+) -> Result<(), AllocError>
+    ensures core { Fails core.old core.new }
+{
+    fail_call(core, ticket);
+    sockets.clients.mark_settled(id)
+}
+
+/// Calls that waited are written to the link, up to a backlog. Whether one was.
+pub fn begin_waiting(
+    core: &mut ServedCore,
+    sockets: &mut Sockets,
+    at: usize,
+) -> Result<bool, AllocError>
+    ensures core { Fails core.old core.new }
+{
+    let mut has_begun = false;
+    for _ in 0..sockets.links.waiting(at) {
+        if !begin_next(core, sockets, at)? {
+            return Ok(has_begun);
+        }
+        has_begun = true;
+    }
+    Ok(has_begun)
+}
+
+// The first call that waits is written to the link, if it may go out. Whether it did.
+fn begin_next(core: &mut ServedCore, sockets: &mut Sockets, at: usize) -> Result<bool, AllocError>
+    ensures core { Fails core.old core.new }
+{
+    let Some(call) = sockets.links.next_waiting(at) else {
+        return Ok(false);
+    };
+    sockets.clients.end_waiting(call.client)?;
+    begin_call(core, sockets, at, call)?;
+    Ok(true)
+}

@@ -1,0 +1,15 @@
+//! Laws of what may happen to the core of a proxy.
+
+ghost use Rattle.serve_links.specs.CoreSteps.{WalksKeep};
+ghost use Rattle.serve_proxy.specs.LogsGoOn.{WalksGoOn};
+
+/// A core whose trees the gate accepted stays one, whatever calls of it are made, and so does one on other trees.
+pub fn walks_keep()
+    ensures { WalksKeep }
+{}
+
+/// Each log that may have led to a core goes on by each call of it, and may have led to the core after: so what
+/// `core_accepted` promises of such logs holds after any turns.
+pub fn walks_go_on()
+    ensures { WalksGoOn }
+{}

@@ -1,0 +1,40 @@
+//! The proxy over TCP, in one thread: clients on one side and servers on the other, and between them a core, on configurations
+//! that the gate accepted or on unchecked ones. An end has two parts: the core, which has the commands and knows of no socket, and
+//! the sockets, which know nothing of the core. What does something to both is a function of both.
+//!
+//! The way of the data in a turn, whose stages stand in `proxy.rt`:
+//!
+//! - The system tells which sockets are ready (`wire.rt`). That is noted, and the time is taken (`sockets.rt`, `clock.rt`).
+//! - A client that connects gets an id from the core, and its end under this id (`accepting.rt`).
+//! - A client's bytes are read and fed to the core, which is polled for what came of them (`serving.rt`, `clients.rt`).
+//! - A call of the core is written to its server's link, or waits there until the server takes more (`calls.rt`, `links.rt`).
+//! - What the links and the clients have to send is written to their sockets (`sending.rt`).
+//! - A server's answers are read, and settle the calls that are out, oldest first (`answers.rt`).
+//! - A link that broke, is late or brought what is no answer fails its calls (`failing.rt`).
+//! - Settled commands go on when their clients are polled next (`serving.rt`), and the core's replies go to the client's end
+//!   (`showing.rt`), from which they are sent.
+//! - Room that large data took is lent to the next client that wants such, and goes back after a while (`rooms.rt`).
+//!
+//! Each list of what is to be done is taken and worked off (`worklist.rt`); what is marked meanwhile is for the next stage or turn.
+#![tactic(auto)]
+
+mod accepting;
+mod answers;
+mod beginning;
+mod calls;
+mod clients;
+mod clock;
+mod failing;
+pub mod laws;
+mod links;
+mod proxy;
+mod rooms;
+mod sending;
+mod serving;
+mod showing;
+mod sockets;
+mod wire;
+mod worklist;
+
+pub use proxy::ProxyEnd;
+pub use serve_links::{Cause, LinkNews, ServerDialect, Settings, Tally};

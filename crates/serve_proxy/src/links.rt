@@ -1,0 +1,320 @@
+//! The links to the servers, by their numbers: which of them are to be read and written, when they are late, and what there is to tell
+//! of them. Nothing here knows the core.
+
+ghost use Rattle.std.specs.Prelude.{◌≡◌, ◌↔◌, IsTrue};
+ghost use Rattle.serve_links.specs.Links.{calls_out};
+
+use crate::clock::earlier;
+use crate::wire::Wire;
+use mc_types::Dialect;
+use serve_clients::note;
+use serve_clients::socket::Ready;
+use serve_links::calls::SentCall;
+use serve_links::{Cause, KEPT_ROOM, Link, LinkNews, Settings};
+use std::alloc::{AllocError, Global};
+use std::net::{Net, SocketAddr};
+
+/// The links, and the lists of those that are marked.
+#[derive(Drop)]
+pub struct Links {
+    alloc: Global,
+    pub settings: Settings,
+    pub all: Vec<Link>,
+    /// Those that are to be read.
+    pub ready: Vec<usize>,
+    pub with_output: Vec<usize>,
+    /// Until then no link is late, so that only those that are touched are looked at; `None` where none can be.
+    pub late_from: Option<u64>,
+    /// Whether there may be something to tell of a link.
+    pub has_news: bool,
+}
+
+impl Links {
+    /// One link to each server, without a connection.
+    pub fn to(
+        alloc: Global,
+        servers: &[Option<SocketAddr>],
+        settings: Settings,
+    ) -> Result<Links, AllocError> {
+        let mut links = Links::none(alloc, settings);
+        links.add(servers)?;
+        Ok(links)
+    }
+
+    fn none(alloc: Global, settings: Settings) -> Links {
+        Links {
+            alloc,
+            settings,
+            all: Vec::new(alloc),
+            ready: Vec::new(alloc),
+            with_output: Vec::new(alloc),
+            late_from: None,
+            has_news: false,
+        }
+    }
+
+    /// Servers that have no link yet get one, without a connection.
+    pub fn add(&mut self, servers: &[Option<SocketAddr>]) -> Result<(), AllocError> {
+        for address in servers.iter().skip(self.all.len()) {
+            self.all.push(Link::new(self.alloc, *address))?;
+        }
+        Ok(())
+    }
+
+    /// Whether so many calls are out: sent, or waiting to be sent.
+    pub fn are_out(&self, calls: usize) -> bool
+        ensures { IsTrue result ↔ (calls_out self.now.all.items ≡ calls) }
+    {
+        let mut left = calls;
+        for link in self.all.as_slice() {
+            match link.without_calls(left) {
+                Some(rest) => left = rest,
+                None => return false,
+            }
+        }
+        left == 0
+    }
+
+    /// What the system told of a link.
+    pub fn note(&mut self, at: usize, told: Ready) -> Result<(), AllocError> {
+        let Some(link) = self.all.get_mut(at) else {
+            return Ok(());
+        };
+        let Some(conn) = link.conn.as_mut() else {
+            return Ok(());
+        };
+        note(conn, told);
+        if told.writes && !told.closes && link.stand() {
+            self.has_stood(at);
+        }
+        if told.reads {
+            self.mark_ready(at)?;
+        }
+        if told.writes {
+            self.mark_output(at)?;
+        }
+        Ok(())
+    }
+
+    /// It is to be read.
+    pub fn mark_ready(&mut self, at: usize) -> Result<(), AllocError> {
+        if let Some(link) = self.all.get_mut(at) {
+            if !link.is_ready {
+                link.is_ready = true;
+                self.ready.push(at)?;
+            }
+        }
+        Ok(())
+    }
+
+    /// It stands no longer among those that are ready.
+    pub fn end_ready(&mut self, at: usize) {
+        if let Some(link) = self.all.get_mut(at) {
+            link.is_ready = false;
+        }
+    }
+
+    /// It has something to send.
+    pub fn mark_output(&mut self, at: usize) -> Result<(), AllocError> {
+        if let Some(link) = self.all.get_mut(at) {
+            if !link.has_output {
+                link.has_output = true;
+                self.with_output.push(at)?;
+            }
+        }
+        Ok(())
+    }
+
+    /// It stands no longer among those that have something to send.
+    pub fn end_output(&mut self, at: usize) {
+        if let Some(link) = self.all.get_mut(at) {
+            link.has_output = false;
+        }
+    }
+
+    /// Whether more may have come over it than was read.
+    pub fn may_have_more(&self, at: usize) -> bool {
+        match self.all.get(at) {
+            Some(link) => link.may_have_more(),
+            None => false,
+        }
+    }
+
+    /// The link's connection stands, which is news.
+    pub fn has_stood(&mut self, at: usize) {
+        self.has_news = true;
+        self.note_limit(at);
+    }
+
+    /// The system is asked whether the link's connection stands, though it told of nothing: whether it does, which is news, and it is to
+    /// be read and written. Where it stood before, it is to be read at once.
+    pub fn look_again(&mut self, at: usize) -> Result<bool, AllocError> {
+        let Some(link) = self.all.get_mut(at) else {
+            return Ok(false);
+        };
+        if !link.look_again() {
+            return Ok(false);
+        }
+        self.has_stood(at);
+        self.mark_output(at)?;
+        self.mark_ready(at)?;
+        Ok(true)
+    }
+
+    /// Whether a call may go out on the link: it has a connection, or one could be begun, and it isn't held back.
+    pub fn is_open<N: Net>(&mut self, net: &N, wire: &Wire, at: usize, time: u64) -> bool {
+        let Some(link) = self.all.get_mut(at) else {
+            return false;
+        };
+        if link.is_held_back(time, &self.settings) {
+            return false;
+        }
+        if link.conn.is_some() {
+            return true;
+        }
+        let Some(address) = link.address else {
+            return false;
+        };
+        match wire.connect(net, address, at) {
+            Ok(stream) => {
+                let dialect = self.settings.server_dialect;
+                let opened = link.open(self.alloc, stream, time, dialect);
+                self.note_limit(at);
+                opened.is_ok()
+            }
+            Err(_) => {
+                link.close(Cause::Unreachable, time, &self.settings);
+                self.has_news = true;
+                false
+            }
+        }
+    }
+
+    /// In which dialect its server is asked from now on.
+    pub fn dialect_of(&self, at: usize) -> Dialect {
+        match self.all.get(at) {
+            Some(link) => link.dialect,
+            None => Dialect::Classic,
+        }
+    }
+
+    /// Whether a further call has to wait until the server takes more.
+    pub fn is_full(&self, at: usize) -> bool {
+        match self.all.get(at) {
+            Some(link) => link.is_full(),
+            None => false,
+        }
+    }
+
+    /// The call waits until its server takes more, or is given back.
+    pub fn let_wait(&mut self, at: usize, call: SentCall) -> Result<(), SentCall> {
+        match self.all.get_mut(at) {
+            Some(link) => link.let_wait(call),
+            None => Err(call),
+        }
+    }
+
+    /// How many calls wait for it.
+    pub fn waiting(&self, at: usize) -> usize {
+        match self.all.get(at) {
+            Some(link) => link.waiting(),
+            None => 0,
+        }
+    }
+
+    /// Of the calls that wait for it the first that may go out.
+    pub fn next_waiting(&mut self, at: usize) -> Option<SentCall> {
+        self.all.get_mut(at)?.next_waiting()
+    }
+
+    /// The call is written to the link, or given back.
+    pub fn write_call(&mut self, at: usize, call: SentCall) -> Result<(), SentCall> {
+        let Some(link) = self.all.get_mut(at) else {
+            return Err(call);
+        };
+        let Some(conn) = link.conn.as_mut() else {
+            return Err(call);
+        };
+        link.calls.begin(call, &mut conn.unsent)
+    }
+
+    /// Why the link has failed by now, if it has taken too long. One over which more may have come than was read isn't late yet.
+    pub fn lateness(&self, at: usize, time: u64) -> Option<Cause> {
+        match self.all.get(at) {
+            Some(link) if !link.may_have_more() => link.lateness(time, &self.settings),
+            _ => None,
+        }
+    }
+
+    /// The link may be late before the others, by what happened to it: it was opened, or stands, or calls went out.
+    pub fn note_limit(&mut self, at: usize) {
+        if let Some(link) = self.all.get(at) {
+            self.late_from = earlier(self.late_from, link.time_limit(&self.settings));
+        }
+    }
+
+    /// Whether one may be late by now.
+    pub fn may_be_late(&self, time: u64) -> bool {
+        match self.late_from {
+            Some(limit) => limit < time,
+            None => false,
+        }
+    }
+
+    /// All were looked at: none is late before the first of them is.
+    pub fn note_limits(&mut self) {
+        let mut first = None;
+        for link in self.all.as_slice() {
+            first = earlier(first, link.time_limit(&self.settings));
+        }
+        self.late_from = first;
+    }
+
+    // When the first news of a link may be told.
+    fn news_limit(&self) -> Option<u64> {
+        let mut first = None;
+        for link in self.all.as_slice() {
+            first = earlier(first, link.news_limit());
+        }
+        first
+    }
+
+    /// When one may be late, or news may be told.
+    pub fn next_limit(&self) -> Option<u64> {
+        if self.has_news {
+            return earlier(self.late_from, self.news_limit());
+        }
+        self.late_from
+    }
+
+    /// What happened to a link, and its server's number, if that may be told by now.
+    pub fn next_news(&mut self, time: u64) -> Option<(usize, LinkNews)> {
+        if !self.has_news {
+            return None;
+        }
+        for at in 0..self.all.len() {
+            if let Some(link) = self.all.get_mut(at) {
+                if let Some(news) = link.take_news(time) {
+                    return Some((at, news));
+                }
+            }
+        }
+        self.has_news = self.news_limit().is_some();
+        None
+    }
+
+    /// They give back the room that they don't need now. Whether one has much that it needs.
+    pub fn give_back(&mut self) -> bool {
+        let mut has_room = false;
+        for at in 0..self.all.len() {
+            if let Some(link) = self.all.get_mut(at) {
+                link.calls.let_go();
+                if let Some(conn) = link.conn.as_mut() {
+                    conn.give_back(self.alloc, KEPT_ROOM);
+                    has_room = has_room || conn.has_room_above(KEPT_ROOM);
+                }
+            }
+        }
+        has_room
+    }
+}

@@ -1,0 +1,200 @@
+//! The proxy's end, and its turns: what is ready is read, what was asked goes to the links and what was answered to the
+//! clients, and then each end that has something to send is written once.
+
+ghost use Rattle.std.specs.Prelude.{◌≡◌, ◌↔◌, true, IsTrue, IfOk, IfErr, OnOk};
+ghost use Rattle.core_accepted.specs.Loading.{IsLoaded};
+ghost use Rattle.serve_links.specs.CoreSteps.{GoesOn, Fails};
+ghost use Rattle.serve_links.specs.Links.{IsDownAt, IsClosedAt};
+ghost use Rattle.serve_proxy.specs.LogsGoOn.{LogsAreFresh};
+ghost use Rattle.serve_proxy.specs.Stillness.{IsStill};
+ghost use Rattle.serve_proxy.specs.Beginning.{BeginsFresh, BeginsUnchecked, LoadStops};
+
+use crate::accepting::accept_ready;
+use crate::answers::read_links;
+use crate::beginning::{fresh_core, unchecked_core};
+use crate::clock::at_most;
+use crate::failing::{fail_late, fail_link};
+use crate::sending::{send_clients, send_links};
+use crate::serving::{serve_all, serve_asks};
+use crate::showing::give_back_room;
+use crate::sockets::{Parts, Sockets};
+use core_accepted::laws::accepted_core_is_fresh;
+use core_accepted::{LoadFault, ServedCore};
+use gate_check::{Accepted, ReloadFault};
+use route_json::Config;
+use route_tree::Tree;
+use serve_links::{Cause, LinkNews, Settings, Tally};
+use std::alloc::{AllocError, Global};
+use std::io;
+use std::net::{Net, SocketAddr};
+use std::rt::Clock;
+use std::time::Duration;
+
+/// The proxy's end.
+#[derive(Drop)]
+pub struct ProxyEnd {
+    // On the heap, so that whoever owns an end drops it by one call.
+    core: Box<ServedCore>,
+    sockets: Sockets,
+}
+
+// The stages of a turn.
+fn run_turn<R: Net + Clock>(
+    rt: &R,
+    core: &mut ServedCore,
+    sockets: &mut Sockets,
+    limit: Option<Duration>,
+) -> io::Result<()>
+    ensures core { GoesOn core.old core.new }
+{
+    // Something is waited for, and what is ready is noted.
+    sockets.wait(rt, limit)?;
+    // Room that nothing needed for a while goes back.
+    give_back_room(core, sockets)?;
+    // Clients come.
+    accept_ready(core, sockets);
+    // Clients are read, and their calls go out.
+    serve_asks(rt, core, sockets)?;
+    // Servers are read, and their answers settle calls.
+    read_links(core, sockets)?;
+    // Calls fail that have taken too long.
+    fail_late(core, sockets)?;
+    // Clients go on whose calls were settled, and those that waited for a key or a server.
+    serve_all(rt, core, sockets)?;
+    // Calls go out.
+    send_links(core, sockets)?;
+    // Replies go out.
+    send_clients(core, sockets)
+}
+
+impl ProxyEnd {
+    /// Listens, and has no link yet: each is made when the first call is to go out on it. The calls of a server without an address
+    /// fail.
+    pub fn new<R: Net + Clock + AllocGlobal>(
+        rt: &R,
+        listen: SocketAddr,
+        accepted: Accepted,
+        servers: &[Option<SocketAddr>],
+        settings: Settings,
+    ) -> io::Result<ProxyEnd>
+        ensures core { IfOk result (λ end. BeginsFresh accepted settings end.core.value) }
+    {
+        let parts = Parts::open(rt, listen, servers, settings)?;
+        let core = fresh_core(rt.alloc(), accepted, settings)?;
+        Ok(ProxyEnd::of(rt.alloc(), core, parts))
+    }
+
+    /// The same on a tree of which no gate was asked: nothing is promised of what replies show.
+    pub fn unchecked<R: Net + Clock + AllocGlobal>(
+        rt: &R,
+        listen: SocketAddr,
+        tree: Tree,
+        servers: &[Option<SocketAddr>],
+        settings: Settings,
+    ) -> io::Result<ProxyEnd>
+        ensures core { IfOk result (λ end. BeginsUnchecked tree settings end.core.value) }
+    {
+        let parts = Parts::open(rt, listen, servers, settings)?;
+        let core = unchecked_core(rt.alloc(), tree, settings)?;
+        Ok(ProxyEnd::of(rt.alloc(), core, parts))
+    }
+
+    fn of(alloc: Global, core: Box<ServedCore>, parts: Parts) -> ProxyEnd
+        ensures core { result.core ≡ core }
+    {
+        ProxyEnd {
+            core,
+            sockets: Sockets::of(alloc, parts),
+        }
+    }
+
+    /// Commands that begin from now on run by this configuration's tree, and those that are under way end on the trees on which they
+    /// began. It gives the number of the generation. `servers` are the addresses of all its servers; those in use keep theirs.
+    ///
+    /// After a fault the tree in use is kept; `NoMemory` may also come after the tree was loaded, and then calls of new servers fail.
+    pub fn load(&mut self, config: Config, servers: &[Option<SocketAddr>]) -> Result<u32, LoadFault>
+        ensures loaded { IfOk result (λ generation. IsLoaded self.old.core.value config generation self.new.core.value) }
+        ensures refused { IfErr result (λ fault. LoadStops self.old.core.value config fault self.new.core.value) }
+    {
+        let generation = self.core.load(self.sockets.alloc, config)?;
+        if self.sockets.links.add(servers).is_err() {
+            return Err(LoadFault::Refused(ReloadFault::NoMemory));
+        }
+        Ok(generation)
+    }
+
+    /// What happened to a server's link, and the server's number; of each server once a second at most, and of several things the
+    /// last. It is asked after each turn until there is none.
+    pub fn next_news(&mut self) -> Option<(usize, LinkNews)>
+        ensures core { self.new.core ≡ self.old.core }
+    {
+        self.sockets.links.next_news(self.sockets.clock.time)
+    }
+
+    /// Where the gate accepted its trees, each log that may have led to the core is fresh. A law: it does nothing.
+    pub fn logs_are_fresh(&self)
+        ensures { LogsAreFresh self.now.core.value }
+    {
+        accepted_core_is_fresh(self.core.as_ref());
+    }
+
+    /// From now on clients are polled in rounds, as those of a script are: each once, in the order in which they were accepted. Without it
+    /// a client is polled until it waits, and who waits for a server comes after who waited before it.
+    pub fn poll_in_rounds(&mut self)
+        ensures { self.new ≡ record self.old { sockets = record self.old.sockets { in_rounds = true } } }
+    {
+        self.sockets.in_rounds = true;
+    }
+
+    /// What it has done so far.
+    pub fn tally(&self) -> Tally
+        ensures { result ≡ self.now.sockets.tally }
+    {
+        self.sockets.tally
+    }
+
+    /// Whether so many calls are out, and nothing is left to do until something comes.
+    pub fn is_still(&self, calls: usize) -> bool
+        ensures { IsTrue result ↔ IsStill calls self.now }
+    {
+        self.sockets.is_still(calls)
+    }
+
+    /// The connection to a server is closed, and what came over it is never read: the calls that are out on it have failed.
+    pub fn drop_link(&mut self, server: usize) -> Result<(), AllocError>
+        ensures core { Fails self.old.core.value self.new.core.value }
+        ensures down { OnOk result (IsDownAt server self.new.sockets.links.all.items) }
+        ensures closed { IsClosedAt server self.new.sockets.links.all.items }
+    {
+        fail_link(self.core.as_mut(), &mut self.sockets, server, Cause::Broken)
+    }
+
+    /// Where it listens.
+    pub fn local_addr(&self) -> io::Result<SocketAddr> {
+        self.sockets.wire.local_addr()
+    }
+
+    /// One turn: a wait until something is ready or late, and then all that is ready is done.
+    pub fn turn<R: Net + Clock>(&mut self, rt: &R) -> io::Result<()>
+        ensures core { GoesOn self.old.core.value self.new.core.value }
+    {
+        let limit = self.sockets.wait_limit(rt)?;
+        run_turn(rt, self.core.as_mut(), &mut self.sockets, limit)
+    }
+
+    /// The same, but it waits this long at most, so that several ends can be turned in one thread.
+    pub fn turn_within<R: Net + Clock>(&mut self, rt: &R, most: Duration) -> io::Result<()>
+        ensures core { GoesOn self.old.core.value self.new.core.value }
+    {
+        let limit = self.sockets.wait_limit(rt)?;
+        let limit = Some(at_most(limit, most));
+        run_turn(rt, self.core.as_mut(), &mut self.sockets, limit)
+    }
+
+    /// What was held back goes to its clients, as far as they take it: for whoever turns it no more.
+    pub fn end_turns(&mut self) -> io::Result<()>
+        ensures core { GoesOn self.old.core.value self.new.core.value }
+    {
+        send_clients(self.core.as_mut(), &mut self.sockets)
+    }
+}

@@ -1,0 +1,215 @@
+//! Clients are served: what came of them goes to the core, their commands begin and go on, and their replies are shown.
+
+ghost use Rattle.serve_links.specs.CoreSteps.{GoesOn};
+
+use crate::accepting::Accepting;
+use crate::calls::send_call;
+use crate::clients::Rest;
+use crate::sending::send_links;
+use crate::showing::{lend_room, show_lent};
+use crate::sockets::Sockets;
+use core_accepted::ServedCore;
+use core_proxy::{CoreFault, Poll as Polled};
+use serve_links::{feed_held, give_back, read_once};
+use std::alloc::AllocError;
+use std::io;
+use std::net::Net;
+
+/// What clients ask goes out before answers are read, so that servers work on it while replies are shown, and their answers are mostly
+/// whole when they are read. In rounds all comes in its own order.
+pub fn serve_asks<N: Net>(net: &N, core: &mut ServedCore, sockets: &mut Sockets) -> io::Result<()>
+    ensures core { GoesOn core.old core.new }
+{
+    if sockets.in_rounds {
+        return Ok(());
+    }
+    serve_ready(net, core, sockets)?;
+    Ok(send_links(core, sockets)?)
+}
+
+/// Clients are served, in rounds or not.
+pub fn serve_all<N: Net>(net: &N, core: &mut ServedCore, sockets: &mut Sockets) -> io::Result<()>
+    ensures core { GoesOn core.old core.new }
+{
+    if sockets.in_rounds {
+        return serve_round(net, core, sockets);
+    }
+    // (who waits longest takes what became free, before those whose calls were just settled go on)
+    serve_busy(net, core, sockets)?;
+    serve_ready(net, core, sockets)
+}
+
+// Clients that are ready.
+fn serve_ready<N: Net>(net: &N, core: &mut ServedCore, sockets: &mut Sockets) -> io::Result<()>
+    ensures core { GoesOn core.old core.new }
+{
+    let ids = sockets.work.take(&mut sockets.clients.ready);
+    serve_list(net, core, sockets, ids)
+}
+
+// Clients that wait for a key or a server, if one became free.
+fn serve_busy<N: Net>(net: &N, core: &mut ServedCore, sockets: &mut Sockets) -> io::Result<()>
+    ensures core { GoesOn core.old core.new }
+{
+    if !sockets.is_freed {
+        return Ok(());
+    }
+    sockets.is_freed = false;
+    let ids = sockets.work.take(&mut sockets.clients.busy);
+    for id in ids.as_slice() {
+        let _ = sockets.clients.end_busy(*id);
+        serve_client(net, core, sockets, *id)?;
+    }
+    sockets.work.end(ids);
+    Ok(())
+}
+
+// A round: all that are ready, and all that wait for a key or a server.
+fn serve_round<N: Net>(net: &N, core: &mut ServedCore, sockets: &mut Sockets) -> io::Result<()>
+    ensures core { GoesOn core.old core.new }
+{
+    sockets.is_freed = false;
+    let mut ids = sockets.work.take(&mut sockets.clients.ready);
+    sockets.clients.move_busy(&mut ids)?;
+    ids.sort_unstable();
+    serve_list(net, core, sockets, ids)
+}
+
+// These clients, each of which is ready no longer.
+fn serve_list<N: Net>(
+    net: &N,
+    core: &mut ServedCore,
+    sockets: &mut Sockets,
+    ids: Vec<usize>,
+) -> io::Result<()>
+    ensures core { GoesOn core.old core.new }
+{
+    for id in ids.as_slice() {
+        sockets.clients.end_ready(*id);
+        serve_client(net, core, sockets, *id)?;
+    }
+    sockets.work.end(ids);
+    Ok(())
+}
+
+fn serve_client<N: Net>(
+    net: &N,
+    core: &mut ServedCore,
+    sockets: &mut Sockets,
+    id: usize,
+) -> io::Result<()>
+    ensures core { GoesOn core.old core.new }
+{
+    read_client(core, sockets, id);
+    let is_lent = lend_room(core, sockets, id)?;
+    let rest = poll_client(net, core, sockets, id)?;
+    show_lent(core, sockets, id, is_lent)?;
+    close_client(core, sockets, id, rest);
+    Ok(sockets.mark_rest(id, rest)?)
+}
+
+// One read of the client, and what it holds is given to the core.
+fn read_client(core: &mut ServedCore, sockets: &mut Sockets, id: usize)
+    ensures core { GoesOn core.old core.new }
+{
+    let Some(client) = sockets.clients.get_mut(id) else {
+        return;
+    };
+    if client.can_read() {
+        std::mem::swap(&mut client.conn.held, &mut sockets.rooms.input);
+        read_once(client, &mut sockets.tally);
+    }
+    feed_held(core, id, client);
+    give_back(
+        sockets.alloc,
+        &mut client.conn.held,
+        &mut sockets.rooms.input,
+    );
+}
+
+// What can be done for the client is done.
+fn poll_client<N: Net>(
+    net: &N,
+    core: &mut ServedCore,
+    sockets: &mut Sockets,
+    id: usize,
+) -> Result<Rest, AllocError>
+    ensures core { GoesOn core.old core.new }
+{
+    for _ in 0..sockets.polls() {
+        if !sockets.may_go_on(id) {
+            leave_line(core, sockets, id);
+            return Ok(Rest::Full);
+        }
+        match poll_once(net, core, sockets, id)? {
+            Rest::More => {}
+            rest => return Ok(rest),
+        }
+    }
+    Ok(Rest::More)
+}
+
+// Nobody waits behind a client that isn't polled until it has taken what it was sent.
+fn leave_line(core: &mut ServedCore, sockets: &mut Sockets, id: usize)
+    ensures core { GoesOn core.old core.new }
+{
+    if core.leave_line(id) {
+        sockets.is_freed = true;
+    }
+}
+
+// One thing is done for the client, if one can be: what is left after it.
+fn poll_once<N: Net>(
+    net: &N,
+    core: &mut ServedCore,
+    sockets: &mut Sockets,
+    id: usize,
+) -> Result<Rest, AllocError>
+    ensures core { GoesOn core.old core.new }
+{
+    match core.poll(id) {
+        Ok(Polled::Call(ticket)) => {
+            sockets.note_called(id);
+            send_call(net, core, sockets, id, ticket)?;
+            Ok(Rest::More)
+        }
+        Ok(Polled::Did(_note)) => {
+            sockets.note_went_on(id);
+            sockets.tally.note_command();
+            sockets.is_freed = true;
+            Ok(Rest::More)
+        }
+        Ok(Polled::Own) | Ok(Polled::Refused) => Ok(Rest::More),
+        Ok(Polled::Idle) => Ok(Rest::Idle),
+        Ok(Polled::Waiting) => Ok(Rest::Waiting),
+        Ok(Polled::Queued) | Ok(Polled::Busy) => Ok(Rest::Busy),
+        Err(CoreFault::NoMemory) => {
+            sockets.is_freed = true;
+            sockets.end_client(id);
+            Ok(Rest::More)
+        }
+        Err(_) => {
+            sockets.end_client(id);
+            Ok(Rest::Idle)
+        }
+    }
+}
+
+// A client that has ended, for which nothing is left to do and to send, is gone.
+fn close_client(core: &mut ServedCore, sockets: &mut Sockets, id: usize, rest: Rest)
+    ensures core { GoesOn core.old core.new }
+{
+    let Some(client) = sockets.clients.get_mut(id) else {
+        return;
+    };
+    let is_ended = client.is_ended || core.is_closed(id);
+    // Bytes that were left unread would take the last replies with them when the socket is closed.
+    let is_read = client.is_ended || !client.conn.readable;
+    if rest != Rest::Idle || !is_ended || !is_read || !client.conn.unsent.is_empty() {
+        return;
+    }
+    if core.close(id).is_ok() {
+        sockets.clients.remove(id);
+        sockets.accepting = Accepting::Now;
+    }
+}

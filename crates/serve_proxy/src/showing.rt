@@ -1,0 +1,147 @@
+//! What the core has for a client goes to its end, and the room for that comes and goes.
+
+ghost use Rattle.serve_links.specs.CoreSteps.{GoesOn};
+
+use crate::sockets::Sockets;
+use core_accepted::ServedCore;
+use core_proxy::CoreFault;
+use serve_links::{KEPT_ROOM, show};
+use std::io;
+use wire_parts::to_send::SendBuffer;
+
+/// What the core has for the client goes after what is to be sent.
+pub fn show_client(core: &mut ServedCore, sockets: &mut Sockets, id: usize) -> io::Result<()>
+    ensures core { GoesOn core.old core.new }
+{
+    let Some(client) = sockets.clients.get_mut(id) else {
+        return Ok(());
+    };
+    let shown = match show(core, id, client) {
+        Ok(shown) => shown,
+        Err(CoreFault::NoMemory) => {
+            client.break_off();
+            return Ok(());
+        }
+        Err(_) => return Ok(()),
+    };
+    sockets.note_shown(id, shown)
+}
+
+impl Sockets {
+    // So many bytes more are to be sent to the client.
+    fn note_shown(&mut self, id: usize, count: usize) -> io::Result<()> {
+        if count == 0 {
+            return Ok(());
+        }
+        self.tally.note_shown(count);
+        self.rooms.note(count > KEPT_ROOM, false, self.clock.time);
+        Ok(self.clients.mark_output(id)?)
+    }
+}
+
+/// The core writes the replies to the client into a spare buffer, if one is there: it has the room that large ones want. Whether one is.
+pub fn lend_room(core: &mut ServedCore, sockets: &mut Sockets, id: usize) -> io::Result<bool>
+    ensures core { GoesOn core.old core.new }
+{
+    if !sockets.rooms.has_spare() {
+        return Ok(false);
+    }
+    if !sockets.has_settled(id) {
+        return Ok(false);
+    }
+    // What the core has for the client now is shown first, so that what it gives for the spare buffer is room alone.
+    show_client(core, sockets, id)?;
+    match sockets.rooms.take_spare() {
+        Some(spare) => {
+            exchange_room(core, sockets, id, spare);
+            Ok(true)
+        }
+        None => Ok(false),
+    }
+}
+
+// The core, which has nothing for the client, writes into this buffer from now on. What it wrote into so far is spare.
+fn exchange_room(core: &mut ServedCore, sockets: &mut Sockets, id: usize, buffer: SendBuffer)
+    ensures core { GoesOn core.old core.new }
+{
+    let mut buffer = buffer;
+    let _ = core.move_output(id, &mut buffer);
+    sockets.rooms.keep_spare(buffer, sockets.clock.time);
+}
+
+/// What was done for the client is shown to it, and the core keeps no room that was lent.
+pub fn show_lent(
+    core: &mut ServedCore,
+    sockets: &mut Sockets,
+    id: usize,
+    is_lent: bool,
+) -> io::Result<()>
+    ensures core { GoesOn core.old core.new }
+{
+    show_client(core, sockets, id)?;
+    end_lent(core, sockets, id, is_lent);
+    sockets.take_room(id);
+    Ok(())
+}
+
+// The core gets other room for the client, if some was lent.
+fn end_lent(core: &mut ServedCore, sockets: &mut Sockets, id: usize, is_lent: bool)
+    ensures core { GoesOn core.old core.new }
+{
+    if is_lent {
+        let buffer = SendBuffer::new(sockets.alloc);
+        exchange_room(core, sockets, id, buffer);
+    }
+}
+
+/// A client that has nothing to send keeps no large room for it, and neither does the core, whose room goes to the client's end with what is
+/// shown.
+pub fn take_rooms(core: &mut ServedCore, sockets: &mut Sockets, id: usize) -> io::Result<()>
+    ensures core { GoesOn core.old core.new }
+{
+    sockets.take_room(id);
+    show_client(core, sockets, id)?;
+    sockets.take_room(id);
+    Ok(())
+}
+
+/// Where nothing large came for a while, the room that was for it goes back, and so does what clients that wait for nothing have.
+pub fn give_back_room(core: &mut ServedCore, sockets: &mut Sockets) -> io::Result<()>
+    ensures core { GoesOn core.old core.new }
+{
+    if !sockets.rooms.are_due(sockets.clock.time) {
+        return Ok(());
+    }
+    sockets.rooms.clear();
+    let has_room = sockets.links.give_back();
+    let is_held = give_back_clients(core, sockets)?;
+    sockets
+        .rooms
+        .note(false, has_room || is_held, sockets.clock.time);
+    Ok(())
+}
+
+// Room of all clients goes back. Whether something that one of them sent isn't done.
+fn give_back_clients(core: &mut ServedCore, sockets: &mut Sockets) -> io::Result<bool>
+    ensures core { GoesOn core.old core.new }
+{
+    let mut is_held = false;
+    for id in 0..sockets.clients.len() {
+        if !give_back_client(core, sockets, id)? {
+            is_held = true;
+        }
+    }
+    Ok(is_held)
+}
+
+// The room for what is to be sent to a client goes back where nothing is, and the core's for what it sent where all is done: whether all
+// is.
+fn give_back_client(core: &mut ServedCore, sockets: &mut Sockets, id: usize) -> io::Result<bool>
+    ensures core { GoesOn core.old core.new }
+{
+    sockets.give_back_end(id);
+    // What the core has for it, mostly room alone, goes to its end.
+    show_client(core, sockets, id)?;
+    sockets.give_back_end(id);
+    Ok(core.give_back_room(id))
+}

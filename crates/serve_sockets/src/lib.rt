@@ -1,7 +1,0 @@
-//! The wire over real sockets. It is read by eye: each method makes one call of the system and notes what that gave.
-#![tactic(auto)]
-
-pub mod open;
-pub mod sockets;
-
-pub use sockets::Sockets;

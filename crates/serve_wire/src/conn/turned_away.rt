@@ -1,0 +1,24 @@
+//! Clients for which there is no room.
+
+ghost use Rattle.serve_wire.specs.Agreement.{TouchesOnly};
+
+use crate::Wire;
+use bytes::BytesMut;
+use std::alloc::Global;
+
+const TOO_MANY: &[u8] = b"SERVER_ERROR too many clients\r\n";
+
+// How much of what it sent is read first: left unread, it would take the line with it.
+const READ: usize = 4_096;
+
+/// A client that was accepted is told that there are too many, and its connection is closed.
+pub fn turn_away<W: Wire>(alloc: Global, wire: &mut W, conn: usize)
+    ensures { TouchesOnly conn (W.history wire.old) (W.history wire.new) }
+{
+    let mut read = BytesMut::new(alloc);
+    if read.reserve(READ).is_ok() {
+        let _ = wire.read(conn, &mut read);
+    }
+    let _ = wire.write(conn, TOO_MANY);
+    wire.close(conn);
+}

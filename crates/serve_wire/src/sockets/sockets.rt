@@ -1,0 +1,353 @@
+//! The wire that a program has.
+
+ghost use Rattle.std.specs.Prelude.{◌≡◌, ◌≤◌, ◌<◌, ◌+◌, ◌*◌, ℕ, IfSome, OnSome};
+ghost use Rattle.serve_wire.specs.Events.{IsNew};
+
+use crate::sockets::open::{Address, Open, Owner};
+use crate::{Accepted, Connected, ReadOutcome, Ready, Record, Report, Wire, WriteOutcome};
+use bytes::BytesMut;
+use mio::event::Event;
+use mio::net::{TcpListener, TcpStream};
+use mio::unix::SourceFd;
+use mio::{Events, Interest, Poll, Token};
+use slab::Slab;
+use std::alloc::{AllocError, Global};
+use std::io;
+use std::io::{ErrorKind, IoSlice};
+use std::net::{Net, SocketAddr, ToSocketAddrs};
+use std::os::fd::{AsRawFd, RawFd};
+use std::rt::Clock;
+use std::time::{Duration, Instant};
+
+const ADMITS: u64 = 0;
+
+const CONNECTS: u64 = 1;
+
+const CLOSES: u64 = 6;
+
+const ACCEPTS: u64 = 7;
+
+const TICKS: u64 = 8;
+
+// So many connections are open at once at most. A connection's number is this times the count of those before it, and then its place.
+const SLOTS: usize = 16_777_216;
+
+// So many connections are made at most.
+const MOST: usize = 549_755_813_888;
+
+// What is told under this token is told of the listener.
+const LISTENER: usize = usize::MAX;
+
+// The most reports of one wait.
+const EVENTS: usize = 1_024;
+
+/// Real sockets.
+#[derive(Drop)]
+pub struct Sockets {
+    alloc: Global,
+    poll: Poll,
+    events: Events,
+    reports: Vec<Report>,
+    listener: TcpListener,
+    open: Slab<Open>,
+    count: usize,
+    addresses: Vec<Address>,
+    start: Instant,
+    log: Record,
+    ghost fresh: { (c : ℕ) → count * 16777216 ≤ c → IsNew c log.events },
+}
+
+fn watch(poll: &Poll, socket: RawFd, token: usize) -> io::Result<()> {
+    poll.registry().register(
+        &mut SourceFd(&socket),
+        Token(token),
+        Interest::READABLE | Interest::WRITABLE,
+    )
+}
+
+fn watch_stream(poll: &Poll, stream: &TcpStream, token: usize) -> io::Result<()> {
+    stream.set_nodelay(true)?;
+    watch(poll, stream.as_raw_fd(), token)
+}
+
+fn ready_of(event: &Event) -> Ready {
+    let closes = event.is_read_closed() || event.is_error();
+    Ready {
+        reads: closes || event.is_readable(),
+        writes: event.is_error() || event.is_writable(),
+        closes,
+    }
+}
+
+// What an event tells, if its connection is in use.
+fn report_of(open: &Slab<Open>, event: &Event) -> Option<Report> {
+    let Token(token) = event.token();
+    if token == LISTENER {
+        return Some(Report::Listener);
+    }
+    let socket = open.get(token % SLOTS)?;
+    if socket.number != token {
+        return None;
+    }
+    match socket.owner {
+        Owner::Nobody => None,
+        Owner::Client(id) => Some(Report::Client(id, ready_of(event))),
+        Owner::Server(server) => Some(Report::Server(server, ready_of(event))),
+    }
+}
+
+// What the events tell, one after the other.
+fn put_reports(
+    reports: &mut Vec<Report>,
+    events: &Events,
+    open: &Slab<Open>,
+) -> Result<(), AllocError> {
+    reports.clear();
+    for event in events.iter() {
+        if let Some(report) = report_of(open, event) {
+            reports.push(report)?;
+        }
+    }
+    Ok(())
+}
+
+// The number of the next connection, after so many.
+fn next_number(open: &Slab<Open>, count: usize) -> Option<usize>
+    ensures { IfSome result (λ c. (count * 16777216 ≤ c) × (c < (count + 1) * 16777216)) }
+{
+    let slot = open.vacant_key();
+    if slot >= SLOTS || count >= MOST {
+        return None;
+    }
+    Some(count * SLOTS + slot)
+}
+
+// The stream of this connection, if it is in use.
+fn open_at(open: &Slab<Open>, count: usize, conn: usize) -> Option<&Open>
+    ensures { IfSome result (λ found. (found.now.number ≡ conn) × (conn < count * 16777216)) }
+{
+    if conn / SLOTS >= count {
+        return None;
+    }
+    let found = open.get(conn % SLOTS)?;
+    if found.number != conn {
+        return None;
+    }
+    Some(found)
+}
+
+// The same, to be changed.
+fn open_at_mut(open: &mut Slab<Open>, count: usize, conn: usize) -> Option<&mut Open>
+    ensures { OnSome result (conn < count * 16777216) }
+{
+    if conn / SLOTS >= count {
+        return None;
+    }
+    let found = open.get_mut(conn % SLOTS)?;
+    if conn != found.number {
+        return None;
+    }
+    Some(found)
+}
+
+// What this text was found to name.
+fn address_at<'a>(addresses: &'a [Address], text: &[u8]) -> Option<&'a Address>
+    ensures { IfSome result (λ address. address.now.text.items ≡ text.now) }
+{
+    for address in addresses {
+        if address.text.as_slice() == text {
+            return Some(address);
+        }
+    }
+    None
+}
+
+// This text names this address from now on.
+fn put_address(
+    alloc: Global,
+    addresses: &mut Vec<Address>,
+    text: &[u8],
+    socket: SocketAddr,
+) -> Result<(), AllocError> {
+    for known in addresses.iter_mut() {
+        if known.text.as_slice() == text {
+            known.socket = socket;
+            return Ok(());
+        }
+    }
+    let text = text.to_vec(alloc)?;
+    Ok(addresses.push(Address { text, socket })?)
+}
+
+// The first address that a text names.
+fn look_up<N: Net>(net: &N, text: &[u8]) -> io::Result<SocketAddr> {
+    let Ok(text) = std::str::from_utf8(text) else {
+        return Err(io::Error::from(ErrorKind::InvalidInput));
+    };
+    match text.to_socket_addrs(net)?.next() {
+        Some(socket) => Ok(socket),
+        None => Err(io::Error::from(ErrorKind::AddrNotAvailable)),
+    }
+}
+
+impl Sockets {
+    /// It listens, and nothing has happened.
+    pub fn listen<R: Net + Clock + AllocGlobal>(rt: &R, listen: SocketAddr) -> io::Result<Sockets> {
+        let alloc = rt.alloc();
+        let start = Instant::now(rt)?;
+        let poll = Poll::new(rt)?;
+        let listener = TcpListener::bind(rt, listen)?;
+        watch(&poll, listener.as_raw_fd(), LISTENER)?;
+        Ok(Sockets {
+            alloc,
+            poll,
+            events: Events::with_capacity(alloc, EVENTS)?,
+            reports: Vec::with_capacity(alloc, EVENTS)?,
+            listener,
+            open: Slab::new(alloc),
+            count: 0,
+            addresses: Vec::new(alloc),
+            start,
+            log: Record::new(),
+        })
+    }
+
+    /// Where it listens.
+    pub fn local_addr(&self) -> io::Result<SocketAddr> {
+        self.listener.local_addr()
+    }
+}
+
+impl Wire for Sockets {
+    ghost history = { λ s. s.log.events };
+
+    fn millis<C: Clock>(&mut self, clock: &C) -> io::Result<u64> {
+        let millis = self.start.elapsed(clock)?.as_millis();
+        let millis = u64::try_from(millis).unwrap_or(u64::MAX);
+        self.log.note(&[TICKS, 0, millis], &[]);
+        Ok(millis)
+    }
+
+    fn wait(&mut self, limit: Option<Duration>) -> io::Result<usize> {
+        self.poll.poll(&mut self.events, limit)?;
+        put_reports(&mut self.reports, &self.events, &self.open)?;
+        Ok(self.reports.len())
+    }
+
+    fn report(&self, at: usize) -> Option<Report> {
+        self.reports.get(at).copied()
+    }
+
+    fn accept(&mut self) -> Accepted {
+        let stream = match self.listener.accept() {
+            Ok((stream, _)) => stream,
+            Err(error) => {
+                return match error.kind() {
+                    ErrorKind::Interrupted | ErrorKind::ConnectionAborted => Accepted::Gone,
+                    ErrorKind::WouldBlock => Accepted::Nobody,
+                    _ => Accepted::Refused,
+                };
+            }
+        };
+        let Some(number) = next_number(&self.open, self.count) else {
+            return Accepted::Gone;
+        };
+        let owner = Owner::Nobody;
+        if self
+            .open
+            .insert(Open {
+                number,
+                owner,
+                stream,
+            })
+            .is_err()
+        {
+            return Accepted::Gone;
+        }
+        self.count += 1;
+        self.log.note(&[ACCEPTS, number as u64, 0], &[]);
+        Accepted::Peer(number)
+    }
+
+    fn admit(&mut self, conn: usize, client: usize) -> io::Result<()> {
+        let Some(open) = open_at_mut(&mut self.open, self.count, conn) else {
+            return Err(io::Error::from(ErrorKind::NotConnected));
+        };
+        watch_stream(&self.poll, &open.stream, conn)?;
+        open.owner = Owner::Client(client);
+        self.log.note(&[ADMITS, conn as u64, client as u64], &[]);
+        Ok(())
+    }
+
+    fn resolve<N: Net>(&mut self, net: &N, text: &[u8]) -> io::Result<()> {
+        let socket = look_up(net, text)?;
+        Ok(put_address(self.alloc, &mut self.addresses, text, socket)?)
+    }
+
+    fn connect<N: Net>(&mut self, net: &N, server: usize, text: &[u8]) -> Connected {
+        let Some(address) = address_at(&self.addresses, text) else {
+            return Connected::NoAddress;
+        };
+        let Some(number) = next_number(&self.open, self.count) else {
+            return Connected::Failed;
+        };
+        let Ok(stream) = TcpStream::connect(net, address.socket) else {
+            return Connected::Failed;
+        };
+        if watch_stream(&self.poll, &stream, number).is_err() {
+            return Connected::Failed;
+        }
+        let owner = Owner::Server(server);
+        if self
+            .open
+            .insert(Open {
+                number,
+                owner,
+                stream,
+            })
+            .is_err()
+        {
+            return Connected::Failed;
+        }
+        self.count += 1;
+        self.log
+            .note(&[CONNECTS, number as u64, server as u64], &address.text);
+        Connected::Begun(number)
+    }
+
+    fn is_connected(&self, conn: usize) -> bool {
+        match open_at(&self.open, self.count, conn) {
+            Some(open) => open.stream.peer_addr().is_ok(),
+            None => false,
+        }
+    }
+
+    fn read(&mut self, conn: usize, into: &mut BytesMut) -> ReadOutcome {
+        match open_at(&self.open, self.count, conn) {
+            Some(open) => open.read(&mut self.log, into),
+            None => ReadOutcome::NotReady,
+        }
+    }
+
+    fn write(&mut self, conn: usize, bytes: &[u8]) -> WriteOutcome {
+        match open_at(&self.open, self.count, conn) {
+            Some(open) => open.write(&mut self.log, bytes),
+            None => WriteOutcome::NotReady,
+        }
+    }
+
+    fn write_parts(&mut self, conn: usize, parts: &[IoSlice<'_>]) -> WriteOutcome {
+        match open_at(&self.open, self.count, conn) {
+            Some(open) => open.write_parts(&mut self.log, parts),
+            None => WriteOutcome::NotReady,
+        }
+    }
+
+    fn close(&mut self, conn: usize) {
+        if open_at(&self.open, self.count, conn).is_none() {
+            return;
+        }
+        let _ = self.open.try_remove(conn % SLOTS);
+        self.log.note(&[CLOSES, conn as u64, 0], &[]);
+    }
+}

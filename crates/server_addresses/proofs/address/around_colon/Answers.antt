@@ -1,5 +1,0 @@
-use Rattle.server_addresses.proofs.Colons.{split_at_last}
-use Rattle.server_addresses.proofs.address.around_colon.Goals as goal
-
-pub returns : goal.returns
-returns c = split_at_last c.args.text.now c.rsplit_once.result c.rsplit_once.ensures.cases

@@ -1,9 +1,0 @@
-pub mod Ends
-pub mod PollsTells
-pub mod PollsEntries
-pub mod ResultsLosses
-pub mod ResultsFound
-pub mod Results
-pub mod Counted
-pub mod Giving
-pub mod Outs

@@ -1,9 +1,0 @@
-pub mod Steps
-pub mod Held
-pub mod Come
-pub mod Worlds
-pub mod Stood
-pub mod Broken
-pub mod Direct
-pub mod Messages
-pub mod Replied

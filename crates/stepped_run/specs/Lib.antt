@@ -1,4 +1,0 @@
-pub mod World
-pub mod Driving
-pub mod Holding
-pub mod Stepping

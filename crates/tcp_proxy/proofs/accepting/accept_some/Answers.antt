@@ -1,8 +1,0 @@
-use Rattle.proxy_connections.proofs.Walked.{then}
-use Rattle.tcp_proxy.proofs.accepting.accept_some.Goals as goal
-
-pub loop-preserved : goal.loop-preserved
-loop-preserved c = then c.loop.invariant c.accept_one.ensures.core
-
-pub returns-then-not-accept_one : goal.returns-then-not-accept_one
-returns-then-not-accept_one c = record { core = then c.loop.invariant c.accept_one.ensures.core }

@@ -1,8 +1,0 @@
-use Rattle.proxy_connections.proofs.Walked.{then}
-use Rattle.tcp_proxy.proofs.answers.read_links.Goals as goal
-
-pub loop-at-preserved : goal.loop-at-preserved
-loop-at-preserved c = then c.loop-at.invariant c.serve_link.ensures.core
-
-pub returns-in_err-serve_link : goal.returns-in_err-serve_link
-returns-in_err-serve_link c = record { core = then c.loop-at.invariant c.serve_link.ensures.core }

@@ -1,5 +1,0 @@
-use Rattle.proxy_connections.proofs.Walked.{by_failure}
-use Rattle.tcp_proxy.proofs.calls.refuse_call.Goals as goal
-
-pub returns : goal.returns
-returns c = record { core = by_failure c.args.ticket.number c.args.core.now c.fail_call.new.core c.fail_call.ensures }

@@ -1,8 +1,0 @@
-use Rattle.proxy_connections.proofs.Walked.{failed, then}
-use Rattle.tcp_proxy.proofs.failing.fail_if_late.Goals as goal
-
-pub returns-in_err-fail_link-in-Some : goal.returns-in_err-fail_link-in-Some
-returns-in_err-fail_link-in-Some c = record { core = then c.look_again.ensures.core (failed c.fail_link.ensures.core) }
-
-pub returns-in_ok-fail_link-in-Some : goal.returns-in_ok-fail_link-in-Some
-returns-in_ok-fail_link-in-Some c = record { core = then c.look_again.ensures.core (failed c.fail_link.ensures.core) }

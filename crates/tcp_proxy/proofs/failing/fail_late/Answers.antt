@@ -1,8 +1,0 @@
-use Rattle.proxy_connections.proofs.Walked.{then}
-use Rattle.tcp_proxy.proofs.failing.fail_late.Goals as goal
-
-pub loop-at-preserved : goal.loop-at-preserved
-loop-at-preserved c = then c.loop-at.invariant c.fail_if_late.ensures.core
-
-pub returns-in_err-fail_if_late : goal.returns-in_err-fail_if_late
-returns-in_err-fail_if_late c = record { core = then c.loop-at.invariant c.fail_if_late.ensures.core }

@@ -1,5 +1,0 @@
-use Rattle.proxy_connections.specs.CoreSteps.{GoesOn}
-use Rattle.tcp_proxy.proofs.failing.fail_late.Given as goal
-
-abbrev pub invariant-loop-at : goal.invariant-loop-at
-invariant-loop-at l = GoesOn l.fn.core l.core

@@ -1,5 +1,0 @@
-use Rattle.tcp_proxy.proofs.LogWalks.{walks_go_on}
-use Rattle.tcp_proxy.proofs.laws.walks_go_on.Goals as goal
-
-pub returns : goal.returns
-returns c = walks_go_on

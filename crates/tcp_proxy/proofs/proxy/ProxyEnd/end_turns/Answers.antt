@@ -1,5 +1,0 @@
-use Rattle.proxy_connections.proofs.Walked.{from}
-use Rattle.tcp_proxy.proofs.proxy.ProxyEnd.end_turns.Goals as goal
-
-pub returns : goal.returns
-returns c = record { core = from c.as_mut.ensures.value c.send_clients.ensures.core }

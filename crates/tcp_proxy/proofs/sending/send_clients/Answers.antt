@@ -1,8 +1,0 @@
-use Rattle.proxy_connections.proofs.Walked.{then}
-use Rattle.tcp_proxy.proofs.sending.send_clients.Goals as goal
-
-pub loop-id-preserved : goal.loop-id-preserved
-loop-id-preserved c = then c.loop-id.invariant c.send_client.ensures.core
-
-pub returns-in_err-send_client : goal.returns-in_err-send_client
-returns-in_err-send_client c = record { core = then c.loop-id.invariant c.send_client.ensures.core }

@@ -1,5 +1,0 @@
-use Rattle.proxy_connections.specs.CoreSteps.{GoesOn}
-use Rattle.tcp_proxy.proofs.serving.poll_client.Given as goal
-
-abbrev pub invariant-loop : goal.invariant-loop
-invariant-loop g l = GoesOn l.fn.core l.core

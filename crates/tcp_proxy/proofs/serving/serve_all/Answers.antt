@@ -1,5 +1,0 @@
-use Rattle.proxy_connections.proofs.Walked.{then}
-use Rattle.tcp_proxy.proofs.serving.serve_all.Goals as goal
-
-pub returns : goal.returns
-returns g c = record { core = then c.serve_busy.ensures.core c.serve_ready.ensures.core }

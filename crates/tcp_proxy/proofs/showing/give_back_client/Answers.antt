@@ -1,5 +1,0 @@
-use Rattle.proxy_connections.proofs.Walked.{to}
-use Rattle.tcp_proxy.proofs.showing.give_back_client.Goals as goal
-
-pub returns : goal.returns
-returns c = record { core = to c.show_client.ensures.core c.give_back_room.ensures.same }

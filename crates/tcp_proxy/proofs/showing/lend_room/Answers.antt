@@ -1,5 +1,0 @@
-use Rattle.proxy_connections.proofs.Walked.{then}
-use Rattle.tcp_proxy.proofs.showing.lend_room.Goals as goal
-
-pub returns-in-Some : goal.returns-in-Some
-returns-in-Some c = record { core = then c.show_client.ensures.core c.exchange_room.ensures.core }

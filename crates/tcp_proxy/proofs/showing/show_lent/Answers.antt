@@ -1,5 +1,0 @@
-use Rattle.proxy_connections.proofs.Walked.{then}
-use Rattle.tcp_proxy.proofs.showing.show_lent.Goals as goal
-
-pub returns : goal.returns
-returns c = record { core = then c.show_client.ensures.core c.end_lent.ensures.core }

@@ -1,5 +1,0 @@
-use Rattle.text_answers.proofs.Reading.{none_begins_another}
-use Rattle.text_answers.proofs.laws.none_begins_another.Goals as goal
-
-pub returns : goal.returns
-returns c = none_begins_another

@@ -1,5 +1,0 @@
-use Rattle.text_answers.proofs.Reading.{one_answer}
-use Rattle.text_answers.proofs.laws.one_answer.Goals as goal
-
-pub returns : goal.returns
-returns c = one_answer

@@ -1,5 +1,0 @@
-use Rattle.text_requests.proofs.WalkLemmas.{starts}
-use Rattle.text_requests.proofs.command.Request.walk.Goals as goal
-
-pub returns-clause-walk : goal.returns-clause-walk
-returns-clause-walk c = λ bytes h. starts bytes c.args.self.now c.first_place.result c.first_place.ensures h

@@ -1,5 +1,0 @@
-use Rattle.text_requests.proofs.OneAsk.{messages_are_one_ask}
-use Rattle.text_requests.proofs.laws.messages_are_one_ask.Goals as goal
-
-pub returns : goal.returns
-returns c = messages_are_one_ask

@@ -1,5 +1,0 @@
-use Rattle.text_requests.proofs.KeyLemmas.{spanned_alone}
-use Rattle.text_requests.proofs.retrieval.spanned.Goals as goal
-
-pub returns-then-count-eq1 : goal.returns-then-count-eq1
-returns-then-count-eq1 c = spanned_alone c.args.line.now c.args.at c.args.count c.args.last c.requires.count (c.requires.alone c.if-count-eq1.true)

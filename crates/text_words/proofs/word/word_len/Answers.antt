@@ -1,0 +1,8 @@
+use Rattle.std.proofs.Common.{◌∙◌, ap, length}
+use Rattle.std.specs.Prelude.{unwrap_or}
+use Rattle.text_words.specs.Word.{is_space}
+use Rattle.text_words.proofs.WordLemmas.{position-or}
+use Rattle.text_words.proofs.word.word_len.Goals as goal
+
+pub returns-clause-value : goal.returns-clause-value
+returns-clause-value c = c.unwrap_or.ensures ∙ ap (λ o. unwrap_or o (length c.args.text.now)) c.first_space.ensures ∙ position-or is_space c.args.text.now

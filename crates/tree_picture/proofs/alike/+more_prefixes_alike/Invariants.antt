@@ -1,5 +1,0 @@
-use Rattle.std.proofs.Common.{length}
-use Rattle.tree_picture.proofs.alike.+more_prefixes_alike.Given as goal
-
-abbrev pub decreases-more_prefixes_alike : goal.decreases-more_prefixes_alike
-decreases-more_prefixes_alike l = length l.rest.now

@@ -1,5 +1,0 @@
-use Rattle.tree_picture.proofs.Few.{tree_few}
-use Rattle.tree_picture.proofs.drawing.write_tree.Goals as goal
-
-pub write_below-requires : goal.write_below-requires
-write_below-requires g c = tree_few c.args.tree.now c.form-form.ensures.tree

@@ -1,5 +1,0 @@
-use Rattle.tree_picture.proofs.Few.{tree_few}
-use Rattle.tree_picture.proofs.marking.write_way.Goals as goal
-
-pub write_way_below-requires : goal.write_way_below-requires
-write_way_below-requires g c = tree_few c.args.tree.now c.form-form.ensures.tree

@@ -1,5 +1,0 @@
-use Rattle.gate_words.proofs.Written.{both_written}
-use Rattle.tree_picture.proofs.statements.write_node.Goals as goal
-
-pub returns : goal.returns
-returns g c = both_written _ _ _ _ _ (both_written _ _ _ _ _ c.in_ok-write_node_front.ensures c.in_ok-write_one.ensures) c.in_ok-write_node_end.ensures

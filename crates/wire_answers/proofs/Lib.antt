@@ -1,0 +1,17 @@
+pub mod MetaPieces
+pub mod MetaFitLemmas
+pub mod Fitting
+pub mod TokensBack
+pub mod LineBack
+pub mod Plain
+pub mod Pieces
+pub mod EndLemmas
+pub mod LineLemmas
+pub mod ReadLemmas
+pub mod Reading
+pub mod FitLemmas
+pub mod WordBack
+pub mod HitBack
+pub mod MetaBack
+pub mod ReadBack
+pub mod MetaFits

@@ -1,0 +1,10 @@
+pub mod Told
+pub mod Tokens
+pub mod Line
+pub mod MetaSpelling
+pub mod Fitting
+pub mod Spelling
+pub mod Table
+pub mod FirstLine
+pub mod Reading
+pub mod Laws

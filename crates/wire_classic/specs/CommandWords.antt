@@ -1,0 +1,64 @@
+-- The command words. Source: memcached's protocol.txt, "Commands"; that the words of the meta commands aren't among them is mcgate's own.
+use Rattle.std.specs.Prelude.{true, false, List, [], ◌∷◌, ◌++◌, Option, Some, None, codes, if◌then◌else◌}
+use Rattle.std.specs.Str.{bytes_eq}
+use Rattle.mc_types.specs.declared.ask.Op.TheVariants as ops
+use Rattle.wire_parts.specs.Tests.{Word}
+use Rattle.wire_classic.specs.declared.command.Verb.{Verb}
+use Rattle.wire_classic.specs.declared.command.Verb.TheVariants as verbs
+use Rattle.wire_parts.specs.declared.proxy_command.ProxyCommand.TheVariants as owns
+
+-- a command word, and what it means
+abbrev pub Entry : Type 0
+Entry = Word × Verb
+
+-- the command words of three letters
+abbrev pub of_three : List Entry
+of_three =
+    (codes "get", verbs.Retrieve false false)
+    ∷ (codes "set", verbs.Store ops.Set)
+    ∷ (codes "add", verbs.Store ops.Add)
+    ∷ (codes "cas", verbs.Cas)
+    ∷ (codes "gat", verbs.Retrieve true false)
+    ∷ []
+
+-- the command words of four letters
+abbrev pub of_four : List Entry
+of_four =
+    (codes "gets", verbs.Retrieve false true)
+    ∷ (codes "gats", verbs.Retrieve true true)
+    ∷ (codes "incr", verbs.Count ops.Incr)
+    ∷ (codes "decr", verbs.Count ops.Decr)
+    ∷ (codes "quit", verbs.Own owns.Quit)
+    ∷ []
+
+-- the one of five letters
+abbrev pub of_five : List Entry
+of_five = (codes "touch", verbs.Touch) ∷ []
+
+-- the command words of six letters
+abbrev pub of_six : List Entry
+of_six =
+    (codes "delete", verbs.Delete)
+    ∷ (codes "append", verbs.Store ops.Append)
+    ∷ []
+
+-- the command words of seven letters
+abbrev pub of_seven : List Entry
+of_seven =
+    (codes "replace", verbs.Store ops.Replace)
+    ∷ (codes "prepend", verbs.Store ops.Prepend)
+    ∷ (codes "version", verbs.Own owns.Version)
+    ∷ []
+
+-- all command words
+abbrev pub command_words : List Entry
+command_words = of_three ++ of_four ++ of_five ++ of_six ++ of_seven
+
+-- what a word means by such a list
+abbrev pub found_in : List Entry → Word → Option Verb
+found_in [] word = None
+found_in (entry ∷ entries) word = if bytes_eq word entry.0 then Some entry.1 else found_in entries word
+
+-- what a command word means
+unfoldable pub verb_of : Word → Option Verb
+verb_of word = found_in command_words word

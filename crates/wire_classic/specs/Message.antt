@@ -1,0 +1,65 @@
+-- Messages at the front of a stream: a line, and after a store's line its data. Source: memcached's protocol.txt, "Protocol" and "Storage commands".
+use Rattle.std.specs.Prelude.{◌≡◌, ℕ, List, length, Option, Some, None}
+use Rattle.text_words.specs.Line.{IsTooLong}
+use Rattle.text_words.specs.Word.{text_at}
+use Rattle.wire_parts.specs.Message as parts
+use Rattle.wire_parts.specs.Message.{Served, Refusal}
+use Rattle.wire_parts.specs.Places.{IsIn}
+use Rattle.wire_classic.specs.declared.command.ClassicRead.{ClassicRead}
+use Rattle.wire_classic.specs.declared.command.ClassicRead.TheVariants as reads
+use Rattle.wire_classic.specs.declared.command.ClassicRequest.{ClassicRequest}
+use Rattle.wire_classic.specs.declared.command.ClassicCommand.{ClassicCommand}
+use Rattle.wire_classic.specs.declared.command.ClassicCommand.TheVariants as commands
+use Rattle.wire_classic.specs.Order.{Order}
+use Rattle.wire_classic.specs.Grammar.{classic_grammar}
+use Rattle.wire_classic.specs.Places.{order_in, LiesIn}
+
+-- a message: one that is served, with its data block, or one that is refused, with what is passed over after it
+abbrev pub Message : Type 0
+Message = parts.Message Order
+
+-- the length of the data block after a command, where one follows
+abbrev pub command_block_len : ClassicCommand → Option ℕ
+command_block_len (commands.Storage op quiet stored) = Some stored.length
+command_block_len (commands.Swapping quiet stored cas) = Some stored.length
+command_block_len _ = None
+
+-- a message, and how many bytes it takes; none where more must come
+abbrev pub Found : Type 0
+Found = parts.Found Order
+
+-- what the line of this text and the bytes after it are, unless more must come
+abbrev pub meaning : List ℕ → List ℕ → Found
+meaning = parts.meaning classic_grammar
+
+-- the bytes begin with this message, which takes so many of them
+abbrev pub Begins : List ℕ → Message → ℕ → Type 0
+Begins = parts.Begins classic_grammar
+
+-- what a request is, in the bytes that it was read from
+abbrev pub message_in : List ℕ → ClassicRequest → Message
+message_in bytes r = Served (order_in bytes r.command) (text_at bytes r.block)
+
+-- the spans of a request lie in the bytes
+pub record IsPlaced (bytes : List ℕ) (r : ClassicRequest) : Type 0 where
+  pub command : LiesIn bytes r.command
+  pub block : IsIn (length bytes) r.block
+
+-- the bytes begin with this request
+pub record IsReadFrom (bytes : List ℕ) (r : ClassicRequest) : Type 0 where
+  pub placed : IsPlaced bytes r
+  pub begins : Begins bytes (message_in bytes r) r.used
+
+-- what was read after a line is what it means
+abbrev pub IsMeant : List ℕ → ClassicRead → Found → Type 0
+IsMeant bytes (reads.Request r) found = IsPlaced bytes r × (found ≡ Some (message_in bytes r, r.used))
+IsMeant bytes (reads.Refused why used skip) found = found ≡ Some (Refusal why skip, used)
+IsMeant bytes reads.More found = found ≡ None
+IsMeant bytes reads.TooLong found = ⊥
+
+-- what the bytes of a client begin with
+abbrev pub Reads : List ℕ → ClassicRead → Type 0
+Reads bytes (reads.Request r) = IsReadFrom bytes r
+Reads bytes (reads.Refused why used skip) = Begins bytes (Refusal why skip) used
+Reads bytes reads.TooLong = IsTooLong bytes
+Reads bytes reads.More = (¬ IsTooLong bytes) × ((message : Message) (used : ℕ) → ¬ Begins bytes message used)

@@ -1,7 +1,0 @@
-//! Worked examples of wires: ends over a wire in memory whose far ends do what a script says, and real sockets.
-#![tactic(auto)]
-
-#[cfg(test)]
-mod scripts;
-#[cfg(test)]
-mod sockets;

@@ -1,0 +1,86 @@
+-- What a meta message asks. Source: memcached's protocol.txt, "Meta Commands": the modes, and what a flag that is left out stands for.
+use Rattle.std.specs.Prelude.{◌≡◌, ℕ, ℤ, pos, Bool, false, List, [], ◌∷◌, Option, Some, None, unwrap_or}
+use Rattle.std.specs.List.{AllByRecursion}
+use Rattle.mc_types.specs.OpaqueText.{IsOpaque}
+use Rattle.mc_types.specs.Asks.{IsAsk}
+use Rattle.mc_types.specs.declared.token.Token.{Token}
+use Rattle.mc_types.specs.declared.token.Token.TheVariants as tokens
+use Rattle.mc_types.specs.declared.ask.Op.{Op}
+use Rattle.mc_types.specs.declared.ask.Op.TheVariants as ops
+use Rattle.mc_types.specs.declared.ask.Dialect.TheVariants.{Meta}
+use Rattle.mc_types.specs.declared.ask.Ask.{Ask}
+use Rattle.wire_parts.specs.declared.proxy_command.ProxyCommand.{ProxyCommand}
+use Rattle.wire_parts.specs.Message.{Served, Refusal}
+use Rattle.wire_parts.specs.Tests.{Word}
+use Rattle.wire_meta.specs.declared.command.Kind.{Kind}
+use Rattle.wire_meta.specs.declared.command.Kind.TheVariants.{Get, Store, Delete, Count}
+use Rattle.wire_meta.specs.declared.command.Values.{Values}
+use Rattle.wire_meta.specs.Flags.{values_of, tokens_in}
+use Rattle.wire_meta.specs.Order.{Order, Asking, OfItself}
+use Rattle.wire_meta.specs.Grammar.{own_by}
+use Rattle.wire_meta.specs.Message.{Message}
+
+-- an operation on a key with what is wanted back, and nothing else
+abbrev pub bare_ask : Op → Word → List Token → Ask
+bare_ask op key wanted = record { key = key; op = op; dialect = Meta; with_cas = false; flags = 0; exptime = None; body = []; cas = None; delta = 0; tokens = wanted }
+
+-- `mg` is a get, and with an exptime a gat
+abbrev pub get_op : Option ℤ → Op
+get_op None = ops.Get
+get_op (Some exptime) = ops.Gat
+
+-- `ms` with a cas number is a cas; else it is the store of its mode, a set where there is none
+abbrev pub store_op : Option ℕ → Option Op → Op
+store_op (Some cas) mode = ops.Cas
+store_op None mode = unwrap_or mode ops.Set
+
+-- the ask of a kind, by what its flags say: flags and exptime of `ms` are 0, and `ma` counts up by 1, where nothing else is said
+abbrev pub ask_by : Kind → Word → Values → List Token → List ℕ → Ask
+ask_by Get key v wanted block = record (bare_ask (get_op v.exptime) key wanted) { exptime = v.exptime }
+ask_by Store key v wanted block = record (bare_ask (store_op v.cas v.mode) key wanted) { flags = unwrap_or v.flags 0; exptime = Some (unwrap_or v.exptime (pos 0)); body = block; cas = v.cas }
+ask_by Delete key v wanted block = record (bare_ask ops.Delete key wanted) { cas = v.cas }
+ask_by Count key v wanted block = record (bare_ask (unwrap_or v.mode ops.Incr) key wanted) { exptime = v.exptime; cas = v.cas; delta = unwrap_or v.delta 1 }
+
+-- the ask of an order with its data block, if it is one
+abbrev pub single_ask : Order → List ℕ → Option Ask
+single_ask (Asking kind key n flags) block = Some (ask_by kind key (values_of kind flags) (tokens_in flags) block)
+single_ask (OfItself own) block = None
+
+abbrev pub listed : Option Ask → List Ask
+listed None = []
+listed (Some ask) = ask ∷ []
+
+-- the asks of an order: one, or none
+abbrev pub asks_by : Order → List ℕ → List Ask
+asks_by order block = listed (single_ask order block)
+
+-- the asks of a message: a refused one has none
+abbrev pub asks_of : Message → List Ask
+asks_of (Served order block) = asks_by order block
+asks_of (Refusal why skip) = []
+
+-- whether `q` stands on the line of an order
+abbrev pub is_quiet : Order → Bool
+is_quiet (Asking kind key n flags) = (values_of kind flags).quiet
+is_quiet (OfItself own) = false
+
+-- whether `q` stands on the line of a message: a refused one is always answered
+abbrev pub quiet_of : Message → Bool
+quiet_of (Served order block) = is_quiet order
+quiet_of (Refusal why skip) = false
+
+-- what a message asks of mcgate itself
+abbrev pub own_of : Message → Option ProxyCommand
+own_of (Served order block) = own_by order
+own_of (Refusal why skip) = None
+
+-- the text of `O` is one
+abbrev pub IsText : Token → Type 0
+IsText (tokens.Opaque text) = IsOpaque text
+IsText _ = Unit {0}
+
+-- a well formed ask of the meta dialect
+pub record IsMetaAsk (ask : Ask) : Type 0 where
+  pub well_formed : IsAsk ask
+  pub meta : ask.dialect ≡ Meta
+  pub texts : AllByRecursion IsText ask.tokens

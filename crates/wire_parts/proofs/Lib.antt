@@ -1,0 +1,10 @@
+pub mod Growing
+pub mod Pieces
+pub mod ToSendParts
+pub mod KeyTexts
+pub mod GroupLemmas
+pub mod Fronts
+pub mod Streams
+pub mod Ranges
+pub mod Sound
+pub mod Tokens

@@ -1,0 +1,9 @@
+pub mod Sending
+pub mod Tests
+pub mod Places
+pub mod Refusals
+pub mod Grammar
+pub mod Message
+pub mod Stream
+pub mod Laws
+pub mod Sources

@@ -1,0 +1,85 @@
+-- What stands at the front of a connection's stream, and where it stands after it.
+use Rattle.std.proofs.Common.{◌≡◌, ℕ, ◌≤◌, List, length, drop, Some, refl, sym, ap, ◌∙◌, subst, slice_get}
+use Rattle.mc_types.specs.declared.ask.Ask.{Ask}
+use Rattle.fresh_runs.specs.Protocol.{IsStuck}
+use Rattle.wire_parts.specs.declared.refusal.RefusalReason.{RefusalReason}
+use Rattle.wire_parts.specs.declared.skip.Skip.{Skip}
+use Rattle.wire_parts.specs.declared.skip.Skip.TheVariants.{Nothing, Bytes, ThroughNewline}
+use Rattle.wire_parts.specs.Message.{Refusal}
+use Rattle.wire_parts.specs.Stream.{Place, Stands, Closed}
+use Rattle.wire_parts.proofs.Streams.{used_within}
+use Rattle.wire_classic.specs.Order.{Retrieval, Storage, Swapping, Deletion, Touching, Counting, OfItself}
+use Rattle.wire_meta.specs.Order as metas
+use Rattle.wire_stream.specs.declared.requests.reader.Read.{Read}
+use Rattle.wire_stream.specs.declared.requests.reader.Read.TheVariants as reads
+use Rattle.wire_stream.specs.declared.requests.request.Request.{Request}
+use Rattle.wire_stream.specs.Both.{Order, Classic, Meta, both_grammar}
+use Rattle.wire_stream.specs.Message.{Message, Reads, IsReadFrom, message_in, used_of}
+use Rattle.wire_stream.specs.Asks.{asks_by}
+use Rattle.wire_stream.specs.Stream.{after_order, after_message}
+use Rattle.wire_stream.specs.Held.{held_at, IsReadAt}
+use Rattle.wire_stream.specs.TextProtocol.{Whole, LongLine, ReadsNext, memcached_text}
+use Rattle.wire_stream.specs.Fronts.{IsFront}
+
+-- a request with an ask is no `quit`: after it the stream goes on
+pub served_after : (order : Order) (block rest : List ℕ) (i : ℕ) (ask : Ask) → slice_get (asks_by order block) i ≡ Some ask → after_order order rest ≡ Stands Nothing rest
+served_after (Classic (OfItself own)) block rest i ask e = absurd (cc)
+served_after (Classic (Retrieval exptime with_cas keys)) block rest i ask e = refl
+served_after (Classic (Storage kind stored quiet)) block rest i ask e = refl
+served_after (Classic (Swapping stored cas quiet)) block rest i ask e = refl
+served_after (Classic (Deletion key quiet)) block rest i ask e = refl
+served_after (Classic (Touching key exptime quiet)) block rest i ask e = refl
+served_after (Classic (Counting up key delta quiet)) block rest i ask e = refl
+served_after (Meta (metas.OfItself own)) block rest i ask e = absurd (cc)
+served_after (Meta (metas.Asking kind key n flags)) block rest i ask e = refl
+
+-- where something is read, the stream stands before it
+pub read_front : (place : Place) (read : Read) → IsReadAt place read → (read ≡ reads.More → ⊥) → (held : List ℕ) × (place ≡ Stands Nothing held) × Reads held read
+read_front (Stands Nothing held) read is some = (held, refl, is)
+read_front (Stands (Bytes n) held) read is some = absurd (some is)
+read_front (Stands ThroughNewline held) read is some = absurd (some is)
+read_front Closed read is some = absurd (some is)
+
+pub request_is_some : (request : Request) → reads.Request request ≡ reads.More → ⊥
+request_is_some request e = cc
+
+pub refused_is_some : (why : RefusalReason) (used : ℕ) (skip : Skip) → reads.Refused why used skip ≡ reads.More → ⊥
+refused_is_some why used skip e = cc
+
+pub long_is_some : reads.TooLong ≡ reads.More → ⊥
+long_is_some e = cc
+
+-- where nothing is read, no message is there
+pub more_stuck : (place : Place) → IsReadAt place reads.More → IsStuck memcached_text place
+more_stuck (Stands Nothing held) is (Whole message) next r = is.1 message r.0 r.1
+more_stuck (Stands Nothing held) is LongLine next r = is.0 r.0
+more_stuck (Stands (Bytes n) held) is said next r = r
+more_stuck (Stands ThroughNewline held) is said next r = r
+more_stuck Closed is said next r = r
+
+-- a request that was read stands at the front
+pub front_is : (place : Place) (request : Request) → IsReadAt place (reads.Request request) → IsFront place request
+front_is place request is =
+    let f = read_front place (reads.Request request) is (request_is_some request) in
+    let held : f.0 ≡ held_at place = sym (ap held_at f.1) in
+    record {
+      stands = f.1 ∙ ap (λ (l : List ℕ). Stands Nothing l) held;
+      read = subst (λ (l : List ℕ). IsReadFrom l request) held f.2;
+    }
+
+-- it is the next message
+pub reads_front : (place : Place) (request : Request) → IsFront place request → ReadsNext place (Whole (message_in (held_at place) request)) (after_message (message_in (held_at place) request) (drop (used_of request) (held_at place)))
+reads_front place request front =
+    let held = held_at place in
+    let m : Message = message_in held request in
+    subst (λ (p : Place). ReadsNext p (Whole m) (after_message m (drop (used_of request) held))) (sym front.stands) (used_of request, front.read.begins, refl)
+
+-- what it uses is held
+pub used_held : (place : Place) (request : Request) → IsFront place request → used_of request ≤ length (held_at place)
+used_held place request front = used_within both_grammar (held_at place) (message_in (held_at place) request) (used_of request) front.read.begins
+
+-- and so is what a refused message uses
+pub used_refused : (place : Place) (why : RefusalReason) (used : ℕ) (skip : Skip) → IsReadAt place (reads.Refused why used skip) → used ≤ length (held_at place)
+used_refused place why used skip is =
+    let f = read_front place (reads.Refused why used skip) is (refused_is_some why used skip) in
+    subst (λ (p : Place). used ≤ length (held_at p)) (sym f.1) (used_within both_grammar f.0 (Refusal why skip) used f.2)

@@ -1,0 +1,12 @@
+pub mod WordLengths
+pub mod Lifting
+pub mod Dialects
+pub mod RequestLaws
+pub mod Through
+pub mod ReaderLaws
+mod EndsLaw
+pub mod ClientStreams
+pub mod Shorter
+pub mod Fronts
+pub mod ConnectionRequests
+pub mod Passing

@@ -1,0 +1,67 @@
+-- What a message of either dialect asks, one ask for each key. Source: memcached's protocol.txt, the lines of each command.
+use Rattle.std.specs.Prelude.{ℕ, ◌+◌, Bool, false, List, [], Option, Some, None}
+use Rattle.std.specs.List.{AllByRecursion}
+use Rattle.mc_types.specs.Asks.{IsAsk}
+use Rattle.mc_types.specs.declared.ask.Ask.{Ask}
+use Rattle.wire_parts.specs.declared.proxy_command.ProxyCommand.{ProxyCommand}
+use Rattle.wire_parts.specs.Message.{Served, Refusal}
+use Rattle.wire_classic.specs.Asks as texts
+use Rattle.wire_meta.specs.Asks as metas
+use Rattle.wire_meta.specs.Asks.{IsText}
+use Rattle.wire_meta.specs.Message as meta_messages
+use Rattle.wire_stream.specs.declared.requests.request.Request.{Request}
+use Rattle.wire_stream.specs.declared.requests.request.Request.TheVariants as requests
+use Rattle.wire_stream.specs.declared.requests.request.Asks.{Asks}
+use Rattle.wire_stream.specs.declared.requests.request.Asks.TheVariants as walks
+use Rattle.wire_stream.specs.Both.{Order, Classic, Meta, own_by}
+use Rattle.wire_stream.specs.Message.{Message}
+
+-- the asks of an order with its data block
+abbrev pub asks_by : Order → List ℕ → List Ask
+asks_by (Classic order) block = texts.asks_by order block
+asks_by (Meta order) block = metas.asks_by order block
+
+-- the asks of a message, in order: a refused one has none
+abbrev pub asks_of : Message → List Ask
+asks_of (Served order block) = asks_by order block
+asks_of (Refusal why skip) = []
+
+-- whether `noreply` stands on the line of an order, or `q`
+abbrev pub is_quiet : Order → Bool
+is_quiet (Classic order) = texts.is_quiet order
+is_quiet (Meta order) = metas.is_quiet order
+
+-- the same of a message: a refused one is always answered
+abbrev pub quiet_of : Message → Bool
+quiet_of (Served order block) = is_quiet order
+quiet_of (Refusal why skip) = false
+
+-- what a message asks of mcgate itself
+abbrev pub own_of : Message → Option ProxyCommand
+own_of (Served order block) = own_by order
+own_of (Refusal why skip) = None
+
+-- a well formed ask, of either dialect
+pub record IsClientAsk (ask : Ask) : Type 0 where
+  pub well_formed : IsAsk ask
+  pub texts : AllByRecursion IsText ask.tokens
+
+-- the request whose asks a walk goes over
+abbrev pub request_of : Asks → Request
+request_of (walks.Classic a) = requests.Classic a.request
+request_of (walks.Meta a) = requests.Meta a.request
+
+-- how many of them it has taken
+abbrev pub taken_of : Asks → ℕ
+taken_of (walks.Classic a) = a.taken
+taken_of (walks.Meta a) = a.taken
+
+-- a walk over the asks of a request of these bytes
+abbrev pub IsWalk : List ℕ → Asks → Type 0
+IsWalk bytes (walks.Classic a) = texts.IsWalk bytes a
+IsWalk bytes (walks.Meta a) = meta_messages.IsReadFrom bytes a.request
+
+-- how many were taken after this answer
+abbrev pub counted : Option Ask → ℕ → ℕ
+counted None taken = taken
+counted (Some ask) taken = taken + 1

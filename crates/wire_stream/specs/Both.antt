@@ -1,0 +1,62 @@
+-- Both dialects as one grammar: the command word tells which one a line is of. Source: memcached's protocol.txt, "Commands" and "Meta Commands".
+use Rattle.std.specs.Prelude.{ℕ, List, [], ◌∷◌, Option, Some, None, Result, Ok, Err}
+use Rattle.wire_parts.specs.declared.refusal.RefusalReason.{RefusalReason}
+use Rattle.wire_parts.specs.declared.refusal.RefusalReason.TheVariants.{Unknown}
+use Rattle.wire_parts.specs.declared.skip.Skip.{Skip}
+use Rattle.wire_parts.specs.declared.skip.Skip.TheVariants.{Nothing}
+use Rattle.wire_parts.specs.declared.proxy_command.ProxyCommand.{ProxyCommand}
+use Rattle.wire_parts.specs.Tests.{Word}
+use Rattle.wire_parts.specs.Grammar.{Grammar}
+use Rattle.wire_parts.specs.Message.{Message, Served, Refusal, Found}
+use Rattle.wire_classic.specs.Order as texts
+use Rattle.wire_classic.specs.Grammar as text_lines
+use Rattle.wire_meta.specs.Order as metas
+use Rattle.wire_meta.specs.Grammar as meta_lines
+use Rattle.wire_meta.specs.declared.command.Verb.{Verb}
+use Rattle.wire_meta.specs.CommandWords.{verb_of}
+
+-- what a line asks, in its dialect
+pub data Order : Type 0 where
+  Classic : (order : texts.Order) → Order
+  Meta : (order : metas.Order) → Order
+
+abbrev pub mapped : {A B : Type 0} → (A → B) → Result A RefusalReason → Result B RefusalReason
+mapped f (Ok x) = Ok (f x)
+mapped f (Err why) = Err why
+
+-- a line whose first word means this among the meta commands
+abbrev pub order_by : Option Verb → List Word → Result Order RefusalReason
+order_by None line = mapped Classic (texts.order_of line)
+order_by (Some verb) line = mapped Meta (metas.order_of line)
+
+abbrev pub order_of : List Word → Result Order RefusalReason
+order_of [] = Err Unknown
+order_of (word ∷ words) = order_by (verb_of word) (word ∷ words)
+
+abbrev pub skip_by : Option Verb → List Word → Skip
+skip_by None line = texts.skip_of line
+skip_by (Some verb) line = metas.skip_of line
+
+abbrev pub skip_of : List Word → Skip
+skip_of [] = Nothing
+skip_of (word ∷ words) = skip_by (verb_of word) (word ∷ words)
+
+abbrev pub block_len : Order → Option ℕ
+block_len (Classic order) = text_lines.block_len order
+block_len (Meta order) = meta_lines.block_len order
+
+abbrev pub own_by : Order → Option ProxyCommand
+own_by (Classic order) = text_lines.own_by order
+own_by (Meta order) = meta_lines.own_by order
+
+abbrev pub both_grammar : Grammar
+both_grammar = record { Order = Order; order_of = order_of; skip_of = skip_of; block_len = block_len; own_by = own_by }
+
+-- a message of one dialect, as one of both
+abbrev pub lift_message : {A B : Type 0} → (A → B) → Message A → Message B
+lift_message f (Served order block) = Served (f order) block
+lift_message f (Refusal why skip) = Refusal why skip
+
+abbrev pub lift_found : {A B : Type 0} → (A → B) → Found A → Found B
+lift_found f None = None
+lift_found f (Some x) = Some (lift_message f x.0, x.1)

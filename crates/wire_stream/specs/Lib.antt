@@ -1,0 +1,12 @@
+pub mod Both
+pub mod Message
+pub mod Asks
+pub mod Stream
+pub mod Spelling
+pub mod Laws
+pub mod Replies
+pub mod Held
+pub mod TextProtocol
+pub mod ClientStreams
+pub mod Fronts
+pub mod Steps

@@ -1,0 +1,61 @@
+-- What the bytes of a client begin with, in either dialect.
+use Rattle.std.specs.Prelude.{◌≡◌, ℕ, List, Some, None}
+use Rattle.text_words.specs.Line.{IsTooLong}
+use Rattle.text_words.specs.Word.{text_at}
+use Rattle.wire_parts.specs.Message as parts
+use Rattle.wire_parts.specs.Message.{Served, Refusal}
+use Rattle.wire_classic.specs.Places as text_places
+use Rattle.wire_classic.specs.Message as texts
+use Rattle.wire_meta.specs.Places as meta_places
+use Rattle.wire_meta.specs.Message as metas
+use Rattle.wire_stream.specs.declared.requests.request.Request.{Request}
+use Rattle.wire_stream.specs.declared.requests.request.Request.TheVariants as requests
+use Rattle.wire_stream.specs.declared.requests.reader.Read.{Read}
+use Rattle.wire_stream.specs.declared.requests.reader.Read.TheVariants as reads
+use Rattle.wire_stream.specs.Both.{Order, Classic, Meta, both_grammar}
+
+-- a message: one that is served, with its data block, or one that is refused, with what is passed over after it
+abbrev pub Message : Type 0
+Message = parts.Message Order
+
+-- a message, and how many bytes it takes; none where more must come
+abbrev pub Found : Type 0
+Found = parts.Found Order
+
+-- the bytes begin with this message, which takes so many of them
+abbrev pub Begins : List ℕ → Message → ℕ → Type 0
+Begins = parts.Begins both_grammar
+
+-- what a request is, in the bytes that it was read from
+abbrev pub message_in : List ℕ → Request → Message
+message_in bytes (requests.Classic r) = Served (Classic (text_places.order_in bytes r.command)) (text_at bytes r.block)
+message_in bytes (requests.Meta r) = Served (Meta (meta_places.order_in bytes r.command)) (text_at bytes r.block)
+
+-- how many bytes it takes
+abbrev pub used_of : Request → ℕ
+used_of (requests.Classic r) = r.used
+used_of (requests.Meta r) = r.used
+
+-- the spans of a request lie in the bytes
+abbrev pub IsPlaced : List ℕ → Request → Type 0
+IsPlaced bytes (requests.Classic r) = texts.IsPlaced bytes r
+IsPlaced bytes (requests.Meta r) = metas.IsPlaced bytes r
+
+-- the bytes begin with this request
+pub record IsReadFrom (bytes : List ℕ) (r : Request) : Type 0 where
+  pub placed : IsPlaced bytes r
+  pub begins : Begins bytes (message_in bytes r) (used_of r)
+
+-- what was read after a line is what it means
+abbrev pub IsMeant : List ℕ → Read → Found → Type 0
+IsMeant bytes (reads.Request r) found = IsPlaced bytes r × (found ≡ Some (message_in bytes r, used_of r))
+IsMeant bytes (reads.Refused why used skip) found = found ≡ Some (Refusal why skip, used)
+IsMeant bytes reads.More found = found ≡ None
+IsMeant bytes reads.TooLong found = ⊥
+
+-- what the bytes of a client begin with
+abbrev pub Reads : List ℕ → Read → Type 0
+Reads bytes (reads.Request r) = IsReadFrom bytes r
+Reads bytes (reads.Refused why used skip) = Begins bytes (Refusal why skip) used
+Reads bytes reads.TooLong = IsTooLong bytes
+Reads bytes reads.More = (¬ IsTooLong bytes) × ((message : Message) (used : ℕ) → ¬ Begins bytes message used)

@@ -1,0 +1,25 @@
+-- The one spelling of an ask, in its dialect, and the message that it is.
+use Rattle.std.specs.Prelude.{ℕ, List}
+use Rattle.mc_types.specs.declared.ask.Dialect.{Dialect}
+use Rattle.mc_types.specs.declared.ask.Dialect.TheVariants as dialects
+use Rattle.mc_types.specs.declared.ask.Ask.{Ask}
+use Rattle.wire_classic.specs.Spelling as texts
+use Rattle.wire_meta.specs.Spelling as metas
+use Rattle.wire_stream.specs.Both.{Classic, Meta, lift_message}
+use Rattle.wire_stream.specs.Message.{Message}
+
+abbrev pub spelled_in : Dialect → Ask → List ℕ
+spelled_in dialects.Classic ask = texts.spelling_of ask
+spelled_in dialects.Meta ask = metas.spelling_of ask
+
+-- an ask, spelled
+abbrev pub spelling_of : Ask → List ℕ
+spelling_of ask = spelled_in ask.dialect ask
+
+abbrev pub message_by : Dialect → Ask → Message
+message_by dialects.Classic ask = lift_message Classic (texts.message_of ask)
+message_by dialects.Meta ask = lift_message Meta (metas.message_of ask)
+
+-- the message that an ask is
+abbrev pub message_of : Ask → Message
+message_of ask = message_by ask.dialect ask
