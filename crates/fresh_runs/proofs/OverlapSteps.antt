@@ -467,6 +467,6 @@ module _ {P : Protocol} (words : Words) (Bars : ℕ → Ask → ℕ → Ask → 
   pub walks_lead : (old new : OverlapState P) (entries : List (Entry P)) → Walks words Bars old entries new → Leads words Bars old entries new
   walks_lead old new entries w = λ opening log h. walks_more words Bars opening entries log old new h w
 
-  -- and what leads on leads further
+  -- entries that lead from one state to a second, and then others to a third, lead from the first to the third
   pub leads_on : (old mid new : OverlapState P) (first second : List (Entry P)) → Leads words Bars old first mid → Leads words Bars mid second new → Leads words Bars old (second ++ first) new
   leads_on old mid new first second a b = λ opening log h. subst (λ l. LeadsTo words Bars opening l new) (sym (append_assoc second first log)) (b opening (first ++ log) (a opening log h))

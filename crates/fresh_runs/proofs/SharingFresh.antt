@@ -296,7 +296,7 @@ module _ (words : ℕ → Ask → List Call → Answer → Option ℕ → Type 0
         subst (λ x. IsAcknowledged (before past x) n delete) shown.0 (began_after words Bars opening past run.1 n a delete run.0.0 ack run.0.1 (sym run.0.2 ∙ shown.1) (all a n run.0.0 delete (sym run.0.2 ∙ shown.1)))
     shown_later (Replies a k reply from ∷ past) run n m delete item lt (inr ack) (inr shown) = shown_later past run.1 n m delete item lt ack shown
 
-    -- and shows a stamp that is greater
+    -- what a command shows after an acknowledged delete of its key has a stamp greater than the delete's number
     pub fresh_by_number : (events : List Event) → LosesOnly events → Run words Bars opening events → IsFreshByNumber opening events
     fresh_by_number events lost run n m delete item lt ack shown =
         shows_young words Bars cover (λ number ask calls reply from word j call i at o x other gone same. all number x ask other same) opening n delete (acked_delete events n delete ack) (before events n) (λ s. n < s)

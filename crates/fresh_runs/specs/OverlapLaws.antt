@@ -59,11 +59,11 @@ module _ (P : Protocol) (words : Words) (Bars : ℕ → Ask → ℕ → Ask → 
   abbrev pub OverlapIsFresh : Type 0
   OverlapIsFresh = IsCovered words → CopiesBar words Bars → (log : List (Entry P)) → LosesOnly (run_of log) → Follows words Bars opening log → IsFresh opening (run_of log)
 
-  -- and where each command has its key alone, later is a greater number
+  -- where each command has its key alone too, its run is fresh by numbers: later is a greater number
   abbrev pub OverlapIsFreshByNumber : Type 0
   OverlapIsFreshByNumber = IsCovered words → AreAlone Bars → (log : List (Entry P)) → LosesOnly (run_of log) → Follows words Bars opening log → IsFreshByNumber opening (run_of log)
 
-  -- and stale replies are counted by the last acknowledged delete of a key; there are none where deletes clear what later commands take and nobody else writes the servers
+  -- where each command has its key alone, stale replies are counted by the last acknowledged delete of a key; there are none where deletes clear what later commands take and nobody else writes the servers
   abbrev pub OverlapCountsStale : Type 0
   OverlapCountsStale =
       AreAlone Bars → (log : List (Entry P)) → Follows words Bars opening log

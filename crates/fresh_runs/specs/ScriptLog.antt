@@ -267,7 +267,7 @@ module _ {P : Protocol} {T : Type 0} (first : T) (words_of : T → Words) (Bars 
     -- each command has its call out, or waits for its server
     pub sent : (n : ℕ) (o : Owner) → owner_of log n ≡ Some o → ((s : ℕ) × (ticket : Ticket) × (ticket_in (out_of log s) n ≡ Some ticket)) ⊎ ((s : ℕ) × IsNextAt words log n o s × (window ≤ length (out_of log s)))
 
-  -- and each client was given its output
+  -- nothing can go on by itself any more, and each client was given its output
   abbrev pub IsQuiet : Words → List (Entry P) → Type 0
   IsQuiet words log = IsStill words log × ((c : ℕ) → given_of log c ≡ output_of log c)
 

@@ -203,7 +203,7 @@ module _ (opening : ℕ → List ℕ → Option Item) where
   IsFresh events =
       (n m : ℕ) (delete : Ask) (item : Item) → IsAcknowledged (before events m) n delete → IsShown events m delete.key item → HasEnded (before events n) item.stamp → ⊥
 
-  -- the same by numbers
+  -- fresh by numbers: a command numbered after an acknowledged delete of its key shows no item whose stamp isn't greater
   abbrev pub IsFreshByNumber : List Event → Type 0
   IsFreshByNumber events =
       (n m : ℕ) (delete : Ask) (item : Item) → n < m → IsAcknowledged events n delete → IsShown events m delete.key item → n < item.stamp

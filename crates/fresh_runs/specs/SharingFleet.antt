@@ -98,7 +98,7 @@ module _ (words : ℕ → Ask → List Call → Answer → Option ℕ → Type 0
       → AreOn client.key calls → words number client calls reply from → MakesCalls number old calls new
       → GoesOnByCommand past number client (Replies number client.key reply from ∷ []) new
 
-  -- and one that is broken off after any of its calls
+  -- the run goes on by a command that is broken off after any of its calls
   abbrev pub BrokenGoesOn : Type 0
   BrokenGoesOn =
       (past : List Event) (number : ℕ) (client : Ask) (old new : Fleet) (calls : List Call)

@@ -90,12 +90,12 @@ pub fn overlap_is_fresh<S: SharedSetting>()
     ensures { OverlapIsFresh S.protocol S.words S.bars S.opening }
 {}
 
-/// And where each command has its key alone, later is a greater number.
+/// Where each command has its key alone, the run is fresh by numbers too: later is a greater number.
 pub fn overlap_is_fresh_by_number<S: SharedSetting>()
     ensures { OverlapIsFreshByNumber S.protocol S.words S.bars S.opening }
 {}
 
-/// And stale replies are counted by the last acknowledged delete of a key.
+/// Where each command has its key alone, stale replies are counted by the last acknowledged delete of a key.
 pub fn overlap_counts_stale<S: SharedSetting>()
     ensures { OverlapCountsStale S.protocol S.words S.bars S.opening }
 {}

@@ -14,7 +14,7 @@ module _ (byte : ℕ) (xs : List ℕ) where
   first_is None h = position_or_len_is (λ b. b == byte) xs (length xs) 0 (omega arith) (λ k lt. fails k (h k (omega arith) lt)) (λ lt. absurd (omega arith))
   first_is (Some at) h = (h.0.high, position_or_len_is (λ b. b == byte) xs at 0 (omega (arith, h.0.high)) (λ k lt. fails k (h.0.before k (omega arith) lt)) (λ lt. h.1))
 
--- the same of what looks at one after the other
+-- a search that looks at one byte after the other ends at the first that is this byte
 near_of : (at len : ℕ) (b : Bool) → nat_lt at len ≡ b → at ≤ len → (r : Option ℕ) → r ≡ cond b (Some at) None → MatchOption r (at ≡ len) (λ it. (it < len) × (at ≡ it))
 near_of at len true is le r h = subst (λ (o : Option ℕ). MatchOption o (at ≡ len) (λ it. (it < len) × (at ≡ it))) (sym h) (ltb-true at len is, refl)
 near_of at len false is le r h = subst (λ (o : Option ℕ). MatchOption o (at ≡ len) (λ it. (it < len) × (at ≡ it))) (sym h) (omega (arith, ltb-false at len is, le))

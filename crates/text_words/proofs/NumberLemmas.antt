@@ -55,7 +55,7 @@ below true v a b le = elim (cases_lt v b) [
   | inr ge ↦ rw (le-ltb v b ge, le-ltb v a (omega arith)) refl
 ]
 
--- the same word below a smaller limit
+-- a word read below a smaller limit: what it is below the greater one, where that keeps the smaller
 pub number_below-less : (word : List ℕ) (a b : ℕ) → a ≤ b → number_below a word ≡ option_and_then (λ n. cond (ltb n a) (Some n) None) (number_below b word)
 number_below-less word a b le = below (is_number word) (digits_value 10 word) a b le
 

@@ -13,6 +13,6 @@ is_number word = nat_le 1 (length word) && nat_le (length word) 20 && all_ascii_
 abbrev pub number_below : ℕ → List ℕ → Option ℕ
 number_below limit word = if is_number word && nat_lt (digits_value 10 word) limit then Some (digits_value 10 word) else None
 
--- the same for a number with a minus sign or without, in the range of 64 bits (protocol.txt, "Expiration times"); -0 is 0
+-- the number that a word writes with a minus sign or without, where it is in the range of 64 bits (protocol.txt, "Expiration times"); -0 is 0
 abbrev pub signed_number : List ℕ → Option ℤ
 signed_number word = if slice_index word 0 == 45 then option_map (λ n. neg_ℤ (pos n)) (number_below (2 ^ 63 + 1) (drop 1 word)) else option_map pos (number_below (2 ^ 63) word)

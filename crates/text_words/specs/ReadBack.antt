@@ -21,6 +21,6 @@ LinesAreReadBack = (ws : List (List ℕ)) (more : List ℕ) → AreOneLine ws �
 abbrev pub NumbersAreReadBack : Type 0
 NumbersAreReadBack = (limit n : ℕ) → n < limit → limit ≤ 2 ^ 64 → number_below limit (decimal n) ≡ Some n
 
--- and so is each number of 64 bits with a sign
+-- a number of 64 bits with a sign, in decimal, is read as that number
 abbrev pub SignedAreReadBack : Type 0
 SignedAreReadBack = (z : ℤ) → FitsSigned w64 z → signed_number (signed_decimal z) ≡ Some z

@@ -18,7 +18,7 @@ pub fn numbers_are_read_back()
     ensures { NumbersAreReadBack }
 {}
 
-/// The same for numbers of `i64`.
+/// A number of `i64` that was written in decimal, with its sign, is read as that number.
 pub fn signed_are_read_back()
     ensures { SignedAreReadBack }
 {}

@@ -35,7 +35,7 @@ pub fn number(word: &[u8]) -> Option<u64>
     Some(value)
 }
 
-/// The same for flags: `None` also where the number is 2^32 or more.
+/// The number that a word of flags writes: `None` where it writes none, or one of 2^32 or more.
 pub fn u32_number(word: &[u8]) -> Option<u32>
     ensures { result ≡ number_below (2 ^ 32) word.now }
 {

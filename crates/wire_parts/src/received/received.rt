@@ -62,7 +62,7 @@ fn part_at(bytes: &Bytes, at: usize, len: usize) -> Result<Bytes, AllocError>
     bytes.slice(at..end)
 }
 
-// The same as data.
+// The part of these bytes that begins at `at` and has `len` bytes, as data.
 fn cut_at(alloc: Global, bytes: &Bytes, at: usize, len: usize) -> Result<Body, AllocError>
     requires { (0 < len) × (len ≤ length (drop at bytes.now)) }
     ensures { IfOk result (λ body. body ≡ take len (drop at bytes.now)) }
