@@ -12,7 +12,7 @@ use Rattle.mc_types.specs.declared.ask.Dialect.TheVariants as dialects
 use Rattle.mc_types.specs.declared.token.Token.{Token}
 use Rattle.wire_parts.specs.Message.{Served, Refusal}
 use Rattle.wire_parts.proofs.Streams.{begins_still}
-use Rattle.wire_classic.specs.declared.command.ClassicRequest as text_requests
+use Rattle.wire_classic.specs.declared.command.ClassicRequest.{ClassicRequest}
 use Rattle.wire_classic.specs.Message as texts
 use Rattle.wire_classic.specs.Asks as text_asks
 use Rattle.wire_classic.specs.Asks.{IsClassicAsk}
@@ -20,7 +20,7 @@ use Rattle.wire_classic.proofs.StreamLemmas as text_streams
 use Rattle.wire_classic.proofs.WalkLemmas as text_walks
 use Rattle.wire_classic.proofs.Back as text_back
 use Rattle.wire_classic.proofs.OneAsk as text_one
-use Rattle.wire_meta.specs.declared.command.MetaRequest as meta_requests
+use Rattle.wire_meta.specs.declared.command.MetaRequest.{MetaRequest}
 use Rattle.wire_meta.specs.Message as metas
 use Rattle.wire_meta.specs.Asks as meta_asks
 use Rattle.wire_meta.specs.Asks.{IsText, IsMetaAsk}
@@ -37,10 +37,10 @@ use Rattle.wire_stream.specs.Laws.{ReadStill, WalkStill, AsksAreWellFormed, Asks
 use Rattle.wire_stream.proofs.Dialects.{classic_begins, meta_begins, begins_classic, begins_meta}
 
 -- a request that was read, in its dialect
-pub classic_read : (bytes : List ℕ) (r : text_requests.Request) → IsReadFrom bytes (requests.Classic r) → texts.IsReadFrom bytes r
+pub classic_read : (bytes : List ℕ) (r : ClassicRequest) → IsReadFrom bytes (requests.Classic r) → texts.IsReadFrom bytes r
 classic_read bytes r h = record { placed = h.placed; begins = classic_begins bytes _ _ r.used h.begins }
 
-pub meta_read : (bytes : List ℕ) (r : meta_requests.Request) → IsReadFrom bytes (requests.Meta r) → metas.IsReadFrom bytes r
+pub meta_read : (bytes : List ℕ) (r : MetaRequest) → IsReadFrom bytes (requests.Meta r) → metas.IsReadFrom bytes r
 meta_read bytes r h = record { placed = h.placed; begins = meta_begins bytes _ _ r.used h.begins }
 
 pub read_still : ReadStill
