@@ -5,7 +5,7 @@ use Rattle.mc_types.specs.declared.answer.Answer.{Answer}
 use Rattle.mc_types.specs.declared.ask.Ask.{Ask}
 use Rattle.fresh_runs.specs.Overlap.{Front}
 use Rattle.wire_parts.specs.declared.skip.Skip.TheVariants.{Nothing}
-use Rattle.wire_parts.specs.Stream.{ReplyPlace as ReaderPlace, Stands}
+use Rattle.wire_parts.specs.Stream.{Place, Stands}
 use Rattle.wire_stream.specs.declared.requests.request.Request.{Request}
 use Rattle.wire_stream.specs.Message.{IsReadFrom, message_in}
 use Rattle.wire_stream.specs.Asks.{asks_of}
@@ -29,7 +29,7 @@ replied_in n reply (pending ∷ rest) = if nat_eq pending.number n then record p
 abbrev pub GoesOn : Bool → Client → Answer → Client → Type 0
 GoesOn true x reply y = front_by (Some y) ≡ front_by (Some x)
 GoesOn false x reply y =
-    (message : Message) × (next : ReaderPlace) × dialect.Reads x.stream message next
+    (message : Message) × (next : Place) × dialect.Reads x.stream message next
     × (◌≡◌ {A = Front dialect} (front_by (Some y)) (if dialect.ends message x.index reply then record { place = next; index = 0; waits = false } else record { place = x.stream; index = x.index + 1; waits = false }))
 
 abbrev pub is_numbered : ℕ → Pending → Bool
@@ -71,7 +71,7 @@ pub record IsPlace (x : Client) (number : ℕ) (place : ReplyPlace) : Type 0 whe
 
 -- the message at the front has a key at the client's index
 abbrev pub HasKeyAtFront : Client → Type 0
-HasKeyAtFront x = (message : Message) × (next : ReaderPlace) × (ask : Ask) × dialect.Reads x.stream message next × (slice_get (dialect.asks_of message) x.index ≡ Some ask)
+HasKeyAtFront x = (message : Message) × (next : Place) × (ask : Ask) × dialect.Reads x.stream message next × (slice_get (dialect.asks_of message) x.index ≡ Some ask)
 
 -- the reply of this command can come: where its key isn't the last of its message, that stands at the front
 pub record HasPlace (x : Client) (number : ℕ) (pending : Pending) : Type 0 where
