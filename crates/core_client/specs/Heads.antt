@@ -36,7 +36,7 @@ abbrev pub ShowsOne : Client → Bool → Client → Type 0
 ShowsOne x true y = (pending : Pending) × (reply : Answer) × ShowsHead x pending reply y
 ShowsOne x false y = HasNoReply x.queue.items × (y ≡ x)
 
--- it is of this number, and asks the last key of its message
+-- the command is of this number, and asks the last key of its message
 abbrev pub is_next_of : ℕ → Pending → Bool
 is_next_of number pending = if nat_eq pending.number number then pending.last else false
 

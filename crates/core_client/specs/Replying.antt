@@ -20,7 +20,7 @@ abbrev pub pending_in : ℕ → List Pending → Option Pending
 pending_in n [] = None
 pending_in n (pending ∷ rest) = if nat_eq pending.number n then Some pending else pending_in n rest
 
--- it has its reply
+-- the first command of this number in a client's queue has its reply
 abbrev pub replied_in : ℕ → Answer → List Pending → List Pending
 replied_in n reply [] = []
 replied_in n reply (pending ∷ rest) = if nat_eq pending.number n then record pending { reply = Some reply } ∷ rest else pending ∷ replied_in n reply rest
@@ -51,7 +51,7 @@ IsOnward x true (Some request) = ⊥
 IsOnward x false None = ⊥
 IsOnward x false (Some request) = IsAnswered x request
 
--- the same, where it isn't said whether the key is the last
+-- where the starting goes on after the reply, if it does: whether the key is the last isn't said
 abbrev pub IsOnwardOfSome : Client → Option Request → Type 0
 IsOnwardOfSome x None = Unit {0}
 IsOnwardOfSome x (Some request) = IsAnswered x request

@@ -28,7 +28,7 @@ fn is_delete(op: Op) -> bool
 }
 
 impl Claim {
-    /// That of a command of this ask which begins on this tree. It takes no memory.
+    /// The claim of a command of this ask which begins on this tree. It takes no memory.
     pub fn of(sharing: Sharing, ask: &Ask, tree: &Tree) -> Claim
         ensures { result ≡ claim_by sharing ask.now.op (tree_at tree.now ask.now.key) }
     {

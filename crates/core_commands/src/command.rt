@@ -28,7 +28,7 @@ pub struct Command {
 }
 
 impl Command {
-    /// Its key.
+    /// The key of the command.
     pub fn key(&self) -> Key
         ensures { result ≡ self.now.ask.key }
     {
@@ -68,7 +68,7 @@ impl Command {
         }
     }
 
-    /// What its call that is out asks, if one is. It takes no memory.
+    /// What the command's call that is out asks, if one is. It takes no memory.
     pub fn asked(&self) -> Option<&Ask>
         ensures { option_map (λ ask. ask.now) result ≡ asked_by (Some self.now) }
     {
@@ -81,7 +81,7 @@ impl Command {
         }
     }
 
-    /// Its call that is out, if one is. It takes no memory.
+    /// The command's call that is out, if one is. It takes no memory.
     pub fn called(&self) -> Option<OutCall<'_>>
         ensures { IfSome result (λ call. IsOutAs self.now call.server call.ask.now call.origin) }
     {

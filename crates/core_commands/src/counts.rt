@@ -18,7 +18,7 @@ pub fn count_of<K: Eq + Hash>(key: &K, counts: &IndexMap<K, usize>) -> usize
     }
 }
 
-/// There is one more of it. Whether that is counted: not where memory was refused.
+/// There is one more of the key. Whether that is counted: not where memory was refused.
 pub fn count_one<K: Eq + Hash + Copy + Drop>(key: K, counts: &mut IndexMap<K, usize>) -> bool
     ensures { result ≡ true → SetsCount K.eq key (count_at (get K.eq counts.old) key + 1) counts.old counts.new }
 {
@@ -64,7 +64,7 @@ pub fn uncount_where<K: Eq + Hash + Copy + Drop>(
     }
 }
 
-/// There is one less of it, which isn't kept where none is left. Whether that is counted.
+/// There is one less of the key, which isn't kept where none is left. Whether that is counted.
 pub fn uncount_one<K: Eq + Hash + Copy + Drop>(key: K, counts: &mut IndexMap<K, usize>) -> bool
     ensures { result ≡ true → SetsCount K.eq key (count_at (get K.eq counts.old) key - 1) counts.old counts.new }
 {

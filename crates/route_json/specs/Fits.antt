@@ -48,7 +48,7 @@ pub record Fits (bound levels weight n : ℕ) (r : Route) (m : ℕ) : Type 0 whe
   pub deep : depth r ≤ levels
   pub many : n + weight * count r ≡ m
 
--- the same of a list
+-- routes of at most so many levels, by which the count went from n to m
 pub record AllFit (bound levels weight n : ℕ) (rs : List Route) (m : ℕ) : Type 0 where
   pub good : AreGood (routes_of rs)
   pub below : AreBelow bound (routes_of rs)

@@ -27,7 +27,7 @@ pools_of (p ∷ ps) = (string_bytes p.name, p.servers.items) ∷ pools_of ps
 abbrev pub slots_of : List WeightedServer → List ℕ
 slots_of servers = flat_map (λ s. replicate s.weight s.server) servers
 
--- all of them are below
+-- all these numbers are below the bound
 abbrev pub AllBelow : ℕ → List ℕ → Type 0
 AllBelow bound [] = Unit {0}
 AllBelow bound (s ∷ ss) = (s < bound) × AllBelow bound ss

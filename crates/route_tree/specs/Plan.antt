@@ -42,12 +42,12 @@ abbrev mutual
   IsGood (WarmUp cold warm e) = IsGood cold × IsGood warm
   IsGood (ByOperation policies) = ArePoliciesGood policies
 
-  -- each of them is good
+  -- each of these children is good
   pub AreGood : Plans → Type 0
   AreGood End = Unit {0}
   AreGood (More p ps) = IsGood p × AreGood ps
 
-  -- each of them is good
+  -- each of the children by operation is good
   pub ArePoliciesGood : PlanPolicies → Type 0
   ArePoliciesGood (Otherwise p) = IsGood p
   ArePoliciesGood (Policy op p rest) = IsGood p × ArePoliciesGood rest

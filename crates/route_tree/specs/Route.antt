@@ -52,17 +52,17 @@ abbrev mutual
   IsGood (ByOperation ps) = ArePoliciesGood ps
   IsGood (ByPrefix ps) = ArePrefixesGood ps
 
-  -- each of them is good
+  -- each of these children is good
   pub AreGood : Routes → Type 0
   AreGood End = Unit {0}
   AreGood (More r rs) = IsGood r × AreGood rs
 
-  -- each of them is good
+  -- each of the children by operation is good
   pub ArePoliciesGood : Policies → Type 0
   ArePoliciesGood (Otherwise r) = IsGood r
   ArePoliciesGood (Policy op r ps) = IsGood r × ArePoliciesGood ps
 
-  -- each of them is good
+  -- each of the children by prefix is good, and each prefix is a key
   pub ArePrefixesGood : Prefixes → Type 0
   ArePrefixesGood (Wildcard r) = IsGood r
   ArePrefixesGood (Prefix text r ps) = IsKey text × IsGood r × ArePrefixesGood ps

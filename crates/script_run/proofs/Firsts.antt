@@ -62,7 +62,7 @@ module _ (server : ℕ) where
         others = λ s other. ap (calls_at s) left ∙ others_out s other a.out.items i t p.0 p.1;
       }
 
--- so in a log the call has its result
+-- what is out after the first call of a server had its result, as a log has it
 pub left_out : (server : ℕ) (t : Ticket) (a b : Runner) → TakesFirst server t a b → (s : ℕ) → calls_at s b.out.items ≡ cond (nat_eq server s) (without t.number (calls_at s a.out.items)) (calls_at s a.out.items)
 left_out server t a b takes s = by (nat_eq server s) refl
   where

@@ -58,7 +58,7 @@ module _ (core : Core) (beside : Beside) (opening : ℕ → List ℕ → Option 
       let r = goes_on core.limits.sharing (beside.at number a.ask.key) a (fits.to_come number a was) (calling_of a out) Failed tt in
       (r.0, r.1.reply, r.1.from, leads.to_come number (owner_by a) (ap (option_map owner_by) was) (call_of a.job Failed ∷ r.0) r.1.reply r.1.from (subst (λ o. MayComeOf o (call_of a.job Failed ∷ r.0) r.1.reply r.1.from) (sym was) r.2))
 
-  -- so what is known of stamps gives it the stamp of its origin
+  -- what is known of stamps gives the call that is out the stamp of its origin
   pub stamp_in_turn : (stamps : List (Option ℕ)) → AreFound (calls_so_far (run_of log) number) (beside.found number) stamps → StampIn (beside.found number) number (origin_under a.job.frames.items Client) (stamp_given stamps number (origin_under a.job.frames.items Client))
   stamp_in_turn stamps known =
       let w = in_word in

@@ -11,7 +11,7 @@ abbrev pub cas_words : Option ℕ → List (List ℕ)
 cas_words None = []
 cas_words (Some cas) = decimal cas ∷ []
 
--- the same as it stands on the line, after its space
+-- a cas number as it stands on the line, after its space, where there is one
 abbrev pub cas_text : Option ℕ → List ℕ
 cas_text None = []
 cas_text (Some cas) = 32 ∷ decimal cas

@@ -129,7 +129,7 @@ pub struct Asks {
 }
 
 impl ClassicRequest {
-    /// What it asks of mcgate itself, if it does. It takes no memory.
+    /// What the request asks of mcgate itself, if it does. It takes no memory.
     pub fn own(&self) -> Option<ProxyCommand>
         ensures { (bytes : List ℕ) → result ≡ own_of (message_in bytes self.now) }
     {

@@ -131,7 +131,7 @@ fn ask_by<'a>(
 }
 
 impl MetaRequest {
-    /// What it asks of mcgate itself, if it does. It takes no memory.
+    /// What the request asks of mcgate itself, if it does. It takes no memory.
     pub fn own(&self) -> Option<ProxyCommand>
         ensures { (bytes : List ℕ) → result ≡ own_of (message_in bytes self.now) }
     {

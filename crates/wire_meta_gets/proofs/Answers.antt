@@ -175,7 +175,7 @@ value_of : {A : Type 0} (o : Option A) → IsSome o → (x : A) × (o ≡ Some x
 value_of None e = absurd cc
 value_of (Some x) e = (x, refl)
 
--- there is a classic answer that says the same
+-- what was told in meta form says some classic answer
 says_some : (told : Answer) → IsTold told → (answer : Answer) × SaysSame told answer
 says_some (Meta Va fields) is =
     let flags = value_of fields.flags is.0 in

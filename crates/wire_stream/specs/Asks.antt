@@ -31,7 +31,7 @@ abbrev pub is_quiet : Order → Bool
 is_quiet (Classic order) = texts.is_quiet order
 is_quiet (Meta order) = metas.is_quiet order
 
--- the same of a message: a refused one is always answered
+-- whether `noreply`, or `q`, stands on the line of a message: a refused one is always answered
 abbrev pub quiet_of : Message → Bool
 quiet_of (Served order block) = is_quiet order
 quiet_of (Refusal why skip) = false
