@@ -82,7 +82,7 @@ pub record HasPlace (x : Client) (number : ℕ) (pending : Pending) : Type 0 whe
 abbrev pub HasNoPlace : Client → ℕ → Type 0
 HasNoPlace x number = (pending : Pending) → HasPlace x number pending → ⊥
 
--- the reply came there
+-- the reply came to the command at this place
 pub record Answers (x : Client) (at : ℕ) (last : Bool) (reply : Answer) (y : Client) : Type 0 where
   pub queue : (pending : Pending) → slice_get x.queue.items at ≡ Some pending → y.queue.items ≡ slice_set x.queue.items at (replied reply pending)
   pub front : GoesOn last x reply y

@@ -17,11 +17,11 @@ is_in_way key claim it = if pointwise nat_eq it.key key then ((if claim.clears t
 abbrev pub before : ℕ → List ℕ → List Standing → List Standing
 before client key lines = take_while (λ it. not (is_place client key it)) lines
 
--- one of them stands in the line of the key, and its claim is in the way
+-- one of those before the client stands in the line of the key, and its claim is in the way
 abbrev pub is_behind : ℕ → List ℕ → Claim → List Standing → Bool
 is_behind client key claim lines = list_any (is_in_way key claim) (before client key lines)
 
--- all other clients, in their order
+-- all that stand but this client, in their order
 abbrev pub others : ℕ → List Standing → List Standing
 others client lines = filter (λ it. not (nat_eq it.client client)) lines
 

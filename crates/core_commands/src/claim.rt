@@ -12,9 +12,9 @@ use route_tree::Tree;
 /// alone, each counts as both.
 #[derive(Clone, Copy, PartialEq, Eq)]
 pub struct Claim {
-    /// Whether it counts as one that clears the key.
+    /// Whether the command counts as one that clears the key.
     pub clears: bool,
-    /// Whether it counts as one that copies an item to the key.
+    /// Whether the command counts as one that copies an item to the key.
     pub copies: bool,
 }
 

@@ -20,7 +20,7 @@ use std::alloc::{AllocError, Global};
 pub struct Command {
     pub job: HeldJob,
     pub ask: SharedAsk,
-    /// Whose it is.
+    /// Whose command it is.
     pub client: usize,
     pub claim: Claim,
     /// Whether its next call is out.
@@ -57,7 +57,7 @@ impl Command {
             }
     }
 
-    /// The server of its call that is out. It takes no memory.
+    /// The server of the command's call that is out. It takes no memory.
     pub fn server(&self) -> ServerId
         requires { has_call_out self.now ≡ true }
         ensures { result ≡ server_in self.now.job.pending }

@@ -190,7 +190,7 @@ opens old new client x t n =
       );
     }
 
--- none of its commands is under way
+-- none of the client's commands is under way
 none_is : (client : ℕ) (entries : List (ℕ × Command)) (n : ℕ) (o : Owner) → list_any (λ (x : Command). nat_eq x.client client) (map (λ e. e.1) entries) ≡ false → option_map owner_by (assoc.lookup (nat_eq n) entries) ≡ Some o → nat_eq client o.client ≡ false
 none_is client [] n o e f = absurd cc
 none_is client (x ∷ rest) n o e f =

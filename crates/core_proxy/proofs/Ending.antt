@@ -89,7 +89,7 @@ none_waited waits now (s ∷ slots) n slot reply is none more w =
       | false ↦ λ e. ((λ none last. no_slot (ap (λ l. slot_in l n) (sym (w.0 none last).0) ∙ e)), none_waited waits now slots n slot reply e none more w.1)
     ]) is
 
--- where another has its reply, the same is waited for
+-- where another command has its reply, what is waited for stays
 still_waited : (waits : Bool) (slots : List (Slot dialect)) (n : ℕ) (reply : Answer) → IsWaitedFor waits slots → IsWaitedFor waits (answered_in n reply slots)
 still_waited waits [] n reply w = tt
 still_waited waits (s ∷ slots) n reply w =

@@ -165,7 +165,7 @@ claim_of core ask = claim_by core.limits.sharing ask.op (tree_at core.tree ask.k
 abbrev pub bars : Core → Ask → Bool
 bars core ask = is_barred ask.key (claim_of core ask) core.commands
 
--- somebody stands before its client in the line of its key, whose claim is in the way
+-- somebody stands before the client in the line of the key, whose claim is in the way
 abbrev pub stands_before : Core → ℕ → Ask → Bool
 stands_before core client ask = is_behind client ask.key (claim_of core ask) core.lines
 
@@ -217,7 +217,7 @@ NoneGoesOn core client = ForClient core client IsServed × ForClient core client
 abbrev pub NoneWaits : Core → ℕ → Type 0
 NoneWaits core client = ForClient core client (λ x. AreNotFull client core.limits.window core.commands x.queue.items)
 
--- nothing at its front can be done
+-- nothing at the client's front can be done
 abbrev pub NothingBegins : Core → ℕ → Type 0
 NothingBegins core client = ForClient core client (IsLater core.limits.depth)
 

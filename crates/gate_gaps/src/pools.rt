@@ -40,7 +40,7 @@ impl ConfigPool {
         self.name.as_str()
     }
 
-    /// The servers of its list, in order: one for each text.
+    /// The servers of the pool's list, in order: one for each text.
     pub fn servers(&self) -> &[ServerId]
         ensures { result.now ≡ self.now.1 }
     {

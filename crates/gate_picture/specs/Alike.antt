@@ -40,7 +40,7 @@ abbrev pub more_prefixes_alike : Route → Prefixes → ℕ
 more_prefixes_alike first (Wildcard r) = 0
 more_prefixes_alike first (Prefix p r ps) = if alike first r then 1 + more_prefixes_alike first ps else 0
 
--- how many of them the node of the first one stands for, too: none of fewer than 3
+-- how many children that are like the first one its node stands for, too: none of fewer than 3
 abbrev pub folded : ℕ → ℕ
 folded more = if nat_lt more 3 then 0 else more
 

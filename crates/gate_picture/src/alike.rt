@@ -136,7 +136,7 @@ fn more_prefixes_alike(first: &Tree, rest: &[(Key, Tree)], wildcard: &Tree) -> u
     }
 }
 
-// How many of them the node of the first one stands for, too: none of fewer than 3.
+// How many children that are like the first one its node stands for, too: none of fewer than 3.
 fn folded(more: usize) -> usize
     ensures count { result ≡ folded more }
     ensures few { result ≤ more }

@@ -9,7 +9,7 @@ use Rattle.route_tree.specs.Plan.{Plan}
 use Rattle.route_tree.specs.Route.{Route, Routes, Policies, Prefixes, Pool, Server, Null, Failing, AllSync, Failover, MissFailover, WarmUp, ByOperation, ByPrefix, End, More, Otherwise, Policy, Wildcard, Prefix, IsTree}
 
 abbrev mutual
-  -- the sizes of its pools, at any depth; a server that stands alone is no pool
+  -- the sizes of the pools of a tree, at any depth; a server that stands alone is no pool
   pub sizes : Route → List ℕ
   sizes (Pool servers) = length servers ∷ []
   sizes (Server s) = []
@@ -38,7 +38,7 @@ abbrev mutual
   sizes_of_prefixes (Prefix p r ps) = sizes r ++ sizes_of_prefixes ps
 
 abbrev mutual
-  -- the prefixes of its policies, at any depth
+  -- the prefixes of the policies of a tree, at any depth
   pub prefixes : Route → List (List ℕ)
   prefixes (Pool servers) = []
   prefixes (Server s) = []

@@ -182,11 +182,11 @@ one_more servers xs i x lt is =
 pub here_bad : (servers : ℕ) (xs : List Event) (i : ℕ) (x : Event) → i < length xs → x ≡ get_or xs i x → bad_in servers (map scripted_of (take i xs)) (scripted_of x) ≡ true → bad_from servers xs i ≡ Some i
 here_bad servers xs i x lt is bad = rw (one_more servers xs i x lt is) (rw bad (ap Some (take_len xs i (omega (arith, lt)))))
 
--- where it isn't, the search goes on after it
+-- where the i-th event isn't bad, the search goes on after it
 pub not_here : (servers : ℕ) (xs : List Event) (i : ℕ) (x : Event) → i < length xs → x ≡ get_or xs i x → bad_in servers (map scripted_of (take i xs)) (scripted_of x) ≡ false → bad_from servers xs i ≡ bad_from servers xs (i + 1)
 not_here servers xs i x lt is good = rw (one_more servers xs i x lt is) (rw good (ap (λ l. first_from servers l (map scripted_of (drop (i + 1) xs))) (sym (map_more xs i x lt is))))
 
--- after the last there is none
+-- after the last event no bad one is found
 pub none_left : (servers : ℕ) (xs : List Event) (i : ℕ) → i ≡ length xs → bad_from servers xs i ≡ None
 none_left servers xs i end = ap (bad_from servers xs) end ∙ ap (λ l. first_from servers (map scripted_of (take (length xs) xs)) (map scripted_of l)) (drop-length xs)
 

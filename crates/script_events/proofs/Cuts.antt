@@ -54,7 +54,7 @@ module _ (ask : Ask) (answer : Answer) (is : IsAsk ask) (texts : AreTexts ask.to
   read_all reads.More r = absurd (r.1 answer (length (spelling_of ask answer)) whole)
   read_all reads.Foreign r = absurd (r.1 [] answer (length (spelling_of ask answer)) (answers_are_read_back ask answer [] is texts fits))
 
-  -- less of it is no answer
+  -- less than all of a spelled answer is no answer
   read_part : (count : ℕ) (read : AnswerRead) → count < length (spelling_of ask answer) → Reads ask (take count (spelling_of ask answer)) read → LiesWithin (take count (spelling_of ask answer)) read → answer_of read ≡ None
   read_part count (reads.Answer a used) lt r within =
       let text = spelling_of ask answer in

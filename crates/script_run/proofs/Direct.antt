@@ -69,7 +69,7 @@ module _ (refused : List Bool) (events : List Scripted) where
   none_loaded (suc n) loads log within turn = absurd (omega (arith, within))
 
   module _ (law : DirectIsOneServer) (tree : Route) (direct : is_direct tree ≡ true) where
-    -- a run of such a script is fresh, and has no stale reply
+    -- a run of a script without reloads is fresh, and has no stale reply, where its tree is direct
     pub run_fresh : (loads : List (ℕ × Route)) (log : List (Entry dialect)) → loads ≡ [] → LosesOnly (run_of log) → RunsBy tree loads events log → IsFreshByNumber (opening_of events) (run_of log) × (stale_in (opening_of events) (run_of log) ≡ 0)
     run_fresh loads log none lost run =
         let plans : ℕ → List ℕ → Plan = λ n key. tree_at tree key in

@@ -77,7 +77,7 @@ found_more (c ∷ calls) [] stamps call item stamp h one = absurd h
 found_more (c ∷ calls) (f ∷ found) [] call item stamp h one = absurd h
 found_more (c ∷ calls) (f ∷ found) (s ∷ stamps) call item stamp h one = (h.0, found_more calls found stamps call item stamp h.1 one)
 
--- where it is one of the command
+-- what calls found is known with one call more, where that is one of the command
 pub found_if : (mine : Bool) (calls : List Call) (found : List (Option Item)) (stamps : List (Option ℕ)) (call : Call) (item : Option Item) (stamp : Option ℕ) → AreFound calls found stamps → IsFound call item stamp → AreFound (cond mine (calls ++ call ∷ []) calls) (cond mine (found ++ item ∷ []) found) (cond mine (stamps ++ stamp ∷ []) stamps)
 found_if true calls found stamps call item stamp h one = found_more calls found stamps call item stamp h one
 found_if false calls found stamps call item stamp h one = h

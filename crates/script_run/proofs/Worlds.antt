@@ -95,7 +95,7 @@ module _ (events done : List Scripted) (log more : List (Entry dialect)) where
         calls = calls_then rs (Ends ∷ w.deeds) more log w.calls has;
       }
 
-  -- no call had its result
+  -- the world stays where no call had its result
   pub world_stays : (servers : ScriptServers) → World events done log servers → calls_of (run_of (more ++ log)) ≡ calls_of (run_of log) → World events done (more ++ log) servers
   world_stays servers w same = record { deeds = w.deeds; script_is = w.script_is; lead = w.lead; in_turn = w.in_turn; calls = w.calls ∙ sym same }
 

@@ -134,7 +134,7 @@ FirstHasResult server [] before after = HasNoResult before after
 FirstHasResult server (call ∷ calls) before after =
     (outcome : Outcome) × (calls_of (run_of after) ≡ record { number = call.number; call = record { server = server; ask = call.ask; origin = call.origin; outcome = outcome } } ∷ calls_of (run_of before))
 
--- between them results came in their turn, each that of the first call that was out at the least server at which one was
+-- between two parts of the log results came in their turn, each that of the first call that was out at the least server at which one was
 pub record HasTurns (before after : List (Entry dialect)) : Type 0 where
   pub results : List CallResult
   pub more : List (Entry dialect)

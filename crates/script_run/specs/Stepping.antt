@@ -69,7 +69,7 @@ AreFit (At turn loss) results = results ≡ []
 AreFit (Now loss) results = results ≡ []
 AreFit (Moment moment) results = results ≡ []
 
--- where it asks a server for a result, they are those that come then
+-- where an event asks a server for a result, these results are those that come then
 abbrev pub AreAskedBy : Scripted → Runner → ScriptServers → List CallResult → Type 0
 AreAskedBy (Piece client bytes) old before results = Unit {0}
 AreAskedBy (Add client bytes) old before results = Unit {0}

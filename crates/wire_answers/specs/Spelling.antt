@@ -35,7 +35,7 @@ data_of (Hit flags body cas) = Some body
 data_of (Meta code fields) = fields.body
 data_of _ = None
 
--- the line before them
+-- the line before the data that an answer shows
 abbrev pub data_line : Ask → Answer → List ℕ
 data_line ask (Hit flags body cas) = hit_line ask.key flags (length body) cas
 data_line ask (Meta code fields) = line_of (meta_words ask code fields)

@@ -49,7 +49,7 @@ ask_within xs n lt = elim (slice_get_cases xs n).1 [
   | inr past ↦ absurd (omega (arith, lt, past.0))
 ]
 
--- where there is one it is counted
+-- where there is a next ask it is counted
 pub counted_one : (next : Option Ask) (xs : List Ask) (n : ℕ) → next ≡ slice_get xs n → n < length xs → counted next n ≡ n + 1
 counted_one next xs n is lt = ap (λ o. counted o n) (is ∙ (ask_within xs n lt).1)
 

@@ -51,7 +51,7 @@ abbrev pub request_of : Asks → Request
 request_of (walks.Classic a) = requests.Classic a.request
 request_of (walks.Meta a) = requests.Meta a.request
 
--- how many of them it has taken
+-- how many asks a walk has taken
 abbrev pub taken_of : Asks → ℕ
 taken_of (walks.Classic a) = a.taken
 taken_of (walks.Meta a) = a.taken

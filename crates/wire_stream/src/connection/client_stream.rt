@@ -87,7 +87,7 @@ impl Walk {
         Ok(())
     }
 
-    // The ask that it stands at.
+    // The ask that the walk stands at.
     fn ask(
         &self,
         alloc: Global,
