@@ -140,7 +140,7 @@ turn_gone now es front e last is come at =
     let gone : live now (last ∷ []) ≡ [] = live_one-gone now last (subst (λ (f : Key × Entry). is_expired now f ≡ true) same come) in
     (ap (λ (l : Entries). take (length l - 1) l) at ∙ take_last front last ∙ ap (λ (l : Entries). l ++ front) (sym gone), gone)
 
--- it stays, and goes first
+-- the last entry has not expired: it stays, and goes first
 pub turn_kept : (now due : ℕ) (es front : Entries) (e last : Key × Entry) → IsDistinct same_key (keys_of es) → Some e ≡ last_entry es → has_come now e.1.item.expiry ≡ false → es ≡ front ++ last ∷ []
     → (promoted (same_key e.0) es ≡ live now (last ∷ []) ++ front) × AreDueFrom (due_with due e.1.item.expiry) (live now (last ∷ []))
 turn_kept now due es front e last d is come at =

@@ -190,6 +190,6 @@ pub record Serves (now stamp : ℕ) (ask : Ask) (old : Contents) (answer : Answe
   pub found_is : found ≡ option_map (λ entry. entry.item.stamp) (held old ask.key)
   pub contents : new ≡ changed old ask.key (decided_in now stamp ask old).change
 
--- the same at a moment, when the expired items are dropped first
+-- a call at a moment answers so, with the stamp of the item that it found, and leaves this; the expired items are dropped first
 abbrev pub Applies : ℤ → ℕ → Ask → Contents → Answer → Option ℕ → Contents → Type 0
 Applies moment stamp ask old answer found new = Serves (nat_abs moment) stamp ask (at_moment (nat_abs moment) old) answer found new

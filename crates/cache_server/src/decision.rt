@@ -100,7 +100,7 @@ impl Decision {
         }
     }
 
-    /// The same, but that what needs a cas number is refused where this is the last one.
+    /// The decision as it is taken: what needs a cas number is refused where this is the last one.
     pub fn settled(self, counter: u64) -> Decision
         ensures { result ≡ settled counter self }
     {

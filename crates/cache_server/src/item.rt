@@ -35,7 +35,7 @@ impl CacheItem {
         }
     }
 
-    /// The same item with other data.
+    /// The item with these data in place of its own.
     pub fn with_body(&self, body: Body) -> CacheItem
         ensures { result ≡ record self.now { body = body } }
     {

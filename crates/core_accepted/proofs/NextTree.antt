@@ -42,7 +42,7 @@ not_le number n false e lt = refl
 above : {A : Type 0} (number : ℕ) (f : ℕ → A) (a : A) (n : ℕ) → number < n → before_or number f a n ≡ a
 above number f a n lt = ap (λ b. cond b (f n) a) (not_le number n (nat_le n number) refl lt)
 
--- one more tree, from the next number on
+-- commands that run by the trees of a list run by those of the list with one more tree, which later ones run by
 loaded_more : (trees : List Route) (tree : ℕ → Route) (number : ℕ) (new : Route) → AreLoaded trees tree → AreLoaded (trees ++ new ∷ []) (before_or number tree new)
 loaded_more trees tree number new h =
     record {
@@ -113,7 +113,7 @@ loads_any old x config number word count step = record {
   goes = over old x old.accepted config.tree step (λ tree loaded. subst (λ (w : Option (List Configuration)). MayBeLoaded w (before_or old.core.number tree config.tree)) (sym word) tt);
 }
 
--- however it came out
+-- the configuration is loaded where the gate accepted it, whatever came out
 pub next_loaded :
     (old : ServedCore) (x : Core) (was now : List Configuration) (config : Configuration) (r : Result ℕ LoadFault) → old.accepted ≡ Some was → OnOk r (now ≡ was ++ config ∷ []) → IfOk r (λ number. number ≡ length now)
     → OnOk r (core_state.Reloads old.core config.tree x) → IfOk r (λ number. IsLoaded old config number (record { core = x; accepted = Some now }))

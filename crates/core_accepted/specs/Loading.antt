@@ -16,7 +16,7 @@ use Rattle.core_accepted.specs.declared.loading.LoadFault.TheVariants.{Refused, 
 use Rattle.core_accepted.specs.declared.served.ServedCore.{ServedCore}
 use Rattle.core_accepted.specs.Logs.{MayHaveLed}
 
--- the same log: commands that have begun keep their trees, those to come run by this one, and nothing else changes
+-- the log that led to the old core leads to the new one: commands that have begun keep their trees, those to come run by this one, and nothing else changes
 pub record TakesOver (opening : ℕ → List ℕ → Option Item) (past : List (Entry dialect)) (tree : Route) (old new : ServedCore) (led : MayHaveLed opening past old) : Type 0 where
   pub after : MayHaveLed opening past new
   pub begun : (n : ℕ) → n ≤ old.core.number → after.tree n ≡ led.tree n

@@ -62,7 +62,7 @@ pub record IsFreshLog (sharing : Sharing) (opening : ℕ → List ℕ → Option
   pub by_number : sharing ≡ Alone → IsFreshByNumber opening (run_of past)
   pub none_stale : sharing ≡ Alone → stale_in opening (run_of past) ≡ 0
 
--- the gate accepted its trees
+-- the gate accepted the trees of the core
 abbrev pub IsAccepted : ServedCore → Type 0
 IsAccepted served = (accepted : List Configuration) × (served.accepted ≡ Some accepted)
 

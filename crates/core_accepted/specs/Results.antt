@@ -63,6 +63,6 @@ SettleStops old number outcome faults.InputFull new = new ≡ old
 SettleStops old number outcome faults.UnderWay new = new ≡ old
 SettleStops old number outcome faults.Spent new = new ≡ old
 
--- it went on by this call's outcome, also where memory was refused; a call that isn't out changes nothing
+-- the core went on by this call's outcome, also where memory was refused; a call that isn't out changes nothing
 abbrev pub IsSettled : ServedCore → ℕ → Outcome → ServedCore → Type 0
 IsSettled old number outcome new = TakesResult old number outcome new ⊎ ((fault : CoreFault) × SettleStops old number outcome fault new)

@@ -14,7 +14,7 @@ use std::alloc::Global;
 /// Why a configuration was not loaded. All is as it was.
 #[derive(Clone, Copy)]
 pub enum LoadFault {
-    /// That of `Accepted::reload`; where no gate was asked, that memory was refused; or `TooManyGenerations`, where the core's
+    /// The fault of `Accepted::reload`; where no gate was asked, that memory was refused; or `TooManyGenerations`, where the core's
     /// generation is [`LAST_GENERATION`].
     Refused(ReloadFault),
     /// The gate accepted the trees in use, and the new list of servers doesn't begin with theirs.

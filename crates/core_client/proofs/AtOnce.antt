@@ -12,7 +12,7 @@ use Rattle.core_client.proofs.Places.{some_pending}
 use Rattle.std.proofs.lemmas.Bool.{lt-ltb}
 use Rattle.std.specs.List.{position_or_len}
 
--- it is of that number, and asks the last key of its message
+-- what is of a number and asks a last key is of that number
 numbered : (a b : Bool) → cond a b false ≡ true → (a ≡ true)
 numbered true b e = refl
 numbered false b e = absurd cc

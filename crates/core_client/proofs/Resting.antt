@@ -30,7 +30,7 @@ IsRead place reads.TooLong message = message ≡ LongLine
 IsRead place (reads.Refused why used skip) message = message ≡ Whole (Refusal why skip)
 IsRead place (reads.Request request) message = message ≡ Whole (message_in (held_at place) request)
 
--- it is the one at the front
+-- the message that was read is the one at the front
 pub is_read : (place : Place) (read : Read) → IsReadAt place read → (message : Said) (next : Place) → ReadsNext place message next → IsRead place read message
 is_read place reads.More is message next here = more_stuck place is message next here
 is_read place reads.TooLong is message next here =
@@ -59,7 +59,7 @@ none_asked place read is none message next here = by read none (is_read place re
 pub no_key : (x : Client) (read : Read) {A : Type 0} → IsReadAt x.stream read → AsksNone x.stream read → (i : ℕ) (message : Said) (next : Place) (ask : Ask) → ReadsNext x.stream message next → slice_get (asks_in message) i ≡ Some ask → A
 no_key x read is none i message next ask here at = no_ask (asks_in message) i ask (none_asked x.stream read is none message next here) at
 
--- nor where that of the request has so few
+-- no key is at the front where the request there has no more keys than were asked
 pub no_more_keys : (x : Client) (request : Request) {A : Type 0} → IsReadAt x.stream (reads.Request request) → length (asks_of (message_in (held_at x.stream) request)) ≤ x.index
     → (message : Said) (next : Place) (ask : Ask) → ReadsNext x.stream message next → slice_get (asks_in message) x.index ≡ Some ask → A
 no_more_keys x request is few message next ask here at =

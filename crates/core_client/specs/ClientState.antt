@@ -25,7 +25,7 @@ abbrev pub front_by : Option Client → Front dialect
 front_by None = start_front
 front_by (Some x) = record { place = x.stream; index = x.index; waits = x.waits }
 
--- what it sent that isn't done
+-- what a client sent that isn't done
 abbrev pub held_by : Option Client → List ℕ
 held_by None = []
 held_by (Some x) = held_at x.stream

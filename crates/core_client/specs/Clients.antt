@@ -21,7 +21,7 @@ pub record IsNew (x : Client) : Type 0 where
 abbrev pub IsEnded : Client → Type 0
 IsEnded x = (x.dropped ≡ true) ⊎ (x.stream ≡ Closed)
 
--- its stream takes a piece, and nothing else of it changes
+-- the client's stream takes a piece, and nothing else of the client changes
 pub record TakesPiece (x : Client) (bytes : List ℕ) (y : Client) : Type 0 where
   pub stream : y.stream ≡ extended x.stream bytes
   pub index : y.index ≡ x.index
@@ -30,7 +30,7 @@ pub record TakesPiece (x : Client) (bytes : List ℕ) (y : Client) : Type 0 wher
   pub output : bytes_of y.output ≡ bytes_of x.output
   pub dropped : y.dropped ≡ x.dropped
 
--- its output is taken, and nothing else of it changes
+-- the client's output is taken, and nothing else of the client changes
 pub record LosesOutput (x y : Client) : Type 0 where
   pub stream : y.stream ≡ x.stream
   pub index : y.index ≡ x.index

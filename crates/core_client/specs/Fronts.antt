@@ -16,7 +16,7 @@ use Rattle.core_client.specs.declared.client.Client.{Client}
 use Rattle.core_client.specs.declared.client.Pending.{Pending}
 use Rattle.core_client.specs.ClientState.{dialect, Message, front_by, IsSlot}
 
--- nothing of it changes
+-- nothing of the client changes
 pub record Stays (x y : Client) : Type 0 where
   pub stream : y.stream ≡ x.stream
   pub index : y.index ≡ x.index

@@ -8,12 +8,12 @@ use Rattle.core_client.specs.declared.client.Pending.{Pending}
 use Rattle.core_client.specs.declared.replying.ReplyPlace.{ReplyPlace}
 use Rattle.core_client.specs.Replying.{Answers, IsPlace}
 
--- whether it has a reply, and the output after it
+-- whether the command has a reply, and the output after it
 abbrev pub WritesReply : Pending → List ℕ → Bool → List ℕ → Type 0
 WritesReply pending output true output' = (reply : Answer) × (pending.reply ≡ Some reply) × (output' ≡ output ++ shown_text pending.quiet pending.last pending.ask reply)
 WritesReply pending output false output' = (pending.reply ≡ None) × (output' ≡ output)
 
--- the head of its commands was shown
+-- the head of the client's commands was shown
 pub record ShowsHead (x : Client) (pending : Pending) (reply : Answer) (y : Client) : Type 0 where
   pub rest : List Pending
   pub head : x.queue.items ≡ pending ∷ rest
@@ -36,7 +36,7 @@ abbrev pub ShowsOne : Client → Bool → Client → Type 0
 ShowsOne x true y = (pending : Pending) × (reply : Answer) × ShowsHead x pending reply y
 ShowsOne x false y = HasNoReply x.queue.items × (y ≡ x)
 
--- it is of this number, and asks the last key of its message
+-- the command is of this number, and asks the last key of its message
 abbrev pub is_next_of : ℕ → Pending → Bool
 is_next_of number pending = if nat_eq pending.number number then pending.last else false
 

@@ -40,11 +40,11 @@ pub record CanAsk (request : Request) (x : Client) : Type 0 where
   pub ready : x.waits ≡ false
   pub served : x.dropped ≡ false
 
--- and it has fewer commands whose replies were not shown than this
+-- the client can ask a key of the request, and has fewer commands whose replies were not shown than this
 abbrev pub CanAskBelow : ℕ → Request → Client → Type 0
 CanAskBelow depth request x = CanAsk request x × (length x.queue.items < depth)
 
--- it has commands whose replies were not shown
+-- the client has commands whose replies were not shown
 abbrev pub HasCommand : Client → Type 0
 HasCommand x = 0 < length x.queue.items
 

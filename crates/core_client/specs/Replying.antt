@@ -20,7 +20,7 @@ abbrev pub pending_in : ℕ → List Pending → Option Pending
 pending_in n [] = None
 pending_in n (pending ∷ rest) = if nat_eq pending.number n then Some pending else pending_in n rest
 
--- it has its reply
+-- the first command of this number in a client's queue has its reply
 abbrev pub replied_in : ℕ → Answer → List Pending → List Pending
 replied_in n reply [] = []
 replied_in n reply (pending ∷ rest) = if nat_eq pending.number n then record pending { reply = Some reply } ∷ rest else pending ∷ replied_in n reply rest
@@ -51,7 +51,7 @@ IsOnward x true (Some request) = ⊥
 IsOnward x false None = ⊥
 IsOnward x false (Some request) = IsAnswered x request
 
--- the same, where it isn't said whether the key is the last
+-- where the starting goes on after the reply, if it does: whether the key is the last isn't said
 abbrev pub IsOnwardOfSome : Client → Option Request → Type 0
 IsOnwardOfSome x None = Unit {0}
 IsOnwardOfSome x (Some request) = IsAnswered x request
@@ -82,7 +82,7 @@ pub record HasPlace (x : Client) (number : ℕ) (pending : Pending) : Type 0 whe
 abbrev pub HasNoPlace : Client → ℕ → Type 0
 HasNoPlace x number = (pending : Pending) → HasPlace x number pending → ⊥
 
--- the reply came there
+-- the reply came to the command at this place
 pub record Answers (x : Client) (at : ℕ) (last : Bool) (reply : Answer) (y : Client) : Type 0 where
   pub queue : (pending : Pending) → slice_get x.queue.items at ≡ Some pending → y.queue.items ≡ slice_set x.queue.items at (replied reply pending)
   pub front : GoesOn last x reply y

@@ -10,7 +10,7 @@ use mc_types::Answer;
 use std::alloc::AllocError;
 use wire_stream::send_part;
 
-// Whether it is of this number, and asks the last key of its message.
+// Whether the command is of this number, and asks the last key of its message.
 fn is_next_reply(number: u64, pending: &Pending) -> bool
     ensures { result ≡ is_next_of number pending.now }
 {

@@ -18,9 +18,9 @@ pub struct Pending {
     // (what is short comes before what is long, so that it lies in one line of the processor's cache)
     pub ask: MarkedAsk,
     pub number: u64,
-    /// Whether its message wants no answer.
+    /// Whether the message of the command wants no answer.
     pub quiet: bool,
-    /// Whether it asks the last key of its message.
+    /// Whether the command asks the last key of its message.
     pub last: bool,
     pub reply: Option<Answer>,
 }

@@ -11,7 +11,7 @@ use std::collections::VecDeque;
 use wire_parts::to_send::SendBuffer;
 use wire_stream::send_part;
 
-// What its reply shows is written, if it has one: whether it has.
+// What the reply of the command shows is written, if there is a reply: whether there is.
 fn write_reply(pending: &Pending, output: &mut SendBuffer) -> Result<bool, AllocError>
     ensures ok { IfOk result (λ shown. WritesReply pending.now (bytes_of output.old) shown (bytes_of output.new)) }
     ensures same { IfOk result (λ shown. MatchBool shown (Unit {0}) (output.new ≡ output.old)) }

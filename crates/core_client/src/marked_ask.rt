@@ -82,7 +82,7 @@ impl MarkedAsk {
         self.ask.get()
     }
 
-    /// Whether it is on the key. It takes no memory.
+    /// Whether the ask is on the key. It takes no memory.
     pub fn is_on(&self, key: &MarkedKey) -> bool
         ensures { result ≡ pointwise nat_eq self.now.key key.now }
     {

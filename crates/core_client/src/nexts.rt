@@ -75,7 +75,7 @@ impl Client {
         Next::Key
     }
 
-    /// What stands at its front, if a whole message does. It takes no memory.
+    /// What stands at the client's front, if a whole message does. It takes no memory.
     pub fn read(&self) -> Read
         ensures { IsReadAt self.now.stream result }
     {

@@ -100,7 +100,7 @@ impl Client {
         })
     }
 
-    /// The reply came there.
+    /// The reply came to the command at this place.
     pub fn answer(&mut self, place: ReplyPlace, reply: Answer)
         requires { (number : ℕ) × IsPlace self.old number place }
         ensures { (number : ℕ) (is : IsPlace self.old number place) → Answers self.old place.at is.pending.last reply self.new }

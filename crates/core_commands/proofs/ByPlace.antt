@@ -49,7 +49,7 @@ module _ {X : Type 0} (number : ℕ) where
   pub none_here : {S : Type 0} (m : indexmap.IndexMap ℕ X S) → indexmap.index_of_by (nat_eq number) m ≡ None → indexmap.get nat_eq m number ≡ None
   none_here m e = (Missing-position (nat_eq number) m.entries e).value
 
-  -- and nothing is taken from where it is
+  -- where a number has no place, nothing is taken from the map without what has that number
   pub none_gone : {S : Type 0} (m : indexmap.IndexMap ℕ X S) → indexmap.index_of_by (nat_eq number) m ≡ None → (n : ℕ) → indexmap.get nat_eq m n ≡ cond (nat_eq number n) None (indexmap.get nat_eq m n)
   none_gone m e n = by (nat_eq number n) refl
     where

@@ -94,7 +94,7 @@ module _ {K X : Type 0} (eq : K → K → Bool) (p : K → X → Bool) (same : (
       by true e = let a = was k in let s = same k q e xs in omega (arith, a, s)
       by false e = let a = was q in omega (arith, a)
 
-  -- and after one less
+  -- what is counted after one less of a kind
   pub one_less : ((q : K) → D q ≡ cond (eq k q) (C k - 1) (C q)) → ((q : K) → count_by (p q) ys + weight (eq k q) ≡ count_by (p q) xs) → (q : K) → D q ≡ count_by (p q) ys
   one_less sets falls q = sets q ∙ by (eq k q) refl (falls q)
     where
@@ -121,14 +121,14 @@ idle_called a idle s = ap (λ b. cond b (nat_eq (server_in a.job.pending) s) fal
 out_called : (a : Command) → has_call_out a ≡ true → (s : ℕ) → is_called s a ≡ nat_eq (server_in a.job.pending) s
 out_called a out s = ap (λ b. cond b (nat_eq (server_in a.job.pending) s) false) out
 
--- it isn't out, or was not sent
+-- no call of a command is out where its next one isn't
 pub unsent : (a : Command) → a.is_out ≡ false → has_call_out a ≡ false
 unsent a idle = ap (λ b. cond b (is_call a.job.pending) false) idle
 
 same_of : (s q : ℕ) → nat_eq s q ≡ true → (xs : List Command) → count_by (is_without_call s) xs ≡ count_by (is_without_call q) xs
 same_of s q e xs = ap (λ n. count_by (is_without_call n) xs) (eqb-true s q e)
 
--- it counts for its client
+-- a command that has no call out counts for its client
 idle_without : (a : Command) → has_call_out a ≡ false → (q : ℕ) → weight (is_without_call q a) ≡ weight (nat_eq a.client q)
 idle_without a idle q = ap (λ b. weight (cond (nat_eq a.client q) (not b) false)) idle ∙ by (nat_eq a.client q)
   where
@@ -136,7 +136,7 @@ idle_without a idle q = ap (λ b. weight (cond (nat_eq a.client q) (not b) false
     by true = refl
     by false = refl
 
--- and one of which a call is out doesn't
+-- a command that has a call out counts for no client
 out_without : (a : Command) → has_call_out a ≡ true → (q : ℕ) → weight (is_without_call q a) ≡ 0
 out_without a out q = ap (λ b. weight (cond (nat_eq a.client q) (not b) false)) out ∙ by (nat_eq a.client q)
   where
@@ -271,7 +271,7 @@ module _ {S T : Type 0} (old new : indexmap.IndexMap ℕ Command S) (clearing co
     goes : (p : ℕ → Command → Bool) (k : ℕ) → ((q : ℕ) → weight (p q a) ≡ weight (nat_eq k q)) → ((q : ℕ) → weight (p q b) ≡ 0) → (q : ℕ) → count_by (p q) (indexmap.values new) + weight (nat_eq k q) ≡ count_by (p q) (indexmap.values old)
     goes p k one none q = let step = changes (p q) in let before = one q in let after = none q in omega (arith, step, before, after)
 
-    -- its call goes out
+    -- all is counted after a command's call went out
     pub counted_sent :
         (calls' waiting' : List ℕ) → b.ask ≡ a.ask → b.claim ≡ a.claim → a.is_out ≡ false → b.is_out ≡ true → b.job ≡ a.job → IsCalling a.job → SetsCountAt (server_in a.job.pending) (slice_index_or calls (server_in a.job.pending) 0 + 1) calls calls'
         → SetsCountAt a.client (slice_index_or waiting a.client 0 - 1) waiting waiting' → AreCounted new clearing copying calls' waiting'
@@ -290,7 +290,7 @@ module _ {S T : Type 0} (old new : indexmap.IndexMap ℕ Command S) (clearing co
               (goes is_without_call a.client (idle_without a none) (out_without b b_out));
         }
 
-    -- its call has its outcome
+    -- all is counted after a command's call had its outcome
     pub counted_taken :
         (calls' waiting' : List ℕ) → b.ask ≡ a.ask → b.claim ≡ a.claim → has_call_out a ≡ true → b.is_out ≡ false → SetsCountAt (server_in a.job.pending) (slice_index_or calls (server_in a.job.pending) 0 - 1) calls calls'
         → SetsCountAt b.client (slice_index_or waiting b.client 0 + 1) waiting waiting' → AreCounted new clearing copying calls' waiting'

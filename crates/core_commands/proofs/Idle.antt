@@ -56,7 +56,7 @@ module _ {X : Type 0} (test : X → Bool) where
         | false ↦ λ lt _. fails key es x lt at
       ]) refl e
 
--- that of the entry at the place
+-- the test holds of the entry at the place that was found
 pub found_entry : {K X : Type 0} (test : X → Bool) (es : List (K × X)) (i : ℕ) (key : K) (y : X) → position test (map (λ e. e.1) es) ≡ Some i → slice_get es i ≡ Some (key, y) → test y ≡ true
 found_entry test es i key y e at =
     let f = found test (map (λ e. e.1) es) i e in

@@ -44,11 +44,11 @@ module _ (client : ℕ) (key : List ℕ) (claim : Claim) (it : Standing) (rest :
   other : is_place client key it ≡ false → is_behind client key claim (it ∷ rest) ≡ (is_in_way key claim it || is_behind client key claim rest)
   other e = cons ∙ ap (λ b. list_any (is_in_way key claim) (cond (not b) (it ∷ before client key rest) [])) e
 
-  -- one in the way stands there
+  -- a client stands behind one in the way
   pub in_way_is : is_place client key it ≡ false → is_in_way key claim it ≡ true → is_behind client key claim (it ∷ rest) ≡ true
   in_way_is e way = other e ∙ ap (λ b. b || is_behind client key claim rest) way
 
-  -- or not
+  -- one that isn't in the way changes nothing: a client stands behind what it stood behind without it
   pub not_in_way : is_place client key it ≡ false → is_in_way key claim it ≡ false → is_behind client key claim (it ∷ rest) ≡ is_behind client key claim rest
   not_in_way e way = other e ∙ ap (λ b. b || is_behind client key claim rest) way
 
@@ -81,7 +81,7 @@ module _ (client : ℕ) (key : List ℕ) where
     others_cons : (it : Standing) (rest : List Standing) (b : Bool) → nat_eq it.client c ≡ b → others c (it ∷ rest) ≡ cond (not b) (it ∷ others c rest) (others c rest)
     others_cons it rest b e = ap (λ z. cond (not z) (it ∷ others c rest) (others c rest)) e
 
-    -- its place is nobody else's
+    -- the client's place in a line is nobody else's
     place_kept : (it : Standing) → is_place client key it ≡ true → nat_eq it.client c ≡ false
     place_kept it e =
         (elim (nat_eq it.client client) as (λ b. nat_eq it.client client ≡ b → cond b (pointwise nat_eq it.key key) false ≡ true → nat_eq it.client c ≡ false) [

@@ -22,7 +22,7 @@ abbrev pub clears_by : Sharing → Op → Bool
 clears_by Alone op = true
 clears_by Shared op = is_delete op
 
--- whether it counts as one that copies to its key: what may copy by its plain tree; where each has its key alone, every command
+-- whether a command counts as one that copies to its key: what may copy by its plain tree; where each has its key alone, every command
 abbrev pub copies_by : Sharing → Op → Plan → Bool
 copies_by Alone op plan = true
 copies_by Shared op plan = may_copy op plan

@@ -9,7 +9,7 @@ use Rattle.core_commands.specs.declared.key_lines.Standing.{Standing}
 abbrev pub is_place : ℕ → List ℕ → Standing → Bool
 is_place client key it = if nat_eq it.client client then pointwise nat_eq it.key key else false
 
--- what it claims of the key is in the way of this claim: one of the two clears it, and the other copies to it
+-- what this standing client claims of the key is in the way of the claim: one of the two clears it, and the other copies to it
 abbrev pub is_in_way : List ℕ → Claim → Standing → Bool
 is_in_way key claim it = if pointwise nat_eq it.key key then ((if claim.clears then it.claim.copies else false) || (if claim.copies then it.claim.clears else false)) else false
 
@@ -17,11 +17,11 @@ is_in_way key claim it = if pointwise nat_eq it.key key then ((if claim.clears t
 abbrev pub before : ℕ → List ℕ → List Standing → List Standing
 before client key lines = take_while (λ it. not (is_place client key it)) lines
 
--- one of them stands in the line of the key, and its claim is in the way
+-- one of those before the client stands in the line of the key, and its claim is in the way
 abbrev pub is_behind : ℕ → List ℕ → Claim → List Standing → Bool
 is_behind client key claim lines = list_any (is_in_way key claim) (before client key lines)
 
--- all other clients, in their order
+-- all that stand but this client, in their order
 abbrev pub others : ℕ → List Standing → List Standing
 others client lines = filter (λ it. not (nat_eq it.client client)) lines
 

@@ -21,7 +21,7 @@ pub record IsAtCall (commands : ByNumber) (number : ℕ) : Type 0 where
 abbrev pub Replaces : ByNumber → ℕ → Command → ByNumber → Type 0
 Replaces old number command new = (n : ℕ) → map.get nat_eq new n ≡ (if nat_eq number n then Some command else map.get nat_eq old n)
 
--- its next call is out
+-- the next call of the command of this number is out
 pub record CallsOut (old : ByNumber) (number : ℕ) (ticket : Ticket) (new : ByNumber) : Type 0 where
   pub command : Command
   pub was : map.get nat_eq old number ≡ Some command

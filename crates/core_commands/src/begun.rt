@@ -21,7 +21,7 @@ use std::alloc::{AllocError, Global};
 /// A drop that is a call keeps the proof of a caller short.
 pub fn drop_ask(_ask: SharedAsk) {}
 
-/// The same of a command.
+/// Drops a command: a drop that is a call keeps the proof of a caller short.
 pub fn drop_command(_command: Command) {}
 
 // A job of the ask, which it shares, moved into the room of another where one is given.
@@ -108,7 +108,7 @@ fn ticket_of(number: u64, job: &HeldJob) -> Result<Ticket, AllocError>
 }
 
 impl Command {
-    /// Its next call, which is out then. The only error is running out of memory, which leaves the command as it was; it takes none, and
+    /// The command's next call, which is out then. The only error is running out of memory, which leaves the command as it was; it takes none, and
     /// is refused only where the count of the ask's sharers is full.
     pub fn send(&mut self, number: u64) -> Result<Ticket, AllocError>
         requires { IsCalling self.old.job }

@@ -12,9 +12,9 @@ use route_tree::Tree;
 /// alone, each counts as both.
 #[derive(Clone, Copy, PartialEq, Eq)]
 pub struct Claim {
-    /// Whether it counts as one that clears the key.
+    /// Whether the command counts as one that clears the key.
     pub clears: bool,
-    /// Whether it counts as one that copies an item to the key.
+    /// Whether the command counts as one that copies an item to the key.
     pub copies: bool,
 }
 
@@ -28,7 +28,7 @@ fn is_delete(op: Op) -> bool
 }
 
 impl Claim {
-    /// That of a command of this ask which begins on this tree. It takes no memory.
+    /// The claim of a command of this ask which begins on this tree. It takes no memory.
     pub fn of(sharing: Sharing, ask: &Ask, tree: &Tree) -> Claim
         ensures { result ≡ claim_by sharing ask.now.op (tree_at tree.now ask.now.key) }
     {

@@ -20,7 +20,7 @@ use std::alloc::{AllocError, Global};
 pub struct Command {
     pub job: HeldJob,
     pub ask: SharedAsk,
-    /// Whose it is.
+    /// Whose command it is.
     pub client: usize,
     pub claim: Claim,
     /// Whether its next call is out.
@@ -28,7 +28,7 @@ pub struct Command {
 }
 
 impl Command {
-    /// Its key.
+    /// The key of the command.
     pub fn key(&self) -> Key
         ensures { result ≡ self.now.ask.key }
     {
@@ -57,7 +57,7 @@ impl Command {
             }
     }
 
-    /// The server of its call that is out. It takes no memory.
+    /// The server of the command's call that is out. It takes no memory.
     pub fn server(&self) -> ServerId
         requires { has_call_out self.now ≡ true }
         ensures { result ≡ server_in self.now.job.pending }
@@ -68,7 +68,7 @@ impl Command {
         }
     }
 
-    /// What its call that is out asks, if one is. It takes no memory.
+    /// What the command's call that is out asks, if one is. It takes no memory.
     pub fn asked(&self) -> Option<&Ask>
         ensures { option_map (λ ask. ask.now) result ≡ asked_by (Some self.now) }
     {
@@ -81,7 +81,7 @@ impl Command {
         }
     }
 
-    /// Its call that is out, if one is. It takes no memory.
+    /// The command's call that is out, if one is. It takes no memory.
     pub fn called(&self) -> Option<OutCall<'_>>
         ensures { IfSome result (λ call. IsOutAs self.now call.server call.ask.now call.origin) }
     {

@@ -249,7 +249,7 @@ impl CommandTable {
         self.spares.keep_job(alloc, job);
     }
 
-    /// How many there are. It takes no memory.
+    /// How many commands there are. It takes no memory.
     pub fn len(&self) -> usize
         ensures { result ≡ index_map_len self.now }
     {

@@ -8,7 +8,7 @@ ghost use Rattle.core_commands.specs.Counts.{SetsCount, SetsCountWhere};
 use indexmap::IndexMap;
 use std::hash::Hash;
 
-/// How many there are of it. It takes no memory.
+/// How many there are of the key. It takes no memory.
 pub fn count_of<K: Eq + Hash>(key: &K, counts: &IndexMap<K, usize>) -> usize
     ensures { result ≡ count_at (get K.eq counts.now) key.now }
 {
@@ -18,7 +18,7 @@ pub fn count_of<K: Eq + Hash>(key: &K, counts: &IndexMap<K, usize>) -> usize
     }
 }
 
-/// There is one more of it. Whether that is counted: not where memory was refused.
+/// There is one more of the key. Whether that is counted: not where memory was refused.
 pub fn count_one<K: Eq + Hash + Copy + Drop>(key: K, counts: &mut IndexMap<K, usize>) -> bool
     ensures { result ≡ true → SetsCount K.eq key (count_at (get K.eq counts.old) key + 1) counts.old counts.new }
 {
@@ -34,7 +34,7 @@ pub fn count_one<K: Eq + Hash + Copy + Drop>(key: K, counts: &mut IndexMap<K, us
     }
 }
 
-/// Where it counts, there is one more of it. Whether that is counted.
+/// Where the command counts, there is one more of the key. Whether that is counted.
 pub fn count_where<K: Eq + Hash + Copy + Drop>(
     it_counts: bool,
     key: &K,
@@ -49,7 +49,7 @@ pub fn count_where<K: Eq + Hash + Copy + Drop>(
     }
 }
 
-/// Where it counts, there is one less of it. Whether that is counted.
+/// Where the command counts, there is one less of the key. Whether that is counted.
 pub fn uncount_where<K: Eq + Hash + Copy + Drop>(
     it_counts: bool,
     key: &K,
@@ -64,7 +64,7 @@ pub fn uncount_where<K: Eq + Hash + Copy + Drop>(
     }
 }
 
-/// There is one less of it, which isn't kept where none is left. Whether that is counted.
+/// There is one less of the key, which isn't kept where none is left. Whether that is counted.
 pub fn uncount_one<K: Eq + Hash + Copy + Drop>(key: K, counts: &mut IndexMap<K, usize>) -> bool
     ensures { result ≡ true → SetsCount K.eq key (count_at (get K.eq counts.old) key - 1) counts.old counts.new }
 {

@@ -39,7 +39,7 @@ impl Standing {
         self.client == client && self.key == *key
     }
 
-    // Whether what it claims of the key is in the way of this claim.
+    // Whether what this standing client claims of the key is in the way of this claim.
     fn is_in_way(&self, key: &Key, claim: Claim) -> bool
         ensures { result ≡ is_in_way key.now claim self.now }
     {
@@ -69,7 +69,7 @@ fn any_before(client: usize, key: &Key, claim: Claim, standing: &[Standing]) -> 
     false
 }
 
-// Whether one of them is the client.
+// Whether one of those that stand is the client.
 fn any_of(client: usize, standing: &[Standing]) -> bool
     ensures { result ≡ is_standing client standing.now }
 {

@@ -23,14 +23,14 @@ pub fn has_commands(client: usize, commands: &CommandTable) -> bool
     any_of(client, commands.by_number())
 }
 
-// Whether it is this client's and no call of it is out.
+// Whether the command is this client's and no call of it is out.
 fn is_idle(client: usize, command: &Command) -> bool
     ensures { result ≡ is_idle client command.now }
 {
     command.client == client && !command.is_out
 }
 
-// Where the first such command stands.
+// Where the first command of this client stands of which no call is out.
 fn first_place(client: usize, commands: &IndexMap<u64, Command>) -> Option<usize>
     ensures { result ≡ position (is_idle client) (values commands.now) }
 {

@@ -17,7 +17,7 @@ const SPARES: usize = 2_048;
 // An ask with more data than this is kept only among the first few, since it holds its data until its memory is used again.
 const SPARE_DATA: usize = 512;
 
-// So many are those few: stores of values of some kilobytes use each other's memory so.
+// So many asks with more data are kept at most: stores of values of some kilobytes use each other's memory so.
 const LARGE_SPARES: usize = 64;
 
 // Each of those few has so many bytes of data at most, so the data of all asks that are kept have 1.5 MiB at most. Data that share the
@@ -99,7 +99,7 @@ impl Spares {
         }
     }
 
-    /// The same of the ask of a command that ended, which others hold still.
+    /// The ask of a command that ended, which others hold still, is kept, where it holds few data and not many are kept.
     pub fn keep_shared(&mut self, ask: &SharedAsk) {
         if !self.has_place(ask) {
             return;

@@ -19,7 +19,7 @@ pub enum Turn {
 }
 
 impl Turn {
-    /// Whether it can go on.
+    /// Whether the command can go on.
     pub fn goes_on(self) -> bool
         ensures { result ≡ goes_on self }
     {

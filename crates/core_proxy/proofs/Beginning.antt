@@ -137,7 +137,7 @@ module _ (old new : Core) (client : ℕ) (x y : Client) (part : Part dialect) (p
       let there = own_there part.ask.key x.queue.items (beside.queue client) n s.0 slots.0 s.1 s.3 (ap (λ (k : Ask). k.key) (s.2 ∙ ap (λ (p : Owner). p.ask) c.2) ∙ key) in
       contrary (has_own part.ask.key x.queue.items) there r.first
 
-  -- what it claims, by the plain tree that it runs by
+  -- what the command claims, by the plain tree that it runs by
   claim_then : (beside : Beside) → Fits old beside → command.claim ≡ claim_by old.limits.sharing part.ask.op (beside.at (old.number + 1) part.ask.key)
   claim_then beside fits = r.claim ∙ ap (claim_by old.limits.sharing part.ask.op) (sym (fits.trees (old.number + 1) part.ask.key just_above))
 
@@ -153,7 +153,7 @@ module _ (old new : Core) (client : ℕ) (x y : Client) (part : Part dialect) (p
   when_true true b is e = e
   when_true false b is e = absurd cc
 
-  -- and none under way may not stand beside it
+  -- each command under way on its key may stand beside the command that begins
   apart_is : (beside : Beside) → Fits old beside → IsApartNow (bars_of old beside) (state_of old beside) (old.number + 1) part.ask
   apart_is beside fits n o e key =
       let c = owned n o e in
@@ -245,7 +245,7 @@ module _ (old new : Core) (client : ℕ) (x y : Client) (part : Part dialect) (p
         | false ↦ λ differs. ap f (r.others c differs)
       ]) refl
 
-  -- so it begins
+  -- the command begins
   pub begins : GoesByOne old (Starts client (old.number + 1) part) new
   begins = λ beside fits.
       let beside' : Beside = record beside { queue = longer beside.queue } in (

@@ -28,13 +28,13 @@ use Rattle.core_proxy.proofs.Settling.{settles}
 use Rattle.core_proxy.proofs.Slots.{held_then}
 use Rattle.core_proxy.proofs.Tickets.{contrary}
 
--- nothing more comes
+-- a call is settled, and nothing more comes
 pub settles_alone : (old new : Core) (number : ℕ) (a b : Command) (outcome : Outcome) → Resolves old new number a b outcome → SettlesBy old number a outcome (λ more. more ≡ []) new
 settles_alone old new number a b outcome r = λ beside end fits is ends.
     let s = settles old new number a b outcome r beside end fits is ends in
     (settled (event_of number a end) beside, [], s.0, record { at = refl; holds = refl; found = refl; turn = refl }, refl, s.1, r.limits)
 
--- and then more
+-- a call is settled, and then more comes
 pub settles_then : (old mid new : Core) (number : ℕ) (a : Command) (outcome : Outcome) (IsFirst IsSecond : List (Entry dialect) → Type 0) → SettlesBy old number a outcome IsFirst mid → GoesBy mid IsSecond new → SettlesBy old number a outcome (Then IsFirst IsSecond) new
 settles_then old mid new number a outcome IsFirst IsSecond s g = λ beside end fits is ends.
     let x = s beside end fits is ends in

@@ -54,7 +54,7 @@ module _ (old : Core) (number : ℕ) (a : Command) (outcome : Outcome) (r : Came
   ticket_was beside fits s = fits.tickets s number ∙ ap (λ o. ticket_by o number s) r.was ∙ ap (λ z. cond (cond z (is_call a.job.pending) false) (cond (nat_eq server s) (Some (record { number = number; ask = ask; origin = origin })) None) None) r.waiting
       ∙ ap (λ z. cond z (cond (nat_eq server s) (Some (record { number = number; ask = ask; origin = origin })) None) None) (is_call_true a.job.pending r.calling)
 
-  -- it is out no more
+  -- the call is out no more
   pub none_then : (beside : Beside) → Fits old beside → (end : End) → (s : ℕ) → ticket_in (out_after (event end) s (beside.out s)) number ≡ None
   none_then beside fits end s = own (nat_eq server s) refl
     where
@@ -62,7 +62,7 @@ module _ (old : Core) (number : ℕ) (a : Command) (outcome : Outcome) (r : Came
       own true e = fits.single s number
       own false e = ticket_was beside fits s ∙ ap (λ z. cond z (Some (record { number = number; ask = ask; origin = origin })) None) e
 
-  -- and each other one is where it was
+  -- each other call is where it was
   pub other_then : (beside : Beside) → (end : End) → (s n : ℕ) → nat_eq number n ≡ false → ticket_in (out_after (event end) s (beside.out s)) n ≡ ticket_in (beside.out s) n
   other_then beside end s n differs = other (nat_eq server s)
     where
@@ -91,7 +91,7 @@ module _ (old : Core) (number : ℕ) (a : Command) (outcome : Outcome) (r : Came
   pub unseen_then : (beside : Beside) → Fits old beside → (end : End) → (n : ℕ) → old.number < n → found_after (event end) beside.holds beside.found n ≡ []
   unseen_then beside fits end n lt = ap (λ z. cond z (beside.found n ++ beside.holds server ask.key ∷ []) (beside.found n)) (below beside fits n lt) ∙ fits.unseen n lt
 
-  -- so it has its result
+  -- the call has its result
   pub has_result : (beside : Beside) (end : End) → Fits old beside → outcome ≡ outcome_of end → EndsIn (beside.holds server ask.key) (beside.found number) number ask origin end → HasResult (state_of old beside) number server ask origin end
   has_result beside end fits is ends =
       let more = goes_on old.limits.sharing (beside.at number a.ask.key) a (fits.to_come number a r.was) r.calling outcome r.fits in

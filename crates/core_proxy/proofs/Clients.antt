@@ -57,7 +57,7 @@ module _ (old new : Core) (client : ℕ) (a b : Option Client) (t : Turns old ne
   pub command_stays : (n : ℕ) → command_at new n ≡ command_at old n
   command_stays n = t.commands n
 
-  -- the same stands beside it, where the client's commands in the log are still those that it keeps
+  -- what stood beside the old core can stand beside the new one, where the client's commands in the log are still those that it keeps
   pub still_fits : (beside : Beside) → Fits old beside → ((slots : List (Slot dialect)) → IsQueue a slots → IsQueue b slots) → ((n : ℕ) (command : Command) (slots : List (Slot dialect)) → IsHeld n command a slots → IsHeld n command b slots) → Fits new beside
   still_fits beside fits queue held =
       record {
@@ -120,7 +120,7 @@ same_at_front x y [] t h = t.waits ∙ h
 same_at_front x y (slot ∷ []) t h = λ waits. let a = h (sym t.waits ∙ waits) in (a.0, a.1, a.2 ∙ sym t.index, (a.3.0, subst (λ p. dialect.Reads p slot.message a.3.0) (sym t.stream) a.3.1))
 same_at_front x y (slot ∷ next ∷ slots) t h = same_at_front x y (next ∷ slots) t h
 
--- its output was taken
+-- a client's output was taken
 pub gives : (old new : Core) (client : ℕ) (x y : Client) (bytes : List ℕ) → Turns old new client (Some x) (Some y) → bytes ≡ bytes_of x.output → LosesOutput x y → Gives old client bytes new
 gives old new client x y bytes t taken p = (
   taken ∙ ap output_by (sym t.was),
@@ -190,7 +190,7 @@ opens old new client x t n =
       );
     }
 
--- none of its commands is under way
+-- none of the client's commands is under way
 none_is : (client : ℕ) (entries : List (ℕ × Command)) (n : ℕ) (o : Owner) → list_any (λ (x : Command). nat_eq x.client client) (map (λ e. e.1) entries) ≡ false → option_map owner_by (assoc.lookup (nat_eq n) entries) ≡ Some o → nat_eq client o.client ≡ false
 none_is client [] n o e f = absurd cc
 none_is client (x ∷ rest) n o e f =
@@ -221,7 +221,7 @@ none_is client (x ∷ rest) n o e f =
         no : {b : Bool} → b ≡ true → b ≡ false → ⊥
         no e f = absurd cc
 
--- its place was freed
+-- a client's place was freed
 pub closes : (old new : Core) (client : ℕ) (x : Client) → Turns old new client (Some x) None → has_commands client old.commands ≡ false → new.lines ≡ others client old.lines → Closes old client new
 closes old new client x t none left = (
   t.is,

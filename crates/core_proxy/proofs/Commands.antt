@@ -67,7 +67,7 @@ module _ (sharing : Sharing) (plan : Plan) (a : Command) (to_come : IsOnItsWay s
       let r = each_outcome_goes_on plan a.ask OfClient 0 to_come.before (call_of a.job w.0) w.1 w.2 outcome to_come.good w.3 fits in
       (r.0, r.1, (to_come.rest (call_of a.job outcome ∷ r.0) r.1).1 r.2)
 
-  -- what is left then
+  -- a command whose call had its outcome is on its way with what is left
   pub to_come_after : (b : Command) (outcome : Outcome) → FitsOutcome (ask_under a.job.frames.items a.job.ask) outcome → b.ask ≡ a.ask → b.claim ≡ a.claim
       → ((calls : List Call) (given : Given) → Comes b.job calls given ↔ Comes a.job (call_of a.job outcome ∷ calls) given) → IsOnItsWay sharing plan b
   to_come_after b outcome fits same claim rest =

@@ -89,7 +89,7 @@ none_waited waits now (s ∷ slots) n slot reply is none more w =
       | false ↦ λ e. ((λ none last. no_slot (ap (λ l. slot_in l n) (sym (w.0 none last).0) ∙ e)), none_waited waits now slots n slot reply e none more w.1)
     ]) is
 
--- where another has its reply, the same is waited for
+-- where another command has its reply, what is waited for stays
 still_waited : (waits : Bool) (slots : List (Slot dialect)) (n : ℕ) (reply : Answer) → IsWaitedFor waits slots → IsWaitedFor waits (answered_in n reply slots)
 still_waited waits [] n reply w = tt
 still_waited waits (s ∷ slots) n reply w =
@@ -175,7 +175,7 @@ idle_ticket n a s idle = by a.is_out (is_call a.job.pending) _ idle
     by true c o e = contrary true refl e
     by false c o e = refl
 
--- nor of one that has none out
+-- no call is out of a command that has none out
 pub none_ticket : (n : ℕ) (a : Command) (s : ℕ) → has_call_out a ≡ false → ticket_by (Some a) n s ≡ None
 none_ticket n a s none = by (has_call_out a) _ none
   where
@@ -297,7 +297,7 @@ module _ (old new : Core) (number : ℕ) (a : Command) (x y : Client) (pending :
           | false ↦ λ _. fits.tickets s n
         ]) refl ∙ ap (λ o. ticket_by o n s) (sym (r.commands n))
 
-  -- so it ends
+  -- the command ends
   pub ends : GoesBy old (λ entries. (part : Part dialect) × (part.ask ≡ a.ask) × (entries ≡ log.Ends a.client number part reply from ∷ [])) new
   ends = λ beside fits.
       let p = parted beside fits in
@@ -359,7 +359,7 @@ module _ (old new : Core) (client : ℕ) (x y : Client) (t : Turns old new clien
   front_is : front_by (Some y) ≡ front_by (Some x)
   front_is = λ i. record { place = d.stream i; index = d.index i; waits = d.waits i }
 
-  -- so nothing is done for it any more
+  -- nothing is done any more for the client that is dropped
   pub drops : GoesByOne old (log.Drops client) new
   drops = λ beside fits. (
     beside,
@@ -391,7 +391,7 @@ module _ (old new : Core) (client : ℕ) (x y : Client) (t : Turns old new clien
 -- ---- a command of a dropped client is freed
 
 module _ (old new : Core) (number : ℕ) (a : Command) (x : Client) (r : Frees old new number a x) where
-  -- so it is broken off
+  -- the command of the dropped client is broken off
   pub frees : GoesByOne old (log.Frees number) new
   frees = λ beside fits. (
     beside,

@@ -40,7 +40,7 @@ dropped_is (Some x) e = (x, refl, e)
 pub none_yet : (core : Core) (client : ℕ) → FreesSome core client core
 none_yet core client = record { numbers = []; idle = tt; goes = λ _. goes_nowhere core; kept = λ n command e. e; clients = λ c. refl; tree = refl; limits = refl; number = refl; lines = refl }
 
--- one more
+-- one more command of the client is broken off
 pub one_more : (old now new : Core) (client n : ℕ) → FreesSome old client now → HasIdle client now.commands n → ((m : ℕ) → command_at new m ≡ cond (nat_eq n m) None (command_at now m)) → ((c : ℕ) → client_at new c ≡ client_at now c) → new.tree ≡ now.tree → new.limits ≡ now.limits → new.number ≡ now.number → new.lines ≡ now.lines → FreesSome old client new
 one_more old now new client n some idle commands clients tree limits number lines =
     let a = idle.0 in

@@ -42,7 +42,7 @@ module _ (old mid : Core) (number : ℕ) (a b : Command) (outcome : Outcome) (wa
   others : (n : ℕ) → nat_eq number n ≡ false → command_at mid n ≡ command_at old n
   others n differs = commands n ∙ ap (λ z. cond z (Some b) (command_at old n)) differs
 
-  -- its client is served
+  -- the call is settled where its client is served
   pub goes_further : dropped_by (client_at old a.client) ≡ false → Settles old number outcome mid
   goes_further served =
       record {

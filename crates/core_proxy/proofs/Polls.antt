@@ -195,7 +195,7 @@ sent_goes old new number can ticket is commands clients tree limits number_is =
     goes_as old new (λ entries. entries ≡ (let t = ticket_of number can.command.job in Sends t.number t.server t.ask t.origin ∷ [])) (IsSent ticket) (λ entries e. e ∙ ap (λ (t : Ticket). Sends t.number t.server t.ask t.origin ∷ []) (sym is))
     (sends old new number can.command (record { was = can.was; idle = can.idle; calling = can.calling; commands = commands; clients = clients; tree = tree; limits = limits; number_is = number_is }))
 
--- and is out then
+-- the call that was handed out is out then
 pub sent_out : (new : Core) (number : ℕ) (a : Command) (ticket : Ticket) → IsCalling a.job → ticket ≡ ticket_of number a.job → command_at new number ≡ Some (record a { is_out = true }) → IsTicketOf new ticket
 sent_out new number a ticket calling is now =
     record {
@@ -414,7 +414,7 @@ why_of old new client polls.Queued h = (h.0, inl (h.1, h.2))
 why_of old new client polls.Busy h = absurd h
 why_of old new client (polls.Did note) h = h
 
--- the same answer, where nothing began before it
+-- a command that went on answers the poll, where none began before it
 pub acts_polls : (old new : Core) (client : ℕ) (poll : Poll) → Acts old client poll new → Polls old client poll new
 acts_polls old new client poll a = record { goes = polled_as old new client poll a.goes; why = why_of old new client poll a.why; order = inl a.still }
   where
@@ -422,7 +422,7 @@ acts_polls old new client poll a = record { goes = polled_as old new client poll
     polled_as old new client poll g =
         goes_as old new (Then IsNothing (IsPolled client poll)) (Then (Perhaps (BeginsBelow old client)) (IsPolled client poll)) (λ entries h. (h.0, h.1, inl h.2, h.3, h.4)) (goes_then old old new IsNothing (IsPolled client poll) (goes_nowhere old) g)
 
--- and where a command did
+-- a command that went on answers the poll, where one began before it
 pub begun_polls : (old mid new : Core) (client : ℕ) (ask : Ask) (poll : Poll) → IsBelowDepth old client → IsNextAsk old client ask false → bars old ask ≡ false → stands_before old client ask ≡ false → BeginsAt old client ask mid → Acts mid client poll new → Polls old client poll new
 begun_polls old mid new client ask poll below next free first a b =
     record {
@@ -446,12 +446,12 @@ pub nothing_polls : (old : Core) (client : ℕ) (poll : Poll) → ((entries : Li
 nothing_polls old client poll f why =
     record { goes = goes_as old old IsNothing (Then (Perhaps (BeginsBelow old client)) (IsPolled client poll)) (λ entries e. ([], [], inl refl, f [] refl, e)) (goes_nowhere old); why = why; order = inl (refl, refl) }
 
--- or nothing but that the client came to the line of its key
+-- a poll by which nothing happened but that the client came to the line of its key
 pub line_polls : (old new : Core) (client : ℕ) → GoesBy old IsNothing new → StandsInLine old client new → MayAsk old client → NoneGoesOn new client → Polls old client polls.Queued new
 line_polls old new client goes stands may held =
     record { goes = goes_as old new IsNothing (Then (Perhaps (BeginsBelow old client)) (IsPolled client polls.Queued)) (λ entries e. ([], [], inl refl, refl, e)) goes; why = (held, inr (stands, may)); order = inr (inr stands) }
 
--- or stood there already
+-- a poll by which nothing happened, as the client stood in the line of its key already
 pub stood_polls : (old new : Core) (client : ℕ) → new ≡ old → StandsInLine old client new → MayAsk old client → NoneGoesOn old client → Polls old client polls.Busy new
 stood_polls old new client same stands may held =
     subst (λ (core : Core). Polls old client polls.Busy core) (sym same)

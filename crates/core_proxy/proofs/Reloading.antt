@@ -18,7 +18,7 @@ words_stay : (old : Core) (tree : Route) (beside : Beside) (at : ℕ → List �
 words_stay old tree beside at taken n ask calls reply from lt word =
     (word.0, subst (λ plan. Word plan ask OfClient 0 calls (record { reply = reply; from = from })) (sym (taken.begun n ask.key (let l = lt in omega (arith, l)))) word.1)
 
--- so do the bars between them
+-- the bars between commands that have begun stay
 bars_stay : (old : Core) (tree : Route) (beside : Beside) (at : ℕ → List ℕ → Plan) → IsTakenOver old tree beside at → AreKeptBars (old.number + 1) (bars_of old beside) (bars_by old.limits.sharing at)
 bars_stay old tree beside at taken n other ask client lt lt' bars = (sym (ap (copies_by old.limits.sharing ask.op) (taken.begun n ask.key (let l = lt in omega (arith, l)))) ∙ bars.0, bars.1)
 

@@ -84,7 +84,7 @@ module _ (old new : Core) (number : ℕ) (a : Command) (r : SendsOut old new num
       (λ command e. subst (λ (c : Command). IsOnItsWay old.limits.sharing (beside.at number c.ask.key) c) (some_command e) (let l = fits.to_come number a r.was in record { claim = l.claim; good = l.good; before = l.before; rest = l.rest; some = l.some }))
       (λ n command _ e. fits.to_come n command e)
 
-  -- so it is out
+  -- the call is out
   pub sends : GoesByOne old (Sends number server ask origin) new
   sends = λ beside fits.
       let beside' : Beside = record beside { out = out_then beside } in (

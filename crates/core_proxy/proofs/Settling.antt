@@ -98,7 +98,7 @@ module _ (old new : Core) (number : ℕ) (a b : Command) (outcome : Outcome) (r 
       (λ command e. subst (λ (c : Command). IsOnItsWay old.limits.sharing (beside.at number c.ask.key) c) (some_command e) (subst (λ (k : Ask). IsOnItsWay old.limits.sharing (beside.at number k.key) b) (sym same) (to_come_after old.limits.sharing (beside.at number a.ask.key) a (fits.to_come number a r.was) r.calling b outcome r.fits same r.claim r.rest)))
       (λ n command _ e. fits.to_come n command e)
 
-  -- so it has its result, where what the server held agrees with that
+  -- the call has its result, where what the server held agrees with that
   pub settles :
       (beside : Beside) (end : End) → Fits old beside → outcome ≡ outcome_of end → EndsIn (beside.holds server ask.key) (beside.found number) number ask origin end
       → Fits new (settled end beside) × Leads (tree_words beside.at) (bars_of old beside) (state_of old beside) (Happens (event end) ∷ []) (state_of new (settled end beside))

@@ -56,7 +56,7 @@ module _ (old new : Core) (client : ℕ) (x y : Client) (pending : Pending) (rep
   abbrev less : (ℕ → List (Slot dialect)) → ℕ → List (Slot dialect)
   less queue c = cond (nat_eq client c) (behind_head (queue c)) (queue c)
 
-  -- so it is shown
+  -- the reply is shown
   pub shows : GoesBy old (λ entries. (slot : Slot dialect) × (slot.number ≡ pending.number) × (entries ≡ Shows client slot reply ∷ [])) new
   shows = λ beside fits.
       let queue = beside.queue in

@@ -61,7 +61,7 @@ none_behind h l n e =
       | false ↦ λ e. e
     ]) e
 
--- those of another number stay where one has its reply
+-- what a queue has of another number stays where one number has its reply
 pub answered_other : (l : List (Slot dialect)) (m n : ℕ) (reply : Answer) → nat_eq m n ≡ false → slot_in (answered_in m reply l) n ≡ slot_in l n
 answered_other [] m n reply differs = refl
 answered_other (x ∷ l) m n reply differs =

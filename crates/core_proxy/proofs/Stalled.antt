@@ -119,7 +119,7 @@ module _ (old : Core) (clients : slab.Slab Client) (client : ℕ) (x y : Client)
 same_claim : (core : Core) (tree : Route) (generation : ℕ) → core.limits.sharing ≡ Alone → (ask : Ask) → claim_of (record core { tree = tree; generation = generation }) ask ≡ claim_of core ask
 same_claim core tree generation alone ask = ap (λ (s : Sharing). claim_by s ask.op (tree_at tree ask.key)) alone ∙ sym (ap (λ (s : Sharing). claim_by s ask.op (tree_at core.tree ask.key)) alone)
 
--- so for whom nothing can be done nothing can be done still
+-- where each command has its key alone, nothing can be done by another tree for whom nothing could be done
 pub stalled_over : (core : Core) (tree : Route) (generation : ℕ) → core.limits.sharing ≡ Alone → (c : ℕ) → IsStalled core c → IsStalled (record core { tree = tree; generation = generation }) c
 stalled_over core tree generation alone c (inl done) = inl done
 stalled_over core tree generation alone c (inr (held, inl later)) = inr (held, inl later)

@@ -31,11 +31,11 @@ more_other l t n differs = more l t n ∙ ap (λ b. or_else (ticket_in l n) (con
     same None = refl
     same (Some x) = refl
 
--- of its own number, where none was out
+-- one ticket more is the ticket of its own number, where none was out
 pub more_own : (l : List Ticket) (t : Ticket) (n : ℕ) → nat_eq t.number n ≡ true → ticket_in l n ≡ None → ticket_in (l ++ t ∷ []) n ≡ Some t
 more_own l t n same none = more l t n ∙ ap (λ o. or_else o (cond (nat_eq t.number n) (Some t) None)) none ∙ ap (λ b. cond b (Some t) None) same
 
--- still there is one of each number at most
+-- with one ticket more there is still one of each number at most
 pub more_single : (l : List Ticket) (t : Ticket) (n : ℕ) → ticket_in (without n l) n ≡ None → (nat_eq t.number n ≡ true → ticket_in l n ≡ None) → ticket_in (without n (l ++ t ∷ [])) n ≡ None
 more_single [] t n one new =
     (elim (nat_eq t.number n) as (λ b. nat_eq t.number n ≡ b → ticket_in (cond b [] (t ∷ [])) n ≡ None) [

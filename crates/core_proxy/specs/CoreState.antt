@@ -184,11 +184,11 @@ FeedsOpen false old client bytes new = GoesByOne old (log.Feeds client bytes) ne
 abbrev pub Feeds : Core → ℕ → List ℕ → Core → Type 0
 Feeds old client bytes new = FeedsOpen (dropped_by (client_at old client)) old client bytes new
 
--- it is given all its new output
+-- the client is given all its new output
 abbrev pub Gives : Core → ℕ → List ℕ → Core → Type 0
 Gives old client bytes new = (bytes ≡ output_by (client_at old client)) × GoesByOne old (log.Gives client bytes) new
 
--- its place is free, and it stands in no line of a key
+-- the client's place is free, and the client stands in no line of a key
 abbrev pub Closes : Core → ℕ → Core → Type 0
 Closes old client new = (client_at new client ≡ None) × GoesByOne old (Resets client) new × (new.lines ≡ others client old.lines)
 

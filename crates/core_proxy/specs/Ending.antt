@@ -42,7 +42,7 @@ pub record Drops (x y : Client) : Type 0 where
   pub output : bytes_of y.output ≡ bytes_of x.output
   pub dropped : y.dropped ≡ true
 
--- a command of such a client, of which no call is out, is broken off
+-- a command of a client for whom nothing is done any more, of which no call is out, is broken off
 pub record Frees (old new : Core) (number : ℕ) (a : Command) (x : Client) : Type 0 where
   pub was : command_at old number ≡ Some a
   pub idle : a.is_out ≡ false

@@ -77,7 +77,7 @@ pub record IsAtLast (core : Core) (client : ℕ) : Type 0 where
   pub served : ForClient core client IsServed
   pub some : ForClient core client HasCommand
 
--- it has the next number, and its client stands in no line of a key
+-- a command of the client began: it has the next number, and its client stands in no line of a key
 pub record BeginsAt (old : Core) (client : ℕ) (ask : Ask) (new : Core) : Type 0 where
   pub number : new.number ≡ old.number + 1
   pub lines : new.lines ≡ others client old.lines
@@ -165,7 +165,7 @@ claim_of core ask = claim_by core.limits.sharing ask.op (tree_at core.tree ask.k
 abbrev pub bars : Core → Ask → Bool
 bars core ask = is_barred ask.key (claim_of core ask) core.commands
 
--- somebody stands before its client in the line of its key, whose claim is in the way
+-- somebody stands before the client in the line of the key, whose claim is in the way
 abbrev pub stands_before : Core → ℕ → Ask → Bool
 stands_before core client ask = is_behind client ask.key (claim_of core ask) core.lines
 
@@ -177,18 +177,18 @@ IsNextAsk core client ask own = (request : Request) × ForClient core client (λ
 abbrev pub WaitsForOwn : Core → ℕ → Type 0
 WaitsForOwn core client = (ask : Ask) × IsNextAsk core client ask true
 
--- it waits in the line of its key: one under way bars it, or a client stands before it there whose claim is in the way. Where it stood there it keeps its place, else it came to the end; nothing else changes
+-- the client's next command waits in the line of its key: one under way bars it, or a client stands before it there whose claim is in the way. Where it stood there it keeps its place, else it came to the end; nothing else changes
 pub record StandsInLine (old : Core) (client : ℕ) (new : Core) : Type 0 where
   pub ask : Ask
   pub next : IsNextAsk old client ask false
   pub waits : (bars old ask ≡ true) ⊎ (stands_before old client ask ≡ true)
   pub core_is : new ≡ record old { lines = joined (record { claim = claim_of old ask; client = client; key = ask.key }) old.lines }
 
--- it waits for its key, and stands in its line where another client's command is in the way
+-- the client's next command waits for its key, and stands in its line where another client's command is in the way
 abbrev pub HasNoKey : Core → ℕ → Type 0
 HasNoKey core client = WaitsForOwn core client ⊎ StandsInLine core client core
 
--- its next command began: none under way bars it, and nobody stands before it in the line of its key whose claim is in the way. It stands in no line any more
+-- the client's next command began: none under way bars it, and nobody stands before it in the line of its key whose claim is in the way. It stands in no line any more
 pub record BeginsInTurn (old : Core) (client : ℕ) (new : Core) : Type 0 where
   pub ask : Ask
   pub next : IsNextAsk old client ask false
@@ -217,7 +217,7 @@ NoneGoesOn core client = ForClient core client IsServed × ForClient core client
 abbrev pub NoneWaits : Core → ℕ → Type 0
 NoneWaits core client = ForClient core client (λ x. AreNotFull client core.limits.window core.commands x.queue.items)
 
--- nothing at its front can be done
+-- nothing at the client's front can be done
 abbrev pub NothingBegins : Core → ℕ → Type 0
 NothingBegins core client = ForClient core client (IsLater core.limits.depth)
 
@@ -229,7 +229,7 @@ MayAsk core client = (request : Request) × ForClient core client (CanAskBelow c
 abbrev pub IsBusy : Core → ℕ → Type 0
 IsBusy core client = (HasNoRoom core client × NothingBegins core client) ⊎ (HasNoKey core client × MayAsk core client)
 
--- its next command began and waits for its server, or came to the line of its key
+-- the client's next command began and waits for its server, or came to the line of its key
 abbrev pub IsQueued : Core → ℕ → Core → Type 0
 IsQueued old client new = (HasNoRoom new client × ForClient new client HasCommand) ⊎ (StandsInLine old client new × MayAsk old client)
 
@@ -248,7 +248,7 @@ IsWhy old client polls.Queued new = NoneGoesOn new client × IsQueued old client
 IsWhy old client polls.Busy new = (new ≡ old) × NoneGoesOn old client × IsBusy old client
 IsWhy old client (polls.Did note) new = IsShown new client
 
--- the same after a command went on as it could
+-- what holds after a command went on as it could: that the call that is handed out is out, that the command waits for its server, or that no reply is left to be shown
 abbrev pub IsActed : ℕ → Poll → Core → Type 0
 IsActed client polls.Idle new = ⊥
 IsActed client polls.Own new = ⊥
@@ -311,7 +311,7 @@ PollFault old client faults.InputFull new = ⊥
 PollFault old client faults.UnderWay new = ⊥
 PollFault old client faults.NoTicket new = ⊥
 
--- the same before the client is dropped
+-- why a message was not answered, before the client is dropped for that
 abbrev pub ReadFault : Core → ℕ → CoreFault → Core → Type 0
 ReadFault old client faults.NoMemory new = GoesBy old (SoFar client) new × ForClient new client IsServed × (others client new.lines ≡ others client old.lines)
 ReadFault old client faults.Spent new = (old.number ≡ LAST_COMMAND) × (new ≡ old)

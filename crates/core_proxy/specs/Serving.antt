@@ -19,7 +19,7 @@ pub record IsAnswered (old : Core) (ticket : Ticket) (new : Core) : Type 0 where
   pub fits : FitsOutcome ticket.ask outcome
   pub settled : Settles old ticket.number outcome new
 
--- the same, but memory was refused as it was settled
+-- the call of this ticket had an outcome that fits what it asks, and memory was refused as it was settled
 pub record BreaksAnswered (old : Core) (ticket : Ticket) (new : Core) : Type 0 where
   pub outcome : Outcome
   pub fits : FitsOutcome ticket.ask outcome

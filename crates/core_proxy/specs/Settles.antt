@@ -71,7 +71,7 @@ AreIdle core client (n ∷ numbers) = HasIdle client core.commands n × AreIdle 
 abbrev pub HasNoIdle : Core → ℕ → Type 0
 HasNoIdle core client = IsAllOut client core.commands
 
--- they are broken off
+-- the commands of these numbers are broken off
 abbrev pub freed : List ℕ → List (Entry dialect)
 freed numbers = each log.Frees numbers
 
@@ -87,7 +87,7 @@ pub record FreesSome (old : Core) (client : ℕ) (new : Core) : Type 0 where
   pub number : new.number ≡ old.number
   pub lines : new.lines ≡ old.lines
 
--- all of them
+-- all commands of a client for whom nothing is done any more, of which no call is out, were broken off
 abbrev pub FreesIdle : Core → ℕ → Core → Type 0
 FreesIdle old client new = FreesSome old client new × HasNoIdle new client
 

@@ -104,7 +104,7 @@ abbrev pub BeginningIsAStep : Type 0
 BeginningIsAStep =
     (old new : Core) (client : ℕ) (x y : Client) (part : Part dialect) (pending : Pending) (command : Command) → Begins old new client x y part pending command → GoesByOne old (Starts client (old.number + 1) part) new
 
--- its call goes out
+-- a command's call goes out
 abbrev pub SendingIsAStep : Type 0
 SendingIsAStep =
     (old new : Core) (number : ℕ) (a : Command) → SendsOut old new number a
@@ -124,7 +124,7 @@ settled event beside =
       turn = beside.turn + 1;
     }
 
--- its call has its result, where what the server held agrees with that
+-- a command's call has its result, where what the server held agrees with that
 abbrev pub SettlingIsAStep : Type 0
 SettlingIsAStep =
     (old new : Core) (number : ℕ) (a b : Command) (outcome : Outcome) → Resolves old new number a b outcome

@@ -39,7 +39,7 @@ pub fn dropping_is_a_step()
     ensures { DroppingIsAStep }
 {}
 
-/// A command of such a client is broken off where no call of it is out.
+/// A command of a client for whom nothing is done any more is broken off where no call of it is out.
 pub fn freeing_is_a_step()
     ensures { FreeingIsAStep }
 {}

@@ -34,7 +34,7 @@ pub struct Limits {
 }
 
 impl Limits {
-    /// Those of scripts: [`SCRIPT_CLIENTS`] clients, [`SCRIPT_HELD`] bytes held of each and one command, one call at each server, and
+    /// The limits of scripts: [`SCRIPT_CLIENTS`] clients, [`SCRIPT_HELD`] bytes held of each and one command, one call at each server, and
     /// each key for one command alone.
     pub fn of_scripts() -> Limits
         ensures { result ≡ script_limits }

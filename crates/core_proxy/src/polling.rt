@@ -197,7 +197,7 @@ impl Core {
         if turn.goes_on() {
             return self.act(client, self.number, turn);
         }
-        // It waits for its server, and the others can go on no more than before it.
+        // The last command waits for its server, and the others can go on no more than before it.
         match self.ready(client) {
             Some(ready) => self.act(client, ready.number, ready.turn),
             None => Ok(Poll::Queued),

@@ -57,7 +57,7 @@ within [] i a e = absurd (cc)
 within (x ∷ xs) zero a e = omega arith
 within (x ∷ xs) (suc i) a e = omega (arith, within xs i a e)
 
--- one more that covers
+-- where the trees before a number cover the tree, and that one does, those before the next number do
 pub covering_more : (trees : List Route) (tree : Route) (i : ℕ) (d : Route) → AreCovering trees tree i → slice_get trees i ≡ Some d → CoversAt d tree → AreCovering trees tree (i + 1)
 covering_more trees tree i d h is c j b below at =
     ⊎_elim

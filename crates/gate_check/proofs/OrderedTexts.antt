@@ -88,7 +88,7 @@ each_self : (xs : List (List ℕ)) → Each (λ p. IsIn p xs) xs
 each_self [] = tt
 each_self (x ∷ xs) = (inl refl, each_weaker (λ p. IsIn p xs) (λ p. IsIn p (x ∷ xs)) xs (λ p i. inr i) (each_self xs))
 
--- each of them is one of those
+-- each of the texts in order is one of the given texts
 pub known : (xs : List (List ℕ)) → Each (λ p. IsIn p xs) (ordered xs)
 known xs = all xs (λ p. IsIn p xs) (each_self xs)
   where

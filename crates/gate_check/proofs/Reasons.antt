@@ -34,7 +34,7 @@ rows_of P (x ∷ cs) [] i c h e = absurd h
 rows_of P (x ∷ cs) (r ∷ rs) zero c h e = let s : x ≡ c = cc in (r, refl, subst (λ y. P y r) s h.0)
 rows_of P (x ∷ cs) (r ∷ rs) (suc i) c h e = rows_of P cs rs i c h.1 e
 
--- the same, of given rows
+-- what each class has with its rows, a given class has with given rows
 pub each_class_at : (P : Class → ClassRows → Type 0) (cs : List Class) (rs : List ClassRows) (i : ℕ) (c : Class) (r : ClassRows) → EachClass P cs rs → slice_get cs i ≡ Some c → slice_get rs i ≡ Some r → P c r
 each_class_at P [] rs i c r h e f = absurd (cc)
 each_class_at P (x ∷ cs) [] i c r h e f = absurd h
@@ -82,7 +82,7 @@ module _ (tree : Route) (table : PlaceTable) (certificate : Certificate) (t : Is
         let own : IsShaped c r = each_class_at IsShaped table.classes.items certificate.classes.items i c r shaped e f in
         looks_are_enough tree table.modulus c r is own (λ residue below. end c r e f residue (let s = own.0 in omega (arith, below, s)))
 
-    -- so are the rows of a class before the residue where its looks ended
+    -- the rows of a class before the residue where its looks ended are valid
     valid_in : (i r : ℕ) → ((c : Class) (rows : ClassRows) → slice_get table.classes.items i ≡ Some c → slice_get certificate.classes.items i ≡ Some rows → (r < rows.modulus) × AreValidBelow tree c.prefix table.modulus rows r) → (j q : ℕ) (c : Class) (rows : ClassRows) → slice_get table.classes.items j ≡ Some c → slice_get certificate.classes.items j ≡ Some rows → j ≡ i → q < r → IsValidRow (tree_at_place tree (place_at c.prefix q table.modulus)) (row_at rows q)
     valid_in i r looks j q c rows a b same lt =
         let h : (r < rows.modulus) × AreValidBelow tree c.prefix table.modulus rows r = looks c rows (subst (λ (n : ℕ). slice_get table.classes.items n ≡ Some c) same a) (subst (λ (n : ℕ). slice_get certificate.classes.items n ≡ Some rows) same b) in

@@ -28,7 +28,7 @@ IsLook plain row looks.Good = IsValidRow plain row
 abbrev pub plain_of : Route → Option (List ℕ) → ℕ → ℕ → Plan
 plain_of tree prefix modulus r = tree_at_place tree (place_at prefix r modulus)
 
--- its row
+-- the servers of a residue, by the rows of its class
 abbrev pub row_of : ClassRows → ℕ → List ℕ
 row_of rows r = run_at [] rows.runs.items r
 

@@ -21,14 +21,14 @@ abbrev pub FailsAt : List Route → Route → ℕ → PairFault → Type 0
 FailsAt trees tree generation fault =
     (i : ℕ) × (a : Route) × (generation ≡ i + 1) × (slice_get trees i ≡ Some a) × AreCovering trees tree i × IsPairFault a tree fault
 
--- the generations with the tree as the last one
+-- why no reload is made: by the generations with the tree as the last one
 abbrev pub IsReloadFault : List Route → Route → ReloadFault → Type 0
 IsReloadFault trees tree faults.TooManyGenerations = MOST_GENERATIONS ≤ length trees
 IsReloadFault trees tree (faults.TooManyPlaces generation) = FailsAt (trees ++ tree ∷ []) tree generation pairs.TooManyPlaces
 IsReloadFault trees tree (faults.Uncovered generation gap) = FailsAt (trees ++ tree ∷ []) tree generation (pairs.Uncovered gap)
 IsReloadFault trees tree faults.NoMemory = Unit {0}
 
--- the same among some trees
+-- why no reload is made: by these trees, which aren't too many
 abbrev pub IsFaultAmong : List Route → Route → ReloadFault → Type 0
 IsFaultAmong trees tree faults.TooManyGenerations = ⊥
 IsFaultAmong trees tree (faults.TooManyPlaces generation) = FailsAt trees tree generation pairs.TooManyPlaces

@@ -8,7 +8,7 @@ use Rattle.gate_coverage.specs.Pools.{has}
 use Rattle.gate_coverage.specs.Cover.{IsTaking, Takes}
 use Rattle.gate_check.specs.Valid.{IsRising}
 
--- each is greater than the one before
+-- the numbers rise from above this one: each is greater than the number before it
 abbrev pub rises_above : ℕ → List ℕ → Bool
 rises_above x [] = true
 rises_above x (y ∷ ys) = nat_lt x y && rises_above y ys

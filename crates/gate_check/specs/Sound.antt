@@ -31,7 +31,7 @@ pub record AreLoaded (trees : List Route) (tree : ℕ → Route) : Type 0 where
 abbrev pub EveryRunIsFresh : List Route → Type 0
 EveryRunIsFresh trees = (tree : ℕ → Route) → AreLoaded trees tree → RunsAreFresh (tree_words (λ n key. tree_at (tree n) key))
 
--- so it is with generations
+-- every run is fresh in which each command runs by the generation that is loaded when it begins
 abbrev pub GenerationsAreFresh : Type 0
 GenerationsAreFresh =
     (trees : List Route) → AreGenerations trees

@@ -36,7 +36,7 @@ pub record IsTable (trees : List Route) (table : PlaceTable) : Type 0 where
   pub is_table : IsTableOf trees table
   pub within : row_count table ≤ most_rows
 
--- why there is none
+-- why there is no table of the places of these trees
 abbrev pub IsPlaceFault : List Route → PlaceFault → Type 0
 IsPlaceFault trees faults.TooManyPlaces = (table : PlaceTable) → IsTableOf trees table → most_rows < row_count table
 IsPlaceFault trees faults.NoMemory = Unit {0}

@@ -18,7 +18,7 @@ use Rattle.gate_coverage.specs.Cover.{IsTaking, Takes, Clears}
 use Rattle.gate_check.specs.Resolved.{resolved}
 use Rattle.gate_check.specs.Places.{place_at}
 
--- those of several trees
+-- the sizes of the pools of several trees
 abbrev pub all_sizes : List Route → List ℕ
 all_sizes [] = []
 all_sizes (t ∷ ts) = sizes t ++ all_sizes ts

@@ -46,7 +46,7 @@ fn verdict(alloc: Global, tree: &Tree, certificate: &Certificate) -> Result<(), 
     }
 }
 
-// The same by the tree's table.
+// Whether the certificate is valid for the tree, whose table of places this is.
 fn verdict_by(
     alloc: Global,
     tree: &Tree,

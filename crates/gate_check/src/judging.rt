@@ -45,7 +45,7 @@ fn judgement(alloc: Global, tree: &Tree) -> Result<(), Reason>
     }
 }
 
-// The same by the tree's table: where each place is covered, the servers that are taken make a valid certificate, which
+// Whether some certificate is valid for the tree, by its table: where each place is covered, the servers that are taken make one, which
 // isn't written down.
 fn judgement_by(alloc: Global, tree: &Tree, table: &PlaceTable) -> Result<(), Reason>
     requires { IsTable (tree.now ∷ []) table.now }

@@ -87,7 +87,7 @@ pub fn covers(alloc: Global, earlier: &Tree, later: &Tree) -> Result<(), PairFau
     }
 }
 
-// The same by the table of both.
+// Whether the earlier tree covers the later one at all places of the table of both.
 fn covers_by(
     alloc: Global,
     earlier: &Tree,

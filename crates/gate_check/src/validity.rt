@@ -92,7 +92,7 @@ fn rises(row: &[ServerId]) -> bool
     }
 }
 
-// They rise from above this one.
+// The servers rise from above this one.
 fn rises_above(below: ServerId, row: &[ServerId]) -> bool
     ensures { result ≡ rises_above below row.now }
 {

@@ -43,7 +43,7 @@ module _ (text : List ℕ) (pool : List ℕ) where
     doubts_prefixes (Wildcard r) best = best_or (doubts r) best
     doubts_prefixes (Prefix p r ps) best = doubts_prefixes ps (if begins p text && is_longer p best then Some (p, doubts r) else best)
 
--- one more, where it isn't known to be cleared
+-- the pools with one more, where it isn't known to be cleared
 abbrev pub with_doubted : List ℕ → Route → List (List ℕ) → List ℕ → List (List ℕ)
 with_doubted text tree pools p = if doubts text p tree then pools ++ p ∷ [] else pools
 

@@ -58,7 +58,7 @@ module _ (text : List ℕ) (op : Op) where
     pools_of_policy shows copies (Otherwise r) = pools_of shows copies r
     pools_of_policy shows copies (Policy o r ps) = if same_op o op then pools_of shows copies r else pools_of_policy shows copies ps
 
-    -- those of the longest policy that begins the text, with the longest so far, else of the wildcard
+    -- the pools of the longest policy that begins the text, with the longest so far, else of the wildcard
     pub pools_of_prefixes : (shows copies : Bool) → Prefixes → Option (List ℕ × List (List ℕ)) → List (List ℕ)
     pools_of_prefixes shows copies (Wildcard r) best = best_or (pools_of shows copies r) best
     pools_of_prefixes shows copies (Prefix p r ps) best =
@@ -69,7 +69,7 @@ abbrev pub has_pool : List (List ℕ) → List ℕ → Bool
 has_pool [] pool = false
 has_pool (p ∷ ps) pool = bytes_eq p pool || has_pool ps pool
 
--- one more, unless it is there
+-- the pools with one more, unless it is there
 abbrev pub with_pool : List (List ℕ) → List ℕ → List (List ℕ)
 with_pool pools pool = if has_pool pools pool then pools else pools ++ pool ∷ []
 

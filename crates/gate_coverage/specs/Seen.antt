@@ -55,7 +55,7 @@ module _ (op : Op) where
     for_op (WarmUp cold warm e) = WarmUp cold warm 0
     for_op (ByOperation ps) = policy_for_op ps
 
-    -- that of the first policy of the operation, else of the other one
+    -- what is left for the operation of the first policy of it, else of the other one
     pub policy_for_op : PlanPolicies → Plan
     policy_for_op (Otherwise p) = for_op p
     policy_for_op (Policy o p rest) = if same_op o op then for_op p else policy_for_op rest

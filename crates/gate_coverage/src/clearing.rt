@@ -23,7 +23,7 @@ pub fn clears(seen: Seen, deleting: Deleting, server: ServerId) -> bool
     !keeps(seen, server)
 }
 
-/// The same at a plain tree that was built.
+/// Whether each acknowledged delete of the kind has cleared the server, by a plain tree that was built.
 pub fn cleared(plain: &Plain, deleting: Deleting, server: ServerId) -> bool
     ensures { IsTrue result ↔ Clears plain.now deleting server }
 {

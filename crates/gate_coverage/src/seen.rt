@@ -81,7 +81,7 @@ impl<'a> Seen<'a> {
         }
     }
 
-    /// It keeps what every plain tree keeps.
+    /// What is seen keeps what every plain tree keeps.
     pub fn lawful(self)
         ensures { IsPlan (plan_of self.entry) }
     {
@@ -119,7 +119,7 @@ impl<'a> SeenAll<'a> {
         }
     }
 
-    /// There is no child. It takes no memory.
+    /// Whether there is no child. It takes no memory.
     pub fn is_empty(self) -> bool
         ensures { result ≡ is_end (all_plans_of self.entry) }
     {
@@ -149,7 +149,7 @@ fn plain_form<'a>(plain: &'a Plain, op: Op) -> SeenForm<'a>
     }
 }
 
-// That of the first policy of the operation, else of the default.
+// The form for the operation of the first policy of it, else of the default.
 #[cycle(plain_form)]
 fn plain_policy_form<'a>(policies: &'a [(Op, Plain)], default: &'a Plain, op: Op) -> SeenForm<'a>
     ensures { plan_of_seen_form result ≡ policy_for_op op (plan_policies_of policies.now default.now) }
@@ -189,7 +189,7 @@ fn tree_form<'a>(tree: &'a Tree, at: &'a At<'a>, op: Op) -> SeenForm<'a>
     }
 }
 
-// That of the first policy of the operation, else of the default.
+// The form for the operation of the first policy of it, else of the default.
 #[cycle(tree_form)]
 fn tree_policy_form<'a>(
     policies: &'a [(Op, Tree)],

@@ -22,7 +22,7 @@ pub fn takes(seen: Seen, op: Op, server: ServerId) -> bool
     is_taken_of(seen, op, server)
 }
 
-/// The same at a plain tree that was built.
+/// Whether some reply to the operation shows an item of the server, or some get copies one to another, by a plain tree that was built.
 pub fn taken(plain: &Plain, op: Op, server: ServerId) -> bool
     ensures { IsTrue result ↔ Takes plain.now op server }
 {

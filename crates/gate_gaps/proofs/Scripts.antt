@@ -62,7 +62,7 @@ abbrev pub IsNamed : Option Manner → Outcome → Type 0
 IsNamed name Failed = name ≡ Some Before
 IsNamed name (Answered answer) = name ≡ None
 
--- so do the calls from turn m + 1 on
+-- each call from turn m + 1 on fails where its turn is named, and is answered where it isn't
 abbrev pub AreNamed : (ℕ → Option Manner) → ℕ → List Call → Type 0
 AreNamed name m [] = Unit {0}
 AreNamed name m (c ∷ calls) = IsNamed (name (m + 1)) c.outcome × AreNamed name (m + 1) calls

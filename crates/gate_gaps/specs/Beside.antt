@@ -68,7 +68,7 @@ abbrev pub AcksAreWords : Type 0
 AcksAreWords =
     (plain : Plan) (s n : ℕ) (ask : Ask) → IsGood plain → ask.op ≡ Delete → Fits ask (answer_of_nothing ask.dialect ask.op) → acks s plain ≡ Some n → AckedAfter plain s ask 0 n
 
--- of a read too
+-- a number that is computed of a read is one of a word
 abbrev pub FindsAreWords : Type 0
 FindsAreWords =
     (plain : Plan) (s n : ℕ) (ask : Ask) (answer : Answer) → IsGood plain → Fits ask answer → shows answer ≡ true → rank_of answer ≡ 0 → finds ask.op s plain ≡ Some n → ShownAfter plain s ask answer 0 n

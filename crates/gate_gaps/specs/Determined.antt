@@ -7,7 +7,7 @@ use Rattle.fresh_runs.specs.Run.{Call}
 use Rattle.route_tree.specs.Plan.{Plan}
 use Rattle.route_tree.specs.Word.{Given, Word}
 
--- the same call, however it ended
+-- the two calls are the same, however they ended
 pub record IsSameCall (x y : Call) : Type 0 where
   pub server : x.server ≡ y.server
   pub ask : x.ask ≡ y.ask

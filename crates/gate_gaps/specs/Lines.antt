@@ -54,7 +54,7 @@ is_of which.Left server_use = not server_use.is_cleared
 abbrev pub named_text : Addresses → NamedPools → ℕ → List ℕ
 named_text servers pools server = codes "\n#   " ++ server_text servers pools server
 
--- the same, if this server is one of those that are named
+-- a server on a line of its own, after the end of the line before, if this server is one of those that are named
 abbrev pub member_text : Addresses → NamedPools → Bool → ℕ → List ℕ
 member_text servers pools is_named server = if is_named then named_text servers pools server else []
 

@@ -21,12 +21,12 @@ IsAckedAfter plain s n = (ask : Ask) → ask.op ≡ Delete → Fits ask (answer_
 abbrev pub IsShownAfter : Plan → Op → ℕ → ℕ → Type 0
 IsShownAfter plain op s n = (ask : Ask) (answer : Answer) → ask.op ≡ op → Fits ask answer → shows answer ≡ true → rank_of answer ≡ 0 → ShownAfter plain s ask answer 0 n
 
--- a number is such a one; and there is one where the server isn't cleared, an all-sync or a warm-up aside
+-- a number of failed calls is one after which a delete is acknowledged with the server not cleared; and there is one where the server isn't cleared, an all-sync or a warm-up aside
 pub record CountsAcked (plain : Plan) (kind : Deleting) (s : ℕ) (number : Option ℕ) : Type 0 where
   pub word : IfSome number (λ n. IsAckedAfter plain s n)
   pub some : IsDirect Delete plain → (Clears plain kind s → ⊥) → IsSome number
 
--- the same of a server that is taken
+-- a number of failed calls is one after which the server's answer is shown; and there is one where the server is taken, an all-sync or a warm-up aside
 pub record CountsShown (plain : Plan) (op : Op) (s : ℕ) (number : Option ℕ) : Type 0 where
   pub word : IfSome number (λ n. IsShownAfter plain op s n)
   pub some : IsDirect op plain → Takes plain op s → IsSome number

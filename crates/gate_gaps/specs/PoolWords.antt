@@ -26,11 +26,11 @@ abbrev pub places_from : Spelling → (name : List ℕ) → (place total : ℕ) 
 places_from spelling name place total [] server = []
 places_from spelling name place total (s ∷ ss) server = place_if spelling (s == server) name place total ++ places_from spelling name (place + 1) total ss server
 
--- its places in the list of a pool
+-- the places of a server in the list of a pool
 abbrev pub places_in : Spelling → ℕ → NamedPool → List ℕ
 places_in spelling server pool = places_from spelling pool.0 1 (length pool.1) pool.1 server
 
--- its places in the lists of all pools
+-- the places of a server in the lists of all pools
 abbrev pub places_text : Spelling → NamedPools → ℕ → List ℕ
 places_text spelling pools server = flat_map (places_in spelling server) pools
 

@@ -49,7 +49,7 @@ lack_phrase (WarmUp cold warm e) = phrases.ColdAlone
 lack_phrase (ByOperation ps) = phrases.Lacks
 lack_phrase (ByPrefix ps) = phrases.Lacks
 
--- what helps there
+-- what helps where a route of this kind leaves a gap
 abbrev pub fix_phrase : Route → Phrase
 fix_phrase (Pool slots) = phrases.OverBoth
 fix_phrase (Server s) = phrases.OverBoth

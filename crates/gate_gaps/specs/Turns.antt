@@ -11,7 +11,7 @@ abbrev pub or_else : Option ℕ → Option ℕ → Option ℕ
 or_else (Some n) other = Some n
 or_else None other = other
 
--- after so many others
+-- the number counted after so many others, if there is one
 abbrev pub counted_after : ℕ → Option ℕ → Option ℕ
 counted_after n None = None
 counted_after n (Some m) = Some (n + m)

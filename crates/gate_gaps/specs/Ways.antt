@@ -41,7 +41,7 @@ abbrev pub LeadsTo : Op → ℕ → List WayStep → Plan → Type 0
 LeadsTo op s [] p = p ≡ Server s
 LeadsTo op s (step ∷ way) p = (child : Plan) × IsStep op step p child × (taken child op s ≡ true) × LeadsTo op s way child
 
--- such steps were added
+-- steps that lead to the server were added
 abbrev pub AddsWay : Op → ℕ → Plan → List WayStep → List WayStep → Type 0
 AddsWay op s p old new = (way : List WayStep) × (new ≡ old ++ way) × LeadsTo op s way p
 

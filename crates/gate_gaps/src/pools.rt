@@ -40,14 +40,14 @@ impl ConfigPool {
         self.name.as_str()
     }
 
-    /// The servers of its list, in order: one for each text.
+    /// The servers of the pool's list, in order: one for each text.
     pub fn servers(&self) -> &[ServerId]
         ensures { result.now ≡ self.now.1 }
     {
         self.servers.as_slice()
     }
 
-    /// Its slots.
+    /// The slots of the pool.
     pub fn slots(&self) -> &[ServerId]
         ensures { result.now ≡ self.now.2 }
     {
@@ -82,7 +82,7 @@ fn member_of_text(servers: &Servers, text: &str) -> Option<Member>
     }
 }
 
-// The same of a value, if it is a text.
+// What a value of a pool's list says, if it is a text and names one of these servers.
 fn member_of(servers: &Servers, item: &Value) -> Option<Member>
     ensures { result ≡ member_of servers.now (view item.now) }
 {

@@ -75,7 +75,7 @@ fn lack_phrase(tree: &Tree) -> Phrase
     }
 }
 
-// What helps there.
+// What helps where a route of this kind leaves a gap.
 fn fix_phrase(tree: &Tree) -> Phrase
     ensures { result ≡ fix_phrase tree.now }
 {

@@ -136,7 +136,7 @@ fn write_named<W: Write>(
     Ok(())
 }
 
-// The same, if this server is one of those that are named.
+// A server on a line of its own, after the end of the line before, if this server is one of those that are named.
 fn write_member<W: Write>(
     servers: &Servers,
     pools: &[ConfigPool],

@@ -35,12 +35,12 @@ abbrev pub more_alike : Route → Routes → ℕ
 more_alike first End = 0
 more_alike first (More r rs) = if alike first r then 1 + more_alike first rs else 0
 
--- the same of children by prefix
+-- how many children by prefix in a row are like the one before them
 abbrev pub more_prefixes_alike : Route → Prefixes → ℕ
 more_prefixes_alike first (Wildcard r) = 0
 more_prefixes_alike first (Prefix p r ps) = if alike first r then 1 + more_prefixes_alike first ps else 0
 
--- how many of them the node of the first one stands for, too: none of fewer than 3
+-- how many children that are like the first one its node stands for, too: none of fewer than 3
 abbrev pub folded : ℕ → ℕ
 folded more = if nat_lt more 3 then 0 else more
 
@@ -48,6 +48,6 @@ folded more = if nat_lt more 3 then 0 else more
 abbrev pub next_run : Run → ℕ → Route → Routes → Run
 next_run run n r rs = if run.more == 0 then record { head = n; more = folded (more_alike r rs) } else record { head = run.head; more = run.more - 1 }
 
--- the same of children by prefix
+-- the run of the next child by prefix, which has this number
 abbrev pub next_prefix_run : Run → ℕ → Route → Prefixes → Run
 next_prefix_run run n r ps = if run.more == 0 then record { head = n; more = folded (more_prefixes_alike r ps) } else record { head = run.head; more = run.more - 1 }

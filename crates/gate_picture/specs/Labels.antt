@@ -95,7 +95,7 @@ module _ (servers : Addresses) (pools : NamedPools) where
       else if nat_le limit 1 then last_leaf servers pools r
       else leaf_line servers pools r ++ leaf_lines (more - 1) (limit - 1) rs
 
-  -- the same of children by prefix
+  -- lines for the first child by prefix of a run and for so many more of it, and no more than the limit; two dots in place of the others
   abbrev pub prefix_leaf_lines : (more limit : ℕ) → Prefixes → List ℕ
   prefix_leaf_lines more limit (Wildcard r) = []
   prefix_leaf_lines more limit (Prefix p r ps) =
@@ -107,6 +107,6 @@ module _ (servers : Addresses) (pools : NamedPools) where
   abbrev pub run_text : (more : ℕ) → Route → Routes → List ℕ
   run_text more r rs = if more == 0 then one_text servers pools r else count_text more r ++ leaf_lines more NAMED rs
 
-  -- the same of children by prefix
+  -- the label of a run of children by prefix: of one child, or of the first of these children and so many more
   abbrev pub prefix_run_text : (more : ℕ) → Route → Prefixes → List ℕ
   prefix_run_text more r ps = if more == 0 then one_text servers pools r else count_text more r ++ prefix_leaf_lines more NAMED ps

@@ -23,7 +23,7 @@ module _ (servers : Addresses) (pools : NamedPools) where
   abbrev pub run_front_lines : ℕ → (label : List ℕ) → (more n : ℕ) → Route → Routes → List ℕ
   run_front_lines parent label more n r rs = edge_line parent label more n ++ run_line servers pools n more r rs
 
-  -- the same of children by prefix
+  -- the edge to the children by prefix of a run, and their node
   abbrev pub prefix_front_lines : ℕ → (label : List ℕ) → (more n : ℕ) → Route → Prefixes → List ℕ
   prefix_front_lines parent label more n r ps = edge_line parent label more n ++ prefix_run_line servers pools n more r ps
 
@@ -31,7 +31,7 @@ module _ (servers : Addresses) (pools : NamedPools) where
   abbrev pub member_lines : ℕ → (index more n : ℕ) → Route → Routes → (below : List ℕ) → List ℕ
   member_lines parent index more n r rs below = run_front_lines parent (codes "children[" ++ decimal index ++ codes "]") more n r rs ++ below
 
-  -- the same, if the child is the first of its run
+  -- a run of children, and what is below its first one, if the child is the first of its run
   abbrev pub member_if : Bool → ℕ → (index more n : ℕ) → Route → Routes → (below : List ℕ) → List ℕ
   member_if is_first parent index more n r rs below = if is_first then member_lines parent index more n r rs below else []
 
@@ -39,7 +39,7 @@ module _ (servers : Addresses) (pools : NamedPools) where
   abbrev pub prefix_member_lines : ℕ → (prefix : List ℕ) → (more n : ℕ) → Route → Prefixes → (below : List ℕ) → List ℕ
   prefix_member_lines parent p more n r ps below = prefix_front_lines parent (codes "prefix " ++ quoted p) more n r ps ++ below
 
-  -- the same, if the child is the first of its run
+  -- a run of children by prefix, and what is below its first one, if the child is the first of its run
   abbrev pub prefix_member_if : Bool → ℕ → (prefix : List ℕ) → (more n : ℕ) → Route → Prefixes → (below : List ℕ) → List ℕ
   prefix_member_if is_first parent p more n r ps below = if is_first then prefix_member_lines parent p more n r ps below else []
 

@@ -16,17 +16,17 @@ abbrev mutual
   nodes (ByOperation ps) = 1 + nodes_of_policies ps
   nodes (ByPrefix ps) = 1 + nodes_of_prefixes ps
 
-  -- those of the children
+  -- the routes of all children, each once
   pub nodes_of_all : Routes → ℕ
   nodes_of_all End = 0
   nodes_of_all (More r rs) = nodes r + nodes_of_all rs
 
-  -- those of the children by operation
+  -- the routes of the children by operation, each once
   pub nodes_of_policies : Policies → ℕ
   nodes_of_policies (Otherwise r) = nodes r
   nodes_of_policies (Policy op r ps) = nodes r + nodes_of_policies ps
 
-  -- those of the children by prefix
+  -- the routes of the children by prefix, each once
   pub nodes_of_prefixes : Prefixes → ℕ
   nodes_of_prefixes (Wildcard r) = nodes r
   nodes_of_prefixes (Prefix p r ps) = nodes r + nodes_of_prefixes ps

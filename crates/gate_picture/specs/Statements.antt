@@ -56,7 +56,7 @@ node_line servers pools n r = node_front n ++ one_text servers pools r ++ node_e
 abbrev pub run_line : Addresses → NamedPools → ℕ → (more : ℕ) → Route → Routes → List ℕ
 run_line servers pools n more r rs = node_front n ++ run_text servers pools more r rs ++ node_end r
 
--- the same of children by prefix
+-- the node of the first of these children by prefix, and of so many more
 abbrev pub prefix_run_line : Addresses → NamedPools → ℕ → (more : ℕ) → Route → Prefixes → List ℕ
 prefix_run_line servers pools n more r ps = node_front n ++ prefix_run_text servers pools more r ps ++ node_end r
 

@@ -119,7 +119,7 @@ fn more_alike(first: &Tree, rest: &[Tree]) -> usize
     }
 }
 
-// The same of children by prefix.
+// How many children by prefix in a row are like the one before them.
 fn more_prefixes_alike(first: &Tree, rest: &[(Key, Tree)], wildcard: &Tree) -> usize
     ensures count { result ≡ more_prefixes_alike first.now (prefixes_of rest.now wildcard.now) }
     ensures few { result ≤ length rest.now }
@@ -136,7 +136,7 @@ fn more_prefixes_alike(first: &Tree, rest: &[(Key, Tree)], wildcard: &Tree) -> u
     }
 }
 
-// How many of them the node of the first one stands for, too: none of fewer than 3.
+// How many children that are like the first one its node stands for, too: none of fewer than 3.
 fn folded(more: usize) -> usize
     ensures count { result ≡ folded more }
     ensures few { result ≤ more }
@@ -172,7 +172,7 @@ pub fn next_run(run: Run, number: u32, first: &Tree, rest: &[Tree]) -> Run
     }
 }
 
-/// The same of children by prefix.
+/// The run of the next child by prefix, which has this number.
 pub fn next_prefix_run(
     run: Run,
     number: u32,

@@ -125,7 +125,7 @@ fn write_run_front<W: Write>(
     Ok(())
 }
 
-// The same of children by prefix.
+// The edge to the children by prefix of a run, and their node.
 fn write_prefix_front<W: Write>(
     servers: &Servers,
     pools: &[ConfigPool],
@@ -177,7 +177,7 @@ fn write_member<W: Write>(
     write_below(servers, pools, number, first, out)
 }
 
-// The same, if the child is the first of its run.
+// A run of children, and what is below its first one, if the child is the first of its run.
 #[cycle(drawing)]
 fn write_member_if<W: Write>(
     servers: &Servers,
@@ -300,7 +300,7 @@ fn write_prefix_member<W: Write>(
     write_below(servers, pools, number, first, out)
 }
 
-// The same, if the child is the first of its run.
+// A run of children by prefix, and what is below its first one, if the child is the first of its run.
 #[cycle(drawing)]
 fn write_prefix_member_if<W: Write>(
     servers: &Servers,

@@ -196,7 +196,7 @@ fn write_leaves<W: Write>(
     }
 }
 
-// The same of children by prefix.
+// Lines for the first child by prefix of a run and for so many more of it, and no more than the limit.
 fn write_prefix_leaves<W: Write>(
     servers: &Servers,
     pools: &[ConfigPool],
@@ -253,7 +253,7 @@ pub fn write_run<W: Write>(
     }
 }
 
-/// The same of children by prefix.
+/// The label of the node of a run of children by prefix: of one child, or of the first of these children and so many more.
 pub fn write_prefix_run<W: Write>(
     servers: &Servers,
     pools: &[ConfigPool],

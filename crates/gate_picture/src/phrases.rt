@@ -8,7 +8,7 @@ ghost use Rattle.gate_picture.specs.Phrases.{text_of};
 pub enum Phrase {
     /// The front of the graph.
     Graph,
-    /// That it goes from left to right.
+    /// That the drawing goes from left to right.
     Direction,
     /// The front of a label.
     Label,

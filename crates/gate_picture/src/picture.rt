@@ -57,7 +57,7 @@ pub fn write_picture<W: Write>(config: &Config, pools: &[ConfigPool], out: &mut 
     Ok(())
 }
 
-/// Writes the same graph with a gap marked: red are the routes and edges of the way by which the gap's read reaches its server, as
+/// Writes the graph of [`write_picture`] with a gap marked: red are the routes and edges of the way by which the gap's read reaches its server, as
 /// the keys of the gap's place see the tree, and a box for the server, with its places in the lists of the pools, which is said not to
 /// be cleared by the gap's delete. Of a child that is drawn with others their node is marked, and its edge has the child's own label.
 ///

@@ -135,7 +135,7 @@ pub fn write_run_node<W: Write>(
     Ok(())
 }
 
-/// The same of children by prefix.
+/// The node of the first of these children by prefix, and of so many more.
 pub fn write_prefix_node<W: Write>(
     servers: &Servers,
     pools: &[ConfigPool],

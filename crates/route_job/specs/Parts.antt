@@ -24,7 +24,7 @@ worse g h = if nat_lt (rank g) (rank h) then h else g
 abbrev pub WorstWith : Plans → Ask → Origin → Given → ℕ → List Call → Given → Type 0
 WorstWith ps ask origin worst b calls given = (all : List Given) × WordOfAll ps ask origin b calls all × IsWorst rank (worst ∷ all) given
 
--- the same, where this was the worst before
+-- the other children in order, and the worst of the replies so far, of this one, and of theirs
 abbrev pub AfterAll : Option Given → Plans → Ask → Origin → Given → ℕ → List Call → Given → Type 0
 AfterAll None ps ask origin g b calls given = WorstWith ps ask origin g b calls given
 AfterAll (Some worst) ps ask origin g b calls given = WorstWith ps ask origin (worse worst g) b calls given

@@ -106,7 +106,7 @@ module _ (hash : ℕ) (text : List ℕ) where
   sure_prop (frame ∷ frames) ask origin b inner =
       ×_prop (sure_of_prop frame b (Under hash text frames (ask_in frame ask) (origin_in frame origin) inner)) (sure_prop frames (ask_in frame ask) (origin_in frame origin) b inner)
 
-  -- there is at most one proof that it does, so a job may hold it
+  -- there is at most one proof of what every job keeps, so a job may hold it
   pub kept_prop : (ask : Ask) (frames : List Frame) (pending : Pending) (made : ℕ) → IsProp (IsKept ask frames pending made)
   kept_prop ask frames pending made x y = λ i. record {
     rests = rest_prop frames pending x.rests y.rests i;

@@ -9,7 +9,7 @@ ghost use Rattle.route_job.specs.Parts.{is_get};
 use mc_types::{Answer, Ask, Body, Dialect, Op, Tokens};
 use std::alloc::{AllocError, Global};
 
-/// Whether it is a get.
+/// Whether the operation is a get.
 pub fn is_get(op: Op) -> bool
     ensures { result ≡ is_get op }
 {

@@ -30,7 +30,7 @@ use std::mem::replace;
 #[derive(Drop)]
 pub struct Job {
     ask: SharedAsk,
-    // That of the key, where the tree is walked. (what is short comes before what is long, so that it lies in one line of the processor's cache)
+    // The hash of the key, where the tree is walked. (what is short comes before what is long, so that it lies in one line of the processor's cache)
     hash: u32,
     made: u64,
     frames: Vec<Frame>,
@@ -158,7 +158,7 @@ impl Job {
         }
     }
 
-    /// What it held is let go where it stands: it calls nothing more, and ends as a broken one of this ask. It takes no memory.
+    /// What the job held is let go where it stands: it calls nothing more, and ends as a broken one of this ask. It takes no memory.
     pub fn break_off(&mut self, ask: SharedAsk)
         ensures { IsBroken self.new }
     {

@@ -39,7 +39,7 @@ pool_is_leaf b ss slots h is = subst (λ l. IsLeaf b (Pool l)) (sym is) (record 
 
 -- ---- loops
 
--- one more of the same at the end
+-- a run of one number goes on by one more at the end
 pub one_more : (n n' x : ℕ) (first done done' : List ℕ) → n' ≡ n + 1 → done ≡ first ++ replicate n x → done' ≡ done ++ x ∷ [] → done' ≡ first ++ replicate n' x
 one_more n n' x first done done' step h is =
     is ∙ ap (λ l. l ++ x ∷ []) h ∙ append_assoc first (replicate n x) (x ∷ []) ∙ ap (λ l. first ++ l) (replicate_more n x ∙ ap (λ m. replicate m x) (sym step))
@@ -49,7 +49,7 @@ pub slots_go : (all left : List WeightedServer) (s : WeightedServer) (xs : List 
 slots_go all left s xs done done' h at is =
     ap (λ l. l ++ slots_of left) is ∙ append_assoc done (replicate s.weight s.server) (slots_of left) ∙ ap (λ l. done ++ slots_of l) (sym at) ∙ h
 
--- the same of their count
+-- how many slots a pool has so far, and how many those of the servers left are
 pub count_goes : (all xs left : List WeightedServer) (s : WeightedServer) (n : ℕ) → n + length (slots_of xs) ≡ length (slots_of all) → xs ≡ s ∷ left → (n + s.weight) + length (slots_of left) ≡ length (slots_of all)
 count_goes all xs left s n h at = omega (arith, h, ap (λ l. length (slots_of l)) at, slot_count_cons s left)
 

@@ -42,6 +42,6 @@ abbrev pub read_after : Addresses → Option Data → Result (Route × Addresses
 read_after servers None = Err NotJson
 read_after servers (Some d) = config_after d servers
 
--- the same with no servers before
+-- the tree and the servers that a text means, which may be no JSON, the servers numbered from 0; or its first fault
 abbrev pub read_or : Option Data → Result (Route × Addresses) Fault
 read_or d = read_after [] d

@@ -15,7 +15,7 @@ abbrev pub only_members : Holder → List (List ℕ × Data) → Result (Unit {0
 only_members holder [] = Ok tt
 only_members holder (m ∷ ms) = if list_any (bytes_eq m.0) (fields_of holder) then only_members holder ms else Err (BadField m.0)
 
--- the same of a value, where it is an object
+-- the first name of a value that is no field here is at fault, where the value is an object
 abbrev pub only : Holder → Data → Result (Unit {0}) Fault
 only holder (object ms) = only_members holder (members ms)
 only holder _ = Ok tt

@@ -19,17 +19,17 @@ abbrev mutual
   IsBelow bound (ByOperation ps) = ArePoliciesBelow bound ps
   IsBelow bound (ByPrefix ps) = ArePrefixesBelow bound ps
 
-  -- of each of them
+  -- each server of these children is one of so many
   pub AreBelow : ℕ → Routes → Type 0
   AreBelow bound End = Unit {0}
   AreBelow bound (More r rs) = IsBelow bound r × AreBelow bound rs
 
-  -- of each of them
+  -- each server of the children by operation is one of so many
   pub ArePoliciesBelow : ℕ → Policies → Type 0
   ArePoliciesBelow bound (Otherwise r) = IsBelow bound r
   ArePoliciesBelow bound (Policy op r ps) = IsBelow bound r × ArePoliciesBelow bound ps
 
-  -- of each of them
+  -- each server of the children by prefix is one of so many
   pub ArePrefixesBelow : ℕ → Prefixes → Type 0
   ArePrefixesBelow bound (Wildcard r) = IsBelow bound r
   ArePrefixesBelow bound (Prefix text r ps) = IsBelow bound r × ArePrefixesBelow bound ps
@@ -48,7 +48,7 @@ pub record Fits (bound levels weight n : ℕ) (r : Route) (m : ℕ) : Type 0 whe
   pub deep : depth r ≤ levels
   pub many : n + weight * count r ≡ m
 
--- the same of a list
+-- routes of at most so many levels, by which the count went from n to m
 pub record AllFit (bound levels weight n : ℕ) (rs : List Route) (m : ℕ) : Type 0 where
   pub good : AreGood (routes_of rs)
   pub below : AreBelow bound (routes_of rs)

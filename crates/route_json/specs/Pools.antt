@@ -27,7 +27,7 @@ pools_of (p ∷ ps) = (string_bytes p.name, p.servers.items) ∷ pools_of ps
 abbrev pub slots_of : List WeightedServer → List ℕ
 slots_of servers = flat_map (λ s. replicate s.weight s.server) servers
 
--- all of them are below
+-- all these numbers are below the bound
 abbrev pub AllBelow : ℕ → List ℕ → Type 0
 AllBelow bound [] = Unit {0}
 AllBelow bound (s ∷ ss) = (s < bound) × AllBelow bound ss
@@ -41,7 +41,7 @@ AreWeighted bound (s ∷ ss) = (s.server < bound) × (0 < s.weight) × (s.weight
 abbrev pub IsPool : ℕ → List WeightedServer → Type 0
 IsPool bound servers = (0 < length servers) × (length (slots_of servers) ≤ SLOT_LIMIT) × AreWeighted bound servers
 
--- each is such a pool
+-- each of the pools isn't empty and doesn't have more than 2,048 slots, and its servers are some of so many
 abbrev pub ArePools : ℕ → Pools → Type 0
 ArePools bound [] = Unit {0}
 ArePools bound (p ∷ ps) = IsPool bound p.1 × ArePools bound ps

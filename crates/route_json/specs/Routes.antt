@@ -149,7 +149,7 @@ module _ (pools : Pools) where
       default ← default_of (codes "default_policy") (get (codes "default_policy") d)
       give (forms.ByOperation (policies_of ps default))
 
-    -- the same by prefixes
+    -- policies in byte order of their prefixes, each prefix before its route, and then the wildcard
     abbrev pub by_prefix : Data → Reading ℕ Route
     by_prefix d = do
       ms ← pure (object_or (codes "policies") (get (codes "policies") d))

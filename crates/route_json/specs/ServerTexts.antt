@@ -20,7 +20,7 @@ is_in_brackets h = starts_with nat_eq h (codes "[") && ends_with nat_eq h (codes
 abbrev pub is_host : List ℕ → Bool
 is_host h = is_without_colons h || is_in_brackets h
 
--- such a host stands before the colon
+-- a host that a port and a weight may follow stands before the colon
 abbrev pub begins_with_host : Option (List ℕ × List ℕ) → Bool
 begins_with_host None = false
 begins_with_host (Some p) = is_host p.0
@@ -48,7 +48,7 @@ abbrev pub with_weight : List ℕ → Option ℕ → Option (List ℕ × ℕ)
 with_weight a None = None
 with_weight a (Some w) = if is_address a then Some (a, w) else None
 
--- the same for the parts of a text `H:P:W`; every other text is an address of weight 1
+-- the address and the weight of the parts of a text `H:P:W`, if they are such; every other text is an address of weight 1
 abbrev pub server_or : List ℕ → Option (List ℕ × List ℕ) → Option (List ℕ × ℕ)
 server_or text None = with_weight text (Some 1)
 server_or text (Some p) = with_weight p.0 (weight_of p.1)

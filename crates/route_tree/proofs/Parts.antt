@@ -23,7 +23,7 @@ pub if_get : (op : Op) (A B C : Type 0) → IfGet op A B → (op ≡ Get → A �
 if_get Get A B C h f g = f refl h
 if_get _ A B C h f g = g h
 
--- both hold where both are shown
+-- what an operation needs, be it a get or another, holds where both are shown
 pub get_if : (op : Op) (A B : Type 0) → A → B → IfGet op A B
 get_if Get A B h k = h
 get_if _ A B h k = k

@@ -82,7 +82,7 @@ policies_smaller_at [] i d h = absurd (omega arith)
 policies_smaller_at (x ∷ xs) zero d h = omega arith
 policies_smaller_at (x ∷ xs) (suc i) d h = omega (arith, policies_smaller_at xs i d (omega arith))
 
--- whatever the last one, the policies are no larger
+-- policies are no larger with `null` as the last one than with any other
 policies_size : (xs : List (Op × Route)) (d : Route) → policies_route_size (policies_of xs route.Null) ≤ policies_route_size (policies_of xs d)
 policies_size [] d = omega (arith, route_some d)
 policies_size (x ∷ xs) d = omega (arith, policies_size xs d)
@@ -111,7 +111,7 @@ prefixes_smaller_at [] i d h = absurd (omega arith)
 prefixes_smaller_at (x ∷ xs) zero d h = omega arith
 prefixes_smaller_at (x ∷ xs) (suc i) d h = omega (arith, prefixes_smaller_at xs i d (omega arith))
 
--- whatever the last one, the policies are no larger
+-- prefixes are no larger with `null` as the last one than with any other
 prefixes_size : (xs : List (List ℕ × Route)) (d : Route) → prefixes_route_size (prefixes_of xs route.Null) ≤ prefixes_route_size (prefixes_of xs d)
 prefixes_size [] d = omega (arith, route_some d)
 prefixes_size (x ∷ xs) d = omega (arith, prefixes_size xs d)

@@ -24,7 +24,7 @@ abbrev mutual
   is_direct (ByOperation ps) = false
   is_direct (ByPrefix ps) = are_direct ps
 
-  -- each of them does
+  -- each of these children has one server for each key
   pub are_direct : Prefixes → Bool
   are_direct (Wildcard r) = is_direct r
   are_direct (Prefix text r ps) = is_direct r && are_direct ps

@@ -9,7 +9,7 @@ use Rattle.route_tree.specs.Plan.{Plan}
 use Rattle.route_tree.specs.Route.{Route, Routes, Policies, Prefixes, Pool, Server, Null, Failing, AllSync, Failover, MissFailover, WarmUp, ByOperation, ByPrefix, End, More, Otherwise, Policy, Wildcard, Prefix, IsTree}
 
 abbrev mutual
-  -- the sizes of its pools, at any depth; a server that stands alone is no pool
+  -- the sizes of the pools of a tree, at any depth; a server that stands alone is no pool
   pub sizes : Route → List ℕ
   sizes (Pool servers) = length servers ∷ []
   sizes (Server s) = []
@@ -22,23 +22,23 @@ abbrev mutual
   sizes (ByOperation ps) = sizes_of_policies ps
   sizes (ByPrefix ps) = sizes_of_prefixes ps
 
-  -- those of the children
+  -- the sizes of the pools of all children
   pub sizes_of_all : Routes → List ℕ
   sizes_of_all End = []
   sizes_of_all (More r rs) = sizes r ++ sizes_of_all rs
 
-  -- those of the children by operation
+  -- the sizes of the pools of the children by operation
   pub sizes_of_policies : Policies → List ℕ
   sizes_of_policies (Otherwise r) = sizes r
   sizes_of_policies (Policy op r ps) = sizes r ++ sizes_of_policies ps
 
-  -- those of the children by prefix
+  -- the sizes of the pools of the children by prefix
   pub sizes_of_prefixes : Prefixes → List ℕ
   sizes_of_prefixes (Wildcard r) = sizes r
   sizes_of_prefixes (Prefix p r ps) = sizes r ++ sizes_of_prefixes ps
 
 abbrev mutual
-  -- the prefixes of its policies, at any depth
+  -- the prefixes of the policies of a tree, at any depth
   pub prefixes : Route → List (List ℕ)
   prefixes (Pool servers) = []
   prefixes (Server s) = []
@@ -51,22 +51,22 @@ abbrev mutual
   prefixes (ByOperation ps) = prefixes_of_policies ps
   prefixes (ByPrefix ps) = prefixes_of_prefixes ps
 
-  -- those of the children
+  -- the prefixes of all children
   pub prefixes_of_all : Routes → List (List ℕ)
   prefixes_of_all End = []
   prefixes_of_all (More r rs) = prefixes r ++ prefixes_of_all rs
 
-  -- those of the children by operation
+  -- the prefixes of the children by operation
   pub prefixes_of_policies : Policies → List (List ℕ)
   prefixes_of_policies (Otherwise r) = prefixes r
   prefixes_of_policies (Policy op r ps) = prefixes r ++ prefixes_of_policies ps
 
-  -- those of the policies themselves and of their children
+  -- the prefixes of the policies themselves, and of their children
   pub prefixes_of_prefixes : Prefixes → List (List ℕ)
   prefixes_of_prefixes (Wildcard r) = prefixes r
   prefixes_of_prefixes (Prefix p r ps) = (p ∷ prefixes r) ++ prefixes_of_prefixes ps
 
--- the smallest number above 0 that each of them divides
+-- the smallest number above 0 that each of these numbers divides
 pub record IsLeastCommonMultiple (ns : List ℕ) (m : ℕ) : Type 0 where
   pub some : 0 < m
   pub common : Each (λ n. n ∣ m) ns

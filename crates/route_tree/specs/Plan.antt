@@ -42,18 +42,18 @@ abbrev mutual
   IsGood (WarmUp cold warm e) = IsGood cold × IsGood warm
   IsGood (ByOperation policies) = ArePoliciesGood policies
 
-  -- each of them is good
+  -- each of these children is good
   pub AreGood : Plans → Type 0
   AreGood End = Unit {0}
   AreGood (More p ps) = IsGood p × AreGood ps
 
-  -- each of them is good
+  -- each of the children by operation is good
   pub ArePoliciesGood : PlanPolicies → Type 0
   ArePoliciesGood (Otherwise p) = IsGood p
   ArePoliciesGood (Policy op p rest) = IsGood p × ArePoliciesGood rest
 
 abbrev mutual
-  -- how deep it is nested; a leaf has depth 1
+  -- how deep a plain tree is nested; a leaf has depth 1
   pub depth : Plan → ℕ
   depth (Server s) = 1
   depth Null = 1
@@ -64,18 +64,18 @@ abbrev mutual
   depth (WarmUp cold warm e) = max (depth cold) (depth warm) + 1
   depth (ByOperation ps) = depth_of_policies ps + 1
 
-  -- the deepest of them
+  -- the depth of the deepest child
   pub depth_of_all : Plans → ℕ
   depth_of_all End = 0
   depth_of_all (More p ps) = max (depth p) (depth_of_all ps)
 
-  -- the deepest of them
+  -- the depth of the deepest child by operation
   pub depth_of_policies : PlanPolicies → ℕ
   depth_of_policies (Otherwise p) = depth p
   depth_of_policies (Policy op p ps) = max (depth p) (depth_of_policies ps)
 
 abbrev mutual
-  -- how many routes it has, each counted three times for every cold that it stands in
+  -- how many routes a plain tree has, each counted three times for every cold that it stands in
   pub count : Plan → ℕ
   count (Server s) = 1
   count Null = 1
@@ -86,12 +86,12 @@ abbrev mutual
   count (WarmUp cold warm e) = 1 + 3 * count cold + count warm
   count (ByOperation ps) = 1 + count_of_policies ps
 
-  -- the sum of their counts
+  -- the sum of the counts of all children
   pub count_of_all : Plans → ℕ
   count_of_all End = 0
   count_of_all (More p ps) = count p + count_of_all ps
 
-  -- the sum of their counts
+  -- the sum of the counts of the children by operation
   pub count_of_policies : PlanPolicies → ℕ
   count_of_policies (Otherwise p) = count p
   count_of_policies (Policy op p ps) = count p + count_of_policies ps

@@ -52,23 +52,23 @@ abbrev mutual
   IsGood (ByOperation ps) = ArePoliciesGood ps
   IsGood (ByPrefix ps) = ArePrefixesGood ps
 
-  -- each of them is good
+  -- each of these children is good
   pub AreGood : Routes → Type 0
   AreGood End = Unit {0}
   AreGood (More r rs) = IsGood r × AreGood rs
 
-  -- each of them is good
+  -- each of the children by operation is good
   pub ArePoliciesGood : Policies → Type 0
   ArePoliciesGood (Otherwise r) = IsGood r
   ArePoliciesGood (Policy op r ps) = IsGood r × ArePoliciesGood ps
 
-  -- each of them is good
+  -- each of the children by prefix is good, and each prefix is a key
   pub ArePrefixesGood : Prefixes → Type 0
   ArePrefixesGood (Wildcard r) = IsGood r
   ArePrefixesGood (Prefix text r ps) = IsKey text × IsGood r × ArePrefixesGood ps
 
 abbrev mutual
-  -- how deep it is nested; a leaf has depth 1
+  -- how deep a tree is nested; a leaf has depth 1
   pub depth : Route → ℕ
   depth (Pool servers) = 1
   depth (Server s) = 1
@@ -81,17 +81,17 @@ abbrev mutual
   depth (ByOperation ps) = depth_of_policies ps + 1
   depth (ByPrefix ps) = depth_of_prefixes ps + 1
 
-  -- the deepest of them
+  -- the depth of the deepest child
   pub depth_of_all : Routes → ℕ
   depth_of_all End = 0
   depth_of_all (More r rs) = max (depth r) (depth_of_all rs)
 
-  -- the deepest of them
+  -- the depth of the deepest child by operation
   pub depth_of_policies : Policies → ℕ
   depth_of_policies (Otherwise r) = depth r
   depth_of_policies (Policy op r ps) = max (depth r) (depth_of_policies ps)
 
-  -- the deepest of them
+  -- the depth of the deepest child by prefix
   pub depth_of_prefixes : Prefixes → ℕ
   depth_of_prefixes (Wildcard r) = depth r
   depth_of_prefixes (Prefix text r ps) = max (depth r) (depth_of_prefixes ps)
@@ -110,17 +110,17 @@ abbrev mutual
   count (ByOperation ps) = 1 + count_of_policies ps
   count (ByPrefix ps) = 1 + count_of_prefixes ps
 
-  -- the sum of their counts
+  -- the sum of the counts of all children
   pub count_of_all : Routes → ℕ
   count_of_all End = 0
   count_of_all (More r rs) = count r + count_of_all rs
 
-  -- the sum of their counts
+  -- the sum of the counts of the children by operation
   pub count_of_policies : Policies → ℕ
   count_of_policies (Otherwise r) = count r
   count_of_policies (Policy op r ps) = count r + count_of_policies ps
 
-  -- the sum of their counts
+  -- the sum of the counts of the children by prefix
   pub count_of_prefixes : Prefixes → ℕ
   count_of_prefixes (Wildcard r) = count r
   count_of_prefixes (Prefix text r ps) = count r + count_of_prefixes ps

@@ -96,17 +96,17 @@ mutual
   route_back (route.Pool ss) = λ i. route.Pool (text_from_code ss i)
   route_back (route.ByPrefix ps) = λ i. route.ByPrefix (prefixes_route_back ps i)
 
-  -- so are children
+  -- children come back from their code
   pub all_route_back : (ps : Routes) → all_route_from (all_route_to ps) ≡ ps
   all_route_back route.End = refl
   all_route_back (route.More p ps) = λ i. route.More (route_back p i) (all_route_back ps i)
 
-  -- so are children by operation
+  -- children by operation come back from their code
   policies_route_back : (ps : Policies) → policies_route_from (policies_route_to ps) ≡ ps
   policies_route_back (route.Otherwise p) = λ i. route.Otherwise (route_back p i)
   policies_route_back (route.Policy op p ps) = λ i. route.Policy (op_back op i) (route_back p i) (policies_route_back ps i)
 
-  -- so are children by prefix
+  -- children by prefix come back from their code
   prefixes_route_back : (ps : Prefixes) → prefixes_route_from (prefixes_route_to ps) ≡ ps
   prefixes_route_back (route.Wildcard p) = λ i. route.Wildcard (route_back p i)
   prefixes_route_back (route.Prefix t p ps) = λ i. route.Prefix (text_from_code t i) (route_back p i) (prefixes_route_back ps i)
@@ -115,7 +115,7 @@ mutual
 abbrev pub route_code : Coded Route
 route_code = code_by Gv itself route_to route_from route_back
 
--- so are children
+-- two lists of children with the same numbers are the same
 abbrev pub routes_code : Coded Routes
 routes_code = code_by Gv itself all_route_to all_route_from all_route_back
 

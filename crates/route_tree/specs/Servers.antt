@@ -26,12 +26,12 @@ abbrev mutual
   servers (plan.WarmUp cold warm e) = servers cold ++ servers warm
   servers (plan.ByOperation ps) = servers_of_policies ps
 
-  -- those of the children
+  -- the servers of all children, in their order
   pub servers_of_all : Plans → List ℕ
   servers_of_all plan.End = []
   servers_of_all (plan.More p ps) = servers p ++ servers_of_all ps
 
-  -- those of the children by operation
+  -- the servers of the children by operation, in their order
   pub servers_of_policies : PlanPolicies → List ℕ
   servers_of_policies (plan.Otherwise p) = servers p
   servers_of_policies (plan.Policy op p ps) = servers p ++ servers_of_policies ps
@@ -50,17 +50,17 @@ abbrev mutual
   tree_servers (route.ByOperation ps) = tree_servers_of_policies ps
   tree_servers (route.ByPrefix ps) = tree_servers_of_prefixes ps
 
-  -- those of the children
+  -- the servers of all children, in their order
   pub tree_servers_of_all : Routes → List ℕ
   tree_servers_of_all route.End = []
   tree_servers_of_all (route.More r rs) = tree_servers r ++ tree_servers_of_all rs
 
-  -- those of the children by operation
+  -- the servers of the children by operation, in their order
   pub tree_servers_of_policies : Policies → List ℕ
   tree_servers_of_policies (route.Otherwise r) = tree_servers r
   tree_servers_of_policies (route.Policy op r ps) = tree_servers r ++ tree_servers_of_policies ps
 
-  -- those of the children by prefix
+  -- the servers of the children by prefix, in their order
   pub tree_servers_of_prefixes : Prefixes → List ℕ
   tree_servers_of_prefixes (route.Wildcard r) = tree_servers r
   tree_servers_of_prefixes (route.Prefix text r ps) = tree_servers r ++ tree_servers_of_prefixes ps

@@ -31,7 +31,7 @@ AreAsked dialect origin b before (call ∷ calls) =
     IsFormed call.ask × (dialect ≡ Classic → call.ask.dialect ≡ Classic) × IsSourced origin b before call
     × AreAsked dialect origin b (before ++ call ∷ []) calls
 
--- so it is with the calls of a command
+-- each call of a command asks what a server takes, and carries the command's data or those of an item that an earlier call was answered
 abbrev pub CallsAreAsked : Type 0
 CallsAreAsked =
     (plain : Plan) (ask : Ask) (calls : List Call) (given : Given)

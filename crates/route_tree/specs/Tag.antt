@@ -13,7 +13,7 @@ is_close b = b == 125
 abbrev pub tag_of : List ℕ → List ℕ
 tag_of key = before_first is_close (after_first is_open key)
 
--- there are such a pair and something between
+-- the key has a `{` and a `}` after it, with something between them
 abbrev pub has_tag : List ℕ → Bool
 has_tag key =
     let after = after_first is_open key in

@@ -61,7 +61,7 @@ code_of_nothing Incr = Nf
 code_of_nothing Decr = Nf
 code_of_nothing Touch = Nf
 
--- its word in the classic dialect
+-- what a server that holds nothing says in the classic dialect
 abbrev pub word_of_nothing : Op → Answer
 word_of_nothing Get = Miss
 word_of_nothing Gat = Miss
@@ -76,7 +76,7 @@ word_of_nothing Incr = NotFound
 word_of_nothing Decr = NotFound
 word_of_nothing Touch = NotFound
 
--- its answer
+-- what a server that holds nothing answers
 abbrev pub answer_of_nothing : Dialect → Op → Answer
 answer_of_nothing dialects.Classic op = word_of_nothing op
 answer_of_nothing dialects.Meta op = Meta (code_of_nothing op) no_fields

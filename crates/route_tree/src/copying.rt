@@ -47,7 +47,7 @@ fn copies(tree: &Tree, text: &[u8]) -> bool
     }
 }
 
-// The same of one of the children.
+// Whether a get may copy by what is left of any of the children for a text; the hash doesn't matter.
 #[cycle(copies)]
 fn any_copies(children: &[Tree], text: &[u8]) -> bool
     ensures { (hash : ℕ) → result ≡ may_copy_in Get (plain_for_all hash text.now (routes_of children.now)) }
@@ -58,7 +58,7 @@ fn any_copies(children: &[Tree], text: &[u8]) -> bool
     }
 }
 
-// The same of the child of gets.
+// Whether a get may copy by what is left of the child of gets for a text; the hash doesn't matter.
 #[cycle(copies)]
 fn policy_copies(policies: &[(Op, Tree)], default: &Tree, text: &[u8]) -> bool
     ensures { (hash : ℕ) → result ≡ may_copy_by Get (plain_for_policies hash text.now (policies_of policies.now default.now)) }

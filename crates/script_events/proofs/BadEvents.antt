@@ -94,7 +94,7 @@ len_within servers events (scripted.At turn loss) good few = omega (arith, few)
 len_within servers events (scripted.Now loss) good few = omega (arith, few)
 len_within servers events (scripted.Moment moment) good few = omega (arith, few)
 
--- they are right with one event more
+-- the counts before an event are right with one event more
 one_before : (servers : ℕ) (events : List Scripted) (old new : Before) (event : Scripted) → IsBefore events old → bad_in servers events event ≡ false → IsOneMore old event new → IsBefore (events ++ event ∷ []) new
 one_before servers events old new event is good more =
     let sums : sum_by len_of (events ++ event ∷ []) ≡ sum_by len_of events + sum_by len_of (event ∷ []) = sum_by-append len_of events (event ∷ []) in
@@ -109,7 +109,7 @@ one_before servers events old new event is good more =
       begun_is = more.begun_is ∙ ap (λ b. b || begins_run event) is.begun_is ∙ sym (one_begun events event);
     }
 
--- the same of the events of a script
+-- the counts before an event of a script are right with that event
 pub before_more : (servers : ℕ) (xs : List Event) (i : ℕ) (x : Event) (old new : Before) → i < length xs → x ≡ get_or xs i x → IsBefore (map scripted_of (take i xs)) old → bad_in servers (map scripted_of (take i xs)) (scripted_of x) ≡ false → IsOneMore old (scripted_of x) new → IsBefore (map scripted_of (take (i + 1) xs)) new
 before_more servers xs i x old new lt at is good more = subst (λ (l : List Scripted). IsBefore l new) (sym (map_more xs i x lt at)) (one_before servers (map scripted_of (take i xs)) old new (scripted_of x) is good more)
 
@@ -182,11 +182,11 @@ one_more servers xs i x lt is =
 pub here_bad : (servers : ℕ) (xs : List Event) (i : ℕ) (x : Event) → i < length xs → x ≡ get_or xs i x → bad_in servers (map scripted_of (take i xs)) (scripted_of x) ≡ true → bad_from servers xs i ≡ Some i
 here_bad servers xs i x lt is bad = rw (one_more servers xs i x lt is) (rw bad (ap Some (take_len xs i (omega (arith, lt)))))
 
--- where it isn't, the search goes on after it
+-- where the i-th event isn't bad, the search goes on after it
 pub not_here : (servers : ℕ) (xs : List Event) (i : ℕ) (x : Event) → i < length xs → x ≡ get_or xs i x → bad_in servers (map scripted_of (take i xs)) (scripted_of x) ≡ false → bad_from servers xs i ≡ bad_from servers xs (i + 1)
 not_here servers xs i x lt is good = rw (one_more servers xs i x lt is) (rw good (ap (λ l. first_from servers l (map scripted_of (drop (i + 1) xs))) (sym (map_more xs i x lt is))))
 
--- after the last there is none
+-- after the last event no bad one is found
 pub none_left : (servers : ℕ) (xs : List Event) (i : ℕ) → i ≡ length xs → bad_from servers xs i ≡ None
 none_left servers xs i end = ap (bad_from servers xs) end ∙ ap (λ l. first_from servers (map scripted_of (take (length xs) xs)) (map scripted_of l)) (drop-length xs)
 

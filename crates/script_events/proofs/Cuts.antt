@@ -48,13 +48,13 @@ module _ (ask : Ask) (answer : Answer) (is : IsAsk ask) (texts : AreTexts ask.to
   whole : Spells ask (spelling_of ask answer) answer (length (spelling_of ask answer))
   whole = subst (λ bytes. Spells ask bytes answer (length (spelling_of ask answer))) (append-nil (spelling_of ask answer)) (answers_are_read_back ask answer [] is texts fits)
 
-  -- all of it is read as the answer
+  -- all of a spelled answer is read as that answer
   read_all : (read : AnswerRead) → Reads ask (spelling_of ask answer) read → answer_of read ≡ Some answer
   read_all (reads.Answer a used) r = ap Some (one_answer ask (spelling_of ask answer) a answer used (length (spelling_of ask answer)) r whole).0
   read_all reads.More r = absurd (r.1 answer (length (spelling_of ask answer)) whole)
   read_all reads.Foreign r = absurd (r.1 [] answer (length (spelling_of ask answer)) (answers_are_read_back ask answer [] is texts fits))
 
-  -- less of it is no answer
+  -- less than all of a spelled answer is no answer
   read_part : (count : ℕ) (read : AnswerRead) → count < length (spelling_of ask answer) → Reads ask (take count (spelling_of ask answer)) read → LiesWithin (take count (spelling_of ask answer)) read → answer_of read ≡ None
   read_part count (reads.Answer a used) lt r within =
       let text = spelling_of ask answer in

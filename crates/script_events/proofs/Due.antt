@@ -59,6 +59,6 @@ due_at end servers loaded next reloads r due is h =
     let from = (order_at end servers loaded next reloads r due.0 is h).0 in
     omega (arith, at, from)
 
--- those that came, and one more
+-- the reloads that came, and one more
 pub one_more_taken : (rs : List Reload) (i : ℕ) (r : Reload) → i < length rs → r ≡ get_or rs i r → take (i + 1) rs ≡ take i rs ++ r ∷ []
 one_more_taken rs i r lt is = take_more rs i r lt ∙ ap (λ (x : Reload). take i rs ++ x ∷ []) (sym is)

@@ -17,7 +17,7 @@ pub same_event : (loss : Loss) (h : ℕ → List ℕ → Option Item) (s : ℕ) 
 same_event (LostItem server key) h s k = refl
 same_event (Restart server) h s k = refl
 
--- it goes by what was held there
+-- what a loss leaves at a place goes by what was held there
 pub same_held : (loss : Loss) (g h : ℕ → List ℕ → Option Item) (s : ℕ) (k : List ℕ) → g s k ≡ h s k → after_event (lost_by (told_of loss)) g s k ≡ after_event (lost_by (told_of loss)) h s k
 same_held (LostItem server key) g h s k is = ap (λ o. cond (nat_eq server s) (cond (bytes_eq key k) None o) o) is
 same_held (Restart server) g h s k is = ap (λ o. cond (nat_eq server s) None o) is

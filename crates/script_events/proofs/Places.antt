@@ -34,7 +34,7 @@ same s = eq-eqb s s refl
 pub held_here : (caches : List Contents) (s : ℕ) (x : Contents) → s < length caches → (k : List ℕ) → held_at (slice_set caches s x) s k ≡ holds x k
 held_here caches s x lt k = held_set caches s x lt s k ∙ ap (λ b. cond b (holds x k) (held_at caches s k)) (same s)
 
--- the others
+-- what the other servers hold stays
 pub held_else : (caches : List Contents) (s : ℕ) (x : Contents) → s < length caches → (t : ℕ) (k : List ℕ) → nat_eq s t ≡ false → held_at (slice_set caches s x) t k ≡ held_at caches t k
 held_else caches s x lt t k other = held_set caches s x lt t k ∙ ap (λ b. cond b (holds x k) (held_at caches t k)) other
 

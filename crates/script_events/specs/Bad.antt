@@ -44,7 +44,7 @@ added_by client sum (At turn loss) = sum
 added_by client sum (Now loss) = sum
 added_by client sum (Moment moment) = sum
 
--- the same after events, in order
+-- how many bytes a client added since the last piece, after events in order
 abbrev pub added_after : ℕ → ℕ → List Scripted → ℕ
 added_after client sum [] = sum
 added_after client sum (event ∷ events) = added_after client (added_by client sum event) events
@@ -111,7 +111,7 @@ HasRoom b (At turn loss) = Unit {0}
 HasRoom b (Now loss) = Unit {0}
 HasRoom b (Moment moment) = Unit {0}
 
--- they are those with one more event
+-- the counts are those with one more event
 pub record IsOneMore (old : Before) (event : Scripted) (new : Before) : Type 0 where
   pub bytes_are : new.bytes ≡ old.bytes + len_of event
   pub begun_is : new.begun ≡ (old.begun || begins_run event)

@@ -58,6 +58,6 @@ abbrev pub losses_of : Option (Vec Loss Global) → List Loss
 losses_of None = []
 losses_of (Some named) = named.items
 
--- those that are named for the call of this number, in order
+-- the losses that are named for the call of this number, in order
 abbrev pub listed : BTreeMap ℕ (Vec Loss Global) → ℕ → List Loss
 listed named t = losses_of (get nat_cmp named t)

@@ -62,7 +62,7 @@ results_here a b s t fault m h = record { mid = b; at = t; results = m.0; fit = 
 pub results_stop : (a b : Runner) (s t : ScriptServers) (fault : FleetFault) → MovesByResults a s b t → StopsAt b fault → StopsAfter (λ results. Unit {0}) a s fault t
 results_stop a b s t fault m h = results_here a h.mid s t fault (by_then a b h.mid s t t m (by_none b h.mid t (h.moves t))) h.spent
 
--- the same at one server
+-- nothing more could be done, after none of the results that are asked of one server
 pub none_at : (server : ℕ) (a : Runner) (s u : ScriptServers) (fault : FleetFault) → StopsGiving fault s u → StopsAfter (AreAskedYet server a s) a s fault u
 none_at server a s u fault h = record { mid = a; at = s; results = []; fit = inl refl; moves = none_by a a s (stays a s); within = h.within; spent = given_spent fault a.core s h.all }
 

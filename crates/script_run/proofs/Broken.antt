@@ -373,7 +373,7 @@ module _ (first : Route) (refused : List Bool) (reloads : List Reload) (events :
         spent = spent_in fault m.mid.core m.at (g.more ++ log) says.begun says.calls m.spent;
       }
 
-  -- it had all of them, and not all could be handed out
+  -- the script had all reloads, and not all output could be handed out
   pub stops_last :
       (given after : List Shown) (marks : List ℕ) (a b : Runner) (s t : ScriptServers) (fault : FleetFault) → MovesByResults a s b t → HandsSome given after b → fault ≡ faults.NoMemory
       → HasStood first refused reloads events (length reloads) [] given marks a.clients (kept_of a s) → StopsPart first refused reloads events after marks t fault
@@ -401,7 +401,7 @@ loads_some refused reloads next shown x n k l marks a b within same m first even
     let stood = m first events left given clients s here all h in
     record { loaded = n; within = within; own = l; runner = b; stood = stood; marked = subst (AreMarked events stood.come.log given reloads) (sym same) stood.marked }
 
--- or after it
+-- memory was refused after a mark
 pub loads_marked :
     (refused : List Bool) (reloads : List Reload) (next shown x n : ℕ) (k l marks : List ℕ) (a b : Runner) (r : Reload) → r.at ≡ next → slice_get reloads n ≡ Some r → marks ≡ l ++ shown ∷ [] → n ≤ length reloads → Loads refused reloads next shown x n k l a b
     → LoadsInPart refused reloads next shown x k marks a

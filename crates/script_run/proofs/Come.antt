@@ -128,7 +128,7 @@ module _ (first : Route) (refused : List Bool) (reloads : List Reload) (events :
         world = world_stays events h.done h.log g.more s h.world (none_more (opening_of events) (tree_by first h.loads) h.log (kept_of a s) (kept_of b s) h.stands refl g.more g.stands);
       }
 
-  -- or some of it
+  -- some of the output is handed out
   abbrev pub come_some :
       (loaded : ℕ) (left : List Scripted) (before after : List Shown) (a : Runner) (s : ScriptServers) → HandsSome before after a
       → HasCome first refused reloads events loaded left before (kept_of a s) → (k : Kept) × HasCome first refused reloads events loaded left after k
@@ -176,7 +176,7 @@ pub marks_on : (shown a b : ℕ) (old new : List ℕ) → shown ≡ a → a ≤ 
 marks_on shown a b old new is le h on =
     All-weaker (λ (m : ℕ). m ≤ shown) (λ (m : ℕ). m ≤ b) (λ m at. omega (arith, at, is, le)) new (on (All-weaker (λ (m : ℕ). m ≤ a) (λ (m : ℕ). m ≤ shown) (λ m at. omega (arith, at, is)) old h))
 
--- one more
+-- marks stay marks with one more
 pub mark_more : (shown : ℕ) (old new : List ℕ) → new ≡ old ++ shown ∷ [] → AreMarks shown old → AreMarks shown new
 mark_more shown old new is h = All-same (λ (m : ℕ). m ≤ shown) new (old ++ shown ∷ []) is (All-push (λ (m : ℕ). m ≤ shown) old shown h (omega arith))
 

@@ -60,6 +60,6 @@ none_more opening tree log old new stands same more after =
     let none : length h.calls ≡ 0 = omega (arith, e, counted) in
     h.are ∙ ap (λ (cs : List NumberedCall). cs ++ calls_of (run_of log)) (none_of h.calls none)
 
--- so it goes on by no result
+-- a log that goes on without a further call goes on by no result
 pub goes_on_by_none : (opening : ℕ → List ℕ → Option Item) (tree : ℕ → Route) (log : List (Entry dialect)) (old new : Kept) → Stands opening tree log old → new.turn ≡ old.turn → GoesOn opening tree log new → GoesOnBy opening tree log [] new
 goes_on_by_none opening tree log old new stands same g = record { goes = g; calls = none_more opening tree log old new stands same g.more g.stands }

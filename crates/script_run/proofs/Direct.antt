@@ -50,7 +50,7 @@ pub fresh_where_direct :
     → Says opening (tree_by tree []) log k → IsFreshByNumber opening (run_of log) × (k.stale ≡ 0)
 fresh_where_direct law opening tree log k direct says = says.fresh (covered_where_direct law tree direct)
 
--- so it is where no tree was loaded later
+-- a log is fresh, and no reply is stale, where the first tree is direct and no tree was loaded later
 pub fresh_unloaded :
     DirectIsOneServer → (opening : ℕ → List ℕ → Option Item) (tree : Route) (loads : List (ℕ × Route)) (log : List (Entry dialect)) (k : Kept) → is_direct tree ≡ true → loads ≡ []
     → Says opening (tree_by tree loads) log k → IsFreshByNumber opening (run_of log) × (k.stale ≡ 0)
@@ -69,7 +69,7 @@ module _ (refused : List Bool) (events : List Scripted) where
   none_loaded (suc n) loads log within turn = absurd (omega (arith, within))
 
   module _ (law : DirectIsOneServer) (tree : Route) (direct : is_direct tree ≡ true) where
-    -- a run of such a script is fresh, and has no stale reply
+    -- a run of a script without reloads is fresh, and has no stale reply, where its tree is direct
     pub run_fresh : (loads : List (ℕ × Route)) (log : List (Entry dialect)) → loads ≡ [] → LosesOnly (run_of log) → RunsBy tree loads events log → IsFreshByNumber (opening_of events) (run_of log) × (stale_in (opening_of events) (run_of log) ≡ 0)
     run_fresh loads log none lost run =
         let plans : ℕ → List ℕ → Plan = λ n key. tree_at tree key in
@@ -78,7 +78,7 @@ module _ (refused : List Bool) (events : List Scripted) where
         fresh_by_number (tree_words plans) (bars_by Alone plans) (covered_where_direct law tree direct) (alone plans) (opening_of events) (run_of log) lost alone_run in
         (fresh, (counts_stale (tree_words plans) (bars_by Alone plans) (opening_of events) (alone plans)).none (run_of log) alone_run fresh)
 
--- so it is where no other tree comes
+-- the run of a script is fresh, and has no stale reply, where the first tree is direct and no other tree comes
 pub fresh_if_direct :
     (first : Route) (refused : List Bool) (reloads : List Reload) (events : List Scripted) (loaded : ℕ) (loads : List (ℕ × Route)) (log : List (Entry dialect)) → loaded ≤ length reloads → CameInTurn refused reloads events log loaded loads → LosesOnly (run_of log) → RunsBy first loads events log
     → IsFreshIfDirect first reloads events log

@@ -134,7 +134,7 @@ at_then server a b d s t m n = (
   },
 )
 
--- so each log goes on
+-- each log goes on where it goes on by results
 pub moved : (a b : Runner) (s t : ScriptServers) → MovesByResults a s b t → Moves a s b t
 moved a b s t m opening tree log stands = (m.1.goes opening tree log stands).goes
 
@@ -339,6 +339,6 @@ turns_given server a b s t least m = record { results = m.0; moves = m.2; in_tur
           tt,
         )
 
--- so each log goes on by results
+-- each log goes on by results where they come in their turn
 pub by_turns : (a b : Runner) (s t : ScriptServers) → MovesInTurn a s b t → MovesByResults a s b t
 by_turns a b s t m = (m.results, m.moves)

@@ -28,13 +28,13 @@ module _ (server : ℕ) where
       ap (λ (b : Bool). cond b (out_call x ∷ calls_at server xs) (calls_at server xs)) elsewhere ∙ first_out xs i t (omega (arith, lt)) here (λ k less. before (suc k) (omega (arith, less)))
       ∙ ap (λ (ts : List LogTicket). out_call (get_or xs i t) ∷ ts) (sym (ap (λ (b : Bool). cond b (out_call x ∷ calls_at server (remove xs i)) (calls_at server (remove xs i))) elsewhere))
 
-  -- at other servers the same are out without it
+  -- without a call of this server the calls that are out at other servers stay
   others_out : (s : ℕ) → nat_eq server s ≡ false → (xs : List Ticket) (i : ℕ) (t : Ticket) → i < length xs → is_there (get_or xs i t) ≡ true → calls_at s (remove xs i) ≡ calls_at s xs
   others_out s other [] i t lt here = absurd (omega (arith, lt))
   others_out s other (x ∷ xs) zero t lt here = sym (ap (λ (b : Bool). cond b (out_call x ∷ calls_at s xs) (calls_at s xs)) (ap (λ (n : ℕ). nat_eq n s) (eqb-true x.server server here) ∙ other))
   others_out s other (x ∷ xs) (suc i) t lt here = ap (λ (ts : List LogTicket). cond (nat_eq x.server s) (out_call x ∷ ts) ts) (others_out s other xs i t (omega (arith, lt)) here)
 
-  -- none is out there
+  -- no call is out at this server where no ticket is of it
   none_there : (xs : List Ticket) → ((k : ℕ) (t : Ticket) → k < length xs → is_there (get_or xs k t) ≡ false) → calls_at server xs ≡ []
   none_there [] none = refl
   none_there (x ∷ xs) none = ap (λ (b : Bool). cond b (out_call x ∷ calls_at server xs) (calls_at server xs)) (none 0 x (omega arith)) ∙ none_there xs (λ k t lt. none (suc k) t (omega (arith, lt)))
@@ -62,7 +62,7 @@ module _ (server : ℕ) where
         others = λ s other. ap (calls_at s) left ∙ others_out s other a.out.items i t p.0 p.1;
       }
 
--- so in a log the call has its result
+-- what is out after the first call of a server had its result, as a log has it
 pub left_out : (server : ℕ) (t : Ticket) (a b : Runner) → TakesFirst server t a b → (s : ℕ) → calls_at s b.out.items ≡ cond (nat_eq server s) (without t.number (calls_at s a.out.items)) (calls_at s a.out.items)
 left_out server t a b takes s = by (nat_eq server s) refl
   where

@@ -36,7 +36,7 @@ ends_with_last slot reply last = or_right (is_failure reply) (is_last_slot slot)
 
 -- ---- a client that said nothing
 
--- so it stands with a client for which nothing was begun
+-- how a client stands for which nothing was begun
 record IsSilent (front : Front dialect) (queue : List (Slot dialect)) (output given : List ℕ) : Type 0 where
   pub place : front.place ≡ dialect.start
   pub queue_is : queue ≡ []
@@ -124,6 +124,6 @@ module _ (words : Words) (Bars : ℕ → Ask → ℕ → Ask → Type 0) (openin
       let each = each_done events log f said settled in
       record { stuck = λ c. (each c).stuck; shown = λ c. (each c).shown; given = λ c. (each c).given; free = settled.free }
 
-  -- so each client's stream is its messages, and it was given what these show
+  -- each client's stream is its messages, and the client was given what these show
   pub each_written : (events : List Scripted) (log : List (Entry dialect)) → Follows words Bars opening log → ((c : ℕ) → stream_of log c ≡ said_in events c) → IsSettled events log → (c : ℕ) → WritesAll dialect words Bars opening log c
   each_written events log f said settled c = all_written dialect reader_is ends_with_last words Bars opening log f (all_settled events log f said settled) c

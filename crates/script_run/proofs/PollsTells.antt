@@ -110,7 +110,7 @@ pub record Tells (opening : ℕ → List ℕ → Option Item) (base : List (Entr
   pub given : (c : ℕ) → given_of log c ≡ given_of base c
 
 module _ (opening : ℕ → List ℕ → Option Item) (base : List (Entry dialect)) (found : ℕ → List (Option Item)) where
-  -- the same is told where all but the core is as it was
+  -- what is told of a log is told still where all but the core is as it was
   pub besides : (log : List (Entry dialect)) (old new : Kept) → IsBesides old new → Tells opening base found log old → Tells opening base found log new
   besides log old new b t =
       record {

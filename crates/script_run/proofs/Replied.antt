@@ -43,7 +43,7 @@ none_owned owner (suc n) none =
     let last = ap one_of (none (suc n)) in
     omega (arith, few, last)
 
--- the next number gets one
+-- the next number gets an owner, so there is one more
 one_more : (owner : ℕ → Option Owner) (x : Owner) (n : ℕ) → owned_in (put_at (suc n) (Some x) owner) (suc n) ≡ owned_in owner n + 1
 one_more owner x n =
     let few = same_owned (put_at (suc n) (Some x) owner) owner n (λ m le. put_elsewhere (suc n) m (Some x) owner (λ same. absurd (omega (arith, le, same)))) in

@@ -88,15 +88,15 @@ module _ (opening : ℕ → List ℕ → Option Item) (tree : ℕ → Route) (lo
   abbrev fleet : Fleet
   fleet = record { holds = stands.beside.holds; found = stands.beside.found }
 
-  -- what its calls so far found is known
+  -- what the command's calls so far found is known
   known_so_far : AreFound (calls_so_far (run_of log) number) (stands.beside.found number) (old.stamps number)
   known_so_far = stands.known number (owner_by a) (sym (stands.leads.owner number) ∙ ap (option_map owner_by) settles.was)
 
-  -- so the stamp that the servers were given is that of its origin
+  -- the stamp that the servers were given is that of the call's origin
   given : StampIn (stands.beside.found number) number origin (stamp_given (old.stamps number) number origin)
   given = stamp_in_turn old.core stands.beside opening log stands.fits stands.leads number a settles.was settles.out (old.stamps number) known_so_far
 
-  -- its client is served
+  -- the command's client is served
   served_is : dropped_by (client_at old.core a.client) ≡ false
   served_is = stands.leads.dropped a.client ∙ stands.served a.client
 
@@ -197,7 +197,7 @@ module _ (opening : ℕ → List ℕ → Option Item) (tree : ℕ → Route) (lo
               last = λ key. counts.last key ∙ stands.last key ∙ sym (alike.gone key);
             }
 
-    -- its result is that of the call, and losses are of none
+    -- the log's new entries: the result is that of the call, and losses are of none
     abbrev entries : List (Entry dialect)
     entries = Happens event ∷ (happened step.call.lost ++ happened spills)
 

@@ -58,7 +58,7 @@ module _ (core : Core) (beside : Beside) (opening : ℕ → List ℕ → Option 
       let r = goes_on core.limits.sharing (beside.at number a.ask.key) a (fits.to_come number a was) (calling_of a out) Failed tt in
       (r.0, r.1.reply, r.1.from, leads.to_come number (owner_by a) (ap (option_map owner_by) was) (call_of a.job Failed ∷ r.0) r.1.reply r.1.from (subst (λ o. MayComeOf o (call_of a.job Failed ∷ r.0) r.1.reply r.1.from) (sym was) r.2))
 
-  -- so what is known of stamps gives it the stamp of its origin
+  -- what is known of stamps gives the call that is out the stamp of its origin
   pub stamp_in_turn : (stamps : List (Option ℕ)) → AreFound (calls_so_far (run_of log) number) (beside.found number) stamps → StampIn (beside.found number) number (origin_under a.job.frames.items Client) (stamp_given stamps number (origin_under a.job.frames.items Client))
   stamp_in_turn stamps known =
       let w = in_word in
@@ -77,7 +77,7 @@ found_more (c ∷ calls) [] stamps call item stamp h one = absurd h
 found_more (c ∷ calls) (f ∷ found) [] call item stamp h one = absurd h
 found_more (c ∷ calls) (f ∷ found) (s ∷ stamps) call item stamp h one = (h.0, found_more calls found stamps call item stamp h.1 one)
 
--- where it is one of the command
+-- what calls found is known with one call more, where that is one of the command
 pub found_if : (mine : Bool) (calls : List Call) (found : List (Option Item)) (stamps : List (Option ℕ)) (call : Call) (item : Option Item) (stamp : Option ℕ) → AreFound calls found stamps → IsFound call item stamp → AreFound (cond mine (calls ++ call ∷ []) calls) (cond mine (found ++ item ∷ []) found) (cond mine (stamps ++ stamp ∷ []) stamps)
 found_if true calls found stamps call item stamp h one = found_more calls found stamps call item stamp h one
 found_if false calls found stamps call item stamp h one = h

@@ -127,7 +127,7 @@ calls_same log (Calls number server ask origin end ∷ es) are n = absurd are
 calls_same log (Replies number key reply from ∷ es) are n = absurd are
 calls_same log (Breaks number ∷ es) are n = absurd are
 
--- and a run has no further call by them
+-- a run has no further call by losses
 pub losses_of_none : (log : List (Entry dialect)) (lost : List Event) → AreLosses lost → calls_of (run_of (happened lost ++ log)) ≡ calls_of (run_of log)
 losses_of_none log [] are = refl
 losses_of_none log (Turns server key turned ∷ es) are = losses_of_none log es are.1
@@ -137,7 +137,7 @@ losses_of_none log (Calls number server ask origin end ∷ es) are = absurd are
 losses_of_none log (Replies number key reply from ∷ es) are = absurd are
 losses_of_none log (Breaks number ∷ es) are = absurd are
 
--- the same calls are out after losses
+-- after losses the calls are out that were out before
 pub out_same : (log : List (Entry dialect)) (lost : List Event) → AreLosses lost → (s : ℕ) → out_of (happened lost ++ log) s ≡ out_of log s
 out_same log [] are s = refl
 out_same log (Turns server key turned ∷ es) are s = out_same log es are.1 s

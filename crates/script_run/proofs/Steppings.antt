@@ -51,7 +51,7 @@ same_tail : (t u : Route) (ts us : List Route) → t ∷ ts ≡ u ∷ us → ts 
 same_tail t u ts us e = cc
 
 module _ (first : Route) (refused : List Bool) (rs : List Reload) where
-  -- one more that loads no tree
+  -- one reload more that loads no tree
   come_more : (loads : List (ℕ × Route)) (many : ℕ) → HaveCome first refused rs loads many → HaveCome first refused rs loads (suc many)
   come_more loads many p = record { at = p.at; within = λ n. let le = p.within n in omega (arith, le); tree = p.tree; rising = p.rising }
 
@@ -59,7 +59,7 @@ module _ (first : Route) (refused : List Bool) (rs : List Reload) where
   at_most true many k le = omega arith
   at_most false many k le = omega (arith, le)
 
-  -- one more that loads one
+  -- one reload more that loads a tree
   come_loaded : (load : ℕ × Route) (loads : List (ℕ × Route)) (many : ℕ) → load.1 ≡ tree_after first refused rs (suc many) → HaveCome first refused rs loads many → HaveCome first refused rs (load ∷ loads) (suc many)
   come_loaded load loads many is p = record {
     at = λ n. cond (nat_lt load.0 n) (suc many) (p.at n);

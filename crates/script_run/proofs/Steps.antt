@@ -43,13 +43,13 @@ pub after_it : (b : Bool) (xs bytes : List ℕ) → cond b (xs ++ bytes) xs ≡ 
 after_it true xs bytes = refl
 after_it false xs bytes = sym (append-nil xs)
 
--- it said nothing
+-- a client said nothing
 fed_nothing : (client : ℕ) (a b : Runner) (s t : ScriptServers) → Moves a s b t → MovesFed client [] a s b t
 fed_nothing client a b s t m opening tree log stands =
     let g = m opening tree log stands in
     record { more = g.more; stands = g.stands; streams = λ c. g.streams c ∙ same_twice (nat_eq client c) (stream_of log c); given = g.given }
 
--- and no call had its result
+-- a client said these bytes, and no call had its result
 pub fed_by_none : (client : ℕ) (bytes : List ℕ) (a b : Runner) (s : ScriptServers) → MovesFed client bytes a s b s → FedBy client bytes a s b s
 fed_by_none client bytes a b s m =
     record {
@@ -67,7 +67,7 @@ calls_joined later first more front log h g =
     ap (λ es. calls_of (run_of es)) (append_assoc more front log) ∙ h ∙ ap (λ (cs : List NumberedCall). map call_of later ++ cs) g
     ∙ sym (append_assoc (map call_of later) (map call_of first) (calls_of (run_of log))) ∙ ap (λ (cs : List NumberedCall). cs ++ calls_of (run_of log)) (sym (map-append call_of later first))
 
--- it said these bytes, and then those
+-- a client said these bytes, and then those
 pub fed_more : (client : ℕ) (first second : List ℕ) (a b d : Runner) (s t u : ScriptServers) → FedBy client first a s b t → FedBy client second b t d u → FedBy client (first ++ second) a s d u
 fed_more client first second a b d s t u m n =
     record {
@@ -352,7 +352,7 @@ firsts (y ∷ ys) x (suc n) = elim (firsts ys x n) [
   | inr some ↦ inr (omega (arith, some.0), ap (λ l. y ∷ l) some.1)
 ]
 
--- one more is handed out, and all of them are what clients were given
+-- one output more is handed out, and all of them are what clients were given
 handed_one : (before : List Shown) (x : Shown) (log : List (Entry dialect)) → AreHandedInTurn before log → ((c : ℕ) → given_of log c ≡ shown_to (before ++ x ∷ []) c) → AreHandedInTurn (before ++ x ∷ []) log
 handed_one before x log o given n le = elim (firsts before x n) [
   | inl all ↦ record { newer = []; older = log; log_is = refl; given = λ c. given c ∙ ap (λ l. shown_to l c) (sym all) }
@@ -421,7 +421,7 @@ given_nothing client bytes shown a b none m s opening tree log stands =
       longer = ([], sym (append-nil shown));
     }
 
--- and where it isn't, it is handed out
+-- output that isn't empty is handed out
 pub given_more :
     (client : ℕ) (bytes : List ℕ) (before after : List Shown) (a b : Runner) → after ≡ before ++ record { client = client; bytes = bytes } ∷ [] → ((s : ScriptServers) → MovesGiven client bytes a s b s) → HandsOut (λ c. client ≡ c) before after a b
 given_more client bytes before after a b more m s opening tree log stands =
@@ -443,7 +443,7 @@ given_more client bytes before after a b more m s opening tree log stands =
       longer = (one ∷ [], more);
     }
 
--- so far
+-- where all output is handed out, some of it is
 pub hands_some : (AreGiven : ℕ → Type 0) (before after : List Shown) (a b : Runner) → HandsOut AreGiven before after a b → HandsSome before after a
 hands_some AreGiven before after a b m s opening tree log stands =
     let g = m s opening tree log stands in

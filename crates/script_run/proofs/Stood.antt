@@ -133,7 +133,7 @@ some_of_none r e = cc
 same_some : (r q : Reload) → ◌≡◌ {A = Option Reload} (Some r) (Some q) → r ≡ q
 same_some r q e = cc
 
--- one more mark
+-- one mark more
 marked_more :
     (events : List Scripted) (log : List (Entry dialect)) (given : List Shown) (reloads : List Reload) (marks : List ℕ) (r : Reload) (mark : ℕ) → slice_get reloads (length marks) ≡ Some r → IsMarked events log given r.at mark
     → AreMarked events log given reloads marks → AreMarked events log given reloads (marks ++ mark ∷ [])
@@ -262,7 +262,7 @@ module _ (first : Route) (refused : List Bool) (reloads : List Reload) (events l
       append_cancel_right (take next events) h.come.done left
       (ap (λ (l : List Scripted). take next events ++ l) here ∙ take-append-drop next events ∙ h.come.done_is)
 
-  -- its mark is what was handed out so far
+  -- the mark of a reload is what was handed out so far
   pub marked_one : (shown : ℕ) (marks' : List ℕ) (r : Reload) → shown ≡ length given → r.at ≡ next → slice_get reloads n ≡ Some r → marks' ≡ marks ++ shown ∷ [] → AreMarked events h.come.log given reloads marks'
   marked_one shown marks' r all place at more =
       subst (AreMarked events h.come.log given reloads) (sym more)
@@ -278,7 +278,7 @@ module _ (first : Route) (refused : List Bool) (reloads : List Reload) (events l
       })
       h.marked)
 
--- one more reload, which is refused, or not
+-- one reload more, which is refused, or not
 pub loads_one :
     StandingSays → (refused : List Bool) (reloads : List Reload) (next shown n : ℕ) (marks marks' : List ℕ) (r : Reload) (is : Bool) (a b : Runner) → r.at ≡ next → slice_get reloads n ≡ Some r → is ≡ is_refused (slice_get refused n)
     → marks' ≡ marks ++ shown ∷ [] → TakesUp is r.config.tree a b → Loads refused reloads next shown n (n + 1) marks marks' a b
@@ -398,7 +398,7 @@ module _ (first : Route) (refused : List Bool) (reloads : List Reload) (events :
         settled = settled;
       }
 
-  -- it stands so after one more event
+  -- the log has a part after one more event
   through_next : (done left : List Scripted) (event : Scripted) (log : List (Entry dialect)) (given : List Shown) → events ≡ (done ++ event ∷ []) ++ left → ((n : ℕ) → n ≤ length done → IsThrough events (take n events) log given) → IsThrough events (done ++ event ∷ []) log given
       → AreThrough events (length (done ++ event ∷ [])) log given
   through_next done left event log given is before now n le = elim (cases_lt (length done) n) [
@@ -417,7 +417,7 @@ module _ (first : Route) (refused : List Bool) (reloads : List Reload) (events :
   same_event : (x y : Scripted) → Some x ≡ Some y → x ≡ y
   same_event x y e = cc
 
-  -- so there are steps for one more event
+  -- the log has a step for one more event
   steps_next : (done left : List Scripted) (event : Scripted) (log : List (Entry dialect)) (given : List Shown) → events ≡ (done ++ event ∷ []) ++ left → AreSteps events (length done) log given → IsStep events done event log given
       → AreSteps events (length (done ++ event ∷ [])) log given
   steps_next done left event log given is before now n x lt at = elim (cases_lt n (length done)) [

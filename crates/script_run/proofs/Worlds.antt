@@ -95,17 +95,17 @@ module _ (events done : List Scripted) (log more : List (Entry dialect)) where
         calls = calls_then rs (Ends ∷ w.deeds) more log w.calls has;
       }
 
-  -- no call had its result
+  -- the world stays where no call had its result
   pub world_stays : (servers : ScriptServers) → World events done log servers → calls_of (run_of (more ++ log)) ≡ calls_of (run_of log) → World events done (more ++ log) servers
   world_stays servers w same = record { deeds = w.deeds; script_is = w.script_is; lead = w.lead; in_turn = w.in_turn; calls = w.calls ∙ sym same }
 
 -- ---- which results an event brings
 
--- none came
+-- no result came
 pub none_had : (rs : List CallResult) (more log : List (Entry dialect)) → rs ≡ [] → HasCalls rs more log → HasNoResult log (more ++ log)
 none_had rs more log none has = has ∙ ap (λ (l : List CallResult). map call_of l ++ calls_of (run_of log)) none
 
--- that of the first call came
+-- the result of the first call came
 first_had : (server : ℕ) (calls : List Ticket) (rs : List CallResult) (more log : List (Entry dialect)) → AreOfFirst server calls rs → HasCalls rs more log → FirstHasResult server calls log (more ++ log)
 first_had server [] rs more log of has = none_had rs more log of has
 first_had server (call ∷ calls) rs more log of has =
@@ -118,7 +118,7 @@ first_had server (call ∷ calls) rs more log of has =
           ∙ ap (λ (t : Ticket). record { number = t.number; call = record { server = server; ask = t.ask; origin = t.origin; outcome = outcome } } ∷ past) of.2.call_is,
     )
 
--- those that it asks for come, of a piece in whichever turn
+-- the results that an event asks for come, those of a piece in whichever turn
 pub brought_some :
     (event : Scripted) (rs : List CallResult) (a : Runner) (s : ScriptServers) (opening : ℕ → List ℕ → Option Item) (tree : ℕ → Route) (more log : List (Entry dialect)) → Stands opening tree log (kept_of a s)
     → AreFit event rs → AreAskedBy event a s rs → HasCalls rs more log → BringsSome event log (more ++ log)
@@ -131,7 +131,7 @@ brought_some (At turn loss) rs a s opening tree more log stands fit asked has = 
 brought_some (Now loss) rs a s opening tree more log stands fit asked has = none_had rs more log fit has
 brought_some (Moment moment) rs a s opening tree more log stands fit asked has = none_had rs more log fit has
 
--- those that it asks for come
+-- the results that an event asks for come, in their turn
 pub brought :
     (event : Scripted) (rs : List CallResult) (a : Runner) (s : ScriptServers) (opening : ℕ → List ℕ → Option Item) (tree : ℕ → Route) (more log : List (Entry dialect)) → Stands opening tree log (kept_of a s)
     → AreFit event rs → AreAskedBy event a s rs → HasCalls rs more log → TakesTurns event rs more log → BringsResults event log (more ++ log)
@@ -144,7 +144,7 @@ brought (At turn loss) rs a s opening tree more log stands fit asked has turns =
 brought (Now loss) rs a s opening tree more log stands fit asked has turns = brought_some (Now loss) rs a s opening tree more log stands fit asked has
 brought (Moment moment) rs a s opening tree more log stands fit asked has turns = brought_some (Moment moment) rs a s opening tree more log stands fit asked has
 
--- so they do where it isn't said in which turn
+-- where an event brings its results in their turn, it brings them where no turn is said
 pub some_brought : (event : Scripted) (before after : List (Entry dialect)) → BringsResults event before after → BringsSome event before after
 some_brought (Piece client bytes) before after h = tt
 some_brought (Add client bytes) before after h = h
@@ -155,7 +155,7 @@ some_brought (At turn loss) before after h = h
 some_brought (Now loss) before after h = h
 some_brought (Moment moment) before after h = h
 
--- and where no call has its result later, the event brings the same
+-- what an event brought it brought still where no call has its result later
 first_still : (server : ℕ) (calls : List Ticket) (log mid after : List (Entry dialect)) → HasNoResult mid after → FirstHasResult server calls log mid → FirstHasResult server calls log after
 first_still server [] log mid after none h = none ∙ h
 first_still server (call ∷ calls) log mid after none h = (h.0, none ∙ h.1)

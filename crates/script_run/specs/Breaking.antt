@@ -48,7 +48,7 @@ pub record StopsAt (old : Runner) (fault : FleetFault) : Type 0 where
   pub moves : (servers : ScriptServers) → Moves old servers mid servers
   pub spent : IsLastBegun fault mid.core
 
--- the same, where a client said a beginning of these bytes
+-- each log that stood before goes on up to a runner, for which nothing more could be done, where a client said a beginning of these bytes
 pub record StopsFed (client : ℕ) (bytes : List ℕ) (old : Runner) (fault : FleetFault) : Type 0 where
   pub mid : Runner
   pub said : List ℕ

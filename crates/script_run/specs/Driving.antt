@@ -81,7 +81,7 @@ may_be_out (At turn loss) before = before
 may_be_out (Now loss) before = before
 may_be_out (Moment moment) before = before
 
--- so may they after these events, one after another
+-- calls may be out after these events, one after another
 abbrev pub leaves_out : Bool → List Scripted → Bool
 leaves_out before [] = before
 leaves_out before (event ∷ events) = leaves_out (may_be_out event before) events
@@ -92,7 +92,7 @@ pub record IsDoneFor (log : List (Entry dialect)) (c : ℕ) : Type 0 where
   pub shown : queue_of log c ≡ []
   pub given : given_of log c ≡ output_of log c
 
--- nor for any client that said something in these events, and no command is under way
+-- nothing is left to do for any client that said something in these events, and no command is under way
 pub record IsSettled (events : List Scripted) (log : List (Entry dialect)) : Type 0 where
   pub clients : (c : ℕ) → (said_in events c ≡ []) ⊎ IsDoneFor log c
   pub free : (n : ℕ) → owner_of log n ≡ None
@@ -118,7 +118,7 @@ pub record IsThrough (events done : List Scripted) (log : List (Entry dialect)) 
   pub stalled : IsStalledIn events done older
   pub settled : leaves_out false done ≡ false → IsSettled done older
 
--- there is such a part after each of so many events
+-- the log has a part after each of so many events
 abbrev pub AreThrough : List Scripted → ℕ → List (Entry dialect) → List Shown → Type 0
 AreThrough events count log given = (n : ℕ) → n ≤ count → IsThrough events (take n events) log given
 
@@ -134,7 +134,7 @@ FirstHasResult server [] before after = HasNoResult before after
 FirstHasResult server (call ∷ calls) before after =
     (outcome : Outcome) × (calls_of (run_of after) ≡ record { number = call.number; call = record { server = server; ask = call.ask; origin = call.origin; outcome = outcome } } ∷ calls_of (run_of before))
 
--- between them results came in their turn, each that of the first call that was out at the least server at which one was
+-- between two parts of the log results came in their turn, each that of the first call that was out at the least server at which one was
 pub record HasTurns (before after : List (Entry dialect)) : Type 0 where
   pub results : List CallResult
   pub more : List (Entry dialect)
@@ -153,7 +153,7 @@ BringsResults (At turn loss) before after = HasNoResult before after
 BringsResults (Now loss) before after = HasNoResult before after
 BringsResults (Moment moment) before after = HasNoResult before after
 
--- the same where a fault came before they all had: in which turn those of a piece came isn't said
+-- what results an event brings until a fault, which may have come before they all had: in which turn those of a piece came isn't said
 abbrev pub BringsSome : Scripted → List (Entry dialect) → List (Entry dialect) → Type 0
 BringsSome (Piece client bytes) before after = Unit {0}
 BringsSome (Add client bytes) before after = HasNoResult before after
@@ -172,7 +172,7 @@ pub record IsStep (events done : List Scripted) (event : Scripted) (log : List (
   pub goes : after.older ≡ more ++ before.older
   pub brings : BringsResults event before.older after.older
 
--- there are such parts for each of so many events
+-- the log has a part before and one after each of so many events
 abbrev pub AreSteps : List Scripted → ℕ → List (Entry dialect) → List Shown → Type 0
 AreSteps events count log given = (n : ℕ) (event : Scripted) → n < count → slice_get events n ≡ Some event → IsStep events (take n events) event log given
 
@@ -193,7 +193,7 @@ pub record IsMarked (events : List Scripted) (log : List (Entry dialect)) (given
   pub given_is : (c : ℕ) → given_of older c ≡ shown_to (take mark given) c
   pub settled : leaves_out false (take place events) ≡ false → IsSettled (take place events) older
 
--- so it is with each reload that has a mark
+-- the log has a part before each reload that has a mark
 abbrev pub AreMarked : List Scripted → List (Entry dialect) → List Shown → List Reload → List ℕ → Type 0
 AreMarked events log given [] marks = Unit {0}
 AreMarked events log given (r ∷ rs) [] = Unit {0}
@@ -223,7 +223,7 @@ abbrev pub FollowsBy : Route → List (ℕ × Route) → List Scripted → List 
 FollowsBy first loads events log =
     Follows (tree_words (λ n key. tree_at (tree_by first loads n) key)) (bars_by Alone (λ n key. tree_at (tree_by first loads n) key)) (opening_of events) log
 
--- its run is a run of these trees
+-- the run of the log is a run of these trees
 abbrev pub RunsBy : Route → List (ℕ × Route) → List Scripted → List (Entry dialect) → Type 0
 RunsBy first loads events log =
     Run (tree_words (λ n key. tree_at (tree_by first loads n) key)) (bars_by Alone (λ n key. tree_at (tree_by first loads n) key)) (opening_of events) (run_of log)
@@ -252,7 +252,7 @@ CameSo false None events log loads Before = Before loads
 CameSo false (Some reload) events log loads Before =
     (begun : ℕ) × (earlier : List (ℕ × Route)) × (loads ≡ (begun, reload.config.tree) ∷ earlier) × IsReached log events reload.at begun × Before earlier
 
--- so did the first so many reloads, and these are the trees that they loaded
+-- the first so many reloads came at their places in turn, but for those that are refused, and these are the trees that they loaded
 abbrev pub CameInTurn : List Bool → List Reload → List Scripted → List (Entry dialect) → ℕ → List (ℕ × Route) → Type 0
 CameInTurn refused reloads events log zero loads = loads ≡ []
 CameInTurn refused reloads events log (suc n) loads = CameSo (is_refused (slice_get refused n)) (slice_get reloads n) events log loads (CameInTurn refused reloads events log n)
@@ -274,7 +274,7 @@ pub record DrivesStepped (first : Route) (refused : List Bool) (reloads : List R
   pub settled : IsSettled events log
   pub written : (c : ℕ) → IsWritten first loads events log c
   pub commands : report.commands ≡ commands_in (run_of log)
-  -- each of them had its reply
+  -- each command had its reply
   pub replied : replied_in (run_of log) ≡ commands_in (run_of log)
   pub calls : report.calls ≡ calls_in (run_of log)
   pub run : RunsBy first loads events log
@@ -303,7 +303,7 @@ HaveMade log servers = (turn_of servers ≡ calls_in (run_of log)) ⊎ (turn_of 
 abbrev pub HasWorldOf : List Scripted → List Scripted → List Scripted → List (Entry dialect) → Type 0
 HasWorldOf events done next log = (at : ScriptServers) × (World events done log at ⊎ World events (done ++ next) log at)
 
--- the same of what was done until a fault: these events were done, at most one more had begun, and so many reloads had come
+-- what was done until a fault is what a log tells: these events were done, at most one more had begun, and so many reloads had come
 pub record StepsPart (first : Route) (refused : List Bool) (reloads : List Reload) (events : List Scripted) (given : List Shown) (marks : List ℕ) (servers : ScriptServers) : Type 0 where
   pub log : List (Entry dialect)
   pub loads : List (ℕ × Route)

@@ -29,7 +29,7 @@ LeavesSo Idle client old new = (new ≡ old) × IsIdle old.core client
 LeavesSo Waits client old new = (new ≡ old) × IsStalled old.core client
 LeavesSo Moved client old new = Unit {0}
 
--- and polls of so many clients this
+-- polls of so many clients leave this: where nothing was done, nothing can be done for any of the clients without a result
 abbrev pub AreStillBelow : Progress → ℕ → Core → Type 0
 AreStillBelow Idle count core = (c : ℕ) → c < count → IsIdle core c
 AreStillBelow Waits count core = (c : ℕ) → c < count → IsStalled core c

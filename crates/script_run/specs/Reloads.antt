@@ -12,7 +12,7 @@ use Rattle.script_events.specs.declared.script.DriveFault.TheVariants.{NoMemory}
 use Rattle.script_run.specs.declared.accepted.judging.Loading.{Loading}
 use Rattle.script_run.specs.declared.accepted.judging.Loading.TheVariants.{Loaded, Refused}
 
--- so it is with the configuration in use
+-- the configuration in use is so: it is the last that was accepted
 abbrev pub InUse : List Configuration → (Configuration → Type 0) → Type 0
 InUse configs P = (config : Configuration) → IsLast configs config → P config
 
@@ -40,7 +40,7 @@ abbrev pub JudgesOne : List Configuration → Reload → Loading → List Config
 JudgesOne configs r (Loaded n) configs' = (configs' ≡ configs ++ r.config ∷ []) × (n ≡ length configs')
 JudgesOne configs r (Refused fault) configs' = (configs' ≡ configs) × IsReason (trees_of configs) r.config.tree fault
 
--- its answers, one after another
+-- the gate's answers to these reloads, one after another
 abbrev pub Judges : List Configuration → List Reload → List Loading → List Configuration → Type 0
 Judges configs [] [] configs' = configs' ≡ configs
 Judges configs [] (l ∷ ls) configs' = ⊥

@@ -40,7 +40,7 @@ pub record MovesBy (results : List CallResult) (old : Runner) (before : ScriptSe
   pub given : AreGiven results before after
   pub goes : (opening : ℕ → List ℕ → Option Item) (tree : ℕ → Route) (log : List (Entry dialect)) → Stands opening tree log (kept_of old before) → GoesOnBy opening tree log results (kept_of new after)
 
--- they gave some results
+-- the servers gave some results, and each log that stood before goes on by them, and stands after
 abbrev pub MovesByResults : Runner → ScriptServers → Runner → ScriptServers → Type 0
 MovesByResults old before new after = (results : List CallResult) × MovesBy results old before new after
 
@@ -55,7 +55,7 @@ pub record AreAsked (server : ℕ) (old : Runner) (before : ScriptServers) (resu
   pub one : AreOfOne server results
   pub first : (opening : ℕ → List ℕ → Option Item) (tree : ℕ → Route) (log : List (Entry dialect)) → Stands opening tree log (kept_of old before) → AreOfFirst server (out_of log server) results
 
--- the same until a fault: it may not have come
+-- the results that come until a fault where one is asked of this server: it may not have come
 abbrev pub AreAskedYet : ℕ → Runner → ScriptServers → List CallResult → Type 0
 AreAskedYet server old before results = (results ≡ []) ⊎ AreAsked server old before results
 
@@ -63,16 +63,16 @@ AreAskedYet server old before results = (results ≡ []) ⊎ AreAsked server old
 abbrev pub MovesByOne : ℕ → Runner → ScriptServers → Runner → ScriptServers → Type 0
 MovesByOne server old before new after = (r : CallResult) × AreAsked server old before (r ∷ []) × MovesBy (r ∷ []) old before new after
 
--- or none is there to come
+-- one result is asked of this server, and comes, or none is there to come
 abbrev pub MovesAt : ℕ → Runner → ScriptServers → Runner → ScriptServers → Type 0
 MovesAt server old before new after = (results : List CallResult) × AreAsked server old before results × MovesBy results old before new after
 
--- the same, where a client said these bytes
+-- each log that stood before goes on, where a client said these bytes
 abbrev pub MovesFed : ℕ → List ℕ → Runner → ScriptServers → Runner → ScriptServers → Type 0
 MovesFed client bytes old before new after =
     (opening : ℕ → List ℕ → Option Item) (tree : ℕ → Route) (log : List (Entry dialect)) → Stands opening tree log (kept_of old before) → GoesOnFed opening tree log client bytes (kept_of new after)
 
--- and where a client was given these bytes
+-- each log that stood before goes on, where a client was given these bytes
 abbrev pub MovesGiven : ℕ → List ℕ → Runner → ScriptServers → Runner → ScriptServers → Type 0
 MovesGiven client bytes old before new after =
     (opening : ℕ → List ℕ → Option Item) (tree : ℕ → Route) (log : List (Entry dialect)) → Stands opening tree log (kept_of old before) → GoesOnGiven opening tree log client bytes (kept_of new after)
@@ -89,7 +89,7 @@ IsLoadedBy tree old before new after =
 abbrev pub IsIdle : Core → ℕ → Type 0
 IsIdle core client = ForClient core client IsDone
 
--- nor for any that was opened
+-- nothing is left to do for any client that was opened
 abbrev pub AreIdle : Runner → Type 0
 AreIdle runner = (c : ℕ) → c < runner.clients → IsIdle runner.core c
 

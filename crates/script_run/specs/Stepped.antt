@@ -22,7 +22,7 @@ pub record StepsFreshly (first : Route) (loadings : List Loading) (reloads : Lis
   pub fresh : IsFreshByNumber (opening_of events) (run_of drives.log)
   pub none_stale : report.stale ≡ 0
 
--- a part of it ran, and the run of all that was done is fresh
+-- a part of the script ran, and the run of all that was done is fresh
 pub record StepsPartFreshly (first : Route) (loadings : List Loading) (reloads : List Reload) (events : List Scripted) (given : List Shown) (marks : List ℕ) (servers : ScriptServers) : Type 0 where
   pub part : StepsPart first (map is_refused loadings) reloads events given marks servers
   pub fresh : IsFreshByNumber (opening_of events) (run_of part.log)

@@ -52,7 +52,7 @@ pub record FedBy (client : ℕ) (bytes : List ℕ) (old : Runner) (before : Scri
   pub given : AreGiven results before after
   pub goes : (opening : ℕ → List ℕ → Option Item) (tree : ℕ → Route) (log : List (Entry dialect)) → Stands opening tree log (kept_of old before) → (g : GoesOnFed opening tree log client bytes (kept_of new after)) × HasCalls results g.more log
 
--- the same, and the results come in their turn
+-- a client said these bytes, and the servers gave some results, which come in their turn
 pub record FedInTurn (client : ℕ) (bytes : List ℕ) (old : Runner) (before : ScriptServers) (new : Runner) (after : ScriptServers) : Type 0 where
   pub fed : FedBy client bytes old before new after
   pub in_turn :
@@ -69,7 +69,7 @@ AreFit (At turn loss) results = results ≡ []
 AreFit (Now loss) results = results ≡ []
 AreFit (Moment moment) results = results ≡ []
 
--- where it asks a server for a result, they are those that come then
+-- where an event asks a server for a result, these results are those that come then
 abbrev pub AreAskedBy : Scripted → Runner → ScriptServers → List CallResult → Type 0
 AreAskedBy (Piece client bytes) old before results = Unit {0}
 AreAskedBy (Add client bytes) old before results = Unit {0}
@@ -80,7 +80,7 @@ AreAskedBy (At turn loss) old before results = Unit {0}
 AreAskedBy (Now loss) old before results = Unit {0}
 AreAskedBy (Moment moment) old before results = Unit {0}
 
--- those of a piece come in their turn
+-- the results of a piece come in their turn
 abbrev pub TakesTurns : Scripted → List CallResult → List (Entry dialect) → List (Entry dialect) → Type 0
 TakesTurns (Piece client bytes) results more log = AreInTurn results more log
 TakesTurns (Add client bytes) results more log = Unit {0}
@@ -172,11 +172,11 @@ abbrev pub HandsOut : (ℕ → Type 0) → List Shown → List Shown → Runner 
 HandsOut AreGiven before after old new =
     (servers : ScriptServers) (opening : ℕ → List ℕ → Option Item) (tree : ℕ → Route) (log : List (Entry dialect)) → Stands opening tree log (kept_of old servers) → GoesOnShown AreGiven opening tree log before after (kept_of new servers)
 
--- to all clients that were opened
+-- output is handed out to all clients that were opened
 abbrev pub HandsOutAll : List Shown → List Shown → Runner → Runner → Type 0
 HandsOutAll before after old new = HandsOut (λ c. c < old.clients) before after old new
 
--- so far, until a fault came
+-- some output was handed out, until a fault came
 abbrev pub HandsSome : List Shown → List Shown → Runner → Type 0
 HandsSome before after old =
     (servers : ScriptServers) (opening : ℕ → List ℕ → Option Item) (tree : ℕ → Route) (log : List (Entry dialect)) → Stands opening tree log (kept_of old servers)
@@ -196,7 +196,7 @@ pub record HasCome (first : Route) (refused : List Bool) (reloads : List Reload)
   pub done_is : events ≡ done ++ left
   pub world : World events done log k.servers
 
--- and so it stood after each event: clients that weren't opened said nothing yet, nothing more can be done without a result, and unless calls may be out nothing is left to do
+-- a log stands after the events that came, and stood after each: clients that weren't opened said nothing yet, nothing more can be done without a result, and unless calls may be out nothing is left to do
 pub record HasStood (first : Route) (refused : List Bool) (reloads : List Reload) (events : List Scripted) (loaded : ℕ) (left : List Scripted) (given : List Shown) (marks : List ℕ) (clients : ℕ) (k : Kept) : Type 0 where
   pub come : HasCome first refused reloads events loaded left given k
   pub through : AreThrough events (length come.done) come.log given

@@ -113,7 +113,7 @@ no_space b key = elim (cases_Bool (eqb b 32)) [
   | inr other ↦ other
 ]
 
--- and no space in an escaped key
+-- no space stands in an escaped key
 pub key_lacks : (key : List ℕ) → list_all is_key_byte key ≡ true → All (λ b. b < 256) key → Lacks 32 (escaped key)
 key_lacks [] good all = tt
 key_lacks (b ∷ key) good all =

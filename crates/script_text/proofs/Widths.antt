@@ -47,7 +47,7 @@ module _ (events : List Event) (i : ℕ) (event : Event) (lt : i < length events
   pub widths_more : All IsWide (take i events) → IsWide event → All IsWide (take (i + 1) events)
   widths_more front wide = subst (λ (es : List Event). All IsWide es) (sym one_more) (All-push IsWide (take i events) event front wide)
 
--- so it is of the events as a log has them
+-- the numbers and bytes of wide events have the widths of their types, as a log has the events
 pub have_widths : (events : List Event) → All IsWide events → HaveWidths (map scripted_of events)
 have_widths [] all = tt
 have_widths (event ∷ events) all = (All-head IsWide event events all, have_widths events (All-tail IsWide event events all))

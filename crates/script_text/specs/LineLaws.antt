@@ -40,7 +40,7 @@ HasLine (At turn loss) = IsTurn turn × CanBeLost loss
 HasLine (Now loss) = CanBeLost loss
 HasLine (Moment moment) = (n : ℕ) × (n < 2 ^ 63) × (moment ≡ pos n)
 
--- each of them is one
+-- each of these events has a line
 abbrev pub HaveLines : List Scripted → Type 0
 HaveLines [] = Unit {0}
 HaveLines (event ∷ events) = HasLine event × HaveLines events
@@ -60,7 +60,7 @@ HasWidths (At turn loss) = (turn < 2 ^ 32) × LossHasWidths loss
 HasWidths (Now loss) = LossHasWidths loss
 HasWidths (Moment moment) = moment <ℤ pos (2 ^ 63)
 
--- so it is of each of them
+-- the numbers and bytes of each of these events have the widths of their types
 abbrev pub HaveWidths : List Scripted → Type 0
 HaveWidths [] = Unit {0}
 HaveWidths (event ∷ events) = HasWidths event × HaveWidths events

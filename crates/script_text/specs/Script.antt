@@ -144,7 +144,7 @@ told_over c text = told_from 1 c (lines_of text)
 abbrev pub events_said : Told → List Scripted
 events_said t = map (λ (x : Numbered). x.event) t.said
 
--- the numbers of their lines
+-- the numbers of the lines of the events
 abbrev pub lines_said : Told → List ℕ
 lines_said t = map (λ (x : Numbered). x.line) t.said
 

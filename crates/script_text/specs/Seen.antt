@@ -9,7 +9,7 @@ use Rattle.script_text.specs.Lines.{Parts}
 abbrev pub parts_seen : words.Parts → Parts
 parts_seen p = record { word = p.word.now; rest = p.rest.now }
 
--- the same as two texts
+-- the two parts of a string that was cut
 abbrev pub texts_seen : Bor (List ℕ) × Bor (List ℕ) → Parts
 texts_seen p = record { word = p.0.now; rest = p.1.now }
 

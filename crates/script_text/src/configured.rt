@@ -15,7 +15,7 @@ pub struct ConfiguredScript {
     /// What the first line says. Its tree has one server for each key.
     pub config: Config,
     pub script: Script,
-    /// The configurations that its reload lines load, in their order. The servers of each are numbered after those of the one
+    /// The configurations that the script's reload lines load, in their order. The servers of each are numbered after those of the one
     /// before it.
     pub reloads: Vec<Reload>,
     /// For each event the number of its line, counted from 1 over all lines of the input.

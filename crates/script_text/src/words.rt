@@ -35,7 +35,7 @@ pub fn cut(text: &[u8]) -> Option<Parts<'_>>
     }
 }
 
-// The same of a text that is a string.
+// A string, cut at its first space; `None` where it has none.
 fn cut_text(text: &str) -> Option<(&str, &str)>
     ensures { option_map texts_seen result ≡ cut text.now }
 {

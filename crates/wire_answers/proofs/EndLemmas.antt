@@ -37,7 +37,7 @@ not_cut_end bytes le not_open (inl none) = absurd (omega (arith, ap length none)
 not_cut_end bytes le not_open (inr (inl one)) = absurd (omega (arith, ap length one))
 not_cut_end bytes le not_open (inr (inr h)) = not_open (subst IsOpen (sym (all_after bytes ∙ ap (drop 2) h.1)) h.2)
 
--- there is one end at most
+-- bytes begin with one end of a block at most
 pub one_end : (bytes : List ℕ) (n m : ℕ) → IsBlockEnd bytes n → IsBlockEnd bytes m → n ≡ m
 one_end bytes n m a b =
     let same : a.after ≡ b.after = ap (drop 2) (sym a.whole ∙ b.whole) in

@@ -322,7 +322,7 @@ module _ (ask : Ask) (fields : Fields) (range : AreFieldsInRange fields) where
         fields_are = fields_same (telling_all fields none_told ask.tokens) (Some body) all (sym at);
       }
 
-  -- the other codes
+  -- a line of a code beside which nothing is kept is read back as that code
   pub record BareBack (code : Code) : Type 0 where
     pub said : meta_said ask (code_word code) (tokens_words ask.key fields ask.tokens) ≡ Some (Other code)
     pub fields_are : fields_told none_told None ≡ fields

@@ -54,7 +54,7 @@ bad_hit hit rest le never more answer used f =
     sym (after_body hit.len (rest ++ more) f.0 f.1 f.4 f.5) ∙ drop-append-le hit.len rest more le ∙ ap (λ (t : List ℕ). t ++ more) (sym (rest_is rest hit.len)) in
     never more f.2 (subst (λ (t : List ℕ). IsBlockEnd t f.2) here f.6)
 
--- the same of the data of a meta answer
+-- where after the data of a meta answer the end never comes, no answer follows its line
 pub bad_value : (line : ValueLine) (rest : List ℕ) → line.len ≤ length rest → ((more : List ℕ) → ¬ IsDataEnd (take (length rest - line.len) (drop line.len rest) ++ more))
     → (more : List ℕ) (answer : Answer) (used : ℕ) → ¬ Follows (Value line) (rest ++ more) answer used
 bad_value line rest le never more answer used f =
@@ -62,7 +62,7 @@ bad_value line rest le never more answer used f =
     sym (after_body line.len (rest ++ more) f.0 f.1 f.3 f.4) ∙ drop-append-le line.len rest more le ∙ ap (λ (t : List ℕ). t ++ more) (sym (rest_is rest line.len)) in
     never more (subst IsDataEnd here f.5)
 
--- and where they are no number
+-- where the data of a meta answer have to be a number and are none, no answer follows its line
 pub no_data : (line : ValueLine) (rest : List ℕ) → line.len ≤ length rest → is_data line.is_number (take line.len rest) ≡ false
     → (more : List ℕ) (answer : Answer) (used : ℕ) → ¬ Follows (Value line) (rest ++ more) answer used
 no_data line rest le isnt more answer used f =
@@ -85,7 +85,7 @@ value_there line rest le end is fields used are two = (
   ap (λ (n : ℕ). line.len + n) two,
 )
 
--- the same of a hit
+-- a hit whose data and end are there follows its line
 pub hit_there : (hit : HitLine) (rest : List ℕ) → hit.len ≤ length rest → (used : ℕ) → IsBlockEnd (take (length rest - hit.len) (drop hit.len rest)) used
     → (body : List ℕ) → body ≡ take hit.len rest → Follows (Hit hit) rest (answers.Hit hit.flags body hit.cas) (hit.len + used)
 hit_there hit rest le used end body is = (
@@ -173,7 +173,7 @@ pub read_is : (ask : Ask) (bytes : List ℕ) (end used : ℕ) → TakesLine byte
 read_is ask bytes end used t s s-is r result h e =
     subst (Reads ask bytes) (sym e) (go ask bytes end used t r (subst (λ (x : FirstLine). ReadsAfter x (take (length bytes - used) (drop used bytes)) r) s-is h))
 
--- the same where what follows the line is there by itself
+-- what is read of the bytes: what their first line and the rest say, where that rest stands by itself
 pub read_on : (ask : Ask) (bytes : List ℕ) (end used : ℕ) → TakesLine bytes end used → (s : FirstLine) → s ≡ kind_of_line ask (take end bytes) → (rest : List ℕ) → rest ≡ drop used bytes → (r result : AnswerRead)
     → ReadsAfter s rest r → result ≡ further used r → Reads ask bytes result
 read_on ask bytes end used t s s-is rest rest-is r result h e =

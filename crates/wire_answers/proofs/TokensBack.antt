@@ -194,7 +194,7 @@ told_as_asked true o e = refl
 told_as_asked false None e = refl
 told_as_asked false (Some x) e = absurd cc
 
--- and one that doesn't stand is told by nothing
+-- a field that doesn't stand is told by nothing, whether it was asked for or not
 pub told_nothing : {A : Type 0} (asked : Bool) (o : Option A) → is_some o ≡ false → cond asked o None ≡ None
 told_nothing false o e = refl
 told_nothing true None e = refl

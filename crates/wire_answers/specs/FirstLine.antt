@@ -75,7 +75,7 @@ abbrev pub hit_or_foreign : Option HitLine → FirstLine
 hit_or_foreign (Some hit) = Hit hit
 hit_or_foreign None = Foreign
 
--- the same of a line that is a whole answer
+-- a line that says a whole answer is that answer; one that says nothing to the ask is foreign
 abbrev pub whole_or_foreign : Option Answer → FirstLine
 whole_or_foreign (Some answer) = Whole answer
 whole_or_foreign None = Foreign

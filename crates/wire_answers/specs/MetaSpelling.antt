@@ -42,7 +42,7 @@ len_words (Some body) = decimal (length body) ∷ []
 abbrev pub meta_words : Ask → Code → Fields → List (List ℕ)
 meta_words ask code fields = code_word code ∷ (len_words fields.body ++ tokens_words ask.key fields ask.tokens)
 
--- the data and their end
+-- the data of an answer and their end, where it has data
 abbrev pub data_block : Option (List ℕ) → List ℕ
 data_block None = []
 data_block (Some body) = body ++ codes "\r\n"

@@ -84,19 +84,19 @@ TellsEnd bytes (ends.Whole used) = IsBlockEnd bytes used
 TellsEnd bytes ends.Open = IsCutEnd bytes
 TellsEnd bytes ends.Bad = (¬ IsCutEnd bytes) × ((more : List ℕ) (used : ℕ) → ¬ IsBlockEnd (bytes ++ more) used)
 
--- the same of the end of a data block alone
+-- An end of a data block that was found is there, in two bytes; one that is open is cut; one that is bad isn't cut, and will never be there.
 abbrev pub TellsDataEnd : List ℕ → Ends → Type 0
 TellsDataEnd bytes (ends.Whole used) = IsDataEnd bytes × (used ≡ 2)
 TellsDataEnd bytes ends.Open = IsCutDataEnd bytes
 TellsDataEnd bytes ends.Bad = (¬ IsCutDataEnd bytes) × ((more : List ℕ) → ¬ IsDataEnd (bytes ++ more))
 
--- the same of the line END alone
+-- A line END that was found is there; one that is open is cut; one that is bad isn't cut, and will never be there.
 abbrev pub TellsEndLine : List ℕ → Ends → Type 0
 TellsEndLine bytes (ends.Whole used) = IsEndLine bytes used
 TellsEndLine bytes ends.Open = IsOpen bytes
 TellsEndLine bytes ends.Bad = (¬ IsOpen bytes) × ((more : List ℕ) (used : ℕ) → ¬ IsEndLine (bytes ++ more) used)
 
--- the same of what follows the first line, where that line says this
+-- What was read after a first line that says this follows it; where more is wanted, what follows is cut; what is foreign isn't cut, and no answer follows, whatever comes.
 abbrev pub ReadsAfter : FirstLine → List ℕ → AnswerRead → Type 0
 ReadsAfter first rest (reads.Answer answer used) = Follows first rest answer used
 ReadsAfter first rest reads.More = IsCutAfter first rest

@@ -11,7 +11,7 @@ abbrev pub cas_words : Option ℕ → List (List ℕ)
 cas_words None = []
 cas_words (Some cas) = decimal cas ∷ []
 
--- the same as it stands on the line, after its space
+-- a cas number as it stands on the line, after its space, where there is one
 abbrev pub cas_text : Option ℕ → List ℕ
 cas_text None = []
 cas_text (Some cas) = 32 ∷ decimal cas
@@ -35,7 +35,7 @@ data_of (Hit flags body cas) = Some body
 data_of (Meta code fields) = fields.body
 data_of _ = None
 
--- the line before them
+-- the line before the data that an answer shows
 abbrev pub data_line : Ask → Answer → List ℕ
 data_line ask (Hit flags body cas) = hit_line ask.key flags (length body) cas
 data_line ask (Meta code fields) = line_of (meta_words ask code fields)

@@ -10,11 +10,11 @@ use text_words::{Line, line};
 /// What ends a block, at the front of some bytes.
 #[derive(Clone, Copy)]
 pub enum Ends {
-    /// It isn't whole yet.
+    /// The end isn't whole yet.
     Open,
-    /// It isn't there, whatever follows.
+    /// The end isn't there, whatever follows.
     Bad,
-    /// It takes this many bytes.
+    /// The end takes this many bytes.
     Whole(usize),
 }
 

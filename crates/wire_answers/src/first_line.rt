@@ -273,7 +273,7 @@ fn is_error_word(word: &[u8], line: &[u8], at: usize) -> bool
     word == b"ERROR".as_slice() && next_word(line, at).is_none()
 }
 
-// The same to a meta ask.
+// What a line that begins with this word says to a meta ask: that the ask was an error, or what a line of a meta answer says.
 fn meta_said(ask: &Ask, word: &[u8], line: &[u8], at: usize) -> FirstLine
     requires { at ≤ length line.now }
     ensures { result ≡ meta_or_error ask.now word.now (words (drop at line.now)) }

@@ -9,7 +9,7 @@ use text_words::{Line, line};
 /// The most bytes of an answer with data: its line, the data of 1 MiB, `\r\n` and `END\r\n`.
 pub const ANSWER_LIMIT: usize = 1_114_119;
 
-// The same where the line's text is this, its data's length is the next word from `at` on, and so many bytes are no data.
+// How many bytes an answer takes, of which so many aren't data: the length of its data is the next word of its line from `at` on.
 fn large_after(from: usize, text: &[u8], at: usize, others: usize) -> Option<usize>
     requires place { at ≤ length text.now }
     requires others { (0 < others) × (others ≤ 65_543) }
@@ -22,7 +22,7 @@ fn large_after(from: usize, text: &[u8], at: usize, others: usize) -> Option<usi
     }
 }
 
-// The same where the line takes so many bytes.
+// How many bytes an answer takes whose first line has this text and takes so many bytes, where it tells of enough data.
 fn large_of(from: usize, text: &[u8], used: usize) -> Option<usize>
     requires { used ≤ 65_536 }
     ensures { IfSome result (λ len. (from < len) × (len ≤ ANSWER_LIMIT)) }

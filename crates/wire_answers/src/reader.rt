@@ -139,7 +139,7 @@ pub fn read_received(
     }
 }
 
-/// The same of bytes whose data are copied, to memory of their own.
+/// The answer that the bytes begin with, if they do; its data are copied, to memory of their own.
 pub fn read_answer(alloc: Global, ask: &Ask, bytes: &[u8]) -> Result<AnswerRead, AllocError>
     ensures reads { IfOk result (Reads ask.now bytes.now) }
     ensures within { IfOk result (LiesWithin bytes.now) }

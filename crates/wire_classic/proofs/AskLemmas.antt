@@ -128,7 +128,7 @@ taken_all (x ∷ xs) (suc n) e = taken_all xs n e
 pub request_sound : (bytes : List ℕ) (r : ClassicRequest) (command : ClassicCommand) → IsReadFrom bytes r → r.command ≡ command → IsSound (order_in bytes command)
 request_sound bytes r command h is = let s = is_served bytes (order_in bytes r.command) (text_at bytes r.block) r.used h.begins in subst (λ (k : ClassicCommand). IsSound (order_in bytes k)) is s.sound
 
--- its asks are well formed
+-- the asks of a request that was read are well formed
 pub asks_sound : (bytes : List ℕ) (r : ClassicRequest) → IsReadFrom bytes r → AllByRecursion IsClassicAsk (asks_of (message_in bytes r))
 asks_sound bytes r h = of_message bytes (message_in bytes r) r.used h.begins
 

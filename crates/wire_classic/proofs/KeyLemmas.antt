@@ -40,7 +40,7 @@ ends_same (b ∷ text) e = (elim (is_bad_byte b) as (λ t. is_bad_byte b ≡ t �
   | false ↦ λ h. let more : ends_word (drop (key_end text) text) ≡ true = simp (h, one_plus) at e in simp (h, good_no_space b h, one_plus) (ap (λ (k : ℕ). suc k) (ends_same text more))
 ]) refl
 
--- these are bytes of a key
+-- the bytes before the end of a key are bytes of a key
 bytes_good : (text : List ℕ) → list_all is_key_byte (take (key_end text) text) ≡ true
 bytes_good [] = refl
 bytes_good (b ∷ text) = (elim (is_bad_byte b) as (λ t. is_bad_byte b ≡ t → list_all is_key_byte (take (key_end (b ∷ text)) (b ∷ text)) ≡ true) [

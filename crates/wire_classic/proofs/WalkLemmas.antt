@@ -38,7 +38,7 @@ inside [] i lt e = absurd (omega arith)
 inside (x ∷ xs) zero lt e = cc
 inside (x ∷ xs) (suc i) lt e = inside xs i (omega arith) e
 
--- what is there of a single one is it
+-- what is there in a list of a single one is that one
 pub only_there : {A : Type 0} → (x : A) (xs : List A) (i : ℕ) → xs ≡ x ∷ [] → (slice_get xs i ≡ None → ⊥) → slice_get xs i ≡ Some x
 only_there x xs zero is there = ap (λ l. slice_get l 0) is
 only_there x xs (suc i) is there = absurd (there (ap (λ l. slice_get l (suc i)) is))

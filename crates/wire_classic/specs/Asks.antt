@@ -98,7 +98,7 @@ pub record StandsAt (bytes : List ℕ) (keys : Keys) (at taken : ℕ) : Type 0 w
   pub within : at ≤ keys.span.end
   pub rest : words (drop at (take keys.span.end bytes)) ≡ drop taken (keys_in bytes keys)
 
--- the same of a command: one with a single key has no place
+-- from the byte at on, the keys that are left of a command of several stand; one with a single key has no place
 abbrev pub IsAt : List ℕ → ClassicCommand → ℕ → ℕ → Type 0
 IsAt bytes (commands.Retrieval with_cas exptime keys) at taken = StandsAt bytes keys at taken
 IsAt bytes _ at taken = Unit {0}

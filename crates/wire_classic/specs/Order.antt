@@ -41,7 +41,7 @@ noreply_of [] = Ok false
 noreply_of (word ∷ []) = if bytes_eq word (codes "noreply") then Ok true else Err Unknown
 noreply_of (word ∷ other ∷ more) = Err Unknown
 
--- the same, after the 0 that may stand there
+-- whether `noreply` stands there, after the 0 that may stand before it, and nothing else
 abbrev pub delete_tail_of : List Word → Result Bool RefusalReason
 delete_tail_of [] = Ok false
 delete_tail_of (word ∷ more) = if bytes_eq word (codes "0") then noreply_of more else noreply_of (word ∷ more)

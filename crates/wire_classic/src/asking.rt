@@ -129,7 +129,7 @@ pub struct Asks {
 }
 
 impl ClassicRequest {
-    /// What it asks of mcgate itself, if it does. It takes no memory.
+    /// What the request asks of mcgate itself, if it does. It takes no memory.
     pub fn own(&self) -> Option<ProxyCommand>
         ensures { (bytes : List ℕ) → result ≡ own_of (message_in bytes self.now) }
     {
@@ -139,7 +139,7 @@ impl ClassicRequest {
         }
     }
 
-    /// How many asks it is: one for each key, none for a request of mcgate itself. It takes no memory.
+    /// How many asks the request is: one for each key, none for a request of mcgate itself. It takes no memory.
     pub fn asks(&self) -> usize
         ensures { (bytes : List ℕ) → IsReadFrom bytes self.now → result ≡ length (asks_of (message_in bytes self.now)) }
     {
@@ -150,7 +150,7 @@ impl ClassicRequest {
         }
     }
 
-    /// Whether it wants no answer: `noreply` stands on its line. It takes no memory.
+    /// Whether the request wants no answer: `noreply` stands on its line. It takes no memory.
     pub fn quiet(&self) -> bool
         ensures { (bytes : List ℕ) → result ≡ quiet_of (message_in bytes self.now) }
     {
@@ -164,7 +164,7 @@ impl ClassicRequest {
         }
     }
 
-    /// A walk over its asks, at the first one. It takes no memory.
+    /// A walk over the asks of the request, at the first one. It takes no memory.
     pub fn walk(&self) -> Asks
         ensures request { result.request ≡ self.now }
         ensures first { result.taken ≡ 0 }

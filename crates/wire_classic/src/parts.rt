@@ -25,7 +25,7 @@ pub fn noreply(line: &[u8], at: usize) -> Result<bool, RefusalReason>
     }
 }
 
-/// The same, after the 0 that may stand there.
+/// Whether `noreply` stands there, after a 0 or without one; nothing else may.
 pub fn delete_tail(line: &[u8], at: usize) -> Result<bool, RefusalReason>
     requires { at ≤ length line.now }
     ensures { result ≡ delete_tail_of (words (drop at line.now)) }

@@ -88,7 +88,7 @@ served_by Store = of_store
 served_by Delete = of_delete
 served_by Count = of_count
 
--- they are those of its letters
+-- the return flags of a command are those of its letters
 pub same_served : (kind : Kind) (x : Letter) → has_letter (served_by kind) x ≡ is_served kind (byte_of x)
 same_served Get LetterC = refl
 same_served Get LetterF = refl

@@ -130,7 +130,7 @@ values_of kind words = record {
   quiet = stands_in 113 words;
 }
 
--- what they say with one flag more
+-- what the flags of a command say with one flag more
 abbrev pub value_more : Kind → Word → Values → Values
 value_more kind word v = record {
   cas = or_else (says 67 (number_below (2 ^ 64)) word) v.cas;

@@ -131,7 +131,7 @@ fn ask_by<'a>(
 }
 
 impl MetaRequest {
-    /// What it asks of mcgate itself, if it does. It takes no memory.
+    /// What the request asks of mcgate itself, if it does. It takes no memory.
     pub fn own(&self) -> Option<ProxyCommand>
         ensures { (bytes : List ℕ) → result ≡ own_of (message_in bytes self.now) }
     {
@@ -141,7 +141,7 @@ impl MetaRequest {
         }
     }
 
-    /// How many asks it is: one, none for a request of mcgate itself. It takes no memory.
+    /// How many asks the request is: one, none for a request of mcgate itself. It takes no memory.
     pub fn asks(&self) -> usize
         ensures { (bytes : List ℕ) → IsReadFrom bytes self.now → result ≡ length (asks_of (message_in bytes self.now)) }
     {

@@ -92,7 +92,7 @@ told_is ask (Meta Ex fields) e fits = fetch_is ask.dialect ask.op (wanted ask.wi
 told_is ask (Meta Nf fields) e fits = fetch_is ask.dialect ask.op (wanted ask.with_cas) Nf fields e fits.listed
 told_is ask told e fits = tt
 
--- what says the same fits the ask
+-- an answer that says what was told in meta form fits the ask
 pub fits_back : (ask : Ask) (told answer : Answer) → is_retrieval ask ≡ true → Fits (meta_form ask) told → SaysSame told answer → Fits ask answer
 fits_back ask (Meta Va fields) answer e fits says =
     let f = fetch_is ask.dialect ask.op (wanted ask.with_cas) Va fields e fits.listed in
@@ -145,7 +145,7 @@ reads_answer fit ask form bytes read told answer used is e same h told_is says =
       fits_back ask told answer e (fit (meta_form ask) bytes told used (form_is_ask ask is e) spells) says,
     )
 
--- none is there
+-- where the bytes hold no answer in meta form, none is read
 pub reads_none : (ask form : Ask) (bytes : List ℕ) (read none : AnswerRead) → is_retrieval ask ≡ true → form ≡ meta_form ask → Reads form bytes read → read ≡ none → Reads (in_meta ask) bytes none
 reads_none ask form bytes read none e same h is = subst (λ x. Reads x bytes none) (same ∙ sym (in_meta_is ask e)) (subst (Reads form bytes) is h)
 
@@ -175,7 +175,7 @@ value_of : {A : Type 0} (o : Option A) → IsSome o → (x : A) × (o ≡ Some x
 value_of None e = absurd cc
 value_of (Some x) e = (x, refl)
 
--- there is a classic answer that says the same
+-- what was told in meta form says some classic answer
 says_some : (told : Answer) → IsTold told → (answer : Answer) × SaysSame told answer
 says_some (Meta Va fields) is =
     let flags = value_of fields.flags is.0 in

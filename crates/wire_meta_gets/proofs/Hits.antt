@@ -108,7 +108,7 @@ takes_data dialects.Meta op e = absurd cc
 same_bytes : (text : List ℕ) → bytes_eq text text ≡ true
 same_bytes text = (bytes_eq-Decides text text).1 refl
 
--- what such a line tells
+-- what the line of a hit with these flags tells
 abbrev told_of : ℕ → Told
 told_of flags = record none_told { flags = Some flags; key = true }
 

@@ -15,7 +15,7 @@ abbrev pub wanted : Bool → List Token
 wanted true = Key ∷ Flags ∷ Value ∷ Cas ∷ []
 wanted false = Key ∷ Flags ∷ Value ∷ []
 
--- the same get as an `mg`, with `T` where it sets the expiry
+-- a classic get of one key as an `mg`, with `T` where it sets the expiry
 abbrev pub meta_form : Ask → Ask
 meta_form ask = record (bare_ask ask.op ask.key (wanted ask.with_cas)) { exptime = ask.exptime }
 
@@ -23,7 +23,7 @@ meta_form ask = record (bare_ask ask.op ask.key (wanted ask.with_cas)) { exptime
 abbrev pub in_meta : Ask → Ask
 in_meta ask = if is_retrieval ask then meta_form ask else ask
 
--- what its line has after the key, where it sets no expiry
+-- what the line of an `mg` has after the key, where it sets no expiry: with the cas number or without
 abbrev pub get_end : Bool → List ℕ
 get_end true = codes " k f v c\r\n"
 get_end false = codes " k f v\r\n"

@@ -35,7 +35,7 @@ IsTold (Meta Ex fields) = ⊥
 IsTold (Meta Nf fields) = ⊥
 IsTold told = Unit {0}
 
--- the same of an ask that may be no classic get, whose answer stands as it was told
+-- what was told in meta form says this answer to the ask: to one that is no classic get it stands as it was told
 abbrev pub SaysSameIf : Bool → Answer → Answer → Type 0
 SaysSameIf true told answer = SaysSame told answer
 SaysSameIf false told answer = answer ≡ told

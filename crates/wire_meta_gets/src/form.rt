@@ -11,7 +11,7 @@ use mc_types::{Ask, Body, Dialect, Op, Token, Tokens};
 use std::alloc::{AllocError, Global};
 use wire_stream::write_ask;
 
-/// Whether it is a classic get: `get`, `gets`, `gat` or `gats` of one key.
+/// Whether the ask is a classic get: `get`, `gets`, `gat` or `gats` of one key.
 pub fn is_retrieval(ask: &Ask) -> bool
     ensures { result ≡ is_retrieval ask.now }
 {
@@ -63,7 +63,7 @@ fn get_end(with_cas: bool) -> &'static [u8]
     }
 }
 
-/// Whether it is a classic get of one key that sets no expiry, which is most of what is asked: [`write_get`] writes its meta form.
+/// Whether the ask is a classic get of one key that sets no expiry, which is most of what is asked: [`write_get`] writes its meta form.
 pub fn is_plain_get(ask: &Ask) -> bool
     ensures { result ≡ true → (is_retrieval ask.now ≡ true) × (ask.now.exptime ≡ None) }
 {

@@ -16,7 +16,7 @@ use Rattle.wire_stream.specs.declared.connection.client_stream.Walk.{Walk}
 use Rattle.wire_stream.specs.ClientStreams.{IsWalkAt, IsKept}
 use Rattle.wire_stream.proofs.Fronts.{front_is}
 
--- it goes on when more has come
+-- the walk that is kept at a place is kept there when more has come
 pub still_kept : (place : Place) (more : List ℕ) (walk : Option Walk) → IsKept place walk → IsKept (extended place more) walk
 still_kept place more None kept = kept
 still_kept place more (Some walk) kept =
@@ -29,7 +29,7 @@ still_kept place more (Some walk) kept =
       taken = kept.taken;
     })
 
--- and where the piece was refused memory
+-- the walk that is kept at a place is kept there after a piece, whether memory was refused for the piece or not
 pub either_kept : {E : Type 0} (fed : Result (Unit {0}) E) (old new : Place) (more : List ℕ) (walk : Option Walk) → IsKept old walk → OnOk fed (new ≡ extended old more) → OnErr fed (new ≡ old) → IsKept new walk
 either_kept (Ok done) old new more walk kept ok err = subst (λ (p : Place). IsKept p walk) (sym ok) (still_kept old more walk kept)
 either_kept (Err fault) old new more walk kept ok err = subst (λ (p : Place). IsKept p walk) (sym err) kept
@@ -42,14 +42,14 @@ same_asks place r s is so =
     let other = front_is place s so in
     ap asks_of (one_message both_grammar held (message_in held r) (message_in held s) (used_of r) (used_of s) one.read.begins other.read.begins).0
 
--- there is an ask of each number below how many there are
+-- a list has an ask of each number below its length
 pub ask_within : (xs : List Ask) (n : ℕ) → n < length xs → (ask : Ask) × (slice_get xs n ≡ Some ask)
 ask_within xs n lt = elim (slice_get_cases xs n).1 [
   | inl found ↦ (found.0, found.2)
   | inr past ↦ absurd (omega (arith, lt, past.0))
 ]
 
--- where there is one it is counted
+-- where there is a next ask it is counted
 pub counted_one : (next : Option Ask) (xs : List Ask) (n : ℕ) → next ≡ slice_get xs n → n < length xs → counted next n ≡ n + 1
 counted_one next xs n is lt = ap (λ o. counted o n) (is ∙ (ask_within xs n lt).1)
 

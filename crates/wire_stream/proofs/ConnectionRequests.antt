@@ -20,12 +20,12 @@ pub request_after : (held : List ℕ) (request : Request) (rest : List ℕ) (i :
 request_after held (Classic r) rest i ask at = served_after (both.Classic (texts.order_in held r.command)) (text_at held r.block) rest i ask at
 request_after held (Meta r) rest i ask at = served_after (both.Meta (metas.order_in held r.command)) (text_at held r.block) rest i ask at
 
--- where it stands after what mcgate itself was asked
+-- where the stream stands after what mcgate itself was asked
 pub own_next : (held : List ℕ) (request : Request) (rest : List ℕ) → after_own (own_of (message_in held request)) rest ≡ after_message (message_in held request) rest
 own_next held (Classic r) rest = refl
 own_next held (Meta r) rest = refl
 
--- and what is shown for it
+-- what is shown for what mcgate itself was asked
 pub own_text : (held : List ℕ) (request : Request) → own_passed (own_of (message_in held request)) ≡ passed_text (Whole (message_in held request))
 own_text held (Classic r) = refl
 own_text held (Meta r) = refl

@@ -28,7 +28,7 @@ found_as message used = Some (message, used)
 some_is : {A : Type 0} (x y : A) → Some x ≡ Some y → x ≡ y
 some_is x y e = cc
 
--- the same message, of the same length
+-- what was found as two messages is one message, of one length
 message_is : {A : Type 0} (m k : parts.Message A) (u n : ℕ) → found_as m u ≡ found_as k n → (m ≡ k) × (u ≡ n)
 message_is m k u n e = let pair = some_is (m, u) (k, n) e in (ap (λ x. x.0) pair, ap (λ x. x.1) pair)
 
@@ -60,7 +60,7 @@ same_classic a b e = cc
 same_meta : (a b : metas.Order) → Meta a ≡ Meta b → a ≡ b
 same_meta a b e = cc
 
--- and none of the other
+-- nothing that is found in one dialect is an order of the other
 never : {A B : Type 0} (f : A → Order) (g : B → Order) → ((a : A) (b : B) → f a ≡ g b → ⊥) → (found : Found A) (o : B) (block : List ℕ) (n : ℕ) → lift_found f found ≡ Some (Served (g o) block, n) → ⊥
 never f g apart None o block n e = absurd cc
 never f g apart (Some x) o block n e = go x.0 x.1 e

@@ -67,18 +67,18 @@ front_is place request is =
       read = subst (λ (l : List ℕ). IsReadFrom l request) held f.2;
     }
 
--- it is the next message
+-- the request at the front is the next message
 pub reads_front : (place : Place) (request : Request) → IsFront place request → ReadsNext place (Whole (message_in (held_at place) request)) (after_message (message_in (held_at place) request) (drop (used_of request) (held_at place)))
 reads_front place request front =
     let held = held_at place in
     let m : Message = message_in held request in
     subst (λ (p : Place). ReadsNext p (Whole m) (after_message m (drop (used_of request) held))) (sym front.stands) (used_of request, front.read.begins, refl)
 
--- what it uses is held
+-- what the request at the front uses is held
 pub used_held : (place : Place) (request : Request) → IsFront place request → used_of request ≤ length (held_at place)
 used_held place request front = used_within both_grammar (held_at place) (message_in (held_at place) request) (used_of request) front.read.begins
 
--- and so is what a refused message uses
+-- what a refused message uses is held
 pub used_refused : (place : Place) (why : RefusalReason) (used : ℕ) (skip : Skip) → IsReadAt place (reads.Refused why used skip) → used ≤ length (held_at place)
 used_refused place why used skip is =
     let f = read_front place (reads.Refused why used skip) is (refused_is_some why used skip) in

@@ -10,7 +10,7 @@ use Rattle.wire_stream.specs.Both.{both_grammar}
 use Rattle.wire_parts.proofs.Streams.{skipped-append}
 use Rattle.wire_stream.specs.TextProtocol.{Said, Whole, LongLine, ReadsNext, TextIsReader}
 
--- there is one next message at most
+-- a place has one next message at most
 one_next : (place : Place) (m n : Said) (p q : Place) → ReadsNext place m p → ReadsNext place n q → (m ≡ n) × (p ≡ q)
 one_next (Stands Nothing held) (Whole m) (Whole n) p q a b =
     let same = one_message both_grammar held m n a.0 b.0 a.1 b.1 in

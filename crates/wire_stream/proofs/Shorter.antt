@@ -19,7 +19,7 @@ use Rattle.wire_stream.specs.TextProtocol.{Said, Whole, LongLine, ReadsNext}
 pub takes_some : (bytes : List ℕ) (message : Message) (used : ℕ) → Begins bytes message used → 1 ≤ used
 takes_some = some_taken both_grammar
 
--- so fewer are left
+-- after a message fewer bytes are left
 pub fewer : (held : List ℕ) (message : Message) (used : ℕ) → Begins held message used → length (drop used held) < length held
 fewer = fewer_left both_grammar
 
@@ -50,7 +50,7 @@ after_len : (message : Message) (rest : List ℕ) → length (held_at (after_mes
 after_len (Served order block) rest = own_len (own_by order) rest
 after_len (Refusal why skip) rest = skipped_len skip rest
 
--- so fewer bytes are held at the place after a message
+-- fewer bytes are held at the place after a message
 pub next_len : (place : Place) (message : Said) (next : Place) → ReadsNext place message next → length (held_at next) < length (held_at place)
 next_len (Stands Nothing held) (Whole message) next r =
     let at : length (held_at next) ≡ length (held_at (after_message message (drop r.0 held))) = ap (λ (p : Place). length (held_at p)) r.2 in

@@ -31,7 +31,7 @@ abbrev pub is_quiet : Order → Bool
 is_quiet (Classic order) = texts.is_quiet order
 is_quiet (Meta order) = metas.is_quiet order
 
--- the same of a message: a refused one is always answered
+-- whether `noreply`, or `q`, stands on the line of a message: a refused one is always answered
 abbrev pub quiet_of : Message → Bool
 quiet_of (Served order block) = is_quiet order
 quiet_of (Refusal why skip) = false
@@ -51,7 +51,7 @@ abbrev pub request_of : Asks → Request
 request_of (walks.Classic a) = requests.Classic a.request
 request_of (walks.Meta a) = requests.Meta a.request
 
--- how many of them it has taken
+-- how many asks a walk has taken
 abbrev pub taken_of : Asks → ℕ
 taken_of (walks.Classic a) = a.taken
 taken_of (walks.Meta a) = a.taken

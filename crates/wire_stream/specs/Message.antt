@@ -31,7 +31,7 @@ abbrev pub message_in : List ℕ → Request → Message
 message_in bytes (requests.Classic r) = Served (Classic (text_places.order_in bytes r.command)) (text_at bytes r.block)
 message_in bytes (requests.Meta r) = Served (Meta (meta_places.order_in bytes r.command)) (text_at bytes r.block)
 
--- how many bytes it takes
+-- how many bytes a request takes
 abbrev pub used_of : Request → ℕ
 used_of (requests.Classic r) = r.used
 used_of (requests.Meta r) = r.used

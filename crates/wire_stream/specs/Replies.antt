@@ -102,7 +102,7 @@ part_text last ask reply =
     then value_of ask reply ++ (if last then end_text else [])
     else spelling_of ask reply
 
--- the same, but for what is hidden
+-- what the reply to one key adds to the output: nothing where it is hidden
 abbrev pub shown_text : Bool → Bool → Ask → Answer → List ℕ
 shown_text quiet last ask reply = if is_hidden quiet ask reply then [] else part_text last ask reply
 

@@ -12,12 +12,12 @@ use Rattle.wire_stream.specs.declared.connection.connection.Connection.{Connecti
 abbrev pub output_of : Connection → List ℕ
 output_of x = x.output.items
 
--- its reader goes to this place, and its output goes on by these bytes
+-- the reader of a connection goes to this place, and its output goes on by these bytes
 pub record GoesTo (old : Connection) (place : Place) (more : List ℕ) (new : Connection) : Type 0 where
   pub place_is : new.stream ≡ place
   pub output_is : output_of new ≡ output_of old ++ more
 
--- where it stands after a reply, with these bytes after the message: the message is done, or it stands where it stood
+-- where a connection stands after a reply, with these bytes after the message: the message is done, or it stands where it stood
 abbrev pub place_after : Bool → Connection → List ℕ → Place
 place_after true old rest = Stands Nothing rest
 place_after false old rest = old.stream

@@ -20,7 +20,7 @@ fn goes_last(row: &[ServerId], server: ServerId) -> bool
     last.number() < server.number()
 }
 
-// The same of a row that is only thought to rise.
+// Whether a row that is thought to rise still does with this server after it.
 fn still_rises(rises: bool, row: &[ServerId], server: ServerId) -> bool
     ensures { (rises ≡ true → IsRising row.now) → result ≡ true → IsRising (row.now ++ server ∷ []) }
 {

@@ -188,7 +188,7 @@ fn or_else(first: Option<u32>, other: Option<u32>) -> Option<u32>
     }
 }
 
-// After so many others.
+// The number counted after so many others, if there is one.
 fn counted_after(before: u32, number: Option<u32>) -> Option<u32>
     requires { IfSome number (λ (n : ℕ). before + n < 2 ^ 32) }
     ensures { result ≡ turns.counted_after before number }

@@ -8,7 +8,7 @@ use std::alloc::{AllocError, AllocFailed};
 /// What a server loses.
 #[derive(Clone, Copy)]
 pub enum Loss {
-    /// What it holds of this key.
+    /// What the server holds of this key.
     Item(ServerId, Key),
     /// Everything.
     Restart(ServerId),

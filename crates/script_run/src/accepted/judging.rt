@@ -15,7 +15,7 @@ use std::alloc::{AllocError, Global};
 pub enum Loading {
     /// The gate accepted the configuration as the generation of this number.
     Loaded(u32),
-    /// It refused it, for another cause than running out of memory, and the tree in use stayed.
+    /// The gate refused the configuration, for another cause than running out of memory, and the tree in use stayed.
     Refused(ReloadFault),
 }
 
@@ -36,7 +36,7 @@ fn is_refused(loading: &Loading) -> bool
     }
 }
 
-// Which of them the gate refused.
+// Which of the reloads the gate refused.
 fn refused_of(alloc: Global, loadings: &[Loading]) -> Result<Vec<bool>, AllocError>
     ensures { IfOk result (λ refused. refused.items ≡ map is_refused loadings.now) }
 {

@@ -12,7 +12,7 @@ pub fn results_go_on()
     ensures { ResultsGoOn }
 {}
 
-/// So does what a server loses.
+/// What a server loses goes on with the log.
 pub fn losses_go_on()
     ensures { LossesGoOn }
 {}
@@ -27,7 +27,7 @@ pub fn feeds_go_on()
     ensures { FeedsGoOn }
 {}
 
-/// So does output that a client is given.
+/// Output that a client is given goes on with the log.
 pub fn gives_go_on()
     ensures { GivesGoOn }
 {}

@@ -87,7 +87,7 @@ impl Walk {
         Ok(())
     }
 
-    // The ask that it stands at.
+    // The ask that the walk stands at.
     fn ask(
         &self,
         alloc: Global,
@@ -120,7 +120,7 @@ impl ClientStream {
         }
     }
 
-    /// The same whose data are copied, for whoever keeps them.
+    /// The stream of a client that said nothing yet. The data of its stores are copied, for whoever keeps them.
     pub fn copying(alloc: Global) -> ClientStream
         ensures { result ≡ Stands Nothing [] }
     {
@@ -176,7 +176,7 @@ impl ClientStream {
         }
     }
 
-    // The same of a request of several keys: the walk that led to the ask is kept.
+    // The ask of this number of a request of several keys; the walk that led to the ask is kept.
     fn walk_to(
         &mut self,
         alloc: Global,

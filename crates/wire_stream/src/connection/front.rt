@@ -30,9 +30,9 @@ pub enum Front {
 /// What a message was that asked no server.
 #[derive(Clone, Copy)]
 pub enum Passed {
-    /// It asked mcgate itself, and was answered.
+    /// A message that asked mcgate itself, and was answered.
     Own,
-    /// It was refused.
+    /// A message that was refused.
     Refused,
 }
 

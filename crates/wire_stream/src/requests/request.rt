@@ -34,7 +34,7 @@ pub enum Asks {
 }
 
 impl Request {
-    /// How many bytes it takes, its data block included. It takes no memory.
+    /// How many bytes the request takes, its data block included. It takes no memory.
     pub fn used(&self) -> usize
         ensures { result ≡ used_of self.now }
     {
@@ -44,7 +44,7 @@ impl Request {
         }
     }
 
-    /// What it asks of mcgate itself, if it does. It takes no memory.
+    /// What the request asks of mcgate itself, if it does. It takes no memory.
     pub fn own(&self) -> Option<ProxyCommand>
         ensures { (bytes : List ℕ) → result ≡ own_of (message_in bytes self.now) }
     {
@@ -54,7 +54,7 @@ impl Request {
         }
     }
 
-    /// How many asks it is: one for each key, none for a request of mcgate itself. It takes no memory.
+    /// How many asks the request is: one for each key, none for a request of mcgate itself. It takes no memory.
     pub fn asks(&self) -> usize
         ensures { (bytes : List ℕ) → IsReadFrom bytes self.now → result ≡ length (asks_of (message_in bytes self.now)) }
     {
@@ -75,7 +75,7 @@ impl Request {
         }
     }
 
-    /// A walk over its asks, at the first one. It takes no memory.
+    /// A walk over the asks of the request, at the first one. It takes no memory.
     pub fn walk(&self) -> Asks
         ensures request { request_of result ≡ self.now }
         ensures first { taken_of result ≡ 0 }

@@ -11,7 +11,7 @@ use Rattle.core_proxy.specs.Polls.{IsNextAsk, Polls, ReadFault, StandsInLine, cl
 use Rattle.core_proxy.proofs.Polls.{same_goes, first_stops, line_polls, stood_polls}
 use Rattle.core_proxy.proofs.proxy.Core.wait_in_line.Goals as goal
 
--- it stands in the line of its key now
+-- the client stands in the line of its key now
 stands_now :
     (old : Core) (lines : List Standing) (client : ℕ) (ask : Ask) (claim : Claim) (key : List ℕ) → IsNextAsk old client ask false → claim ≡ claim_of old ask → key ≡ ask.key → (bars old ask ≡ true) ⊎ (stands_before old client ask ≡ true)
     → lines ≡ joined (record { claim = claim; client = client; key = key }) old.lines → StandsInLine old client (record old { lines = lines })
