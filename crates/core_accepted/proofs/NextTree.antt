@@ -113,7 +113,7 @@ loads_any old x config number word count step = record {
   goes = over old x old.accepted config.tree step (λ tree loaded. subst (λ (w : Option (List Configuration)). MayBeLoaded w (before_or old.core.number tree config.tree)) (sym word) tt);
 }
 
--- the configuration is loaded where the gate accepted it, whatever came out
+-- where the core has a gate, a configuration whose load came out well is loaded
 pub next_loaded :
     (old : ServedCore) (x : Core) (was now : List Configuration) (config : Configuration) (r : Result ℕ LoadFault) → old.accepted ≡ Some was → OnOk r (now ≡ was ++ config ∷ []) → IfOk r (λ number. number ≡ length now)
     → OnOk r (core_state.Reloads old.core config.tree x) → IfOk r (λ number. IsLoaded old config number (record { core = x; accepted = Some now }))

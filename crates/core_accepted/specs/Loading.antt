@@ -35,18 +35,18 @@ pub record IsLoaded (old : ServedCore) (config : Configuration) (number : ℕ) (
   pub reloads : core_state.Reloads old.core config.tree new.core
   pub goes : (opening : ℕ → List ℕ → Option Item) (past : List (Entry dialect)) (led : MayHaveLed opening past old) → TakesOver opening past config.tree old new led
 
--- the servers don't keep their numbers; or the gate's fault, or the core has no number for one more tree
+-- why the next configuration is refused: the servers don't keep their numbers; or the gate's fault, or the core has no number for one more tree
 abbrev pub RefusesNext : Core → List Configuration → Configuration → LoadFault → Type 0
 RefusesNext core accepted config OtherServers = KeepsNumbers accepted config → ⊥
 RefusesNext core accepted config (Refused fault) =
     KeepsNumbers accepted config × (IsReloadFault (trees_of accepted) config.tree fault ⊎ ((core.generation ≡ LAST_GENERATION) × (fault ≡ gate.TooManyGenerations)))
 
--- memory was refused, or the core has no number for one more tree
+-- why a configuration is refused where no gate was asked: memory was refused, or the core has no number for one more tree
 abbrev pub RefusesAny : Core → LoadFault → Type 0
 RefusesAny core OtherServers = ⊥
 RefusesAny core (Refused fault) = (fault ≡ gate.NoMemory) ⊎ ((core.generation ≡ LAST_GENERATION) × (fault ≡ gate.TooManyGenerations))
 
--- of the core that is served, by the gate's word
+-- why a configuration is refused, by the gate's word
 abbrev pub RefusesBy : Option (List Configuration) → Core → Configuration → LoadFault → Type 0
 RefusesBy (Some accepted) core config fault = RefusesNext core accepted config fault
 RefusesBy None core config fault = RefusesAny core fault

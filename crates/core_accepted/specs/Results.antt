@@ -47,7 +47,7 @@ pub record TakesResult (old : ServedCore) (number : ℕ) (outcome : Outcome) (ne
   pub settles : Settles old.core number outcome new.core
   pub goes : SettlesOn old number settles.command outcome (λ more. more ≡ (if dropped_by (client_at old.core settles.command.client) then log.Frees number ∷ [] else [])) new
 
--- memory was refused: it has the result all the same, and nothing is done for its client any more
+-- memory was refused: the command of this number has the result all the same, and nothing is done for its client any more
 pub record BreaksWith (old : ServedCore) (number : ℕ) (outcome : Outcome) (new : ServedCore) : Type 0 where
   pub word : new.accepted ≡ old.accepted
   pub breaks : Breaks old.core number outcome new.core

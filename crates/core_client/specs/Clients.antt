@@ -17,7 +17,7 @@ pub record IsNew (x : Client) : Type 0 where
   pub output : bytes_of x.output ≡ []
   pub dropped : x.dropped ≡ false
 
--- nothing is read of it any more
+-- nothing is read of the client any more
 abbrev pub IsEnded : Client → Type 0
 IsEnded x = (x.dropped ≡ true) ⊎ (x.stream ≡ Closed)
 
@@ -43,6 +43,6 @@ pub record LosesOutput (x y : Client) : Type 0 where
 abbrev pub waits_on : List ℕ → Pending → Bool
 waits_on key pending = if is_none pending.reply then pointwise nat_eq pending.ask.key key else false
 
--- one of a client's own is
+-- one of a client's own commands is on this key, without a reply
 abbrev pub has_own : List ℕ → List Pending → Bool
 has_own key queue = list_any (waits_on key) queue

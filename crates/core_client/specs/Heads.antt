@@ -53,7 +53,7 @@ pub record AnswersHead (x : Client) (number : ℕ) (reply : Answer) (y : Client)
   pub answers : Answers x place.at is.pending.last reply between
   pub shows : ShowsOne between true y
 
--- whether that happened; nothing else does
+-- whether this reply came to the command of this number and the head was shown then; where not, nothing changed
 abbrev pub ShowsAtOnce : Client → ℕ → Answer → Bool → Client → Type 0
 ShowsAtOnce x number reply true y = AnswersHead x number reply y
 ShowsAtOnce x number reply false y = y ≡ x

@@ -60,7 +60,7 @@ HasKey depth x reads.TooLong = ⊥
 HasKey depth x (reads.Refused why used skip) = ⊥
 HasKey depth x (reads.Request request) = CanAskBelow depth request x
 
--- of a client that may have so many commands whose replies were not shown, where this was read at its front
+-- what is next of a client that may have so many commands whose replies were not shown, where this was read at its front
 abbrev pub IsNextOf : ℕ → Client → Read → Next → Type 0
 IsNextOf depth x read nexts.Nothing = (x.queue.items ≡ []) × IsStuck dialect x.stream
 IsNextOf depth x read nexts.Passing = IsPassing read x

@@ -40,7 +40,7 @@ pub struct Client {
     pub dropped: bool,
 }
 
-// Whether one of these without a reply is on the key.
+// Whether a command of the queue without a reply is on the key.
 fn waits_on(key: &Key, queue: &VecDeque<Pending>) -> bool
     ensures { result ≡ has_own key.now queue.now.items }
 {
@@ -64,14 +64,14 @@ impl Client {
         }
     }
 
-    /// Whether a command of it on this key has no reply yet. It takes no memory.
+    /// Whether a command of the client on this key has no reply yet. It takes no memory.
     pub fn has_own(&self, key: &Key) -> bool
         ensures { result ≡ has_own key.now self.now.queue.items }
     {
         waits_on(key, &self.queue)
     }
 
-    /// Whether nothing is read of it any more. It takes no memory.
+    /// Whether nothing is read of the client any more. It takes no memory.
     pub fn is_ended(&self) -> bool
         ensures { IsTrue result ↔ IsEnded self.now }
     {
@@ -86,7 +86,7 @@ impl Client {
         self.stream.feed(piece)
     }
 
-    /// Where nothing is held of it that isn't done, the room for that goes back: whether nothing is.
+    /// Where nothing is held of the client that isn't done, the room for that goes back: whether nothing is.
     pub fn give_back(&mut self, alloc: Global) -> bool
         ensures none { IsTrue result ↔ (held_at self.old.stream ≡ []) }
         ensures same { self.new ≡ self.old }

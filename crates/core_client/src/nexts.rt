@@ -35,7 +35,7 @@ fn is_free(queue: &VecDeque<Pending>) -> bool
 }
 
 impl Client {
-    // No whole message stands there.
+    // What is next where no whole message stands at the front.
     fn nothing(&self) -> Next
         requires { IsReadAt self.now.stream More }
         ensures { (depth : ℕ) → IsNextOf depth self.now More result }
@@ -47,7 +47,7 @@ impl Client {
         }
     }
 
-    // A message that asks no server stands there.
+    // What is next where a message that asks no server stands at the front.
     fn passing(&self, read: &Read) -> Next
         requires at { IsReadAt self.now.stream read.now }
         requires asks { AsksNone self.now.stream read.now }
@@ -62,7 +62,7 @@ impl Client {
         }
     }
 
-    // A request with keys stands at the front.
+    // What is next where a request with keys stands at the front.
     fn key_of(&self, depth: usize, request: &Request) -> Next
         requires at { IsReadAt self.now.stream (Requests request.now) }
         requires some { asks_of (message_in (held_at self.now.stream) request.now) ≡ [] → ⊥ }
@@ -82,7 +82,7 @@ impl Client {
         return self.stream.read();
     }
 
-    /// What is next for it, by what was read at its front, where so many commands may have no shown reply. It takes no memory.
+    /// What is next for the client, by what was read at its front, where so many commands may have no shown reply. It takes no memory.
     pub fn next(&self, depth: usize, read: &Read) -> Next
         requires at { IsReadAt self.now.stream read.now }
         requires served { self.now.dropped ≡ false }
@@ -102,7 +102,7 @@ impl Client {
         }
     }
 
-    /// The ask of the next key of the request at its front, in the memory of the spare one where nobody else holds that. The only error is
+    /// The ask of the next key of the request at the client's front, in the memory of the spare one where nobody else holds that. The only error is
     /// running out of memory.
     pub fn next_ask(
         &mut self,

@@ -41,6 +41,6 @@ clears_key key command = if command.claim.clears then pointwise nat_eq command.a
 abbrev pub copies_key : List ℕ → Command → Bool
 copies_key key command = if command.claim.copies then pointwise nat_eq command.ask.key key else false
 
--- one of these commands stands in the way of such a claim on the key
+-- one of these commands stands in the way of this claim on the key
 abbrev pub is_barred : List ℕ → Claim → {S : Type 0} → map.IndexMap ℕ Command S → Bool
 is_barred key claim commands = (if claim.clears then list_any (copies_key key) (map.values commands) else false) || (if claim.copies then list_any (clears_key key) (map.values commands) else false)

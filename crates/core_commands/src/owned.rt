@@ -39,7 +39,7 @@ fn first_place(client: usize, commands: &IndexMap<u64, Command>) -> Option<usize
         .position(|command| is_idle(client, command))
 }
 
-// The number of the first of them.
+// The number of the first command of this client of which no call is out.
 fn first_idle(client: usize, commands: &IndexMap<u64, Command>) -> Option<u64>
     ensures some { IfSome result (λ n. HasIdle client commands.now n) }
     ensures none { IfNone result (IsAllOut client commands.now) }

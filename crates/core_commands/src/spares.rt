@@ -20,7 +20,7 @@ const SPARE_DATA: usize = 512;
 // So many asks with more data are kept at most: stores of values of some kilobytes use each other's memory so.
 const LARGE_SPARES: usize = 64;
 
-// Each of those few has so many bytes of data at most, so the data of all asks that are kept have 1.5 MiB at most. Data that share the
+// Each ask with more data has so many bytes of them at most, so the data of all asks that are kept have 1.5 MiB at most. Data that share the
 // buffer that they came in are longer, so no kept ask holds such a buffer.
 const LARGE_DATA: usize = 8_192;
 

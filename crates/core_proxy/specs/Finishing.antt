@@ -20,7 +20,7 @@ pub record CanEnd (core : Core) (client number : ℕ) : Type 0 where
   pub idle : IsIdle client core.commands number command
   pub done : IsDone command.job
 
--- what is told of a command that ended so
+-- what is told of a command of this number that ended with this reply
 pub record IsNote (number : ℕ) (ask : Ask) (given : Given) (note : Note) (reply : Answer) : Type 0 where
   pub number_is : note.number ≡ number
   pub asked : note.ask ≡ ask

@@ -221,7 +221,7 @@ NoneWaits core client = ForClient core client (λ x. AreNotFull client core.limi
 abbrev pub NothingBegins : Core → ℕ → Type 0
 NothingBegins core client = ForClient core client (IsLater core.limits.depth)
 
--- a key is next at its front, and it may have one more command
+-- a key is next at the client's front, and the client may have one more command
 abbrev pub MayAsk : Core → ℕ → Type 0
 MayAsk core client = (request : Request) × ForClient core client (CanAskBelow core.limits.depth request)
 
@@ -294,7 +294,7 @@ pub record DropsAll (old : Core) (client : ℕ) (new : Core) : Type 0 where
   pub dropped : dropped_by (client_at new client) ≡ true
   pub output : (c : ℕ) → output_by (client_at new c) ≡ output_by (client_at old c)
 
--- memory was refused after some of it, and the client is dropped and stands in no line of a key
+-- memory was refused after a part of a poll, and the client is dropped and stands in no line of a key
 pub record StopsAt (old : Core) (client : ℕ) (new : Core) : Type 0 where
   pub numbers : List ℕ
   pub lines : new.lines ≡ others client old.lines
@@ -311,7 +311,7 @@ PollFault old client faults.InputFull new = ⊥
 PollFault old client faults.UnderWay new = ⊥
 PollFault old client faults.NoTicket new = ⊥
 
--- why a message was not answered, before the client is dropped for that
+-- why a poll of a client that is served stopped, before the client is dropped for that
 abbrev pub ReadFault : Core → ℕ → CoreFault → Core → Type 0
 ReadFault old client faults.NoMemory new = GoesBy old (SoFar client) new × ForClient new client IsServed × (others client new.lines ≡ others client old.lines)
 ReadFault old client faults.Spent new = (old.number ≡ LAST_COMMAND) × (new ≡ old)

@@ -8,7 +8,7 @@ use Rattle.core_commands.specs.declared.turns.Turn.TheVariants as turns
 use Rattle.core_commands.specs.Ready.{IsTurn}
 pub use Rattle.core_commands.specs.Ready.{goes_on}
 
--- the command goes on so
+-- the command goes on at its turn, which is this
 abbrev pub IsReady : ℕ → ℕ → {S : Type 0} → map.IndexMap ℕ Command S → Ready → Type 0
 IsReady client window commands ready = IsTurn client window commands ready.number ready.turn × (goes_on ready.turn ≡ true)
 
@@ -16,12 +16,12 @@ IsReady client window commands ready = IsTurn client window commands ready.numbe
 abbrev pub IsHeldUp : ℕ → ℕ → {S : Type 0} → map.IndexMap ℕ Command S → ℕ → Type 0
 IsHeldUp client window commands number = IsTurn client window commands number turns.Rests ⊎ IsTurn client window commands number turns.Full
 
--- none of these can whose reply hasn't come
+-- none of these commands whose reply hasn't come can go on
 abbrev pub AreHeldUp : ℕ → ℕ → {S : Type 0} → map.IndexMap ℕ Command S → List Pending → Type 0
 AreHeldUp client window commands [] = Unit {0}
 AreHeldUp client window commands (pending ∷ rest) = (pending.reply ≡ None → IsHeldUp client window commands pending.number) × AreHeldUp client window commands rest
 
--- none of these waits for its server whose reply hasn't come
+-- none of these commands whose reply hasn't come waits for its server
 abbrev pub AreNotFull : ℕ → ℕ → {S : Type 0} → map.IndexMap ℕ Command S → List Pending → Type 0
 AreNotFull client window commands [] = Unit {0}
 AreNotFull client window commands (pending ∷ rest) = (pending.reply ≡ None → IsTurn client window commands pending.number turns.Full → ⊥) × AreNotFull client window commands rest

@@ -114,7 +114,7 @@ SendingIsAStep =
 abbrev pub event_of : ℕ → Command → End → Event
 event_of number a end = Calls number (server_in a.job.pending) (ask_under a.job.frames.items a.job.ask) (origin_under a.job.frames.items OfClient) end
 
--- what stands beside the core after it
+-- what stands beside the core after this event
 abbrev pub settled : Event → Beside → Beside
 settled event beside =
     record beside {

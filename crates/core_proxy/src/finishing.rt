@@ -25,7 +25,7 @@ pub struct EndedCommand {
     pub acknowledged: bool,
 }
 
-// What is told of a command of this ask that ended so.
+// What is told of a command of this ask that ended with this reply.
 fn told_of(ask: &Ask, done: &Done) -> EndedCommand
     ensures from { result.from ≡ (given_of done.now).from }
     ensures acknowledged { IsTrue result.acknowledged ↔ Acknowledges ask.now (given_of done.now).reply }
@@ -71,7 +71,7 @@ fn done_of(alloc: Global, command: Command, commands: &mut CommandTable) -> (Sha
     (ask, done)
 }
 
-// What is told of it, and its reply.
+// What is told of a command that ended, and its reply.
 fn note_of(number: u64, ask: SharedAsk, done: Done) -> (Note, Answer)
     ensures { IsNote number ask (given_of done) result.0 result.1 }
 {

@@ -39,6 +39,6 @@ IsFaultAmong trees tree faults.NoMemory = Unit {0}
 abbrev pub AreKept : Addresses → Addresses → Type 0
 AreKept used new = (i : ℕ) → i < length used → slice_get new i ≡ slice_get used i
 
--- of the configuration in use and a new one
+-- the servers of a new configuration begin with those of the one in use, so that each keeps its number
 abbrev pub KeepsNumbers : List Configuration → Configuration → Type 0
 KeepsNumbers configs config = (used : Configuration) → IsLast configs used → AreKept used.servers config.servers

@@ -22,7 +22,7 @@ abbrev pub has_runs : ℕ → List Run → Bool
 has_runs modulus [] = false
 has_runs modulus (run ∷ runs) = nat_eq run.first 0 && is_rising 0 modulus runs
 
--- the rows have the class's modulus, and such runs
+-- the rows have the class's modulus, and runs that begin at 0 and rise, below the modulus
 abbrev pub is_shaped : Class → ClassRows → Bool
 is_shaped class rows = nat_eq rows.modulus class.modulus && has_runs class.modulus rows.runs.items
 

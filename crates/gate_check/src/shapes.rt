@@ -29,7 +29,7 @@ fn are_runs(modulus: u32, runs: &[Run]) -> bool
     }
 }
 
-// Whether the rows have the class's modulus, and such runs.
+// Whether the rows have the class's modulus, and runs that begin at 0 and rise, below the modulus.
 fn is_shaped(class: &Class, rows: &ClassRows) -> bool
     ensures { result ≡ is_shaped class.now rows.now }
 {

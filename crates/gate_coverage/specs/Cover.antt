@@ -42,7 +42,7 @@ abbrev pub dialect_of : Deleting → Dialect
 dialect_of kinds.Delete = dialects.Classic
 dialect_of kinds.Md = dialects.Meta
 
--- in every word of such a delete that is acknowledged the server is cleared
+-- in every word of a delete of this kind that is acknowledged the server is cleared
 abbrev pub Clears : Plan → Deleting → ℕ → Type 0
 Clears plain kind server =
     (ask : Ask) → IsAsk ask → ask.op ≡ Delete → ask.dialect ≡ dialect_of kind → (calls : List Call) (reply : Answer) (from : Option ℕ)

@@ -38,7 +38,7 @@ module _ (text : List ℕ) (pool : List ℕ) where
     doubts_policy (Otherwise r) = doubts r
     doubts_policy (Policy o r ps) = if same_op o Delete then doubts r else doubts_policy ps
 
-    -- by the longest policy that begins the text, with the longest so far, else by the wildcard
+    -- whether the longest policy that begins the text doubts, with the longest so far, else the wildcard
     pub doubts_prefixes : Prefixes → Option (List ℕ × Bool) → Bool
     doubts_prefixes (Wildcard r) best = best_or (doubts r) best
     doubts_prefixes (Prefix p r ps) best = doubts_prefixes ps (if begins p text && is_longer p best then Some (p, doubts r) else best)

@@ -8,11 +8,11 @@ use Rattle.gate_coverage.specs.declared.deleting.Deleting.{Deleting}
 use Rattle.gate_coverage.specs.Cover.{Takes, Clears, Covers}
 use Rattle.gate_coverage.specs.Computed.{taken, cleared}
 
--- what is computed of a read
+-- what is computed of a read is exact
 abbrev pub TakenIsExact : Type 0
 TakenIsExact = (plain : Plan) (op : Op) (s : ℕ) → IsGood plain → IsTrue (taken plain op s) ↔ Takes plain op s
 
--- what is computed of a delete
+-- what is computed of a delete is exact
 abbrev pub ClearedIsExact : Type 0
 ClearedIsExact = (plain : Plan) (kind : Deleting) (s : ℕ) → IsGood plain → IsTrue (cleared plain s) ↔ Clears plain kind s
 

@@ -64,7 +64,7 @@ module _ (text : List ℕ) (op : Op) where
     pools_of_prefixes shows copies (Prefix p r ps) best =
         pools_of_prefixes shows copies ps (if begins p text && is_longer p best then Some (p, pools_of shows copies r) else best)
 
--- the pool is among them
+-- the pool is among the pools
 abbrev pub has_pool : List (List ℕ) → List ℕ → Bool
 has_pool [] pool = false
 has_pool (p ∷ ps) pool = bytes_eq p pool || has_pool ps pool

@@ -55,7 +55,7 @@ fn keeps(seen: Seen, server: ServerId) -> bool
     }
 }
 
-// All children.
+// Whether a delete that asks all children can be acknowledged with the server not cleared.
 #[cycle(keeps)]
 fn each_keeps(children: SeenAll, server: ServerId) -> bool
     ensures { result ≡ kept_each server (all_plans_of children.entry) }
@@ -66,7 +66,7 @@ fn each_keeps(children: SeenAll, server: ServerId) -> bool
     }
 }
 
-// Children up to one that doesn't fail.
+// Whether a delete that asks children up to one that doesn't fail can be acknowledged with the server not cleared.
 #[cycle(keeps)]
 fn first_keeps(children: SeenAll, server: ServerId) -> bool
     ensures { result ≡ kept_first server (all_plans_of children.entry) }
@@ -81,7 +81,7 @@ fn first_keeps(children: SeenAll, server: ServerId) -> bool
     }
 }
 
-// The first child alone.
+// Whether a delete that asks the first child alone can be acknowledged with the server not cleared.
 #[cycle(keeps)]
 fn head_keeps(children: SeenAll, server: ServerId) -> bool
     ensures { result ≡ kept_head server (all_plans_of children.entry) }

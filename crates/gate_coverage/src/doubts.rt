@@ -35,7 +35,7 @@ fn doubts(tree: &Tree, text: &[u8], pool: &Pool) -> bool
     }
 }
 
-// All children.
+// Whether a delete that asks all children may be acknowledged with the pool's server not cleared.
 #[cycle(doubts)]
 fn doubts_each(children: &[Tree], text: &[u8], pool: &Pool) -> bool
     ensures { result ≡ doubts_each text.now pool.now (routes_of children.now) }
@@ -46,7 +46,7 @@ fn doubts_each(children: &[Tree], text: &[u8], pool: &Pool) -> bool
     }
 }
 
-// Children up to one that doesn't fail.
+// Whether a delete that asks children up to one that doesn't fail may be acknowledged with the pool's server not cleared.
 #[cycle(doubts)]
 fn doubts_first(children: &[Tree], text: &[u8], pool: &Pool) -> bool
     ensures { result ≡ doubts_first text.now pool.now (routes_of children.now) }
@@ -60,7 +60,7 @@ fn doubts_first(children: &[Tree], text: &[u8], pool: &Pool) -> bool
     }
 }
 
-// The first child alone.
+// Whether a delete that asks the first child alone may be acknowledged with the pool's server not cleared.
 #[cycle(doubts)]
 fn doubts_head(children: &[Tree], text: &[u8], pool: &Pool) -> bool
     ensures { result ≡ doubts_head text.now pool.now (routes_of children.now) }
@@ -71,7 +71,7 @@ fn doubts_head(children: &[Tree], text: &[u8], pool: &Pool) -> bool
     }
 }
 
-// The child of a delete, else the default.
+// Whether the child of a delete, else the default, may acknowledge it with the pool's server not cleared.
 #[cycle(doubts)]
 fn doubts_policy(policies: &[(Op, Tree)], default: &Tree, text: &[u8], pool: &Pool) -> bool
     ensures { result ≡ doubts_policy text.now pool.now (policies_of policies.now default.now) }

@@ -138,7 +138,7 @@ fn add_pool<'a>(
     Ok(())
 }
 
-// All children: of equal ranks the first is the reply.
+// Adds the pools that are sought of all children: of equal ranks the first is the reply.
 #[cycle(pools)]
 fn add_pools_of_each<'a>(
     children: &'a [Tree],
@@ -168,7 +168,7 @@ fn add_pools_of_each<'a>(
     }
 }
 
-// Children up to a hit.
+// Adds the pools that are sought of children up to a hit.
 #[cycle(pools)]
 fn add_pools_of_some<'a>(
     children: &'a [Tree],
@@ -187,7 +187,7 @@ fn add_pools_of_some<'a>(
     }
 }
 
-// Children up to one that doesn't fail.
+// Adds the pools that are sought of children up to one that doesn't fail.
 #[cycle(pools)]
 fn add_pools_of_first<'a>(
     children: &'a [Tree],
@@ -209,7 +209,7 @@ fn add_pools_of_first<'a>(
     }
 }
 
-// The first child alone.
+// Adds the pools that are sought of the first child alone.
 #[cycle(pools)]
 fn add_pools_of_head<'a>(
     children: &'a [Tree],
@@ -225,7 +225,7 @@ fn add_pools_of_head<'a>(
     }
 }
 
-// The child of the operation, else the default.
+// Adds the pools that are sought of the child of the operation, else of the default.
 #[cycle(pools)]
 fn add_pools_of_policy<'a>(
     policies: &'a [(Op, Tree)],
@@ -260,7 +260,7 @@ fn sought_pools<'a>(alloc: Global, tree: &'a Tree, text: &[u8]) -> Result<Vec<Po
     Ok(pools)
 }
 
-// Whether the pool is among them.
+// Whether the pool is among the pools.
 fn has_pool(pools: &[Pool], pool: &Pool) -> bool
     ensures { result ≡ has_pool pools.now pool.now }
 {

@@ -93,7 +93,7 @@ fn warmed(cold: Possible, warm: Possible, adds: bool) -> Possible
     }
 }
 
-/// What can come of it at all children: of equal ranks the first is the reply. It takes no memory.
+/// What can come of the operation at all children: of equal ranks the first is the reply. It takes no memory.
 #[cycle(possible_at)]
 pub fn possible_each(children: SeenAll, op: Op, server: ServerId) -> Possible
     ensures fails { result.fails ≡ fails_some op (all_plans_of children.entry) }
@@ -121,7 +121,7 @@ pub fn possible_each(children: SeenAll, op: Op, server: ServerId) -> Possible
     }
 }
 
-// Children up to one that doesn't fail.
+// What can come of the operation at children up to one that doesn't fail.
 #[cycle(possible_at)]
 fn possible_first(children: SeenAll, op: Op, server: ServerId) -> Possible
     ensures fails { result.fails ≡ fails_each op (all_plans_of children.entry) }
@@ -149,7 +149,7 @@ fn possible_first(children: SeenAll, op: Op, server: ServerId) -> Possible
     }
 }
 
-// Children up to a hit.
+// What can come of the operation at children up to a hit.
 #[cycle(possible_at)]
 fn possible_some(children: SeenAll, op: Op, server: ServerId) -> Possible
     ensures fails { result.fails ≡ fails_last op (all_plans_of children.entry) }
@@ -175,7 +175,7 @@ fn possible_some(children: SeenAll, op: Op, server: ServerId) -> Possible
     }
 }
 
-// The first child alone.
+// What can come of the operation at the first child alone.
 #[cycle(possible_at)]
 fn possible_head(children: SeenAll, op: Op, server: ServerId) -> Possible
     ensures fails { result.fails ≡ fails_head op (all_plans_of children.entry) }

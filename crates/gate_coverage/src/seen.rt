@@ -25,9 +25,9 @@ pub struct At<'a> {
 /// A plain tree. Contracts speak of it by `plan_of`.
 #[derive(Clone, Copy)]
 pub enum Seen<'a> {
-    /// One that was built.
+    /// A plain tree that was built.
     Plain(&'a Plain),
-    /// What the tree is there.
+    /// What a tree is for a hash and a text.
     Tree(&'a Tree, &'a At<'a>),
 }
 

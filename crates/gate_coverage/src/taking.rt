@@ -36,7 +36,7 @@ pub fn is_taken(plain: &Plain, op: Op, server: ServerId) -> bool
     is_taken_of(Seen::Plain(plain), op, server)
 }
 
-// Whether the replies show one, or it is copied.
+// Whether replies to the operation show an item of the server, or a get copies one.
 fn is_taken_of(seen: Seen, op: Op, server: ServerId) -> bool
     ensures { result ≡ taken (plan_of seen.entry) op server }
 {

@@ -36,24 +36,24 @@ read_of op key = record { key = key; op = op; dialect = dialects.Classic; with_c
 abbrev pub bait : Item
 bait = record { content = 49 ∷ []; flags = 0; stamp = 0 }
 
--- what the read is answered where it is held
+-- what the read is answered where the bait is held
 abbrev pub answer_of : Op → Answer
 answer_of Incr = Number 2
 answer_of Decr = Number 0
 answer_of _ = Hit 0 (49 ∷ []) None
 
--- server s alone holds it
+-- server s alone holds the bait
 abbrev pub IsBaited : (ℕ → List ℕ → Option Item) → ℕ → List ℕ → Type 0
 IsBaited opening s key = (opening s key ≡ Some bait) × ((t : ℕ) → t ≢ s → opening t key ≡ None)
 
--- where both numbers are computed, the script leaks: all calls fail but the one that acknowledges, if there is one, and the one that shows
+-- where both numbers of failing calls are computed, the script leaks: all calls fail but the one that acknowledges, if there is one, and the one that shows
 abbrev pub NumbersLeak : (ℕ → Ask → ℕ → Ask → Type 0) → Type 0
 NumbersLeak Bars =
     (at : ℕ → List ℕ → Plan) (opening : ℕ → List ℕ → Option Item) (key : List ℕ) (op : Op) (kind : Deleting) (s i j : ℕ)
     → IsKey key → IsTaking op → IsGood (at 1 key) → IsGood (at 2 key) → IsBaited opening s key
     → acks s (at 1 key) ≡ Some i → finds op s (at 2 key) ≡ Some j → LeaksIn at Bars opening (delete_of kind key) (read_of op key) s i j (answer_of op)
 
--- for a real gap both are computed, an all-sync or a warm-up aside; and then a script leaks
+-- for a real gap both numbers of failing calls are computed, an all-sync or a warm-up aside; and then a script leaks
 abbrev pub GapsHaveLeaks : (ℕ → Ask → ℕ → Ask → Type 0) → Type 0
 GapsHaveLeaks Bars =
     (at : ℕ → List ℕ → Plan) (opening : ℕ → List ℕ → Option Item) (key : List ℕ) (op : Op) (kind : Deleting) (s : ℕ)

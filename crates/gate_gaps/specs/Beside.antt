@@ -42,7 +42,7 @@ ShownAfter plain s ask answer b n =
     (front : List Call) × Word plain ask Client b (front ++ answered s ask answer ∷ []) (record { reply = answer; from = Some (b + n) })
     × Each (IsTry ask.key) front × (length front ≡ n)
 
--- no all-sync and no warm-up stands in it, children for other operations aside
+-- no all-sync and no warm-up stands in the plain tree, children for other operations aside
 module _ (op : Op) where
   abbrev mutual
     pub IsDirect : Plan → Type 0
@@ -77,7 +77,7 @@ FindsAreWords =
 abbrev pub KeptIsAcked : Type 0
 KeptIsAcked = (plain : Plan) (s : ℕ) (kind : Deleting) → IsGood plain → IsDirect Delete plain → (Clears plain kind s → ⊥) → IsSome (acks s plain)
 
--- where a server is taken, too
+-- where a server is taken, a number is computed, an all-sync or a warm-up aside
 abbrev pub TakenIsFound : Type 0
 TakenIsFound = (plain : Plan) (op : Op) (s : ℕ) → IsGood plain → IsDirect op plain → Takes plain op s → IsSome (finds op s plain)
 

@@ -70,7 +70,7 @@ pub record IsBait (opening : ℕ → List ℕ → Option Item) (delete read : As
   pub done : rank_of answer ≡ 0
   pub agrees : Agrees read answer (Some item)
 
--- where both numbers are computed, there is such a run, whichever commands bar one another; the trees of the two commands may differ
+-- where both numbers of failing calls are computed, there is a run that leaks after these, whichever commands bar one another; the trees of the two commands may differ
 abbrev pub GapsLeak : (ℕ → Ask → ℕ → Ask → Type 0) → Type 0
 GapsLeak Bars =
     (at : ℕ → List ℕ → Plan) (opening : ℕ → List ℕ → Option Item) (delete read : Ask) (s i j : ℕ) (answer : Answer)

@@ -43,7 +43,7 @@ pub record Leaks (P : Protocol) (words : Words) (Bars : ℕ → Ask → ℕ → 
   pub replied : (n : ℕ) → 1 ≤ n → n ≤ commands_in (run_of (core_of log)) → (key : List ℕ) × (reply : Answer) × IsReplied (run_of (core_of log)) n key reply
   pub leaks : IsFreshByNumber opening (run_of (core_of log)) → ⊥
 
--- from that place the text is read as one message that asks this alone, and is done with its reply
+-- from this place the text is read as one message that asks this alone, and is done with its reply
 pub record IsOneAsk (P : Protocol) (place : P.Place) (text : List ℕ) (ask : Ask) (reply : Answer) (message : P.Message) (next : P.Place) : Type 0 where
   pub reads : P.Reads (P.fed place text) message next
   pub asks : P.asks_of message ≡ ask ∷ []

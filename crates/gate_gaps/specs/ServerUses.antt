@@ -25,7 +25,7 @@ pub record AreServersOf (plain : Plan) (row : List ℕ) : Type 0 where
   pub named : (s : ℕ) → Contains row s → Contains (servers plain) s
   pub whole : (s : ℕ) → Contains (servers plain) s → Contains row s
 
--- what becomes of each of them
+-- what becomes of each server that the plain tree names
 pub record AreServerUses (plain : Plan) (kind : Deleting) (server_uses : List ServerUse) : Type 0 where
   pub servers : AreServersOf plain (map (λ (x : ServerUse). x.server) server_uses)
   pub each : Each (IsServerUse plain kind) server_uses

@@ -99,12 +99,12 @@ module _ (servers : Addresses) (pools : NamedPools) (server : ℕ) where
       site_text (ByOperation ps) = site_by ps
       site_text (ByPrefix ps) = site_begun (longest_begun prefix ps) ps
 
-      -- by the first policy of deletes, else by the default
+      -- the rest of the path by the first policy of deletes, else by the default
       pub site_by : Policies → List ℕ
       site_by (Otherwise r) = text_of phrases.DefaultPath ++ site_text r
       site_by (Policy op r ps) = if same_op op Delete then text_of phrases.DeletePath ++ site_text r else site_by ps
 
-      -- by the policy of this length that begins the place's prefix, else by the wildcard
+      -- the rest of the path by the policy of this length that begins the place's prefix, else by the wildcard
       pub site_begun : (longest : ℕ) → Prefixes → List ℕ
       site_begun longest (Wildcard r) = text_of phrases.WildcardPath ++ site_text r
       site_begun longest (Prefix p r ps) =

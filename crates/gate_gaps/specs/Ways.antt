@@ -59,7 +59,7 @@ abbrev pub some_taken : Op → ℕ → Plans → Bool
 some_taken op s End = false
 some_taken op s (More p ps) = taken p op s || some_taken op s ps
 
--- by the child of the operation it does
+-- by the child that is chosen for the operation it takes the server
 abbrev pub policy_taken : Op → ℕ → PlanPolicies → Bool
 policy_taken op s (Otherwise p) = taken p op s
 policy_taken op s (Policy o p ps) = if same_op o op then taken p op s else policy_taken op s ps

@@ -152,7 +152,7 @@ fn write_path<W: Write>(part: Phrase, out: &mut W) -> io::Result<()>
     write!(out, "{part}")
 }
 
-// From a route on: the rest of the path, and then the route.
+// Writes the rest of the path from a route on, and then the route.
 #[cycle(site)]
 fn write_site<W: Write>(
     servers: &Servers,
@@ -185,7 +185,7 @@ fn write_site<W: Write>(
     }
 }
 
-// By the first policy of deletes, else by the default.
+// Writes the rest of the path by the first policy of deletes, else by the default.
 #[cycle(site)]
 fn write_site_by<W: Write>(
     servers: &Servers,
@@ -221,7 +221,7 @@ fn write_policy_path<W: Write>(policy: &[u8], out: &mut W) -> io::Result<()>
     write!(out, "/policies/{name}")
 }
 
-// By the policy of this length that begins the place's prefix, else by the wildcard.
+// Writes the rest of the path by the policy of this length that begins the place's prefix, else by the wildcard.
 #[cycle(site)]
 fn write_site_begun<W: Write>(
     servers: &Servers,

@@ -69,7 +69,7 @@ pub fn add_way(
     }
 }
 
-// By the first of the children by which the read takes the server; the first of these children has this index.
+// Adds the steps by the first of the children by which the read takes the server; the first of these children has this index.
 #[cycle(way)]
 fn add_way_among(
     children: &[Plain],
@@ -96,7 +96,7 @@ fn add_way_among(
     }
 }
 
-// By the child of the operation, else the default.
+// Adds the steps by the child of the operation, else by the default.
 #[cycle(way)]
 fn add_way_by(
     policies: &[(Op, Plain)],

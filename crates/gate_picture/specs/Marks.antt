@@ -51,7 +51,7 @@ module _ (gap : Gap) where
     way_below n (ByOperation ps) way = way_by n (n + 1) ps (later way)
     way_below n (ByPrefix ps) way = way_begun n (longest_begun (prefix_text gap.place.prefix) ps) (n + 1) (no_run n) ps way
 
-    -- by the child that so many children stand before; the first of these children has this index and number, and stands after a
+    -- the way by the child that so many children stand before; the first of these children has this index and number, and stands after a
     -- child of this run. Of a child that is drawn with others their node is marked, and the way goes on below it
     pub way_among : (parent before index n : ℕ) → Run → Routes → List WayStep → List ℕ
     way_among parent before index n run End way = []
@@ -60,14 +60,14 @@ module _ (gap : Gap) where
         step_lines parent (codes "children[" ++ decimal index ++ codes "]") (next_run run n r rs).head ++ way_below (next_run run n r rs).head r way
         else way_among parent (before - 1) (index + 1) (n + nodes r) (next_run run n r rs) rs way
 
-    -- by the first policy of the read, else by the default
+    -- the way by the first policy of the read, else by the default
     pub way_by : (parent n : ℕ) → Policies → List WayStep → List ℕ
     way_by parent n (Otherwise r) way = step_lines parent (codes "default") n ++ way_below n r way
     way_by parent n (Policy op r ps) way =
         if same_op op gap.op then step_lines parent (op_name op) n ++ way_below n r way
         else way_by parent (n + nodes r) ps way
 
-    -- by the policy of this length that begins the place's prefix, else by the wildcard
+    -- the way by the policy of this length that begins the place's prefix, else by the wildcard
     pub way_begun : (parent longest n : ℕ) → Run → Prefixes → List WayStep → List ℕ
     way_begun parent longest n run (Wildcard r) way = step_lines parent (codes "wildcard") n ++ way_below n r way
     way_begun parent longest n run (Prefix p r ps) way =
@@ -75,6 +75,6 @@ module _ (gap : Gap) where
         step_lines parent (codes "prefix " ++ quoted p) (next_prefix_run run n r ps).head ++ way_below (next_prefix_run run n r ps).head r way
         else way_begun parent longest (n + nodes r) (next_prefix_run run n r ps) ps way
 
-  -- from the root on
+  -- the way from the root on
   abbrev pub way_lines : Route → List WayStep → List ℕ
   way_lines r way = red_node_line 0 ++ way_below 0 r way

@@ -196,7 +196,7 @@ fn write_leaves<W: Write>(
     }
 }
 
-// Lines for the first child by prefix of a run and for so many more of it, and no more than the limit.
+// Lines for the first child by prefix of a run and for so many more, and no more than the limit; two dots in place of the others.
 fn write_prefix_leaves<W: Write>(
     servers: &Servers,
     pools: &[ConfigPool],

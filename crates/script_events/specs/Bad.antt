@@ -82,7 +82,7 @@ bad_in servers before (At turn loss) = turn == 0 || nat_le servers (loser_of los
 bad_in servers before (Now loss) = nat_le servers (loser_of loss)
 bad_in servers before (Moment moment) = int_lt moment (pos 0)
 
--- the place of the first one that can't be, after those before
+-- the place of the first event that can't be, after the events before
 abbrev pub first_from : ℕ → List Scripted → List Scripted → Option ℕ
 first_from servers before [] = None
 first_from servers before (event ∷ events) =

@@ -48,7 +48,7 @@ changed_at (suc s) change (c ∷ caches) = c ∷ changed_at s change caches
 abbrev pub after_loss : Event → List Contents → List Contents
 after_loss loss caches = changed_at (place_of loss) (plain_for loss) caches
 
--- what losses leave of them, the first one first
+-- what losses leave of the caches, the first loss first
 abbrev pub lost_in : List Event → List Contents → List Contents
 lost_in [] caches = caches
 lost_in (loss ∷ more) caches = lost_in more (after_loss loss caches)

@@ -37,7 +37,7 @@ pub record IsFound (call : Call) (found : Option Item) (stamp : Option ℕ) : Ty
   pub agrees : AgreesWith call.ask call.outcome found
   pub stamp_is : IsStamp call.outcome found stamp
 
--- of each call
+-- what each call found, and what is known of its stamp
 abbrev pub AreFound : List Call → List (Option Item) → List (Option ℕ) → Type 0
 AreFound [] [] [] = Unit {0}
 AreFound (call ∷ calls) (found ∷ more) (stamp ∷ stamps) = IsFound call found stamp × AreFound calls more stamps

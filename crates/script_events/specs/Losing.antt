@@ -19,7 +19,7 @@ abbrev pub events_of : List Loss → List Event
 events_of [] = []
 events_of (loss ∷ more) = events_of more ++ lost_by (told_of loss) ∷ []
 
--- the first one is lost first, and nothing else changes
+-- the first of these losses comes first, and nothing else changes
 pub record AreLost (lost : List Loss) (old new : List Contents) : Type 0 where
   pub contents : new ≡ lost_in (map loss_of lost) old
   pub holds : (s : ℕ) (k : List ℕ) → held_at new s k ≡ after_losses (events_of lost) (held_at old) s k

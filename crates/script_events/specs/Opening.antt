@@ -17,7 +17,7 @@ put_by s cache (At turn loss) = cache
 put_by s cache (Now loss) = cache
 put_by s cache (Moment moment) = cache
 
--- what events put there, in order
+-- what events put into the cache of a server, in order
 abbrev pub put_by_all : ℕ → Contents → List Scripted → Contents
 put_by_all s cache [] = cache
 put_by_all s cache (event ∷ events) = put_by_all s (put_by s cache event) events

@@ -128,7 +128,7 @@ module _ (first : Route) (refused : List Bool) (reloads : List Reload) (events :
         world = world_stays events h.done h.log g.more s h.world (none_more (opening_of events) (tree_by first h.loads) h.log (kept_of a s) (kept_of b s) h.stands refl g.more g.stands);
       }
 
-  -- some of the output is handed out
+  -- a script has come as far where some of the output was handed out
   abbrev pub come_some :
       (loaded : ℕ) (left : List Scripted) (before after : List Shown) (a : Runner) (s : ScriptServers) → HandsSome before after a
       → HasCome first refused reloads events loaded left before (kept_of a s) → (k : Kept) × HasCome first refused reloads events loaded left after k

@@ -421,7 +421,7 @@ given_nothing client bytes shown a b none m s opening tree log stands =
       longer = ([], sym (append-nil shown));
     }
 
--- output that isn't empty is handed out
+-- a client is given its output, which isn't empty: it is handed out
 pub given_more :
     (client : ℕ) (bytes : List ℕ) (before after : List Shown) (a b : Runner) → after ≡ before ++ record { client = client; bytes = bytes } ∷ [] → ((s : ScriptServers) → MovesGiven client bytes a s b s) → HandsOut (λ c. client ≡ c) before after a b
 given_more client bytes before after a b more m s opening tree log stands =

@@ -5,7 +5,7 @@ use Rattle.script_events.specs.Caches.{changed_at}
 use Rattle.script_events.specs.declared.script.Event.{Event}
 use Rattle.script_events.specs.Scripted.{Scripted, Piece, Add, Result, Fail, Hold, At, Now, Moment, scripted_of}
 
--- what an event puts on them
+-- what an event puts on the servers' caches
 abbrev pub put_on : Scripted → List Contents → List Contents
 put_on (Hold server key content) caches = changed_at server (λ c. storing c key (opening content)) caches
 put_on (Piece client bytes) caches = caches
@@ -16,7 +16,7 @@ put_on (At turn loss) caches = caches
 put_on (Now loss) caches = caches
 put_on (Moment moment) caches = caches
 
--- what events put there, in order
+-- what events put on the servers' caches, in order
 abbrev pub put_all_on : List Event → List Contents → List Contents
 put_all_on [] caches = caches
 put_all_on (event ∷ events) caches = put_all_on events (put_on (scripted_of event) caches)

@@ -9,7 +9,7 @@ use Rattle.script_run.specs.declared.driver.runner.Progress.{Progress}
 use Rattle.script_run.specs.declared.driver.runner.Progress.TheVariants.{Idle, Waits, Moved}
 use Rattle.script_run.specs.declared.driver.runner.Runner.{Runner}
 
--- something was done where one of them did something, and nothing is left to do where neither has anything left
+-- what two polls together gave: something was done where one of them did something, and nothing is left to do where neither has anything left
 abbrev pub both_gave : Progress → Progress → Progress
 both_gave Idle other = other
 both_gave Waits Idle = Waits
@@ -35,6 +35,6 @@ AreStillBelow Idle count core = (c : ℕ) → c < count → IsIdle core c
 AreStillBelow Waits count core = (c : ℕ) → c < count → IsStalled core c
 AreStillBelow Moved count core = Unit {0}
 
--- of all that were opened
+-- polls of all clients that were opened leave this: where nothing was done, nothing can be done for any of them without a result
 abbrev pub AreStill : Progress → Runner → Type 0
 AreStill progress runner = AreStillBelow progress runner.clients runner.core

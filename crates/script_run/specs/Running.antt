@@ -15,7 +15,7 @@ use Rattle.script_run.specs.Counting.{last_of}
 use Rattle.script_run.specs.Finding.{found_of}
 use Rattle.script_run.specs.declared.driver.runner.Runner.{Runner}
 
--- what is kept of it in the log
+-- what is kept of a runner and its servers beside the log
 abbrev pub kept_of : Runner → ScriptServers → Kept
 kept_of runner servers =
     record {
@@ -93,7 +93,7 @@ IsIdle core client = ForClient core client IsDone
 abbrev pub AreIdle : Runner → Type 0
 AreIdle runner = (c : ℕ) → c < runner.clients → IsIdle runner.core c
 
--- nothing can be done for any that was opened without a result of a call
+-- nothing can be done for any client that was opened without a result of a call
 abbrev pub AreStalled : Runner → Type 0
 AreStalled runner = (c : ℕ) → c < runner.clients → IsStalled runner.core c
 
@@ -101,7 +101,7 @@ AreStalled runner = (c : ℕ) → c < runner.clients → IsStalled runner.core c
 abbrev pub KeepStalled : Runner → Runner → Type 0
 KeepStalled old new = (c : ℕ) → IsStalled old.core c → IsStalled new.core c
 
--- nothing is left to do for any, and no command is under way
+-- nothing is left to do for any client, and no command is under way
 pub record IsAtRest (runner : Runner) : Type 0 where
   pub idle : AreIdle runner
   pub none : IsOut runner.core → ⊥

@@ -77,7 +77,7 @@ AreMany (Takes (At turn loss) ∷ deeds) = ⊥
 AreMany (Takes (Now loss) ∷ deeds) = ⊥
 AreMany (Takes (Moment moment) ∷ deeds) = ⊥
 
--- a result comes after what asks for it: where one is asked of a server at most one comes, of a call of that server
+-- results come as they are awaited: after a piece and at the end as many as there are, and where one is asked of a server at most one, of a call of that server
 abbrev pub IsAwaited : CallResult → List Deed → Type 0
 IsAwaited r (Takes (Result server) ∷ deeds) = r.server ≡ server
 IsAwaited r (Gives earlier ∷ deeds) = AreMany deeds

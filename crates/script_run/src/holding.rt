@@ -10,7 +10,7 @@ use script_events::Event;
 use script_events::servers::ScriptServers;
 use std::alloc::AllocError;
 
-// What one event puts there.
+// What one event puts on the servers is there.
 fn hold(servers: &mut ScriptServers, event: &Event) -> Result<(), AllocError>
     requires good { (before : List Scripted) × (bad_in (count_of servers.old) before (scripted_of event.now) ≡ false) }
     ensures ok { OnOk result (caches_of servers.new ≡ put_on (scripted_of event.now) (caches_of servers.old)) }

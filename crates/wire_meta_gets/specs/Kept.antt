@@ -8,7 +8,7 @@ use Rattle.wire_meta_gets.specs.Form.{wanted}
 abbrev pub IsFormFor : Bool → Ask → Type 0
 IsFormFor with_cas form = form ≡ record (bare_ask form.op form.key (wanted with_cas)) { exptime = form.exptime }
 
--- what is kept is such a form, if anything is
+-- what is kept is the form of some get, with the cas number or without it, if anything is
 abbrev pub IsKeptFor : Bool → Option Ask → Type 0
 IsKeptFor with_cas kept = IfSome kept (IsFormFor with_cas)
 

@@ -25,7 +25,7 @@ cas_flag false = []
 abbrev pub get_line : Ask → Message
 get_line ask = Served (Meta (Asking Get ask.key None (exptime_words ask.exptime ++ (codes "k" ∷ codes "f" ∷ codes "v" ∷ cas_flag ask.with_cas)))) []
 
--- what is written of a classic get is read as such an `mg`, whatever follows, and that is one ask, the form
+-- what is written of a classic get is read as an `mg` of its key with the flags of the form, whatever follows, and that is one ask, the form
 abbrev pub FormsAreRead : Type 0
 FormsAreRead = (ask : Ask) (more : List ℕ) → IsAsk ask → is_retrieval ask ≡ true
     → Begins (spelling_of (in_meta ask) ++ more) (get_line ask) (length (spelling_of (in_meta ask))) × (asks_of (get_line ask) ≡ meta_form ask ∷ [])

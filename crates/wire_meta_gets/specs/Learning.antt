@@ -11,7 +11,7 @@ use Rattle.wire_meta_gets.specs.declared.dialect.DialectRead.TheVariants as read
 abbrev pub dialect_of : List ℕ → Option Dialect
 dialect_of text = if bytes_eq text (codes "MN") then Some Meta else if bytes_eq text (codes "ERROR") then Some Classic else None
 
--- the bytes begin with such a line, of so many bytes
+-- the bytes begin with a line that tells which dialects are spoken, of so many bytes
 pub record IsDialectLine (bytes : List ℕ) (dialect : Dialect) (used : ℕ) : Type 0 where
   pub text : List ℕ
   pub rest : List ℕ
@@ -19,7 +19,7 @@ pub record IsDialectLine (bytes : List ℕ) (dialect : Dialect) (used : ℕ) : T
   pub says : dialect_of (without_cr text) ≡ Some dialect
   pub used_is : used ≡ length text + 1
 
--- What was read is there; where more is wanted, the line has no end yet; what is foreign has an end or is too long, and isn't such a line, whatever follows.
+-- What was read is there; where more is wanted, the line has no end yet; what is foreign has an end or is too long, and tells of no dialect, whatever follows.
 abbrev pub TellsDialect : List ℕ → DialectRead → Type 0
 TellsDialect bytes (reads.Told dialect used) = IsDialectLine bytes dialect used
 TellsDialect bytes reads.More = IsOpen bytes

@@ -13,7 +13,7 @@ use Rattle.wire_meta_gets.specs.declared.usual.UsualHit.{UsualHit}
 abbrev pub usual_words : List ℕ → List ℕ → List ℕ → List (List ℕ)
 usual_words key len flags = codes "VA" ∷ len ∷ (letter_k ∷ key) ∷ (letter_f ∷ flags) ∷ []
 
--- the bytes begin with such a line, each word after one space, and the data and their end follow
+-- the bytes begin with the line of a usual hit, each word after one space, and the data and their end follow
 pub record IsUsual (key bytes : List ℕ) (hit : UsualHit) : Type 0 where
   pub len : List ℕ
   pub flags : List ℕ
@@ -26,7 +26,7 @@ pub record IsUsual (key bytes : List ℕ) (hit : UsualHit) : Type 0 where
   pub end : (after : List ℕ) × (drop hit.len rest ≡ CR ∷ LF ∷ after)
   pub used : hit.used ≡ hit.start + hit.len + 2
 
--- the bytes begin with such a hit, and the ask is a get that wants no cas number
+-- the bytes begin with a usual hit, and the ask is a get that wants no cas number
 pub record IsUsualTo (ask : Ask) (bytes : List ℕ) (hit : UsualHit) : Type 0 where
   pub retrieves : is_retrieval ask ≡ true
   pub no_cas : ask.with_cas ≡ false

@@ -29,7 +29,7 @@ fn hit_of(fields: Fields) -> Answer
     }
 }
 
-// The classic answer that says the same.
+// The classic answer that says what was told in meta form.
 fn classic_of(told: Answer) -> Answer
     requires { IsTold told }
     ensures { SaysSame told result }

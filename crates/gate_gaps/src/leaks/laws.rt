@@ -16,12 +16,12 @@ pub fn gaps_have_words()
     ensures { GapsHaveWords }
 {}
 
-/// Where both numbers are computed, a run of that script, each command alone on its key, isn't fresh.
+/// Where both numbers of failing calls are computed, a run with these failures, each command alone on its key, isn't fresh.
 pub fn gaps_leak()
     ensures { GapsLeak alone }
 {}
 
-/// A gap has a script that leaks, an all-sync or a warm-up aside, by these very commands.
+/// A gap has a script that leaks, an all-sync or a warm-up aside: by a delete and a read of a key that its server holds.
 pub fn bait_is_taken()
     ensures { BaitIsTaken alone }
 {}

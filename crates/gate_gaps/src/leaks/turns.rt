@@ -65,7 +65,7 @@ fn trying(plain: &Plain, op: Op) -> Tried
     }
 }
 
-// All children.
+// What comes of all children, where every call fails.
 #[cycle(trying)]
 fn trying_some(children: &[Plain], op: Op) -> Tried
     requires { count_of_all (plans_of children.now) ≤ ROUTE_LIMIT }
@@ -89,7 +89,7 @@ fn trying_some(children: &[Plain], op: Op) -> Tried
     }
 }
 
-// Children up to one that doesn't fail.
+// What comes of children up to one that doesn't fail, where every call fails.
 #[cycle(trying)]
 fn trying_first(children: &[Plain], op: Op) -> Tried
     requires { count_of_all (plans_of children.now) ≤ ROUTE_LIMIT }
@@ -117,7 +117,7 @@ fn trying_first(children: &[Plain], op: Op) -> Tried
     }
 }
 
-// All children of a get that none of them hits.
+// What comes of all children of a get that none of them hits, where every call fails.
 #[cycle(trying)]
 fn trying_last(children: &[Plain], op: Op) -> Tried
     requires { count_of_all (plans_of children.now) ≤ ROUTE_LIMIT }
@@ -142,7 +142,7 @@ fn trying_last(children: &[Plain], op: Op) -> Tried
     }
 }
 
-// The first child alone.
+// What comes of the first child alone, where every call fails.
 #[cycle(trying)]
 fn trying_head(children: &[Plain], op: Op) -> Tried
     requires { count_of_all (plans_of children.now) ≤ ROUTE_LIMIT }
@@ -159,7 +159,7 @@ fn trying_head(children: &[Plain], op: Op) -> Tried
     }
 }
 
-// The child of the operation, else the default.
+// What comes of the child of the operation, else of the default, where every call fails.
 #[cycle(trying)]
 fn trying_policy(policies: &[(Op, Plain)], default: &Plain, op: Op) -> Tried
     ensures calls { result.calls ≡ tries_policy op (plan_policies_of policies.now default.now) }
@@ -223,7 +223,7 @@ pub fn acknowledged_after(plain: &Plain, server: ServerId) -> Option<u32>
     }
 }
 
-// Children up to one that doesn't fail.
+// How many calls of a delete that asks children up to one that doesn't fail do fail before it is acknowledged.
 #[cycle(acking)]
 fn acking_first(children: &[Plain], server: ServerId) -> Option<u32>
     requires { count_of_all (plans_of children.now) ≤ ROUTE_LIMIT }
@@ -242,7 +242,7 @@ fn acking_first(children: &[Plain], server: ServerId) -> Option<u32>
     }
 }
 
-// The first child alone.
+// How many calls of a delete that asks the first child alone fail before it is acknowledged.
 #[cycle(acking)]
 fn acking_head(children: &[Plain], server: ServerId) -> Option<u32>
     ensures { result ≡ acks_head server (plans_of children.now) }
@@ -253,7 +253,7 @@ fn acking_head(children: &[Plain], server: ServerId) -> Option<u32>
     }
 }
 
-// The child of the operation, else the default.
+// How many calls of a delete fail at its child, else at the default, before it is acknowledged.
 #[cycle(acking)]
 fn acking_policy(policies: &[(Op, Plain)], default: &Plain, server: ServerId) -> Option<u32>
     ensures { result ≡ acks_policy server (plan_policies_of policies.now default.now) }
@@ -307,7 +307,7 @@ pub fn found_after(plain: &Plain, op: Op, server: ServerId) -> Option<u32>
     }
 }
 
-// Children up to one that doesn't fail.
+// How many calls of a read that asks children up to one that doesn't fail do fail before it shows the server's item.
 #[cycle(finding)]
 fn finding_first(children: &[Plain], op: Op, server: ServerId) -> Option<u32>
     requires { count_of_all (plans_of children.now) ≤ ROUTE_LIMIT }
@@ -326,7 +326,7 @@ fn finding_first(children: &[Plain], op: Op, server: ServerId) -> Option<u32>
     }
 }
 
-// Children up to a hit.
+// How many calls of a read that asks children up to a hit fail before it shows the server's item.
 #[cycle(finding)]
 fn finding_some(children: &[Plain], op: Op, server: ServerId) -> Option<u32>
     requires { count_of_all (plans_of children.now) ≤ ROUTE_LIMIT }
@@ -345,7 +345,7 @@ fn finding_some(children: &[Plain], op: Op, server: ServerId) -> Option<u32>
     }
 }
 
-// The first child alone.
+// How many calls of a read that asks the first child alone fail before it shows the server's item.
 #[cycle(finding)]
 fn finding_head(children: &[Plain], op: Op, server: ServerId) -> Option<u32>
     ensures { result ≡ finds_head op server (plans_of children.now) }
@@ -356,7 +356,7 @@ fn finding_head(children: &[Plain], op: Op, server: ServerId) -> Option<u32>
     }
 }
 
-// The child of the operation, else the default.
+// How many calls of a read fail at its child, else at the default, before it shows the server's item.
 #[cycle(finding)]
 fn finding_policy(
     policies: &[(Op, Plain)],

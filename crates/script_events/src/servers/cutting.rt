@@ -21,7 +21,7 @@ fn is_text(token: &Token)
     }
 }
 
-// The texts of opaque tokens are.
+// The text of each opaque token is one.
 fn are_texts(tokens: &[Token])
     ensures { AreTexts tokens.now }
 {

@@ -53,7 +53,7 @@ enum Progress {
     Moved,
 }
 
-// What both together gave.
+// What two polls together gave.
 fn joined(one: Progress, other: Progress) -> Progress
     ensures { result ≡ both_gave one other }
 {
