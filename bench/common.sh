@@ -50,10 +50,12 @@ clean_up() {
 
 fail() { printf '%s: %s\n' "${0##*/}" "$*" >&2; exit 3; }
 
+# Whether nutcracker (twemproxy) is there.
+has_nutcracker() { command -v nutcracker >/dev/null; }
+
 # Finds the programs, and makes the folder. The load generator is built without proofs where it isn't proved.
 begin() {
     command -v memcached >/dev/null || fail "memcached isn't installed"
-    command -v nutcracker >/dev/null || fail "nutcracker (twemproxy) isn't installed"
     if [ -n "$unproved" ]; then
         mcgate=$("$top/mcgate" build --unproved) || exit 3
         printf '%s: mcgate is measured as it is built without proofs: %s\n' "${0##*/}" "$mcgate" >&2
