@@ -5,9 +5,7 @@ use bytes::BytesMut;
 use examples_tables::tellers::{Teller, push_word, wrong};
 use std::alloc::{AllocError, Global};
 use std::test::Fail;
-use wire_stream::{
-    Read, RefusalReason, Request, TextStream, write_long_line, write_refusal,
-};
+use wire_stream::{Read, RefusalReason, Request, TextStream, write_long_line, write_refusal};
 
 // What a client sends, and what is read of it, in whatever pieces it comes: a classic or a meta request with its number of bytes, or what a
 // refused message is answered.
@@ -182,7 +180,13 @@ fn get_of(alloc: Global, before: usize, byte: u8, after: usize) -> Result<BytesM
 }
 
 // Whether such a get is one request, or else refused for its key, as is wanted.
-fn is_read_so(alloc: Global, before: usize, byte: u8, after: usize, is_key: bool) -> Result<bool, AllocError> {
+fn is_read_so(
+    alloc: Global,
+    before: usize,
+    byte: u8,
+    after: usize,
+    is_key: bool,
+) -> Result<bool, AllocError> {
     let bytes = get_of(alloc, before, byte, after)?;
     let told = told_of_two(alloc, bytes.as_slice(), b"")?;
     if is_key {
@@ -233,6 +237,9 @@ fn a_line_too_long(rt: HostRuntime) -> Result<(), Fail> {
 fn the_answer_to_a_line_too_long(rt: HostRuntime) -> Result<(), Fail> {
     let mut out = BytesMut::new(rt.alloc());
     write_long_line(&mut out)?;
-    assert_eq!(rt; out.as_slice(), b"CLIENT_ERROR line too long\r\n".as_slice());
+    assert_eq!(rt;
+        out.as_slice(),
+        b"CLIENT_ERROR line too long\r\n".as_slice()
+    );
     Ok(())
 }
