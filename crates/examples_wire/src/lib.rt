@@ -2,9 +2,14 @@
 //! refusals. They stand above the crates that they show, so that a change of an example proves the example alone.
 #![tactic(auto)]
 
+#[cfg(test)]
 mod codec;
 #[cfg(test)]
+mod escapes;
+#[cfg(test)]
 mod parts;
+#[cfg(test)]
+mod reads;
 #[cfg(test)]
 mod requests_classic;
 #[cfg(test)]

@@ -1,29 +1,135 @@
-//! Requests with known answers: refusals by the table, cuts, and the one spelling.
+//! Meta requests: refusals by the table, cuts, and the one spelling.
+
 ghost use Rattle.std.specs.Prelude.{◌<◌, IfOk, length};
 ghost use Rattle.wire_meta.specs.Message.{IsReadFrom, message_in};
 ghost use Rattle.wire_meta.specs.Asks.{asks_of, IsMetaAsk};
 
+use crate::escapes::{bytes_of, spelled};
+use crate::reads::{refused, served};
 use bytes::BytesMut;
+use examples_tables::tellers::{Teller, halves, wrong};
 use mc_types::{Ask, Tokens};
 use std::alloc::{AllocError, Global};
 use std::test::Fail;
-use wire_meta::{
-    MetaRead, MetaRequest, ProxyCommand, RefusalReason, Skip, read_request, write_ask,
-};
+use wire_meta::{MetaRead, MetaRequest, read_request, write_ask};
 use wire_parts::received::Received;
 
-fn refused(bytes: &[u8], why: RefusalReason, skip: Skip) -> bool {
+// Bytes, and how they are read; `cut` at any place, they want more.
+fn reads() -> &'static str {
+    r"# Flags that aren't served.
+read: mg a b\r\n => CLIENT_ERROR flag not served
+read: mg a q v b\r\n => CLIENT_ERROR flag not served
+read: mg a C1\r\n => CLIENT_ERROR flag not served
+read: ms a 1 v\r\n => CLIENT_ERROR flag not served, 3 skipped
+read: ms a 1 D1\r\n => CLIENT_ERROR flag not served, 3 skipped
+read: md a c\r\n => CLIENT_ERROR flag not served
+read: md a T1\r\n => CLIENT_ERROR flag not served
+read: ma a s\r\n => CLIENT_ERROR flag not served
+read: ma a F1\r\n => CLIENT_ERROR flag not served
+read: ms a 1 C1 ME\r\n => CLIENT_ERROR flag not served, 3 skipped
+read: ms a 1 Ma C1\r\n => CLIENT_ERROR flag not served, 3 skipped
+read: ms a 1 C1 Ms\r\n => more
+read: ms a 1 C1\r\n => more
+# For one flag its letter, its having come before and its value are tested together before the next flag.
+read:  \r\n => ERROR
+read: MG a\r\n => ERROR
+read: me a\r\n => ERROR
+read: get a\r\n => ERROR
+read: mg\r\n => ERROR
+read: md\r\n => ERROR
+read: ma\r\n => ERROR
+read: ms a\r\n => ERROR
+read: mn 1\r\n => ERROR
+read: mg \x7f z\r\n => CLIENT_ERROR bad key
+read: md \x7f z\r\n => CLIENT_ERROR bad key
+read: ma \x7f z\r\n => CLIENT_ERROR bad key
+read: ms \x7f x z\r\n => CLIENT_ERROR bad key
+read: ms a x z\r\n => CLIENT_ERROR bad number
+read: ms a 4294967296 z\r\n => CLIENT_ERROR bad number
+read: mg a vx z\r\n => CLIENT_ERROR bad token
+read: mg a v v z\r\n => CLIENT_ERROR flag twice
+read: mg a v vx\r\n => CLIENT_ERROR flag twice
+read: mg a z vx v v\r\n => CLIENT_ERROR flag not served
+read: mg a Tx\r\n => CLIENT_ERROR bad token
+read: mg a T9223372036854775808\r\n => CLIENT_ERROR bad token
+read: mg a O\r\n => CLIENT_ERROR bad token
+read: md a q q\r\n => CLIENT_ERROR flag twice
+read: md a C18446744073709551616\r\n => CLIENT_ERROR bad token
+read: md a C\r\n => CLIENT_ERROR bad token
+read: ma a D1 D1\r\n => CLIENT_ERROR flag twice
+read: ma a D-1\r\n => CLIENT_ERROR bad token
+read: ma a MS\r\n => CLIENT_ERROR bad token
+read: ma a MII\r\n => CLIENT_ERROR bad token
+read: ms a 1 c c\r\n => CLIENT_ERROR flag twice, 3 skipped
+read: ms a 1 F4294967296\r\n => CLIENT_ERROR bad token, 3 skipped
+read: ms a 1 MI\r\n => CLIENT_ERROR bad token, 3 skipped
+read: ms a 1 C1 MA Fx\r\n => CLIENT_ERROR bad token, 3 skipped
+read: ms \x7f 1\r\n => CLIENT_ERROR bad key, 3 skipped
+read: ms a 1048577 C1 MA\r\n => CLIENT_ERROR flag not served, 1048579 skipped
+read: ms a 1048577\r\n => SERVER_ERROR object too large for cache, 1048579 skipped
+read: ms a 4294967295\r\n => SERVER_ERROR object too large for cache, 4294967297 skipped
+read: ms a 1048576\r\n => more
+read: ms a 1\r\nxyz\r\n => CLIENT_ERROR bad data chunk, 9 used, a line skipped
+# Opaque texts of 32 and 33 bytes.
+read: mg a O«32 ~»\r\n => served
+read: mg a O«33 ~»\r\n => CLIENT_ERROR bad token
+read: mg a O\x80\r\n => CLIENT_ERROR bad token
+cut: mg a c f k q s t v Oxyz T30\r\n => served quietly
+cut: ms a 3 c k q C1 F2 Oxyz T-1 MS\r\nxyz\r\n => served quietly
+cut: md a k C1 Oxyz\r\n => served
+cut: ma a c k q t v C1 D2 Oxyz T30 M-\r\n => served quietly
+cut: mn\r\n => noop
+# What is asked of the proxy itself.
+read: mn\r\nmg a\r\n => noop, 4 used"
+}
+
+// Bytes, and what they ask in its one spelling: `T`, if it has one, the ask's return flags and `O` in their order, then those of `C D F M` that
+// it has; `q` and what is left out aren't kept.
+fn spellings() -> &'static str {
+    r"asks: mg a\r\n => mg a\r\n
+asks: mg  a v Oxyz q T030 t s k f c\n => mg a T30 v Oxyz t s k f c\r\n
+asks: ms a 1\r\nx\r\n => ms a 1 T0 F0 MS\r\nx\r\n
+asks: ms a 01 T-0 Mr q k F7 Ox c\r\nx\r\n => ms a 1 T0 k Ox c F7 MR\r\nx\r\n
+asks: ms a 0 Ms C5\r\n\r\n => ms a 0 T0 C5 F0 MS\r\n\r\n
+asks: ms a 2 ME\r\n\r\n\r\n => ms a 2 T0 F0 ME\r\n\r\n\r\n
+asks: ms a 1 Ma\nx\r\n => ms a 1 T0 F0 MA\r\nx\r\n
+asks: ms a 1 Mp\nx\r\n => ms a 1 T0 F0 MP\r\nx\r\n
+asks: md a q Ox C9 k\r\n => md a Ox k C9\r\n
+asks: ma a\r\n => ma a D1 MI\r\n
+asks: ma a T60 M- D9 v C3 t\r\n => ma a T60 v t C3 D9 MD\r\n
+asks: ma a M+\r\n => ma a D1 MI\r\n
+asks: ma a Md k\r\n => ma a k D1 MD\r\n
+asks: mn\r\nmg a\r\n => 0 asks"
+}
+
+fn read_told(alloc: Global, bytes: &[u8]) -> Result<String, AllocError> {
     match read_request(bytes) {
-        MetaRead::Refused {
-            why: is,
-            used: takes,
-            skip: passes,
-        } => is == why && takes == bytes.len() && passes == skip,
-        _ => false,
+        MetaRead::More => "more".to_string(alloc),
+        MetaRead::TooLong => "too long".to_string(alloc),
+        MetaRead::Request(request) => served(
+            alloc,
+            bytes.len(),
+            request.used,
+            request.own(),
+            request.quiet(),
+        ),
+        MetaRead::Refused { why, used, skip } => refused(alloc, bytes.len(), why, used, skip),
     }
 }
 
-// The first ask of a request.
+fn wants_more(bytes: &[u8]) -> bool {
+    matches!(read_request(bytes), MetaRead::More)
+}
+
+fn cut_told(alloc: Global, bytes: &[u8]) -> Result<String, AllocError> {
+    for end in 0..bytes.len() {
+        if !wants_more(&bytes[..end]) {
+            return "read early".to_string(alloc);
+        }
+    }
+    read_told(alloc, bytes)
+}
+
 fn first_ask(alloc: Global, request: &MetaRequest, bytes: &[u8]) -> Result<Ask, AllocError>
     requires read { IsReadFrom bytes.now request.now }
     requires some { 0 < length (asks_of (message_in bytes.now request.now)) }
@@ -34,242 +140,44 @@ fn first_ask(alloc: Global, request: &MetaRequest, bytes: &[u8]) -> Result<Ask, 
     Ask::of(alloc, parts)
 }
 
-fn served(bytes: &[u8], quiet: bool) -> bool {
+// What its ask is written as, or how many it has.
+fn asked(alloc: Global, request: &MetaRequest, bytes: &[u8]) -> Result<String, AllocError>
+    requires { IsReadFrom bytes.now request.now }
+{
+    let asks = request.asks();
+    if asks != 1 {
+        return format!(in alloc; "{asks} asks");
+    }
+    let ask = first_ask(alloc, request, bytes)?;
+    let mut out = BytesMut::new(alloc);
+    write_ask(&ask, &mut out)?;
+    spelled(alloc, out.as_slice())
+}
+
+fn asks_told(alloc: Global, bytes: &[u8]) -> Result<String, AllocError> {
     match read_request(bytes) {
-        MetaRead::Request(request) => request.used == bytes.len() && request.quiet() == quiet,
-        _ => false,
+        MetaRead::Request(request) => asked(alloc, &request, bytes),
+        _ => spelled(alloc, b""),
+    }
+}
+
+struct OfMeta;
+
+impl Teller for OfMeta {
+    fn told(alloc: Global, example: &str) -> Result<String, AllocError> {
+        let (question, text) = halves(example, ": ");
+        let bytes = bytes_of(alloc, text)?;
+        match question {
+            "read" => read_told(alloc, bytes.as_slice()),
+            "cut" => cut_told(alloc, bytes.as_slice()),
+            _ => asks_told(alloc, bytes.as_slice()),
+        }
     }
 }
 
 #[test]
-fn flag_not_served(rt: HostRuntime) {
-    for line in [
-        b"mg a b\r\n".as_slice(),
-        b"mg a q v b\r\n".as_slice(),
-        b"mg a C1\r\n".as_slice(),
-        b"ms a 1 v\r\n".as_slice(),
-        b"ms a 1 D1\r\n".as_slice(),
-        b"md a c\r\n".as_slice(),
-        b"md a T1\r\n".as_slice(),
-        b"ma a s\r\n".as_slice(),
-        b"ma a F1\r\n".as_slice(),
-    ] {
-        let skip = if line[1] == b's' {
-            Skip::Bytes(3)
-        } else {
-            Skip::Nothing
-        };
-        assert!(rt; refused(line, RefusalReason::FlagNotServed, skip));
-    }
-    assert!(rt;
-        refused(
-            b"ms a 1 C1 ME\r\n",
-            RefusalReason::FlagNotServed,
-            Skip::Bytes(3)
-        )
-    );
-    assert!(rt;
-        refused(
-            b"ms a 1 Ma C1\r\n",
-            RefusalReason::FlagNotServed,
-            Skip::Bytes(3)
-        )
-    );
-    assert!(rt; matches!(read_request(b"ms a 1 C1 Ms\r\n"), MetaRead::More));
-    assert!(rt; matches!(read_request(b"ms a 1 C1\r\n"), MetaRead::More));
-}
-
-// For one flag its letter, its having come before and its value are tested together before the next flag.
-#[test]
-fn refusals_in_order(rt: HostRuntime) {
-    for (line, why) in [
-        (b" \r\n".as_slice(), RefusalReason::Unknown),
-        (b"MG a\r\n".as_slice(), RefusalReason::Unknown),
-        (b"me a\r\n".as_slice(), RefusalReason::Unknown),
-        (b"get a\r\n".as_slice(), RefusalReason::Unknown),
-        (b"mg\r\n".as_slice(), RefusalReason::Unknown),
-        (b"md\r\n".as_slice(), RefusalReason::Unknown),
-        (b"ma\r\n".as_slice(), RefusalReason::Unknown),
-        (b"ms a\r\n".as_slice(), RefusalReason::Unknown),
-        (b"mn 1\r\n".as_slice(), RefusalReason::Unknown),
-        (b"mg \x7f z\r\n".as_slice(), RefusalReason::BadKey),
-        (b"md \x7f z\r\n".as_slice(), RefusalReason::BadKey),
-        (b"ma \x7f z\r\n".as_slice(), RefusalReason::BadKey),
-        (b"ms \x7f x z\r\n".as_slice(), RefusalReason::BadKey),
-        (b"ms a x z\r\n".as_slice(), RefusalReason::BadNumber),
-        (
-            b"ms a 4294967296 z\r\n".as_slice(),
-            RefusalReason::BadNumber,
-        ),
-        (b"mg a vx z\r\n".as_slice(), RefusalReason::BadToken),
-        (b"mg a v v z\r\n".as_slice(), RefusalReason::FlagTwice),
-        (b"mg a v vx\r\n".as_slice(), RefusalReason::FlagTwice),
-        (
-            b"mg a z vx v v\r\n".as_slice(),
-            RefusalReason::FlagNotServed,
-        ),
-        (b"mg a Tx\r\n".as_slice(), RefusalReason::BadToken),
-        (
-            b"mg a T9223372036854775808\r\n".as_slice(),
-            RefusalReason::BadToken,
-        ),
-        (b"mg a O\r\n".as_slice(), RefusalReason::BadToken),
-        (b"md a q q\r\n".as_slice(), RefusalReason::FlagTwice),
-        (
-            b"md a C18446744073709551616\r\n".as_slice(),
-            RefusalReason::BadToken,
-        ),
-        (b"md a C\r\n".as_slice(), RefusalReason::BadToken),
-        (b"ma a D1 D1\r\n".as_slice(), RefusalReason::FlagTwice),
-        (b"ma a D-1\r\n".as_slice(), RefusalReason::BadToken),
-        (b"ma a MS\r\n".as_slice(), RefusalReason::BadToken),
-        (b"ma a MII\r\n".as_slice(), RefusalReason::BadToken),
-    ] {
-        assert!(rt; refused(line, why, Skip::Nothing));
-    }
-    for (line, why) in [
-        (b"ms a 1 c c\r\n".as_slice(), RefusalReason::FlagTwice),
-        (
-            b"ms a 1 F4294967296\r\n".as_slice(),
-            RefusalReason::BadToken,
-        ),
-        (b"ms a 1 MI\r\n".as_slice(), RefusalReason::BadToken),
-        (b"ms a 1 C1 MA Fx\r\n".as_slice(), RefusalReason::BadToken),
-        (b"ms \x7f 1\r\n".as_slice(), RefusalReason::BadKey),
-    ] {
-        assert!(rt; refused(line, why, Skip::Bytes(3)));
-    }
-    assert!(rt;
-        refused(
-            b"ms a 1048577 C1 MA\r\n",
-            RefusalReason::FlagNotServed,
-            Skip::Bytes(1_048_579)
-        )
-    );
-    assert!(rt;
-        refused(
-            b"ms a 1048577\r\n",
-            RefusalReason::TooLarge,
-            Skip::Bytes(1_048_579)
-        )
-    );
-    assert!(rt;
-        refused(
-            b"ms a 4294967295\r\n",
-            RefusalReason::TooLarge,
-            Skip::Bytes(4_294_967_297)
-        )
-    );
-    assert!(rt; matches!(read_request(b"ms a 1048576\r\n"), MetaRead::More));
-    match read_request(b"ms a 1\r\nxyz\r\n") {
-        MetaRead::Refused { why, used, skip } => assert!(rt;
-            why == RefusalReason::BadChunk && used == 9 && skip == Skip::ThroughNewline
-        ),
-        _ => assert!(rt; false),
-    }
-}
-
-#[test]
-fn texts_of_32_and_33_bytes(rt: HostRuntime) -> Result<(), Fail> {
-    let mut bytes = b"mg a O".to_vec(rt.alloc())?;
-    bytes.extend_from_slice(&[b'~'; 32])?;
-    bytes.extend_from_slice(b"\r\n")?;
-    assert!(rt; served(bytes.as_slice(), false));
-    bytes.truncate(38);
-    bytes.extend_from_slice(b"~\r\n")?;
-    assert!(rt; refused(bytes.as_slice(), RefusalReason::BadToken, Skip::Nothing));
-    assert!(rt; refused(b"mg a O\x80\r\n", RefusalReason::BadToken, Skip::Nothing));
+fn requests(rt: HostRuntime) -> Result<(), Fail> {
+    assert_eq!(rt; wrong::<OfMeta>(rt.alloc(), reads())?.as_str(), "");
+    assert_eq!(rt; wrong::<OfMeta>(rt.alloc(), spellings())?.as_str(), "");
     Ok(())
-}
-
-#[test]
-fn requests_cut_anywhere(rt: HostRuntime) {
-    for (bytes, quiet) in [
-        (b"mg a c f k q s t v Oxyz T30\r\n".as_slice(), true),
-        (
-            b"ms a 3 c k q C1 F2 Oxyz T-1 MS\r\nxyz\r\n".as_slice(),
-            true,
-        ),
-        (b"md a k C1 Oxyz\r\n".as_slice(), false),
-        (b"ma a c k q t v C1 D2 Oxyz T30 M-\r\n".as_slice(), true),
-        (b"mn\r\n".as_slice(), false),
-    ] {
-        for end in 0..bytes.len() {
-            assert!(rt; matches!(read_request(&bytes[..end]), MetaRead::More));
-        }
-        assert!(rt; served(bytes, quiet));
-    }
-}
-
-// `T`, if it has one, the ask's return flags and `O` in their order, then those of `C D F M` that it has; `q` and what is left out aren't kept.
-#[test]
-fn meta_flags_in_order(rt: HostRuntime) -> Result<(), Fail> {
-    for (bytes, want) in [
-        (b"mg a\r\n".as_slice(), b"mg a\r\n".as_slice()),
-        (
-            b"mg  a v Oxyz q T030 t s k f c\n".as_slice(),
-            b"mg a T30 v Oxyz t s k f c\r\n".as_slice(),
-        ),
-        (
-            b"ms a 1\r\nx\r\n".as_slice(),
-            b"ms a 1 T0 F0 MS\r\nx\r\n".as_slice(),
-        ),
-        (
-            b"ms a 01 T-0 Mr q k F7 Ox c\r\nx\r\n".as_slice(),
-            b"ms a 1 T0 k Ox c F7 MR\r\nx\r\n".as_slice(),
-        ),
-        (
-            b"ms a 0 Ms C5\r\n\r\n".as_slice(),
-            b"ms a 0 T0 C5 F0 MS\r\n\r\n".as_slice(),
-        ),
-        (
-            b"ms a 2 ME\r\n\r\n\r\n".as_slice(),
-            b"ms a 2 T0 F0 ME\r\n\r\n\r\n".as_slice(),
-        ),
-        (
-            b"ms a 1 Ma\nx\r\n".as_slice(),
-            b"ms a 1 T0 F0 MA\r\nx\r\n".as_slice(),
-        ),
-        (
-            b"ms a 1 Mp\nx\r\n".as_slice(),
-            b"ms a 1 T0 F0 MP\r\nx\r\n".as_slice(),
-        ),
-        (
-            b"md a q Ox C9 k\r\n".as_slice(),
-            b"md a Ox k C9\r\n".as_slice(),
-        ),
-        (b"ma a\r\n".as_slice(), b"ma a D1 MI\r\n".as_slice()),
-        (
-            b"ma a T60 M- D9 v C3 t\r\n".as_slice(),
-            b"ma a T60 v t C3 D9 MD\r\n".as_slice(),
-        ),
-        (b"ma a M+\r\n".as_slice(), b"ma a D1 MI\r\n".as_slice()),
-        (b"ma a Md k\r\n".as_slice(), b"ma a k D1 MD\r\n".as_slice()),
-    ] {
-        let mut out = BytesMut::new(rt.alloc());
-        match read_request(bytes) {
-            MetaRead::Request(request) => {
-                assert_eq!(rt; request.asks(), 1);
-                let ask = first_ask(rt.alloc(), &request, bytes)?;
-                write_ask(&ask, &mut out)?;
-            }
-            _ => assert!(rt; false),
-        }
-        assert!(rt; out.as_slice() == want);
-    }
-    Ok(())
-}
-
-#[test]
-fn asked_of_itself(rt: HostRuntime) {
-    match read_request(b"mn\r\nmg a\r\n") {
-        MetaRead::Request(request) => {
-            assert!(rt;
-                request.own() == Some(ProxyCommand::Noop)
-                    && request.asks() == 0
-                    && request.used == 4
-            );
-        }
-        _ => assert!(rt; false),
-    }
 }

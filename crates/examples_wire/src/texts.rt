@@ -1,115 +1,95 @@
-//! Tests: lines, words and numbers.
+//! Lines, words and numbers.
 
+use crate::escapes::bytes_of;
+use examples_tables::tellers::{Teller, halves, number_of, wrong};
+use std::alloc::{AllocError, Global};
 use std::test::Fail;
 use text_words::arithmetic::incr_or_decr;
+use text_words::line;
 use text_words::number::{number, signed, u32_number};
-use text_words::word::{Span, next_word};
-use text_words::{Line, line};
+use text_words::word::next_word;
 
-#[test]
-fn short_lines(rt: HostRuntime) {
-    let cases = [
-        (b"get a\r\nrest".as_slice(), Line::At { end: 5, used: 7 }),
-        (b"get a\nrest".as_slice(), Line::At { end: 5, used: 6 }),
-        (b"a\r\r\n".as_slice(), Line::At { end: 2, used: 4 }),
-        (b"\r\n".as_slice(), Line::At { end: 0, used: 2 }),
-        (b"\n\n".as_slice(), Line::At { end: 0, used: 1 }),
-        (b"get a\r".as_slice(), Line::More),
-        (b"".as_slice(), Line::More),
-    ];
-    for (bytes, want) in cases {
-        assert_eq!(rt; line(bytes), want);
+// What is read of bytes, from a place on or by a number where that is told, and what it gives.
+fn table() -> &'static str {
+    r"line: get a\r\nrest => At { end: 5, used: 7 }
+line: get a\nrest => At { end: 5, used: 6 }
+line: a\r\r\n => At { end: 2, used: 4 }
+line: \r\n => At { end: 0, used: 2 }
+line: \n\n => At { end: 0, used: 1 }
+line: get a\r => More
+line:  => More
+line: «65535 a» => More
+line: «65535 a»\n => At { end: 65535, used: 65536 }
+line: «65536 a» => TooLong
+line: «65536 a»\n => TooLong
+word 0:  get  a  => Some(Span { start: 1, end: 4 })
+word 4:  get  a  => Some(Span { start: 6, end: 7 })
+word 7:  get  a  => None
+word 8:  get  a  => None
+number: 0 => Some(0)
+number: 007 => Some(7)
+number: 00000000000000000007 => Some(7)
+number: 000000000000000000007 => None
+number: 18446744073709551615 => Some(18446744073709551615)
+number: 18446744073709551616 => None
+number: 100000000000000000000 => None
+number: -1 => None
+number: +1 => None
+number: 1a => None
+number:  => None
+u32: 4294967295 => Some(4294967295)
+u32: 4294967296 => None
+signed: -1 => Some(-1)
+signed: -0 => Some(0)
+signed: -007 => Some(-7)
+signed: 9223372036854775807 => Some(9223372036854775807)
+signed: 9223372036854775808 => None
+signed: -9223372036854775808 => Some(-9223372036854775808)
+signed: -9223372036854775809 => None
+signed: - => None
+signed: --1 => None
+signed:  => None
+incr 1: 18446744073709551615 => Some(0)
+incr 9: 5 => Some(14)
+decr 9: 5 => Some(0)
+decr 2: 5   => Some(3)
+incr 1:  5 => None
+incr 1: 5 x => None
+incr 1:     => None
+incr 1:  => None"
+}
+
+fn word_told(alloc: Global, bytes: &[u8], at: usize) -> Result<String, AllocError> {
+    if at > bytes.len() {
+        return "behind the end".to_string(alloc);
+    }
+    format!(in alloc; "{:?}", next_word(bytes, at))
+}
+
+fn told_of(alloc: Global, question: &str, by: u32, bytes: &[u8]) -> Result<String, AllocError> {
+    match question {
+        "line" => format!(in alloc; "{:?}", line(bytes)),
+        "word" => word_told(alloc, bytes, by as usize),
+        "number" => format!(in alloc; "{:?}", number(bytes)),
+        "u32" => format!(in alloc; "{:?}", u32_number(bytes)),
+        "signed" => format!(in alloc; "{:?}", signed(bytes)),
+        _ => format!(in alloc; "{:?}", incr_or_decr(bytes, question == "incr", by as u64)),
+    }
+}
+
+struct OfTexts;
+
+impl Teller for OfTexts {
+    fn told(alloc: Global, example: &str) -> Result<String, AllocError> {
+        let (question, text) = halves(example, ": ");
+        let (question, by) = halves(question, " ");
+        let bytes = bytes_of(alloc, text)?;
+        told_of(alloc, question, number_of(by), bytes.as_slice())
     }
 }
 
 #[test]
-fn longest_lines(rt: HostRuntime) -> Result<(), Fail> {
-    let mut bytes = vec![in rt.alloc(); b'a'; 65_535]?;
-    assert_eq!(rt; line(bytes.as_slice()), Line::More);
-    bytes.push(b'\n')?;
-    assert_eq!(rt;
-        line(bytes.as_slice()),
-        Line::At {
-            end: 65_535,
-            used: 65_536
-        }
-    );
-    let mut long = vec![in rt.alloc(); b'a'; 65_536]?;
-    assert_eq!(rt; line(long.as_slice()), Line::TooLong);
-    long.push(b'\n')?;
-    assert_eq!(rt; line(long.as_slice()), Line::TooLong);
+fn lines_words_and_numbers(rt: HostRuntime) -> Result<(), Fail> {
+    assert_eq!(rt; wrong::<OfTexts>(rt.alloc(), table())?.as_str(), "");
     Ok(())
-}
-
-#[test]
-fn words_of_a_line(rt: HostRuntime) {
-    let text = b" get  a ".as_slice();
-    assert_eq!(rt; next_word(text, 0), Some(Span { start: 1, end: 4 }));
-    assert_eq!(rt; next_word(text, 4), Some(Span { start: 6, end: 7 }));
-    assert_eq!(rt; next_word(text, 7), None);
-    assert_eq!(rt; next_word(text, 8), None);
-}
-
-#[test]
-fn numbers(rt: HostRuntime) {
-    let cases = [
-        (b"0".as_slice(), Some(0)),
-        (b"007".as_slice(), Some(7)),
-        (b"00000000000000000007".as_slice(), Some(7)),
-        (b"000000000000000000007".as_slice(), None),
-        (
-            b"18446744073709551615".as_slice(),
-            Some(18_446_744_073_709_551_615),
-        ),
-        (b"18446744073709551616".as_slice(), None),
-        (b"100000000000000000000".as_slice(), None),
-        (b"-1".as_slice(), None),
-        (b"+1".as_slice(), None),
-        (b"1a".as_slice(), None),
-        (b"".as_slice(), None),
-    ];
-    for (word, want) in cases {
-        assert_eq!(rt; number(word), want);
-    }
-    assert_eq!(rt; u32_number(b"4294967295".as_slice()), Some(4_294_967_295));
-    assert_eq!(rt; u32_number(b"4294967296".as_slice()), None);
-}
-
-#[test]
-fn signed_numbers(rt: HostRuntime) {
-    let cases = [
-        (b"-1".as_slice(), Some(-1)),
-        (b"-0".as_slice(), Some(0)),
-        (b"-007".as_slice(), Some(-7)),
-        (
-            b"9223372036854775807".as_slice(),
-            Some(9_223_372_036_854_775_807),
-        ),
-        (b"9223372036854775808".as_slice(), None),
-        (b"-9223372036854775808".as_slice(), Some(i64::MIN)),
-        (b"-9223372036854775809".as_slice(), None),
-        (b"-".as_slice(), None),
-        (b"--1".as_slice(), None),
-        (b"".as_slice(), None),
-    ];
-    for (word, want) in cases {
-        assert_eq!(rt; signed(word), want);
-    }
-}
-
-#[test]
-fn arithmetic(rt: HostRuntime) {
-    let cases = [
-        (b"18446744073709551615".as_slice(), true, 1, Some(0)),
-        (b"5".as_slice(), true, 9, Some(14)),
-        (b"5".as_slice(), false, 9, Some(0)),
-        (b"5  ".as_slice(), false, 2, Some(3)),
-        (b" 5".as_slice(), true, 1, None),
-        (b"5 x".as_slice(), true, 1, None),
-        (b"   ".as_slice(), true, 1, None),
-        (b"".as_slice(), true, 1, None),
-    ];
-    for (bytes, up, delta, want) in cases {
-        assert_eq!(rt; incr_or_decr(bytes, up, delta), want);
-    }
 }

@@ -1,9 +1,9 @@
 //! Answers with large data, which share the buffer that they came in.
 
-use crate::codec::answers_classic::ask;
-use crate::codec::answers_meta::{meta_ask, put_read};
+use crate::codec::answers::{put_read, used_by};
+use crate::codec::ask_of;
 use bytes::{Bytes, BytesMut};
-use mc_types::{Answer, Ask, Body, Code, Fields, Op, SpareBodies};
+use mc_types::{Answer, Ask, Body, Code, Fields, SpareBodies};
 use std::alloc::{AllocError, Global};
 use std::test::Fail;
 use wire_answers::{AnswerRead, CUT_FROM, Received, SHARED_FROM, large_len, read_received};
@@ -19,13 +19,6 @@ fn answer_text(alloc: Global, head: &[u8], end: &[u8]) -> Result<Bytes, AllocErr
     out.extend_from_slice(b">")?;
     out.extend_from_slice(end)?;
     out.freeze_to(out.len())
-}
-
-fn used_by(read: &AnswerRead) -> usize {
-    match read {
-        AnswerRead::Answer(_, used) => *used,
-        _ => 0,
-    }
 }
 
 // What was read, as it is written, and how many bytes spell it.
@@ -63,9 +56,9 @@ fn is_alike(alloc: Global, ask: &Ask, head: &[u8], end: &[u8]) -> Result<bool, A
 #[test]
 fn large_data_are_shared_and_read_alike(rt: HostRuntime) -> Result<(), Fail> {
     let alloc = rt.alloc();
-    let get = ask(alloc, Op::Get, false)?;
+    let get = ask_of(alloc, b"get k\r\n")?;
     assert!(rt; is_alike(alloc, &get, b"VALUE k 5 100000\r\n", b"\r\nEND\r\n")?);
-    let meta_get = meta_ask(alloc, Op::Get, b"v")?;
+    let meta_get = ask_of(alloc, b"mg a v\r\n")?;
     assert!(rt; is_alike(alloc, &meta_get, b"VA 100000\r\n", b"\r\n")?);
     Ok(())
 }
@@ -144,7 +137,7 @@ fn is_sent_alike(alloc: Global, ask: &Ask, reply: &Answer, last: bool) -> Result
 fn large_data_are_sent_as_they_are_written(rt: HostRuntime) -> Result<(), Fail> {
     let alloc = rt.alloc();
     let body = Body::from_slice(alloc, answer_text(alloc, b"", b"")?.as_slice())?;
-    let get = ask(alloc, Op::Get, false)?;
+    let get = ask_of(alloc, b"get k\r\n")?;
     let hit = Answer::Hit {
         flags: 5,
         body: body.copy()?,
@@ -152,7 +145,7 @@ fn large_data_are_sent_as_they_are_written(rt: HostRuntime) -> Result<(), Fail> 
     };
     assert!(rt; is_sent_alike(alloc, &get, &hit, true)?);
     assert!(rt; is_sent_alike(alloc, &get, &hit, false)?);
-    let meta_get = meta_ask(alloc, Op::Get, b"v")?;
+    let meta_get = ask_of(alloc, b"mg a v\r\n")?;
     let mut fields = Fields::none();
     fields.body = Some(body);
     assert!(rt; is_sent_alike(alloc, &meta_get, &Answer::Meta(Code::Va, fields), true)?);

@@ -1,9 +1,8 @@
 //! Answers with small data, which are copied into the memory of earlier ones that nobody holds any more.
 
-use crate::codec::answers_classic::ask;
-use crate::codec::answers_meta::meta_ask;
+use crate::codec::ask_of;
 use bytes::BytesMut;
-use mc_types::{Answer, Ask, Body, Dialect, Op, SpareBodies};
+use mc_types::{Answer, Ask, Body, Dialect, SpareBodies};
 use std::alloc::{AllocError, Global};
 use std::test::Fail;
 use wire_answers::{AnswerRead, Received, read_received};
@@ -138,8 +137,8 @@ fn stay(alloc: Global, ask: &Ask, most: usize) -> Result<bool, AllocError> {
 #[test]
 fn bodies_keep_their_own_bytes(rt: HostRuntime) -> Result<(), Fail> {
     let alloc = rt.alloc();
-    let get = ask(alloc, Op::Get, false)?;
-    let meta_get = meta_ask(alloc, Op::Get, b"v")?;
+    let get = ask_of(alloc, b"get k\r\n")?;
+    let meta_get = ask_of(alloc, b"mg a v\r\n")?;
     for most in [0, 2, 20] {
         assert!(rt; stay(alloc, &get, most)?);
         assert!(rt; stay(alloc, &meta_get, most)?);
