@@ -18,16 +18,16 @@ use Rattle.core_accepted.proofs.Keeping.{copies, alone}
 use Rattle.core_fleets.specs.Grown.{GrownLogsAreFresh}
 
 pub grown_logs_are_fresh : GrownLogsAreFresh
-grown_logs_are_fresh arbitrary accepted served word are since opening past led opens lost fit =
+grown_logs_are_fresh arbitrary accepted served word are since opening past led opens lost =
     let words = tree_words led.beside.at in
     let loaded : AreLoaded (trees_of accepted) led.tree = subst (λ (w : Option (List Configuration)). MayBeLoaded w led.tree) word led.loaded in
     let cover : IsCoveredOrUntouched words opening = subst (λ (plans : ℕ → List ℕ → Plan). IsCoveredOrUntouched (tree_words plans) opening) (sym led.plain) (since_is_covered arbitrary (trees_of accepted) are since led.tree loaded opening opens) in
     let rule = served.core.limits.sharing in
     let Bars = bars_of served.core led.beside in
     let run = runs dialect words Bars opening past led.leads.follows in
-    let by : rule ≡ sharings.Alone → IsFreshByNumber opening (run_of past) = λ e. untouched.fresh_by_number words Bars opening cover (alone rule led.beside.at e) _ lost fit run in
+    let by : rule ≡ sharings.Alone → IsFreshByNumber opening (run_of past) = λ e. untouched.fresh_by_number words Bars opening cover (alone rule led.beside.at e) _ lost run in
     record {
-      fresh = untouched.fresh words Bars opening cover (copies rule led.beside.at) _ lost fit run;
+      fresh = untouched.fresh words Bars opening cover (copies rule led.beside.at) _ lost run;
       by_number = by;
       none_stale = λ e. (counts_stale words Bars opening (alone rule led.beside.at e)).none _ run (by e);
     }

@@ -93,8 +93,8 @@ module _ (emptied : ℕ → Bool) (opening : ℕ → List ℕ → Option Item) w
     run_same (Restarts server ∷ past) h run = (tt, run_same past h run.1)
 
 pub emptied_is_fresh : (words : ℕ → Ask → List Call → Answer → Option ℕ → Type 0) (Bars : ℕ → Ask → ℕ → Ask → Type 0) (opening : ℕ → List ℕ → Option Item) → EmptiedIsFresh words Bars opening
-emptied_is_fresh words Bars opening emptied cover events first lost fit run =
+emptied_is_fresh words Bars opening emptied cover events first lost run =
     let run' = run_same emptied opening words Bars events first run in (
-      (λ copies n m delete item ack shown. fresh words Bars (emptied_opening emptied opening) cover copies events lost fit run' n m delete item ack (shown_same emptied opening events first m delete.key item shown)),
-      (λ alone n m delete item lt ack shown. fresh_by_number words Bars (emptied_opening emptied opening) cover alone events lost fit run' n m delete item lt ack (shown_same emptied opening events first m delete.key item shown)),
+      (λ copies n m delete item ack shown. fresh words Bars (emptied_opening emptied opening) cover copies events lost run' n m delete item ack (shown_same emptied opening events first m delete.key item shown)),
+      (λ alone n m delete item lt ack shown. fresh_by_number words Bars (emptied_opening emptied opening) cover alone events lost run' n m delete item lt ack (shown_same emptied opening events first m delete.key item shown)),
     )

@@ -155,13 +155,13 @@ pub since_is_covered : SinceIsCovered
 since_is_covered arbitrary trees are since tree loaded opening opens = is_covered arbitrary trees are since tree loaded opening opens
 
 pub grown_are_fresh : (Bars : ℕ → Ask → ℕ → Ask → Type 0) → GrownGenerationsAreFresh Bars
-grown_are_fresh Bars arbitrary trees are since tree loaded opening opens events lost fit run =
+grown_are_fresh Bars arbitrary trees are since tree loaded opening opens events lost run =
     let words = tree_words (λ n key. tree_at (tree n) key) in
     let cover = is_covered arbitrary trees are since tree loaded opening opens in (
-      (λ copies. fresh words Bars opening cover copies events lost fit run),
-      (λ alone. fresh_by_number words Bars opening cover alone events lost fit run),
+      (λ copies. fresh words Bars opening cover copies events lost run),
+      (λ alone. fresh_by_number words Bars opening cover alone events lost run),
     )
 
 pub grown_runs_of_trees : GrownRunsOfTreesAreFresh
-grown_runs_of_trees arbitrary trees are since tree loaded opening opens events fit run =
-    alone.fresh (tree_words (λ n key. tree_at (tree n) key)) opening (is_covered arbitrary trees are since tree loaded opening opens) events fit run
+grown_runs_of_trees arbitrary trees are since tree loaded opening opens events run =
+    alone.fresh (tree_words (λ n key. tree_at (tree n) key)) opening (is_covered arbitrary trees are since tree loaded opening opens) events run

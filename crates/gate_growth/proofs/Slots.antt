@@ -32,12 +32,13 @@ twice_not false e = absurd cc
 server_clear : (t s : ℕ) → t ≡ s → IsClear (Server t) s
 server_clear t s e kind = (cleared_is_exact (Server t) kind s tt).0 (twice_not (nat_eq t s) (eq-eqb t s e))
 
+-- what some operation stores
+any_of : (same : Bool) (A : Type 0) → (same ≡ true → A) → (same || same || same || same || false) ≡ true → A
+any_of true A f e = f refl
+any_of false A f e = absurd cc
+
 server_puts : (t s : ℕ) → Puts (Server t) s → t ≡ s
-server_puts t s h =
-    ⊎_elim
-    (λ stored. ⊎_elim (λ set. eqb-true t s set) (λ add. eqb-true t s add) (either_split (nat_eq t s) (nat_eq t s) stored))
-    (λ get. absurd (let f : false ≡ true = get in cc))
-    (either_split (nat_eq t s || nat_eq t s) false (puts_are_computed (Server t) s h))
+server_puts t s h = any_of (nat_eq t s) (t ≡ s) (eqb-true t s) (puts_are_computed (Server t) s h)
 
 -- ---- pools
 

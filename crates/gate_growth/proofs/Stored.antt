@@ -1,5 +1,5 @@
 -- What a word's calls put on a server is computed.
-use Rattle.std.proofs.Common.{◌≡◌, ℕ, zero, suc, ◌+◌, true, false, not, ◌||◌, List, length, Option, Some, None, inl, inr, ⊎_elim, refl, sym, ap, ◌∙◌, subst, nat_eq, slice_get}
+use Rattle.std.proofs.Common.{◌≡◌, ℕ, zero, suc, ◌+◌, Bool, true, false, not, ◌||◌, List, length, Option, Some, None, inl, inr, ⊎_elim, refl, sym, ap, ◌∙◌, subst, nat_eq, slice_get}
 use Rattle.std.proofs.lemmas.Bool.{eq-eqb}
 use Rattle.mc_types.specs.declared.ask.Op.{Op}
 use Rattle.mc_types.specs.declared.ask.Op.TheVariants.{Get, Gat, Set, Add, Replace, Append, Prepend, Cas, Delete, Incr, Decr, Touch}
@@ -118,20 +118,30 @@ module _ (s : ℕ) where
         (λ e. if_false (same_op o ask.op) _ _ e (policy_stores rest ask origin b calls given (false_match _ _ _ e w) h))
         (bool_is (same_op o ask.op))
 
--- the operation is a set, an add or a get
-by_putting : (plain : Plan) (s : ℕ) (op : Op) → IsPutting op → stores op s plain ≡ true → puts plain s ≡ true
-by_putting plain s Set p h = either_left (stores Set s plain || stores Add s plain) _ (either_left (stores Set s plain) _ h)
-by_putting plain s Add p h = either_left (stores Set s plain || stores Add s plain) _ (either_right (stores Set s plain) _ h)
-by_putting plain s Get p h = absurd p
-by_putting plain s Gat p h = absurd p
-by_putting plain s Replace p h = absurd p
-by_putting plain s Append p h = absurd p
-by_putting plain s Prepend p h = absurd p
-by_putting plain s Cas p h = absurd p
-by_putting plain s Delete p h = absurd p
-by_putting plain s Incr p h = absurd p
-by_putting plain s Decr p h = absurd p
-by_putting plain s Touch p h = absurd p
+module _ (plain : Plan) (s : ℕ) where
+  -- by the first operations of those that store
+  abbrev pub by_two : Bool
+  by_two = stores Set s plain || stores Add s plain
+
+  abbrev pub by_three : Bool
+  by_three = by_two || stores Replace s plain
+
+  abbrev pub by_four : Bool
+  by_four = by_three || stores Cas s plain
+
+  by_putting : (op : Op) → IsPutting op → stores op s plain ≡ true → puts plain s ≡ true
+  by_putting Set p h = either_left by_four _ (either_left by_three _ (either_left by_two _ (either_left (stores Set s plain) _ h)))
+  by_putting Add p h = either_left by_four _ (either_left by_three _ (either_left by_two _ (either_right (stores Set s plain) _ h)))
+  by_putting Replace p h = either_left by_four _ (either_left by_three _ (either_right by_two _ h))
+  by_putting Cas p h = either_left by_four _ (either_right by_three _ h)
+  by_putting Get p h = absurd p
+  by_putting Gat p h = absurd p
+  by_putting Append p h = absurd p
+  by_putting Prepend p h = absurd p
+  by_putting Delete p h = absurd p
+  by_putting Incr p h = absurd p
+  by_putting Decr p h = absurd p
+  by_putting Touch p h = absurd p
 
 pub puts_are_computed : (plain : Plan) (s : ℕ) → Puts plain s → puts plain s ≡ true
 puts_are_computed plain s t =
@@ -142,5 +152,5 @@ puts_are_computed plain s t =
     let stored = word_stores s plain ask Client 0 calls given t.5 h in
     ⊎_elim
     (λ own. by_putting plain s ask.op (subst (λ (a : Ask). IsPutting a.op) own.0 h.4) stored)
-    (λ get. either_right (stores Set s plain || stores Add s plain) _ (subst (λ o. stores o s plain ≡ true) get stored))
+    (λ get. either_right (by_four plain s) _ (subst (λ o. stores o s plain ≡ true) get stored))
     (each_at (IsOwn ask Client) calls h.0 h.1 (own_calls plain ask Client 0 calls given t.5) h.2)

@@ -3,7 +3,7 @@ use Rattle.std.proofs.Common.{◌≡◌, ◌≢◌, ℕ, ◌+◌, ◌≤◌, pos
 use Rattle.std.proofs.lemmas.Bool.{eqb-true}
 use Rattle.std.proofs.lemmas.Int.{ints}
 use Rattle.mc_types.specs.declared.ask.Op.{Op}
-use Rattle.mc_types.specs.declared.ask.Op.TheVariants.{Get, Set, Add}
+use Rattle.mc_types.specs.declared.ask.Op.TheVariants.{Get, Set, Add, Replace, Cas}
 use Rattle.mc_types.specs.declared.ask.Dialect.TheVariants as dialects
 use Rattle.mc_types.specs.declared.ask.Ask.{Ask}
 use Rattle.mc_types.specs.declared.answer.Answer.{Answer}
@@ -28,7 +28,7 @@ use Rattle.gate_growth.specs.Puts.{Puts}
 use Rattle.gate_growth.specs.PutsComputed.{stores, stores_some, stores_first, stores_head, stores_policy, puts}
 use Rattle.gate_growth.specs.Exact.{PutsIsExact}
 use Rattle.gate_growth.proofs.Parted.{puts_front, puts_back}
-use Rattle.gate_growth.proofs.Stored.{puts_are_computed}
+use Rattle.gate_growth.proofs.Stored.{by_two, by_three, by_four, puts_are_computed}
 
 -- a part after another one
 then_after : {G H : Type 0} (first : ℕ → List Call → G → Type 0) (second : G → ℕ → List Call → H → Type 0) (b : ℕ) (here more : List Call) (g : G) → first b here g → Rest (second g) (b + length here) more → Rest (Then first second) b (here ++ more)
@@ -249,6 +249,7 @@ mutual
 -- a classic ask
 abbrev an_ask : Op → Ask
 an_ask Get = record { key = 97 ∷ []; op = Get; dialect = dialects.Classic; with_cas = false; flags = 0; exptime = None; body = []; cas = None; delta = 0; tokens = [] }
+an_ask Cas = record { key = 97 ∷ []; op = Cas; dialect = dialects.Classic; with_cas = false; flags = 0; exptime = Some (pos 0); body = []; cas = Some 0; delta = 0; tokens = [] }
 an_ask op = record { key = 97 ∷ []; op = op; dialect = dialects.Classic; with_cas = false; flags = 0; exptime = Some (pos 0); body = []; cas = None; delta = 0; tokens = [] }
 
 set_is : IsAsk (an_ask Set)
@@ -257,21 +258,41 @@ set_is = record { key = record { some = omega arith; short = omega arith; bytes 
 add_is : IsAsk (an_ask Add)
 add_is = record { key = record { some = omega arith; short = omega arith; bytes = refl }; ranges = record { flags = omega arith; exptime = (omega (arith, ints), omega (arith, ints)); body = omega arith; cas = tt; delta = omega arith }; shape = record { with_cas = refl; flags = tt; exptime = refl; body = tt; cas = refl; delta = refl; tokens = refl } }
 
+replace_is : IsAsk (an_ask Replace)
+replace_is = record { key = record { some = omega arith; short = omega arith; bytes = refl }; ranges = record { flags = omega arith; exptime = (omega (arith, ints), omega (arith, ints)); body = omega arith; cas = tt; delta = omega arith }; shape = record { with_cas = refl; flags = tt; exptime = refl; body = tt; cas = refl; delta = refl; tokens = refl } }
+
+cas_is : IsAsk (an_ask Cas)
+cas_is = record { key = record { some = omega arith; short = omega arith; bytes = refl }; ranges = record { flags = omega arith; exptime = (omega (arith, ints), omega (arith, ints)); body = omega arith; cas = omega arith; delta = omega arith }; shape = record { with_cas = refl; flags = tt; exptime = refl; body = tt; cas = refl; delta = refl; tokens = refl } }
+
 get_is_ask : IsAsk (an_ask Get)
 get_is_ask = record { key = record { some = omega arith; short = omega arith; bytes = refl }; ranges = record { flags = omega arith; exptime = tt; body = omega arith; cas = tt; delta = omega arith }; shape = record { with_cas = tt; flags = refl; exptime = refl; body = refl; cas = refl; delta = refl; tokens = refl } }
 
 of_word : (plain : Plan) (s : ℕ) (ask : Ask) → IsAsk ask → PutsBy (Word plain ask Client) 0 s → Puts plain s
 of_word plain s ask is f = (ask, is, f.0 ++ f.1.0, f.1.1.reply, f.1.1.from, f.1.2, puts_front s f.0 f.1.0 f.2)
 
+-- by an operation that stores
+by_storing : (plain : Plan) (s : ℕ) → IsGood plain → (op : Op) → IsPutting op → op ≢ Get → (an_ask op).op ≡ op → IsAsk (an_ask op) → stores op s plain ≡ true → Puts plain s
+by_storing plain s good op putting other same is h =
+    of_word plain s (an_ask op) is (asks_word (an_ask op) Client (subst IsPutting (sym same) putting) (λ e. other (sym same ∙ e)) s plain good 0 (subst (λ o. stores o s plain ≡ true) (sym same) h))
+
 computed_puts : (plain : Plan) (s : ℕ) → IsGood plain → puts plain s ≡ true → Puts plain s
 computed_puts plain s good h =
     ⊎_elim
-    (λ stored. ⊎_elim
-    (λ set. of_word plain s (an_ask Set) set_is (asks_word (an_ask Set) Client tt (λ e. cc) s plain good 0 set))
-    (λ add. of_word plain s (an_ask Add) add_is (asks_word (an_ask Add) Client tt (λ e. cc) s plain good 0 add))
-    (either_split (stores Set s plain) (stores Add s plain) stored))
+    (λ four.
+    ⊎_elim
+    (λ three.
+    ⊎_elim
+    (λ two.
+    ⊎_elim
+    (λ set. by_storing plain s good Set tt (λ e. cc) refl set_is set)
+    (λ add. by_storing plain s good Add tt (λ e. cc) refl add_is add)
+    (either_split (stores Set s plain) (stores Add s plain) two))
+    (λ replace. by_storing plain s good Replace tt (λ e. cc) refl replace_is replace)
+    (either_split (by_two plain s) (stores Replace s plain) three))
+    (λ cas. by_storing plain s good Cas tt (λ e. cc) refl cas_is cas)
+    (either_split (by_three plain s) (stores Cas s plain) four))
     (λ get. of_word plain s (an_ask Get) get_is_ask (fills_word plain good (an_ask Get) refl 0 s get))
-    (either_split (stores Set s plain || stores Add s plain) (stores Get s plain) h)
+    (either_split (by_four plain s) (stores Get s plain) h)
 
 pub puts_is_exact : PutsIsExact
 puts_is_exact plain s good = (computed_puts plain s good, puts_are_computed plain s)

@@ -15,8 +15,7 @@ use Rattle.fresh_runs.specs.Cover.{ClearsIn, IsCleared}
 use Rattle.fresh_runs.proofs.Stamps.{IsNewer, IsGone, GivesNewer, by_test, newer_from_gone, newer_marks, gone_marks, clear_marks, other_key, get_left, get_seam, clears_split}
 use Rattle.fresh_runs.proofs.Fresh.{own_key, is_delete}
 use Rattle.gate_growth.specs.Untouched.{IsPutting, IsUntouched, IsCoveredOrUntouched}
-use Rattle.gate_growth.specs.UntouchedAlone.{AnswersFitAlone}
-use Rattle.gate_growth.proofs.Nothing.{AgreesEnd, nothing_marks}
+use Rattle.gate_growth.proofs.Nothing.{nothing_marks}
 
 -- a new number is greater than that of each acknowledged delete
 new_above : (number n : ℕ) (delete : Ask) (past : List Event) → IsNewNumber number past → IsAcknowledged past n delete → n < number
@@ -86,51 +85,41 @@ module _ (words : ℕ → Ask → List Call → Answer → Option ℕ → Type 0
       let front = run.0.2 in
       u.unput number run.0.0 lt (own_key past ask.key _ run.0.1 ∙ same) _ _ _ front.3 (length calls, call, get_left (calls ++ call ∷ []) front.0 (length calls) call (get_seam calls call []), here, puts)
 
-  agrees_end : (past : List Event) (number server : ℕ) (ask : Ask) (origin : Origin) (end : End) → EndsWell opening past number server ask origin end → AgreesEnd ask end (held opening past server ask.key)
-  agrees_end past number server ask origin (Read stamp answer spaces) h = h.0
-  agrees_end past number server ask origin (Unread stamp answer spaces) h = h.0
-  agrees_end past number server ask origin Never h = tt
-
   -- before the delete begins, an untouched server holds nothing of the key
-  empty_before : (past : List Event) → Run words opening past → AnswersFitAlone past → IsNewNumber n past → (s : ℕ) → IsUntouched words opening n delete.key s → held opening past s delete.key ≡ None
-  empty_before [] run fit new s u = u.empty
-  empty_before (Begins number ask ∷ past) run fit new s u = empty_before past run.1 fit new.1 s u
-  empty_before (Replies number k reply from ∷ past) run fit new s u = empty_before past run.1 fit new.1 s u
-  empty_before (Calls number server ask origin end ∷ past) run fit new s u =
-      let rest = empty_before past run.1 fit.1 new.1 s u in
+  empty_before : (past : List Event) → Run words opening past → IsNewNumber n past → (s : ℕ) → IsUntouched words opening n delete.key s → held opening past s delete.key ≡ None
+  empty_before [] run new s u = u.empty
+  empty_before (Begins number ask ∷ past) run new s u = empty_before past run.1 new.1 s u
+  empty_before (Replies number k reply from ∷ past) run new s u = empty_before past run.1 new.1 s u
+  empty_before (Calls number server ask origin end ∷ past) run new s u =
+      let rest = empty_before past run.1 new.1 s u in
       by_test (λ l. held_in (opening s delete.key) l delete.key ≡ None) (nat_eq server s) _ _
-      (λ here. nothing_marks (opening s delete.key) ask end (life_of past s) delete.key
-      (λ same. (
-        (λ puts. unput past number server ask origin end run s u new.0 (eqb-true server s here) ((bytes_eq-Decides ask.key delete.key).0 same) puts),
-        subst (λ k. AgreesEnd ask end (held opening past s k)) ((bytes_eq-Decides ask.key delete.key).0 same) (subst (λ x. AgreesEnd ask end (held opening past x ask.key)) (eqb-true server s here) (agrees_end past number server ask origin end run.0.3)),
-      ))
-      fit.0 rest)
+      (λ here. nothing_marks (opening s delete.key) ask end (life_of past s) delete.key (λ same puts. unput past number server ask origin end run s u new.0 (eqb-true server s here) ((bytes_eq-Decides ask.key delete.key).0 same) puts) rest)
       (λ _. rest)
-  empty_before (Loses server k ∷ past) run fit new s u =
-      let rest = empty_before past run.1 fit new s u in
+  empty_before (Loses server k ∷ past) run new s u =
+      let rest = empty_before past run.1 new s u in
       by_test (λ l. held_in (opening s delete.key) l delete.key ≡ None) (nat_eq server s) _ _ (λ _. by_test (λ o. o ≡ None) (bytes_eq k delete.key) None _ (λ _. refl) (λ _. rest)) (λ _. rest)
-  empty_before (Restarts server ∷ past) run fit new s u =
-      let rest = empty_before past run.1 fit new s u in
+  empty_before (Restarts server ∷ past) run new s u =
+      let rest = empty_before past run.1 new s u in
       by_test (λ l. held_in (opening s delete.key) l delete.key ≡ None) (nat_eq server s) _ _ (λ _. refl) (λ _. rest)
 
   -- nor while it is under way
-  untouched_so_far : (past : List Event) → Run words opening past → AnswersFitAlone past → under_way past delete.key ≡ Some (record { number = n; ask = delete }) → (s : ℕ) → IsUntouched words opening n delete.key s → IsGone (held opening past s delete.key)
-  untouched_so_far [] run fit e s u = absurd cc
-  untouched_so_far (Begins number ask ∷ past) run fit e s u =
+  untouched_so_far : (past : List Event) → Run words opening past → under_way past delete.key ≡ Some (record { number = n; ask = delete }) → (s : ℕ) → IsUntouched words opening n delete.key s → IsGone (held opening past s delete.key)
+  untouched_so_far [] run e s u = absurd cc
+  untouched_so_far (Begins number ask ∷ past) run e s u =
       (elim (bytes_eq ask.key delete.key) as (λ b. cond b (Some (record { number = number; ask = ask })) (under_way past delete.key) ≡ Some (record { number = n; ask = delete }) → IsGone (held opening past s delete.key)) [
         | true ↦ λ is.
             let it : ◌≡◌ {A = Command} (record { number = number; ask = ask }) (record { number = n; ask = delete }) = cc in
-            subst IsGone (sym (empty_before past run.1 fit (subst (λ k. IsNewNumber k past) (ap (λ (c : Command). c.number) it) run.0) s u)) tt
-        | false ↦ λ is. untouched_so_far past run.1 fit is s u
+            subst IsGone (sym (empty_before past run.1 (subst (λ k. IsNewNumber k past) (ap (λ (c : Command). c.number) it) run.0) s u)) tt
+        | false ↦ λ is. untouched_so_far past run.1 is s u
       ]) e
-  untouched_so_far (Replies number k reply from ∷ past) run fit e s u =
+  untouched_so_far (Replies number k reply from ∷ past) run e s u =
       (elim (bytes_eq k delete.key) as (λ b. cond b None (under_way past delete.key) ≡ Some (record { number = n; ask = delete }) → IsGone (held opening past s delete.key)) [
         | true ↦ λ is. absurd cc
-        | false ↦ λ is. untouched_so_far past run.1 fit is s u
+        | false ↦ λ is. untouched_so_far past run.1 is s u
       ]) e
-  untouched_so_far (Calls number server ask origin end ∷ past) run fit e s u =
+  untouched_so_far (Calls number server ask origin end ∷ past) run e s u =
       let key = delete.key in
-      let rest = untouched_so_far past run.1 fit.1 e s u in
+      let rest = untouched_so_far past run.1 e s u in
       let call : Call = record { server = server; ask = ask; origin = origin; outcome = outcome_of end } in
       (elim (bytes_eq ask.key key) as (λ b. bytes_eq ask.key key ≡ b → IsGone (held opening (Calls number server ask origin end ∷ past) s key)) [
         | true ↦ λ same.
@@ -144,11 +133,11 @@ module _ (words : ℕ → Ask → List Call → Answer → Option ℕ → Type 0
         | false ↦ λ differs.
             by_test (λ l. IsGone (held_in (opening s key) l key)) (nat_eq server s) _ _ (λ _. subst IsGone (sym (other_key (opening s key) ask end (life_of past s) key differs)) rest) (λ _. rest)
       ]) refl
-  untouched_so_far (Loses server k ∷ past) run fit e s u =
-      let rest = untouched_so_far past run.1 fit e s u in
+  untouched_so_far (Loses server k ∷ past) run e s u =
+      let rest = untouched_so_far past run.1 e s u in
       by_test (λ l. IsGone (held_in (opening s delete.key) l delete.key)) (nat_eq server s) _ _ (λ _. by_test IsGone (bytes_eq k delete.key) None _ (λ _. tt) (λ _. rest)) (λ _. rest)
-  untouched_so_far (Restarts server ∷ past) run fit e s u =
-      let rest = untouched_so_far past run.1 fit e s u in
+  untouched_so_far (Restarts server ∷ past) run e s u =
+      let rest = untouched_so_far past run.1 e s u in
       by_test (λ l. IsGone (held_in (opening s delete.key) l delete.key)) (nat_eq server s) _ _ (λ _. tt) (λ _. rest)
 
   -- a server that the delete clears, or that was untouched
@@ -162,8 +151,8 @@ module _ (words : ℕ → Ask → List Call → Answer → Option ℕ → Type 0
     pub read : (i : ℕ) (item : Item) → item_at opening past delete.key i ≡ Some item → (call : Call) × (slice_get (calls_so_far past delete.key) i ≡ Some call) × (Guards call.server → n < item.stamp)
 
   -- the moment of the reply
-  guard_begins : (past : List Event) (m : ℕ) (k : List ℕ) (reply : Answer) (from : Option ℕ) → Run words opening (Replies m k reply from ∷ past) → AnswersFitAlone past → AcknowledgedBy past (Replies m k reply from) n delete → Guarded (Replies m k reply from ∷ past)
-  guard_begins past m k reply from run fit ack =
+  guard_begins : (past : List Event) (m : ℕ) (k : List ℕ) (reply : Answer) (from : Option ℕ) → Run words opening (Replies m k reply from ∷ past) → AcknowledgedBy past (Replies m k reply from) n delete → Guarded (Replies m k reply from ∷ past)
+  guard_begins past m k reply from run ack =
       let same : bytes_eq k delete.key ≡ true = (bytes_eq-Decides k delete.key).1 ack.1 in
       let mine : ◌≡◌ {A = Command} (record { number = m; ask = run.0.0 }) (record { number = n; ask = delete }) =
       let there = run.0.1 in let acked = ack.2 in cc in
@@ -171,7 +160,7 @@ module _ (words : ℕ → Ask → List Call → Answer → Option ℕ → Type 0
       let word : words n delete (calls_so_far past delete.key) reply from =
       subst (λ (c : Command). words c.number c.ask (calls_so_far past delete.key) reply from) mine (subst (λ key. words m run.0.0 (calls_so_far past key) reply from) ack.1 run.0.2) in
       record {
-        holds = λ s guards. newer_from_gone n _ (⊎_elim (λ clears. gone_so_far past run.1 there s (clears (calls_so_far past delete.key) reply from word ack.3)) (λ u. untouched_so_far past run.1 fit there s u) guards);
+        holds = λ s guards. newer_from_gone n _ (⊎_elim (λ clears. gone_so_far past run.1 there s (clears (calls_so_far past delete.key) reply from word ack.3)) (λ u. untouched_so_far past run.1 there s u) guards);
         later = λ c is. absurd (let e = ap (λ b. cond b None (under_way past delete.key)) same in cc);
         read = λ i item is. absurd (let e = ap (λ b. cond b None (item_at opening past delete.key i)) same in cc);
       }
@@ -236,18 +225,18 @@ module _ (words : ℕ → Ask → List Call → Answer → Option ℕ → Type 0
         read = g.read;
       }
 
-  pub guarded : (past : List Event) → Run words opening past → AnswersFitAlone past → IsAcknowledged past n delete → Guarded past
-  guarded [] run fit ack = absurd ack
-  guarded (Replies m k reply from ∷ past) run fit (inl ack) = guard_begins past m k reply from run fit ack
-  guarded (Begins m ask ∷ past) run fit (inl ack) = absurd ack
-  guarded (Calls m server ask origin end ∷ past) run fit (inl ack) = absurd ack
-  guarded (Loses server k ∷ past) run fit (inl ack) = absurd ack
-  guarded (Restarts server ∷ past) run fit (inl ack) = absurd ack
-  guarded (Begins m ask ∷ past) run fit (inr ack) = guard_keeps past (Begins m ask) run.0 ack (guarded past run.1 fit ack)
-  guarded (Replies m k reply from ∷ past) run fit (inr ack) = guard_keeps past (Replies m k reply from) run.0 ack (guarded past run.1 fit ack)
-  guarded (Calls m server ask origin end ∷ past) run fit (inr ack) = guard_keeps past (Calls m server ask origin end) run.0 ack (guarded past run.1 fit.1 ack)
-  guarded (Loses server k ∷ past) run fit (inr ack) = guard_keeps past (Loses server k) run.0 ack (guarded past run.1 fit ack)
-  guarded (Restarts server ∷ past) run fit (inr ack) = guard_keeps past (Restarts server) run.0 ack (guarded past run.1 fit ack)
+  pub guarded : (past : List Event) → Run words opening past → IsAcknowledged past n delete → Guarded past
+  guarded [] run ack = absurd ack
+  guarded (Replies m k reply from ∷ past) run (inl ack) = guard_begins past m k reply from run ack
+  guarded (Begins m ask ∷ past) run (inl ack) = absurd ack
+  guarded (Calls m server ask origin end ∷ past) run (inl ack) = absurd ack
+  guarded (Loses server k ∷ past) run (inl ack) = absurd ack
+  guarded (Restarts server ∷ past) run (inl ack) = absurd ack
+  guarded (Begins m ask ∷ past) run (inr ack) = guard_keeps past (Begins m ask) run.0 ack (guarded past run.1 ack)
+  guarded (Replies m k reply from ∷ past) run (inr ack) = guard_keeps past (Replies m k reply from) run.0 ack (guarded past run.1 ack)
+  guarded (Calls m server ask origin end ∷ past) run (inr ack) = guard_keeps past (Calls m server ask origin end) run.0 ack (guarded past run.1 ack)
+  guarded (Loses server k ∷ past) run (inr ack) = guard_keeps past (Loses server k) run.0 ack (guarded past run.1 ack)
+  guarded (Restarts server ∷ past) run (inr ack) = guard_keeps past (Restarts server) run.0 ack (guarded past run.1 ack)
 
 -- on one key the numbers of replies rise
 reply_below : (words : ℕ → Ask → List Call → Answer → Option ℕ → Type 0) (opening : ℕ → List ℕ → Option Item) (past : List Event) (key : List ℕ) (number m : ℕ) (client : Ask) (item : Item) → Run words opening past → under_way past key ≡ Some (record { number = number; ask = client }) → IsShown opening past m key item → m < number
@@ -287,29 +276,29 @@ reply_below words opening (Restarts server ∷ past) key number m client item ru
 reply_below words opening (Restarts server ∷ past) key number m client item run e (inr h) = reply_below words opening past key number m client item run.1 e h
 
 -- a run is fresh, whose deletes clear what later commands take, or in which nothing was stored there before
-pub fresh : (words : ℕ → Ask → List Call → Answer → Option ℕ → Type 0) (opening : ℕ → List ℕ → Option Item) (cover : IsCoveredOrUntouched words opening) (events : List Event) → AnswersFitAlone events → Run words opening events → IsFresh opening events
-fresh words opening cover [] fit run n m delete item lt ack shown = absurd ack
-fresh words opening cover (Begins a b ∷ past) fit run n m delete item lt (inr ack) (inr shown) = fresh words opening cover past fit run.1 n m delete item lt ack shown
-fresh words opening cover (Calls a b c d e ∷ past) fit run n m delete item lt (inr ack) (inr shown) = fresh words opening cover past fit.1 run.1 n m delete item lt ack shown
-fresh words opening cover (Loses a b ∷ past) fit run n m delete item lt (inr ack) (inr shown) = fresh words opening cover past fit run.1 n m delete item lt ack shown
-fresh words opening cover (Restarts a ∷ past) fit run n m delete item lt (inr ack) (inr shown) = fresh words opening cover past fit run.1 n m delete item lt ack shown
-fresh words opening cover (Replies a b c d ∷ past) fit run n m delete item lt (inr ack) (inr shown) = fresh words opening cover past fit run.1 n m delete item lt ack shown
-fresh words opening cover (Begins a b ∷ past) fit run n m delete item lt (inl ack) shown = absurd ack
-fresh words opening cover (Calls a b c d e ∷ past) fit run n m delete item lt (inl ack) shown = absurd ack
-fresh words opening cover (Loses a b ∷ past) fit run n m delete item lt (inl ack) shown = absurd ack
-fresh words opening cover (Restarts a ∷ past) fit run n m delete item lt (inl ack) shown = absurd ack
-fresh words opening cover (Begins a b ∷ past) fit run n m delete item lt (inr ack) (inl shown) = absurd shown
-fresh words opening cover (Calls a b c d e ∷ past) fit run n m delete item lt (inr ack) (inl shown) = absurd shown
-fresh words opening cover (Loses a b ∷ past) fit run n m delete item lt (inr ack) (inl shown) = absurd shown
-fresh words opening cover (Restarts a ∷ past) fit run n m delete item lt (inr ack) (inl shown) = absurd shown
+pub fresh : (words : ℕ → Ask → List Call → Answer → Option ℕ → Type 0) (opening : ℕ → List ℕ → Option Item) (cover : IsCoveredOrUntouched words opening) (events : List Event) → Run words opening events → IsFresh opening events
+fresh words opening cover [] run n m delete item lt ack shown = absurd ack
+fresh words opening cover (Begins a b ∷ past) run n m delete item lt (inr ack) (inr shown) = fresh words opening cover past run.1 n m delete item lt ack shown
+fresh words opening cover (Calls a b c d e ∷ past) run n m delete item lt (inr ack) (inr shown) = fresh words opening cover past run.1 n m delete item lt ack shown
+fresh words opening cover (Loses a b ∷ past) run n m delete item lt (inr ack) (inr shown) = fresh words opening cover past run.1 n m delete item lt ack shown
+fresh words opening cover (Restarts a ∷ past) run n m delete item lt (inr ack) (inr shown) = fresh words opening cover past run.1 n m delete item lt ack shown
+fresh words opening cover (Replies a b c d ∷ past) run n m delete item lt (inr ack) (inr shown) = fresh words opening cover past run.1 n m delete item lt ack shown
+fresh words opening cover (Begins a b ∷ past) run n m delete item lt (inl ack) shown = absurd ack
+fresh words opening cover (Calls a b c d e ∷ past) run n m delete item lt (inl ack) shown = absurd ack
+fresh words opening cover (Loses a b ∷ past) run n m delete item lt (inl ack) shown = absurd ack
+fresh words opening cover (Restarts a ∷ past) run n m delete item lt (inl ack) shown = absurd ack
+fresh words opening cover (Begins a b ∷ past) run n m delete item lt (inr ack) (inl shown) = absurd shown
+fresh words opening cover (Calls a b c d e ∷ past) run n m delete item lt (inr ack) (inl shown) = absurd shown
+fresh words opening cover (Loses a b ∷ past) run n m delete item lt (inr ack) (inl shown) = absurd shown
+fresh words opening cover (Restarts a ∷ past) run n m delete item lt (inr ack) (inl shown) = absurd shown
 -- one reply is of one command
-fresh words opening cover (Replies number k reply from ∷ past) fit run n m delete item lt (inl ack) (inl shown) = absurd (let e = ack.0 in let f = shown.0 in omega arith)
+fresh words opening cover (Replies number k reply from ∷ past) run n m delete item lt (inl ack) (inl shown) = absurd (let e = ack.0 in let f = shown.0 in omega arith)
 -- a reply after the delete's is of a later one
-fresh words opening cover (Replies number k reply from ∷ past) fit run n m delete item lt (inl ack) (inr shown) =
+fresh words opening cover (Replies number k reply from ∷ past) run n m delete item lt (inl ack) (inr shown) =
     absurd (let there : under_way past delete.key ≡ Some (record { number = n; ask = delete }) = subst (λ key. under_way past key ≡ Some (record { number = n; ask = delete })) ack.1 ack.2 in let below : m < n = reply_below words opening past delete.key n m delete item run.1 there shown in omega arith)
-fresh words opening cover (Replies number k reply from ∷ past) fit run n m delete item lt (inr ack) (inl shown) =
+fresh words opening cover (Replies number k reply from ∷ past) run n m delete item lt (inr ack) (inl shown) =
     let op = is_delete past n delete ack in
-    let g = guarded words opening cover n delete op past run.1 fit ack in
+    let g = guarded words opening cover n delete op past run.1 ack in
     let at = shown.1 in
     let there : under_way past delete.key ≡ Some (record { number = number; ask = run.0.0 }) = subst (λ key. under_way past key ≡ Some (record { number = number; ask = run.0.0 })) at run.0.1 in
     let word : words number run.0.0 (calls_so_far past delete.key) reply from = subst (λ key. words number run.0.0 (calls_so_far past key) reply from) at run.0.2 in

@@ -16,8 +16,8 @@ use Rattle.fresh_runs.specs.Sharing.{Event, Begins, Calls, Replies, Breaks, Turn
 use Rattle.fresh_runs.proofs.Stamps.{by_test, clear_marks, get_left, get_seam, clears_split}
 use Rattle.fresh_runs.proofs.SharingStamps.{Has, Gives, has_from_gone, has_marks, delete_marks}
 use Rattle.fresh_runs.proofs.Sharing.{some_ask, no_ask, differs, differ, acked_below, shown_below, new_calls, new_item_at, ended_since, acked_since, acked_over, acked_delete, over, apart, began_after, above}
-use Rattle.gate_growth.specs.Untouched.{IsPutting, IsUntouched, IsCoveredOrUntouched, AnswersFit}
-use Rattle.gate_growth.proofs.Nothing.{AgreesEnd, nothing_marks}
+use Rattle.gate_growth.specs.Untouched.{IsPutting, IsUntouched, IsCoveredOrUntouched}
+use Rattle.gate_growth.proofs.Nothing.{nothing_marks}
 
 module _ (words : ℕ → Ask → List Call → Answer → Option ℕ → Type 0) (Bars : ℕ → Ask → ℕ → Ask → Type 0) (opening : ℕ → List ℕ → Option Item) (cover : IsCoveredOrUntouched words opening) (copies : CopiesBar words Bars) (n : ℕ) (delete : Ask) (op : delete.op ≡ Delete) (began : List Event) (Q : ℕ → Type 0) (young : (past : List Event) → Run words Bars opening past → before past n ≡ began → (under_way past n ≡ Some delete) ⊎ IsAcknowledged past n delete → (m : ℕ) (client : Ask) → under_way past m ≡ Some client → client.key ≡ delete.key → (m ≡ n → ⊥) → Q m) where
   -- `Q` are the stamps of what may be seen once the delete, which began then, is acknowledged
@@ -100,55 +100,45 @@ module _ (words : ℕ → Ask → List Call → Answer → Option ℕ → Type 0
       let front = run.0.3 in
       u.unput number run.0.0 lt (sym run.0.2 ∙ same) _ _ _ front.3 (length calls, call, get_left (calls ++ call ∷ []) front.0 (length calls) call (get_seam calls call []), here, puts)
 
-  agrees_end : (past : List Event) (number server : ℕ) (ask : Ask) (origin : Origin) (end : End) → EndsWell opening past number server ask origin end → AgreesEnd ask end (held opening past server ask.key)
-  agrees_end past number server ask origin (Read stamp answer spaces) h = h.0
-  agrees_end past number server ask origin (Unread stamp answer spaces) h = h.0
-  agrees_end past number server ask origin Never h = tt
-
   -- before the delete begins, an untouched server holds nothing of the key
-  empty_before : (past : List Event) → Run words Bars opening past → LosesOnly past → AnswersFit past → IsNewNumber n past → (s : ℕ) → IsUntouched words opening n delete.key s → held opening past s delete.key ≡ None
-  empty_before [] run lost fit new s u = u.empty
-  empty_before (Begins number ask ∷ past) run lost fit new s u = empty_before past run.1 lost fit new.1 s u
-  empty_before (Replies number k reply from ∷ past) run lost fit new s u = empty_before past run.1 lost fit new.1 s u
-  empty_before (Breaks number ∷ past) run lost fit new s u = empty_before past run.1 lost fit new.1 s u
-  empty_before (Calls number server ask origin end ∷ past) run lost fit new s u =
-      let rest = empty_before past run.1 lost fit.1 new.1 s u in
+  empty_before : (past : List Event) → Run words Bars opening past → LosesOnly past → IsNewNumber n past → (s : ℕ) → IsUntouched words opening n delete.key s → held opening past s delete.key ≡ None
+  empty_before [] run lost new s u = u.empty
+  empty_before (Begins number ask ∷ past) run lost new s u = empty_before past run.1 lost new.1 s u
+  empty_before (Replies number k reply from ∷ past) run lost new s u = empty_before past run.1 lost new.1 s u
+  empty_before (Breaks number ∷ past) run lost new s u = empty_before past run.1 lost new.1 s u
+  empty_before (Calls number server ask origin end ∷ past) run lost new s u =
+      let rest = empty_before past run.1 lost new.1 s u in
       by_test (λ l. held_in (opening s delete.key) l delete.key ≡ None) (nat_eq server s) _ _
-      (λ here. nothing_marks (opening s delete.key) ask end (life_of past s) delete.key
-      (λ same. (
-        (λ puts. unput past number server ask origin end run s u new.0 (eqb-true server s here) ((bytes_eq-Decides ask.key delete.key).0 same) puts),
-        subst (λ k. AgreesEnd ask end (held opening past s k)) ((bytes_eq-Decides ask.key delete.key).0 same) (subst (λ x. AgreesEnd ask end (held opening past x ask.key)) (eqb-true server s here) (agrees_end past number server ask origin end run.0.4)),
-      ))
-      fit.0 rest)
+      (λ here. nothing_marks (opening s delete.key) ask end (life_of past s) delete.key (λ same puts. unput past number server ask origin end run s u new.0 (eqb-true server s here) ((bytes_eq-Decides ask.key delete.key).0 same) puts) rest)
       (λ _. rest)
-  empty_before (Turns server k turned ∷ past) run lost fit new s u =
-      let rest = empty_before past run.1 lost.1 fit new s u in
+  empty_before (Turns server k turned ∷ past) run lost new s u =
+      let rest = empty_before past run.1 lost.1 new s u in
       by_test (λ l. held_in (opening s delete.key) l delete.key ≡ None) (nat_eq server s) _ _ (λ _. by_test (λ o. o ≡ None) (bytes_eq k delete.key) turned _ (λ _. lost.0) (λ _. rest)) (λ _. rest)
-  empty_before (Restarts server ∷ past) run lost fit new s u =
-      let rest = empty_before past run.1 lost fit new s u in
+  empty_before (Restarts server ∷ past) run lost new s u =
+      let rest = empty_before past run.1 lost new s u in
       by_test (λ l. held_in (opening s delete.key) l delete.key ≡ None) (nat_eq server s) _ _ (λ _. refl) (λ _. rest)
 
   -- while it is under way, nothing or what may be seen
-  untouched_so_far : (past : List Event) → Run words Bars opening past → LosesOnly past → AnswersFit past → before past n ≡ began → under_way past n ≡ Some delete → (s : ℕ) → IsUntouched words opening n delete.key s → Has Q (held opening past s delete.key)
-  untouched_so_far [] run lost fit at e s u = no_ask delete e
-  untouched_so_far (Begins number ask ∷ past) run lost fit at e s u =
+  untouched_so_far : (past : List Event) → Run words Bars opening past → LosesOnly past → before past n ≡ began → under_way past n ≡ Some delete → (s : ℕ) → IsUntouched words opening n delete.key s → Has Q (held opening past s delete.key)
+  untouched_so_far [] run lost at e s u = no_ask delete e
+  untouched_so_far (Begins number ask ∷ past) run lost at e s u =
       (elim (nat_eq number n) as (λ b. nat_eq number n ≡ b → cond b past (before past n) ≡ began → cond b (Some ask) (under_way past n) ≡ Some delete → Has Q (held opening past s delete.key)) [
-        | true ↦ λ is _ _. subst (Has Q) (sym (empty_before past run.1 lost fit (subst (λ k. IsNewNumber k past) (eqb-true number n is) run.0.0) s u)) tt
-        | false ↦ λ _ a is. untouched_so_far past run.1 lost fit a is s u
+        | true ↦ λ is _ _. subst (Has Q) (sym (empty_before past run.1 lost (subst (λ k. IsNewNumber k past) (eqb-true number n is) run.0.0) s u)) tt
+        | false ↦ λ _ a is. untouched_so_far past run.1 lost a is s u
       ]) refl at e
-  untouched_so_far (Replies number k reply from ∷ past) run lost fit at e s u =
+  untouched_so_far (Replies number k reply from ∷ past) run lost at e s u =
       (elim (nat_eq number n) as (λ b. cond b None (under_way past n) ≡ Some delete → Has Q (held opening past s delete.key)) [
         | true ↦ λ is. no_ask delete is
-        | false ↦ λ is. untouched_so_far past run.1 lost fit at is s u
+        | false ↦ λ is. untouched_so_far past run.1 lost at is s u
       ]) e
-  untouched_so_far (Breaks number ∷ past) run lost fit at e s u =
+  untouched_so_far (Breaks number ∷ past) run lost at e s u =
       (elim (nat_eq number n) as (λ b. cond b None (under_way past n) ≡ Some delete → Has Q (held opening past s delete.key)) [
         | true ↦ λ is. no_ask delete is
-        | false ↦ λ is. untouched_so_far past run.1 lost fit at is s u
+        | false ↦ λ is. untouched_so_far past run.1 lost at is s u
       ]) e
-  untouched_so_far (Calls number server ask origin end ∷ past) run lost fit at e s u =
+  untouched_so_far (Calls number server ask origin end ∷ past) run lost at e s u =
       let key = delete.key in
-      let rest = untouched_so_far past run.1 lost fit.1 at e s u in
+      let rest = untouched_so_far past run.1 lost at e s u in
       let call : Call = record { server = server; ask = ask; origin = origin; outcome = outcome_of end } in
       (elim (nat_eq number n) as (λ b. nat_eq number n ≡ b → Has Q (held opening (Calls number server ask origin end ∷ past) s key)) [
         | true ↦ λ is.
@@ -162,11 +152,11 @@ module _ (words : ℕ → Ask → List Call → Answer → Option ℕ → Type 0
             (λ _. has_marks Q (opening s key) ask end (life_of past s) key (λ same. early past number server ask origin end run.1 at e (λ is. differ number n other is) run.0 ((bytes_eq-Decides ask.key key).0 same)) rest)
             (λ _. rest)
       ]) refl
-  untouched_so_far (Turns server k turned ∷ past) run lost fit at e s u =
-      let rest = untouched_so_far past run.1 lost.1 fit at e s u in
+  untouched_so_far (Turns server k turned ∷ past) run lost at e s u =
+      let rest = untouched_so_far past run.1 lost.1 at e s u in
       by_test (λ l. Has Q (held_in (opening s delete.key) l delete.key)) (nat_eq server s) _ _ (λ _. by_test (Has Q) (bytes_eq k delete.key) turned _ (λ _. subst (Has Q) (sym lost.0) tt) (λ _. rest)) (λ _. rest)
-  untouched_so_far (Restarts server ∷ past) run lost fit at e s u =
-      let rest = untouched_so_far past run.1 lost fit at e s u in
+  untouched_so_far (Restarts server ∷ past) run lost at e s u =
+      let rest = untouched_so_far past run.1 lost at e s u in
       by_test (λ l. Has Q (held_in (opening s delete.key) l delete.key)) (nat_eq server s) _ _ (λ _. tt) (λ _. rest)
 
   -- a server that the delete clears, or that was untouched
@@ -179,14 +169,14 @@ module _ (words : ℕ → Ask → List Call → Answer → Option ℕ → Type 0
     pub read : (m : ℕ) (client : Ask) → under_way past m ≡ Some client → client.key ≡ delete.key → IsAcknowledged (before past m) n delete → (i : ℕ) (item : Item) → item_at opening past m i ≡ Some item → (call : Call) × (slice_get (calls_so_far past m) i ≡ Some call) × (Guards call.server → Q item.stamp)
 
   -- the moment of the reply
-  guard_begins : (past : List Event) (m : ℕ) (k : List ℕ) (reply : Answer) (from : Option ℕ) → Run words Bars opening (Replies m k reply from ∷ past) → LosesOnly past → AnswersFit past → before past n ≡ began → AcknowledgedBy past (Replies m k reply from) n delete → Guarded (Replies m k reply from ∷ past)
-  guard_begins past m k reply from run lost fit at ack =
+  guard_begins : (past : List Event) (m : ℕ) (k : List ℕ) (reply : Answer) (from : Option ℕ) → Run words Bars opening (Replies m k reply from ∷ past) → LosesOnly past → before past n ≡ began → AcknowledgedBy past (Replies m k reply from) n delete → Guarded (Replies m k reply from ∷ past)
+  guard_begins past m k reply from run lost at ack =
       let mine : m ≡ n = ack.0 in
       let there : under_way past n ≡ Some delete = subst (λ x. under_way past x ≡ Some delete) mine ack.1 in
       let asked : run.0.0 ≡ delete = some_ask run.0.0 delete (sym run.0.1 ∙ ack.1) in
       let word : words n delete (calls_so_far past n) reply from = subst (λ a. words n a (calls_so_far past n) reply from) asked (subst (λ x. words x run.0.0 (calls_so_far past x) reply from) mine run.0.3) in
       record {
-        holds = λ s guards. ⊎_elim (λ clears. clear_so_far past run.1 lost at there s (clears (calls_so_far past n) reply from word ack.2)) (λ u. untouched_so_far past run.1 lost fit at there s u) guards;
+        holds = λ s guards. ⊎_elim (λ clears. clear_so_far past run.1 lost at there s (clears (calls_so_far past n) reply from word ack.2)) (λ u. untouched_so_far past run.1 lost at there s u) guards;
         read = λ x client way same later i item is. absurd (over words Bars opening past n delete run.1 (acked_over past n delete (acked_since past x n delete later)) there);
       }
 
@@ -269,56 +259,56 @@ module _ (words : ℕ → Ask → List Call → Answer → Option ℕ → Type 0
         read = g.read;
       }
 
-  pub guarded : (past : List Event) → Run words Bars opening past → LosesOnly past → AnswersFit past → before past n ≡ began → IsAcknowledged past n delete → Guarded past
-  guarded [] run lost fit at ack = absurd ack
-  guarded (Replies m k reply from ∷ past) run lost fit at (inl ack) = guard_begins past m k reply from run lost fit at ack
-  guarded (Begins m ask ∷ past) run lost fit at (inl ack) = absurd ack
-  guarded (Calls m server ask origin end ∷ past) run lost fit at (inl ack) = absurd ack
-  guarded (Breaks m ∷ past) run lost fit at (inl ack) = absurd ack
-  guarded (Turns server k turned ∷ past) run lost fit at (inl ack) = absurd ack
-  guarded (Restarts server ∷ past) run lost fit at (inl ack) = absurd ack
-  guarded (Begins m ask ∷ past) run lost fit at (inr ack) =
+  pub guarded : (past : List Event) → Run words Bars opening past → LosesOnly past → before past n ≡ began → IsAcknowledged past n delete → Guarded past
+  guarded [] run lost at ack = absurd ack
+  guarded (Replies m k reply from ∷ past) run lost at (inl ack) = guard_begins past m k reply from run lost at ack
+  guarded (Begins m ask ∷ past) run lost at (inl ack) = absurd ack
+  guarded (Calls m server ask origin end ∷ past) run lost at (inl ack) = absurd ack
+  guarded (Breaks m ∷ past) run lost at (inl ack) = absurd ack
+  guarded (Turns server k turned ∷ past) run lost at (inl ack) = absurd ack
+  guarded (Restarts server ∷ past) run lost at (inl ack) = absurd ack
+  guarded (Begins m ask ∷ past) run lost at (inr ack) =
       let old : before past n ≡ began = sym (ap (λ b. cond b past (before past n)) (differs m n (λ is. (let lt = acked_below m past n delete run.0.0 ack in omega (arith, lt, is))))) ∙ at in
-      guard_keeps past (Begins m ask) run lost old ack (guarded past run.1 lost fit old ack)
-  guarded (Calls m server ask origin end ∷ past) run lost fit at (inr ack) = guard_keeps past (Calls m server ask origin end) run lost at ack (guarded past run.1 lost fit.1 at ack)
-  guarded (Replies m k reply from ∷ past) run lost fit at (inr ack) = guard_keeps past (Replies m k reply from) run lost at ack (guarded past run.1 lost fit at ack)
-  guarded (Breaks m ∷ past) run lost fit at (inr ack) = guard_keeps past (Breaks m) run lost at ack (guarded past run.1 lost fit at ack)
-  guarded (Turns server k turned ∷ past) run lost fit at (inr ack) = guard_keeps past (Turns server k turned) run lost at ack (guarded past run.1 lost.1 fit at ack)
-  guarded (Restarts server ∷ past) run lost fit at (inr ack) = guard_keeps past (Restarts server) run lost at ack (guarded past run.1 lost fit at ack)
+      guard_keeps past (Begins m ask) run lost old ack (guarded past run.1 lost old ack)
+  guarded (Calls m server ask origin end ∷ past) run lost at (inr ack) = guard_keeps past (Calls m server ask origin end) run lost at ack (guarded past run.1 lost at ack)
+  guarded (Replies m k reply from ∷ past) run lost at (inr ack) = guard_keeps past (Replies m k reply from) run lost at ack (guarded past run.1 lost at ack)
+  guarded (Breaks m ∷ past) run lost at (inr ack) = guard_keeps past (Breaks m) run lost at ack (guarded past run.1 lost at ack)
+  guarded (Turns server k turned ∷ past) run lost at (inr ack) = guard_keeps past (Turns server k turned) run lost at ack (guarded past run.1 lost.1 at ack)
+  guarded (Restarts server ∷ past) run lost at (inr ack) = guard_keeps past (Restarts server) run lost at ack (guarded past run.1 lost at ack)
 
   -- what a command shows that began after the delete was acknowledged
-  pub shows_young : (events : List Event) → Run words Bars opening events → LosesOnly events → AnswersFit events → before events n ≡ began → (m : ℕ) (item : Item) → IsAcknowledged (before events m) n delete → IsShown opening events m delete.key item → Q item.stamp
-  shows_young [] run lost fit at m item ack shown = absurd shown
-  shows_young (Begins x ask ∷ past) run lost fit at m item ack (inl shown) = absurd shown
-  shows_young (Begins x ask ∷ past) run lost fit at m item ack (inr shown) =
+  pub shows_young : (events : List Event) → Run words Bars opening events → LosesOnly events → before events n ≡ began → (m : ℕ) (item : Item) → IsAcknowledged (before events m) n delete → IsShown opening events m delete.key item → Q item.stamp
+  shows_young [] run lost at m item ack shown = absurd shown
+  shows_young (Begins x ask ∷ past) run lost at m item ack (inl shown) = absurd shown
+  shows_young (Begins x ask ∷ past) run lost at m item ack (inr shown) =
       let later : IsAcknowledged (before past m) n delete = subst (λ b. IsAcknowledged (cond b past (before past m)) n delete) (differs x m (λ is. (let lt = shown_below opening x past m delete.key item run.0.0 shown in omega (arith, lt, is)))) ack in
       let acked = acked_since past m n delete later in
       let old : before past n ≡ began = sym (ap (λ b. cond b past (before past n)) (differs x n (λ is. (let lt = acked_below x past n delete run.0.0 acked in omega (arith, lt, is))))) ∙ at in
-      shows_young past run.1 lost fit old m item later shown
-  shows_young (Calls a b c d e ∷ past) run lost fit at m item ack (inl shown) = absurd shown
-  shows_young (Calls a b c d e ∷ past) run lost fit at m item ack (inr shown) = shows_young past run.1 lost fit.1 at m item ack shown
-  shows_young (Breaks a ∷ past) run lost fit at m item ack (inl shown) = absurd shown
-  shows_young (Breaks a ∷ past) run lost fit at m item ack (inr shown) = shows_young past run.1 lost fit at m item ack shown
-  shows_young (Turns a b turned ∷ past) run lost fit at m item ack (inl shown) = absurd shown
-  shows_young (Turns a b turned ∷ past) run lost fit at m item ack (inr shown) = shows_young past run.1 lost.1 fit at m item ack shown
-  shows_young (Restarts a ∷ past) run lost fit at m item ack (inl shown) = absurd shown
-  shows_young (Restarts a ∷ past) run lost fit at m item ack (inr shown) = shows_young past run.1 lost fit at m item ack shown
-  shows_young (Replies a k reply from ∷ past) run lost fit at m item ack (inr shown) = shows_young past run.1 lost fit at m item ack shown
-  shows_young (Replies a k reply from ∷ past) run lost fit at m item ack (inl shown) =
+      shows_young past run.1 lost old m item later shown
+  shows_young (Calls a b c d e ∷ past) run lost at m item ack (inl shown) = absurd shown
+  shows_young (Calls a b c d e ∷ past) run lost at m item ack (inr shown) = shows_young past run.1 lost at m item ack shown
+  shows_young (Breaks a ∷ past) run lost at m item ack (inl shown) = absurd shown
+  shows_young (Breaks a ∷ past) run lost at m item ack (inr shown) = shows_young past run.1 lost at m item ack shown
+  shows_young (Turns a b turned ∷ past) run lost at m item ack (inl shown) = absurd shown
+  shows_young (Turns a b turned ∷ past) run lost at m item ack (inr shown) = shows_young past run.1 lost.1 at m item ack shown
+  shows_young (Restarts a ∷ past) run lost at m item ack (inl shown) = absurd shown
+  shows_young (Restarts a ∷ past) run lost at m item ack (inr shown) = shows_young past run.1 lost at m item ack shown
+  shows_young (Replies a k reply from ∷ past) run lost at m item ack (inr shown) = shows_young past run.1 lost at m item ack shown
+  shows_young (Replies a k reply from ∷ past) run lost at m item ack (inl shown) =
       let later : IsAcknowledged (before past a) n delete = subst (λ x. IsAcknowledged (before past x) n delete) (sym shown.0) ack in
-      let g = guarded past run.1 lost fit at (acked_since past a n delete later) in
+      let g = guarded past run.1 lost at (acked_since past a n delete later) in
       let same : run.0.0.key ≡ delete.key = sym run.0.2 ∙ shown.1 in
       let r = g.read a run.0.0 run.0.1 same later shown.2 item shown.4 in
       r.2 (cover.covered n a delete run.0.0 (above words Bars opening past run.1 n a delete later) op same _ _ _ run.0.3 r.0.server (shown.2, (r.0, r.1, refl), inl shown.3))
 
 module _ (words : ℕ → Ask → List Call → Answer → Option ℕ → Type 0) (Bars : ℕ → Ask → ℕ → Ask → Type 0) (opening : ℕ → List ℕ → Option Item) (cover : IsCoveredOrUntouched words opening) where
   -- a run is fresh, whose deletes clear what later commands take, and in which what copies has its key alone
-  pub fresh : CopiesBar words Bars → (events : List Event) → LosesOnly events → AnswersFit events → Run words Bars opening events → IsFresh opening events
-  fresh copies events lost fit run n m delete item ack shown =
+  pub fresh : CopiesBar words Bars → (events : List Event) → LosesOnly events → Run words Bars opening events → IsFresh opening events
+  fresh copies events lost run n m delete item ack shown =
       let op = acked_delete events n delete (acked_since events m n delete ack) in
       shows_young words Bars opening cover copies n delete op (before events n) (λ s. HasEnded (before events n) s → ⊥)
       (λ past run' at way x client there same other ended. over words Bars opening past x client run' (ended_since past n x (subst (λ l. HasEnded l x) (sym at) ended)) there)
-      events run lost fit refl m item ack shown
+      events run lost refl m item ack shown
 
   module _ (all : AreAlone Bars) where
     -- where each has its key alone, a reply before the end of a delete is of a smaller number
@@ -380,15 +370,15 @@ module _ (words : ℕ → Ask → List Call → Answer → Option ℕ → Type 0
     shown_later (Replies a k reply from ∷ past) run n m delete item lt (inr ack) (inr shown) = shown_later past run.1 n m delete item lt ack shown
 
     -- and shows a stamp that is greater
-    pub fresh_by_number : (events : List Event) → LosesOnly events → AnswersFit events → Run words Bars opening events → IsFreshByNumber opening events
-    fresh_by_number events lost fit run n m delete item lt ack shown =
+    pub fresh_by_number : (events : List Event) → LosesOnly events → Run words Bars opening events → IsFreshByNumber opening events
+    fresh_by_number events lost run n m delete item lt ack shown =
         shows_young words Bars opening cover (λ number ask calls reply from word j call i at o x other gone same. all number x ask other same) n delete (acked_delete events n delete ack) (before events n) (λ s. n < s)
         (λ past run' at way x client there same other.
         ⊎_elim
         (λ under. absurd (apart words Bars opening past run' x n client delete there under other same (all x n client delete same)))
         (λ acked. above words Bars opening past run' n x delete (began_after words Bars opening past run' n x delete client acked there same (all x n client delete same)))
         way)
-        events run lost fit refl m item (shown_later events run n m delete item lt ack shown) shown
+        events run lost refl m item (shown_later events run n m delete item lt ack shown) shown
 
 -- where deletes clear what later commands take, nothing need be untouched
 pub no_less : (words : ℕ → Ask → List Call → Answer → Option ℕ → Type 0) (opening : ℕ → List ℕ → Option Item) → IsCovered words → IsCoveredOrUntouched words opening

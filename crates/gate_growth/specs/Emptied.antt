@@ -5,7 +5,7 @@ use Rattle.mc_types.specs.declared.answer.Answer.{Answer}
 use Rattle.mc_types.specs.Items.{Item}
 use Rattle.fresh_runs.specs.Run.{Call}
 use Rattle.fresh_runs.specs.Sharing.{Event, Begins, Calls, Replies, Breaks, Turns, Restarts, LosesOnly, Run, CopiesBar, AreAlone, IsFresh, IsFreshByNumber}
-use Rattle.gate_growth.specs.Untouched.{IsCoveredOrUntouched, AnswersFit}
+use Rattle.gate_growth.specs.Untouched.{IsCoveredOrUntouched}
 
 -- the server was emptied
 abbrev pub WasEmptied : List Event → ℕ → Type 0
@@ -37,5 +37,5 @@ module _ (words : ℕ → Ask → List Call → Answer → Option ℕ → Type 0
   abbrev pub EmptiedIsFresh : Type 0
   EmptiedIsFresh =
       (emptied : ℕ → Bool) → IsCoveredOrUntouched words (emptied_opening emptied opening)
-      → (events : List Event) → AreEmptiedFirst emptied events → LosesOnly events → AnswersFit events → Run words Bars opening events
+      → (events : List Event) → AreEmptiedFirst emptied events → LosesOnly events → Run words Bars opening events
       → (CopiesBar words Bars → IsFresh opening events) × (AreAlone Bars → IsFreshByNumber opening events)

@@ -4,8 +4,7 @@ use Rattle.mc_types.specs.declared.ask.Ask.{Ask}
 use Rattle.mc_types.specs.Items.{Item}
 use Rattle.fresh_runs.specs.Sharing.{Event, LosesOnly, Run, CopiesBar, AreAlone, IsFresh, IsFreshByNumber}
 use Rattle.fresh_runs.specs.Run as alone
-use Rattle.gate_growth.specs.Untouched.{IsCoveredOrUntouched, AnswersFit}
-use Rattle.gate_growth.specs.UntouchedAlone.{AnswersFitAlone}
+use Rattle.gate_growth.specs.Untouched.{IsCoveredOrUntouched}
 use Rattle.route_tree.specs.declared.place.Place.{Place}
 use Rattle.route_tree.specs.Each.{Each}
 use Rattle.route_tree.specs.Plan.{Plan}
@@ -80,14 +79,14 @@ abbrev pub GrownGenerationsAreFresh : (ℕ → Ask → ℕ → Ask → Type 0) �
 GrownGenerationsAreFresh Bars =
     (arbitrary : ℕ → Bool) (trees : List Route) → Each IsTree trees → AreSoundSince arbitrary trees
     → (tree : ℕ → Route) → AreLoaded trees tree → (opening : ℕ → List ℕ → Option Item) → OpensBy arbitrary trees opening
-    → (events : List Event) → LosesOnly events → AnswersFit events → Run (tree_words (λ n key. tree_at (tree n) key)) Bars opening events
+    → (events : List Event) → LosesOnly events → Run (tree_words (λ n key. tree_at (tree n) key)) Bars opening events
     → (CopiesBar (tree_words (λ n key. tree_at (tree n) key)) Bars → IsFresh opening events) × (AreAlone Bars → IsFreshByNumber opening events)
 
 -- every run in which a key has one command at a time, by the tree that is loaded when it begins, is fresh
 abbrev pub EveryGrownRunIsFresh : (ℕ → Bool) → List Route → Type 0
 EveryGrownRunIsFresh arbitrary trees =
     (tree : ℕ → Route) → AreLoaded trees tree → (opening : ℕ → List ℕ → Option Item) → OpensBy arbitrary trees opening
-    → (events : List alone.Event) → AnswersFitAlone events → alone.Run (tree_words (λ n key. tree_at (tree n) key)) opening events → alone.IsFresh opening events
+    → (events : List alone.Event) → alone.Run (tree_words (λ n key. tree_at (tree n) key)) opening events → alone.IsFresh opening events
 
 -- so it is over sound generations
 abbrev pub GrownRunsOfTreesAreFresh : Type 0

@@ -1,4 +1,4 @@
--- On which servers a plain tree's commands put items. Source: mcgate's own; which operations leave an item where nothing was held is memcached's protocol.txt.
+-- On which servers a plain tree's commands put items. Source: mcgate's own; which operations store is memcached's protocol.txt.
 use Rattle.std.specs.Prelude.{ℕ, List, Option}
 use Rattle.mc_types.specs.declared.ask.Ask.{Ask}
 use Rattle.mc_types.specs.declared.answer.Answer.{Answer}
@@ -9,7 +9,7 @@ use Rattle.gate_growth.specs.Untouched.{PutsIn}
 use Rattle.route_tree.specs.Plan.{Plan}
 use Rattle.route_tree.specs.Word.{Word}
 
--- some word of some ask has a call of the server that asks to set or to add, of the client's data or a copy, also where that call fails
+-- some word of some ask has a call of the server that asks for a set, an add, a replace or a cas, of the client's data or a copy, also where that call fails
 abbrev pub Puts : Plan → ℕ → Type 0
 Puts plain server =
     (ask : Ask) × IsAsk ask × (calls : List Call) × (reply : Answer) × (from : Option ℕ)

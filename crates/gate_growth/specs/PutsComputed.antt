@@ -1,7 +1,7 @@
 -- On which servers an operation stores, computed part by part: each call may be answered anything that fits, so parts combine freely.
 use Rattle.std.specs.Prelude.{ℕ, Bool, false, ◌&&◌, ◌||◌, not, nat_eq, if◌then◌else◌}
 use Rattle.mc_types.specs.declared.ask.Op.{Op}
-use Rattle.mc_types.specs.declared.ask.Op.TheVariants.{Get, Set, Add}
+use Rattle.mc_types.specs.declared.ask.Op.TheVariants.{Get, Set, Add, Replace, Cas}
 use Rattle.route_tree.specs.Operation.{same_op}
 use Rattle.route_tree.specs.Plan.{Plan, Plans, PlanPolicies, Server, Null, Failing, AllSync, Failover, MissFailover, WarmUp, ByOperation, End, More, Otherwise, Policy}
 use Rattle.gate_coverage.specs.Computed.{is_get, fails, hits}
@@ -41,4 +41,4 @@ refills s cold warm = stores Get s warm || (hits Get warm && stores Add s cold)
 
 -- some operation stores on the server
 abbrev pub puts : Plan → ℕ → Bool
-puts plain s = stores Set s plain || stores Add s plain || stores Get s plain
+puts plain s = stores Set s plain || stores Add s plain || stores Replace s plain || stores Cas s plain || stores Get s plain

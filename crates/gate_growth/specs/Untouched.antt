@@ -1,25 +1,23 @@
 -- Servers on which nothing of a key was stored before a delete of it began, and runs in which deletes needn't clear those. Source: mcgate's own.
-use Rattle.std.specs.Prelude.{◌≡◌, ℕ, ◌<◌, List, [], ◌∷◌, Option, Some, None, ◌⊎◌, slice_get}
+use Rattle.std.specs.Prelude.{◌≡◌, ℕ, ◌<◌, List, Option, Some, None, ◌⊎◌, slice_get}
 use Rattle.mc_types.specs.declared.ask.Op.{Op}
 use Rattle.mc_types.specs.declared.ask.Op.TheVariants.{Get, Gat, Set, Add, Replace, Append, Prepend, Cas, Delete, Incr, Decr, Touch}
 use Rattle.mc_types.specs.declared.ask.Ask.{Ask}
 use Rattle.mc_types.specs.declared.answer.Answer.{Answer}
-use Rattle.mc_types.specs.Fits.{Fits}
 use Rattle.mc_types.specs.Items.{Item}
-use Rattle.fresh_runs.specs.Run.{Call, End, Read, Unread, Never}
+use Rattle.fresh_runs.specs.Run.{Call}
 use Rattle.fresh_runs.specs.Cover.{TakesIn, IsCleared}
-use Rattle.fresh_runs.specs.Sharing.{Event, Begins, Calls, Replies, Breaks, Turns, Restarts}
 
--- the operations that leave an item where nothing was held
+-- the operations that store what they bring. Where nothing is held a replace and a cas leave nothing; but their answer may not have been read, and a run lets it be any that agrees
 abbrev pub IsPutting : Op → Type 0
 IsPutting Set = Unit {0}
 IsPutting Add = Unit {0}
 IsPutting Get = ⊥
 IsPutting Gat = ⊥
-IsPutting Replace = ⊥
+IsPutting Replace = Unit {0}
 IsPutting Append = ⊥
 IsPutting Prepend = ⊥
-IsPutting Cas = ⊥
+IsPutting Cas = Unit {0}
 IsPutting Delete = ⊥
 IsPutting Incr = ⊥
 IsPutting Decr = ⊥
@@ -40,19 +38,3 @@ module _ (words : ℕ → Ask → List Call → Answer → Option ℕ → Type 0
     pub covered : (n m : ℕ) (delete ask : Ask) → n < m → delete.op ≡ Delete → ask.key ≡ delete.key → (calls : List Call) (reply : Answer) (from : Option ℕ) → words m ask calls reply from → (server : ℕ) → TakesIn calls from server → IsCleared words n delete server ⊎ IsUntouched n delete.key server
     -- a delete asks for nothing but deletes
     pub deletes : (n : ℕ) (delete : Ask) → delete.op ≡ Delete → (calls : List Call) (reply : Answer) (from : Option ℕ) → words n delete calls reply from → (i : ℕ) (call : Call) → slice_get calls i ≡ Some call → call.ask.op ≡ Delete
-
--- the true answer of an applied call is one that its ask may be given
-abbrev pub FitsEnd : Ask → End → Type 0
-FitsEnd ask (Read stamp answer spaces) = Fits ask answer
-FitsEnd ask (Unread stamp answer spaces) = Fits ask answer
-FitsEnd ask Never = Unit {0}
-
--- servers give each applied call an answer of its kind, also where nobody reads it
-abbrev pub AnswersFit : List Event → Type 0
-AnswersFit [] = Unit {0}
-AnswersFit (Begins number ask ∷ past) = AnswersFit past
-AnswersFit (Calls number server ask origin end ∷ past) = FitsEnd ask end × AnswersFit past
-AnswersFit (Replies number key reply from ∷ past) = AnswersFit past
-AnswersFit (Breaks number ∷ past) = AnswersFit past
-AnswersFit (Turns server key turned ∷ past) = AnswersFit past
-AnswersFit (Restarts server ∷ past) = AnswersFit past

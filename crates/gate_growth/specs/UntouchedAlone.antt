@@ -1,20 +1,11 @@
 -- The law of runs in which commands are alone on their keys. Source: mcgate's own.
-use Rattle.std.specs.Prelude.{ℕ, List, [], ◌∷◌, Option}
+use Rattle.std.specs.Prelude.{ℕ, List, Option}
 use Rattle.mc_types.specs.declared.ask.Ask.{Ask}
 use Rattle.mc_types.specs.declared.answer.Answer.{Answer}
 use Rattle.mc_types.specs.Items.{Item}
-use Rattle.fresh_runs.specs.Run.{Call, Event, Begins, Calls, Replies, Loses, Restarts, Run, IsFresh}
-use Rattle.gate_growth.specs.Untouched.{FitsEnd, IsCoveredOrUntouched}
-
--- servers give each applied call an answer of its kind, also where nobody reads it
-abbrev pub AnswersFitAlone : List Event → Type 0
-AnswersFitAlone [] = Unit {0}
-AnswersFitAlone (Begins number ask ∷ past) = AnswersFitAlone past
-AnswersFitAlone (Calls number server ask origin end ∷ past) = FitsEnd ask end × AnswersFitAlone past
-AnswersFitAlone (Replies number key reply from ∷ past) = AnswersFitAlone past
-AnswersFitAlone (Loses server key ∷ past) = AnswersFitAlone past
-AnswersFitAlone (Restarts server ∷ past) = AnswersFitAlone past
+use Rattle.fresh_runs.specs.Run.{Call, Event, Run, IsFresh}
+use Rattle.gate_growth.specs.Untouched.{IsCoveredOrUntouched}
 
 -- where each server that a later command takes is cleared by the delete or was untouched, every run is fresh
 abbrev pub GrownRunsAreFresh : (ℕ → Ask → List Call → Answer → Option ℕ → Type 0) → (ℕ → List ℕ → Option Item) → Type 0
-GrownRunsAreFresh words opening = IsCoveredOrUntouched words opening → (events : List Event) → AnswersFitAlone events → Run words opening events → IsFresh opening events
+GrownRunsAreFresh words opening = IsCoveredOrUntouched words opening → (events : List Event) → Run words opening events → IsFresh opening events

@@ -2,18 +2,16 @@
 use Rattle.std.specs.Prelude.{◌≡◌, ℕ, List, Option, None}
 use Rattle.mc_types.specs.declared.ask.Ask.{Ask}
 use Rattle.mc_types.specs.declared.answer.Answer.{Answer}
-use Rattle.mc_types.specs.Agree.{Agrees}
-use Rattle.mc_types.specs.Fits.{Fits}
 use Rattle.mc_types.specs.Items.{Item, after_call}
 use Rattle.fresh_runs.specs.Run.{Call}
 use Rattle.fresh_runs.specs.Cover.{IsCovered}
 use Rattle.fresh_runs.specs.Sharing.{Event, LosesOnly, Run, CopiesBar, AreAlone, IsFresh, IsFreshByNumber}
-use Rattle.gate_growth.specs.Untouched.{IsPutting, IsCoveredOrUntouched, AnswersFit}
+use Rattle.gate_growth.specs.Untouched.{IsPutting, IsCoveredOrUntouched}
 
--- where nothing is held, a call of another operation than set and add leaves nothing, however it is answered
+-- where nothing is held, a call that doesn't put an item leaves nothing, whatever it is answered
 abbrev pub NothingComesOfNothing : Type 0
 NothingComesOfNothing =
-    (ask : Ask) (stamp : ℕ) (answer : Answer) (spaces : ℕ) → (IsPutting ask.op → ⊥) → Fits ask answer → Agrees ask answer None → after_call ask stamp answer spaces None ≡ None
+    (ask : Ask) (stamp : ℕ) (answer : Answer) (spaces : ℕ) → (IsPutting ask.op → ⊥) → after_call ask stamp answer spaces None ≡ None
 
 -- where deletes clear what later commands take, nothing need be untouched
 abbrev pub CoveredIsNoLess : (ℕ → Ask → List Call → Answer → Option ℕ → Type 0) → (ℕ → List ℕ → Option Item) → Type 0
@@ -24,10 +22,10 @@ module _ (words : ℕ → Ask → List Call → Answer → Option ℕ → Type 0
   abbrev pub GrownIsFresh : Type 0
   GrownIsFresh =
       IsCoveredOrUntouched words opening → CopiesBar words Bars
-      → (events : List Event) → LosesOnly events → AnswersFit events → Run words Bars opening events → IsFresh opening events
+      → (events : List Event) → LosesOnly events → Run words Bars opening events → IsFresh opening events
 
   -- where each command has its key alone, later is a greater number
   abbrev pub GrownIsFreshByNumber : Type 0
   GrownIsFreshByNumber =
       IsCoveredOrUntouched words opening → AreAlone Bars
-      → (events : List Event) → LosesOnly events → AnswersFit events → Run words Bars opening events → IsFreshByNumber opening events
+      → (events : List Event) → LosesOnly events → Run words Bars opening events → IsFreshByNumber opening events

@@ -12,8 +12,8 @@ use gate_coverage::seen::{Seen, SeenAll, SeenForm};
 use gate_coverage::stores::is_op;
 use mc_types::{Op, ServerId};
 
-/// Whether some word of some ask has a call of the server that asks to set or to add, of the client's data or a copy,
-/// also where that call fails: it may have been applied. It takes no memory.
+/// Whether some word of some ask has a call of the server that asks for a set, an add, a replace or a cas, of the client's
+/// data or a copy, also where that call fails: it may have been applied. It takes no memory.
 pub fn puts(seen: Seen, server: ServerId) -> bool
     ensures { IsTrue result ↔ Puts (plan_of seen.entry) server }
 {
@@ -28,6 +28,8 @@ pub fn is_put_on(seen: Seen, server: ServerId) -> bool
 {
     stores_at(seen, Op::Set, server)
         || stores_at(seen, Op::Add, server)
+        || stores_at(seen, Op::Replace, server)
+        || stores_at(seen, Op::Cas, server)
         || stores_at(seen, Op::Get, server)
 }
 

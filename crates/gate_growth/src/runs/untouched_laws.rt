@@ -31,7 +31,7 @@ impl HasOpening for Brand {
     ghost opening = { λ _ _. None };
 }
 
-/// Where nothing is held, only a set and an add leave an item.
+/// Where nothing is held, only a call that puts an item leaves one, whatever it is answered.
 pub fn nothing_comes_of_nothing()
     ensures { NothingComesOfNothing }
 {}
