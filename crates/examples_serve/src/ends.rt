@@ -6,8 +6,12 @@ use examples_tables::playing::{
     Stage, cut, first_line, numbered, plain, play_lines, shown, yes_or_no,
 };
 use gate_check::{Accepted, judge};
+use route_json::addresses::Servers;
+use route_json::addresses::servers::MAX_SERVERS;
 use route_json::{Config, read_config, read_config_after};
-use serve_proxy::{LinkNews, ProxyEnd, Settings};
+use serve_proxy::{LinkNews, ProxyEnd, Settings, text_at};
+use serve_wire::Wire;
+use serve_wire::sockets::Sockets;
 use std::alloc::{AllocError, Global};
 use std::io::{ErrorKind, Read, Write};
 use std::net::{IpAddr, Ipv4Addr, Shutdown, SocketAddr, TcpListener, TcpStream};
@@ -17,6 +21,8 @@ use std::{io, thread};
 
 type Cache = CacheEnd<HostRuntime>;
 
+type Proxy = ProxyEnd<Sockets>;
+
 /// The ends. One that is gone is none any more.
 #[derive(Drop)]
 pub struct TurnedEnds<'a> {
@@ -24,9 +30,9 @@ pub struct TurnedEnds<'a> {
     caches: Vec<Option<Cache>>,
     // Where the one listened that was killed last.
     gone: Option<SocketAddr>,
-    proxy: Option<ProxyEnd>,
+    proxy: Option<Proxy>,
     // A proxy that isn't turned any more. Its connections stand.
-    ended: Option<ProxyEnd>,
+    ended: Option<Proxy>,
     // The text of the configuration by which the proxy began.
     config: String,
     // When news were asked for last.
@@ -76,42 +82,78 @@ fn judged(alloc: Global, config: Config) -> Result<Accepted, Fail> {
     }
 }
 
-// As many of these servers as the configuration has.
-fn used<'a>(config: &Config, servers: &'a [Option<SocketAddr>]) -> &'a [Option<SocketAddr>] {
-    &servers[..config.servers().len().min(servers.len())]
+// There is one more server, where none of these is there yet.
+fn add_server(alloc: Global, servers: &mut Servers, text: &str) -> Result<(), Fail> {
+    if servers.len() >= MAX_SERVERS || servers.find(text).is_some() {
+        return Err("there is a server of this address")?;
+    }
+    servers.push(alloc, text)?;
+    Ok(())
+}
+
+// The first of these servers, as many as the configuration has.
+fn used(alloc: Global, config: &Config, servers: &Servers) -> Result<Servers, Fail> {
+    let mut first = Servers::new(alloc);
+    for at in 0..config.servers().len() {
+        if let Some(text) = text_at(servers, at) {
+            add_server(alloc, &mut first, text)?;
+        }
+    }
+    Ok(first)
+}
+
+// A wire that listens, and has looked up these servers.
+fn listening(rt: &HostRuntime, servers: &Servers) -> io::Result<Sockets> {
+    let mut wire = Sockets::listen(rt, any_port())?;
+    for at in 0..servers.len() {
+        if let Some(text) = text_at(servers, at) {
+            let _ = wire.resolve(rt, text.as_bytes());
+        }
+    }
+    Ok(wire)
 }
 
 fn proxy(
     rt: &HostRuntime,
     accepted: Accepted,
-    servers: &[Option<SocketAddr>],
+    servers: &Servers,
     settings: Settings,
-) -> io::Result<ProxyEnd> {
-    ProxyEnd::new(rt, any_port(), accepted, servers, settings)
+) -> io::Result<Proxy> {
+    let wire = listening(rt, servers)?;
+    Ok(ProxyEnd::new(rt.alloc(), wire, accepted, servers, settings)?)
 }
 
 // A proxy over as many of these servers as the configuration has, on its tree.
 fn proxy_by(
     rt: &HostRuntime,
     text: &str,
-    servers: &[Option<SocketAddr>],
+    servers: &Servers,
     settings: Settings,
-) -> Result<ProxyEnd, Fail> {
+) -> Result<Proxy, Fail> {
     let config = read(rt.alloc(), text)?;
-    let servers = used(&config, servers);
+    let servers = used(rt.alloc(), &config, servers)?;
     let accepted = judged(rt.alloc(), config)?;
-    Ok(proxy(rt, accepted, servers, settings)?)
+    Ok(proxy(rt, accepted, &servers, settings)?)
 }
 
 // Drops the configuration.
 fn drop_config(_config: Config) {}
 
+// Servers are looked up.
+fn resolve(rt: &HostRuntime, proxy: &mut Proxy, servers: &Servers) {
+    for at in 0..servers.len() {
+        if let Some(text) = text_at(servers, at) {
+            let _ = proxy.resolve(rt, text);
+        }
+    }
+}
+
 // The number of the generation that a configuration is.
 fn load(
     alloc: Global,
-    proxy: &mut ProxyEnd,
+    proxy: &mut Proxy,
     config: Config,
-    servers: &[Option<SocketAddr>],
+    servers: &Servers,
 ) -> Result<String, Fail> {
     match proxy.load(config, servers) {
         Ok(number) => Ok(number.to_string(alloc)?),
@@ -123,6 +165,14 @@ fn address(end: &Option<Cache>) -> io::Result<Option<SocketAddr>> {
     match end {
         Some(end) => Ok(Some(end.address()?)),
         None => Ok(None),
+    }
+}
+
+// The address of a server as a text. One that is gone, of this number, has none: its name is no host's.
+fn text_of(alloc: Global, address: Option<SocketAddr>, at: usize) -> Result<String, Fail> {
+    match address {
+        Some(address) => Ok(format!(in alloc; "{address}")?),
+        None => Ok(format!(in alloc; "gone{at}.invalid:1")?),
     }
 }
 
@@ -180,21 +230,27 @@ impl<'a> TurnedEnds<'a> {
     }
 
     // Where the servers listen: the caches, or the one that the example plays.
-    fn servers(&self) -> io::Result<Vec<Option<SocketAddr>>> {
-        let mut servers = Vec::new(self.rt.alloc());
-        for end in self.caches.as_slice() {
-            servers.push(address(end)?)?;
+    fn servers(&self) -> Result<Servers, Fail> {
+        let mut servers = Servers::new(self.rt.alloc());
+        for at in 0..self.caches.len() {
+            let text = self.text_of(at)?;
+            add_server(self.rt.alloc(), &mut servers, text.as_str())?;
         }
         if let Some(listener) = &self.played {
-            servers.push(Some(listener.local_addr()?))?;
+            let text = text_of(self.rt.alloc(), Some(listener.local_addr()?), 0)?;
+            add_server(self.rt.alloc(), &mut servers, text.as_str())?;
         }
         Ok(servers)
+    }
+
+    fn text_of(&self, at: usize) -> Result<String, Fail> {
+        text_of(self.rt.alloc(), self.address_of(at)?, at)
     }
 
     // Where clients connect: to the proxy, or to the first cache where there is none.
     fn front(&self) -> Result<SocketAddr, Fail> {
         if let Some(proxy) = &self.proxy {
-            return Ok(proxy.local_addr()?);
+            return Ok(proxy.wire().local_addr()?);
         }
         match self.caches.first() {
             Some(Some(cache)) => Ok(cache.address()?),
@@ -314,7 +370,7 @@ impl<'a> TurnedEnds<'a> {
 
     fn begin_proxy(&mut self, text: &str, settings: Settings) -> Result<(), Fail> {
         let servers = self.servers()?;
-        self.proxy = Some(proxy_by(self.rt, text, servers.as_slice(), settings)?);
+        self.proxy = Some(proxy_by(self.rt, text, &servers, settings)?);
         self.config = text.to_string(self.rt.alloc())?;
         Ok(())
     }
@@ -513,10 +569,13 @@ impl<'a> TurnedEnds<'a> {
         read_after(self.rt.alloc(), &first, text)
     }
 
-    fn loaded(&mut self, config: Config, servers: &[Option<SocketAddr>]) -> Result<String, Fail> {
+    fn loaded(&mut self, config: Config, servers: &Servers) -> Result<String, Fail> {
         let alloc = self.rt.alloc();
         match self.proxy.as_mut() {
-            Some(proxy) => load(alloc, proxy, config, servers),
+            Some(proxy) => {
+                resolve(self.rt, proxy, servers);
+                load(alloc, proxy, config, servers)
+            }
             None => {
                 drop_config(config);
                 Err("there is no proxy")?
@@ -527,7 +586,7 @@ impl<'a> TurnedEnds<'a> {
     fn load(&mut self, text: &str) -> Result<String, Fail> {
         let servers = self.servers()?;
         let config = self.next_config(text)?;
-        self.loaded(config, servers.as_slice())
+        self.loaded(config, &servers)
     }
 
     fn next_news(&mut self) -> Option<(usize, LinkNews)> {

@@ -1,6 +1,8 @@
 //! Worked examples of wires: ends over a wire in memory whose far ends do what a script says, and real sockets.
 
 #[cfg(test)]
+mod proxies;
+#[cfg(test)]
 mod scripts;
 #[cfg(test)]
 mod sockets;

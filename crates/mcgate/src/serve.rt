@@ -4,7 +4,7 @@ ghost use Rattle.std.specs.Prelude.{IfOk, false};
 ghost use Rattle.mcgate.specs.Judging.{Judges, JudgesText};
 ghost use Rattle.mcgate.specs.Serves.{Begins, HasServed, StaysFresh};
 
-use crate::serving::{Serving, addresses_of, resolve};
+use crate::serving::{Proxy, Serving, resolve, tell_unknown};
 use crate::sharing::sharing_for;
 use gate_check::{Accepted, judge};
 use mcgate_args::details::Details;
@@ -13,11 +13,13 @@ use mcgate_args::serve_arguments::ServeJob;
 use mcgate_check::checking::{print_fault, print_refused};
 use route_json::addresses::Servers;
 use route_json::{Config, read_config};
-use serve_proxy::{ProxyEnd, Settings};
+use serve_proxy::{ProxyEnd, Settings, text_at};
+use serve_wire::Wire;
+use serve_wire::sockets::Sockets;
 use std::alloc::{AllocError, Global};
 use std::io;
 use std::io::Write;
-use std::net::{Net, SocketAddr};
+use std::net::Net;
 use std::rt::{Clock, Files};
 
 /// A configuration that may be served.
@@ -87,26 +89,48 @@ pub fn judge_text<W: Write>(
 }
 
 // The end that serves it.
-fn end_over<R: Net + Clock + AllocGlobal>(
-    rt: &R,
-    listen: SocketAddr,
+fn end_over(
+    alloc: Global,
+    wire: Sockets,
     servable: Servable,
-    addresses: &[Option<SocketAddr>],
+    servers: &Servers,
     settings: Settings,
-) -> io::Result<ProxyEnd>
+) -> Result<Proxy, AllocError>
     ensures core { IfOk result (λ end. Begins servable settings end.core.value) }
 {
     let mut settings = settings;
     match servable {
         Servable::Accepted(accepted) => {
             settings.sharing = sharing_for(accepted.config().tree());
-            ProxyEnd::new(rt, listen, accepted, addresses, settings)
+            ProxyEnd::new(alloc, wire, accepted, servers, settings)
         }
         Servable::Unchecked(config) => {
             let tree = config.tree().copy()?;
             settings.sharing = sharing_for(&tree);
-            ProxyEnd::unchecked(rt, listen, tree, addresses, settings)
+            ProxyEnd::unchecked(alloc, wire, tree, servers, settings)
         }
+    }
+}
+
+// A wire that listens there, and has looked up these servers.
+fn listen<R: Net + Clock + AllocGlobal + Eprint>(
+    rt: &R,
+    listen: &str,
+    servers: &Servers,
+) -> io::Result<Sockets> {
+    let mut wire = Sockets::listen(rt, resolve(rt, listen)?)?;
+    for at in 0..servers.len() {
+        if let Some(text) = text_at(servers, at) {
+            resolve_one(rt, &mut wire, text)?;
+        }
+    }
+    Ok(wire)
+}
+
+fn resolve_one<R: Net + Eprint>(rt: &R, wire: &mut Sockets, text: &str) -> io::Result<()> {
+    match wire.resolve(rt, text.as_bytes()) {
+        Ok(()) => Ok(()),
+        Err(_) => tell_unknown(rt, text),
     }
 }
 
@@ -116,14 +140,11 @@ fn open<R: Net + Clock + AllocGlobal + Eprint>(
     job: &ServeJob<'_>,
     servable: Servable,
     servers: &Servers,
-) -> io::Result<ProxyEnd>
+) -> io::Result<Proxy>
     ensures core { IfOk result (λ end. Begins servable job.now.settings end.core.value) }
 {
-    let addresses = addresses_of(rt, servers, 0)?;
-    match resolve(rt, job.listen) {
-        Ok(listen) => end_over(rt, listen, servable, addresses.as_slice(), job.settings),
-        Err(error) => Err(error),
-    }
+    let wire = listen(rt, job.listen, servers)?;
+    Ok(end_over(rt.alloc(), wire, servable, servers, job.settings)?)
 }
 
 fn start<R: Net + Clock + AllocGlobal + Eprint>(

@@ -17,7 +17,8 @@ use mcgate_check::reload_lines::{write_kept, write_loaded, write_unchecked};
 use mcgate_check::status::DONE;
 use route_json::addresses::Servers;
 use route_json::{Config, ConfigFault, read_config_after};
-use serve_proxy::ProxyEnd;
+use serve_proxy::{ProxyEnd, text_at};
+use serve_wire::sockets::Sockets;
 use std::alloc::{AllocError, Global};
 use std::io;
 use std::io::{ErrorKind, Write};
@@ -33,39 +34,18 @@ pub fn resolve<N: Net>(net: &N, text: &str) -> io::Result<SocketAddr> {
     }
 }
 
-/// The addresses of the servers in their order; those before `from` stand without one, as they are known. Of one whose text names no
-/// host it is told, and its calls will fail.
-pub fn addresses_of<R: Net + AllocGlobal + Eprint>(
-    rt: &R,
-    servers: &Servers,
-    from: u32,
-) -> io::Result<Vec<Option<SocketAddr>>> {
-    let mut addresses = Vec::new(rt.alloc());
-    for number in 0..u32::MAX {
-        let Some(text) = servers.get(ServerId::new(number)) else {
-            break;
-        };
-        addresses.push(if number < from {
-            None
-        } else {
-            told_address(rt, text)?
-        })?;
-    }
-    Ok(addresses)
+/// Of a server whose text names no host it is told, and its calls will fail.
+pub fn tell_unknown<R: Eprint>(rt: &R, text: &str) -> io::Result<()> {
+    eprintln!(rt; "mcgate: server {text}: no such host, its calls fail")
 }
 
-fn told_address<R: Net + Eprint>(rt: &R, text: &str) -> io::Result<Option<SocketAddr>> {
-    let address = resolve(rt, text).ok();
-    if address.is_none() {
-        eprintln!(rt; "mcgate: server {text}: no such host, its calls fail")?;
-    }
-    Ok(address)
-}
+/// The end of a proxy over sockets.
+pub type Proxy = ProxyEnd<Sockets>;
 
 /// A proxy that runs.
 #[derive(Drop)]
 pub struct Serving {
-    end: ProxyEnd,
+    end: Proxy,
     /// The servers in use.
     servers: Servers,
     /// What the file last had.
@@ -125,12 +105,7 @@ fn print_kept<W: Write>(servers: &Servers, fault: LoadFault, out: &mut W) -> Res
 
 impl Serving {
     /// Of this end, by a configuration of these servers, whose text this is.
-    pub fn new<R: Clock>(
-        rt: &R,
-        end: ProxyEnd,
-        servers: Servers,
-        text: String,
-    ) -> io::Result<Serving>
+    pub fn new<R: Clock>(rt: &R, end: Proxy, servers: Servers, text: String) -> io::Result<Serving>
         ensures { IfOk result (λ serving. serving.end ≡ end) }
     {
         Ok(Serving {
@@ -165,7 +140,7 @@ impl Serving {
 
     // Tells that it listens, and with a tree of which no gate was asked what that means.
     fn tell_start<R: Eprint>(&self, rt: &R, job: &ServeJob<'_>) -> io::Result<()> {
-        let address = self.end.local_addr()?;
+        let address = self.end.wire().local_addr()?;
         if job.any {
             eprintln!(rt;
                 "mcgate: WARNING: --any: no gate was asked, nothing is promised: replies may show deleted data"
@@ -310,6 +285,27 @@ impl Serving {
         }
     }
 
+    // Looks up those of these servers that weren't in use before.
+    fn resolve<R: Net + Eprint>(&mut self, rt: &R, servers: &Servers) -> io::Result<()>
+        ensures core { self.new.end.core ≡ self.old.end.core }
+    {
+        for at in self.servers.len()..servers.len() {
+            if let Some(text) = text_at(servers, at) {
+                self.resolve_one(rt, text)?;
+            }
+        }
+        Ok(())
+    }
+
+    fn resolve_one<R: Net + Eprint>(&mut self, rt: &R, text: &str) -> io::Result<()>
+        ensures core { self.new.end.core ≡ self.old.end.core }
+    {
+        match self.end.resolve(rt, text) {
+            Ok(()) => Ok(()),
+            Err(_) => tell_unknown(rt, text),
+        }
+    }
+
     // Loads a configuration of these servers, and prints what came of that.
     fn load<R: Net + AllocGlobal + Eprint, W: Write>(
         &mut self,
@@ -321,9 +317,8 @@ impl Serving {
     ) -> Result<(), Stop>
         ensures core { MayLoad config self.old.end.core.value self.new.end.core.value }
     {
-        let known = u32::try_from(self.servers.len()).unwrap_or(u32::MAX);
-        let addresses = addresses_of(rt, &servers, known)?;
-        match self.end.load(config, addresses.as_slice()) {
+        self.resolve(rt, &servers)?;
+        match self.end.load(config, &servers) {
             Ok(generation) => {
                 self.servers = servers;
                 Ok(print_loaded(any, generation, out)?)

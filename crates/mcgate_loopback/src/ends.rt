@@ -8,8 +8,11 @@ use core_proxy::Sharing;
 use gate_check::{Accepted, ReloadFault};
 use mc_types::limits::SCRIPT_CLIENTS;
 use route_json::Config;
+use route_json::addresses::Servers;
 use script_events::{Event, Output, PIECE_CUT, Reload, Script};
-use serve_proxy::{ProxyEnd, ServerDialect, Settings};
+use serve_proxy::{ProxyEnd, ServerDialect, Settings, text_at};
+use serve_wire::Wire;
+use serve_wire::sockets::Sockets;
 use std::alloc::{AllocError, Global};
 use std::io;
 use std::io::ErrorKind;
@@ -34,7 +37,7 @@ pub struct Counts {
 #[derive(Drop)]
 pub struct Ends {
     alloc: Global,
-    proxy: ProxyEnd,
+    proxy: ProxyEnd<Sockets>,
     address: SocketAddr,
     servers: ServerEnds,
     clients: Vec<Option<ClientEnd>>,
@@ -47,6 +50,17 @@ pub struct Ends {
 // 127.0.0.1, at a port that the system picks.
 fn any_port() -> SocketAddr {
     SocketAddr::new(IpAddr::V4(Ipv4Addr::LOCALHOST), 0)
+}
+
+// A wire for the proxy, which has looked up these servers.
+fn listen<R: Net + Clock + AllocGlobal>(rt: &R, servers: &Servers) -> io::Result<Sockets> {
+    let mut wire = Sockets::listen(rt, any_port())?;
+    for at in 0..servers.len() {
+        if let Some(text) = text_at(servers, at) {
+            wire.resolve(rt, text.as_bytes())?;
+        }
+    }
+    Ok(wire)
 }
 
 // One command of a client at a time, each key for one command alone, and one call: so calls are made in the order in which a run of the script makes them, each as the client wrote it. No call is ever late, and
@@ -109,13 +123,14 @@ impl Ends {
         let alloc = rt.alloc();
         let servers = ServerEnds::listen(rt, alloc, servers, any_port())?;
         let addresses = servers.addresses()?;
-        let mut proxy = ProxyEnd::new(rt, any_port(), accepted, addresses.as_slice(), settings())?;
+        let wire = listen(rt, &addresses)?;
+        let mut proxy = ProxyEnd::new(alloc, wire, accepted, &addresses, settings())?;
         proxy.poll_in_rounds();
         Ends::of(alloc, proxy, servers)
     }
 
-    fn of(alloc: Global, proxy: ProxyEnd, servers: ServerEnds) -> io::Result<Ends> {
-        let address = proxy.local_addr()?;
+    fn of(alloc: Global, proxy: ProxyEnd<Sockets>, servers: ServerEnds) -> io::Result<Ends> {
+        let address = proxy.wire().local_addr()?;
         let clients = no_clients(alloc)?;
         Ok(Ends {
             alloc,
@@ -166,7 +181,7 @@ impl Ends {
     pub fn load(&mut self, config: &Config) -> io::Result<Result<u32, ReloadFault>> {
         let addresses = self.servers.addresses()?;
         let config = config.copy(self.alloc)?;
-        match self.proxy.load(config, addresses.as_slice()) {
+        match self.proxy.load(config, &addresses) {
             Ok(generation) => Ok(Ok(generation)),
             Err(LoadFault::Refused(ReloadFault::NoMemory)) => Err(io::Error::from(
                 ErrorKind::OutOfMemory,

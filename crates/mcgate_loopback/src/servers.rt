@@ -8,11 +8,14 @@ use cache_tcp::clock::Moment;
 use cache_tcp::connection::Cache;
 use mc_types::{DATA_LIMIT, Key, ServerId};
 use mio::net::{TcpListener, TcpStream};
+use route_json::addresses::Servers;
+use route_json::addresses::servers::MAX_SERVERS;
 use script_events::servers::losing::lose_all;
 use script_events::servers::{CAPACITY, Loss, Manner};
 use serve_clients::socket::{Conn, Got, Limits, Sent};
 use std::alloc::{AllocError, Global};
 use std::io;
+use std::io::ErrorKind;
 use std::net::{Net, SocketAddr};
 use wire_stream::{Read, read_request};
 
@@ -206,6 +209,16 @@ fn listen_all<N: Net>(
     Ok(ends)
 }
 
+// There is one more server, at this address, where none of these is yet.
+fn add_server(alloc: Global, servers: &mut Servers, address: SocketAddr) -> io::Result<()> {
+    let text = format!(in alloc; "{address}")?;
+    if servers.len() >= MAX_SERVERS || servers.find(text.as_str()).is_some() {
+        return Err(io::Error::from(ErrorKind::AlreadyExists));
+    }
+    servers.push(alloc, text.as_str())?;
+    Ok(())
+}
+
 // A moment of a script; one before the first is that one.
 fn moment_of(seconds: i64) -> Moment {
     let seconds = u64::try_from(seconds).unwrap_or(0);
@@ -232,12 +245,12 @@ impl ServerEnds {
     }
 
     /// Where they listen, in their order.
-    pub fn addresses(&self) -> io::Result<Vec<Option<SocketAddr>>> {
-        let mut addresses = Vec::new(self.alloc);
+    pub fn addresses(&self) -> io::Result<Servers> {
+        let mut servers = Servers::new(self.alloc);
         for end in self.ends.as_slice() {
-            addresses.push(Some(end.listener.local_addr()?))?;
+            add_server(self.alloc, &mut servers, end.listener.local_addr()?)?;
         }
-        Ok(addresses)
+        Ok(servers)
     }
 
     /// How many calls were made.

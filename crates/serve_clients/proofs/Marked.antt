@@ -7,7 +7,7 @@ use Rattle.std.specs.Prelude.{slice_get, slice_set, filter, Contains, OnOk, OnEr
 use Rattle.std.specs.Option.{option_map, option_flatten}
 use Rattle.serve_clients.specs.declared.clients.Client.{Client}
 use Rattle.serve_clients.specs.declared.clients.Clients.{Clients}
-use Rattle.serve_clients.specs.declared.socket.readiness.Ready.{Ready}
+use Rattle.serve_wire.specs.declared.outcomes.Ready.{Ready}
 use Rattle.serve_clients.specs.Marks.{client_of, Changes, AreAlike, EndsBusy, is_idle, with_busy, ids_if, ready_if, unsent_if, told_of, noted, will_send}
 
 -- what was put at a place is there

@@ -1,3 +1,4 @@
+pub mod Agrees
 pub mod Ends
 pub mod Marks
 pub mod Waits

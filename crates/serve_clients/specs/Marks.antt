@@ -2,7 +2,7 @@
 use Rattle.std.specs.Prelude.{◌≡◌, ℕ, ◌+◌, ◌-◌, ◌^◌, min, Bool, true, false, not, ◌||◌, ◌&&◌, nat_eq, length, List, [], ◌∷◌, ◌++◌, Option, Some, None, if◌then◌else◌, slice_get, slice_set, Contains}
 use Rattle.std.specs.Option.{option_map, option_flatten}
 use Rattle.wire_parts.specs.Sending.{bytes_of}
-use Rattle.serve_clients.specs.declared.socket.readiness.Ready.{Ready}
+use Rattle.serve_wire.specs.declared.outcomes.Ready.{Ready}
 use Rattle.serve_clients.specs.declared.clients.Client.{Client}
 use Rattle.serve_clients.specs.declared.clients.Clients.{Clients}
 

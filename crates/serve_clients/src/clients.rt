@@ -4,12 +4,12 @@ ghost use Rattle.std.specs.Prelude.{◌≡◌, ◌≢◌, ℕ, ◌+◌, ◌-◌,
 ghost use Rattle.std.specs.Option.{option_map, option_flatten, option_copied_mut};
 ghost use Rattle.wire_parts.specs.Sending.{bytes_of};
 ghost use Rattle.serve_clients.specs.Marks.{client_of, Changes, AreAlike, EndsBusy, ids_with, ids_if, is_idle, with_ready, with_unsent, with_busy, ready_if, unsent_if, told_of, noted, will_send, one_settled, one_waits, one_waited};
+ghost use Rattle.serve_clients.specs.Agrees.{Breaks, KeepsEnds};
 ghost use Rattle.serve_clients.specs.Waits.{waits_a_turn};
 ghost use Rattle.serve_clients.specs.declared.clients.TheConstants.{HELD_BACK};
 
-use crate::socket::{Conn, Limits, Ready};
-use crate::sockets::note;
-use mio::net::TcpStream;
+use serve_wire::Ready;
+use serve_wire::conn::{Conn, Limits};
 use std::alloc::{AllocError, Global};
 
 // What is kept of a client, and for one that does not read it. Above the latter nothing is read of the client, and none of its
@@ -30,7 +30,7 @@ const HELD_BACK: usize = 65_536;
 /// One client's end.
 #[derive(Drop)]
 pub struct Client {
-    pub conn: Conn<TcpStream>,
+    pub conn: Conn,
     /// Whether its last read filled its room, so that long data come.
     reads_long: bool,
     /// How many of its commands can go on since their calls were settled: so many polls begin none.
@@ -43,6 +43,8 @@ pub struct Client {
     is_held_back: bool,
     /// It sends no more, or nothing more is read of it.
     pub is_ended: bool,
+    /// It is broken off: nothing more goes to it either.
+    pub is_broken: bool,
     pub is_ready: bool,
     pub has_output: bool,
     /// A command of it waits for a key or a server.
@@ -52,16 +54,21 @@ pub struct Client {
 }
 
 impl Client {
-    /// A client that has just connected.
-    pub fn new(alloc: Global, stream: TcpStream) -> Client {
+    /// A client that has just connected, by the connection of this number.
+    pub fn new(alloc: Global, number: usize) -> Client
+        ensures number { result.conn.number ≡ number }
+        ensures none { (result.conn.held.items ≡ []) × (bytes_of result.conn.unsent ≡ []) }
+        ensures stands { (result.is_ended ≡ false) × (result.is_broken ≡ false) }
+    {
         Client {
-            conn: Conn::new(alloc, stream, LIMITS),
+            conn: Conn::new(alloc, number, LIMITS),
             reads_long: false,
             settled: 0,
             waiting: 0,
             calls_out: 0,
             is_held_back: false,
             is_ended: false,
+            is_broken: false,
             is_ready: false,
             has_output: false,
             is_busy: false,
@@ -86,7 +93,9 @@ impl Client {
 
     /// Whether something may be read of it. Behind a message that waits nothing is read: the core would move it, byte by byte, when
     /// that message is done.
-    pub fn can_read(&self) -> bool {
+    pub fn can_read(&self) -> bool
+        ensures { result ≡ true → (self.now.conn.held.items ≡ []) × (self.now.is_ended ≡ false) }
+    {
         self.conn.readable
             && self.wants_more
             && !self.is_ended
@@ -107,7 +116,9 @@ impl Client {
     }
 
     /// A read gave something.
-    pub fn has_read(&mut self) {
+    pub fn has_read(&mut self)
+        ensures { self.new ≡ record self.old { reads_long = self.new.reads_long } }
+    {
         self.reads_long = self.conn.held.len() >= self.read_room();
     }
 
@@ -161,9 +172,12 @@ impl Client {
         self.is_held_back
     }
 
-    /// Its connection is gone: what is still to be sent is lost.
-    pub fn break_off(&mut self) {
+    /// Its connection is gone, or is of no use any more: what is still to be sent is lost.
+    pub fn break_off(&mut self)
+        ensures broken { Breaks self.old self.new }
+    {
         self.is_ended = true;
+        self.is_broken = true;
         self.conn.held.clear();
         self.conn.unsent.clear();
     }
@@ -314,7 +328,7 @@ fn note_at(place: &mut Option<Client>, told: Ready) -> bool
 {
     match place {
         Some(client) => {
-            note(&mut client.conn, told);
+            client.conn.note(told);
             told.writes && !client.conn.unsent.is_empty()
         }
         None => false,
@@ -338,6 +352,19 @@ fn put_at(all: &mut Vec<Option<Client>>, id: usize, client: Client)
     ensures { all.new.items ≡ slice_set all.old.items id (Some client) }
 {
     all[id] = Some(client);
+}
+
+// Nobody stands at this place any more: the number of the connection of who stood there.
+fn empty(place: &mut Option<Client>) -> Option<usize>
+    ensures conn { result ≡ option_map (λ x. x.conn.number) place.old }
+    ensures gone { place.new ≡ None }
+{
+    let number = match place {
+        Some(client) => Some(client.conn.number),
+        None => None,
+    };
+    *place = None;
+    number
 }
 
 /// All clients. Each stands once at most in each list.
@@ -387,13 +414,15 @@ impl Clients {
         self.mark_ready(id)
     }
 
-    /// It is gone.
-    pub fn remove(&mut self, id: usize)
+    /// It is gone: the number of its connection, which is to be closed.
+    pub fn remove(&mut self, id: usize) -> Option<usize>
+        ensures conn { result ≡ option_map (λ x. x.conn.number) (client_of self.old id) }
         ensures gone { self.new.all.items ≡ slice_set self.old.all.items id None }
         ensures rest { self.new ≡ record self.old { all = self.new.all } }
     {
-        if let Some(place) = self.all.get_mut(id) {
-            *place = None;
+        match self.all.get_mut(id) {
+            Some(place) => empty(place),
+            None => None,
         }
     }
 
@@ -486,7 +515,9 @@ impl Clients {
     }
 
     /// A call of it was settled, or has failed.
+    #[tactic(auto, using(crate::proofs::Agreeing::settled_keeps))]
     pub fn mark_settled(&mut self, id: usize) -> Result<(), AllocError>
+        ensures ends { KeepsEnds self.old self.new }
         ensures client { OnOk result (Changes (λ x. with_ready true (one_settled x)) id self.old self.new) }
         ensures listed { OnOk result (self.new.ready.items ≡ ids_with (λ x. x.is_ready) (client_of self.old id) id self.old.ready.items) }
         ensures refused { OnErr result (Changes one_settled id self.old self.new) }
@@ -510,7 +541,9 @@ impl Clients {
     }
 
     /// A call of it waits no longer.
+    #[tactic(auto, using(crate::proofs::Agreeing::waited_keeps))]
     pub fn end_waiting(&mut self, id: usize) -> Result<(), AllocError>
+        ensures ends { KeepsEnds self.old self.new }
         ensures client { OnOk result (Changes (λ x. with_ready true (one_waited x)) id self.old self.new) }
         ensures listed { OnOk result (self.new.ready.items ≡ ids_with (λ x. x.is_ready) (client_of self.old id) id self.old.ready.items) }
         ensures refused { OnErr result (Changes one_waited id self.old self.new) }

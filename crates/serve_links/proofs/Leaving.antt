@@ -21,7 +21,7 @@ settles_as sent xs ys a next sent' b e is = subst (λ (bytes : List ℕ). Settle
 
 -- nothing was settled
 pub none : {sent : List SentCall} {bytes : List ℕ} {a : ServedCore} {sent' : List SentCall} {bytes' : List ℕ} {b : ServedCore} → sent' ≡ sent → bytes' ≡ bytes → b ≡ a → SettlesSome sent bytes a sent' bytes' b
-none s x c = record { answers = []; each = (s, x, c) }
+none s x c = record { answers = []; each = (s, x, c); spelled = []; bytes_are = sym x }
 
 both_each :
     (first later : List Answer) (s : List SentCall) (x : List ℕ) (a : ServedCore) (t : List SentCall) (y : List ℕ) (b : ServedCore) (u : List SentCall) (z : List ℕ) (c : ServedCore)
@@ -34,13 +34,23 @@ both_each (answer ∷ first) later s x a t y b u z c f l = (f.0, f.1, f.2, f.3, 
 pub both :
     {s : List SentCall} {x : List ℕ} {a : ServedCore} {t : List SentCall} {y : List ℕ} {b : ServedCore} {u : List SentCall} {z : List ℕ} {c : ServedCore}
     → SettlesSome s x a t y b → SettlesSome t y b u z c → SettlesSome s x a u z c
-both {s} {x} {a} {t} {y} {b} {u} {z} {c} f l = record { answers = f.answers ++ l.answers; each = both_each f.answers l.answers s x a t y b u z c f.each l.each }
+both {s} {x} {a} {t} {y} {b} {u} {z} {c} f l = record {
+  answers = f.answers ++ l.answers;
+  each = both_each f.answers l.answers s x a t y b u z c f.each l.each;
+  spelled = f.spelled ++ l.spelled;
+  bytes_are = f.bytes_are ∙ ap (λ (w : List ℕ). f.spelled ++ w) l.bytes_are ∙ sym (append_assoc f.spelled l.spelled z);
+}
 
 -- the first was settled
 pub one :
     (sent : List SentCall) (bytes : List ℕ) (a : ServedCore) (client used : ℕ) (sent' : List SentCall) (bytes' : List ℕ) (b : ServedCore) → bytes' ≡ drop used bytes
     → SettlesNext sent bytes a (nexts.Settled client used) sent' b → SettlesSome sent bytes a sent' bytes' b
-one sent bytes a client used sent' bytes' b e is = record { answers = is.0 ∷ []; each = (sent', bytes', b, first, (refl, refl, refl)) }
+one sent bytes a client used sent' bytes' b e is = record {
+  answers = is.0 ∷ [];
+  each = (sent', bytes', b, first, (refl, refl, refl));
+  spelled = take used bytes;
+  bytes_are = sym (take-append-drop used bytes) ∙ ap (λ (l : List ℕ). take used bytes ++ l) (sym e);
+}
   where
     first : SettlesOne sent bytes a is.0 sent' bytes' b
     first = record { front = bytes; more = []; whole = sym (append-nil bytes); used = used; answers = is.1; rest = e ∙ sym (append-nil (drop used bytes)); client = client; settles = is.2 }
@@ -76,7 +86,12 @@ over_each (answer ∷ answers) s x a t y b more f = (f.0, f.1 ++ more, f.2, over
 -- more stands after the bytes
 pub over :
     {s : List SentCall} {x : List ℕ} {a : ServedCore} {t : List SentCall} {y : List ℕ} {b : ServedCore} (more : List ℕ) → SettlesSome s x a t y b → SettlesSome s (x ++ more) a t (y ++ more) b
-over {s} {x} {a} {t} {y} {b} more f = record { answers = f.answers; each = over_each f.answers s x a t y b more f.each }
+over {s} {x} {a} {t} {y} {b} more f = record {
+  answers = f.answers;
+  each = over_each f.answers s x a t y b more f.each;
+  spelled = f.spelled;
+  bytes_are = ap (λ (l : List ℕ). l ++ more) f.bytes_are ∙ append_assoc f.spelled y more;
+}
 
 -- the same of equal bytes
 pub between :

@@ -4,3 +4,5 @@ pub mod Walked
 pub mod Failing
 pub mod Feeding
 pub mod Leaving
+pub mod Reading
+pub mod Story

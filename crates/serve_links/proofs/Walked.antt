@@ -22,11 +22,11 @@ use Rattle.core_accepted.specs.Loading.{IsLoaded}
 use Rattle.serve_links.specs.Calls.{SettlesFirst, SettlesNext}
 use Rattle.serve_links.specs.CoreSteps.{Step, Opened, NotOpened, Fed, Polled, Stopped, Settled, Gave, Closed, LeftLine, Loaded, Does, Walks, AreOf, GoesBy, IsOfTurn, IsFailure, GoesOn, Fails, WalksKeep}
 
-walked : (later first : List Step) (a b c : ServedCore) → Walks first a b → Walks later b c → Walks (later ++ first) a c
+pub walked : (later first : List Step) (a b c : ServedCore) → Walks first a b → Walks later b c → Walks (later ++ first) a c
 walked [] first a b c w v = subst (λ x. Walks first a x) (sym v) w
 walked (step ∷ later) first a b c w v = (v.0, walked later first a b v.0 w v.1, v.2)
 
-of_both : (Is : Step → Type 0) (later first : List Step) → AreOf Is later → AreOf Is first → AreOf Is (later ++ first)
+pub of_both : (Is : Step → Type 0) (later first : List Step) → AreOf Is later → AreOf Is first → AreOf Is (later ++ first)
 of_both Is [] first l f = f
 of_both Is (step ∷ later) first l f = (l.0, of_both Is later first l.1 f)
 

@@ -2,6 +2,8 @@ pub mod Dialects
 pub mod Calls
 pub mod Sending
 pub mod CoreSteps
+pub mod Lines
 pub mod Links
 pub mod Pieces
 pub mod Settled
+pub mod Story

@@ -29,10 +29,12 @@ SettlesEach [] sent bytes core sent' bytes' core' = (sent' ≡ sent) × (bytes' 
 SettlesEach (answer ∷ answers) sent bytes core sent' bytes' core' =
     (s : List SentCall) × (b : List ℕ) × (c : ServedCore) × SettlesOne sent bytes core answer s b c × SettlesEach answers s b c sent' bytes' core'
 
--- so it is with some answers, or none: the bytes begin with them, and the others are left
+-- so it is with some answers, or none: the bytes begin with what spells them, and the others are left
 pub record SettlesSome (sent : List SentCall) (bytes : List ℕ) (core : ServedCore) (sent' : List SentCall) (bytes' : List ℕ) (core' : ServedCore) : Type 0 where
   pub answers : List Answer
   pub each : SettlesEach answers sent bytes core sent' bytes' core'
+  pub spelled : List ℕ
+  pub bytes_are : bytes ≡ spelled ++ bytes'
 
 -- how many bytes the answer took that was settled, if one was
 abbrev pub used_by : Next → ℕ

@@ -1,21 +1,32 @@
 //! A client's bytes: read, given to the core, shown by it and sent.
 
-ghost use Rattle.std.specs.Prelude.{◌≡◌, ◌++◌, OnOk, OnErr};
+ghost use Rattle.std.specs.Prelude.{◌≡◌, ◌++◌, false, OnOk, OnErr};
 ghost use Rattle.wire_parts.specs.Sending.{bytes_of};
 ghost use Rattle.core_proxy.specs.CoreState.{client_at, output_by};
 ghost use Rattle.serve_links.specs.CoreSteps.{GoesOn};
-ghost use Rattle.serve_links.specs.Pieces.{Takes};
+ghost use Rattle.serve_wire.specs.Agreement.{TouchesOnly};
+ghost use Rattle.serve_clients.specs.Agrees.{GoesOnAgreeing};
+ghost use Rattle.serve_links.specs.Pieces.{Takes, FeedsHeld};
 
 use crate::tally::Tally;
 use core_accepted::ServedCore;
 use core_proxy::CoreFault;
-use serve_clients::socket::Got;
-use serve_clients::{Client, send};
+use serve_clients::Client;
+use serve_wire::Wire;
+use serve_wire::conn::{Got, send};
 
 /// One read of the client. One for whose bytes there is no memory is closed, and no other one.
-pub fn read_once(client: &mut Client, tally: &mut Tally) {
+///
+/// Source: mcgate's own.
+#[tactic(auto, using(crate::proofs::Reading::came, crate::proofs::Reading::reads_now, crate::proofs::Reading::lost_now))]
+pub fn read_once<W: Wire>(client: &mut Client, wire: &mut W, tally: &mut Tally)
+    requires { client.old.is_ended ≡ false }
+    ensures agrees { GoesOnAgreeing (W.history wire.old) (W.history wire.new) client.old client.new }
+    ensures elsewhere { TouchesOnly client.old.conn.number (W.history wire.old) (W.history wire.new) }
+    ensures number { client.new.conn.number ≡ client.old.conn.number }
+{
     let room = client.read_room();
-    match client.conn.read_once(room).unwrap_or(Got::Failed) {
+    match client.conn.read_once(wire, room).unwrap_or(Got::Failed) {
         Got::Ended => client.is_ended = true,
         Got::Failed => client.break_off(),
         Got::Bytes => {
@@ -26,14 +37,35 @@ pub fn read_once(client: &mut Client, tally: &mut Tally) {
     }
 }
 
+// What is to be sent to the client goes out, as far as it is taken. What was shown of one that is broken off is lost.
+#[tactic(auto, using(crate::proofs::Reading::only_none, crate::proofs::Reading::breaks_now, crate::proofs::Reading::sends_now, crate::proofs::Reading::fails_now))]
+fn send_unsent<W: Wire>(client: &mut Client, wire: &mut W)
+    ensures agrees { GoesOnAgreeing (W.history wire.old) (W.history wire.new) client.old client.new }
+    ensures elsewhere { TouchesOnly client.old.conn.number (W.history wire.old) (W.history wire.new) }
+    ensures number { client.new.conn.number ≡ client.old.conn.number }
+{
+    if client.is_broken {
+        client.break_off();
+        return;
+    }
+    if send(&mut client.conn, wire) {
+        return;
+    }
+    client.break_off();
+}
+
 /// What is to be sent to the client goes out, as far as it is taken. Whether the client is to be served for that: it takes what is
-/// shown to it again, or it has ended, and all is sent.
-pub fn send_once(core: &ServedCore, id: usize, client: &mut Client) -> bool {
+/// shown to it again, or it has ended, and all is sent. To one that is broken off nothing goes.
+///
+/// Source: mcgate's own.
+pub fn send_once<W: Wire>(core: &ServedCore, id: usize, client: &mut Client, wire: &mut W) -> bool
+    ensures agrees { GoesOnAgreeing (W.history wire.old) (W.history wire.new) client.old client.new }
+    ensures elsewhere { TouchesOnly client.old.conn.number (W.history wire.old) (W.history wire.new) }
+    ensures number { client.new.conn.number ≡ client.old.conn.number }
+{
     client.has_output = false;
     let was_full = !client.has_room();
-    if !send(&mut client.conn) {
-        client.break_off();
-    }
+    send_unsent(client, wire);
     let is_over = client.conn.unsent.is_empty() && (client.is_ended || core.is_closed(id));
     is_over || (was_full && client.has_room())
 }
@@ -42,6 +74,7 @@ pub fn send_once(core: &ServedCore, id: usize, client: &mut Client) -> bool {
 pub fn feed_held(core: &mut ServedCore, id: usize, client: &mut Client)
     ensures core { GoesOn core.old core.new }
     ensures piece { Takes id client.old.conn.held.items core.old core.new }
+    ensures held { FeedsHeld id client.old client.new core.old core.new }
 {
     if client.conn.held.is_empty() {
         return;
@@ -59,6 +92,7 @@ pub fn show(core: &mut ServedCore, id: usize, client: &mut Client) -> Result<usi
     ensures core { GoesOn core.old core.new }
     ensures bytes { OnOk result (bytes_of client.new.conn.unsent ≡ bytes_of client.old.conn.unsent ++ output_by (client_at core.old.core id)) }
     ensures kept { OnErr result (bytes_of client.new.conn.unsent ≡ bytes_of client.old.conn.unsent) }
+    ensures rest { client.new ≡ record client.old { conn = record client.old.conn { unsent = client.new.conn.unsent } } }
 {
     let unsent = client.conn.unsent.len();
     core.move_output(id, &mut client.conn.unsent)?;

@@ -4,6 +4,7 @@
 
 pub mod calls;
 mod client_bytes;
+pub mod laws;
 mod link;
 mod news;
 mod outcomes;
@@ -12,7 +13,7 @@ mod settings;
 mod tally;
 
 pub use client_bytes::{feed_held, read_once, send_once, show};
-pub use link::{Link, vain};
+pub use link::{Link, Opening, vain};
 pub use news::{Cause, LinkNews};
 pub use outcomes::{HeldAnswers, fail_all, settle_held};
 pub use room::{IDLE_ROOM, KEPT_ROOM, OWN_ROOM, give_back, has_spare};

@@ -1,18 +1,19 @@
 //! One server's link: its connection, if it has one, and the calls that are out.
 
-ghost use Rattle.std.specs.Prelude.{◌≡◌, ◌+◌, ◌<◌, false, ◌∷◌, [], None, length, MatchOption};
+ghost use Rattle.std.specs.Prelude.{◌≡◌, ◌+◌, ◌<◌, ◌++◌, false, ◌∷◌, [], None, length, MatchOption, IfOk, OnOk, OnErr, option_map};
 ghost use Rattle.serve_links.specs.Links.{IsDown};
+ghost use Rattle.wire_parts.specs.Sending.{bytes_of};
+ghost use Rattle.serve_links.specs.Lines.{first_asked_of, KeepsLines, HasNewEnd, OpensBy, Learns};
 
 use crate::calls::{LinkCalls, SentCall};
 use crate::news::{Cause, LinkNews};
 use crate::settings::{ServerDialect, Settings};
 use mc_types::Dialect;
-use mio::net::TcpStream;
-use serve_clients::socket::{Conn, Limits};
-use serve_clients::use_held;
+use serve_wire::conn::{Conn, Limits};
+use serve_wire::{Connected, Wire};
 use std::alloc::{AllocError, AllocFailed, Global};
 use std::collections::VecDeque;
-use std::net::SocketAddr;
+use std::net::Net;
 use wire_meta_gets::{DialectRead, read_dialect, write_noop};
 
 // An answer is shorter than what is held at most. No further call goes out while so much is to be sent.
@@ -56,12 +57,46 @@ pub fn vain(has_failed: bool) -> Option<Cause> {
     }
 }
 
+// The number of a connection on its wire.
+fn number_of(conn: &Option<Conn>) -> Option<usize>
+    ensures { result ≡ option_map (λ x. x.number) conn.now }
+{
+    match conn {
+        Some(conn) => Some(conn.number),
+        None => None,
+    }
+}
+
+// What a server is asked first is to be sent.
+fn ask_first(dialect: ServerDialect, conn: &mut Conn) -> Result<(), AllocError>
+    ensures ok { OnOk result (bytes_of conn.new.unsent ≡ bytes_of conn.old.unsent ++ first_asked_of dialect) }
+    ensures rest { conn.new ≡ record conn.old { unsent = conn.new.unsent } }
+{
+    match dialect {
+        ServerDialect::Auto => write_noop(&mut conn.unsent.text),
+        ServerDialect::Classic | ServerDialect::Meta => Ok(()),
+    }
+}
+
+/// What became of the attempt to connect to a server.
+#[derive(Clone, Copy, PartialEq, Eq)]
+pub enum Opening {
+    /// A connection was begun. It stands once it is reported writable.
+    Begun,
+    /// Its server's text names no address that is known.
+    NoAddress,
+    /// It was refused.
+    Failed,
+    /// A connection was begun, and closed, as memory was refused for its end.
+    NoMemory,
+}
+
 /// One server's link.
 #[derive(Drop)]
 pub struct Link {
-    /// None where its server's text names no host.
-    pub address: Option<SocketAddr>,
-    pub conn: Option<Conn<TcpStream>>,
+    /// What names its server's address.
+    pub text: Vec<u8>,
+    pub conn: Option<Conn>,
     pub calls: LinkCalls,
     // Calls that wait until the server takes more, the one that came first in front. Some are out while one waits.
     waiting: VecDeque<SentCall>,
@@ -94,12 +129,21 @@ pub struct Link {
 }
 
 impl Link {
-    /// A link without a connection.
-    pub fn new(alloc: Global, address: Option<SocketAddr>) -> Link
-        ensures { IsDown result }
+    /// A link without a connection, to the server whose address this text names.
+    pub fn new(alloc: Global, text: &[u8]) -> Result<Link, AllocError>
+        ensures down { IfOk result IsDown }
+        ensures text { IfOk result (λ link. link.text.items ≡ text.now) }
+    {
+        let text = text.to_vec(alloc)?;
+        Ok(Link::of(alloc, text))
+    }
+
+    fn of(alloc: Global, text: Vec<u8>) -> Link
+        ensures down { IsDown result }
+        ensures text { result.text ≡ text }
     {
         Link {
-            address,
+            text,
             conn: None,
             calls: LinkCalls::new(alloc),
             waiting: VecDeque::new(alloc),
@@ -214,9 +258,11 @@ impl Link {
         }
     }
 
-    /// The system is asked whether its connection stands by now, though it told of nothing: whether that is news. Where it stood before, a read may
+    /// The wire is asked whether its connection stands by now, though it told of nothing: whether that is news. Where it stood before, a read may
     /// give something.
-    pub fn look_again(&mut self) -> bool {
+    pub fn look_again<W: Wire>(&mut self, wire: &W) -> bool
+        ensures { KeepsLines self.old self.new }
+    {
         let Some(conn) = self.conn.as_mut() else {
             return false;
         };
@@ -224,7 +270,7 @@ impl Link {
             conn.readable = true;
             return false;
         }
-        if conn.stream.peer_addr().is_err() {
+        if !wire.is_connected(conn.number) {
             return false;
         }
         conn.readable = true;
@@ -238,7 +284,9 @@ impl Link {
     }
 
     /// A read brought whole answers, or none. Whether it has failed by that: where calls are out, and so many reads in a row brought none.
-    pub fn has_read(&mut self, has_settled: bool, polls: Option<u32>) -> bool {
+    pub fn has_read(&mut self, has_settled: bool, polls: Option<u32>) -> bool
+        ensures { self.new ≡ record self.old { failures = self.new.failures; vain_reads = self.new.vain_reads } }
+    {
         if has_settled {
             self.failures = 0;
         }
@@ -253,22 +301,51 @@ impl Link {
         }
     }
 
-    /// A connection was begun. Where its server is to tell its dialects, calls go out in the classic one until it has.
-    pub fn open(
+    /// A connection to its server is begun, at the address that its text names. Where the server is to tell its dialects, calls go out in the
+    /// classic one until it has. Where memory is refused for its end, the connection is closed.
+    ///
+    /// Source: mcgate's own.
+    pub fn connect<N: Net, W: Wire>(
         &mut self,
         alloc: Global,
-        stream: TcpStream,
+        net: &N,
+        wire: &mut W,
+        server: usize,
         now: u64,
         dialect: ServerDialect,
-    ) -> Result<(), AllocError> {
-        let mut conn = Conn::new(alloc, stream, LIMITS);
+    ) -> Opening
+        ensures opens { OpensBy server dialect result self.old self.new (W.history wire.old) (W.history wire.new) }
+    {
+        match wire.connect(net, server, &self.text) {
+            Connected::Begun(number) => {
+                if self.open(alloc, number, now, dialect).is_ok() {
+                    return Opening::Begun;
+                }
+                wire.close(number);
+                Opening::NoMemory
+            }
+            Connected::NoAddress => Opening::NoAddress,
+            Connected::Failed => Opening::Failed,
+        }
+    }
+
+    // The connection of this number was begun.
+    fn open(
+        &mut self,
+        alloc: Global,
+        number: usize,
+        now: u64,
+        dialect: ServerDialect,
+    ) -> Result<(), AllocError>
+        ensures ok { OnOk result (HasNewEnd number dialect self.old self.new) }
+        ensures err { OnErr result (KeepsLines self.old self.new) }
+    {
+        let mut conn = Conn::new(alloc, number, LIMITS);
         conn.readable = false;
         conn.writable = false;
+        ask_first(dialect, &mut conn)?;
         self.awaits_dialect = dialect == ServerDialect::Auto;
         self.dialect = first_dialect(dialect);
-        if self.awaits_dialect {
-            write_noop(&mut conn.unsent.text)?;
-        }
         self.conn = Some(conn);
         self.opened = now;
         self.vain_reads = 0;
@@ -301,7 +378,9 @@ impl Link {
     }
 
     /// What its server tells of its dialects is taken from its bytes, where that is still to come and whole. Whether it can be that.
-    pub fn learn(&mut self) -> bool {
+    pub fn learn(&mut self) -> bool
+        ensures { Learns result self.old self.new }
+    {
         let Some(conn) = self.conn.as_mut() else {
             return true;
         };
@@ -309,7 +388,7 @@ impl Link {
             DialectRead::More => true,
             DialectRead::Foreign => false,
             DialectRead::Told(dialect, used) => {
-                use_held(conn, used);
+                conn.use_up(used);
                 self.dialect = dialect;
                 self.awaits_dialect = false;
                 true
@@ -318,7 +397,9 @@ impl Link {
     }
 
     /// Its connection stands. Whether that is news.
-    pub fn stand(&mut self) -> bool {
+    pub fn stand(&mut self) -> bool
+        ensures { KeepsLines self.old self.new }
+    {
         if self.is_connected {
             return false;
         }
@@ -332,9 +413,11 @@ impl Link {
         true
     }
 
-    /// The connection is gone, or could not be made.
-    pub fn close(&mut self, cause: Cause, now: u64, settings: &Settings)
+    /// The connection is of no use any more, or could not be made: the number of the one that is to be closed.
+    pub fn close(&mut self, cause: Cause, now: u64, settings: &Settings) -> Option<usize>
+        ensures number { result ≡ option_map (λ x. x.number) self.old.conn }
         ensures conn { self.new.conn ≡ None }
+        ensures text { self.new.text ≡ self.old.text }
         ensures calls { self.new.calls ≡ self.old.calls }
         ensures waiting { self.new.waiting ≡ self.old.waiting }
     {
@@ -343,12 +426,14 @@ impl Link {
         } else {
             unconnected(cause)
         };
+        let number = number_of(&self.conn);
         self.conn = None;
         self.is_connected = false;
         self.was_down = true;
         self.failures = self.failures.saturating_add(1);
         self.held_until = now.saturating_add(settings.retry_ms);
         self.news = Some(LinkNews::Failed(cause, self.failures));
+        number
     }
 
     /// When its news may be told, if there are any.

@@ -1,6 +1,8 @@
 //! The outcomes of a link's calls, for the core and the clients: answers settle them, or they fail.
 
 ghost use Rattle.std.specs.Prelude.{◌≡◌, ◌≢◌, true, ◌++◌, [], drop, None, IfSome, IfOk, OnOk};
+ghost use Rattle.serve_wire.specs.Ends.{HoldsAnew};
+ghost use Rattle.serve_clients.specs.Agrees.{KeepsEnds};
 ghost use Rattle.serve_links.specs.Calls.{SettlesNext};
 ghost use Rattle.serve_links.specs.CoreSteps.{GoesOn, Fails};
 ghost use Rattle.serve_links.specs.Links.{AllFail, IsDown};
@@ -10,9 +12,8 @@ use crate::calls::{LinkCalls, Next, fail_call};
 use crate::link::Link;
 use bytes::Bytes;
 use core_accepted::ServedCore;
-use mio::net::TcpStream;
-use serve_clients::socket::Conn;
-use serve_clients::{Clients, use_held};
+use serve_clients::Clients;
+use serve_wire::conn::Conn;
 use std::alloc::AllocError;
 use wire_stream::{CUT_FROM, Received, SHARED_FROM, large_len};
 
@@ -31,6 +32,7 @@ fn fail_sent(
     ensures core { Fails core.old core.new }
     ensures none { OnOk result (calls.new.sent.items ≡ []) }
     ensures all { OnOk result (AllFail calls.old.sent.items core.old core.new) }
+    ensures ends { KeepsEnds clients.old clients.new }
 {
     for _ in 0..calls.len() {
         let Some(client) = calls.fail_next(core) else {
@@ -52,6 +54,7 @@ fn fail_waiting(
     ensures none { OnOk result (link.new.waiting.items ≡ []) }
     ensures all { OnOk result (AllFail link.old.waiting.items core.old core.new) }
     ensures rest { link.new ≡ record link.old { waiting = link.new.waiting } }
+    ensures ends { KeepsEnds clients.old clients.new }
 {
     for _ in 0..link.waiting() {
         let Some(call) = link.next_waiting() else {
@@ -76,6 +79,7 @@ pub fn fail_all(
     ensures down { OnOk result (IsDown link.new) }
     ensures all { OnOk result (AllFail (link.old.calls.sent.items ++ link.old.waiting.items) core.old core.new) }
     ensures closed { link.new.conn ≡ None }
+    ensures ends { KeepsEnds clients.old clients.new }
 {
     fail_sent(&mut link.calls, core, clients)?;
     fail_waiting(link, core, clients)
@@ -200,6 +204,7 @@ fn settle_in(
     ensures core { GoesOn core.old core.new }
     ensures left { IfOk result (λ did. did.1 ≡ HeldStop.More → HoldsNoAnswer calls.new.sent.items (drop did.0 received.now) core.new) }
     ensures settled { IfOk result (λ did. SettlesSome calls.old.sent.items received.now core.old calls.new.sent.items (drop did.0 received.now) core.new) }
+    ensures ends { KeepsEnds clients.old clients.new }
 {
     let held = received.bytes();
     let mut used = 0usize;
@@ -240,6 +245,7 @@ fn settle_here(
     ensures core { GoesOn core.old core.new }
     ensures left { IfOk result (λ did. did.1 ≡ HeldStop.More → HoldsNoAnswer calls.new.sent.items (drop did.0 held.now) core.new) }
     ensures settled { IfOk result (λ did. SettlesSome calls.old.sent.items held.now core.old calls.new.sent.items (drop did.0 held.now) core.new) }
+    ensures ends { KeepsEnds clients.old clients.new }
 {
     settle_in(
         calls,
@@ -262,6 +268,7 @@ fn settle_cut(
     ensures core { GoesOn core.old core.new }
     ensures left { IfOk result (λ did. did.1 ≡ HeldStop.More → HoldsNoAnswer calls.new.sent.items (drop did.0 front.now) core.new) }
     ensures settled { IfOk result (λ did. SettlesSome calls.old.sent.items front.now core.old calls.new.sent.items (drop did.0 front.now) core.new) }
+    ensures ends { KeepsEnds clients.old clients.new }
 {
     settle_in(
         calls,
@@ -279,15 +286,17 @@ fn settle_copied(
     core: &mut ServedCore,
     clients: &mut Clients,
     is_freed: &mut bool,
-    conn: &mut Conn<TcpStream>,
+    conn: &mut Conn,
 ) -> Result<HeldFront, AllocError>
     ensures core { GoesOn core.old core.new }
     ensures left { IfOk result (λ front. front ≡ HeldFront.More → HoldsNoAnswer calls.new.sent.items conn.new.held.items core.new) }
     ensures settled { IfOk result (λ front. front ≢ HeldFront.Foreign → SettlesSome calls.old.sent.items conn.old.held.items core.old calls.new.sent.items conn.new.held.items core.new) }
+    ensures ends { KeepsEnds clients.old clients.new }
+    ensures rest { HoldsAnew conn.old conn.new }
 {
     match settle_first(calls, core, &Received::copied(conn.held.as_slice())) {
         Next::Settled { client, used } => {
-            use_held(conn, used);
+            conn.use_up(used);
             *is_freed = true;
             clients.mark_settled(client)?;
             Ok(HeldFront::Settled)
@@ -298,8 +307,9 @@ fn settle_copied(
 }
 
 // What these bytes have besides so many is held again. Whether memory was there for that.
-fn hold_rest(conn: &mut Conn<TcpStream>, front: &Bytes, used: usize) -> bool
-    ensures { result ≡ true → conn.new.held.items ≡ drop used front.now ++ conn.old.held.items }
+fn hold_rest(conn: &mut Conn, front: &Bytes, used: usize) -> bool
+    ensures held { result ≡ true → conn.new.held.items ≡ drop used front.now ++ conn.old.held.items }
+    ensures rest { HoldsAnew conn.old conn.new }
 {
     let rest = rest_of(front.as_slice(), used);
     conn.hold_again(rest, ROOM_AFTER).is_ok()
@@ -322,11 +332,13 @@ fn settle_long(
     core: &mut ServedCore,
     clients: &mut Clients,
     is_freed: &mut bool,
-    conn: &mut Conn<TcpStream>,
+    conn: &mut Conn,
 ) -> Result<(bool, HeldFront), AllocError>
     ensures core { GoesOn core.old core.new }
     ensures left { IfOk result (λ did. did.1 ≡ HeldFront.More → HoldsNoAnswer calls.new.sent.items conn.new.held.items core.new) }
     ensures settled { IfOk result (λ did. did.1 ≢ HeldFront.Foreign → SettlesSome calls.old.sent.items conn.old.held.items core.old calls.new.sent.items conn.new.held.items core.new) }
+    ensures ends { KeepsEnds clients.old clients.new }
+    ensures rest { HoldsAnew conn.old conn.new }
 {
     let Ok(front) = conn.held.freeze_to(conn.held.len()) else {
         let front = settle_copied(calls, core, clients, is_freed, conn)?;
@@ -353,10 +365,11 @@ fn settle_shared(
     calls: &mut LinkCalls,
     core: &mut ServedCore,
     front: &Bytes,
-    conn: &mut Conn<TcpStream>,
+    conn: &mut Conn,
 ) -> (Next, bool)
     ensures core { GoesOn core.old core.new }
     ensures settled { result.1 ≡ true → SettlesSome calls.old.sent.items (front.now ++ conn.old.held.items) core.old calls.new.sent.items conn.new.held.items core.new }
+    ensures rest { HoldsAnew conn.old conn.new }
 {
     let next = settle_first(calls, core, &Received::shared(front));
     let used = used_by(next);
@@ -371,12 +384,14 @@ fn settle_large(
     core: &mut ServedCore,
     clients: &mut Clients,
     is_freed: &mut bool,
-    conn: &mut Conn<TcpStream>,
+    conn: &mut Conn,
     len: usize,
 ) -> Result<HeldFront, AllocError>
     ensures core { GoesOn core.old core.new }
     ensures left { IfOk result (λ front. front ≡ HeldFront.More → HoldsNoAnswer calls.new.sent.items conn.new.held.items core.new) }
     ensures settled { IfOk result (λ front. front ≢ HeldFront.Foreign → SettlesSome calls.old.sent.items conn.old.held.items core.old calls.new.sent.items conn.new.held.items core.new) }
+    ensures ends { KeepsEnds clients.old clients.new }
+    ensures rest { HoldsAnew conn.old conn.new }
 {
     let len = len.min(conn.held.len());
     let Ok(front) = conn.held.freeze_to(len) else {
@@ -403,13 +418,15 @@ fn settle_stop(
     core: &mut ServedCore,
     clients: &mut Clients,
     is_freed: &mut bool,
-    conn: &mut Conn<TcpStream>,
+    conn: &mut Conn,
     stop: HeldStop,
 ) -> Result<(bool, HeldFront), AllocError>
     requires { stop ≡ HeldStop.More → HoldsNoAnswer calls.old.sent.items conn.old.held.items core.old }
     ensures core { GoesOn core.old core.new }
     ensures left { IfOk result (λ did. did.1 ≡ HeldFront.More → HoldsNoAnswer calls.new.sent.items conn.new.held.items core.new) }
     ensures settled { IfOk result (λ did. did.1 ≢ HeldFront.Foreign → SettlesSome calls.old.sent.items conn.old.held.items core.old calls.new.sent.items conn.new.held.items core.new) }
+    ensures ends { KeepsEnds clients.old clients.new }
+    ensures rest { HoldsAnew conn.old conn.new }
 {
     match stop {
         HeldStop::More => Ok((false, HeldFront::More)),
@@ -428,23 +445,26 @@ fn settle_some(
     core: &mut ServedCore,
     clients: &mut Clients,
     is_freed: &mut bool,
-    conn: &mut Conn<TcpStream>,
+    conn: &mut Conn,
     stops: Stops,
 ) -> Result<(bool, HeldFront), AllocError>
     ensures core { GoesOn core.old core.new }
     ensures left { IfOk result (λ did. did.1 ≡ HeldFront.More → HoldsNoAnswer calls.new.sent.items conn.new.held.items core.new) }
     ensures settled { IfOk result (λ did. did.1 ≢ HeldFront.Foreign → SettlesSome calls.old.sent.items conn.old.held.items core.old calls.new.sent.items conn.new.held.items core.new) }
+    ensures ends { KeepsEnds clients.old clients.new }
+    ensures rest { HoldsAnew conn.old conn.new }
 {
     let (used, stop) = settle_here(calls, core, clients, is_freed, conn.held.as_slice(), stops)?;
-    use_held(conn, used);
+    conn.use_up(used);
     let (others, front) = settle_stop(calls, core, clients, is_freed, conn, stop)?;
     Ok((used > 0 || others, front))
 }
 
 // At which answers settling stops: sharing long data is worth its cost where much is held, and what was cut off before must be gone.
-fn stops_for(calls: &mut LinkCalls, conn: &mut Conn<TcpStream>) -> Stops
+fn stops_for(calls: &mut LinkCalls, conn: &mut Conn) -> Stops
     ensures calls { calls.new.sent ≡ calls.old.sent }
     ensures held { conn.new.held ≡ conn.old.held }
+    ensures rest { HoldsAnew conn.old conn.new }
 {
     if conn.held.len() < MUCH_HELD {
         return Stops::AtLarge;
@@ -475,11 +495,13 @@ pub fn settle_held(
     core: &mut ServedCore,
     clients: &mut Clients,
     is_freed: &mut bool,
-    conn: &mut Conn<TcpStream>,
+    conn: &mut Conn,
 ) -> Result<HeldAnswers, AllocError>
     ensures core { GoesOn core.old core.new }
     ensures left { IfOk result (λ answers. answers.is_kept ≡ true → HoldsNoAnswer calls.new.sent.items conn.new.held.items core.new) }
     ensures settled { IfOk result (λ answers. answers.is_kept ≡ true → SettlesSome calls.old.sent.items conn.old.held.items core.old calls.new.sent.items conn.new.held.items core.new) }
+    ensures ends { KeepsEnds clients.old clients.new }
+    ensures rest { HoldsAnew conn.old conn.new }
 {
     let stops = stops_for(calls, conn);
     let mut has_settled = false;

@@ -1,2 +1,3 @@
 pub mod LogWalks
 pub mod Counting
+pub mod LinkTexts

@@ -1,3 +1,4 @@
 pub mod LogsGoOn
 pub mod Beginning
 pub mod Stillness
+pub mod Texts

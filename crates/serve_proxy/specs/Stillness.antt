@@ -12,8 +12,8 @@ MayAccept (accepting.From time) now = time ≤ now
 MayAccept accepting.Idle now = ⊥
 
 -- nothing is ready, and none that waits can go on
-pub record HasNoWork (sockets : Sockets) : Type 0 where
-  pub accepting : MayAccept sockets.accepting sockets.clock.time → ⊥
+pub record HasNoWork {W : Type 0} (sockets : Sockets W) : Type 0 where
+  pub accepting : MayAccept sockets.accepting sockets.time → ⊥
   pub clients : sockets.clients.ready.items ≡ []
   pub links : sockets.links.ready.items ≡ []
   pub output : sockets.links.with_output.items ≡ []
@@ -21,9 +21,9 @@ pub record HasNoWork (sockets : Sockets) : Type 0 where
   pub busy : sockets.is_freed ≡ true → sockets.clients.busy.items ≡ []
 
 -- and so many calls are out
-abbrev pub AreStill : ℕ → Sockets → Type 0
+abbrev pub AreStill : {W : Type 0} → ℕ → Sockets W → Type 0
 AreStill calls sockets = HasNoWork sockets × (calls_out sockets.links.all.items ≡ calls)
 
 -- so it is with a proxy's end
-abbrev pub IsStill : ℕ → ProxyEnd → Type 0
+abbrev pub IsStill : {W : Type 0} → ℕ → ProxyEnd W → Type 0
 IsStill calls end = AreStill calls end.sockets

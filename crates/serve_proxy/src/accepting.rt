@@ -1,14 +1,15 @@
 //! Clients are accepted.
 
-ghost use Rattle.std.specs.Prelude.{◌↔◌, IsTrue};
+ghost use Rattle.std.specs.Prelude.{◌≡◌, ◌↔◌, IsTrue, None};
+ghost use Rattle.serve_wire.specs.Events.{role};
 ghost use Rattle.serve_links.specs.CoreSteps.{GoesOn};
 ghost use Rattle.serve_proxy.specs.Stillness.{MayAccept};
 
 use crate::sockets::Sockets;
 use core_accepted::ServedCore;
-use mio::net::TcpStream;
-use serve_clients::{Client, turn_away};
-use std::io::ErrorKind;
+use serve_clients::Client;
+use serve_wire::conn::turn_away;
+use serve_wire::{Accepted, Wire};
 
 // So many are accepted in one turn at most.
 const ACCEPTS: usize = 64;
@@ -49,15 +50,15 @@ impl Accepting {
 }
 
 /// Clients that wait are accepted, if it is time.
-pub fn accept_ready(core: &mut ServedCore, sockets: &mut Sockets)
+pub fn accept_ready<W: Wire>(core: &mut ServedCore, sockets: &mut Sockets<W>)
     ensures core { GoesOn core.old core.new }
 {
-    if sockets.accepting.is_due(sockets.clock.time) {
+    if sockets.accepting.is_due(sockets.time) {
         accept_some(core, sockets);
     }
 }
 
-fn accept_some(core: &mut ServedCore, sockets: &mut Sockets)
+fn accept_some<W: Wire>(core: &mut ServedCore, sockets: &mut Sockets<W>)
     ensures core { GoesOn core.old core.new }
 {
     for _ in 0..ACCEPTS {
@@ -68,64 +69,60 @@ fn accept_some(core: &mut ServedCore, sockets: &mut Sockets)
 }
 
 // Whether another may be accepted now.
-fn accept_one(core: &mut ServedCore, sockets: &mut Sockets) -> bool
+fn accept_one<W: Wire>(core: &mut ServedCore, sockets: &mut Sockets<W>) -> bool
     ensures core { GoesOn core.old core.new }
 {
     match sockets.wire.accept() {
-        Ok(stream) => {
-            take_client(core, sockets, stream);
+        Accepted::Peer(conn) => {
+            take_client(core, sockets, conn);
             true
         }
-        Err(error) => sockets.note_unaccepted(error.kind()),
+        Accepted::Gone => true,
+        Accepted::Nobody => {
+            sockets.accepting = Accepting::Idle;
+            false
+        }
+        Accepted::Refused => {
+            let again = sockets.time.saturating_add(ACCEPT_PAUSE);
+            sockets.accepting = Accepting::From(again);
+            false
+        }
     }
 }
 
 // A client came: it is one more, or is told that there are too many. One for which there is no memory is closed.
-fn take_client(core: &mut ServedCore, sockets: &mut Sockets, stream: TcpStream)
+fn take_client<W: Wire>(core: &mut ServedCore, sockets: &mut Sockets<W>, conn: usize)
+    requires { role conn (W.history sockets.old.wire) ≡ None }
     ensures core { GoesOn core.old core.new }
 {
-    let mut stream = stream;
     match core.open_client() {
-        Ok(id) => keep_client(core, sockets, id, stream),
-        Err(_) => turn_away(&mut stream),
+        Ok(id) => keep_client(core, sockets, id, conn),
+        Err(_) => turn_away(sockets.alloc, &mut sockets.wire, conn),
     }
 }
 
 // It is kept by its id. Where it can't be, the core closes it.
-fn keep_client(core: &mut ServedCore, sockets: &mut Sockets, id: usize, stream: TcpStream)
+fn keep_client<W: Wire>(core: &mut ServedCore, sockets: &mut Sockets<W>, id: usize, conn: usize)
+    requires { role conn (W.history sockets.old.wire) ≡ None }
     ensures core { GoesOn core.old core.new }
 {
-    if sockets.insert_client(id, stream) {
+    if sockets.insert_client(id, conn) {
         return;
     }
-    sockets.clients.remove(id);
+    let _ = sockets.clients.remove(id);
+    sockets.wire.close(conn);
     let _ = core.close(id);
 }
 
-impl Sockets {
-    // None was accepted, for this reason. Whether another may be accepted now.
-    fn note_unaccepted(&mut self, reason: ErrorKind) -> bool {
-        match reason {
-            // That one has gone.
-            ErrorKind::Interrupted | ErrorKind::ConnectionAborted => true,
-            ErrorKind::WouldBlock => {
-                self.accepting = Accepting::Idle;
-                false
-            }
-            _ => {
-                let again = self.clock.time.saturating_add(ACCEPT_PAUSE);
-                self.accepting = Accepting::From(again);
-                false
-            }
-        }
-    }
-
+impl<W: Wire> Sockets<W> {
     // The client's end is one of the clients'. Whether it could be.
-    fn insert_client(&mut self, id: usize, stream: TcpStream) -> bool {
-        if self.wire.watch_client(&stream, id).is_err() {
+    fn insert_client(&mut self, id: usize, conn: usize) -> bool
+        requires { role conn (W.history self.old.wire) ≡ None }
+    {
+        if self.wire.admit(conn, id).is_err() {
             return false;
         }
-        let client = Client::new(self.alloc, stream);
+        let client = Client::new(self.alloc, conn);
         self.clients.insert(id, client).is_ok()
     }
 }

@@ -5,13 +5,14 @@ ghost use Rattle.serve_links.specs.CoreSteps.{GoesOn};
 use crate::failing::fail_link;
 use crate::sockets::Sockets;
 use core_accepted::ServedCore;
-use serve_clients::socket::Got;
 use serve_links::{Cause, KEPT_ROOM, settle_held, vain};
+use serve_wire::Wire;
+use serve_wire::conn::Got;
 use std::alloc::AllocError;
 use std::io;
 
 /// Links that are ready are read.
-pub fn read_links(core: &mut ServedCore, sockets: &mut Sockets) -> io::Result<()>
+pub fn read_links<W: Wire>(core: &mut ServedCore, sockets: &mut Sockets<W>) -> io::Result<()>
     ensures core { GoesOn core.old core.new }
 {
     let links = sockets.work.take(&mut sockets.links.ready);
@@ -24,7 +25,11 @@ pub fn read_links(core: &mut ServedCore, sockets: &mut Sockets) -> io::Result<()
 }
 
 /// The link is read, and fails where it has failed by that.
-pub fn serve_link(core: &mut ServedCore, sockets: &mut Sockets, at: usize) -> io::Result<()>
+pub fn serve_link<W: Wire>(
+    core: &mut ServedCore,
+    sockets: &mut Sockets<W>,
+    at: usize,
+) -> io::Result<()>
     ensures core { GoesOn core.old core.new }
 {
     if let Some(cause) = read_link(core, sockets, at)? {
@@ -37,7 +42,11 @@ pub fn serve_link(core: &mut ServedCore, sockets: &mut Sockets, at: usize) -> io
 }
 
 // One read, and all whole answers are settled. Why the link fails by that, if it does.
-fn read_link(core: &mut ServedCore, sockets: &mut Sockets, at: usize) -> io::Result<Option<Cause>>
+fn read_link<W: Wire>(
+    core: &mut ServedCore,
+    sockets: &mut Sockets<W>,
+    at: usize,
+) -> io::Result<Option<Cause>>
     ensures core { GoesOn core.old core.new }
 {
     match sockets.read_link_once(at)? {
@@ -51,9 +60,9 @@ fn read_link(core: &mut ServedCore, sockets: &mut Sockets, at: usize) -> io::Res
 }
 
 // What the server tells of its dialects comes before all answers to calls. Why the link fails by that, if it does.
-fn learn_and_settle(
+fn learn_and_settle<W: Wire>(
     core: &mut ServedCore,
-    sockets: &mut Sockets,
+    sockets: &mut Sockets<W>,
     at: usize,
 ) -> io::Result<Option<Cause>>
     ensures core { GoesOn core.old core.new }
@@ -74,9 +83,9 @@ fn learn_and_settle(
 }
 
 // All whole answers are settled, after another whole answer or not. Why the link fails by that, if it does.
-fn settle_all(
+fn settle_all<W: Wire>(
     core: &mut ServedCore,
-    sockets: &mut Sockets,
+    sockets: &mut Sockets<W>,
     at: usize,
     has_answered: bool,
 ) -> io::Result<Option<Cause>>
@@ -104,7 +113,7 @@ fn settle_all(
     Ok(vain(has_failed))
 }
 
-impl Sockets {
+impl<W: Wire> Sockets<W> {
     // One read of the link, if something may have come over it: what it gave.
     fn read_link_once(&mut self, at: usize) -> Result<Option<Got>, AllocError> {
         let Some(link) = self.links.all.get_mut(at) else {
@@ -117,7 +126,7 @@ impl Sockets {
         if !conn.readable {
             return Ok(None);
         }
-        let got = conn.read_once(room)?;
+        let got = conn.read_once(&mut self.wire, room)?;
         if got == Got::Bytes {
             let is_large = conn.held.len() > KEPT_ROOM;
             let has_room = conn.has_room_above(KEPT_ROOM);
@@ -125,7 +134,7 @@ impl Sockets {
             if link.stand() {
                 self.links.has_stood(at);
             }
-            self.rooms.note(is_large, has_room, self.clock.time);
+            self.rooms.note(is_large, has_room, self.time);
         }
         Ok(Some(got))
     }

@@ -6,22 +6,23 @@ use crate::sockets::Sockets;
 use core_accepted::ServedCore;
 use core_proxy::Ticket;
 use serve_links::calls::{SentCall, fail_call};
+use serve_wire::Wire;
 use std::alloc::AllocError;
 use std::net::Net;
 
 /// The call is written to its server's link or waits for it, or has failed.
-pub fn send_call<N: Net>(
+pub fn send_call<W: Wire, N: Net>(
     net: &N,
     core: &mut ServedCore,
-    sockets: &mut Sockets,
+    sockets: &mut Sockets<W>,
     id: usize,
     ticket: Ticket,
 ) -> Result<(), AllocError>
     ensures core { Fails core.old core.new }
 {
     let at = ticket.server.number() as usize;
-    let time = sockets.clock.time;
-    if !sockets.links.is_open(net, &sockets.wire, at, time) {
+    let time = sockets.time;
+    if !sockets.links.is_open(net, &mut sockets.wire, at, time) {
         return refuse_call(core, sockets, id, ticket);
     }
     let call = SentCall {
@@ -38,9 +39,9 @@ pub fn send_call<N: Net>(
 }
 
 // The call waits until its server takes more, or has failed. Until then none of its client's commands begins.
-fn let_wait(
+fn let_wait<W: Wire>(
     core: &mut ServedCore,
-    sockets: &mut Sockets,
+    sockets: &mut Sockets<W>,
     at: usize,
     call: SentCall,
 ) -> Result<(), AllocError>
@@ -57,9 +58,9 @@ fn let_wait(
 }
 
 // The call is written to its server's link, or has failed.
-fn begin_call(
+fn begin_call<W: Wire>(
     core: &mut ServedCore,
-    sockets: &mut Sockets,
+    sockets: &mut Sockets<W>,
     at: usize,
     call: SentCall,
 ) -> Result<(), AllocError>
@@ -72,9 +73,9 @@ fn begin_call(
 }
 
 // The call has failed, and never went out.
-fn refuse_call(
+fn refuse_call<W: Wire>(
     core: &mut ServedCore,
-    sockets: &mut Sockets,
+    sockets: &mut Sockets<W>,
     id: usize,
     ticket: Ticket,
 ) -> Result<(), AllocError>
@@ -85,9 +86,9 @@ fn refuse_call(
 }
 
 /// Calls that waited are written to the link, up to a backlog. Whether one was.
-pub fn begin_waiting(
+pub fn begin_waiting<W: Wire>(
     core: &mut ServedCore,
-    sockets: &mut Sockets,
+    sockets: &mut Sockets<W>,
     at: usize,
 ) -> Result<bool, AllocError>
     ensures core { Fails core.old core.new }
@@ -103,7 +104,11 @@ pub fn begin_waiting(
 }
 
 // The first call that waits is written to the link, if it may go out. Whether it did.
-fn begin_next(core: &mut ServedCore, sockets: &mut Sockets, at: usize) -> Result<bool, AllocError>
+fn begin_next<W: Wire>(
+    core: &mut ServedCore,
+    sockets: &mut Sockets<W>,
+    at: usize,
+) -> Result<bool, AllocError>
     ensures core { Fails core.old core.new }
 {
     let Some(call) = sockets.links.next_waiting(at) else {

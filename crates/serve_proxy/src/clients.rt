@@ -1,7 +1,8 @@
 //! What is noted of a client, by its id, as it is served. Nothing here knows the core.
 
-use crate::sockets::Sockets;
+use crate::sockets::{Sockets, close_if_any};
 use serve_links::IDLE_ROOM;
+use serve_wire::Wire;
 use std::alloc::AllocError;
 
 /// What a client's polls ended with.
@@ -22,7 +23,7 @@ pub enum Rest {
 // So many things are done for a client before the next one's turn.
 const POLLS: usize = 128;
 
-impl Sockets {
+impl<W: Wire> Sockets<W> {
     /// How often a client is polled before the next one's turn.
     pub fn polls(&self) -> usize {
         if self.in_rounds { 1 } else { POLLS }
@@ -68,7 +69,7 @@ impl Sockets {
     /// What its polls ended with, and what may be done for it, is noted.
     pub fn mark_rest(&mut self, id: usize, rest: Rest) -> Result<(), AllocError> {
         // Who was served has room that it may not need for long.
-        self.rooms.note(false, true, self.clock.time);
+        self.rooms.note(false, true, self.time);
         // In rounds all is read as it comes.
         let in_rounds = self.in_rounds;
         let is_more = match self.clients.get_mut(id) {
@@ -106,8 +107,14 @@ impl Sockets {
     /// If it has nothing to send it keeps no large room for that: it is spare.
     pub fn take_room(&mut self, id: usize) {
         if let Some(client) = self.clients.get_mut(id) {
-            self.rooms.take_room(client, self.clock.time);
+            self.rooms.take_room(client, self.time);
         }
+    }
+
+    /// It is gone, and its connection is closed.
+    pub fn remove_client(&mut self, id: usize) {
+        let conn = self.clients.remove(id);
+        close_if_any(&mut self.wire, conn);
     }
 
     /// Its end gives back the room in which nothing is left.

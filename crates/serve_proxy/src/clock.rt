@@ -1,37 +1,10 @@
-//! The clock of an end, and times on it.
+//! Times on the clock of an end, in milliseconds.
 
-use std::io;
-use std::rt::Clock;
-use std::time::{Duration, Instant};
+use std::time::Duration;
 
-/// How long an end has run, as the clock was looked at last.
-#[derive(Drop)]
-pub struct Stopwatch {
-    start: Instant,
-    /// In milliseconds.
-    pub time: u64,
-}
-
-impl Stopwatch {
-    /// It begins to run.
-    pub fn start<R: Clock>(rt: &R) -> io::Result<Stopwatch> {
-        Ok(Stopwatch {
-            start: Instant::now(rt)?,
-            time: 0,
-        })
-    }
-
-    /// The clock is looked at.
-    pub fn look<R: Clock>(&mut self, rt: &R) -> io::Result<()> {
-        let millis = self.start.elapsed(rt)?.as_millis();
-        self.time = u64::try_from(millis).unwrap_or(u64::MAX);
-        Ok(())
-    }
-
-    /// How long it is until this time is over.
-    pub fn until(&self, limit: u64) -> Duration {
-        Duration::from_millis(limit.saturating_sub(self.time).saturating_add(1))
-    }
+/// How long it is from one time until another one is over.
+pub fn until(time: u64, limit: u64) -> Duration {
+    Duration::from_millis(limit.saturating_sub(time).saturating_add(1))
 }
 
 /// The first of two times, of which each may be none.

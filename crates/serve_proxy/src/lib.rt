@@ -1,10 +1,11 @@
-//! The proxy over TCP, in one thread: clients on one side and servers on the other, and between them a core, on configurations
+//! The proxy over a wire, in one thread: clients on one side and servers on the other, and between them a core, on configurations
 //! that the gate accepted or on unchecked ones. An end has two parts: the core, which has the commands and knows of no socket, and
-//! the sockets, which know nothing of the core. What does something to both is a function of both.
+//! the sockets, which know nothing of the core. What does something to both is a function of both. The wire is any `serve_wire::Wire`:
+//! real sockets, or one in memory.
 //!
 //! The way of the data in a turn, whose stages stand in `proxy.rt`:
 //!
-//! - The system tells which sockets are ready (`wire.rt`). That is noted, and the time is taken (`sockets.rt`, `clock.rt`).
+//! - The wire tells which sockets are ready. That is noted, and the time is taken (`sockets.rt`).
 //! - A client that connects gets an id from the core, and its end under this id (`accepting.rt`).
 //! - A client's bytes are read and fed to the core, which is polled for what came of them (`serving.rt`, `clients.rt`).
 //! - A call of the core is written to its server's link, or waits there until the server takes more (`calls.rt`, `links.rt`).
@@ -33,8 +34,9 @@ mod sending;
 mod serving;
 mod showing;
 mod sockets;
-mod wire;
+mod texts;
 mod worklist;
 
 pub use proxy::ProxyEnd;
 pub use serve_links::{Cause, LinkNews, ServerDialect, Settings, Tally};
+pub use texts::text_at;

@@ -1,18 +1,19 @@
 //! The links to the servers, by their numbers: which of them are to be read and written, when they are late, and what there is to tell
 //! of them. Nothing here knows the core.
 
-ghost use Rattle.std.specs.Prelude.{◌≡◌, ◌↔◌, IsTrue};
+ghost use Rattle.std.specs.Prelude.{◌≡◌, ◌↔◌, [], ◌∷◌, ◌++◌, drop, length, IsTrue, IfOk, OnOk};
 ghost use Rattle.serve_links.specs.Links.{calls_out};
+ghost use Rattle.serve_proxy.specs.Texts.{texts_of};
 
 use crate::clock::earlier;
-use crate::wire::Wire;
+use crate::texts::text_at;
 use mc_types::Dialect;
-use serve_clients::note;
-use serve_clients::socket::Ready;
+use route_json::addresses::Servers;
 use serve_links::calls::SentCall;
-use serve_links::{Cause, KEPT_ROOM, Link, LinkNews, Settings};
+use serve_links::{Cause, KEPT_ROOM, Link, LinkNews, Opening, Settings};
+use serve_wire::{Ready, Wire};
 use std::alloc::{AllocError, Global};
-use std::net::{Net, SocketAddr};
+use std::net::Net;
 
 /// The links, and the lists of those that are marked.
 #[derive(Drop)]
@@ -31,17 +32,17 @@ pub struct Links {
 
 impl Links {
     /// One link to each server, without a connection.
-    pub fn to(
-        alloc: Global,
-        servers: &[Option<SocketAddr>],
-        settings: Settings,
-    ) -> Result<Links, AllocError> {
+    pub fn to(alloc: Global, servers: &Servers, settings: Settings) -> Result<Links, AllocError>
+        ensures { IfOk result (λ links. texts_of links.all.items ≡ servers.now) }
+    {
         let mut links = Links::none(alloc, settings);
         links.add(servers)?;
         Ok(links)
     }
 
-    fn none(alloc: Global, settings: Settings) -> Links {
+    fn none(alloc: Global, settings: Settings) -> Links
+        ensures { result.all.items ≡ [] }
+    {
         Links {
             alloc,
             settings,
@@ -54,10 +55,24 @@ impl Links {
     }
 
     /// Servers that have no link yet get one, without a connection.
-    pub fn add(&mut self, servers: &[Option<SocketAddr>]) -> Result<(), AllocError> {
-        for address in servers.iter().skip(self.all.len()) {
-            self.all.push(Link::new(self.alloc, *address))?;
+    pub fn add(&mut self, servers: &Servers) -> Result<(), AllocError>
+        ensures { OnOk result (texts_of self.new.all.items ≡ texts_of self.old.all.items ++ drop (length self.old.all.items) servers.now) }
+    {
+        for at in self.all.len()..servers.len() {
+            if let Some(text) = text_at(servers, at) {
+                self.add_one(text)?;
+            }
         }
+        Ok(())
+    }
+
+    // The server whose address this text names gets one, at the end.
+    #[tactic(auto, using(crate::proofs::LinkTexts::added))]
+    fn add_one(&mut self, text: &str) -> Result<(), AllocError>
+        ensures { OnOk result (texts_of self.new.all.items ≡ texts_of self.old.all.items ++ text.now ∷ []) }
+    {
+        let link = Link::new(self.alloc, text.as_bytes())?;
+        self.all.push(link)?;
         Ok(())
     }
 
@@ -83,7 +98,7 @@ impl Links {
         let Some(conn) = link.conn.as_mut() else {
             return Ok(());
         };
-        note(conn, told);
+        conn.note(told);
         if told.writes && !told.closes && link.stand() {
             self.has_stood(at);
         }
@@ -148,11 +163,11 @@ impl Links {
 
     /// The system is asked whether the link's connection stands, though it told of nothing: whether it does, which is news, and it is to
     /// be read and written. Where it stood before, it is to be read at once.
-    pub fn look_again(&mut self, at: usize) -> Result<bool, AllocError> {
+    pub fn look_again<W: Wire>(&mut self, wire: &W, at: usize) -> Result<bool, AllocError> {
         let Some(link) = self.all.get_mut(at) else {
             return Ok(false);
         };
-        if !link.look_again() {
+        if !link.look_again(wire) {
             return Ok(false);
         }
         self.has_stood(at);
@@ -162,7 +177,13 @@ impl Links {
     }
 
     /// Whether a call may go out on the link: it has a connection, or one could be begun, and it isn't held back.
-    pub fn is_open<N: Net>(&mut self, net: &N, wire: &Wire, at: usize, time: u64) -> bool {
+    pub fn is_open<W: Wire, N: Net>(
+        &mut self,
+        net: &N,
+        wire: &mut W,
+        at: usize,
+        time: u64,
+    ) -> bool {
         let Some(link) = self.all.get_mut(at) else {
             return false;
         };
@@ -172,18 +193,15 @@ impl Links {
         if link.conn.is_some() {
             return true;
         }
-        let Some(address) = link.address else {
-            return false;
-        };
-        match wire.connect(net, address, at) {
-            Ok(stream) => {
-                let dialect = self.settings.server_dialect;
-                let opened = link.open(self.alloc, stream, time, dialect);
+        let dialect = self.settings.server_dialect;
+        match link.connect(self.alloc, net, wire, at, time, dialect) {
+            Opening::Begun => {
                 self.note_limit(at);
-                opened.is_ok()
+                true
             }
-            Err(_) => {
-                link.close(Cause::Unreachable, time, &self.settings);
+            Opening::NoAddress | Opening::NoMemory => false,
+            Opening::Failed => {
+                let _ = link.close(Cause::Unreachable, time, &self.settings);
                 self.has_news = true;
                 false
             }

@@ -1,12 +1,13 @@
 //! The proxy's end, and its turns: what is ready is read, what was asked goes to the links and what was answered to the
 //! clients, and then each end that has something to send is written once.
 
-ghost use Rattle.std.specs.Prelude.{◌≡◌, ◌↔◌, true, IsTrue, IfOk, IfErr, OnOk};
+ghost use Rattle.std.specs.Prelude.{◌≡◌, ◌↔◌, ◌++◌, drop, length, true, IsTrue, IfOk, IfErr, OnOk};
 ghost use Rattle.core_accepted.specs.Loading.{IsLoaded};
 ghost use Rattle.serve_links.specs.CoreSteps.{GoesOn, Fails};
 ghost use Rattle.serve_links.specs.Links.{IsDownAt, IsClosedAt};
 ghost use Rattle.serve_proxy.specs.LogsGoOn.{LogsAreFresh};
 ghost use Rattle.serve_proxy.specs.Stillness.{IsStill};
+ghost use Rattle.serve_proxy.specs.Texts.{texts_of};
 ghost use Rattle.serve_proxy.specs.Beginning.{BeginsFresh, BeginsUnchecked, LoadStops};
 
 use crate::accepting::accept_ready;
@@ -14,35 +15,38 @@ use crate::answers::read_links;
 use crate::beginning::{fresh_core, unchecked_core};
 use crate::clock::at_most;
 use crate::failing::{fail_late, fail_link};
+use crate::links::Links;
 use crate::sending::{send_clients, send_links};
 use crate::serving::{serve_all, serve_asks};
 use crate::showing::give_back_room;
-use crate::sockets::{Parts, Sockets};
+use crate::sockets::Sockets;
 use core_accepted::laws::accepted_core_is_fresh;
 use core_accepted::{LoadFault, ServedCore};
 use gate_check::{Accepted, ReloadFault};
 use route_json::Config;
+use route_json::addresses::Servers;
 use route_tree::Tree;
 use serve_links::{Cause, LinkNews, Settings, Tally};
+use serve_wire::Wire;
 use std::alloc::{AllocError, Global};
 use std::io;
-use std::net::{Net, SocketAddr};
+use std::net::Net;
 use std::rt::Clock;
 use std::time::Duration;
 
 /// The proxy's end.
 #[derive(Drop)]
-pub struct ProxyEnd {
+pub struct ProxyEnd<W: Wire> {
     // On the heap, so that whoever owns an end drops it by one call.
     core: Box<ServedCore>,
-    sockets: Sockets,
+    sockets: Sockets<W>,
 }
 
 // The stages of a turn.
-fn run_turn<R: Net + Clock>(
+fn run_turn<W: Wire, R: Net + Clock>(
     rt: &R,
     core: &mut ServedCore,
-    sockets: &mut Sockets,
+    sockets: &mut Sockets<W>,
     limit: Option<Duration>,
 ) -> io::Result<()>
     ensures core { GoesOn core.old core.new }
@@ -67,54 +71,74 @@ fn run_turn<R: Net + Clock>(
     send_clients(core, sockets)
 }
 
-impl ProxyEnd {
-    /// Listens, and has no link yet: each is made when the first call is to go out on it. The calls of a server without an address
-    /// fail.
-    pub fn new<R: Net + Clock + AllocGlobal>(
-        rt: &R,
-        listen: SocketAddr,
+impl<W: Wire + Drop> ProxyEnd<W> {
+    /// An end over a wire that listens. No server has a connection: each is begun when the first call is to go out on it, at the address
+    /// that the server's text was found to name. The calls of one whose text names none fail.
+    pub fn new(
+        alloc: Global,
+        wire: W,
         accepted: Accepted,
-        servers: &[Option<SocketAddr>],
+        servers: &Servers,
         settings: Settings,
-    ) -> io::Result<ProxyEnd>
+    ) -> Result<ProxyEnd<W>, AllocError>
         ensures core { IfOk result (λ end. BeginsFresh accepted settings end.core.value) }
+        ensures texts { IfOk result (λ end. texts_of end.sockets.links.all.items ≡ servers.now) }
     {
-        let parts = Parts::open(rt, listen, servers, settings)?;
-        let core = fresh_core(rt.alloc(), accepted, settings)?;
-        Ok(ProxyEnd::of(rt.alloc(), core, parts))
+        let links = Links::to(alloc, servers, settings)?;
+        let core = fresh_core(alloc, accepted, settings)?;
+        Ok(ProxyEnd::of(alloc, core, wire, links))
     }
 
-    /// The same on a tree of which no gate was asked: nothing is promised of what replies show.
-    pub fn unchecked<R: Net + Clock + AllocGlobal>(
-        rt: &R,
-        listen: SocketAddr,
+    /// An end on a tree of which no gate was asked: nothing is promised of what replies show.
+    pub fn unchecked(
+        alloc: Global,
+        wire: W,
         tree: Tree,
-        servers: &[Option<SocketAddr>],
+        servers: &Servers,
         settings: Settings,
-    ) -> io::Result<ProxyEnd>
+    ) -> Result<ProxyEnd<W>, AllocError>
         ensures core { IfOk result (λ end. BeginsUnchecked tree settings end.core.value) }
+        ensures texts { IfOk result (λ end. texts_of end.sockets.links.all.items ≡ servers.now) }
     {
-        let parts = Parts::open(rt, listen, servers, settings)?;
-        let core = unchecked_core(rt.alloc(), tree, settings)?;
-        Ok(ProxyEnd::of(rt.alloc(), core, parts))
+        let links = Links::to(alloc, servers, settings)?;
+        let core = unchecked_core(alloc, tree, settings)?;
+        Ok(ProxyEnd::of(alloc, core, wire, links))
     }
+}
 
-    fn of(alloc: Global, core: Box<ServedCore>, parts: Parts) -> ProxyEnd
+impl<W: Wire> ProxyEnd<W> {
+    fn of(alloc: Global, core: Box<ServedCore>, wire: W, links: Links) -> ProxyEnd<W>
         ensures core { result.core ≡ core }
+        ensures links { result.sockets.links ≡ links }
     {
         ProxyEnd {
             core,
-            sockets: Sockets::of(alloc, parts),
+            sockets: Sockets::new(alloc, wire, links),
         }
     }
 
+    /// What it stands on.
+    pub fn wire(&self) -> &W
+        ensures { result.now ≡ self.now.sockets.wire }
+    {
+        &self.sockets.wire
+    }
+
+    /// Looks up the address that a server's text names. Connections that are begun from now on go there.
+    pub fn resolve<N: Net>(&mut self, net: &N, text: &str) -> io::Result<()>
+        ensures core { self.new.core ≡ self.old.core }
+    {
+        self.sockets.wire.resolve(net, text.as_bytes())
+    }
+
     /// Commands that begin from now on run by this configuration's tree, and those that are under way end on the trees on which they
-    /// began. It gives the number of the generation. `servers` are the addresses of all its servers; those in use keep theirs.
+    /// began. It gives the number of the generation. `servers` are all its servers, of which those in use keep their texts.
     ///
     /// After a fault the tree in use is kept; `NoMemory` may also come after the tree was loaded, and then calls of new servers fail.
-    pub fn load(&mut self, config: Config, servers: &[Option<SocketAddr>]) -> Result<u32, LoadFault>
+    pub fn load(&mut self, config: Config, servers: &Servers) -> Result<u32, LoadFault>
         ensures loaded { IfOk result (λ generation. IsLoaded self.old.core.value config generation self.new.core.value) }
         ensures refused { IfErr result (λ fault. LoadStops self.old.core.value config fault self.new.core.value) }
+        ensures texts { OnOk result (texts_of self.new.sockets.links.all.items ≡ texts_of self.old.sockets.links.all.items ++ drop (length self.old.sockets.links.all.items) servers.now) }
     {
         let generation = self.core.load(self.sockets.alloc, config)?;
         if self.sockets.links.add(servers).is_err() {
@@ -128,7 +152,7 @@ impl ProxyEnd {
     pub fn next_news(&mut self) -> Option<(usize, LinkNews)>
         ensures core { self.new.core ≡ self.old.core }
     {
-        self.sockets.links.next_news(self.sockets.clock.time)
+        self.sockets.links.next_news(self.sockets.time)
     }
 
     /// Where the gate accepted its trees, each log that may have led to the core is fresh. A law: it does nothing.
@@ -167,11 +191,6 @@ impl ProxyEnd {
         ensures closed { IsClosedAt server self.new.sockets.links.all.items }
     {
         fail_link(self.core.as_mut(), &mut self.sockets, server, Cause::Broken)
-    }
-
-    /// Where it listens.
-    pub fn local_addr(&self) -> io::Result<SocketAddr> {
-        self.sockets.wire.local_addr()
     }
 
     /// One turn: a wait until something is ready or late, and then all that is ready is done.

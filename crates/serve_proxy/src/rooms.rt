@@ -1,8 +1,11 @@
 //! The room of buffers that is for all clients, and how long it is kept. Nothing here knows the core.
 
+ghost use Rattle.std.specs.Prelude.{◌≡◌, []};
+ghost use Rattle.wire_parts.specs.Sending.{bytes_of};
+
 use bytes::BytesMut;
 use serve_clients::Client;
-use serve_links::{KEPT_ROOM, OWN_ROOM, has_spare};
+use serve_links::{KEPT_ROOM, OWN_ROOM, give_back, has_spare};
 use std::alloc::Global;
 use wire_parts::to_send::SendBuffer;
 
@@ -18,12 +21,13 @@ const SPARE_MS: u64 = 1_000;
 #[derive(Drop)]
 pub struct Rooms {
     alloc: Global,
-    /// What is read of a client comes here first: a client that is idle keeps no room for it.
-    pub input: BytesMut,
+    // What is read of a client comes into this room: a client that is idle keeps none for it.
+    input: BytesMut,
     // Buffers with much room that clients had, the last one behind: replies are written into that where one is there.
     spares: Vec<SendBuffer>,
     /// When spare buffers, and those of links and clients, give their room back, if they have much.
     pub until: Option<u64>,
+    ghost none: { input.items ≡ [] },
 }
 
 impl Rooms {
@@ -66,6 +70,21 @@ impl Rooms {
         }
     }
 
+    /// The room to read into is lent to a client's end that holds nothing.
+    pub fn lend_input(&mut self, held: &mut BytesMut)
+        requires { held.old.items ≡ [] }
+        ensures { held.new.items ≡ [] }
+    {
+        std::mem::swap(held, &mut self.input);
+    }
+
+    /// It comes back where nothing is held any more.
+    pub fn take_input(&mut self, held: &mut BytesMut)
+        ensures { held.new.items ≡ held.old.items }
+    {
+        give_back(self.alloc, held, &mut self.input);
+    }
+
     /// Whether a buffer is spare.
     pub fn has_spare(&self) -> bool {
         !self.spares.is_empty()
@@ -88,7 +107,10 @@ impl Rooms {
     }
 
     /// A client that has nothing to send keeps no large room for it: it is spare.
-    pub fn take_room(&mut self, client: &mut Client, time: u64) {
+    pub fn take_room(&mut self, client: &mut Client, time: u64)
+        ensures unsent { bytes_of client.new.conn.unsent ≡ bytes_of client.old.conn.unsent }
+        ensures rest { client.new ≡ record client.old { conn = record client.old.conn { unsent = client.new.conn.unsent } } }
+    {
         if !has_spare(&client.conn.unsent) {
             return;
         }

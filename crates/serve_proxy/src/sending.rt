@@ -7,8 +7,9 @@ use crate::failing::fail_link;
 use crate::showing::take_rooms;
 use crate::sockets::Sockets;
 use core_accepted::ServedCore;
-use serve_clients::send;
 use serve_links::{Cause, KEPT_ROOM, has_spare, send_once};
+use serve_wire::Wire;
+use serve_wire::conn::send;
 use std::alloc::AllocError;
 use std::io;
 
@@ -16,7 +17,10 @@ use std::io;
 const LINK_SENDS: usize = 64;
 
 /// Links that have something to send are written.
-pub fn send_links(core: &mut ServedCore, sockets: &mut Sockets) -> Result<(), AllocError>
+pub fn send_links<W: Wire>(
+    core: &mut ServedCore,
+    sockets: &mut Sockets<W>,
+) -> Result<(), AllocError>
     ensures core { Fails core.old core.new }
 {
     let links = sockets.work.take(&mut sockets.links.with_output);
@@ -29,7 +33,11 @@ pub fn send_links(core: &mut ServedCore, sockets: &mut Sockets) -> Result<(), Al
     Ok(())
 }
 
-fn send_link(core: &mut ServedCore, sockets: &mut Sockets, at: usize) -> Result<(), AllocError>
+fn send_link<W: Wire>(
+    core: &mut ServedCore,
+    sockets: &mut Sockets<W>,
+    at: usize,
+) -> Result<(), AllocError>
     ensures core { Fails core.old core.new }
 {
     sockets.links.end_output(at);
@@ -45,7 +53,7 @@ fn send_link(core: &mut ServedCore, sockets: &mut Sockets, at: usize) -> Result<
 }
 
 /// Clients that have something to send are written.
-pub fn send_clients(core: &mut ServedCore, sockets: &mut Sockets) -> io::Result<()>
+pub fn send_clients<W: Wire>(core: &mut ServedCore, sockets: &mut Sockets<W>) -> io::Result<()>
     ensures core { GoesOn core.old core.new }
 {
     let ids = sockets.work.take(&mut sockets.clients.with_output);
@@ -56,7 +64,11 @@ pub fn send_clients(core: &mut ServedCore, sockets: &mut Sockets) -> io::Result<
     Ok(())
 }
 
-fn send_client(core: &mut ServedCore, sockets: &mut Sockets, id: usize) -> io::Result<()>
+fn send_client<W: Wire>(
+    core: &mut ServedCore,
+    sockets: &mut Sockets<W>,
+    id: usize,
+) -> io::Result<()>
     ensures core { GoesOn core.old core.new }
 {
     if sockets.holds_back(id) {
@@ -65,7 +77,7 @@ fn send_client(core: &mut ServedCore, sockets: &mut Sockets, id: usize) -> io::R
     let Some(client) = sockets.clients.get_mut(id) else {
         return Ok(());
     };
-    let is_more = send_once(core, id, client);
+    let is_more = send_once(core, id, client, &mut sockets.wire);
     let has_spare = has_spare(&client.conn.unsent);
     sockets.mark_ready_if(id, is_more)?;
     if has_spare {
@@ -74,7 +86,7 @@ fn send_client(core: &mut ServedCore, sockets: &mut Sockets, id: usize) -> io::R
     Ok(())
 }
 
-impl Sockets {
+impl<W: Wire> Sockets<W> {
     // What is to be sent to the server goes out, as far as it is taken. Whether the link stands still.
     fn send_unsent(&mut self, at: usize) -> bool {
         let Some(link) = self.links.all.get_mut(at) else {
@@ -84,8 +96,8 @@ impl Sockets {
             return true;
         };
         let is_large = conn.unsent.len() > KEPT_ROOM;
-        let is_kept = send(conn);
-        self.rooms.note(is_large, false, self.clock.time);
+        let is_kept = send(conn, &mut self.wire);
+        self.rooms.note(is_large, false, self.time);
         is_kept
     }
 }

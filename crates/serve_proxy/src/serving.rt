@@ -10,14 +10,19 @@ use crate::showing::{lend_room, show_lent};
 use crate::sockets::Sockets;
 use core_accepted::ServedCore;
 use core_proxy::{CoreFault, Poll as Polled};
-use serve_links::{feed_held, give_back, read_once};
+use serve_links::{feed_held, read_once};
+use serve_wire::Wire;
 use std::alloc::AllocError;
 use std::io;
 use std::net::Net;
 
 /// What clients ask goes out before answers are read, so that servers work on it while replies are shown, and their answers are mostly
 /// whole when they are read. In rounds all comes in its own order.
-pub fn serve_asks<N: Net>(net: &N, core: &mut ServedCore, sockets: &mut Sockets) -> io::Result<()>
+pub fn serve_asks<W: Wire, N: Net>(
+    net: &N,
+    core: &mut ServedCore,
+    sockets: &mut Sockets<W>,
+) -> io::Result<()>
     ensures core { GoesOn core.old core.new }
 {
     if sockets.in_rounds {
@@ -28,7 +33,11 @@ pub fn serve_asks<N: Net>(net: &N, core: &mut ServedCore, sockets: &mut Sockets)
 }
 
 /// Clients are served, in rounds or not.
-pub fn serve_all<N: Net>(net: &N, core: &mut ServedCore, sockets: &mut Sockets) -> io::Result<()>
+pub fn serve_all<W: Wire, N: Net>(
+    net: &N,
+    core: &mut ServedCore,
+    sockets: &mut Sockets<W>,
+) -> io::Result<()>
     ensures core { GoesOn core.old core.new }
 {
     if sockets.in_rounds {
@@ -40,7 +49,11 @@ pub fn serve_all<N: Net>(net: &N, core: &mut ServedCore, sockets: &mut Sockets) 
 }
 
 // Clients that are ready.
-fn serve_ready<N: Net>(net: &N, core: &mut ServedCore, sockets: &mut Sockets) -> io::Result<()>
+fn serve_ready<W: Wire, N: Net>(
+    net: &N,
+    core: &mut ServedCore,
+    sockets: &mut Sockets<W>,
+) -> io::Result<()>
     ensures core { GoesOn core.old core.new }
 {
     let ids = sockets.work.take(&mut sockets.clients.ready);
@@ -48,7 +61,11 @@ fn serve_ready<N: Net>(net: &N, core: &mut ServedCore, sockets: &mut Sockets) ->
 }
 
 // Clients that wait for a key or a server, if one became free.
-fn serve_busy<N: Net>(net: &N, core: &mut ServedCore, sockets: &mut Sockets) -> io::Result<()>
+fn serve_busy<W: Wire, N: Net>(
+    net: &N,
+    core: &mut ServedCore,
+    sockets: &mut Sockets<W>,
+) -> io::Result<()>
     ensures core { GoesOn core.old core.new }
 {
     if !sockets.is_freed {
@@ -65,7 +82,11 @@ fn serve_busy<N: Net>(net: &N, core: &mut ServedCore, sockets: &mut Sockets) -> 
 }
 
 // A round: all that are ready, and all that wait for a key or a server.
-fn serve_round<N: Net>(net: &N, core: &mut ServedCore, sockets: &mut Sockets) -> io::Result<()>
+fn serve_round<W: Wire, N: Net>(
+    net: &N,
+    core: &mut ServedCore,
+    sockets: &mut Sockets<W>,
+) -> io::Result<()>
     ensures core { GoesOn core.old core.new }
 {
     sockets.is_freed = false;
@@ -76,10 +97,10 @@ fn serve_round<N: Net>(net: &N, core: &mut ServedCore, sockets: &mut Sockets) ->
 }
 
 // These clients, each of which is ready no longer.
-fn serve_list<N: Net>(
+fn serve_list<W: Wire, N: Net>(
     net: &N,
     core: &mut ServedCore,
-    sockets: &mut Sockets,
+    sockets: &mut Sockets<W>,
     ids: Vec<usize>,
 ) -> io::Result<()>
     ensures core { GoesOn core.old core.new }
@@ -92,10 +113,10 @@ fn serve_list<N: Net>(
     Ok(())
 }
 
-fn serve_client<N: Net>(
+fn serve_client<W: Wire, N: Net>(
     net: &N,
     core: &mut ServedCore,
-    sockets: &mut Sockets,
+    sockets: &mut Sockets<W>,
     id: usize,
 ) -> io::Result<()>
     ensures core { GoesOn core.old core.new }
@@ -109,29 +130,25 @@ fn serve_client<N: Net>(
 }
 
 // One read of the client, and what it holds is given to the core.
-fn read_client(core: &mut ServedCore, sockets: &mut Sockets, id: usize)
+fn read_client<W: Wire>(core: &mut ServedCore, sockets: &mut Sockets<W>, id: usize)
     ensures core { GoesOn core.old core.new }
 {
     let Some(client) = sockets.clients.get_mut(id) else {
         return;
     };
     if client.can_read() {
-        std::mem::swap(&mut client.conn.held, &mut sockets.rooms.input);
-        read_once(client, &mut sockets.tally);
+        sockets.rooms.lend_input(&mut client.conn.held);
+        read_once(client, &mut sockets.wire, &mut sockets.tally);
     }
     feed_held(core, id, client);
-    give_back(
-        sockets.alloc,
-        &mut client.conn.held,
-        &mut sockets.rooms.input,
-    );
+    sockets.rooms.take_input(&mut client.conn.held);
 }
 
 // What can be done for the client is done.
-fn poll_client<N: Net>(
+fn poll_client<W: Wire, N: Net>(
     net: &N,
     core: &mut ServedCore,
-    sockets: &mut Sockets,
+    sockets: &mut Sockets<W>,
     id: usize,
 ) -> Result<Rest, AllocError>
     ensures core { GoesOn core.old core.new }
@@ -150,7 +167,7 @@ fn poll_client<N: Net>(
 }
 
 // Nobody waits behind a client that isn't polled until it has taken what it was sent.
-fn leave_line(core: &mut ServedCore, sockets: &mut Sockets, id: usize)
+fn leave_line<W: Wire>(core: &mut ServedCore, sockets: &mut Sockets<W>, id: usize)
     ensures core { GoesOn core.old core.new }
 {
     if core.leave_line(id) {
@@ -159,10 +176,10 @@ fn leave_line(core: &mut ServedCore, sockets: &mut Sockets, id: usize)
 }
 
 // One thing is done for the client, if one can be: what is left after it.
-fn poll_once<N: Net>(
+fn poll_once<W: Wire, N: Net>(
     net: &N,
     core: &mut ServedCore,
-    sockets: &mut Sockets,
+    sockets: &mut Sockets<W>,
     id: usize,
 ) -> Result<Rest, AllocError>
     ensures core { GoesOn core.old core.new }
@@ -196,7 +213,7 @@ fn poll_once<N: Net>(
 }
 
 // A client that has ended, for which nothing is left to do and to send, is gone.
-fn close_client(core: &mut ServedCore, sockets: &mut Sockets, id: usize, rest: Rest)
+fn close_client<W: Wire>(core: &mut ServedCore, sockets: &mut Sockets<W>, id: usize, rest: Rest)
     ensures core { GoesOn core.old core.new }
 {
     let Some(client) = sockets.clients.get_mut(id) else {
@@ -209,7 +226,7 @@ fn close_client(core: &mut ServedCore, sockets: &mut Sockets, id: usize, rest: R
         return;
     }
     if core.close(id).is_ok() {
-        sockets.clients.remove(id);
+        sockets.remove_client(id);
         sockets.accepting = Accepting::Now;
     }
 }

@@ -6,11 +6,16 @@ use crate::sockets::Sockets;
 use core_accepted::ServedCore;
 use core_proxy::CoreFault;
 use serve_links::{KEPT_ROOM, show};
+use serve_wire::Wire;
 use std::io;
 use wire_parts::to_send::SendBuffer;
 
 /// What the core has for the client goes after what is to be sent.
-pub fn show_client(core: &mut ServedCore, sockets: &mut Sockets, id: usize) -> io::Result<()>
+pub fn show_client<W: Wire>(
+    core: &mut ServedCore,
+    sockets: &mut Sockets<W>,
+    id: usize,
+) -> io::Result<()>
     ensures core { GoesOn core.old core.new }
 {
     let Some(client) = sockets.clients.get_mut(id) else {
@@ -27,20 +32,24 @@ pub fn show_client(core: &mut ServedCore, sockets: &mut Sockets, id: usize) -> i
     sockets.note_shown(id, shown)
 }
 
-impl Sockets {
+impl<W: Wire> Sockets<W> {
     // So many bytes more are to be sent to the client.
     fn note_shown(&mut self, id: usize, count: usize) -> io::Result<()> {
         if count == 0 {
             return Ok(());
         }
         self.tally.note_shown(count);
-        self.rooms.note(count > KEPT_ROOM, false, self.clock.time);
+        self.rooms.note(count > KEPT_ROOM, false, self.time);
         Ok(self.clients.mark_output(id)?)
     }
 }
 
 /// The core writes the replies to the client into a spare buffer, if one is there: it has the room that large ones want. Whether one is.
-pub fn lend_room(core: &mut ServedCore, sockets: &mut Sockets, id: usize) -> io::Result<bool>
+pub fn lend_room<W: Wire>(
+    core: &mut ServedCore,
+    sockets: &mut Sockets<W>,
+    id: usize,
+) -> io::Result<bool>
     ensures core { GoesOn core.old core.new }
 {
     if !sockets.rooms.has_spare() {
@@ -61,18 +70,23 @@ pub fn lend_room(core: &mut ServedCore, sockets: &mut Sockets, id: usize) -> io:
 }
 
 // The core, which has nothing for the client, writes into this buffer from now on. What it wrote into so far is spare.
-fn exchange_room(core: &mut ServedCore, sockets: &mut Sockets, id: usize, buffer: SendBuffer)
+fn exchange_room<W: Wire>(
+    core: &mut ServedCore,
+    sockets: &mut Sockets<W>,
+    id: usize,
+    buffer: SendBuffer,
+)
     ensures core { GoesOn core.old core.new }
 {
     let mut buffer = buffer;
     let _ = core.move_output(id, &mut buffer);
-    sockets.rooms.keep_spare(buffer, sockets.clock.time);
+    sockets.rooms.keep_spare(buffer, sockets.time);
 }
 
 /// What was done for the client is shown to it, and the core keeps no room that was lent.
-pub fn show_lent(
+pub fn show_lent<W: Wire>(
     core: &mut ServedCore,
-    sockets: &mut Sockets,
+    sockets: &mut Sockets<W>,
     id: usize,
     is_lent: bool,
 ) -> io::Result<()>
@@ -85,7 +99,7 @@ pub fn show_lent(
 }
 
 // The core gets other room for the client, if some was lent.
-fn end_lent(core: &mut ServedCore, sockets: &mut Sockets, id: usize, is_lent: bool)
+fn end_lent<W: Wire>(core: &mut ServedCore, sockets: &mut Sockets<W>, id: usize, is_lent: bool)
     ensures core { GoesOn core.old core.new }
 {
     if is_lent {
@@ -96,7 +110,11 @@ fn end_lent(core: &mut ServedCore, sockets: &mut Sockets, id: usize, is_lent: bo
 
 /// A client that has nothing to send keeps no large room for it, and neither does the core, whose room goes to the client's end with what is
 /// shown.
-pub fn take_rooms(core: &mut ServedCore, sockets: &mut Sockets, id: usize) -> io::Result<()>
+pub fn take_rooms<W: Wire>(
+    core: &mut ServedCore,
+    sockets: &mut Sockets<W>,
+    id: usize,
+) -> io::Result<()>
     ensures core { GoesOn core.old core.new }
 {
     sockets.take_room(id);
@@ -106,23 +124,21 @@ pub fn take_rooms(core: &mut ServedCore, sockets: &mut Sockets, id: usize) -> io
 }
 
 /// Where nothing large came for a while, the room that was for it goes back, and so does what clients that wait for nothing have.
-pub fn give_back_room(core: &mut ServedCore, sockets: &mut Sockets) -> io::Result<()>
+pub fn give_back_room<W: Wire>(core: &mut ServedCore, sockets: &mut Sockets<W>) -> io::Result<()>
     ensures core { GoesOn core.old core.new }
 {
-    if !sockets.rooms.are_due(sockets.clock.time) {
+    if !sockets.rooms.are_due(sockets.time) {
         return Ok(());
     }
     sockets.rooms.clear();
     let has_room = sockets.links.give_back();
     let is_held = give_back_clients(core, sockets)?;
-    sockets
-        .rooms
-        .note(false, has_room || is_held, sockets.clock.time);
+    sockets.rooms.note(false, has_room || is_held, sockets.time);
     Ok(())
 }
 
 // Room of all clients goes back. Whether something that one of them sent isn't done.
-fn give_back_clients(core: &mut ServedCore, sockets: &mut Sockets) -> io::Result<bool>
+fn give_back_clients<W: Wire>(core: &mut ServedCore, sockets: &mut Sockets<W>) -> io::Result<bool>
     ensures core { GoesOn core.old core.new }
 {
     let mut is_held = false;
@@ -136,7 +152,11 @@ fn give_back_clients(core: &mut ServedCore, sockets: &mut Sockets) -> io::Result
 
 // The room for what is to be sent to a client goes back where nothing is, and the core's for what it sent where all is done: whether all
 // is.
-fn give_back_client(core: &mut ServedCore, sockets: &mut Sockets, id: usize) -> io::Result<bool>
+fn give_back_client<W: Wire>(
+    core: &mut ServedCore,
+    sockets: &mut Sockets<W>,
+    id: usize,
+) -> io::Result<bool>
     ensures core { GoesOn core.old core.new }
 {
     sockets.give_back_end(id);

@@ -1,53 +1,29 @@
 //! What an end has besides its core: its wire, the ends of clients and links, and what it knows of them. Nothing here knows the core.
 
-ghost use Rattle.std.specs.Prelude.{◌≡◌, ◌↔◌, false, IsTrue};
+ghost use Rattle.std.specs.Prelude.{◌≡◌, ◌↔◌, false, None, IfSome, IsTrue};
+ghost use Rattle.serve_wire.specs.Calls.{Closes};
 ghost use Rattle.serve_proxy.specs.Stillness.{HasNoWork, AreStill};
 
 use crate::accepting::Accepting;
-use crate::clock::{Stopwatch, earlier};
+use crate::clock::{earlier, until};
 use crate::links::Links;
 use crate::rooms::Rooms;
-use crate::wire::{Source, Wire, source_of};
 use crate::worklist::Worklist;
 use serve_clients::Clients;
-use serve_clients::socket::Ready;
-use serve_links::{Settings, Tally};
-use std::alloc::Global;
+use serve_links::Tally;
+use serve_wire::{Report, Wire};
+use std::alloc::{AllocError, Global};
 use std::io;
-use std::net::{Net, SocketAddr};
 use std::rt::Clock;
 use std::time::Duration;
 
-/// The parts that may not be had: they need the system, or memory.
-#[derive(Drop)]
-pub struct Parts {
-    clock: Stopwatch,
-    wire: Wire,
-    links: Links,
-}
-
-impl Parts {
-    /// It listens, and no link has a connection.
-    pub fn open<R: Net + Clock + AllocGlobal>(
-        rt: &R,
-        listen: SocketAddr,
-        servers: &[Option<SocketAddr>],
-        settings: Settings,
-    ) -> io::Result<Parts> {
-        Ok(Parts {
-            clock: Stopwatch::start(rt)?,
-            wire: Wire::open(rt, listen)?,
-            links: Links::to(rt.alloc(), servers, settings)?,
-        })
-    }
-}
-
 /// All but the core.
 #[derive(Drop)]
-pub struct Sockets {
+pub struct Sockets<W: Wire> {
     pub alloc: Global,
-    pub clock: Stopwatch,
-    pub wire: Wire,
+    /// What the clock showed when it was looked at last, in milliseconds.
+    pub time: u64,
+    pub wire: W,
     pub accepting: Accepting,
     pub clients: Clients,
     pub links: Links,
@@ -60,13 +36,24 @@ pub struct Sockets {
     pub tally: Tally,
 }
 
-impl Sockets {
-    /// No client is there yet.
-    pub fn of(alloc: Global, parts: Parts) -> Sockets {
-        let Parts { clock, wire, links } = parts;
+/// A connection that is done with is closed, if there is one.
+pub fn close_if_any<W: Wire>(wire: &mut W, conn: Option<usize>)
+    ensures some { IfSome conn (λ c. Closes c (W.history wire.old) (W.history wire.new)) }
+    ensures none { conn ≡ None → W.history wire.new ≡ W.history wire.old }
+{
+    if let Some(conn) = conn {
+        wire.close(conn);
+    }
+}
+
+impl<W: Wire> Sockets<W> {
+    /// No client is there yet, and no link has a connection.
+    pub fn new(alloc: Global, wire: W, links: Links) -> Sockets<W>
+        ensures { result.links ≡ links }
+    {
         Sockets {
             alloc,
-            clock,
+            time: 0,
             wire,
             accepting: Accepting::Now,
             clients: Clients::new(alloc),
@@ -83,7 +70,7 @@ impl Sockets {
     fn has_work(&self) -> bool
         ensures { (result ≡ false) ↔ HasNoWork self.now }
     {
-        if self.accepting.is_due(self.clock.time) {
+        if self.accepting.is_due(self.time) {
             return true;
         }
         if !self.clients.ready.is_empty() {
@@ -117,34 +104,44 @@ impl Sockets {
         earlier(limit, self.rooms.until)
     }
 
+    // The clock is looked at.
+    fn look<C: Clock>(&mut self, clock: &C) -> io::Result<()> {
+        self.time = self.wire.millis(clock)?;
+        Ok(())
+    }
+
     /// How long may be waited, by the clock of now.
-    pub fn wait_limit<R: Clock>(&mut self, rt: &R) -> io::Result<Option<Duration>> {
-        self.clock.look(rt)?;
+    pub fn wait_limit<C: Clock>(&mut self, clock: &C) -> io::Result<Option<Duration>> {
+        self.look(clock)?;
         if self.has_work() {
             return Ok(Some(Duration::from_millis(0)));
         }
         match self.next_limit() {
-            Some(limit) => Ok(Some(self.clock.until(limit))),
+            Some(limit) => Ok(Some(until(self.time, limit))),
             None => Ok(None),
         }
     }
 
     /// A wait until something is ready, and no longer than this. What is ready is noted.
-    pub fn wait<R: Clock>(&mut self, rt: &R, limit: Option<Duration>) -> io::Result<()> {
-        self.wire.wait(limit)?;
-        self.note_events()?;
-        self.clock.look(rt)
-    }
-
-    fn note_events(&mut self) -> io::Result<()> {
-        for event in self.wire.events.iter() {
-            let told = Ready::of(event);
-            match source_of(event) {
-                Source::Listener => self.accepting = Accepting::Now,
-                Source::Link(at) => self.links.note(at, told)?,
-                Source::Client(id) => self.clients.note(id, told)?,
+    pub fn wait<C: Clock>(&mut self, clock: &C, limit: Option<Duration>) -> io::Result<()> {
+        let count = self.wire.wait(limit)?;
+        for at in 0..count {
+            if let Some(report) = self.wire.report(at) {
+                self.note(report)?;
             }
         }
-        Ok(())
+        self.look(clock)
+    }
+
+    // What was told.
+    fn note(&mut self, report: Report) -> Result<(), AllocError> {
+        match report {
+            Report::Listener => {
+                self.accepting = Accepting::Now;
+                Ok(())
+            }
+            Report::Client(id, told) => self.clients.note(id, told),
+            Report::Server(at, told) => self.links.note(at, told),
+        }
     }
 }

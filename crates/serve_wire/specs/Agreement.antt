@@ -9,6 +9,15 @@ pub record ClientAgrees (h : List Event) (input output : ℕ → List ℕ) (i co
   pub input_is : delivered conn h ≡ input i ++ held
   pub output_is : output i ≡ taken conn h ++ unsent
 
+-- so much agrees of a client whose end was broken off: what is known of it as its input is the first of what came from it, and it took the
+-- first of what was put out for it
+pub record ClientLost (h : List Event) (input output : ℕ → List ℕ) (i conn : ℕ) : Type 0 where
+  pub is_its : role conn h ≡ Some (0, i)
+  pub unread : List ℕ
+  pub input_is : delivered conn h ≡ input i ++ unread
+  pub unsent : List ℕ
+  pub output_is : output i ≡ taken conn h ++ unsent
+
 -- a link stands, and is to its own server: what was asked there is what it took, and then what is unsent; what came from there settled
 -- calls of this server, and is else held
 pub record LinkAgrees (h : List Event) (asked answered : ℕ → List ℕ) (i conn : ℕ) (held unsent : List ℕ) : Type 0 where

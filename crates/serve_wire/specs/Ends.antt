@@ -1,10 +1,15 @@
 -- What one read and one write of an end do. Source: mcgate's own.
 use Rattle.std.specs.Prelude.{◌≡◌, ℕ, ◌<◌, ◌≤◌, nat_eq, Bool, false, ◌&&◌, ◌||◌, ◌⊎◌, ◌∷◌, ◌++◌, List, length, take, drop}
 use Rattle.serve_wire.specs.Events.{Event, delivers, takes, ends, fails}
+use Rattle.serve_wire.specs.declared.conn.conn.Conn.{Conn}
 use Rattle.serve_wire.specs.declared.conn.conn.Got.{Got}
 use Rattle.serve_wire.specs.declared.conn.conn.Got.TheVariants as got
 use Rattle.serve_wire.specs.declared.conn.conn.Sent.{Sent}
 use Rattle.serve_wire.specs.declared.conn.conn.Sent.TheVariants as sent
+
+-- of an end nothing has changed but what it holds, and the room for that
+abbrev pub HoldsAnew : Conn → Conn → Type 0
+HoldsAnew x y = y ≡ record x { held = y.held; other = y.other; is_cut = y.is_cut }
 
 -- bytes came over the connection, and stand after those that are held
 pub record Comes (c : ℕ) (held held' : List ℕ) (h h' : List Event) : Type 0 where

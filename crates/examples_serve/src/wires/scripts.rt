@@ -199,8 +199,8 @@ fn limit_of(text: &str) -> Result<Option<Duration>, Fail> {
     Ok(Some(Duration::from_millis(text.parse::<u64>()?)))
 }
 
-// What a far end does, or how much of it.
-fn put_act(alloc: Global, peer: &mut Peer, verb: &str, text: &str) -> Result<(), Fail> {
+/// What a far end does, or how much of it.
+pub fn put_act(alloc: Global, peer: &mut Peer, verb: &str, text: &str) -> Result<(), Fail> {
     match verb {
         "sends" => {
             let bytes = plain(alloc, text)?.as_bytes().to_vec(alloc)?;

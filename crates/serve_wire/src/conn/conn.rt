@@ -275,6 +275,15 @@ impl Conn {
         take_front(&mut self.held, count);
     }
 
+    /// So many bytes of what is held are done with, or all where fewer are held.
+    pub fn use_up(&mut self, count: usize)
+        ensures held { self.new.held.items ≡ drop count self.old.held.items }
+        ensures rest { self.new ≡ record self.old { held = self.new.held } }
+    {
+        let count = count.min(self.held.len());
+        self.use_held(count);
+    }
+
     /// These bytes, which were cut off from what was held, are held again in front of it, with room for so many bytes after them. They are copied into
     /// the other buffer, so that what else was cut off may share this one: its room is used again once that is gone.
     ///

@@ -1,3 +1,4 @@
+use Rattle.serve_clients.proofs.Agreeing.{keeps_twice}
 use Rattle.serve_links.proofs.Walked.{then}
 use Rattle.serve_links.proofs.Failing.{on_ok, all_then}
 use Rattle.serve_links.proofs.outcomes.fail_all.Goals as goal
@@ -7,3 +8,6 @@ returns-clause-core c = then c.fail_sent.ensures.core c.fail_waiting.ensures.cor
 
 pub returns-clause-all : goal.returns-clause-all
 returns-clause-all c = on_ok c.fail_waiting.result _ _ (λ f. all_then c.args.link.now.calls.sent.items c.args.link.now.waiting.items c.args.core.now c.fail_sent.new.core c.fail_waiting.new.core c.in_ok-fail_sent.ensures.all f) c.fail_waiting.ensures.all
+
+pub returns-clause-ends : goal.returns-clause-ends
+returns-clause-ends c = keeps_twice c.args.clients.now c.fail_sent.new.clients c.fail_waiting.new.clients c.fail_sent.ensures.ends c.fail_waiting.ensures.ends

@@ -10,4 +10,4 @@ returns-in_ok-mark_settled-in-Settled-clause-settled c =
     let sent' = c.settle_first.new.calls.sent.items in
     let same : held ≡ c.copied.result = cc in
     let is = settles_as sent c.copied.result held c.args.core.now (nexts.Settled c.in-Settled.client c.in-Settled.used) sent' c.settle_first.new.core same c.in-Settled.ensures.next in
-    λ came. one sent held c.args.core.now c.in-Settled.client c.in-Settled.used sent' c.use_held.new.conn.held.items c.settle_first.new.core c.use_held.ensures is
+    λ came. one sent held c.args.core.now c.in-Settled.client c.in-Settled.used sent' c.use_up.new.self.held.items c.settle_first.new.core c.use_up.ensures.held is

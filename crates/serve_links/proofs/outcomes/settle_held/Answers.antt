@@ -1,3 +1,5 @@
+use Rattle.serve_wire.proofs.Anew.{anew_twice}
+use Rattle.serve_clients.proofs.Agreeing.{keeps_twice}
 use Rattle.serve_links.proofs.Walked.{then}
 use Rattle.serve_links.proofs.Leaving.{both}
 use Rattle.serve_links.proofs.outcomes.settle_held.Goals as goal
@@ -6,6 +8,8 @@ pub loop-preserved : goal.loop-preserved
 loop-preserved c = record {
   core = then c.loop.invariant.core c.settle_some.ensures.core;
   settled = both c.loop.invariant.settled (c.in_ok-others.ensures.settled (λ foreign. absurd cc));
+  ends = keeps_twice c.args.clients.now c.loop.clients c.settle_some.new.clients c.loop.invariant.ends c.settle_some.ensures.ends;
+  rest = anew_twice c.args.conn.now c.loop.conn c.settle_some.new.conn c.loop.invariant.rest c.settle_some.ensures.rest;
 }
 
 pub returns-in_err-others-clause-core : goal.returns-in_err-others-clause-core
@@ -19,3 +23,21 @@ returns-in-Foreign-clause-core c = then c.loop.invariant.core c.settle_some.ensu
 
 pub returns-in-More-clause-settled : goal.returns-in-More-clause-settled
 returns-in-More-clause-settled c = λ kept. both c.loop.invariant.settled (c.in_ok-others.ensures.settled (λ foreign. absurd cc))
+
+pub returns-in_err-others-clause-ends : goal.returns-in_err-others-clause-ends
+returns-in_err-others-clause-ends c = keeps_twice c.args.clients.now c.loop.clients c.settle_some.new.clients c.loop.invariant.ends c.settle_some.ensures.ends
+
+pub returns-in_err-others-clause-rest : goal.returns-in_err-others-clause-rest
+returns-in_err-others-clause-rest c = anew_twice c.args.conn.now c.loop.conn c.settle_some.new.conn c.loop.invariant.rest c.settle_some.ensures.rest
+
+pub returns-in-More-clause-ends : goal.returns-in-More-clause-ends
+returns-in-More-clause-ends c = keeps_twice c.args.clients.now c.loop.clients c.settle_some.new.clients c.loop.invariant.ends c.settle_some.ensures.ends
+
+pub returns-in-More-clause-rest : goal.returns-in-More-clause-rest
+returns-in-More-clause-rest c = anew_twice c.args.conn.now c.loop.conn c.settle_some.new.conn c.loop.invariant.rest c.settle_some.ensures.rest
+
+pub returns-in-Foreign-clause-ends : goal.returns-in-Foreign-clause-ends
+returns-in-Foreign-clause-ends c = keeps_twice c.args.clients.now c.loop.clients c.settle_some.new.clients c.loop.invariant.ends c.settle_some.ensures.ends
+
+pub returns-in-Foreign-clause-rest : goal.returns-in-Foreign-clause-rest
+returns-in-Foreign-clause-rest c = anew_twice c.args.conn.now c.loop.conn c.settle_some.new.conn c.loop.invariant.rest c.settle_some.ensures.rest

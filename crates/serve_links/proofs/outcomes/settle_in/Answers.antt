@@ -1,5 +1,6 @@
 use Rattle.std.proofs.Common.{ℕ, ◌+◌, ◌-◌, ◌^◌, ◌≤◌, List, length, drop, sym, ap, ◌∙◌, arith}
 use Rattle.std.proofs.lemmas.List.{drop-drop}
+use Rattle.serve_clients.proofs.Agreeing.{keeps_twice}
 use Rattle.serve_links.proofs.Walked.{then}
 use Rattle.serve_links.proofs.Leaving.{awaited, both, one, drop_few}
 use Rattle.serve_links.proofs.outcomes.settle_in.Goals as goal
@@ -14,10 +15,14 @@ loop-preserved c =
     record {
       core = then c.loop.invariant.core c.settle_at.ensures.core;
       settled = both c.loop.invariant.settled (one c.loop.calls.sent.items (drop c.loop.used bytes) c.loop.core c.in-Settled.client c.in-Settled.len c.settle_at.new.calls.sent.items (drop c.saturating_add-used.result bytes) c.settle_at.new.core rest c.in-Settled.ensures.next);
+      ends = keeps_twice c.args.clients.now c.loop.clients c.mark_settled.new.self c.loop.invariant.ends c.mark_settled.ensures.ends;
     }
 
 pub returns-in_err-mark_settled-in-Settled-clause-core : goal.returns-in_err-mark_settled-in-Settled-clause-core
 returns-in_err-mark_settled-in-Settled-clause-core c = then c.loop.invariant.core c.settle_at.ensures.core
+
+pub returns-in_err-mark_settled-in-Settled-clause-ends : goal.returns-in_err-mark_settled-in-Settled-clause-ends
+returns-in_err-mark_settled-in-Settled-clause-ends c = keeps_twice c.args.clients.now c.loop.clients c.mark_settled.new.self c.loop.invariant.ends c.mark_settled.ensures.ends
 
 pub returns-in-More-clause-core : goal.returns-in-More-clause-core
 returns-in-More-clause-core c = then c.loop.invariant.core c.settle_at.ensures.core

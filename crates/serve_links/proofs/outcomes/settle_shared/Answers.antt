@@ -23,4 +23,4 @@ returns-else-used-len-clause-settled c =
     let sent' = c.settle_first-next.new.calls.sent.items in
     let next = c.settle_first-next.result in
     let is = settles_as sent c.shared.result bytes c.args.core.now next sent' c.settle_first-next.new.core (sym c.shared.ensures) c.settle_first-next.ensures.next in
-    λ kept. between refl (c.hold_rest-is_kept.ensures kept ∙ ap (λ (n : ℕ). drop n bytes ++ held) c.used_by-used.ensures) (over held (by_next sent bytes c.args.core.now next sent' c.settle_first-next.new.core is))
+    λ kept. between refl (c.hold_rest-is_kept.ensures.held kept ∙ ap (λ (n : ℕ). drop n bytes ++ held) c.used_by-used.ensures) (over held (by_next sent bytes c.args.core.now next sent' c.settle_first-next.new.core is))

@@ -2,4 +2,4 @@ use Rattle.serve_links.specs.CoreSteps.{GoesOn}
 use Rattle.serve_proxy.proofs.accepting.accept_some.Given as goal
 
 abbrev pub invariant-loop : goal.invariant-loop
-invariant-loop l = GoesOn l.fn.core l.core
+invariant-loop g l = GoesOn l.fn.core l.core

@@ -2,4 +2,4 @@ use Rattle.serve_links.specs.CoreSteps.{GoesOn}
 use Rattle.serve_proxy.proofs.answers.read_links.Given as goal
 
 abbrev pub invariant-loop-at : goal.invariant-loop-at
-invariant-loop-at l = GoesOn l.fn.core l.core
+invariant-loop-at g l = GoesOn l.fn.core l.core

@@ -2,4 +2,4 @@ use Rattle.serve_links.specs.CoreSteps.{Fails}
 use Rattle.serve_proxy.proofs.calls.begin_waiting.Given as goal
 
 abbrev pub invariant-loop : goal.invariant-loop
-invariant-loop l = Fails l.fn.core l.core
+invariant-loop g l = Fails l.fn.core l.core

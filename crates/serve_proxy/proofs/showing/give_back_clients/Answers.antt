@@ -2,7 +2,7 @@ use Rattle.serve_links.proofs.Walked.{then}
 use Rattle.serve_proxy.proofs.showing.give_back_clients.Goals as goal
 
 pub loop-id-preserved : goal.loop-id-preserved
-loop-id-preserved c = then c.loop-id.invariant c.give_back_client.ensures.core
+loop-id-preserved g c = then c.loop-id.invariant c.give_back_client.ensures.core
 
 pub returns-in_err-give_back_client : goal.returns-in_err-give_back_client
-returns-in_err-give_back_client c = record { core = then c.loop-id.invariant c.give_back_client.ensures.core }
+returns-in_err-give_back_client g c = record { core = then c.loop-id.invariant c.give_back_client.ensures.core }

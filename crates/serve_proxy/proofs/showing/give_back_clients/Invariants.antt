@@ -2,4 +2,4 @@ use Rattle.serve_links.specs.CoreSteps.{GoesOn}
 use Rattle.serve_proxy.proofs.showing.give_back_clients.Given as goal
 
 abbrev pub invariant-loop-id : goal.invariant-loop-id
-invariant-loop-id l = GoesOn l.fn.core l.core
+invariant-loop-id g l = GoesOn l.fn.core l.core

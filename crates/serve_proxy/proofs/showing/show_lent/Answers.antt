@@ -2,4 +2,4 @@ use Rattle.serve_links.proofs.Walked.{then}
 use Rattle.serve_proxy.proofs.showing.show_lent.Goals as goal
 
 pub returns : goal.returns
-returns c = record { core = then c.show_client.ensures.core c.end_lent.ensures.core }
+returns g c = record { core = then c.show_client.ensures.core c.end_lent.ensures.core }

@@ -1,0 +1,435 @@
+//! A proxy over a wire in memory: what its clients and its servers are sent, where bytes come cut, connections end and break, and answers
+//! are late.
+
+use crate::wires::scripts::put_act;
+use examples_tables::configs::with_configs;
+use examples_tables::playing::{Stage, cut, first_line, play_lines, shown, yes_or_no};
+use gate_check::{Accepted, judge};
+use route_json::addresses::Servers;
+use route_json::{Config, read_config, read_config_after};
+use serve_proxy::{LinkNews, ProxyEnd, ServerDialect, Settings, text_at};
+use serve_wire::Wire;
+use serve_wire::memory::{Memory, Peer};
+use std::alloc::Global;
+use std::test::Fail;
+use std::time::Duration;
+
+// Far ends have names that are numbers. `peer` begins the script of one, which then calls at a time or answers the next connection to a
+// host. `proxy` looks up the servers of its configuration and begins.
+fn texts() -> &'static str {
+    r"Bytes come cut anywhere, and go out by the piece.
+host 127.0.0.1:5001
+peer 9
+awaits 7
+sends VALUE a 0 3\r\nx
+sends yz\r
+sends \nEND\r\n
+awaits 23
+sends STO
+sends RED\r\n
+answers 127.0.0.1:5001
+peer 1
+sends ge
+sends t a\r\nset b 0 0 1\r
+sends \n7\r\n
+piece 4
+window 6
+calls 0
+proxy <one server>
+turn 40
+taken 9 => get a\r\nset b 0 0 1\r\n7\r\n
+taken 1 => VALUE a 0 3\r\nxyz\r\nEND\r\nSTORED\r\n
+
+Each client gets the replies to its own commands, in their order, whichever server answers first.
+host 127.0.0.1:5001
+host 127.0.0.1:5002
+peer 8
+awaits 14
+until 30
+sends VALUE a 0 1\r\n1\r\nEND\r\nEND\r\n
+answers 127.0.0.1:5001
+peer 9
+awaits 14
+sends END\r\nVALUE d 0 1\r\n2\r\nEND\r\n
+answers 127.0.0.1:5002
+peer 1
+sends get a\r\nget b\r\n
+calls 0
+peer 2
+sends get k\r\nget d\r\n
+calls 5
+proxy <two servers>
+turn 40
+taken 8 => get a\r\nget k\r\n
+taken 9 => get b\r\nget d\r\n
+taken 1 => VALUE a 0 1\r\n1\r\nEND\r\nEND\r\n
+taken 2 => END\r\nVALUE d 0 1\r\n2\r\nEND\r\n
+
+A write that fails half-way: the call has failed, its connection is closed, and the next call goes to a new one as a whole.
+host 127.0.0.1:5001
+peer 8
+breaks 3
+answers 127.0.0.1:5001
+peer 9
+awaits 7
+sends END\r\n
+answers 127.0.0.1:5001
+peer 1
+sends get a\r\n
+awaits 26
+sends get b\r\n
+calls 0
+proxy <one server>
+turn 40
+taken 8 => get
+open 8 => no
+taken 9 => get b\r\n
+taken 1 => SERVER_ERROR call failed\r\nEND\r\n
+news => server 0: back
+
+A client quits behind replies that it takes slowly: it gets them all, and then the connection is closed.
+host 127.0.0.1:5001
+peer 9
+awaits 7
+sends VALUE a 0 9\r\n123456789\r\nEND\r\n
+answers 127.0.0.1:5001
+peer 1
+sends get a\r\nquit\r\nget b\r\n
+window 5
+calls 0
+proxy <one server>
+turn 3
+open 1 => yes
+turn 40
+taken 1 => VALUE a 0 9\r\n123456789\r\nEND\r\n
+open 1 => no
+taken 9 => get a\r\n
+
+An answer that is late is nobody's: its connection is closed, and the next call goes to a new one.
+host 127.0.0.1:5001
+peer 8
+awaits 7
+until 1500
+sends VALUE a 0 1\r\n1\r\nEND\r\n
+answers 127.0.0.1:5001
+peer 9
+awaits 7
+sends END\r\n
+answers 127.0.0.1:5001
+peer 1
+sends get a\r\n
+until 2000
+sends get b\r\n
+calls 0
+proxy <one server>
+turn 60
+taken 1 => SERVER_ERROR call failed\r\nEND\r\n
+open 8 => no
+taken 9 => get b\r\n
+
+A server ends within an answer: the call has failed, and what came of it is dropped.
+host 127.0.0.1:5001
+peer 8
+awaits 7
+sends VALUE a 0 3\r\nx
+ends
+answers 127.0.0.1:5001
+peer 9
+awaits 7
+sends END\r\n
+answers 127.0.0.1:5001
+peer 1
+sends get a\r\n
+awaits 26
+sends get b\r\n
+calls 0
+proxy <one server>
+turn 40
+taken 1 => SERVER_ERROR call failed\r\nEND\r\n
+open 8 => no
+
+A client breaks off while its call is out: the answer is no other client's.
+host 127.0.0.1:5001
+peer 9
+awaits 7
+until 20
+sends VALUE a 0 1\r\n1\r\nEND\r\n
+awaits 14
+sends END\r\n
+answers 127.0.0.1:5001
+peer 1
+sends get a\r\n
+until 10
+fails
+calls 0
+peer 2
+sends get b\r\n
+calls 15
+proxy <one server>
+turn 40
+taken 1 => nothing
+open 1 => no
+taken 2 => END\r\n
+
+Nobody answers at one address, and no host is known of the other.
+host 127.0.0.1:5001
+peer 1
+sends get a\r\nget b\r\n
+calls 0
+proxy <two servers>
+turn 20
+taken 1 => SERVER_ERROR call failed\r\nSERVER_ERROR call failed\r\n
+
+A configuration that is loaded brings a server, to which deletes go too.
+host 127.0.0.1:5001
+host 127.0.0.1:5002
+peer 8
+awaits 7
+sends END\r\n
+awaits 17
+sends NOT_FOUND\r\n
+answers 127.0.0.1:5001
+peer 9
+awaits 10
+sends NOT_FOUND\r\n
+answers 127.0.0.1:5002
+peer 1
+sends get a\r\n
+until 5000
+sends delete b\r\n
+calls 0
+proxy <one server>
+turn 20
+taken 1 => END\r\n
+load <A, both cleared> => 2
+turn 60
+taken 8 => get a\r\ndelete b\r\n
+taken 9 => delete b\r\n
+taken 1 => END\r\nNOT_FOUND\r\n"
+}
+
+// One client's commands go to servers as it wrote them.
+fn settings() -> Settings {
+    Settings {
+        server_dialect: ServerDialect::Classic,
+        ..Settings::usual()
+    }
+}
+
+// A wire that is being scripted, and the proxy that stands on it then.
+#[derive(Drop)]
+struct Scripted<'a> {
+    rt: &'a HostRuntime,
+    wire: Option<Memory>,
+    proxy: Option<ProxyEnd<Memory>>,
+    // The text of the configuration by which the proxy began.
+    config: String,
+    // Whose script is being written.
+    peer: Option<Peer>,
+}
+
+fn make_scripted(rt: &HostRuntime) -> Scripted<'_> {
+    Scripted {
+        rt,
+        wire: Some(Memory::new(rt.alloc())),
+        proxy: None,
+        config: String::new(rt.alloc()),
+        peer: None,
+    }
+}
+
+fn judged(alloc: Global, config: Config) -> Result<Accepted, Fail> {
+    match judge(alloc, config) {
+        Ok(accepted) => Ok(accepted),
+        Err(_) => Err("the gate refuses the configuration")?,
+    }
+}
+
+// The servers of a configuration.
+fn servers_of(alloc: Global, text: &str) -> Result<Servers, Fail> {
+    let config = read_config(alloc, text)?;
+    Ok(config.servers().copy(alloc)?)
+}
+
+// A configuration after another one, and the servers of both.
+fn config_after(alloc: Global, first: &str, text: &str) -> Result<(Config, Servers), Fail> {
+    let config = read_config_after(alloc, servers_of(alloc, first)?, text)?;
+    let servers = config.servers().copy(alloc)?;
+    Ok((config, servers))
+}
+
+// Those of these servers that hosts are known of are looked up.
+fn resolve_all(rt: &HostRuntime, wire: &mut Memory, servers: &Servers) {
+    for at in 0..servers.len() {
+        if let Some(text) = text_at(servers, at) {
+            let _ = wire.resolve(rt, text.as_bytes());
+        }
+    }
+}
+
+// The same by the proxy.
+fn resolve_more(rt: &HostRuntime, proxy: &mut ProxyEnd<Memory>, servers: &Servers) {
+    for at in 0..servers.len() {
+        if let Some(text) = text_at(servers, at) {
+            let _ = proxy.resolve(rt, text);
+        }
+    }
+}
+
+fn end_over(
+    rt: &HostRuntime,
+    wire: Memory,
+    accepted: Accepted,
+    servers: &Servers,
+) -> Result<ProxyEnd<Memory>, Fail> {
+    Ok(ProxyEnd::new(rt.alloc(), wire, accepted, servers, settings())?)
+}
+
+fn begin(rt: &HostRuntime, wire: Memory, text: &str) -> Result<ProxyEnd<Memory>, Fail> {
+    let mut wire = wire;
+    let servers = servers_of(rt.alloc(), text)?;
+    resolve_all(rt, &mut wire, &servers);
+    let accepted = judged(rt.alloc(), read_config(rt.alloc(), text)?)?;
+    end_over(rt, wire, accepted, &servers)
+}
+
+// The number of the generation that a configuration is.
+fn load(
+    alloc: Global,
+    proxy: &mut ProxyEnd<Memory>,
+    config: Config,
+    servers: &Servers,
+) -> Result<String, Fail> {
+    match proxy.load(config, servers) {
+        Ok(number) => Ok(number.to_string(alloc)?),
+        Err(_) => Ok("refused".to_string(alloc)?),
+    }
+}
+
+fn turn(rt: &HostRuntime, proxy: &mut ProxyEnd<Memory>, count: usize) -> Result<(), Fail> {
+    for _ in 0..count {
+        proxy.turn_within(rt, Duration::from_millis(100))?;
+    }
+    Ok(())
+}
+
+impl Scripted<'_> {
+    // The script is whole: the far end calls, or answers.
+    fn place(&mut self, verb: &str, text: &str) -> Result<(), Fail> {
+        let (Some(wire), Some(peer)) = (self.wire.as_mut(), self.peer.take()) else {
+            return Err("no peer")?;
+        };
+        if verb == "calls" {
+            wire.will_connect(text.parse::<u64>()?, peer)?;
+        } else {
+            wire.will_answer(text.as_bytes(), peer)?;
+        }
+        Ok(())
+    }
+
+    fn add_host(&mut self, text: &str) -> Result<(), Fail> {
+        match &mut self.wire {
+            Some(wire) => Ok(wire.add_host(text.as_bytes())?),
+            None => Err("the proxy has begun")?,
+        }
+    }
+
+    fn script(&mut self, verb: &str, text: &str) -> Result<(), Fail> {
+        match &mut self.peer {
+            Some(peer) => put_act(self.rt.alloc(), peer, verb, text),
+            None => Err("no peer")?,
+        }
+    }
+
+    fn begin(&mut self, text: &str) -> Result<(), Fail> {
+        let Some(wire) = self.wire.take() else {
+            return Err("the proxy has begun")?;
+        };
+        self.proxy = Some(begin(self.rt, wire, text)?);
+        self.config = text.to_string(self.rt.alloc())?;
+        Ok(())
+    }
+
+    fn proxy(&mut self) -> Result<&mut ProxyEnd<Memory>, Fail> {
+        match &mut self.proxy {
+            Some(proxy) => Ok(proxy),
+            None => Err("there is no proxy")?,
+        }
+    }
+
+    fn load(&mut self, text: &str) -> Result<String, Fail> {
+        let rt = self.rt;
+        let (config, servers) = config_after(rt.alloc(), self.config.as_str(), text)?;
+        match &mut self.proxy {
+            Some(proxy) => {
+                resolve_more(rt, proxy, &servers);
+                load(rt.alloc(), proxy, config, &servers)
+            }
+            None => Err("there is no proxy")?,
+        }
+    }
+
+    // Events that give nothing.
+    fn set(&mut self, verb: &str, text: &str) -> Result<(), Fail> {
+        match verb {
+            "host" => self.add_host(text),
+            "peer" => {
+                self.peer = Some(Peer::new(self.rt.alloc(), text.parse::<u32>()?));
+                Ok(())
+            }
+            "calls" | "answers" => self.place(verb, text),
+            "proxy" => self.begin(text),
+            "turn" => {
+                let rt = self.rt;
+                turn(rt, self.proxy()?, text.parse::<usize>()?)
+            }
+            _ => self.script(verb, text),
+        }
+    }
+
+    fn news(&mut self) -> Result<Option<(usize, LinkNews)>, Fail> {
+        Ok(self.proxy()?.next_news())
+    }
+
+    fn news_text(&mut self) -> Result<String, Fail> {
+        let alloc = self.rt.alloc();
+        match self.news()? {
+            Some((server, news)) => Ok(format!(in alloc; "server {server}: {news}")?),
+            None => Ok("none".to_string(alloc)?),
+        }
+    }
+}
+
+impl Stage for Scripted<'_> {
+    fn answer(&mut self, event: &str, _want: &str) -> Result<String, Fail> {
+        let alloc = self.rt.alloc();
+        let (verb, text) = cut(event);
+        match verb {
+            "taken" => shown(alloc, self.proxy()?.wire().taken(text.parse::<u32>()?)),
+            "open" => {
+                let is_open = self.proxy()?.wire().is_open(text.parse::<u32>()?);
+                Ok(yes_or_no(is_open).to_string(alloc)?)
+            }
+            "load" => self.load(text),
+            "news" => self.news_text(),
+            _ => {
+                self.set(verb, text)?;
+                Ok(String::new(alloc))
+            }
+        }
+    }
+}
+
+fn play(rt: &HostRuntime, example: &str) -> Result<(), Fail> {
+    let (name, lines) = first_line(example);
+    let lines = with_configs(rt.alloc(), lines)?;
+    play_lines(&mut make_scripted(rt), name, lines.as_str())
+}
+
+#[test]
+fn proxies_in_memory(rt: HostRuntime) -> Result<(), Fail> {
+    for example in texts().split("\n\n") {
+        play(&rt, example)?;
+    }
+    Ok(())
+}

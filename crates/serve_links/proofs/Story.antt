@@ -1,0 +1,159 @@
+-- How the ends of a proxy go on, one after another.
+use Rattle.std.proofs.Common.{◌≡◌, ◌≢◌, ℕ, Bool, true, false, List, [], ◌∷◌, ◌++◌, Option, Some, None, refl, sym, ap, ◌∙◌, subst, inl, inr, append_assoc}
+use Rattle.std.specs.Prelude.{IfSome, nat_eq, slice_get}
+use Rattle.std.proofs.lemmas.Bool.{cases_Bool, eq-eqb, eqb-true}
+use Rattle.wire_parts.specs.Sending.{bytes_of}
+use Rattle.serve_wire.specs.Events.{Event, role}
+use Rattle.serve_wire.specs.Agreement.{IsUntouched}
+use Rattle.serve_wire.specs.declared.conn.conn.Conn.{Conn}
+use Rattle.core_accepted.specs.declared.served.ServedCore.{ServedCore}
+use Rattle.serve_clients.specs.declared.clients.Client.{Client}
+use Rattle.serve_clients.specs.declared.clients.Clients.{Clients}
+use Rattle.serve_clients.specs.Agrees.{EndAgrees, AllAgree}
+use Rattle.serve_clients.proofs.Agreeing.{its, state_stays}
+use Rattle.serve_clients.specs.Marks.{client_of}
+use Rattle.serve_links.specs.declared.link.Link.{Link}
+use Rattle.serve_links.specs.CoreSteps.{Step, Walks, AreOf}
+use Rattle.serve_links.specs.Story.{fed_in, gave_in, AgreesWith, AgreeWith, TellsNone, LineAgrees, LinesAgree, KeepsOthers, texts_of, OneGoes, LineGoes, AnEnd, Agrees, AllGo, StoriesGoOn}
+use Rattle.serve_links.proofs.Walked.{walked, of_both}
+
+-- ---- one end
+
+-- what is told of a client is the same
+told_same : (h : List Event) (input output input' output' : ℕ → List ℕ) (id : ℕ) (x : Client) → input' id ≡ input id → output' id ≡ output id → EndAgrees h input output id x → EndAgrees h input' output' id x
+told_same h input output input' output' id x fed gave a =
+    record {
+      stands = λ is. let was = a.stands is in record { is_its = was.is_its; input_is = was.input_is ∙ ap (λ l. l ++ x.conn.held.items) (sym fed); output_is = gave ∙ was.output_is };
+      lost = λ is. let was = a.lost is in record { is_its = was.is_its; unread = was.unread; input_is = was.input_is ∙ ap (λ l. l ++ was.unread) (sym fed); unsent = was.unsent; output_is = gave ∙ was.output_is };
+      ended = a.ended;
+    }
+
+-- an end that nothing touched, and of which nothing more was told
+end_stays :
+    (h h' : List Event) (input output input' output' : ℕ → List ℕ) (id : ℕ) (x : Client) → IsUntouched x.conn.number h h' → input' id ≡ input id → output' id ≡ output id
+    → EndAgrees h input output id x → EndAgrees h' input' output' id x
+end_stays h h' input output input' output' id x same fed gave a =
+    told_same h' input output input' output' id x fed gave (state_stays h h' input output id x.conn.number x.conn.held.items (bytes_of x.conn.unsent) x.is_broken x.is_ended same a)
+
+at_client : (h : List Event) (input output : ℕ → List ℕ) (clients : Clients) (id : ℕ) (x : Client) → client_of clients id ≡ Some x → AllAgree h input output clients → EndAgrees h input output id x
+at_client h input output clients id x is all = subst (λ o. IfSome o (EndAgrees h input output id)) is (all id)
+
+each_client : (h : List Event) (input output : ℕ → List ℕ) (clients : Clients) → ((id : ℕ) (x : Client) → client_of clients id ≡ Some x → EndAgrees h input output id x) → AllAgree h input output clients
+each_client h input output clients each id = by (client_of clients id) refl
+  where
+    by : (o : Option Client) → client_of clients id ≡ o → IfSome o (EndAgrees h input output id)
+    by None e = tt
+    by (Some x) e = each id x e
+
+-- a link's connection that nothing touched
+pub line_stays : (h h' : List Event) (at : ℕ) (link : Link) → ((conn : Conn) → link.conn ≡ Some conn → IsUntouched conn.number h h') → LineAgrees h at link → LineAgrees h' at link
+line_stays h h' at link same was = λ conn is. let s = same conn is in let w = was conn is in (s.same_role ∙ w.0, s.same_address ∙ w.1)
+
+-- ---- whose connections are apart
+
+client_apart : (i j : ℕ) → nat_eq i j ≡ false → (0, j) ≢ (0, i)
+client_apart i j other e = bools (sym other ∙ eq-eqb i j (sym (ap (λ (p : ℕ × ℕ). p.1) e)))
+  where
+    bools : false ≡ true → ⊥
+    bools f = cc
+
+kinds_apart : (i j : ℕ) → (0, i) ≢ (1, j)
+kinds_apart i j e = numbers (ap (λ (p : ℕ × ℕ). p.0) e)
+  where
+    numbers : 0 ≡ 1 → ⊥
+    numbers f = cc
+
+links_apart : (i j : ℕ) → nat_eq i j ≡ false → (1, j) ≢ (1, i)
+links_apart i j other e = bools (sym other ∙ eq-eqb i j (sym (ap (λ (p : ℕ × ℕ). p.1) e)))
+  where
+    bools : false ≡ true → ⊥
+    bools f = cc
+
+same_some : {X : Type 0} (x y : X) → Some x ≡ Some y → x ≡ y
+same_some x y e = cc
+
+-- ---- one end among all
+
+-- one client's end goes on, and the others are as they were
+pub one_of_all :
+    {Is : Step → Type 0} (id : ℕ) (old new : AnEnd) (x y : Client) → client_of old.clients id ≡ Some x → client_of new.clients id ≡ Some y
+    → ((j : ℕ) → nat_eq id j ≡ false → client_of new.clients j ≡ client_of old.clients j) → new.links ≡ old.links
+    → OneGoes Is id old.core old.history x new.core new.history y → AllGo Is old new
+one_of_all {Is} id old new x y was is others links g = record { steps = g.steps; kinds = g.kinds; walks = g.walks; agree = agree; texts = ap texts_of links }
+  where
+    h = old.history
+    h' = new.history
+
+    was_of : (past : List Step) → Agrees past old → (j : ℕ) (z : Client) → client_of old.clients j ≡ Some z → AgreesWith past h j z
+    was_of past a j z there = at_client h (fed_in past) (gave_in past) old.clients j z there a.clients
+
+    client : (past : List Step) → Agrees past old → (j : ℕ) (z : Client) → client_of new.clients j ≡ Some z → AgreesWith (g.steps ++ past) h' j z
+    client past a j z there = elim (cases_Bool (nat_eq id j)) [ inl e ↦ mine (eqb-true id j e) | inr e ↦ other e ]
+      where
+        mine : id ≡ j → AgreesWith (g.steps ++ past) h' j z
+        mine e =
+            let z_is : y ≡ z = same_some y z (sym is ∙ ap (client_of new.clients) e ∙ there) in
+            subst (λ k. AgreesWith (g.steps ++ past) h' k z) e (subst (λ c. AgreesWith (g.steps ++ past) h' id c) z_is (g.agrees past (was_of past a id x was)).0)
+
+        other : nat_eq id j ≡ false → AgreesWith (g.steps ++ past) h' j z
+        other e =
+            let mine_was = was_of past a id x was in let was_z = was_of past a j z (sym (others j e) ∙ there) in let told = g.others past j e in
+            end_stays h h' (fed_in past) (gave_in past) (fed_in (g.steps ++ past)) (gave_in (g.steps ++ past)) j z ((g.agrees past mine_was).1 z.conn.number (0, j) (its h (fed_in past) (gave_in past) j z was_z) (client_apart id j e)) told.0 told.1 was_z
+
+    lines : (past : List Step) → Agrees past old → LinesAgree h' new.links
+    lines past a at link there =
+        let was_there = ap (λ (ls : List Link). slice_get ls at) (sym links) ∙ there in let was_l = a.links at link was_there in
+        line_stays h h' at link (λ conn c. (g.agrees past (was_of past a id x was)).1 conn.number (1, at) (was_l conn c).0 (λ e. kinds_apart id at (sym e))) was_l
+
+    agree : (past : List Step) → Agrees past old → Agrees (g.steps ++ past) new
+    agree past a = record { clients = each_client h' (fed_in (g.steps ++ past)) (gave_in (g.steps ++ past)) new.clients (client past a); links = lines past a }
+
+-- one link's end goes on, and the others are as they were
+pub line_of_all :
+    {Is : Step → Type 0} (at : ℕ) (old new : AnEnd) (x y : Link) → slice_get old.links at ≡ Some x → slice_get new.links at ≡ Some y
+    → ((j : ℕ) → nat_eq at j ≡ false → slice_get new.links j ≡ slice_get old.links j) → texts_of new.links ≡ texts_of old.links → ((j : ℕ) → client_of new.clients j ≡ client_of old.clients j)
+    → LineGoes Is at old.core old.history x new.core new.history y → AllGo Is old new
+line_of_all {Is} at old new x y was is others texts clients_are g = record { steps = g.steps; kinds = g.kinds; walks = g.walks; agree = agree; texts = texts }
+  where
+    h = old.history
+    h' = new.history
+
+    client : (past : List Step) → Agrees past old → (j : ℕ) (z : Client) → client_of new.clients j ≡ Some z → AgreesWith (g.steps ++ past) h' j z
+    client past a j z there =
+        let was_z = at_client h (fed_in past) (gave_in past) old.clients j z (sym (clients_are j) ∙ there) a.clients in let told = g.others past j in
+        end_stays h h' (fed_in past) (gave_in past) (fed_in (g.steps ++ past)) (gave_in (g.steps ++ past)) j z ((g.agrees (a.links at x was)).1 z.conn.number (0, j) (its h (fed_in past) (gave_in past) j z was_z) (kinds_apart j at)) told.0 told.1 was_z
+
+    lines : (past : List Step) → Agrees past old → LinesAgree h' new.links
+    lines past a j z there = elim (cases_Bool (nat_eq at j)) [ inl e ↦ mine (eqb-true at j e) | inr e ↦ other e ]
+      where
+        mine : at ≡ j → LineAgrees h' j z
+        mine e =
+            let z_is : y ≡ z = same_some y z (sym is ∙ ap (slice_get new.links) e ∙ there) in
+            subst (λ k. LineAgrees h' k z) e (subst (λ c. LineAgrees h' at c) z_is (g.agrees (a.links at x was)).0)
+
+        other : nat_eq at j ≡ false → LineAgrees h' j z
+        other e =
+            let was_z = a.links j z (sym (others j e) ∙ there) in
+            line_stays h h' j z (λ conn c. (g.agrees (a.links at x was)).1 conn.number (1, j) (was_z conn c).0 (links_apart at j e)) was_z
+
+    agree : (past : List Step) → Agrees past old → Agrees (g.steps ++ past) new
+    agree past a = record { clients = each_client h' (fed_in (g.steps ++ past)) (gave_in (g.steps ++ past)) new.clients (client past a); links = lines past a }
+
+-- ---- one after another
+
+-- nothing was done
+pub all_still : {Is : Step → Type 0} (old new : AnEnd) → new ≡ old → AllGo Is old new
+all_still {Is} old new same = subst (λ x. AllGo Is old x) (sym same) (record { steps = []; kinds = tt; walks = refl; agree = λ past a. a; texts = refl })
+
+pub all_then : {Is : Step → Type 0} (a b c : AnEnd) → AllGo Is a b → AllGo Is b c → AllGo Is a c
+all_then {Is} a b c g k =
+    record {
+      steps = k.steps ++ g.steps;
+      kinds = of_both Is k.steps g.steps k.kinds g.kinds;
+      walks = walked k.steps g.steps a.core b.core c.core g.walks k.walks;
+      agree = λ past was. subst (λ l. Agrees l c) (sym (append_assoc k.steps g.steps past)) (k.agree (g.steps ++ past) (g.agree past was));
+      texts = k.texts ∙ g.texts;
+    }
+
+pub stories_go_on : StoriesGoOn
+stories_go_on = record { still = λ Is x. all_still {Is} x x refl; then = λ Is a b c g k. all_then {Is} a b c g k; one = λ Is id old new x y was is others links g. one_of_all {Is} id old new x y was is others links g; line = λ Is at old new x y was is others texts clients g. line_of_all {Is} at old new x y was is others texts clients g }

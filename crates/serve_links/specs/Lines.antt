@@ -1,0 +1,66 @@
+-- What a link's connection has to do with the wire. Source: mcgate's own; what a server is asked for its dialects is of memcached's protocol.txt, "Meta No-Op".
+use Rattle.std.specs.Prelude.{◌≡◌, ◌⊎◌, ℕ, Bool, true, false, List, [], ◌∷◌, ◌++◌, codes, Option, Some, None, OnOk}
+use Rattle.wire_parts.specs.Sending.{bytes_of}
+use Rattle.serve_wire.specs.Events.{Event, connects, closes, IsNew}
+use Rattle.serve_wire.specs.Calls.{Closes}
+use Rattle.serve_wire.specs.declared.conn.conn.Conn.{Conn}
+use Rattle.serve_links.specs.declared.settings.ServerDialect.{ServerDialect}
+use Rattle.serve_links.specs.declared.settings.ServerDialect.TheVariants as asks
+use Rattle.serve_links.specs.declared.link.Opening.{Opening}
+use Rattle.serve_links.specs.declared.link.Opening.TheVariants as opening
+use Rattle.serve_links.specs.declared.link.Link.{Link}
+
+-- what is asked first over a connection
+abbrev pub first_asked_of : ServerDialect → List ℕ
+first_asked_of asks.Auto = codes "mn\r\n"
+first_asked_of asks.Classic = []
+first_asked_of asks.Meta = []
+
+-- an end has the number, the held bytes and the unsent ones that it had
+pub record SameEnd (x y : Conn) : Type 0 where
+  pub number : y.number ≡ x.number
+  pub held : y.held.items ≡ x.held.items
+  pub unsent : y.unsent ≡ x.unsent
+
+-- and so has an end that may not be there
+abbrev pub SameLine : Option Conn → Option Conn → Type 0
+SameLine None y = y ≡ None
+SameLine (Some x) None = ⊥
+SameLine (Some x) (Some y) = SameEnd x y
+
+-- a link is to the server that it was to, has the connection that it had, with the same bytes, and the same calls
+pub record KeepsLines (old new : Link) : Type 0 where
+  pub text : new.text ≡ old.text
+  pub conn : SameLine old.conn new.conn
+  pub calls : new.calls ≡ old.calls
+  pub waiting : new.waiting ≡ old.waiting
+
+-- it has this end: nothing came over it, and what is asked first is to be sent
+abbrev pub IsNewEnd : ℕ → ServerDialect → Option Conn → Type 0
+IsNewEnd number dialect None = ⊥
+IsNewEnd number dialect (Some x) = (x.number ≡ number) × (x.held.items ≡ []) × (bytes_of x.unsent ≡ first_asked_of dialect)
+
+pub record HasNewEnd (number : ℕ) (dialect : ServerDialect) (old new : Link) : Type 0 where
+  pub text : new.text ≡ old.text
+  pub conn : IsNewEnd number dialect new.conn
+  pub calls : new.calls ≡ old.calls
+  pub waiting : new.waiting ≡ old.waiting
+
+-- a new connection to this server was begun, at the address that the link's text names; and where memory was refused for its end it was closed
+abbrev pub OpensBy : ℕ → ServerDialect → Opening → Link → Link → List Event → List Event → Type 0
+OpensBy server dialect opening.Begun old new h h' = (number : ℕ) × IsNew number h × (h' ≡ connects number server old.text.items ∷ h) × HasNewEnd number dialect old new
+OpensBy server dialect opening.NoAddress old new h h' = (h' ≡ h) × KeepsLines old new
+OpensBy server dialect opening.Failed old new h h' = (h' ≡ h) × KeepsLines old new
+OpensBy server dialect opening.NoMemory old new h h' = (number : ℕ) × IsNew number h × Closes number (connects number server old.text.items ∷ h) h' × KeepsLines old new
+
+-- of a link's end the first bytes are held no more, and nothing else has changed
+abbrev pub UsesSome : Option Conn → Option Conn → Type 0
+UsesSome None y = y ≡ None
+UsesSome (Some x) None = ⊥
+UsesSome (Some x) (Some y) = (bytes : List ℕ) × (x.held.items ≡ bytes ++ y.held.items) × (y ≡ record x { held = y.held })
+
+-- what a server tells of its dialects is taken from the front of what is held, and nothing else; where it can't be that, all stays
+pub record Learns (can : Bool) (old new : Link) : Type 0 where
+  pub uses : UsesSome old.conn new.conn
+  pub none : can ≡ false → new ≡ old
+  pub rest : new ≡ record old { conn = new.conn; dialect = new.dialect; awaits_dialect = new.awaits_dialect }

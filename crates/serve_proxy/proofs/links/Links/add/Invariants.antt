@@ -1,0 +1,6 @@
+use Rattle.std.proofs.Common.{◌≡◌, ◌++◌, drop, length}
+use Rattle.serve_proxy.specs.Texts.{texts_of}
+use Rattle.serve_proxy.proofs.links.Links.add.Given as goal
+
+abbrev pub invariant-loop-at : goal.invariant-loop-at
+invariant-loop-at l = texts_of l.self.all.items ++ drop l.at l.servers ≡ texts_of l.fn.self.all.items ++ drop (length l.fn.self.all.items) l.servers
