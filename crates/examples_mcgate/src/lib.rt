@@ -2,6 +2,7 @@
 //! so that a change of an example proves the example alone.
 #![tactic(auto)]
 
+#[cfg(test)]
 mod faults;
 #[cfg(test)]
 mod inputs;

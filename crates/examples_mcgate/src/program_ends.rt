@@ -1,5 +1,7 @@
-//! The program from its arguments to its exit status.
+//! The program from its arguments to its exit status. In tables `⏎` is a line end.
 
+use examples_tables::tables::unfolded;
+use examples_tables::tellers::{Teller, halves, wrong};
 use fault_words::fault_in_words;
 use fault_words::script::BadLine;
 use mcgate_args::arguments::{ArgumentsFault, Job, Task, read_arguments};
@@ -17,7 +19,7 @@ use std::io;
 use std::io::ErrorKind;
 use std::test::Fail;
 
-// Arguments between spaces, and what they ask for.
+// Arguments between spaces, and what they ask for; `told` where their words have a fault.
 fn commands() -> &'static str {
     "mcgate => replay - of standard input
 mcgate replay => replay - of standard input
@@ -32,7 +34,7 @@ mcgate check => check of standard input
 mcgate check f => check of f
 mcgate check --explain f => check explained of f
 mcgate check f --dot => check drawn of f
-mcgate check --explain --dot => refused
+mcgate check --explain --dot => refused, told
 mcgate where --config c k => where 1 in c
 mcgate where --config c  => no key
 mcgate cache --listen a:1 --capacity 5 => cache 5
@@ -44,31 +46,31 @@ mcgate serve --any --listen a:1 --config c --reload-every 4 --reload-ms 5 --fail
 mcgate serve --listen a:1 --config c --server-dialect auto => serve - fail-limit 3 auto
 mcgate serve --listen a:1 --config c --server-dialect classic => serve - fail-limit 3 classic
 mcgate serve --listen a:1 --config c --server-dialect meta => serve - fail-limit 3 meta
-mcgate serve --listen a:1 --config c --server-dialect old => refused"
+mcgate serve --listen a:1 --config c --server-dialect old => refused, told"
 }
 
 // Arguments that the program doesn't have.
 fn refused() -> &'static str {
-    "mcgate play
-mcgate 
-mcgate --any
-mcgate help chek
-mcgate help check serve
-mcgate check --any
-mcgate where k
-mcgate where --config c
-mcgate cache --listen a:1
-mcgate serve --config c
-mcgate cache --listen a:1 --capacity 0
-mcgate cache --listen a:1 --capacity 4294967296
-mcgate check f g
-mcgate loopback --any
-mcgate replay --any --any
-mcgate replay --any=yes
-mcgate replay --config
-mcgate check --config c
-mcgate replay f g
-mcgate replay replay f"
+    "mcgate play => refused, told
+mcgate  => refused, told
+mcgate --any => refused, told
+mcgate help chek => refused, told
+mcgate help check serve => refused, told
+mcgate check --any => refused, told
+mcgate where k => refused, told
+mcgate where --config c => refused, told
+mcgate cache --listen a:1 => refused, told
+mcgate serve --config c => refused, told
+mcgate cache --listen a:1 --capacity 0 => refused, told
+mcgate cache --listen a:1 --capacity 4294967296 => refused, told
+mcgate check f g => refused, told
+mcgate loopback --any => refused, told
+mcgate replay --any --any => refused, told
+mcgate replay --any=yes => refused, told
+mcgate replay --config => refused, told
+mcgate check --config c => refused, told
+mcgate replay f g => refused, told
+mcgate replay replay f => refused, told"
 }
 
 fn arguments_of(alloc: Global, line: &str) -> Result<Vec<String>, AllocError> {
@@ -97,7 +99,7 @@ fn task_words(task: Task) -> &'static str {
     }
 }
 
-fn push_number(out: &mut String, word: &str, number: Option<u32>) -> Result<(), Fail> {
+fn push_number(out: &mut String, word: &str, number: Option<u32>) -> Result<(), AllocError> {
     if let Some(number) = number {
         write!(out, " {word} {number}")?;
     }
@@ -112,7 +114,7 @@ fn dialect_word(dialect: ServerDialect) -> &'static str {
     }
 }
 
-fn push_serve(out: &mut String, job: &ServeJob<'_>) -> Result<(), Fail> {
+fn push_serve(out: &mut String, job: &ServeJob<'_>) -> Result<(), AllocError> {
     write!(out, "serve {}", any_word(job.any))?;
     push_number(out, "reload-every", job.reload_every)?;
     push_number(out, "reload-ms", job.reload_ms)?;
@@ -128,7 +130,7 @@ fn file_word<'a>(file: &Option<&'a str>) -> &'a str {
     }
 }
 
-fn push_job(out: &mut String, job: &Job<'_>) -> Result<(), Fail> {
+fn push_job(out: &mut String, job: &Job<'_>) -> Result<(), AllocError> {
     match job {
         Job::Run { task, file } => {
             write!(out, "{} of {}", task_words(*task), file_word(file))?;
@@ -149,63 +151,48 @@ fn push_job(out: &mut String, job: &Job<'_>) -> Result<(), Fail> {
     Ok(())
 }
 
-fn job_words(alloc: Global, job: &Job<'_>) -> Result<String, Fail> {
+fn job_words(alloc: Global, job: &Job<'_>) -> Result<String, AllocError> {
     let mut words = String::new(alloc);
     push_job(&mut words, job)?;
     Ok(words)
 }
 
-fn words_of_arguments(alloc: Global, given: &[String]) -> Result<String, Fail> {
+fn words_of_arguments(alloc: Global, given: &[String]) -> Result<String, AllocError> {
     match read_arguments(alloc, given) {
         Ok(job) => job_words(alloc, &job),
-        Err(ArgumentsFault::Refused) => Ok("refused".to_string(alloc)?),
-        Err(ArgumentsFault::Key(_)) => Ok("no key".to_string(alloc)?),
-        Err(ArgumentsFault::NoMemory) => Err(Fail::from("no memory")),
+        Err(ArgumentsFault::Refused) => "refused".to_string(alloc),
+        Err(ArgumentsFault::Key(_)) => "no key".to_string(alloc),
+        Err(ArgumentsFault::NoMemory) => "no memory".to_string(alloc),
     }
 }
 
 // The words of the job that a line of arguments asks for.
-fn asked(alloc: Global, line: &str) -> Result<String, Fail> {
+fn asked(alloc: Global, line: &str) -> Result<String, AllocError> {
     let given = arguments_of(alloc, line)?;
     words_of_arguments(alloc, given.as_slice())
 }
 
+fn told_of_arguments(alloc: Global, given: &[String]) -> Result<String, AllocError> {
+    let mut words = words_of_arguments(alloc, given)?;
+    if fault_in_words(alloc, given)?.is_some() {
+        words.push_str(", told")?;
+    }
+    Ok(words)
+}
+
+struct OfArguments;
+
+impl Teller for OfArguments {
+    fn told(alloc: Global, line: &str) -> Result<String, AllocError> {
+        let given = arguments_of(alloc, line)?;
+        told_of_arguments(alloc, given.as_slice())
+    }
+}
+
 #[test]
 fn jobs_of_arguments(rt: HostRuntime) -> Result<(), Fail> {
-    for example in commands().lines() {
-        let (line, want) = example.split_once(" => ").unwrap_or((example, ""));
-        let words = asked(rt.alloc(), line)?;
-        assert_eq!(rt; words.as_str(), want, "at {line}");
-    }
-    Ok(())
-}
-
-#[test]
-fn arguments_that_are_refused(rt: HostRuntime) -> Result<(), Fail> {
-    for line in refused().lines() {
-        let words = asked(rt.alloc(), line)?;
-        assert_eq!(rt; words.as_str(), "refused", "at {line}");
-    }
-    Ok(())
-}
-
-// Whether something is said of the words of a line.
-fn is_told(alloc: Global, line: &str) -> Result<bool, Fail> {
-    let given = arguments_of(alloc, line)?;
-    Ok(fault_in_words(alloc, given.as_slice())?.is_some())
-}
-
-#[test]
-fn refused_arguments_are_told(rt: HostRuntime) -> Result<(), Fail> {
-    for line in refused().lines() {
-        let told = is_told(rt.alloc(), line)?;
-        assert!(rt; told, "at {line}");
-    }
-    for example in commands().lines() {
-        let (line, want) = example.split_once(" => ").unwrap_or((example, ""));
-        let told = is_told(rt.alloc(), line)?;
-        assert_eq!(rt; told, want == "refused", "at {line}");
-    }
+    assert_eq!(rt; wrong::<OfArguments>(rt.alloc(), commands())?.as_str(), "");
+    assert_eq!(rt; wrong::<OfArguments>(rt.alloc(), refused())?.as_str(), "");
     Ok(())
 }
 
@@ -218,22 +205,30 @@ fn a_key_with_a_space(rt: HostRuntime) -> Result<(), Fail> {
     Ok(())
 }
 
+// Arguments, and what the printed text begins with.
+fn printed() -> &'static str {
+    "mcgate --help => mcgate sends
+mcgate -h => mcgate sends
+mcgate help => mcgate sends
+mcgate help where => usage: mcgate where 
+mcgate help serve => usage: mcgate serve 
+mcgate cache -h => usage: mcgate cache 
+mcgate check --help => usage: mcgate check 
+mcgate replay --help => usage: mcgate replay 
+mcgate --version => mcgate 1⏎"
+}
+
+fn begins_so(alloc: Global, line: &str, front: &str) -> Result<bool, AllocError> {
+    let front = unfolded(alloc, front)?;
+    let text = asked(alloc, line)?;
+    Ok(text.as_str().starts_with(front.as_str()))
+}
+
 #[test]
 fn help_and_version(rt: HostRuntime) -> Result<(), Fail> {
-    let cases = [
-        ("mcgate --help", "mcgate sends"),
-        ("mcgate -h", "mcgate sends"),
-        ("mcgate help", "mcgate sends"),
-        ("mcgate help where", "usage: mcgate where "),
-        ("mcgate help serve", "usage: mcgate serve "),
-        ("mcgate cache -h", "usage: mcgate cache "),
-        ("mcgate check --help", "usage: mcgate check "),
-        ("mcgate replay --help", "usage: mcgate replay "),
-        ("mcgate --version", "mcgate 1\n"),
-    ];
-    for (line, front) in cases {
-        let text = asked(rt.alloc(), line)?;
-        assert!(rt; text.as_str().starts_with(front), "at {line}");
+    for example in printed().lines() {
+        let (line, front) = halves(example, " => ");
+        assert!(rt; begins_so(rt.alloc(), line, front)?, "at {line}");
     }
     Ok(())
 }
@@ -259,11 +254,11 @@ fn told_of_file(rt: &HostRuntime, path: &str) -> Result<String, Fail> {
     if let Some(failure) = failure {
         details.add_failure(rt.alloc(), path, &failure);
     }
-    joined(rt.alloc(), &details)
+    Ok(joined(rt.alloc(), &details)?)
 }
 
 // The lines of detail, one after the other.
-fn joined(alloc: Global, details: &Details) -> Result<String, Fail> {
+fn joined(alloc: Global, details: &Details) -> Result<String, AllocError> {
     let mut all = String::new(alloc);
     for line in details.lines() {
         all.push_str(line.as_str())?;
@@ -289,41 +284,238 @@ fn files_that_give_no_input(rt: HostRuntime) -> Result<(), Fail> {
     Ok(())
 }
 
+// Inputs and faults, and what is said of them. The large tree has three pools of 64, 63 and 67 slots, whose least common multiple is 270,144.
+fn table() -> &'static str {
+    r#"told of check: too large => mcgate: f has more than 16777216 bytes⏎
+told of replay: not UTF-8 => mcgate: f isn't UTF-8⏎
+told of replay: no memory => 
+told of check: {,} => mcgate: f:1:2: expected a name in double quotes or }, found ,⏎
+told of replay: {]⏎ => mcgate: f:1:2: expected a name in double quotes or }, found ]⏎
+refusal of check f: {"pools":{"A":{"servers":["a:1:16","b:1:16","c:1:16","d:1:16"]},"B":{"servers":["a:1:16","b:1:16","c:1:16","d:1:15"]},"C":{"servers":["a:1:16","b:1:16","c:1:16","d:1:16","e:1:3"]}},"route":{"type":"AllSyncRoute","children":["PoolRoute|A","PoolRoute|B","PoolRoute|C"]}} => mcgate: f: more than 262144 places; to change: pools whose sizes share divisors, such as 1,024 and 1,024 in place of 1,023 and 1,024⏎
+refusal of explain f: {"pools":{"A":{"servers":["a:1:16","b:1:16","c:1:16","d:1:16"]},"B":{"servers":["a:1:16","b:1:16","c:1:16","d:1:15"]},"C":{"servers":["a:1:16","b:1:16","c:1:16","d:1:16","e:1:3"]}},"route":{"type":"AllSyncRoute","children":["PoolRoute|A","PoolRoute|B","PoolRoute|C"]}} => 
+refusal of check f: {"pools":{},"route":"NullRoute"} => 
+refusal of check f: {} => 
+refusal of replay f: pool 1⏎ => 
+refusal of check f: not UTF-8 => 
+listening by InvalidInput: a => mcgate: cannot listen on a: no port: expected HOST:PORT⏎
+listening by AddrInUse: a:1 => mcgate: cannot listen on a:1: address in use⏎
+listening by OutOfMemory: a:1 => 
+end of replay: pool 1⏎ => 0 -⏎done 0 commands 0 calls 0 stale⏎
+end of replay: pool 0⏎ => 2 -⏎script: bad line 1⏎
+end of replay: too large => 2 -⏎input: too large⏎
+end of replay: not UTF-8 => 2 -⏎input: not UTF-8⏎
+end of replay: no memory => 3 memory: refused⏎
+end of replay: device => 3 device: failed⏎
+end of events: ⏎restart 1⏎ => 2 -⏎script: bad line 2⏎
+end of events: too large => 2 -⏎input: too large⏎
+end of events: device => 3 device: failed⏎
+configuration: {"pools":{},⏎"route":"NullRoute"}⏎ => a configuration
+configuration: {} => config: bad field pools⏎
+configuration: too large => input: too large⏎
+configuration: not UTF-8 => input: not UTF-8⏎
+bad line of replay: pool 1⏎⏎los 0 a⏎ => line 3: no event has this word: los
+bad line of check: pool 1⏎⏎los 0 a⏎ => 
+bad line of replay: pool 1⏎ => 
+bad line of replay: {}⏎ => 
+bad line of events: ⏎restart 1⏎ => line 2: no such server: 1
+stop by usage:  => 2 usage: mcgate check, replay, serve, cache or loopback⏎
+stop by no memory for arguments:  => 3 memory: refused⏎
+stop by OutOfMemory:  => 3 memory: refused⏎
+stop by StorageFull:  => 3 device: failed⏎
+stop by NotFound:  => 3 device: failed⏎
+stop by memory in a run:  => 3 memory: refused⏎
+stop by a writer:  => 3 device: failed⏎
+stop by calls:  => 3 calls: more than 18446744073709551615⏎"#
+}
+
+fn task_named(word: &str) -> Task {
+    match word {
+        "replay" => Task::Replay { any: false },
+        "explain" => Task::Check {
+            form: Form::Explained,
+        },
+        _ => Task::Check { form: Form::Lines },
+    }
+}
+
+// The input of this text, or a fault by its name.
+fn input_of(alloc: Global, text: &str) -> Result<String, InputFault> {
+    match text {
+        "too large" => Err(InputFault::TooLarge),
+        "not UTF-8" => Err(InputFault::NotUtf8),
+        "no memory" => Err(InputFault::NoMemory),
+        "device" => Err(InputFault::Device),
+        _ => match String::from_str(alloc, text) {
+            Ok(text) => Ok(text),
+            Err(_) => Err(InputFault::NoMemory),
+        },
+    }
+}
+
 // What is said of the input of a task, of which no line is bad.
-fn told_of_input(alloc: Global, task: Task, text: &str) -> Result<String, Fail> {
+fn told_of_input(alloc: Global, task: Task, text: &str) -> Result<String, AllocError> {
     let input = input_of(alloc, text);
     let mut details = Details::new(alloc);
     details.add_task(alloc, task, "f", &input, None);
     joined(alloc, &details)
 }
 
-#[test]
-fn inputs_that_are_told(rt: HostRuntime) -> Result<(), Fail> {
-    let replay = Task::Replay { any: false };
-    let check = Task::Check { form: Form::Lines };
-    let cases = [
-        (
-            check,
-            "too large",
-            "mcgate: f has more than 16777216 bytes\n",
-        ),
-        (replay, "not UTF-8", "mcgate: f isn't UTF-8\n"),
-        (replay, "no memory", ""),
-        (
-            check,
-            "{,}",
-            "mcgate: f:1:2: expected a name in double quotes or }, found ,\n",
-        ),
-        (
-            replay,
-            "{]\n",
-            "mcgate: f:1:2: expected a name in double quotes or }, found ]\n",
-        ),
-    ];
-    for (task, text, want) in cases {
-        let told = told_of_input(rt.alloc(), task, text)?;
-        assert_eq!(rt; told.as_str(), want, "at {text}");
+fn file_of(name: &str) -> Option<&str> {
+    if name.is_empty() { None } else { Some(name) }
+}
+
+// What is said of the input of a task, whose tree the gate refuses.
+fn told_of_refusal(alloc: Global, line: &str, text: &str) -> Result<String, AllocError> {
+    let (task, file) = halves(line, " ");
+    let input = input_of(alloc, text);
+    let mut details = Details::new(alloc);
+    details.add_refused_task(alloc, task_named(task), file_of(file), &input);
+    joined(alloc, &details)
+}
+
+fn kind_named(word: &str) -> ErrorKind {
+    match word {
+        "InvalidInput" => ErrorKind::InvalidInput,
+        "AddrInUse" => ErrorKind::AddrInUse,
+        "OutOfMemory" => ErrorKind::OutOfMemory,
+        "StorageFull" => ErrorKind::StorageFull,
+        _ => ErrorKind::NotFound,
     }
+}
+
+// What is said of an address and an error of the system.
+fn told_of_address(alloc: Global, kind: ErrorKind, address: &str) -> Result<String, AllocError> {
+    let mut details = Details::new(alloc);
+    details.add_listen(alloc, address, &io::Error::from(kind));
+    joined(alloc, &details)
+}
+
+// The status, what is said on standard error, and what was printed.
+fn end_words(alloc: Global, end: End, out: &[u8]) -> Result<String, AllocError> {
+    let printed = str::from_utf8(out).unwrap_or("?");
+    let complaint = end.complaint.unwrap_or("-");
+    let mut words = format!(in alloc; "{} {complaint}\n", end.status)?;
+    words.push_str(printed)?;
+    Ok(words)
+}
+
+fn end_of_replay(alloc: Global, text: &str) -> Result<String, AllocError> {
+    let input = input_of(alloc, text);
+    let mut out = Vec::new(alloc);
+    let end = end_of(run_input(alloc, task_named("replay"), &input, &mut out));
+    end_words(alloc, end, out.as_slice())
+}
+
+fn end_of_events(alloc: Global, text: &str) -> Result<String, AllocError> {
+    let config = Config::of_pool(alloc, 1)?;
+    let input = input_of(alloc, text);
+    let mut out = Vec::new(alloc);
+    let end = end_of(run_events(alloc, false, config, &input, &mut out));
+    end_words(alloc, end, out.as_slice())
+}
+
+fn told_of_end(alloc: Global, of: &str, text: &str) -> Result<String, AllocError> {
+    match of {
+        "replay" => end_of_replay(alloc, text),
+        _ => end_of_events(alloc, text),
+    }
+}
+
+fn stop_named(word: &str) -> Stop {
+    match word {
+        "usage" => Stop::from(ArgumentsFault::Refused),
+        "no memory for arguments" => Stop::from(ArgumentsFault::NoMemory),
+        "memory in a run" => Stop::from(RunFault::NoMemory),
+        "a writer" => Stop::from(RunFault::Writer),
+        "calls" => Stop::from(RunFault::TooManyCalls),
+        _ => Stop::from(io::Error::from(kind_named(word))),
+    }
+}
+
+// It is dropped here, where nothing else can end the function.
+fn config_word(config: Option<Config>) -> &'static str {
+    if config.is_some() {
+        "a configuration"
+    } else {
+        ""
+    }
+}
+
+fn reading_word(alloc: Global, text: &str, out: &mut Vec<u8>) -> &'static str {
+    let input = input_of(alloc, text);
+    match read_configuration(alloc, &input, out) {
+        Ok(config) => config_word(config),
+        Err(_) => "stopped",
+    }
+}
+
+// What is printed of an input that is to be a configuration, and whether it is one.
+fn told_of_configuration(alloc: Global, text: &str) -> Result<String, AllocError> {
+    let mut out = Vec::new(alloc);
+    let word = reading_word(alloc, text, &mut out);
+    out.extend_from_slice(word.as_bytes())?;
+    str::from_utf8(out.as_slice())
+        .unwrap_or("?")
+        .to_string(alloc)
+}
+
+// The words of a bad line on standard error; none where there is none.
+fn words_of(alloc: Global, found: Option<BadLine<'_>>) -> Result<String, AllocError> {
+    match found {
+        Some(bad) => format!(in alloc; "{bad}"),
+        None => Ok(String::new(alloc)),
+    }
+}
+
+fn words_of_task(alloc: Global, task: Task, text: &str) -> Result<String, AllocError> {
+    let input = input_of(alloc, text);
+    words_of(alloc, bad_line_of_task(alloc, task, &input)?)
+}
+
+fn words_of_events(alloc: Global, text: &str) -> Result<String, AllocError> {
+    let config = Config::of_pool(alloc, 1)?;
+    let input = input_of(alloc, text);
+    words_of(alloc, bad_line_of_events(alloc, config, &input)?)
+}
+
+fn told_of_bad_line(alloc: Global, of: &str, text: &str) -> Result<String, AllocError> {
+    match of {
+        "events" => words_of_events(alloc, text),
+        _ => words_of_task(alloc, task_named(of), text),
+    }
+}
+
+fn told_of(alloc: Global, question: &str, text: &str) -> Result<String, AllocError> {
+    if let Some((what, name)) = question.split_once(" by ") {
+        return match what {
+            "stop" => end_words(alloc, end_of(Err(stop_named(name))), b""),
+            _ => told_of_address(alloc, kind_named(name), text),
+        };
+    }
+    let (what, of) = halves(question, " of ");
+    match what {
+        "told" => told_of_input(alloc, task_named(of), text),
+        "refusal" => told_of_refusal(alloc, of, text),
+        "end" => told_of_end(alloc, of, text),
+        "bad line" => told_of_bad_line(alloc, of, text),
+        _ => told_of_configuration(alloc, text),
+    }
+}
+
+struct OfEnds;
+
+impl Teller for OfEnds {
+    fn told(alloc: Global, example: &str) -> Result<String, AllocError> {
+        let (question, folded) = halves(example, ": ");
+        let text = unfolded(alloc, folded)?;
+        let told = told_of(alloc, question, text.as_str())?;
+        told.as_str().replace(alloc, "\n", "⏎")
+    }
+}
+
+#[test]
+fn ends_and_what_is_said(rt: HostRuntime) -> Result<(), Fail> {
+    assert_eq!(rt; wrong::<OfEnds>(rt.alloc(), table())?.as_str(), "");
     Ok(())
 }
 
@@ -348,35 +540,8 @@ mcgate: standard input: deletes of these keys go by /route: MissFailoverRoute; t
 "
 }
 
-// A task by its word, and its file.
-fn task_of(line: &str) -> (Task, Option<&str>) {
-    match line.split_once(' ') {
-        Some((word, file)) => (task_named(word), Some(file)),
-        None => (task_named(line), None),
-    }
-}
-
-fn task_named(word: &str) -> Task {
-    match word {
-        "replay" => Task::Replay { any: false },
-        "explain" => Task::Check {
-            form: Form::Explained,
-        },
-        _ => Task::Check { form: Form::Lines },
-    }
-}
-
-// What is said of the input of a task, whose tree the gate refuses.
-fn told_of_refusal(alloc: Global, line: &str, text: &str) -> Result<String, Fail> {
-    let (task, file) = task_of(line);
-    let input = input_of(alloc, text);
-    let mut details = Details::new(alloc);
-    details.add_refused_task(alloc, task, file, &input);
-    joined(alloc, &details)
-}
-
-// The same of this route over the pools A and B; as a script's first line.
-fn told_of_route(alloc: Global, line: &str, route: &str) -> Result<String, Fail> {
+// What is said of a tree of this route over the pools A and B; as a script's first line.
+fn told_of_route(alloc: Global, line: &str, route: &str) -> Result<String, AllocError> {
     let text = format!(in alloc;
         "{{\"pools\":{{\"A\":{{\"servers\":[\"a:1\"]}},\"B\":{{\"servers\":[\"b:1\"]}}}},\"route\":{route}}}\n"
     )?;
@@ -387,267 +552,10 @@ fn told_of_route(alloc: Global, line: &str, route: &str) -> Result<String, Fail>
 fn trees_that_are_refused(rt: HostRuntime) -> Result<(), Fail> {
     let mut all = String::new(rt.alloc());
     for example in refused_trees().lines() {
-        let (line, route) = example.split_once(" => ").unwrap_or((example, ""));
+        let (line, route) = halves(example, " => ");
         let told = told_of_route(rt.alloc(), line, route)?;
         all.push_str(told.as_str())?;
     }
     assert_eq!(rt; all.as_str(), refusals());
     Ok(())
-}
-
-// Three pools of 64, 63 and 67 slots, whose least common multiple is 270,144.
-fn large_tree() -> &'static str {
-    r#"{"pools":{"A":{"servers":["a:1:16","b:1:16","c:1:16","d:1:16"]},"B":{"servers":["a:1:16","b:1:16","c:1:16","d:1:15"]},"C":{"servers":["a:1:16","b:1:16","c:1:16","d:1:16","e:1:3"]}},"route":{"type":"AllSyncRoute","children":["PoolRoute|A","PoolRoute|B","PoolRoute|C"]}}"#
-}
-
-#[test]
-fn refusals_of_one_line_or_none(rt: HostRuntime) -> Result<(), Fail> {
-    let cases = [
-        (
-            "check f",
-            large_tree(),
-            "mcgate: f: more than 262144 places; to change: pools whose sizes share divisors, such as 1,024 and 1,024 in place of 1,023 and 1,024\n",
-        ),
-        ("explain f", large_tree(), ""),
-        ("check f", "{\"pools\":{},\"route\":\"NullRoute\"}", ""),
-        ("check f", "{}", ""),
-        ("replay f", "pool 1\n", ""),
-        ("check f", "not UTF-8", ""),
-    ];
-    for (line, text, want) in cases {
-        let told = told_of_refusal(rt.alloc(), line, text)?;
-        assert_eq!(rt; told.as_str(), want, "at {line}");
-    }
-    Ok(())
-}
-
-// What is said of an address and an error of the system.
-fn told_of_address(alloc: Global, address: &str, kind: ErrorKind) -> Result<String, Fail> {
-    let mut details = Details::new(alloc);
-    details.add_listen(alloc, address, &io::Error::from(kind));
-    joined(alloc, &details)
-}
-
-#[test]
-fn addresses_that_are_told(rt: HostRuntime) -> Result<(), Fail> {
-    let cases = [
-        (
-            "a",
-            ErrorKind::InvalidInput,
-            "mcgate: cannot listen on a: no port: expected HOST:PORT\n",
-        ),
-        (
-            "a:1",
-            ErrorKind::AddrInUse,
-            "mcgate: cannot listen on a:1: address in use\n",
-        ),
-        ("a:1", ErrorKind::OutOfMemory, ""),
-    ];
-    for (address, kind, want) in cases {
-        let told = told_of_address(rt.alloc(), address, kind)?;
-        assert_eq!(rt; told.as_str(), want, "at {address}");
-    }
-    Ok(())
-}
-
-// The input of this text, or a fault by its name.
-fn input_of(alloc: Global, text: &str) -> Result<String, InputFault> {
-    match text {
-        "too large" => Err(InputFault::TooLarge),
-        "not UTF-8" => Err(InputFault::NotUtf8),
-        "no memory" => Err(InputFault::NoMemory),
-        "device" => Err(InputFault::Device),
-        _ => match String::from_str(alloc, text) {
-            Ok(text) => Ok(text),
-            Err(_) => Err(InputFault::NoMemory),
-        },
-    }
-}
-
-// The status, what is said on standard error, and what was printed.
-fn end_words(alloc: Global, end: End, out: &[u8]) -> Result<String, Fail> {
-    let printed = str::from_utf8(out).unwrap_or("?");
-    let complaint = end.complaint.unwrap_or("-");
-    let mut words = format!(in alloc; "{} {complaint}\n", end.status)?;
-    words.push_str(printed)?;
-    Ok(words)
-}
-
-fn end_of_replay(alloc: Global, text: &str) -> Result<String, Fail> {
-    let input = input_of(alloc, text);
-    let mut out = Vec::new(alloc);
-    let end = end_of(run_input(alloc, Task::Replay { any: false }, &input, &mut out));
-    end_words(alloc, end, out.as_slice())
-}
-
-#[test]
-fn ends_of_runs(rt: HostRuntime) -> Result<(), Fail> {
-    let cases = [
-        ("pool 1\n", "0 -\ndone 0 commands 0 calls 0 stale\n"),
-        ("pool 0\n", "2 -\nscript: bad line 1\n"),
-        ("too large", "2 -\ninput: too large\n"),
-        ("not UTF-8", "2 -\ninput: not UTF-8\n"),
-        ("no memory", "3 memory: refused\n"),
-        ("device", "3 device: failed\n"),
-    ];
-    for (text, want) in cases {
-        let words = end_of_replay(rt.alloc(), text)?;
-        assert_eq!(rt; words.as_str(), want, "at {text}");
-    }
-    Ok(())
-}
-
-fn end_of_events(alloc: Global, text: &str) -> Result<String, Fail> {
-    let config = Config::of_pool(alloc, 1)?;
-    let input = input_of(alloc, text);
-    let mut out = Vec::new(alloc);
-    let end = end_of(run_events(alloc, false, config, &input, &mut out));
-    end_words(alloc, end, out.as_slice())
-}
-
-#[test]
-fn events_of_an_input(rt: HostRuntime) -> Result<(), Fail> {
-    let cases = [
-        ("\nrestart 1\n", "2 -\nscript: bad line 2\n"),
-        ("too large", "2 -\ninput: too large\n"),
-        ("device", "3 device: failed\n"),
-    ];
-    for (text, want) in cases {
-        let words = end_of_events(rt.alloc(), text)?;
-        assert_eq!(rt; words.as_str(), want, "at {text}");
-    }
-    Ok(())
-}
-
-// Whether there is a configuration. It is dropped here, where nothing else can end the function.
-fn is_there(config: Option<Config>) -> bool {
-    config.is_some()
-}
-
-fn is_read(alloc: Global, text: &str, out: &mut Vec<u8>) -> Result<bool, Fail> {
-    let input = input_of(alloc, text);
-    match read_configuration(alloc, &input, out) {
-        Ok(config) => Ok(is_there(config)),
-        Err(_) => Err(Fail::from("stopped")),
-    }
-}
-
-// What is printed of an input that is to be a configuration; nothing of one.
-fn configured(alloc: Global, text: &str) -> Result<Vec<u8>, Fail> {
-    let mut out = Vec::new(alloc);
-    if is_read(alloc, text, &mut out)? {
-        out.extend_from_slice(b"a configuration".as_slice())?;
-    }
-    Ok(out)
-}
-
-#[test]
-fn inputs_that_are_to_be_a_configuration(rt: HostRuntime) -> Result<(), Fail> {
-    let cases = [
-        (
-            "{\"pools\":{},\n\"route\":\"NullRoute\"}\n",
-            "a configuration",
-        ),
-        ("{}", "config: bad field pools\n"),
-        ("too large", "input: too large\n"),
-        ("not UTF-8", "input: not UTF-8\n"),
-    ];
-    for (text, want) in cases {
-        let printed = configured(rt.alloc(), text)?;
-        assert_eq!(rt; printed.as_slice(), want.as_bytes(), "at {text}");
-    }
-    Ok(())
-}
-
-// The words of a bad line on standard error; none where there is none.
-fn words_of(alloc: Global, found: Option<BadLine<'_>>) -> Result<String, Fail> {
-    match found {
-        Some(bad) => Ok(format!(in alloc; "{bad}")?),
-        None => Ok(String::new(alloc)),
-    }
-}
-
-// The same of a task and its input.
-fn words_of_task(alloc: Global, task: Task, text: &str) -> Result<String, Fail> {
-    let input = input_of(alloc, text);
-    words_of(alloc, bad_line_of_task(alloc, task, &input)?)
-}
-
-// The same of events over one server.
-fn words_of_events(alloc: Global, text: &str) -> Result<String, Fail> {
-    let config = Config::of_pool(alloc, 1)?;
-    let input = input_of(alloc, text);
-    words_of(alloc, bad_line_of_events(alloc, config, &input)?)
-}
-
-#[test]
-fn words_of_a_bad_line(rt: HostRuntime) -> Result<(), Fail> {
-    let replay = Task::Replay { any: false };
-    let check = Task::Check { form: Form::Lines };
-    let cases = [
-        (
-            replay,
-            "pool 1\n\nlos 0 a\n",
-            "line 3: no event has this word: los",
-        ),
-        (check, "pool 1\n\nlos 0 a\n", ""),
-        (replay, "pool 1\n", ""),
-        (replay, "{}\n", ""),
-    ];
-    for (task, text, want) in cases {
-        let words = words_of_task(rt.alloc(), task, text)?;
-        assert_eq!(rt; words.as_str(), want, "at {text}");
-    }
-    Ok(())
-}
-
-#[test]
-fn words_of_a_bad_event(rt: HostRuntime) -> Result<(), Fail> {
-    let words = words_of_events(rt.alloc(), "\nrestart 1\n")?;
-    assert_eq!(rt; words.as_str(), "line 2: no such server: 1");
-    Ok(())
-}
-
-#[test]
-fn ends_without_a_run(rt: HostRuntime) {
-    let usage = end_of(Err(Stop::from(ArgumentsFault::Refused)));
-    assert_eq!(rt; usage.status, 2);
-    assert_eq!(rt;
-        usage.complaint,
-        Some("usage: mcgate check, replay, serve, cache or loopback")
-    );
-    let memory = end_of(Err(Stop::from(ArgumentsFault::NoMemory)));
-    assert_eq!(rt; memory.status, 3);
-    assert_eq!(rt; memory.complaint, Some("memory: refused"));
-}
-
-#[test]
-fn ends_by_a_fault(rt: HostRuntime) {
-    let kinds = [
-        (ErrorKind::OutOfMemory, Some("memory: refused")),
-        (ErrorKind::StorageFull, Some("device: failed")),
-        (ErrorKind::NotFound, Some("device: failed")),
-    ];
-    for (kind, want) in kinds {
-        let end = end_of(Err(Stop::from(io::Error::from(kind))));
-        assert_eq!(rt; end.status, 3);
-        assert_eq!(rt; end.complaint, want);
-    }
-}
-
-#[test]
-fn ends_of_runs_that_were_broken_off(rt: HostRuntime) {
-    let faults = [
-        (RunFault::NoMemory, Some("memory: refused")),
-        (RunFault::Writer, Some("device: failed")),
-        (
-            RunFault::TooManyCalls,
-            Some("calls: more than 18446744073709551615"),
-        ),
-    ];
-    for (fault, want) in faults {
-        let end = end_of(Err(Stop::from(fault)));
-        assert_eq!(rt; end.status, 3);
-        assert_eq!(rt; end.complaint, want);
-    }
 }

@@ -1,6 +1,7 @@
-//! Tests: the lines of scripts. In examples of one line `⏎` is a line end.
+//! The lines of scripts. In tables `⏎` is a line end.
 
-use examples_tables::tables::{expanded, same, sides, unfolded};
+use examples_tables::tables::{expanded, unfolded};
+use examples_tables::tellers::{Teller, halves, wrong};
 use mc_types::{Key, ServerId};
 use route_json::{Config, ConfigFault};
 use script_events::{Event, Loss, Manner, Output, Reload, Report};
@@ -17,58 +18,337 @@ use std::alloc::{AllocError, Global};
 use std::test::Fail;
 use text_words::escapes::Escaped;
 
-// The bytes that escapes mean; none where they are unreadable.
-fn unescaped(alloc: Global, text: &[u8]) -> Option<Vec<u8>> {
+// Texts, and the bytes that their escapes mean, as they are printed.
+fn escapes() -> &'static str {
+    r"escapes:  => 
+escapes: a b => a b
+escapes: \r\n\\ => \r\n\\
+escapes: \x00\x7f\xfF\xAb => \x00\x7f\xff\xab
+escapes: \\x41 => \\x41
+escapes: \ => unreadable
+escapes: a\ => unreadable
+escapes: \a => unreadable
+escapes: \R => unreadable
+escapes: \X41 => unreadable
+escapes: \x => unreadable
+escapes: \x4 => unreadable
+escapes: \x4g => unreadable
+escapes: \xg4 => unreadable"
+}
+
+// Lines, and the event that each means.
+fn events() -> &'static str {
+    r"event: > 63 get a\r\n => client 63 sends get a\r\n
+event: hold 1 \x61  => server 1 holds a: 
+event: fail 4294967295 after => call 4294967295 fails after
+event: + 63 get a\r\n => client 63 adds get a\r\n
+event: + 0  => client 0 adds 
+event: result 4294967295 => result at server 4294967295
+event: fail 1 junk => call 1 fails junk
+event: fail 1 before => call 1 fails before
+event: fail 7 cut 0 => call 7 fails cut 0
+event: fail 7 cut 04294967295 => call 7 fails cut 4294967295
+event: lose 0 a => now: server 0 loses a
+event: restart 2 => now: server 2 restarts
+event: at 4294967295 lose 0 a => at call 4294967295: server 0 loses a
+event: at 1 restart 2 => at call 1: server 2 restarts
+event: moment 9223372036854775807 => moment 9223372036854775807"
+}
+
+fn no_events() -> &'static str {
+    r"event: > 0 => no event
+event: > 64 a => no event
+event: >0 a => no event
+event: >  0 a => no event
+event: > 0 \q => no event
+event: hold 0 a => no event
+event: hold 0  x => no event
+event: hold 4294967296 a x => no event
+event: fail 0 before => no event
+event: fail 4294967296 before => no event
+event: fail 1 => no event
+event: fail 1 after  => no event
+event: fail 1 cut => no event
+event: fail 1 cut  => no event
+event: fail 1 cut 4294967296 => no event
+event: fail 1 cut 1  => no event
+event: fail 1 cut1 => no event
+event: fail 1 junk  => no event
+event: fail 0 junk => no event
+event: + => no event
+event: + 0 => no event
+event: + 64 a => no event
+event: +0 a => no event
+event: + 0 \q => no event
+event: result => no event
+event: result  => no event
+event: result 0  => no event
+event: result 4294967296 => no event
+event: Result 0 => no event
+event: lose 0 => no event
+event: lose 0 a b => no event
+event: restart => no event
+event: restart 0  => no event
+event: moment 9223372036854775808 => no event
+event: moment -1 => no event
+event: at 0 restart 0 => no event
+event: at 1 moment 5 => no event
+event: at 1 restart => no event
+event: reload {} => no event
+event:  restart 0 => no event
+event: Restart 0 => no event"
+}
+
+// Scripts, and how many servers each has and its configuration alone, the line of each event, and what is loaded where. The last ones
+// have an x for a bad line.
+fn scripts() -> &'static str {
+    r#"script: pool 1024⏎⏎# a comment⏎restart 1023⏎⏎moment 5 => 1024 servers, 1024 first; 2 events: 4 6
+script: pool 1 => 1 servers, 1 first; 0 events:
+script: pool 1⏎moment 5⏎reload {"pools":{"A":{"servers":["h:1","s0:1"]}},"route":"PoolRoute|A"}⏎restart 1 => 2 servers, 1 first; 2 events: 2 4; before event 1: s0:1 h:1
+script: over A and B "NullRoute"⏎x => bad line 2
+script: over A and B "ErrorRoute"⏎x => bad line 2
+script: over A and B "AllSyncRoute|Pool|A"⏎x => bad line 2
+script: over A and B {"type":"PrefixSelectorRoute","policies":{"a":"PoolRoute|A","ab":"PoolRoute|B"}}⏎x => bad line 2
+script: over A and B {"type":"PrefixSelectorRoute","policies":{"a":"PoolRoute|A","ab":"PoolRoute|B"},"wildcard":"PoolRoute|A"}⏎restart 1⏎x => bad line 3
+script: over A and B {"type":"PrefixSelectorRoute","policies":{"a":"PoolRoute|A","ab":"PoolRoute|B"},"wildcard":"PoolRoute|A"}⏎restart 2⏎x => bad line 2"#
+}
+
+fn bad_scripts() -> &'static str {
+    r#"script: [] => not JSON
+script: []⏎x => not JSON
+script:  => not JSON
+script: ⏎pool 1 => not JSON
+script: # a comment⏎pool 1 => not JSON
+script:  pool 1 => not JSON
+script: Pool 1 => not JSON
+script: {"pools":{}} => bad field route
+script: {"pools":{},⏎"route":"NullRoute"} => not JSON
+script: pool => bad line 1
+script: pool 0 => bad line 1
+script: pool 1025 => bad line 1
+script: pool  1 => bad line 1
+script: pool 1  => bad line 1
+script: pools 3 => bad line 1
+script: pool{}⏎x => bad line 1
+script: pool 1⏎x⏎y => bad line 2
+script: pool 1⏎⏎#⏎> 0 a⏎> 0 => bad line 5
+script: pool 1⏎restart 0⏎moment x⏎ => bad line 3
+script: pool 1⏎restart 1⏎moment x⏎ => bad line 2"#
+}
+
+// Events over two servers, and their lines or the bad one.
+fn scripts_of_events() -> &'static str {
+    r"events:  => lines
+events: restart 1 => lines 1
+events: # two⏎⏎restart 1⏎> 0 ⏎ => lines 3 4
+events: restart 2 => lines 1
+events: pool 2 => bad line 1
+events: {} => bad line 1
+events: ⏎x => bad line 2
+events: restart 1⏎restart 2⏎x => bad line 2"
+}
+
+fn told_of_escapes(alloc: Global, text: &[u8]) -> Result<String, AllocError> {
     match unescape(alloc, text) {
-        Ok(bytes) => Some(bytes),
-        Err(_) => None,
+        Ok(bytes) => format!(in alloc; "{}", Escaped(bytes.as_slice())),
+        Err(fault) => fault_told(alloc, fault, "unreadable"),
     }
 }
 
-fn means(alloc: Global, text: &[u8], want: &[u8]) -> bool {
-    match unescaped(alloc, text) {
-        Some(bytes) => bytes.as_slice() == want,
-        None => false,
+fn fault_told(alloc: Global, fault: LineFault, unreadable: &str) -> Result<String, AllocError> {
+    match fault {
+        LineFault::Unreadable => unreadable.to_string(alloc),
+        LineFault::NoMemory => "no memory".to_string(alloc),
+    }
+}
+
+fn loss_words(alloc: Global, loss: &Loss) -> Result<String, AllocError> {
+    match loss {
+        Loss::Item(server, key) => {
+            let key = Escaped(key.as_bytes());
+            format!(in alloc; "server {} loses {key}", server.number())
+        }
+        Loss::Restart(server) => format!(in alloc; "server {} restarts", server.number()),
+    }
+}
+
+fn manner_words(alloc: Global, manner: Manner) -> Result<String, AllocError> {
+    match manner {
+        Manner::Before => "before".to_string(alloc),
+        Manner::After => "after".to_string(alloc),
+        Manner::Junk => "junk".to_string(alloc),
+        Manner::Cut(count) => format!(in alloc; "cut {count}"),
+    }
+}
+
+fn hold_words(
+    alloc: Global,
+    server: ServerId,
+    key: &Key,
+    content: &[u8],
+) -> Result<String, AllocError> {
+    let mut words = format!(in alloc; "server {} holds ", server.number())?;
+    write!(&mut words, "{}: ", Escaped(key.as_bytes()))?;
+    write!(&mut words, "{}", Escaped(content))?;
+    Ok(words)
+}
+
+fn fail_words(alloc: Global, turn: u32, manner: Manner) -> Result<String, AllocError> {
+    let manner = manner_words(alloc, manner)?;
+    format!(in alloc; "call {turn} fails {manner}")
+}
+
+fn at_words(alloc: Global, turn: u32, loss: &Loss) -> Result<String, AllocError> {
+    let loss = loss_words(alloc, loss)?;
+    format!(in alloc; "at call {turn}: {loss}")
+}
+
+fn now_words(alloc: Global, loss: &Loss) -> Result<String, AllocError> {
+    let loss = loss_words(alloc, loss)?;
+    format!(in alloc; "now: {loss}")
+}
+
+fn sent_words(alloc: Global, client: u8, does: &str, bytes: &[u8]) -> Result<String, AllocError> {
+    let bytes = Escaped(bytes);
+    format!(in alloc; "client {client} {does} {bytes}")
+}
+
+fn event_words(alloc: Global, event: &Event) -> Result<String, AllocError> {
+    match event {
+        Event::Piece(client, bytes) => sent_words(alloc, *client, "sends", bytes.as_slice()),
+        Event::Add(client, bytes) => sent_words(alloc, *client, "adds", bytes.as_slice()),
+        Event::Result(server) => format!(in alloc; "result at server {}", server.number()),
+        Event::Hold(server, key, content) => hold_words(alloc, *server, key, content.as_slice()),
+        Event::Fail(turn, manner) => fail_words(alloc, *turn, *manner),
+        Event::At(turn, loss) => at_words(alloc, *turn, loss),
+        Event::Now(loss) => now_words(alloc, loss),
+        Event::Moment(moment) => format!(in alloc; "moment {moment}"),
+    }
+}
+
+fn told_of_line(alloc: Global, line: &[u8]) -> Result<String, AllocError> {
+    match read_event(alloc, line) {
+        Ok(event) => event_words(alloc, &event),
+        Err(fault) => fault_told(alloc, fault, "no event"),
+    }
+}
+
+fn push_reload(out: &mut String, reload: &Reload) -> Result<(), AllocError> {
+    write!(out, "; before event {}:", reload.at)?;
+    for number in 0..2 {
+        let address = reload.config.servers().get(ServerId::new(number));
+        write!(out, " {}", address.unwrap_or("none"))?;
+    }
+    Ok(())
+}
+
+fn push_lines(out: &mut String, read: &ConfiguredScript) -> Result<(), AllocError> {
+    for event in 0..read.lines.len() {
+        write!(out, " {}", read.line_of(event).unwrap_or(0))?;
+    }
+    Ok(())
+}
+
+fn push_script(out: &mut String, read: &ConfiguredScript) -> Result<(), AllocError> {
+    write!(out, "{} servers, ", read.server_count())?;
+    write!(out, "{} first; ", read.config.servers().len())?;
+    write!(out, "{} events:", read.script.events.len())?;
+    push_lines(out, read)?;
+    for reload in read.reloads.as_slice() {
+        push_reload(out, reload)?;
+    }
+    Ok(())
+}
+
+fn script_words(alloc: Global, read: &ConfiguredScript) -> Result<String, AllocError> {
+    let mut words = String::new(alloc);
+    push_script(&mut words, read)?;
+    Ok(words)
+}
+
+fn fault_words(alloc: Global, fault: &ScriptFault) -> Result<String, AllocError> {
+    match fault {
+        ScriptFault::Config(fault) => format!(in alloc; "{fault}"),
+        ScriptFault::BadLine(line) => format!(in alloc; "bad line {line}"),
+        ScriptFault::NoMemory => "no memory".to_string(alloc),
+    }
+}
+
+fn told_of_script(alloc: Global, text: &str) -> Result<String, AllocError> {
+    match read_script(alloc, text) {
+        Ok(read) => script_words(alloc, &read),
+        Err(fault) => fault_words(alloc, &fault),
+    }
+}
+
+fn told_of_expanded(alloc: Global, text: &str) -> Result<String, AllocError> {
+    let text = expanded(alloc, text)?;
+    told_of_script(alloc, text.as_str())
+}
+
+fn line_words(alloc: Global, read: &ConfiguredScript) -> Result<String, AllocError> {
+    let mut words = "lines".to_string(alloc)?;
+    push_lines(&mut words, read)?;
+    Ok(words)
+}
+
+fn read_over_two(alloc: Global, text: &str) -> Result<ConfiguredScript, ScriptFault> {
+    let config = Config::of_pool(alloc, 2)?;
+    read_events(alloc, config, text)
+}
+
+fn told_of_events(alloc: Global, text: &str) -> Result<String, AllocError> {
+    match read_over_two(alloc, text) {
+        Ok(read) => line_words(alloc, &read),
+        Err(fault) => fault_words(alloc, &fault),
+    }
+}
+
+fn told_of(alloc: Global, question: &str, text: &str) -> Result<String, AllocError> {
+    match question {
+        "escapes" => told_of_escapes(alloc, text.as_bytes()),
+        "event" => told_of_line(alloc, text.as_bytes()),
+        "script" => told_of_expanded(alloc, text),
+        _ => told_of_events(alloc, text),
+    }
+}
+
+struct OfTexts;
+
+impl Teller for OfTexts {
+    fn told(alloc: Global, example: &str) -> Result<String, AllocError> {
+        let (question, folded) = halves(example, ": ");
+        let text = unfolded(alloc, folded)?;
+        told_of(alloc, question, text.as_str())
     }
 }
 
 #[test]
-fn escapes_that_are_read(rt: HostRuntime) {
+fn texts_of_scripts(rt: HostRuntime) -> Result<(), Fail> {
     escapes_are_read_back();
-    let cases = [
-        (b"".as_slice(), b"".as_slice()),
-        (b"a b".as_slice(), b"a b".as_slice()),
-        (b"\\r\\n\\\\".as_slice(), b"\r\n\\".as_slice()),
-        (
-            b"\\x00\\x7f\\xfF\\xAb".as_slice(),
-            b"\x00\x7f\xff\xab".as_slice(),
-        ),
-        (b"\xc3\xa9\r\t".as_slice(), b"\xc3\xa9\r\t".as_slice()),
-        (b"\\\\x41".as_slice(), b"\\x41".as_slice()),
-    ];
-    for (text, want) in cases {
-        assert!(rt; means(rt.alloc(), text, want), "at {}", Escaped(text));
+    for table in [
+        escapes(),
+        events(),
+        no_events(),
+        scripts(),
+        bad_scripts(),
+        scripts_of_events(),
+    ] {
+        assert_eq!(rt; wrong::<OfTexts>(rt.alloc(), table)?.as_str(), "");
     }
+    Ok(())
 }
 
-fn bad_escapes() -> &'static str {
-    r"\
-a\
-\a
-\R
-\X41
-\x
-\x4
-\x4g
-\xg4"
-}
-
+// What the end of a line doesn't end.
 #[test]
-fn escapes_that_are_none(rt: HostRuntime) {
-    for text in bad_escapes().lines() {
-        let read = unescape(rt.alloc(), text.as_bytes());
-        assert!(rt; matches!(read, Err(LineFault::Unreadable)), "at {text}");
-    }
+fn returns_and_tabs(rt: HostRuntime) -> Result<(), Fail> {
+    let told = told_of_escapes(rt.alloc(), b"\xc3\xa9\r\t")?;
+    assert_eq!(rt; told.as_str(), r"\xc3\xa9\r\x09");
+    let told = told_of_line(rt.alloc(), b"restart 0\r")?;
+    assert_eq!(rt; told.as_str(), "no event");
+    let told = told_of_script(rt.alloc(), "pool 1\r\n")?;
+    assert_eq!(rt; told.as_str(), "bad line 1");
+    Ok(())
 }
 
 #[test]
@@ -94,279 +374,6 @@ fn first_line_of_a_text(rt: HostRuntime) -> Result<(), Fail> {
     assert_eq!(rt; rest, "\nb");
     assert!(rt; front_of(rest).line.is_empty());
     assert!(rt; front_of("b").rest.is_none());
-    Ok(())
-}
-
-// Lines, and the event that each means.
-fn events() -> &'static str {
-    r"> 63 get a\r\n => client 63 sends get a\r\n
-hold 1 \x61  => server 1 holds a: 
-fail 4294967295 after => call 4294967295 fails after
-+ 63 get a\r\n => client 63 adds get a\r\n
-+ 0  => client 0 adds 
-result 4294967295 => result at server 4294967295
-fail 1 junk => call 1 fails junk
-fail 1 before => call 1 fails before
-fail 7 cut 0 => call 7 fails cut 0
-fail 7 cut 04294967295 => call 7 fails cut 4294967295
-lose 0 a => now: server 0 loses a
-restart 2 => now: server 2 restarts
-at 4294967295 lose 0 a => at call 4294967295: server 0 loses a
-at 1 restart 2 => at call 1: server 2 restarts
-moment 9223372036854775807 => moment 9223372036854775807"
-}
-
-fn loss_words(alloc: Global, loss: &Loss) -> Result<String, Fail> {
-    match loss {
-        Loss::Item(server, key) => {
-            let key = Escaped(key.as_bytes());
-            Ok(format!(in alloc; "server {} loses {key}", server.number())?)
-        }
-        Loss::Restart(server) => Ok(format!(in alloc; "server {} restarts", server.number())?),
-    }
-}
-
-fn manner_words(alloc: Global, manner: Manner) -> Result<String, Fail> {
-    match manner {
-        Manner::Before => Ok(String::from_str(alloc, "before")?),
-        Manner::After => Ok(String::from_str(alloc, "after")?),
-        Manner::Junk => Ok(String::from_str(alloc, "junk")?),
-        Manner::Cut(count) => Ok(format!(in alloc; "cut {count}")?),
-    }
-}
-
-fn hold_words(alloc: Global, server: ServerId, key: &Key, content: &[u8]) -> Result<String, Fail> {
-    let mut words = format!(in alloc; "server {} holds ", server.number())?;
-    write!(&mut words, "{}: ", Escaped(key.as_bytes()))?;
-    write!(&mut words, "{}", Escaped(content))?;
-    Ok(words)
-}
-
-fn fail_words(alloc: Global, turn: u32, manner: Manner) -> Result<String, Fail> {
-    let manner = manner_words(alloc, manner)?;
-    Ok(format!(in alloc; "call {turn} fails {manner}")?)
-}
-
-fn at_words(alloc: Global, turn: u32, loss: &Loss) -> Result<String, Fail> {
-    let loss = loss_words(alloc, loss)?;
-    Ok(format!(in alloc; "at call {turn}: {loss}")?)
-}
-
-fn now_words(alloc: Global, loss: &Loss) -> Result<String, Fail> {
-    let loss = loss_words(alloc, loss)?;
-    Ok(format!(in alloc; "now: {loss}")?)
-}
-
-fn sent_words(alloc: Global, client: u8, does: &str, bytes: &[u8]) -> Result<String, Fail> {
-    let bytes = Escaped(bytes);
-    Ok(format!(in alloc; "client {client} {does} {bytes}")?)
-}
-
-fn event_words(alloc: Global, event: &Event) -> Result<String, Fail> {
-    match event {
-        Event::Piece(client, bytes) => sent_words(alloc, *client, "sends", bytes.as_slice()),
-        Event::Add(client, bytes) => sent_words(alloc, *client, "adds", bytes.as_slice()),
-        Event::Result(server) => Ok(format!(in alloc; "result at server {}", server.number())?),
-        Event::Hold(server, key, content) => hold_words(alloc, *server, key, content.as_slice()),
-        Event::Fail(turn, manner) => fail_words(alloc, *turn, *manner),
-        Event::At(turn, loss) => at_words(alloc, *turn, loss),
-        Event::Now(loss) => now_words(alloc, loss),
-        Event::Moment(moment) => Ok(format!(in alloc; "moment {moment}")?),
-    }
-}
-
-// The words of the event that a line means.
-fn words_of_line(alloc: Global, line: &[u8]) -> Result<String, Fail> {
-    match read_event(alloc, line) {
-        Ok(event) => event_words(alloc, &event),
-        Err(_) => Err(Fail::from("no event")),
-    }
-}
-
-fn event_holds(alloc: Global, example: &str) -> Result<(), Fail> {
-    let (line, want) = sides(example);
-    let words = words_of_line(alloc, line.as_bytes())?;
-    same(line, words.as_str(), want)
-}
-
-#[test]
-fn events_that_are_read(rt: HostRuntime) -> Result<(), Fail> {
-    for example in events().lines() {
-        event_holds(rt.alloc(), example)?;
-    }
-    Ok(())
-}
-
-fn no_events() -> &'static str {
-    r"> 0
-> 64 a
->0 a
->  0 a
-> 0 \q
-hold 0 a
-hold 0  x
-hold 4294967296 a x
-fail 0 before
-fail 4294967296 before
-fail 1
-fail 1 after 
-fail 1 cut
-fail 1 cut 
-fail 1 cut 4294967296
-fail 1 cut 1 
-fail 1 cut1
-fail 1 junk 
-fail 0 junk
-+
-+ 0
-+ 64 a
-+0 a
-+ 0 \q
-result
-result 
-result 0 
-result 4294967296
-Result 0
-lose 0
-lose 0 a b
-restart
-restart 0 
-moment 9223372036854775808
-moment -1
-at 0 restart 0
-at 1 moment 5
-at 1 restart
-reload {}
- restart 0
-Restart 0"
-}
-
-fn is_no_event(alloc: Global, line: &[u8]) -> bool {
-    matches!(read_event(alloc, line), Err(LineFault::Unreadable))
-}
-
-#[test]
-fn lines_that_are_no_event(rt: HostRuntime) {
-    for line in no_events().lines() {
-        assert!(rt; is_no_event(rt.alloc(), line.as_bytes()), "at {line}");
-    }
-    assert!(rt; is_no_event(rt.alloc(), b"restart 0\r".as_slice()));
-}
-
-// Scripts, and how many servers each has and its configuration alone, the line of each event, and what is loaded where. The last ones
-// have an x for a bad line.
-fn scripts() -> &'static str {
-    r#"pool 1024⏎⏎# a comment⏎restart 1023⏎⏎moment 5 => 1024 servers, 1024 first; 2 events: 4 6
-pool 1 => 1 servers, 1 first; 0 events:
-pool 1⏎moment 5⏎reload {"pools":{"A":{"servers":["h:1","s0:1"]}},"route":"PoolRoute|A"}⏎restart 1 => 2 servers, 1 first; 2 events: 2 4; before event 1: s0:1 h:1
-over A and B "NullRoute"⏎x => bad line 2
-over A and B "ErrorRoute"⏎x => bad line 2
-over A and B "AllSyncRoute|Pool|A"⏎x => bad line 2
-over A and B {"type":"PrefixSelectorRoute","policies":{"a":"PoolRoute|A","ab":"PoolRoute|B"}}⏎x => bad line 2
-over A and B {"type":"PrefixSelectorRoute","policies":{"a":"PoolRoute|A","ab":"PoolRoute|B"},"wildcard":"PoolRoute|A"}⏎restart 1⏎x => bad line 3
-over A and B {"type":"PrefixSelectorRoute","policies":{"a":"PoolRoute|A","ab":"PoolRoute|B"},"wildcard":"PoolRoute|A"}⏎restart 2⏎x => bad line 2"#
-}
-
-fn bad_scripts() -> &'static str {
-    r#"[] => not JSON
-[]⏎x => not JSON
- => not JSON
-⏎pool 1 => not JSON
-# a comment⏎pool 1 => not JSON
- pool 1 => not JSON
-Pool 1 => not JSON
-{"pools":{}} => bad field route
-{"pools":{},⏎"route":"NullRoute"} => not JSON
-pool => bad line 1
-pool 0 => bad line 1
-pool 1025 => bad line 1
-pool  1 => bad line 1
-pool 1  => bad line 1
-pools 3 => bad line 1
-pool{}⏎x => bad line 1
-pool 1⏎x⏎y => bad line 2
-pool 1⏎⏎#⏎> 0 a⏎> 0 => bad line 5
-pool 1⏎restart 0⏎moment x⏎ => bad line 3
-pool 1⏎restart 1⏎moment x⏎ => bad line 2"#
-}
-
-fn push_reload(out: &mut String, reload: &Reload) -> Result<(), Fail> {
-    write!(out, "; before event {}:", reload.at)?;
-    for number in 0..2 {
-        let address = reload.config.servers().get(ServerId::new(number));
-        write!(out, " {}", address.unwrap_or("none"))?;
-    }
-    Ok(())
-}
-
-fn push_lines(out: &mut String, read: &ConfiguredScript) -> Result<(), Fail> {
-    for event in 0..read.lines.len() {
-        write!(out, " {}", read.line_of(event).unwrap_or(0))?;
-    }
-    Ok(())
-}
-
-fn push_script(out: &mut String, read: &ConfiguredScript) -> Result<(), Fail> {
-    write!(out, "{} servers, ", read.server_count())?;
-    write!(out, "{} first; ", read.config.servers().len())?;
-    write!(out, "{} events:", read.script.events.len())?;
-    push_lines(out, read)?;
-    for reload in read.reloads.as_slice() {
-        push_reload(out, reload)?;
-    }
-    Ok(())
-}
-
-fn fault_words(alloc: Global, fault: &ScriptFault) -> Result<String, Fail> {
-    match fault {
-        ScriptFault::Config(fault) => Ok(format!(in alloc; "{fault}")?),
-        ScriptFault::BadLine(line) => Ok(format!(in alloc; "bad line {line}")?),
-        ScriptFault::NoMemory => Err(Fail::from("no memory")),
-    }
-}
-
-fn script_words(alloc: Global, read: &ConfiguredScript) -> Result<String, Fail> {
-    let mut words = String::new(alloc);
-    push_script(&mut words, read)?;
-    Ok(words)
-}
-
-fn words_of_script(alloc: Global, text: &str) -> Result<String, Fail> {
-    match read_script(alloc, text) {
-        Ok(read) => script_words(alloc, &read),
-        Err(fault) => fault_words(alloc, &fault),
-    }
-}
-
-fn words_of_folded(alloc: Global, text: &str) -> Result<String, Fail> {
-    let text = unfolded(alloc, text)?;
-    let text = expanded(alloc, text.as_str())?;
-    words_of_script(alloc, text.as_str())
-}
-
-fn script_holds(alloc: Global, example: &str) -> Result<(), Fail> {
-    let (text, want) = sides(example);
-    let words = words_of_folded(alloc, text)?;
-    same(text, words.as_str(), want)
-}
-
-fn all_are_read(alloc: Global, examples: &str) -> Result<(), Fail> {
-    for example in examples.lines() {
-        script_holds(alloc, example)?;
-    }
-    Ok(())
-}
-
-#[test]
-fn scripts_that_are_read(rt: HostRuntime) -> Result<(), Fail> {
-    all_are_read(rt.alloc(), scripts())
-}
-
-#[test]
-fn scripts_with_a_bad_line(rt: HostRuntime) -> Result<(), Fail> {
-    all_are_read(rt.alloc(), bad_scripts())?;
-    let words = words_of_script(rt.alloc(), "pool 1\r\n")?;
-    assert_eq!(rt; words.as_str(), "bad line 1");
     Ok(())
 }
 
@@ -401,57 +408,8 @@ fn servers_of_scripts(rt: HostRuntime) -> Result<(), Fail> {
 fn a_configuration_before_a_space(rt: HostRuntime) -> Result<(), Fail> {
     let mut text = configuration(rt.alloc())?;
     text.push_str(" \r\nrestart 1\n")?;
-    let words = words_of_script(rt.alloc(), text.as_str())?;
+    let words = told_of_script(rt.alloc(), text.as_str())?;
     assert_eq!(rt; words.as_str(), "2 servers, 2 first; 1 events: 2");
-    Ok(())
-}
-
-// Events over two servers, and their lines or the bad one.
-fn scripts_of_events() -> &'static str {
-    r" => lines
-restart 1 => lines 1
-# two⏎⏎restart 1⏎> 0 ⏎ => lines 3 4
-restart 2 => lines 1
-pool 2 => bad line 1
-{} => bad line 1
-⏎x => bad line 2
-restart 1⏎restart 2⏎x => bad line 2"
-}
-
-fn line_words(alloc: Global, read: &ConfiguredScript) -> Result<String, Fail> {
-    let mut words = String::from_str(alloc, "lines")?;
-    push_lines(&mut words, read)?;
-    Ok(words)
-}
-
-fn read_over_two(alloc: Global, text: &str) -> Result<ConfiguredScript, ScriptFault> {
-    let config = Config::of_pool(alloc, 2)?;
-    read_events(alloc, config, text)
-}
-
-fn words_over_two(alloc: Global, text: &str) -> Result<String, Fail> {
-    match read_over_two(alloc, text) {
-        Ok(read) => line_words(alloc, &read),
-        Err(fault) => fault_words(alloc, &fault),
-    }
-}
-
-fn words_of_folded_events(alloc: Global, text: &str) -> Result<String, Fail> {
-    let text = unfolded(alloc, text)?;
-    words_over_two(alloc, text.as_str())
-}
-
-fn events_hold(alloc: Global, example: &str) -> Result<(), Fail> {
-    let (text, want) = sides(example);
-    let words = words_of_folded_events(alloc, text)?;
-    same(text, words.as_str(), want)
-}
-
-#[test]
-fn scripts_of_events_alone(rt: HostRuntime) -> Result<(), Fail> {
-    for example in scripts_of_events().lines() {
-        events_hold(rt.alloc(), example)?;
-    }
     Ok(())
 }
 

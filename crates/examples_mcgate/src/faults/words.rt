@@ -1,8 +1,77 @@
-//! Tests: words and what is wrong with them, names that are near, addresses that are none.
+//! Words and what is wrong with them, names that are near, addresses that are none.
 
+use crate::faults::OfFaults;
+use examples_tables::tellers::wrong;
 use fault_words::{address_trouble, fault_in_words, key_fault_in_words, nearest};
 use std::alloc::{AllocError, Global};
 use std::test::Fail;
+
+fn faults() -> &'static str {
+    "words: mcgate chek => mcgate: unknown command chek; did you mean check?
+words: mcgate serv => mcgate: unknown command serv; did you mean serve?
+words: mcgate play => mcgate: unknown command play; did you mean replay?
+words: mcgate flush => mcgate: unknown command flush
+words: mcgate --any => mcgate: --any stands after a command
+words: mcgate --verson => mcgate: unknown flag --verson; did you mean --version?
+words: mcgate -x => mcgate: unknown flag -x
+words: mcgate help chek => mcgate help: unknown command chek; did you mean check?
+words: mcgate help check serve => mcgate help: one word too many: serve
+words: mcgate check f g => mcgate check: one word too many: g
+words: mcgate check --any => mcgate check: unknown flag --any
+words: mcgate check --explain --dot => mcgate check: --explain and --dot don't go together
+words: mcgate check --explian => mcgate check: unknown flag --explian; did you mean --explain?
+words: mcgate replay --any --any => mcgate replay: --any stands there twice
+words: mcgate replay --any=yes => mcgate replay: --any takes no value
+words: mcgate replay --config => mcgate replay: --config wants the name of a file after it
+words: mcgate replay --config --any => mcgate replay: --config wants the name of a file after it
+words: mcgate where k => mcgate where: --config FILE is missing
+words: mcgate where --config c => mcgate where: a KEY is missing
+words: mcgate serve --config c => mcgate serve: --listen HOST:PORT is missing
+words: mcgate serve --listen a:1 => mcgate serve: --config FILE is missing
+words: mcgate serve --config c --listen a:1 --clients 0 => mcgate serve: --clients 0: expected a number in 1..=4294967295
+words: mcgate serve --config c --listen a:1 --call-ms abc => mcgate serve: --call-ms abc: expected a number in 1..=4294967295
+words: mcgate serve --config c --listen a:1 --call-ms=-1 => mcgate serve: --call-ms -1: expected a number in 1..=4294967295
+words: mcgate serve --config c --listen a:1 --call-ms -1 => mcgate serve: --call-ms -1: expected a number in 1..=4294967295
+words: mcgate serve --config c --listen a:1 --client 10 => mcgate serve: unknown flag --client; did you mean --clients?
+words: mcgate serve --client=10 => mcgate serve: unknown flag --client=10; did you mean --clients?
+words: mcgate serve --config c --listen a:1 --server-dialect met => mcgate serve: --server-dialect met: expected auto, classic or meta; did you mean meta?
+words: mcgate serve f => mcgate serve: one word too many: f
+words: mcgate cache --listen a:1 => mcgate cache: --capacity N is missing
+words: mcgate cache --listen a:1 --capacity 4294967296 => mcgate cache: --capacity 4294967296: expected a number in 1..=4294967295
+words: mcgate loopback --any => mcgate loopback: unknown flag --any
+words: mcgate replay -- --any f => mcgate replay: one word too many: f
+words: mcgate  => mcgate: unknown command 
+words: mcgate replay f --config c --any => 
+words: mcgate check - => 
+words: mcgate serve --any --listen=a:1 --config c --reload-ms 5 => 
+words: mcgate -h => "
+}
+
+// Words of which one is no key.
+fn no_keys() -> &'static str {
+    "key words: mcgate where --config c  => mcgate where: \"\" is no key: it is empty
+key words: mcgate where a\tb --config c => mcgate where: \"a\\x09b\" is no key: it has a space or a control character
+key words: mcgate where a --config c b => "
+}
+
+// Words, and which of check, replay, PoolRoute and A is near to each.
+fn near() -> &'static str {
+    "near: chek => check
+near: rep => replay
+near: Poolroute => PoolRoute
+near: B => none
+near: nothing => none"
+}
+
+fn addresses() -> &'static str {
+    "address: localhost => no port: expected HOST:PORT
+address: :11211 => no host: expected HOST:PORT
+address: a:99999 => port 99999 is above 65535
+address: a:x => x is no port: expected 0 to 65535
+address: ::1:11211 => a host with colons stands in brackets: [::1]
+address: [::1]:11211 => 
+address: 127.0.0.1:0 => "
+}
 
 // Words between spaces.
 fn words_of(alloc: Global, line: &str) -> Result<Vec<String>, AllocError> {
@@ -13,129 +82,39 @@ fn words_of(alloc: Global, line: &str) -> Result<Vec<String>, AllocError> {
     Ok(words)
 }
 
-// What is said of the words of a line.
-fn said(alloc: Global, line: &str) -> Result<String, Fail> {
+pub fn told_of_words(alloc: Global, line: &str) -> Result<String, AllocError> {
     let words = words_of(alloc, line)?;
     match fault_in_words(alloc, words.as_slice())? {
         None => Ok(String::new(alloc)),
-        Some(fault) => Ok(format!(in alloc; "{fault}")?),
+        Some(fault) => format!(in alloc; "{fault}"),
     }
 }
 
-fn faults() -> &'static str {
-    "mcgate chek => mcgate: unknown command chek; did you mean check?
-mcgate serv => mcgate: unknown command serv; did you mean serve?
-mcgate play => mcgate: unknown command play; did you mean replay?
-mcgate flush => mcgate: unknown command flush
-mcgate --any => mcgate: --any stands after a command
-mcgate --verson => mcgate: unknown flag --verson; did you mean --version?
-mcgate -x => mcgate: unknown flag -x
-mcgate help chek => mcgate help: unknown command chek; did you mean check?
-mcgate help check serve => mcgate help: one word too many: serve
-mcgate check f g => mcgate check: one word too many: g
-mcgate check --any => mcgate check: unknown flag --any
-mcgate check --explain --dot => mcgate check: --explain and --dot don't go together
-mcgate check --explian => mcgate check: unknown flag --explian; did you mean --explain?
-mcgate replay --any --any => mcgate replay: --any stands there twice
-mcgate replay --any=yes => mcgate replay: --any takes no value
-mcgate replay --config => mcgate replay: --config wants the name of a file after it
-mcgate replay --config --any => mcgate replay: --config wants the name of a file after it
-mcgate where k => mcgate where: --config FILE is missing
-mcgate where --config c => mcgate where: a KEY is missing
-mcgate serve --config c => mcgate serve: --listen HOST:PORT is missing
-mcgate serve --listen a:1 => mcgate serve: --config FILE is missing
-mcgate serve --config c --listen a:1 --clients 0 => mcgate serve: --clients 0: expected a number in 1..=4294967295
-mcgate serve --config c --listen a:1 --call-ms abc => mcgate serve: --call-ms abc: expected a number in 1..=4294967295
-mcgate serve --config c --listen a:1 --call-ms=-1 => mcgate serve: --call-ms -1: expected a number in 1..=4294967295
-mcgate serve --config c --listen a:1 --call-ms -1 => mcgate serve: --call-ms -1: expected a number in 1..=4294967295
-mcgate serve --config c --listen a:1 --client 10 => mcgate serve: unknown flag --client; did you mean --clients?
-mcgate serve --client=10 => mcgate serve: unknown flag --client=10; did you mean --clients?
-mcgate serve --config c --listen a:1 --server-dialect met => mcgate serve: --server-dialect met: expected auto, classic or meta; did you mean meta?
-mcgate serve f => mcgate serve: one word too many: f
-mcgate cache --listen a:1 => mcgate cache: --capacity N is missing
-mcgate cache --listen a:1 --capacity 4294967296 => mcgate cache: --capacity 4294967296: expected a number in 1..=4294967295
-mcgate loopback --any => mcgate loopback: unknown flag --any
-mcgate replay -- --any f => mcgate replay: one word too many: f
-mcgate  => mcgate: unknown command 
-mcgate replay f --config c --any => 
-mcgate check - => 
-mcgate serve --any --listen=a:1 --config c --reload-ms 5 => 
-mcgate -h => "
+pub fn told_of_keys(alloc: Global, line: &str) -> Result<String, AllocError> {
+    let words = words_of(alloc, line)?;
+    match key_fault_in_words(words.as_slice()) {
+        None => Ok(String::new(alloc)),
+        Some(fault) => format!(in alloc; "{fault}"),
+    }
+}
+
+pub fn told_of_name(alloc: Global, word: &str) -> Result<String, AllocError> {
+    let names = ["check", "replay", "PoolRoute", "A"];
+    let found = nearest(alloc, word, names.as_slice())?;
+    found.unwrap_or("none").to_string(alloc)
+}
+
+pub fn told_of_address(alloc: Global, text: &str) -> Result<String, AllocError> {
+    match address_trouble(text) {
+        None => Ok(String::new(alloc)),
+        Some(trouble) => format!(in alloc; "{trouble}"),
+    }
 }
 
 #[test]
 fn faults_of_words(rt: HostRuntime) -> Result<(), Fail> {
-    for example in faults().lines() {
-        let (line, want) = example.split_once(" => ").unwrap_or((example, ""));
-        let words = said(rt.alloc(), line)?;
-        assert_eq!(rt; words.as_str(), want, "at {line}");
-    }
-    Ok(())
-}
-
-// What is said of the words of a line where one is no key.
-fn said_of_key(alloc: Global, line: &str) -> Result<String, Fail> {
-    let words = words_of(alloc, line)?;
-    match key_fault_in_words(words.as_slice()) {
-        None => Ok(String::new(alloc)),
-        Some(fault) => Ok(format!(in alloc; "{fault}")?),
-    }
-}
-
-#[test]
-fn words_that_are_no_keys(rt: HostRuntime) -> Result<(), Fail> {
-    let cases = [
-        (
-            "mcgate where --config c ",
-            "mcgate where: \"\" is no key: it is empty",
-        ),
-        (
-            "mcgate where a\tb --config c",
-            "mcgate where: \"a\\x09b\" is no key: it has a space or a control character",
-        ),
-        ("mcgate where a --config c b", ""),
-    ];
-    for (line, want) in cases {
-        let words = said_of_key(rt.alloc(), line)?;
-        assert_eq!(rt; words.as_str(), want, "at {line}");
-    }
-    Ok(())
-}
-
-#[test]
-fn names_near_to_words(rt: HostRuntime) -> Result<(), Fail> {
-    let names = ["check", "replay", "PoolRoute", "A"];
-    let cases = [
-        ("chek", Some("check")),
-        ("rep", Some("replay")),
-        ("Poolroute", Some("PoolRoute")),
-        ("B", None),
-        ("nothing", None),
-    ];
-    for (word, want) in cases {
-        let found = nearest(rt.alloc(), word, names.as_slice())?;
-        assert_eq!(rt; found, want, "at {word}");
-    }
-    Ok(())
-}
-
-#[test]
-fn addresses_that_are_none(rt: HostRuntime) -> Result<(), Fail> {
-    let cases = [
-        ("localhost", "no port: expected HOST:PORT"),
-        (":11211", "no host: expected HOST:PORT"),
-        ("a:99999", "port 99999 is above 65535"),
-        ("a:x", "x is no port: expected 0 to 65535"),
-        ("::1:11211", "a host with colons stands in brackets: [::1]"),
-        ("[::1]:11211", ""),
-        ("127.0.0.1:0", ""),
-    ];
-    for (text, want) in cases {
-        let said = match address_trouble(text) {
-            None => String::new(rt.alloc()),
-            Some(trouble) => format!(in rt.alloc(); "{trouble}")?,
-        };
-        assert_eq!(rt; said.as_str(), want, "at {text}");
+    for table in [faults(), no_keys(), near(), addresses()] {
+        assert_eq!(rt; wrong::<OfFaults>(rt.alloc(), table)?.as_str(), "");
     }
     Ok(())
 }
