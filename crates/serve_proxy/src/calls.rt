@@ -2,6 +2,7 @@
 
 ghost use Rattle.serve_links.specs.CoreSteps.{Fails};
 
+use crate::failing::look_at_idle;
 use crate::sockets::Sockets;
 use core_accepted::ServedCore;
 use core_proxy::Ticket;
@@ -10,8 +11,23 @@ use serve_wire::Wire;
 use std::alloc::AllocError;
 use std::net::Net;
 
-/// The call is written to its server's link or waits for it, or has failed.
+/// The call is written to its server's link or waits for it, or has failed. Where nothing is out there, what came over the link's
+/// connection is looked at before.
 pub fn send_call<W: Wire, N: Net>(
+    net: &N,
+    core: &mut ServedCore,
+    sockets: &mut Sockets<W>,
+    id: usize,
+    ticket: Ticket,
+) -> Result<(), AllocError>
+    ensures core { Fails core.old core.new }
+{
+    look_at_idle(core, sockets, ticket.server.number() as usize)?;
+    send_looked(net, core, sockets, id, ticket)
+}
+
+// The same, after that.
+fn send_looked<W: Wire, N: Net>(
     net: &N,
     core: &mut ServedCore,
     sockets: &mut Sockets<W>,

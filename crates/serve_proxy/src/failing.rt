@@ -7,10 +7,14 @@ ghost use Rattle.serve_links.specs.Links.{IsDownAt, IsClosedAt};
 use crate::answers::serve_link;
 use crate::sockets::{Sockets, close_if_any};
 use core_accepted::ServedCore;
-use serve_links::{Cause, fail_all};
+use serve_links::{Cause, Link, fail_all};
 use serve_wire::Wire;
+use serve_wire::conn::Got;
 use std::alloc::AllocError;
 use std::io;
+
+// So many reads at most are made of a link that is late, before it fails.
+const LATE_READS: usize = 1_024;
 
 /// The link's calls have all failed, and it has no connection.
 pub fn fail_link<W: Wire>(
@@ -31,6 +35,21 @@ pub fn fail_link<W: Wire>(
     sockets.links.has_news = true;
     sockets.is_freed = true;
     fail_all(link, core, &mut sockets.clients)
+}
+
+/// What came over the link's connection while no call was out is no answer, and a connection that has ended takes no call: the link fails by
+/// either before a call goes out, so that the call goes to a new connection.
+pub fn look_at_idle<W: Wire>(
+    core: &mut ServedCore,
+    sockets: &mut Sockets<W>,
+    at: usize,
+) -> Result<(), AllocError>
+    ensures core { Fails core.old core.new }
+{
+    match sockets.read_idle(at)? {
+        Some(cause) => fail_link(core, sockets, at, cause),
+        None => Ok(()),
+    }
 }
 
 /// Links that have taken too long fail, if one may have. What has come over them is read and settled before: the system was asked for it
@@ -55,14 +74,27 @@ fn fail_if_late<W: Wire>(
 ) -> io::Result<()>
     ensures core { GoesOn core.old core.new }
 {
-    if sockets.lateness(at).is_none() {
-        return Ok(());
-    }
-    look_again(core, sockets, at)?;
+    read_late(core, sockets, at)?;
     match sockets.lateness(at) {
         Some(cause) => Ok(fail_link(core, sockets, at, cause)?),
         None => Ok(()),
     }
+}
+
+// What has come over a link that is late is read, until it is late no longer or nothing more is there.
+fn read_late<W: Wire>(core: &mut ServedCore, sockets: &mut Sockets<W>, at: usize) -> io::Result<()>
+    ensures core { GoesOn core.old core.new }
+{
+    for _ in 0..LATE_READS {
+        if sockets.lateness(at).is_none() {
+            return Ok(());
+        }
+        look_again(core, sockets, at)?;
+        if !sockets.links.may_have_more(at) {
+            return Ok(());
+        }
+    }
+    Ok(())
 }
 
 // The system is asked whether the link's connection stands, or for what has come over it, though it told of nothing.
@@ -75,7 +107,40 @@ fn look_again<W: Wire>(core: &mut ServedCore, sockets: &mut Sockets<W>, at: usiz
     serve_link(core, sockets, at)
 }
 
+// Whether the link's connection stands, and nothing is out on it or waits for it.
+fn is_idle(link: &Link) -> bool {
+    link.is_connected && !link.awaits_dialect && link.calls.is_empty() && link.waiting() == 0
+}
+
+// Why a link fails on which nothing is out, by what one read gave.
+fn idle_fault(got: Got) -> Option<Cause> {
+    match got {
+        Got::Nothing => None,
+        Got::Bytes | Got::Full => Some(Cause::Foreign),
+        Got::Ended => Some(Cause::Closed),
+        Got::Failed => Some(Cause::Broken),
+    }
+}
+
 impl<W: Wire> Sockets<W> {
+    // One read of the link, where nothing is out on its connection and something may have come over it. Why it fails by that, if it does.
+    fn read_idle(&mut self, at: usize) -> Result<Option<Cause>, AllocError> {
+        let Some(link) = self.links.all.get_mut(at) else {
+            return Ok(None);
+        };
+        if !is_idle(link) {
+            return Ok(None);
+        }
+        let room = link.read_room();
+        let Some(conn) = link.conn.as_mut() else {
+            return Ok(None);
+        };
+        if !conn.readable {
+            return Ok(None);
+        }
+        Ok(idle_fault(conn.read_once(&mut self.wire, room)?))
+    }
+
     // Why the link has failed by now, if it has taken too long.
     fn lateness(&self, at: usize) -> Option<Cause> {
         self.links.lateness(at, self.time)
