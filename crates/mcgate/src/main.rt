@@ -2,6 +2,8 @@
 #![tactic(auto)]
 
 mod cache;
+mod descriptors;
+mod lines;
 mod serve;
 mod serving;
 mod sharing;
@@ -9,7 +11,9 @@ mod special;
 mod warnings;
 
 use cache::serve_cache;
+use descriptors::within_descriptors;
 use fault_words::script::BadLine;
+use lines::Lines;
 use mc_types::Key;
 use mcgate_args::arguments::{Job, Task, read_arguments};
 use mcgate_args::bad_lines::{bad_line_of_events, bad_line_of_task};
@@ -195,7 +199,7 @@ fn run_loopback<R: Files + Input + AllocGlobal + Net + Clock + Eprint, W: Write>
 }
 
 /// Serves what a job names, or prints why it isn't served.
-fn run_serve<R: Files + Input + AllocGlobal + Net + Clock + Eprint, W: Write>(
+fn run_serve<R: Files + Input + AllocGlobal + Net + Clock + Print + Eprint, W: Write>(
     rt: &R,
     job: ServeJob<'_>,
     out: &mut W,
@@ -221,14 +225,16 @@ fn run_serve<R: Files + Input + AllocGlobal + Net + Clock + Eprint, W: Write>(
             Ok(status)
         }
         Judged::Servable(servable) => {
-            say_warnings(rt, job.file, text.as_str());
-            serve(rt, job, servable, text, out, details)
+            let mut lines = Lines::new();
+            say_warnings(rt, &mut lines, job.file, text.as_str());
+            let job = within_descriptors(rt, &mut lines, job, servable.len());
+            serve(rt, job, servable, text, lines, details)
         }
     }
 }
 
 /// Runs what the arguments ask for, and answers the exit status.
-fn run<R: Files + Input + AllocGlobal + Env + Net + Clock + Eprint, W: Write>(
+fn run<R: Files + Input + AllocGlobal + Env + Net + Clock + Print + Eprint, W: Write>(
     rt: &R,
     out: &mut W,
     details: &mut Details,

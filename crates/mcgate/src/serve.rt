@@ -4,6 +4,7 @@ ghost use Rattle.std.specs.Prelude.{IfOk, false};
 ghost use Rattle.mcgate.specs.Judging.{Judges, JudgesText};
 ghost use Rattle.mcgate.specs.Serves.{Begins, HasServed, StaysFresh};
 
+use crate::lines::Lines;
 use crate::serving::{Proxy, Serving, resolve, tell_if_unknown};
 use crate::sharing::sharing_for;
 use gate_check::{Accepted, judge};
@@ -39,6 +40,14 @@ pub enum Judged {
 }
 
 impl Servable {
+    /// How many servers it has.
+    pub fn len(&self) -> usize {
+        match self {
+            Servable::Accepted(accepted) => accepted.config().servers().len(),
+            Servable::Unchecked(config) => config.servers().len(),
+        }
+    }
+
     // Its servers.
     fn servers(&self, alloc: Global) -> Result<Servers, AllocError> {
         match self {
@@ -118,22 +127,27 @@ fn listen_at<R: Net + Clock + AllocGlobal>(rt: &R, listen: &str) -> io::Result<S
 }
 
 // The wire looks up these servers. Those that name no host are told of.
-fn look_up<R: Net + Eprint>(rt: &R, wire: &mut Sockets, servers: &Servers) -> io::Result<()> {
+fn look_up<R: Net + Eprint>(
+    rt: &R,
+    lines: &mut Lines,
+    wire: &mut Sockets,
+    servers: &Servers,
+) -> io::Result<()> {
     for at in 0..servers.len() {
         if let Some(text) = text_at(servers, at) {
             let found = wire.resolve(rt, text.as_bytes());
-            tell_if_unknown(rt, text, found)?;
+            tell_if_unknown(rt, lines, text, found)?;
         }
     }
     Ok(())
 }
 
 // The same where there is no wire.
-fn tell_unknown<R: Net + Eprint>(rt: &R, servers: &Servers) -> io::Result<()> {
+fn tell_unknown<R: Net + Eprint>(rt: &R, lines: &mut Lines, servers: &Servers) -> io::Result<()> {
     for at in 0..servers.len() {
         if let Some(text) = text_at(servers, at) {
             let found = resolve(rt, text).map(|_| ());
-            tell_if_unknown(rt, text, found)?;
+            tell_if_unknown(rt, lines, text, found)?;
         }
     }
     Ok(())
@@ -142,16 +156,17 @@ fn tell_unknown<R: Net + Eprint>(rt: &R, servers: &Servers) -> io::Result<()> {
 // A wire that listens there, and has looked up these servers. Which of them name no host is told before why it can't listen.
 fn listen<R: Net + Clock + AllocGlobal + Eprint>(
     rt: &R,
+    lines: &mut Lines,
     listen: &str,
     servers: &Servers,
 ) -> io::Result<Sockets> {
     match listen_at(rt, listen) {
         Ok(mut wire) => {
-            look_up(rt, &mut wire, servers)?;
+            look_up(rt, lines, &mut wire, servers)?;
             Ok(wire)
         }
         Err(error) => {
-            tell_unknown(rt, servers)?;
+            tell_unknown(rt, lines, servers)?;
             Err(error)
         }
     }
@@ -160,13 +175,14 @@ fn listen<R: Net + Clock + AllocGlobal + Eprint>(
 // The end that serves it where the job says, with these servers.
 fn open<R: Net + Clock + AllocGlobal + Eprint>(
     rt: &R,
+    lines: &mut Lines,
     job: &ServeJob<'_>,
     servable: Servable,
     servers: &Servers,
 ) -> io::Result<Proxy>
     ensures core { IfOk result (λ end. Begins servable job.now.settings end.core.value) }
 {
-    let wire = listen(rt, job.listen, servers)?;
+    let wire = listen(rt, lines, job.listen, servers)?;
     Ok(end_over(rt.alloc(), wire, servable, servers, job.settings)?)
 }
 
@@ -175,27 +191,29 @@ fn start<R: Net + Clock + AllocGlobal + Eprint>(
     job: &ServeJob<'_>,
     servable: Servable,
     text: String,
+    lines: Lines,
 ) -> io::Result<Serving>
     ensures core { IfOk result (λ serving. Begins servable job.now.settings serving.end.core.value) }
 {
     let servers = servable.servers(rt.alloc())?;
-    let end = open(rt, job, servable, &servers)?;
-    Serving::new(rt, end, servers, text)
+    let mut lines = lines;
+    let end = open(rt, &mut lines, job, servable, &servers)?;
+    Serving::new(rt, end, servers, text, lines)
 }
 
 // Serves a configuration to the end, and tells so. What it was then comes with how that was.
-fn serve_to_end<R: Files + Input + Net + Clock + AllocGlobal + Eprint, W: Write>(
+fn serve_to_end<R: Files + Input + Net + Clock + AllocGlobal + Print + Eprint>(
     rt: &R,
     job: &ServeJob<'_>,
     servable: Servable,
     text: String,
-    out: &mut W,
+    lines: Lines,
 ) -> io::Result<(Serving, Result<u8, Stop>)>
     ensures served { IfOk result (λ ended. HasServed servable job.now.settings ended.0.end.core.value) }
     ensures fresh { IfOk result (λ ended. StaysFresh servable ended.0.end.core.value) }
 {
-    let mut serving = start(rt, job, servable, text)?;
-    let ended = serving.tell_and_run(rt, job, out);
+    let mut serving = start(rt, job, servable, text, lines)?;
+    let ended = serving.tell_and_run(rt, job);
     serving.logs_are_fresh();
     Ok((serving, ended))
 }
@@ -204,15 +222,15 @@ fn serve_to_end<R: Files + Input + Net + Clock + AllocGlobal + Eprint, W: Write>
 ///
 /// [`Stop::Device`] comes where it can't listen there, of which a line of detail says why, or where the system's wait or clock fails, and
 /// [`Stop::Memory`] where memory was refused for the proxy itself, or for a configuration that is read while it runs.
-pub fn serve<R: Files + Input + Net + Clock + AllocGlobal + Eprint, W: Write>(
+pub fn serve<R: Files + Input + Net + Clock + AllocGlobal + Print + Eprint>(
     rt: &R,
     job: ServeJob<'_>,
     servable: Servable,
     text: String,
-    out: &mut W,
+    lines: Lines,
     details: &mut Details,
 ) -> Result<u8, Stop> {
-    match serve_to_end(rt, &job, servable, text, out) {
+    match serve_to_end(rt, &job, servable, text, lines) {
         Ok((_serving, ended)) => ended,
         Err(error) => {
             details.add_listen(rt.alloc(), job.listen, &error);

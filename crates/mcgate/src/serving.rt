@@ -5,6 +5,7 @@ ghost use Rattle.serve_links.specs.CoreSteps.{GoesOn};
 ghost use Rattle.serve_proxy.specs.LogsGoOn.{LogsAreFresh};
 ghost use Rattle.mcgate.specs.Serves.{SaysAfter, Serves, MayLoad, MayLoadText};
 
+use crate::lines::Lines;
 use crate::special::is_special;
 use core_accepted::LoadFault;
 use gate_check::ReloadFault;
@@ -35,11 +36,20 @@ pub fn resolve<N: Net>(net: &N, text: &str) -> io::Result<SocketAddr> {
 }
 
 /// After a server's text was looked up: where it names no host that is told, and the server's calls will fail.
-pub fn tell_if_unknown<R: Eprint>(rt: &R, text: &str, found: io::Result<()>) -> io::Result<()> {
+pub fn tell_if_unknown<R: Eprint>(
+    rt: &R,
+    lines: &mut Lines,
+    text: &str,
+    found: io::Result<()>,
+) -> io::Result<()> {
     match found {
         Ok(()) => Ok(()),
         Err(error) if error.kind() == ErrorKind::OutOfMemory => Err(error),
-        Err(_) => eprintln!(rt; "mcgate: server {text}: no such host, its calls fail"),
+        Err(_) => {
+            let line = format_args!("mcgate: server {text}: no such host, its calls fail");
+            lines.tell(rt, line);
+            Ok(())
+        }
     }
 }
 
@@ -58,6 +68,7 @@ pub struct Serving {
     since: Instant,
     /// How many turns ago.
     turns: u32,
+    lines: Lines,
 }
 
 // The text of a regular file. Of what is none the program doesn't wait for a text.
@@ -109,7 +120,13 @@ fn print_kept<W: Write>(servers: &Servers, fault: LoadFault, out: &mut W) -> Res
 
 impl Serving {
     /// Of this end, by a configuration of these servers, whose text this is.
-    pub fn new<R: Clock>(rt: &R, end: Proxy, servers: Servers, text: String) -> io::Result<Serving>
+    pub fn new<R: Clock>(
+        rt: &R,
+        end: Proxy,
+        servers: Servers,
+        text: String,
+        lines: Lines,
+    ) -> io::Result<Serving>
         ensures { IfOk result (λ serving. serving.end ≡ end) }
     {
         Ok(Serving {
@@ -118,6 +135,7 @@ impl Serving {
             text,
             since: Instant::now(rt)?,
             turns: 0,
+            lines,
         })
     }
 
@@ -130,48 +148,49 @@ impl Serving {
 
     /// Tells that it listens, and then turns it as often as is asked; what happens to servers is told, and the file is read again, when
     /// that is due. The answer is the exit status.
-    pub fn tell_and_run<R: Files + Input + Net + Clock + AllocGlobal + Eprint, W: Write>(
+    pub fn tell_and_run<R: Files + Input + Net + Clock + AllocGlobal + Print + Eprint>(
         &mut self,
         rt: &R,
         job: &ServeJob<'_>,
-        out: &mut W,
     ) -> Result<u8, Stop>
         ensures core { Serves self.old.end.core.value self.new.end.core.value }
     {
         self.tell_start(rt, job)?;
-        self.run(rt, job, out)
+        self.run(rt, job)
     }
 
     // Tells that it listens, and with a tree of which no gate was asked what that means.
-    fn tell_start<R: Eprint>(&self, rt: &R, job: &ServeJob<'_>) -> io::Result<()> {
+    fn tell_start<R: Eprint>(&mut self, rt: &R, job: &ServeJob<'_>) -> io::Result<()>
+        ensures core { self.new.end.core ≡ self.old.end.core }
+    {
         let address = self.end.wire().local_addr()?;
         if job.any {
-            eprintln!(rt;
-                "mcgate: WARNING: --any: no gate was asked, nothing is promised: replies may show deleted data"
-            )?;
+            self.lines.tell(
+                rt,
+                "mcgate: WARNING: --any: no gate was asked, nothing is promised: replies may show deleted data",
+            );
         }
-        eprintln!(rt;
-            "mcgate: serving {} on {}, {} servers, generation 1",
-            job.file,
-            address,
-            self.servers.len()
-        )?;
+        let servers = self.servers.len();
+        let line = format_args!(
+            "mcgate: serving {} on {address}, {servers} servers, generation 1",
+            job.file
+        );
+        self.lines.tell(rt, line);
         Ok(())
     }
 
     // Turns it so.
-    fn run<R: Files + Input + Net + Clock + AllocGlobal + Eprint, W: Write>(
+    fn run<R: Files + Input + Net + Clock + AllocGlobal + Print + Eprint>(
         &mut self,
         rt: &R,
         job: &ServeJob<'_>,
-        out: &mut W,
     ) -> Result<u8, Stop>
         ensures core { Serves self.old.end.core.value self.new.end.core.value }
     {
         for _ in 0..job.turns.map_or(u64::MAX, u64::from) {
             self.turn(rt, job)?;
             self.tell_news(rt);
-            self.look_if_due(rt, job, out)?;
+            self.look_if_due(rt, job)?;
         }
         self.end.end_turns()?;
         Ok(DONE)
@@ -206,7 +225,8 @@ impl Serving {
                 return;
             };
             if let Some(text) = self.servers.get(ServerId::new(number)) {
-                let _ = eprintln!(rt; "mcgate: server {text}: {news}");
+                let line = format_args!("mcgate: server {text}: {news}");
+                self.lines.tell(rt, line);
             }
         }
     }
@@ -225,44 +245,41 @@ impl Serving {
     }
 
     // Reads the file again, if that is due.
-    fn look_if_due<R: Files + Input + Net + Clock + AllocGlobal + Eprint, W: Write>(
+    fn look_if_due<R: Files + Input + Net + Clock + AllocGlobal + Print + Eprint>(
         &mut self,
         rt: &R,
         job: &ServeJob<'_>,
-        out: &mut W,
     ) -> Result<(), Stop>
         ensures core { Serves self.old.end.core.value self.new.end.core.value }
     {
         if self.is_due(rt, job)? {
-            return self.look(rt, job, out);
+            return self.look(rt, job);
         }
         Ok(())
     }
 
     // Reads the file. A text that it hadn't before is loaded; where it can't be read nothing is done.
-    fn look<R: Files + Input + Net + Clock + AllocGlobal + Eprint, W: Write>(
+    fn look<R: Files + Input + Net + Clock + AllocGlobal + Print + Eprint>(
         &mut self,
         rt: &R,
         job: &ServeJob<'_>,
-        out: &mut W,
     ) -> Result<(), Stop>
         ensures core { Serves self.old.end.core.value self.new.end.core.value }
     {
         self.turns = 0;
         self.since = Instant::now(rt)?;
         match regular_text(rt, job.file) {
-            Ok(text) => self.take_text(rt, job.any, text, out),
+            Ok(text) => self.take_text(rt, job.any, text),
             Err(InputFault::NoMemory) => Err(Stop::Memory),
             Err(_) => Ok(()),
         }
     }
 
-    fn take_text<R: Net + AllocGlobal + Eprint, W: Write>(
+    fn take_text<R: Net + AllocGlobal + Print + Eprint>(
         &mut self,
         rt: &R,
         any: bool,
         text: String,
-        out: &mut W,
     ) -> Result<(), Stop>
         ensures core { MayLoadText self.old.servers (string_bytes text) self.old.end.core.value self.new.end.core.value }
     {
@@ -270,8 +287,10 @@ impl Serving {
             return Ok(());
         }
         self.text = text;
-        self.load_text(rt, any, out)?;
-        Ok(out.flush()?)
+        let mut said = Vec::new(rt.alloc());
+        self.load_text(rt, any, &mut said)?;
+        self.lines.print(rt, said.as_slice());
+        Ok(())
     }
 
     // Loads the configuration of the text, and prints what came of that, or why the text is none.
@@ -305,7 +324,7 @@ impl Serving {
         ensures core { self.new.end.core ≡ self.old.end.core }
     {
         let found = self.end.resolve(rt, text);
-        tell_if_unknown(rt, text, found)
+        tell_if_unknown(rt, &mut self.lines, text, found)
     }
 
     // Loads a configuration of these servers, and prints what came of that.

@@ -1,0 +1,63 @@
+//! How many clients can be served with the descriptors that the process may have.
+
+ghost use Rattle.std.specs.Prelude.{◌≡◌, ◌≤◌, ◌+◌, ◌⊎◌, IfSome};
+
+use crate::lines::Lines;
+use libc::types::rlimit;
+use libc::{RLIMIT_NOFILE, getrlimit};
+use mcgate_args::serve_arguments::ServeJob;
+use serve_proxy::Settings;
+
+// So many descriptors are kept for what is neither a client nor a server of the configuration: the standard ones, the listener, what it
+// waits with, the file that is read again, and servers that a reload brings.
+const RESERVE: usize = 16;
+
+// How many descriptors the process may have open, if the system tells.
+fn most_descriptors() -> Option<usize> {
+    let mut limit = rlimit {
+        rlim_cur: 0,
+        rlim_max: 0,
+    };
+    if getrlimit(RLIMIT_NOFILE, &mut limit) != 0 {
+        return None;
+    }
+    usize::try_from(limit.rlim_cur).ok()
+}
+
+// How many clients can be served at once where so many descriptors may be open: as many as are wanted, or what the servers and the
+// reserve leave, and one at least.
+fn clients_within(most: usize, servers: usize, wanted: usize) -> usize
+    ensures wanted { result ≤ wanted ⊎ result ≡ 1 }
+    ensures within { result + (servers + 16) ≤ most ⊎ result ≡ 1 }
+{
+    let left = most.saturating_sub(servers).saturating_sub(RESERVE);
+    wanted.min(left).max(1)
+}
+
+/// The job, with as many clients at once as there are descriptors for beside its servers'. Where those are fewer than wanted, a line on
+/// standard error tells so.
+pub fn within_descriptors<'a, R: Eprint>(
+    rt: &R,
+    lines: &mut Lines,
+    job: ServeJob<'a>,
+    servers: usize,
+) -> ServeJob<'a> {
+    let Some(most) = most_descriptors() else {
+        return job;
+    };
+    let wanted = job.settings.clients;
+    let clients = clients_within(most, servers, wanted);
+    if clients < wanted {
+        let line = format_args!(
+            "mcgate: WARNING: {most} descriptors may be open (ulimit -n): {clients} clients are served at once, not {wanted}; {servers} are kept for servers, {RESERVE} for the rest"
+        );
+        lines.tell(rt, line);
+    }
+    ServeJob {
+        settings: Settings {
+            clients,
+            ..job.settings
+        },
+        ..job
+    }
+}
