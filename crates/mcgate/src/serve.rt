@@ -4,7 +4,7 @@ ghost use Rattle.std.specs.Prelude.{IfOk, false};
 ghost use Rattle.mcgate.specs.Judging.{Judges, JudgesText};
 ghost use Rattle.mcgate.specs.Serves.{Begins, HasServed, StaysFresh};
 
-use crate::serving::{Proxy, Serving, resolve, tell_unknown};
+use crate::serving::{Proxy, Serving, resolve, tell_if_unknown};
 use crate::sharing::sharing_for;
 use gate_check::{Accepted, judge};
 use mcgate_args::details::Details;
@@ -112,25 +112,48 @@ fn end_over(
     }
 }
 
-// A wire that listens there, and has looked up these servers.
+// A wire that listens there.
+fn listen_at<R: Net + Clock + AllocGlobal>(rt: &R, listen: &str) -> io::Result<Sockets> {
+    Sockets::listen(rt, resolve(rt, listen)?)
+}
+
+// The wire looks up these servers. Those that name no host are told of.
+fn look_up<R: Net + Eprint>(rt: &R, wire: &mut Sockets, servers: &Servers) -> io::Result<()> {
+    for at in 0..servers.len() {
+        if let Some(text) = text_at(servers, at) {
+            let found = wire.resolve(rt, text.as_bytes());
+            tell_if_unknown(rt, text, found)?;
+        }
+    }
+    Ok(())
+}
+
+// The same where there is no wire.
+fn tell_unknown<R: Net + Eprint>(rt: &R, servers: &Servers) -> io::Result<()> {
+    for at in 0..servers.len() {
+        if let Some(text) = text_at(servers, at) {
+            let found = resolve(rt, text).map(|_| ());
+            tell_if_unknown(rt, text, found)?;
+        }
+    }
+    Ok(())
+}
+
+// A wire that listens there, and has looked up these servers. Which of them name no host is told before why it can't listen.
 fn listen<R: Net + Clock + AllocGlobal + Eprint>(
     rt: &R,
     listen: &str,
     servers: &Servers,
 ) -> io::Result<Sockets> {
-    let mut wire = Sockets::listen(rt, resolve(rt, listen)?)?;
-    for at in 0..servers.len() {
-        if let Some(text) = text_at(servers, at) {
-            resolve_one(rt, &mut wire, text)?;
+    match listen_at(rt, listen) {
+        Ok(mut wire) => {
+            look_up(rt, &mut wire, servers)?;
+            Ok(wire)
         }
-    }
-    Ok(wire)
-}
-
-fn resolve_one<R: Net + Eprint>(rt: &R, wire: &mut Sockets, text: &str) -> io::Result<()> {
-    match wire.resolve(rt, text.as_bytes()) {
-        Ok(()) => Ok(()),
-        Err(_) => tell_unknown(rt, text),
+        Err(error) => {
+            tell_unknown(rt, servers)?;
+            Err(error)
+        }
     }
 }
 

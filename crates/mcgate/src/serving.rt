@@ -34,9 +34,13 @@ pub fn resolve<N: Net>(net: &N, text: &str) -> io::Result<SocketAddr> {
     }
 }
 
-/// Of a server whose text names no host it is told, and its calls will fail.
-pub fn tell_unknown<R: Eprint>(rt: &R, text: &str) -> io::Result<()> {
-    eprintln!(rt; "mcgate: server {text}: no such host, its calls fail")
+/// After a server's text was looked up: where it names no host that is told, and the server's calls will fail.
+pub fn tell_if_unknown<R: Eprint>(rt: &R, text: &str, found: io::Result<()>) -> io::Result<()> {
+    match found {
+        Ok(()) => Ok(()),
+        Err(error) if error.kind() == ErrorKind::OutOfMemory => Err(error),
+        Err(_) => eprintln!(rt; "mcgate: server {text}: no such host, its calls fail"),
+    }
 }
 
 /// The end of a proxy over sockets.
@@ -300,10 +304,8 @@ impl Serving {
     fn resolve_one<R: Net + Eprint>(&mut self, rt: &R, text: &str) -> io::Result<()>
         ensures core { self.new.end.core ≡ self.old.end.core }
     {
-        match self.end.resolve(rt, text) {
-            Ok(()) => Ok(()),
-            Err(_) => tell_unknown(rt, text),
-        }
+        let found = self.end.resolve(rt, text);
+        tell_if_unknown(rt, text, found)
     }
 
     // Loads a configuration of these servers, and prints what came of that.
