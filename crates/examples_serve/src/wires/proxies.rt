@@ -1,7 +1,7 @@
 //! A proxy over a wire in memory: what its clients and its servers are sent, where bytes come cut, connections end and break, and answers
 //! are late.
 
-use crate::wires::scripts::put_act;
+use crate::wires::scripts::{bytes_of, put_act};
 use examples_tables::configs::with_configs;
 use examples_tables::playing::{Stage, cut, first_line, play_lines, shown, yes_or_no};
 use gate_check::{Accepted, judge};
@@ -10,12 +10,13 @@ use route_json::{Config, read_config, read_config_after};
 use serve_proxy::{LinkNews, ProxyEnd, ServerDialect, Settings, text_at};
 use serve_wire::Wire;
 use serve_wire::memory::{Memory, Peer};
-use std::alloc::Global;
+use std::alloc::{AllocError, Global};
+use std::mem;
 use std::test::Fail;
 use std::time::Duration;
 
 // Far ends have names that are numbers. `peer` begins the script of one, which then calls at a time or answers the next connection to a
-// host. `proxy` looks up the servers of its configuration and begins.
+// host. `proxy` looks up the servers of its configuration and begins. `news` are those since they were asked for last.
 fn texts() -> &'static str {
     r"Bytes come cut anywhere, and go out by the piece.
 host 127.0.0.1:5001
@@ -85,7 +86,7 @@ taken 8 => get
 open 8 => no
 taken 9 => get b\r\n
 taken 1 => SERVER_ERROR call failed\r\nEND\r\n
-news => server 0: back
+news => server 0: failed: reading or writing failed, 1 in a row; server 0: back
 
 A client quits behind replies that it takes slowly: it gets them all, and then the connection is closed.
 host 127.0.0.1:5001
@@ -126,6 +127,7 @@ turn 60
 taken 1 => SERVER_ERROR call failed\r\nEND\r\n
 open 8 => no
 taken 9 => get b\r\n
+news => server 0: connected; server 0: failed: a call took too long, 1 in a row; server 0: back
 
 A server ends within an answer: the call has failed, and what came of it is dropped.
 host 127.0.0.1:5001
@@ -205,16 +207,91 @@ load <A, both cleared> => 2
 turn 60
 taken 8 => get a\r\ndelete b\r\n
 taken 9 => delete b\r\n
-taken 1 => END\r\nNOT_FOUND\r\n"
+taken 1 => END\r\nNOT_FOUND\r\n
+
+Of two servers one tells that it has the meta dialect, and is asked for classic gets in it from then on, and one tells that it hasn't.
+host 127.0.0.1:5001
+host 127.0.0.1:5002
+peer 8
+awaits 11
+sends M
+sends N\r\nEN
+sends D\r\n
+awaits 23
+sends VA 1 ka f5\r\nx\r\n
+answers 127.0.0.1:5001
+peer 9
+awaits 11
+sends ERROR\r
+sends \nEND\r\n
+awaits 18
+sends VALUE b 7 2\r\nyz\r\nEND\r\n
+answers 127.0.0.1:5002
+peer 1
+sends get a\r\nget b\r\n
+awaits 10
+sends get a\r\nget b\r\n
+calls 0
+auto-proxy <two servers>
+turn 40
+taken 8 => mn\r\nget a\r\nmg a k f v\r\n
+taken 9 => mn\r\nget b\r\nget b\r\n
+taken 1 => END\r\nEND\r\nVALUE a 5 1\r\nx\r\nEND\r\nVALUE b 7 2\r\nyz\r\nEND\r\n
+
+A write to a client fails half-way: it is closed, and who comes next gets the replies to its own commands alone.
+host 127.0.0.1:5001
+peer 9
+awaits 7
+sends VALUE a 0 3\r\nxyz\r\nEND\r\n
+awaits 14
+sends END\r\n
+answers 127.0.0.1:5001
+peer 1
+breaks 5
+sends get a\r\n
+calls 0
+peer 2
+sends get b\r\n
+calls 500
+proxy <one server>
+turn 40
+taken 1 => VALUE
+open 1 => no
+taken 9 => get a\r\nget b\r\n
+taken 2 => END\r\n
+
+Megabytes of commands at once come to the server as they are, and as many of answers to the client, whatever is read and taken at once.
+host 127.0.0.1:5001
+peer 9
+piece 99991
+-- 9 * (19 + 100,000 + 2) + 21 * (20 + 100,000 + 2)
+awaits 3000651
+sends «30 STORED\r\n»
+-- 9 * 8 + 21 * 9 more
+awaits 3000912
+sends «30 VALUE k# 0 100000\r\n<data>\r\nEND\r\n»
+answers 127.0.0.1:5001
+peer 1
+piece 70001
+window 300000
+sends «30 set k# 0 0 100000\r\n<data>\r\n»«30 get k#\r\n»
+calls 0
+proxy <one server>
+turn 400
+took 9 «30 set k# 0 0 100000\r\n<data>\r\n»«30 get k#\r\n» => yes
+took 1 «30 STORED\r\n»«30 VALUE k# 0 100000\r\n<data>\r\nEND\r\n» => yes"
 }
 
-// One client's commands go to servers as it wrote them.
-fn settings() -> Settings {
+// How servers are asked: as clients wrote it, or as each tells.
+fn settings(server_dialect: ServerDialect) -> Settings {
     Settings {
-        server_dialect: ServerDialect::Classic,
+        server_dialect,
         ..Settings::usual()
     }
 }
+
+// So many news of links are told after a turn at most.
+const NEWS: usize = 16;
 
 // A wire that is being scripted, and the proxy that stands on it then.
 #[derive(Drop)]
@@ -226,6 +303,8 @@ struct Scripted<'a> {
     config: String,
     // Whose script is being written.
     peer: Option<Peer>,
+    // The news of links since they were asked for.
+    told: String,
 }
 
 fn make_scripted(rt: &HostRuntime) -> Scripted<'_> {
@@ -235,7 +314,21 @@ fn make_scripted(rt: &HostRuntime) -> Scripted<'_> {
         proxy: None,
         config: String::new(rt.alloc()),
         peer: None,
+        told: String::new(rt.alloc()),
     }
+}
+
+// These news, after those before.
+fn push_news(
+    alloc: Global,
+    told: &mut String,
+    server: usize,
+    news: LinkNews,
+) -> Result<(), AllocError> {
+    if !told.is_empty() {
+        told.push_str("; ")?;
+    }
+    told.push_str(format!(in alloc; "server {server}: {news}")?.as_str())
 }
 
 fn judged(alloc: Global, config: Config) -> Result<Accepted, Fail> {
@@ -281,16 +374,22 @@ fn end_over(
     wire: Memory,
     accepted: Accepted,
     servers: &Servers,
+    settings: Settings,
 ) -> Result<ProxyEnd<Memory>, Fail> {
-    Ok(ProxyEnd::new(rt.alloc(), wire, accepted, servers, settings())?)
+    Ok(ProxyEnd::new(rt.alloc(), wire, accepted, servers, settings)?)
 }
 
-fn begin(rt: &HostRuntime, wire: Memory, text: &str) -> Result<ProxyEnd<Memory>, Fail> {
+fn begin(
+    rt: &HostRuntime,
+    wire: Memory,
+    text: &str,
+    settings: Settings,
+) -> Result<ProxyEnd<Memory>, Fail> {
     let mut wire = wire;
     let servers = servers_of(rt.alloc(), text)?;
     resolve_all(rt, &mut wire, &servers);
     let accepted = judged(rt.alloc(), read_config(rt.alloc(), text)?)?;
-    end_over(rt, wire, accepted, &servers)
+    end_over(rt, wire, accepted, &servers, settings)
 }
 
 // The number of the generation that a configuration is.
@@ -304,13 +403,6 @@ fn load(
         Ok(number) => Ok(number.to_string(alloc)?),
         Err(_) => Ok("refused".to_string(alloc)?),
     }
-}
-
-fn turn(rt: &HostRuntime, proxy: &mut ProxyEnd<Memory>, count: usize) -> Result<(), Fail> {
-    for _ in 0..count {
-        proxy.turn_within(rt, Duration::from_millis(100))?;
-    }
-    Ok(())
 }
 
 impl Scripted<'_> {
@@ -341,11 +433,11 @@ impl Scripted<'_> {
         }
     }
 
-    fn begin(&mut self, text: &str) -> Result<(), Fail> {
+    fn begin(&mut self, text: &str, server_dialect: ServerDialect) -> Result<(), Fail> {
         let Some(wire) = self.wire.take() else {
             return Err("the proxy has begun")?;
         };
-        self.proxy = Some(begin(self.rt, wire, text)?);
+        self.proxy = Some(begin(self.rt, wire, text, settings(server_dialect))?);
         self.config = text.to_string(self.rt.alloc())?;
         Ok(())
     }
@@ -378,25 +470,52 @@ impl Scripted<'_> {
                 Ok(())
             }
             "calls" | "answers" => self.place(verb, text),
-            "proxy" => self.begin(text),
-            "turn" => {
-                let rt = self.rt;
-                turn(rt, self.proxy()?, text.parse::<usize>()?)
-            }
+            "proxy" => self.begin(text, ServerDialect::Classic),
+            "auto-proxy" => self.begin(text, ServerDialect::Auto),
+            "turn" => self.turn_often(text.parse::<usize>()?),
             _ => self.script(verb, text),
         }
     }
 
-    fn news(&mut self) -> Result<Option<(usize, LinkNews)>, Fail> {
+    fn next_news(&mut self) -> Result<Option<(usize, LinkNews)>, Fail> {
         Ok(self.proxy()?.next_news())
     }
 
-    fn news_text(&mut self) -> Result<String, Fail> {
-        let alloc = self.rt.alloc();
-        match self.news()? {
-            Some((server, news)) => Ok(format!(in alloc; "server {server}: {news}")?),
-            None => Ok("none".to_string(alloc)?),
+    // What there is to tell after a turn.
+    fn note_news(&mut self) -> Result<(), Fail> {
+        for _ in 0..NEWS {
+            let Some((server, news)) = self.next_news()? else {
+                return Ok(());
+            };
+            push_news(self.rt.alloc(), &mut self.told, server, news)?;
         }
+        Ok(())
+    }
+
+    // The news since they were asked for.
+    fn news(&mut self) -> String {
+        let none = String::new(self.rt.alloc());
+        mem::replace(&mut self.told, none)
+    }
+
+    fn turn(&mut self) -> Result<(), Fail> {
+        let rt = self.rt;
+        Ok(self.proxy()?.turn_within(rt, Duration::from_millis(100))?)
+    }
+
+    fn turn_often(&mut self, count: usize) -> Result<(), Fail> {
+        for _ in 0..count {
+            self.turn()?;
+            self.note_news()?;
+        }
+        Ok(())
+    }
+
+    // Whether this was sent to the far end of this name, and nothing else.
+    fn took(&mut self, text: &str) -> Result<bool, Fail> {
+        let (name, text) = cut(text);
+        let all = bytes_of(self.rt.alloc(), text)?;
+        Ok(self.proxy()?.wire().taken(name.parse::<u32>()?) == all.as_slice())
     }
 }
 
@@ -411,7 +530,8 @@ impl Stage for Scripted<'_> {
                 Ok(yes_or_no(is_open).to_string(alloc)?)
             }
             "load" => self.load(text),
-            "news" => self.news_text(),
+            "took" => Ok(yes_or_no(self.took(text)?).to_string(alloc)?),
+            "news" => Ok(self.news()),
             _ => {
                 self.set(verb, text)?;
                 Ok(String::new(alloc))

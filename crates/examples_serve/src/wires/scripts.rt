@@ -1,8 +1,7 @@
 //! Ends over a wire in memory.
 
-use examples_tables::playing::{
-    Stage, cut, first_line, numbered, plain, play_lines, shown, yes_or_no,
-};
+use examples_tables::playing::{Stage, cut, first_line, numbered, play_lines, shown, yes_or_no};
+use examples_tables::tellers::written_out;
 use serve_wire::conn::{Conn, Got, Limits, Sent, turn_away};
 use serve_wire::memory::{Act, Memory, Peer};
 use serve_wire::{Accepted, Connected, Ready, Report, Wire};
@@ -199,11 +198,28 @@ fn limit_of(text: &str) -> Result<Option<Duration>, Fail> {
     Ok(Some(Duration::from_millis(text.parse::<u64>()?)))
 }
 
+// A hundred thousand bytes.
+fn data(alloc: Global) -> Result<String, AllocError> {
+    written_out(alloc, "«10000 xxxxxxxxxx»")
+}
+
+/// The bytes that a text stands for: with its repeated parts, data for each `<data>`, and the ends of its lines, of which each half may
+/// stand alone.
+pub fn bytes_of(alloc: Global, text: &str) -> Result<Vec<u8>, AllocError> {
+    let text = written_out(alloc, text)?;
+    let text = text
+        .as_str()
+        .replace(alloc, "<data>", data(alloc)?.as_str())?;
+    let text = text.as_str().replace(alloc, r"\r", "\r")?;
+    let text = text.as_str().replace(alloc, r"\n", "\n")?;
+    text.as_bytes().to_vec(alloc)
+}
+
 /// What a far end does, or how much of it.
 pub fn put_act(alloc: Global, peer: &mut Peer, verb: &str, text: &str) -> Result<(), Fail> {
     match verb {
         "sends" => {
-            let bytes = plain(alloc, text)?.as_bytes().to_vec(alloc)?;
+            let bytes = bytes_of(alloc, text)?;
             peer.then(Act::Sends(bytes))?;
         }
         "awaits" => peer.then(Act::Awaits(text.parse::<usize>()?))?,
