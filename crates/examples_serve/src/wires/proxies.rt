@@ -129,6 +129,53 @@ open 8 => no
 taken 9 => get b\r\n
 news => server 0: connected; server 0: failed: a call took too long, 1 in a row; server 0: back
 
+Bytes that came while nothing was out are no answer to the next call, which goes to a new connection.
+host 127.0.0.1:5001
+peer 8
+awaits 7
+sends END\r\n
+until 50
+sends VALUE b 0 1\r\n9\r\nEND\r\n
+answers 127.0.0.1:5001
+peer 9
+awaits 7
+sends END\r\n
+answers 127.0.0.1:5001
+peer 1
+sends get a\r\n
+until 50
+sends get b\r\n
+calls 0
+proxy <one server>
+turn 40
+taken 1 => END\r\nEND\r\n
+open 8 => no
+taken 8 => get a\r\n
+taken 9 => get b\r\n
+
+A connection that ends while nothing is out costs no command.
+host 127.0.0.1:5001
+peer 8
+awaits 7
+sends END\r\n
+until 50
+ends
+answers 127.0.0.1:5001
+peer 9
+awaits 7
+sends END\r\n
+answers 127.0.0.1:5001
+peer 1
+sends get a\r\n
+until 50
+sends get b\r\n
+calls 0
+proxy <one server>
+turn 40
+taken 1 => END\r\nEND\r\n
+open 8 => no
+taken 9 => get b\r\n
+
 A server ends within an answer: the call has failed, and what came of it is dropped.
 host 127.0.0.1:5001
 peer 8
