@@ -18,6 +18,7 @@ use mcgate_check::reload_lines::{write_kept, write_loaded, write_unchecked};
 use mcgate_check::status::DONE;
 use route_json::addresses::Servers;
 use route_json::{Config, ConfigFault, read_config_after};
+use serde_json::Value;
 use serve_proxy::{ProxyEnd, text_at};
 use serve_wire::sockets::Sockets;
 use std::alloc::{AllocError, Global};
@@ -62,8 +63,12 @@ pub struct Serving {
     end: Proxy,
     /// The servers in use.
     servers: Servers,
-    /// What the file last had.
+    /// What says the configuration in use.
     text: String,
+    /// Its generation.
+    generation: u32,
+    /// What the file had since, where that wasn't loaded.
+    refused: Option<String>,
     /// When that was.
     since: Instant,
     /// How many turns ago.
@@ -90,6 +95,14 @@ fn read_after(
     let config = read_config_after(alloc, servers.copy(alloc)?, text)?;
     let servers = config.servers().copy(alloc)?;
     Ok((config, servers))
+}
+
+// Whether both texts say one JSON value. Where memory is refused they don't.
+fn says_the_same(alloc: Global, text: &str, other: &str) -> bool {
+    match (Value::from_str(alloc, text), Value::from_str(alloc, other)) {
+        (Ok(value), Ok(other)) => value == other,
+        _ => false,
+    }
 }
 
 // Prints why a text is no configuration.
@@ -133,6 +146,8 @@ impl Serving {
             end,
             servers,
             text,
+            generation: 1,
+            refused: None,
             since: Instant::now(rt)?,
             turns: 0,
             lines,
@@ -275,6 +290,26 @@ impl Serving {
         }
     }
 
+    // Whether this is what the file had when it was read last.
+    fn has_seen(&self, text: &str) -> bool {
+        match &self.refused {
+            Some(refused) => refused.as_str() == text,
+            None => self.text.as_str() == text,
+        }
+    }
+
+    // This is what the file has; it says the configuration in use or was refused.
+    fn note_text(&mut self, text: String, is_used: bool)
+        ensures core { self.new.end.core ≡ self.old.end.core }
+    {
+        if is_used {
+            self.text = text;
+            self.refused = None;
+        } else {
+            self.refused = Some(text);
+        }
+    }
+
     fn take_text<R: Net + AllocGlobal + Print + Eprint>(
         &mut self,
         rt: &R,
@@ -283,28 +318,50 @@ impl Serving {
     ) -> Result<(), Stop>
         ensures core { MayLoadText self.old.servers (string_bytes text) self.old.end.core.value self.new.end.core.value }
     {
-        if text.as_str() == self.text.as_str() {
+        if self.has_seen(text.as_str()) {
             return Ok(());
         }
-        self.text = text;
         let mut said = Vec::new(rt.alloc());
-        self.load_text(rt, any, &mut said)?;
+        let is_used = self.judge_text(rt, any, text.as_str(), &mut said)?;
+        self.note_text(text, is_used);
         self.lines.print(rt, said.as_slice());
         Ok(())
     }
 
-    // Loads the configuration of the text, and prints what came of that, or why the text is none.
+    // Loads the configuration of the text, unless the text says what the one in use says, and prints what came of that. Whether the
+    // configuration in use is that of the text then.
+    fn judge_text<R: Net + AllocGlobal + Eprint, W: Write>(
+        &mut self,
+        rt: &R,
+        any: bool,
+        text: &str,
+        out: &mut W,
+    ) -> Result<bool, Stop>
+        ensures core { MayLoadText self.old.servers text.now self.old.end.core.value self.new.end.core.value }
+    {
+        if says_the_same(rt.alloc(), self.text.as_str(), text) {
+            writeln!(out, "reload unchanged generation={}", self.generation)?;
+            return Ok(true);
+        }
+        self.load_text(rt, any, text, out)
+    }
+
+    // Loads the configuration of the text, and prints what came of that, or why the text is none. Whether it was loaded.
     fn load_text<R: Net + AllocGlobal + Eprint, W: Write>(
         &mut self,
         rt: &R,
         any: bool,
+        text: &str,
         out: &mut W,
-    ) -> Result<(), Stop>
-        ensures core { MayLoadText self.old.servers (string_bytes self.old.text) self.old.end.core.value self.new.end.core.value }
+    ) -> Result<bool, Stop>
+        ensures core { MayLoadText self.old.servers text.now self.old.end.core.value self.new.end.core.value }
     {
-        match read_after(rt.alloc(), &self.servers, self.text.as_str()) {
+        match read_after(rt.alloc(), &self.servers, text) {
             Ok((config, servers)) => self.load(rt, any, config, servers, out),
-            Err(fault) => print_fault(&fault, out),
+            Err(fault) => {
+                print_fault(&fault, out)?;
+                Ok(false)
+            }
         }
     }
 
@@ -327,7 +384,7 @@ impl Serving {
         tell_if_unknown(rt, &mut self.lines, text, found)
     }
 
-    // Loads a configuration of these servers, and prints what came of that.
+    // Loads a configuration of these servers, and prints what came of that. Whether it was loaded.
     fn load<R: Net + AllocGlobal + Eprint, W: Write>(
         &mut self,
         rt: &R,
@@ -335,16 +392,21 @@ impl Serving {
         config: Config,
         servers: Servers,
         out: &mut W,
-    ) -> Result<(), Stop>
+    ) -> Result<bool, Stop>
         ensures core { MayLoad config self.old.end.core.value self.new.end.core.value }
     {
         self.resolve(rt, &servers)?;
         match self.end.load(config, &servers) {
             Ok(generation) => {
                 self.servers = servers;
-                Ok(print_loaded(any, generation, out)?)
+                self.generation = generation;
+                print_loaded(any, generation, out)?;
+                Ok(true)
             }
-            Err(fault) => print_kept(&servers, fault, out),
+            Err(fault) => {
+                print_kept(&servers, fault, out)?;
+                Ok(false)
+            }
         }
     }
 }

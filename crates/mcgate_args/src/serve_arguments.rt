@@ -46,6 +46,7 @@ Each N is 1..=4294967295.
 A tree that the gate refuses isn't served, and its refused: line is printed.
 A text of FILE that is new is judged against each configuration that was loaded, and one of these lines is printed:
   reload accepted generation=G     commands that begin from now on run by its tree
+  reload unchanged generation=G    it says the configuration in use, and nothing is done
   reload refused ..                or config: .., and the tree in use is kept
 Exit status: 0 done, 1 refused by the gate, 2 bad arguments or no configuration, 3 memory or a device failed, also where it can't listen there.
 ";
