@@ -31,8 +31,9 @@ pub const COMMANDS: [&str; 7] = [
     "check", "replay", "where", "serve", "cache", "loopback", "help",
 ];
 
-const SERVE_FLAGS: [&str; 16] = [
+const SERVE_FLAGS: [&str; 17] = [
     "help",
+    "check",
     "config",
     "listen",
     "any",
@@ -58,7 +59,7 @@ pub const TOP_FLAGS: [&str; 2] = ["help", "version"];
 /// What follows the flag of this name.
 pub fn takes_of(flag: &str) -> Takes {
     match flag {
-        "help" | "version" | "any" | "explain" | "dot" => Takes::Nothing,
+        "help" | "version" | "any" | "check" | "explain" | "dot" => Takes::Nothing,
         "config" => Takes::File,
         "listen" => Takes::Address,
         "server-dialect" => Takes::Dialect,
@@ -114,7 +115,7 @@ impl Command {
             Command::Replay => "mcgate replay [--any] [--config FILE] [SCRIPT]",
             Command::Where => "mcgate where --config FILE KEY..",
             Command::Serve => {
-                "mcgate serve --config FILE --listen HOST:PORT [--any] [FLAG N ..]"
+                "mcgate serve --config FILE --listen HOST:PORT [--any] [--check] [FLAG N ..]"
             }
             Command::Cache => "mcgate cache --listen HOST:PORT --capacity C [--turns N]",
             Command::Loopback => "mcgate loopback [SCRIPT]",

@@ -26,7 +26,7 @@ use mcgate_args::input_text::InputFault;
 use mcgate_args::serve_arguments::ServeJob;
 use mcgate_check::status::{BAD_INPUT, DONE, REFUSED};
 use route_json::Config;
-use serve::{Judged, judge_text, serve};
+use serve::{Judged, judge_text, look_up_only, serve};
 use special::{is_special, special_line};
 use std::alloc::{AllocError, Global};
 use std::io;
@@ -228,6 +228,9 @@ fn run_serve<R: Files + Input + AllocGlobal + Net + Clock + Print + Eprint, W: W
             let mut lines = Lines::new();
             say_warnings(rt, &mut lines, job.file, text.as_str());
             let job = within_descriptors(rt, &mut lines, job, servable.len());
+            if job.check {
+                return look_up_only(rt, job, &servable, &mut lines, details);
+            }
             serve(rt, job, servable, text, lines, details)
         }
     }

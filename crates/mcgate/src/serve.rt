@@ -12,6 +12,7 @@ use mcgate_args::details::Details;
 use mcgate_args::ends::Stop;
 use mcgate_args::serve_arguments::ServeJob;
 use mcgate_check::checking::{print_fault, print_refused};
+use mcgate_check::status::DONE;
 use route_json::addresses::Servers;
 use route_json::{Config, read_config};
 use serve_proxy::{ProxyEnd, Settings, text_at};
@@ -142,15 +143,22 @@ fn look_up<R: Net + Eprint>(
     Ok(())
 }
 
-// The same where there is no wire.
-fn tell_unknown<R: Net + Eprint>(rt: &R, lines: &mut Lines, servers: &Servers) -> io::Result<()> {
+// The same where there is no wire: how many name no host.
+fn tell_unknown<R: Net + Eprint>(
+    rt: &R,
+    lines: &mut Lines,
+    servers: &Servers,
+) -> io::Result<usize> {
+    let mut unknown = 0usize;
     for at in 0..servers.len() {
         if let Some(text) = text_at(servers, at) {
             let found = resolve(rt, text).map(|_| ());
-            tell_if_unknown(rt, lines, text, found)?;
+            if !tell_if_unknown(rt, lines, text, found)? {
+                unknown = unknown.saturating_add(1);
+            }
         }
     }
-    Ok(())
+    Ok(unknown)
 }
 
 // A wire that listens there, and has looked up these servers. Which of them name no host is told before why it can't listen.
@@ -237,4 +245,42 @@ pub fn serve<R: Files + Input + Net + Clock + AllocGlobal + Print + Eprint>(
             Err(Stop::from(error))
         }
     }
+}
+
+// What is said where some servers' addresses aren't known.
+fn unknown_line(alloc: Global, unknown: usize, servers: usize) -> Result<String, AllocError> {
+    format!(in alloc; "mcgate: of {servers} servers {unknown} have no known address")
+}
+
+/// Serves nothing: looks up where a configuration would be served, and its servers. The answer is status 0 where all are known, of which a line
+/// on standard error tells.
+///
+/// [`Stop::Device`] comes where an address isn't known, of which a line tells, and [`Stop::Memory`] where memory was refused.
+pub fn look_up_only<R: Net + AllocGlobal + Eprint>(
+    rt: &R,
+    job: ServeJob<'_>,
+    servable: &Servable,
+    lines: &mut Lines,
+    details: &mut Details,
+) -> Result<u8, Stop> {
+    let Ok(servers) = servable.servers(rt.alloc()) else {
+        return Err(Stop::Memory);
+    };
+    let unknown = tell_unknown(rt, lines, &servers)?;
+    if let Err(error) = resolve(rt, job.listen) {
+        details.add_listen(rt.alloc(), job.listen, &error);
+        return Err(Stop::from(error));
+    }
+    if unknown > 0 {
+        details.add(unknown_line(rt.alloc(), unknown, servers.len()));
+        return Err(Stop::Device);
+    }
+    let line = format_args!(
+        "mcgate: {} can be served on {}, {} servers",
+        job.file,
+        job.listen,
+        servers.len()
+    );
+    lines.tell(rt, line);
+    Ok(DONE)
 }

@@ -36,20 +36,20 @@ pub fn resolve<N: Net>(net: &N, text: &str) -> io::Result<SocketAddr> {
     }
 }
 
-/// After a server's text was looked up: where it names no host that is told, and the server's calls will fail.
+/// After a server's text was looked up: whether it names a host. If it doesn't that is told, and the server's calls will fail.
 pub fn tell_if_unknown<R: Eprint>(
     rt: &R,
     lines: &mut Lines,
     text: &str,
     found: io::Result<()>,
-) -> io::Result<()> {
+) -> io::Result<bool> {
     match found {
-        Ok(()) => Ok(()),
+        Ok(()) => Ok(true),
         Err(error) if error.kind() == ErrorKind::OutOfMemory => Err(error),
         Err(_) => {
             let line = format_args!("mcgate: server {text}: no such host, its calls fail");
             lines.tell(rt, line);
-            Ok(())
+            Ok(false)
         }
     }
 }
@@ -381,7 +381,8 @@ impl Serving {
         ensures core { self.new.end.core ≡ self.old.end.core }
     {
         let found = self.end.resolve(rt, text);
-        tell_if_unknown(rt, &mut self.lines, text, found)
+        tell_if_unknown(rt, &mut self.lines, text, found)?;
+        Ok(())
     }
 
     // Loads a configuration of these servers, and prints what came of that. Whether it was loaded.

@@ -155,11 +155,9 @@ pub fn help_flag<'a>(alloc: Global) -> Arg<'a> {
         .action(ArgAction::SetTrue)
 }
 
-/// The flag that asks no gate.
-pub fn any_flag<'a>(alloc: Global) -> Arg<'a> {
-    Arg::new(alloc, "any")
-        .long("any")
-        .action(ArgAction::SetTrue)
+/// A flag without a value.
+pub fn switch<'a>(alloc: Global, name: &'static str) -> Arg<'a> {
+    Arg::new(alloc, name).long(name).action(ArgAction::SetTrue)
 }
 
 /// A flag with a value.
@@ -200,7 +198,7 @@ fn replay_command<'a>(alloc: Global) -> Result<Command<'a>, AllocError> {
     Command::new(alloc, "replay")
         .disable_help_flag(true)
         .arg(help_flag(alloc))?
-        .arg(any_flag(alloc))?
+        .arg(switch(alloc, "any"))?
         .arg(config)?
         .arg(Arg::new(alloc, "SCRIPT"))
 }

@@ -1,6 +1,6 @@
 //! The arguments of `mcgate serve`, and what they ask for.
 
-use crate::arguments::{ArgumentsFault, Job, any_flag, count_of, help_flag, option};
+use crate::arguments::{ArgumentsFault, Job, count_of, help_flag, option, switch};
 use clap::{ArgMatches, Command};
 use serve_proxy::{ServerDialect, Settings};
 use std::alloc::{AllocError, Global};
@@ -15,6 +15,8 @@ pub struct ServeJob<'a> {
     pub settings: Settings,
     /// A tree that the gate refuses is served too.
     pub any: bool,
+    /// Nothing is served: it ends once all that is tested at the start was tested.
+    pub check: bool,
     /// After so many turns the file is read again.
     pub reload_every: Option<u32>,
     /// After so many milliseconds the file is read again.
@@ -24,7 +26,7 @@ pub struct ServeJob<'a> {
 }
 
 pub const SERVE_HELP: &str =
-    "usage: mcgate serve --config FILE --listen HOST:PORT [--any] [FLAG N ..]
+    "usage: mcgate serve --config FILE --listen HOST:PORT [--any] [--check] [FLAG N ..]
 
 Reads a configuration in JSON, of FILE, and asks the gate. A tree that it accepts is served at HOST:PORT: what clients send goes
 to the configuration's servers, at their addresses. Lines on standard error tell when it listens, and when a server's connection
@@ -42,6 +44,7 @@ opens, fails or comes back.
   --reload-every N       FILE is read again each N turns
   --turns N              ends after so many turns; without it, it doesn't end
   --any                  serves a tree that the gate refuses too: nothing is promised then
+  --check                serves nothing: it tests the words, FILE, its tree, and that all addresses are known, and ends
 Each N is 1..=4294967295.
 A tree that the gate refuses isn't served, and its refused: line is printed.
 A text of FILE that is new is judged against each configuration that was loaded, and one of these lines is printed:
@@ -70,7 +73,8 @@ pub fn serve_command<'a>(alloc: Global) -> Result<Command<'a>, AllocError> {
         .arg(option(alloc, "reload-every"))?
         .arg(option(alloc, "reload-ms"))?
         .arg(option(alloc, "turns"))?
-        .arg(any_flag(alloc))
+        .arg(switch(alloc, "any"))?
+        .arg(switch(alloc, "check"))
 }
 
 // The number after a flag, or the usual one.
@@ -128,6 +132,7 @@ pub fn serve_job<'a>(given: &ArgMatches<'a>) -> Result<Job<'a>, ArgumentsFault> 
         listen,
         settings: settings_of(given)?,
         any: given.get_flag("any"),
+        check: given.get_flag("check"),
         reload_every: count_of(given, "reload-every")?,
         reload_ms: count_of(given, "reload-ms")?,
         turns: count_of(given, "turns")?,
