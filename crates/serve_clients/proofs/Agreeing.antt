@@ -1,10 +1,10 @@
 -- Ends of clients that agree with the wire, and go on to.
-use Rattle.std.proofs.Common.{◌≡◌, ◌≢◌, ◌⊎◌, inl, inr, ℕ, ◌==◌, Bool, true, false, List, [], ◌++◌, Option, Some, None, Result, Ok, Err, refl, sym, ap, ◌∙◌, subst}
+use Rattle.std.proofs.Common.{◌≡◌, ◌≢◌, ◌⊎◌, inl, inr, ℕ, Bool, true, false, List, [], ◌++◌, Option, Some, None, Result, Ok, Err, refl, sym, ap, ◌∙◌, subst}
 use Rattle.std.proofs.lemmas.Bool.{cases_eq}
-use Rattle.std.specs.Prelude.{IfSome, IfOk, OnOk, OnErr, slice_get}
+use Rattle.std.specs.Prelude.{IfSome, OnOk, OnErr, slice_get}
 use Rattle.std.specs.Option.{option_map, option_flatten}
 use Rattle.wire_parts.specs.Sending.{bytes_of}
-use Rattle.serve_wire.specs.Events.{Event, role, delivered, taken}
+use Rattle.serve_wire.specs.Events.{Event, role}
 use Rattle.serve_wire.specs.Agreement.{ClientAgrees, ClientLost, IsUntouched, TouchesOnly}
 use Rattle.serve_wire.specs.Flow.{ReadsOn, SendsOn}
 use Rattle.serve_wire.proofs.Steps.{apart, client_stays}
@@ -12,7 +12,7 @@ use Rattle.serve_wire.proofs.Flows.{client_reads, client_sends}
 use Rattle.serve_clients.specs.declared.clients.Client.{Client}
 use Rattle.serve_clients.specs.declared.clients.Clients.{Clients}
 use Rattle.serve_clients.specs.Marks.{client_of, Changes, AreAlike, with_ready, with_unsent, with_busy, one_settled, one_waits, one_waited}
-use Rattle.serve_clients.specs.Agrees.{said_of, Breaks, StateAgrees, EndAgrees, GoesOnAgreeing, AllAgree, KeepsEnds}
+use Rattle.serve_clients.specs.Agrees.{said_of, StateAgrees, EndAgrees, AllAgree, KeepsEnds}
 use Rattle.serve_clients.proofs.Marked.{changed, kept}
 
 -- ---- one client
@@ -131,11 +131,11 @@ pub by_server_stays :
 by_server_stays h h' input output s j c y only of_c was =
     state_stays h h' input output j y.conn.number y.conn.held.items (bytes_of y.conn.unsent) y.is_broken y.is_ended (only y.conn.number (apart c y.conn.number h (1, s) (0, j) of_c (its h input output j y was) (λ e. one_zero (ap (λ (p : ℕ × ℕ). p.0) e)))) was
   where
-    one_zero : 1 ≡ 0 → ⊥
+    one_zero : ◌≡◌ {A = ℕ} 1 0 → ⊥
     one_zero e = cc
 
 -- ends that are as they were agree as they did
-of_said : (h : List Event) (input output : ℕ → List ℕ) (id : ℕ) → ℕ × List ℕ × List ℕ × Bool × Bool → Type 0
+abbrev of_said : (h : List Event) (input output : ℕ → List ℕ) (id : ℕ) → ℕ × List ℕ × List ℕ × Bool × Bool → Type 0
 of_said h input output id s = StateAgrees h input output id s.0 s.1 s.2 s.3 s.4
 
 same_some : {x y : ℕ × List ℕ × List ℕ × Bool × Bool} → ◌≡◌ {A = Option (ℕ × List ℕ × List ℕ × Bool × Bool)} (Some x) (Some y) → x ≡ y

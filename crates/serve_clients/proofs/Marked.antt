@@ -3,7 +3,7 @@ use Rattle.std.proofs.Common.{◌≡◌, ◌≢◌, ◌⊎◌, inl, inr, ℕ, ze
 use Rattle.std.proofs.lemmas.Bool.{cases_eq}
 use Rattle.std.proofs.lemmas.List.{take_more, append-nil}
 use Rattle.std.proofs.lemmas.List.Elements.{filter_more, Contains-append_left, Contains-append_right, Contains-append_cases}
-use Rattle.std.specs.Prelude.{slice_get, slice_set, filter, Contains, OnOk, OnErr}
+use Rattle.std.specs.Prelude.{slice_get, slice_set, slice_index_or, filter, Contains, OnOk, OnErr, OnSome}
 use Rattle.std.specs.Option.{option_map, option_flatten}
 use Rattle.serve_clients.specs.declared.clients.Client.{Client}
 use Rattle.serve_clients.specs.declared.clients.Clients.{Clients}
@@ -23,6 +23,17 @@ at_others (y ∷ xs) zero zero x other = absurd (other refl)
 at_others (y ∷ xs) zero (suc k) x other = refl
 at_others (y ∷ xs) (suc i) zero x other = refl
 at_others (y ∷ xs) (suc i) (suc k) x other = at_others xs i k x (λ e. other (ap suc e))
+
+-- of an option that may be there
+pub if_there : {A : Type 0} (o : Option A) (P : Type 0) → P → OnSome o P
+if_there (Some x) P p = p
+if_there None P p = tt
+
+-- what stands at a place was put there again
+pub put_again : {A : Type 0} (xs : List A) (i : ℕ) (x : A) → x ≡ slice_index_or xs i x → slice_set xs i x ≡ xs
+put_again [] i x e = refl
+put_again (y ∷ xs) zero x e = ap (λ z. z ∷ xs) e
+put_again (y ∷ xs) (suc i) x e = ap (λ zs. y ∷ zs) (put_again xs i x e)
 
 -- who was put at a place stands there
 pub put : {A : Type 0} (xs ys : List (Option A)) (i : ℕ) (o : Option A) → i < length xs → ys ≡ slice_set xs i o → option_flatten (slice_get ys i) ≡ o

@@ -1,4 +1,5 @@
 pub mod Agrees
 pub mod Ends
+pub mod Lending
 pub mod Marks
 pub mod Waits

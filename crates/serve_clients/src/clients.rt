@@ -2,9 +2,11 @@
 
 ghost use Rattle.std.specs.Prelude.{◌≡◌, ◌≢◌, ℕ, ◌+◌, ◌-◌, ◌<◌, ◌++◌, ◌∷◌, [], OnOk, OnErr, Some, None, if◌then◌else◌, true, false, length, min, nat_lt, filter, slice_get, slice_set};
 ghost use Rattle.std.specs.Option.{option_map, option_flatten, option_copied_mut};
+ghost use Rattle.std.specs.Borrow.{sem};
 ghost use Rattle.wire_parts.specs.Sending.{bytes_of};
 ghost use Rattle.serve_clients.specs.Marks.{client_of, Changes, AreAlike, EndsBusy, ids_with, ids_if, is_idle, with_ready, with_unsent, with_busy, ready_if, unsent_if, told_of, noted, will_send, one_settled, one_waits, one_waited};
 ghost use Rattle.serve_clients.specs.Agrees.{Breaks, KeepsEnds};
+ghost use Rattle.serve_clients.specs.Lending.{LendsClient};
 ghost use Rattle.serve_clients.specs.Waits.{waits_a_turn};
 ghost use Rattle.serve_clients.specs.declared.clients.TheConstants.{HELD_BACK};
 
@@ -394,9 +396,10 @@ impl Clients {
         self.all.len()
     }
 
-    /// The client of this id.
+    /// The client of this id. It stays as the borrower leaves it, and all else stays as it is.
     pub fn get_mut(&mut self, id: usize) -> Option<&mut Client>
-        ensures { option_copied_mut result ≡ client_of self.old id }
+        ensures* writes_back { sem 𝓛 (LendsClient self.entry id result) }
+        ensures value { option_copied_mut result ≡ client_of self.old id }
     {
         self.all.get_mut(id)?.as_mut()
     }
