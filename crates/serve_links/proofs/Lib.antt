@@ -6,3 +6,4 @@ pub mod Feeding
 pub mod Leaving
 pub mod Reading
 pub mod Story
+pub mod Ends

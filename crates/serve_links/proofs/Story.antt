@@ -1,20 +1,19 @@
 -- How the ends of a proxy go on, one after another.
-use Rattle.std.proofs.Common.{◌≡◌, ◌≢◌, ℕ, Bool, true, false, List, [], ◌∷◌, ◌++◌, Option, Some, None, refl, sym, ap, ◌∙◌, subst, inl, inr, append_assoc}
+use Rattle.std.proofs.Common.{◌≡◌, ◌≢◌, ℕ, true, false, List, [], ◌++◌, Option, Some, None, refl, sym, ap, ◌∙◌, subst, inl, inr, append_assoc}
 use Rattle.std.specs.Prelude.{IfSome, nat_eq, slice_get}
 use Rattle.std.proofs.lemmas.Bool.{cases_Bool, eq-eqb, eqb-true}
 use Rattle.wire_parts.specs.Sending.{bytes_of}
-use Rattle.serve_wire.specs.Events.{Event, role}
+use Rattle.serve_wire.specs.Events.{Event}
 use Rattle.serve_wire.specs.Agreement.{IsUntouched}
 use Rattle.serve_wire.specs.declared.conn.conn.Conn.{Conn}
-use Rattle.core_accepted.specs.declared.served.ServedCore.{ServedCore}
 use Rattle.serve_clients.specs.declared.clients.Client.{Client}
 use Rattle.serve_clients.specs.declared.clients.Clients.{Clients}
 use Rattle.serve_clients.specs.Agrees.{EndAgrees, AllAgree}
 use Rattle.serve_clients.proofs.Agreeing.{its, state_stays}
 use Rattle.serve_clients.specs.Marks.{client_of}
 use Rattle.serve_links.specs.declared.link.Link.{Link}
-use Rattle.serve_links.specs.CoreSteps.{Step, Walks, AreOf}
-use Rattle.serve_links.specs.Story.{fed_in, gave_in, AgreesWith, AgreeWith, TellsNone, LineAgrees, LinesAgree, KeepsOthers, texts_of, OneGoes, LineGoes, AnEnd, Agrees, AllGo, StoriesGoOn}
+use Rattle.serve_links.specs.CoreSteps.{Step}
+use Rattle.serve_links.specs.Story.{fed_in, gave_in, AgreesWith, LineAgrees, LinesAgree, texts_of, OneGoes, LineGoes, AnEnd, Agrees, AllGo, StoriesGoOn}
 use Rattle.serve_links.proofs.Walked.{walked, of_both}
 
 -- ---- one end
@@ -51,19 +50,19 @@ line_stays h h' at link same was = λ conn is. let s = same conn is in let w = w
 
 -- ---- whose connections are apart
 
-client_apart : (i j : ℕ) → nat_eq i j ≡ false → (0, j) ≢ (0, i)
+client_apart : (i j : ℕ) → nat_eq i j ≡ false → ◌≢◌ {A = ℕ × ℕ} (0, j) (0, i)
 client_apart i j other e = bools (sym other ∙ eq-eqb i j (sym (ap (λ (p : ℕ × ℕ). p.1) e)))
   where
     bools : false ≡ true → ⊥
     bools f = cc
 
-kinds_apart : (i j : ℕ) → (0, i) ≢ (1, j)
+kinds_apart : (i j : ℕ) → ◌≢◌ {A = ℕ × ℕ} (0, i) (1, j)
 kinds_apart i j e = numbers (ap (λ (p : ℕ × ℕ). p.0) e)
   where
-    numbers : 0 ≡ 1 → ⊥
+    numbers : ◌≡◌ {A = ℕ} 0 1 → ⊥
     numbers f = cc
 
-links_apart : (i j : ℕ) → nat_eq i j ≡ false → (1, j) ≢ (1, i)
+links_apart : (i j : ℕ) → nat_eq i j ≡ false → ◌≢◌ {A = ℕ × ℕ} (1, j) (1, i)
 links_apart i j other e = bools (sym other ∙ eq-eqb i j (sym (ap (λ (p : ℕ × ℕ). p.1) e)))
   where
     bools : false ≡ true → ⊥
@@ -81,7 +80,10 @@ pub one_of_all :
     → OneGoes Is id old.core old.history x new.core new.history y → AllGo Is old new
 one_of_all {Is} id old new x y was is others links g = record { steps = g.steps; kinds = g.kinds; walks = g.walks; agree = agree; texts = ap texts_of links }
   where
+    h : List Event
     h = old.history
+
+    h' : List Event
     h' = new.history
 
     was_of : (past : List Step) → Agrees past old → (j : ℕ) (z : Client) → client_of old.clients j ≡ Some z → AgreesWith past h j z
@@ -115,7 +117,10 @@ pub line_of_all :
     → LineGoes Is at old.core old.history x new.core new.history y → AllGo Is old new
 line_of_all {Is} at old new x y was is others texts clients_are g = record { steps = g.steps; kinds = g.kinds; walks = g.walks; agree = agree; texts = texts }
   where
+    h : List Event
     h = old.history
+
+    h' : List Event
     h' = new.history
 
     client : (past : List Step) → Agrees past old → (j : ℕ) (z : Client) → client_of new.clients j ≡ Some z → AgreesWith (g.steps ++ past) h' j z
@@ -155,5 +160,11 @@ all_then {Is} a b c g k =
       texts = k.texts ∙ g.texts;
     }
 
-pub stories_go_on : StoriesGoOn
-stories_go_on = record { still = λ Is x. all_still {Is} x x refl; then = λ Is a b c g k. all_then {Is} a b c g k; one = λ Is id old new x y was is others links g. one_of_all {Is} id old new x y was is others links g; line = λ Is at old new x y was is others texts clients g. line_of_all {Is} at old new x y was is others texts clients g }
+-- the laws, by calls of any kind
+pub stories_go_on : (Is : Step → Type 0) → StoriesGoOn Is
+stories_go_on Is = record {
+  still = λ x. all_still x x refl;
+  both = λ a b c g k. all_then a b c g k;
+  one = λ id old new x y was is others links g. one_of_all id old new x y was is others links g;
+  line = λ at old new x y was is others texts clients g. line_of_all at old new x y was is others texts clients g;
+}

@@ -59,6 +59,10 @@ pub record GoesBy (Is : Step → Type 0) (old new : ServedCore) : Type 0 where
   pub kinds : AreOf Is steps
   pub walks : Walks steps old new
 
+-- any call
+abbrev pub IsAnyCall : Step → Type 0
+IsAnyCall step = Unit {0}
+
 -- any call but a load
 abbrev pub IsOfTurn : Step → Type 0
 IsOfTurn (Loaded configuration generation) = ⊥

@@ -1,7 +1,7 @@
 -- What a link's connection has to do with the wire. Source: mcgate's own; what a server is asked for its dialects is of memcached's protocol.txt, "Meta No-Op".
-use Rattle.std.specs.Prelude.{◌≡◌, ◌⊎◌, ℕ, Bool, true, false, List, [], ◌∷◌, ◌++◌, codes, Option, Some, None, OnOk}
+use Rattle.std.specs.Prelude.{◌≡◌, ℕ, Bool, false, List, [], ◌∷◌, ◌++◌, codes, Option, Some, None}
 use Rattle.wire_parts.specs.Sending.{bytes_of}
-use Rattle.serve_wire.specs.Events.{Event, connects, closes, IsNew}
+use Rattle.serve_wire.specs.Events.{Event, connects, IsNew}
 use Rattle.serve_wire.specs.Calls.{Closes}
 use Rattle.serve_wire.specs.declared.conn.conn.Conn.{Conn}
 use Rattle.serve_links.specs.declared.settings.ServerDialect.{ServerDialect}

@@ -103,15 +103,15 @@ pub record AllGo (Is : Step → Type 0) (old new : AnEnd) : Type 0 where
   pub agree : (past : List Step) → Agrees past old → Agrees (steps ++ past) new
   pub texts : texts_of new.links ≡ texts_of old.links
 
--- laws of all ends: what is done to one of them is done to all, and one after another
-pub record StoriesGoOn : Type 1 where
-  pub still : (Is : Step → Type 0) (x : AnEnd) → AllGo Is x x
-  pub then : (Is : Step → Type 0) (a b c : AnEnd) → AllGo Is a b → AllGo Is b c → AllGo Is a c
+-- laws of all ends, by calls of one kind: what is done to one of them is done to all, and one after another
+pub record StoriesGoOn (Is : Step → Type 0) : Type 0 where
+  pub still : (x : AnEnd) → AllGo Is x x
+  pub both : (a b c : AnEnd) → AllGo Is a b → AllGo Is b c → AllGo Is a c
   pub one :
-      (Is : Step → Type 0) (id : ℕ) (old new : AnEnd) (x y : Client) → client_of old.clients id ≡ Some x → client_of new.clients id ≡ Some y
+      (id : ℕ) (old new : AnEnd) (x y : Client) → client_of old.clients id ≡ Some x → client_of new.clients id ≡ Some y
       → ((j : ℕ) → nat_eq id j ≡ false → client_of new.clients j ≡ client_of old.clients j) → new.links ≡ old.links
       → OneGoes Is id old.core old.history x new.core new.history y → AllGo Is old new
   pub line :
-      (Is : Step → Type 0) (at : ℕ) (old new : AnEnd) (x y : Link) → slice_get old.links at ≡ Some x → slice_get new.links at ≡ Some y
+      (at : ℕ) (old new : AnEnd) (x y : Link) → slice_get old.links at ≡ Some x → slice_get new.links at ≡ Some y
       → ((j : ℕ) → nat_eq at j ≡ false → slice_get new.links j ≡ slice_get old.links j) → texts_of new.links ≡ texts_of old.links → ((j : ℕ) → client_of new.clients j ≡ client_of old.clients j)
       → LineGoes Is at old.core old.history x new.core new.history y → AllGo Is old new

@@ -1,8 +1,12 @@
 //! Laws of the ends of a proxy, and of what they do to its core.
 
+ghost use Rattle.serve_links.specs.CoreSteps.{IsOfTurn, IsFailure, IsAnyCall};
 ghost use Rattle.serve_links.specs.Story.{StoriesGoOn};
 
-/// What one end of a proxy does, all its ends do, and they go on one after another.
+/// What one end of a proxy does, all its ends do, and they go on one after another: by all calls of a core, by all but loads, and where calls
+/// only fail. (A clause speaks of one kind of calls; `proofs/Story` has the same for any.)
 pub fn stories_go_on()
-    ensures { StoriesGoOn }
+    ensures calls { StoriesGoOn IsAnyCall }
+    ensures turns { StoriesGoOn IsOfTurn }
+    ensures failures { StoriesGoOn IsFailure }
 {}

@@ -1,6 +1,6 @@
-use Rattle.std.proofs.Common.{◌≡◌}
+use Rattle.std.proofs.Common.{◌≡◌, refl}
 use Rattle.serve_links.specs.declared.calls.calls.Next.TheVariants as nexts
-use Rattle.serve_links.proofs.Leaving.{settles_as, one}
+use Rattle.serve_links.proofs.Leaving.{settles_as, none, one}
 use Rattle.serve_links.proofs.outcomes.settle_copied.Goals as goal
 
 pub returns-in_ok-mark_settled-in-Settled-clause-settled : goal.returns-in_ok-mark_settled-in-Settled-clause-settled
@@ -11,3 +11,6 @@ returns-in_ok-mark_settled-in-Settled-clause-settled c =
     let same : held ≡ c.copied.result = cc in
     let is = settles_as sent c.copied.result held c.args.core.now (nexts.Settled c.in-Settled.client c.in-Settled.used) sent' c.settle_first.new.core same c.in-Settled.ensures.next in
     λ came. one sent held c.args.core.now c.in-Settled.client c.in-Settled.used sent' c.use_up.new.self.held.items c.settle_first.new.core c.use_up.ensures.held is
+
+pub returns-in-More-clause-settled : goal.returns-in-More-clause-settled
+returns-in-More-clause-settled c = λ came. none c.in-More.ensures.next.1 refl c.in-More.ensures.next.2

@@ -1,8 +1,17 @@
+use Rattle.std.proofs.Common.{refl, ap}
 use Rattle.serve_wire.proofs.Anew.{anew_twice}
-use Rattle.serve_clients.proofs.Agreeing.{keeps_twice}
-use Rattle.serve_links.proofs.Walked.{then}
-use Rattle.serve_links.proofs.Leaving.{both}
+use Rattle.serve_clients.proofs.Agreeing.{keeps_none, keeps_twice}
+use Rattle.serve_links.proofs.Walked.{still, then}
+use Rattle.serve_links.proofs.Leaving.{none, both}
 use Rattle.serve_links.proofs.outcomes.settle_held.Goals as goal
+
+pub loop-init : goal.loop-init
+loop-init c = record {
+  core = still refl;
+  settled = none (ap (λ q. q.items) c.stops_for-stops.ensures.calls) (ap (λ b. b.items) c.stops_for-stops.ensures.held) refl;
+  ends = keeps_none c.args.clients.now;
+  rest = c.stops_for-stops.ensures.rest;
+}
 
 pub loop-preserved : goal.loop-preserved
 loop-preserved c = record {

@@ -1,9 +1,12 @@
-use Rattle.std.proofs.Common.{ℕ, ◌+◌, ◌-◌, ◌^◌, ◌≤◌, List, length, drop, sym, ap, ◌∙◌, arith}
+use Rattle.std.proofs.Common.{ℕ, ◌+◌, ◌-◌, ◌^◌, ◌≤◌, List, length, drop, refl, sym, ap, ◌∙◌, arith}
 use Rattle.std.proofs.lemmas.List.{drop-drop}
-use Rattle.serve_clients.proofs.Agreeing.{keeps_twice}
-use Rattle.serve_links.proofs.Walked.{then}
-use Rattle.serve_links.proofs.Leaving.{awaited, both, one, drop_few}
+use Rattle.serve_clients.proofs.Agreeing.{keeps_none, keeps_twice}
+use Rattle.serve_links.proofs.Walked.{still, then}
+use Rattle.serve_links.proofs.Leaving.{awaited, none, both, one, drop_few}
 use Rattle.serve_links.proofs.outcomes.settle_in.Goals as goal
+
+pub loop-init : goal.loop-init
+loop-init c = record { core = still refl; settled = none refl refl refl; ends = keeps_none c.args.clients.now }
 
 pub loop-preserved : goal.loop-preserved
 loop-preserved c =
