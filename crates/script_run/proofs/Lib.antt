@@ -12,6 +12,7 @@ pub mod Progressing
 pub mod Leasts
 pub mod Breaking
 pub mod Firsts
+pub mod Rising
 pub mod Steps
 pub mod Held
 pub mod Come

@@ -1,5 +1,5 @@
 -- How far a script that steps its calls has come, and what each step makes of its log. Source: mcgate's own.
-use Rattle.std.specs.Prelude.{◌≡◌, ◌⊎◌, ℕ, ◌<◌, ◌≤◌, Bool, true, false, List, [], ◌++◌, length, map, drop, Option, IfSome, slice_get}
+use Rattle.std.specs.Prelude.{◌≡◌, ◌⊎◌, ℕ, ◌<◌, ◌≤◌, Bool, true, false, List, [], ◌∷◌, ◌++◌, length, map, drop, Option, IfSome, slice_get}
 use Rattle.mc_types.specs.Items.{Item}
 use Rattle.fresh_runs.specs.Log.{Shown}
 use Rattle.fresh_runs.specs.Overlap.{Entry, given_of, output_of, run_of}
@@ -21,7 +21,7 @@ use Rattle.script_run.specs.Turns.{AreInTurn}
 use Rattle.script_run.specs.Running.{kept_of, IsLoadedBy, AreOfOne, AreAsked, AreStalled, KeepStalled, IsAtRest}
 use Rattle.script_run.specs.declared.driver.runner.Runner.{Runner}
 use Rattle.script_run.specs.World.{Changes, World}
-use Rattle.script_run.specs.Driving.{said_by, said_in, shown_to, AreHandedInTurn, trees_loaded, loaded_trees, CameInTurn, leaves_out, IsSettled, AreThrough, AreSteps, AreMarked, StepsPart, AreSpentIn}
+use Rattle.script_run.specs.Driving.{said_by, said_in, shown_to, AreHandedInTurn, AreRising, AreOutputs, HaveAllOutput, trees_loaded, loaded_trees, CameInTurn, leaves_out, IsSettled, AreThrough, AreSteps, AreMarked, StepsPart, AreSpentIn}
 
 -- an event that asks clients nothing leaves as much to do as there was
 abbrev pub LeavesBy : Scripted → List (Entry dialect) → List (Entry dialect) → Type 0
@@ -182,6 +182,16 @@ HandsSome before after old =
     (servers : ScriptServers) (opening : ℕ → List ℕ → Option Item) (tree : ℕ → Route) (log : List (Entry dialect)) → Stands opening tree log (kept_of old servers)
     → (new : Runner) × GoesOnShown (λ c. ⊥) opening tree log before after (kept_of new servers)
 
+-- one output more of this client was handed out, which isn't empty, or none
+abbrev pub AddsOne : ℕ → List Shown → List Shown → Type 0
+AddsOne client before after = (after ≡ before) ⊎ ((bytes : List ℕ) × (bytes ≡ [] → ⊥) × (after ≡ before ++ record { client = client; bytes = bytes } ∷ []))
+
+-- some outputs more were handed out, in rising order of clients
+pub record AddsRising (before after : List Shown) : Type 0 where
+  pub outputs : List Shown
+  pub after_is : after ≡ before ++ outputs
+  pub rising : AreRising outputs
+
 -- so many reloads came, and these events are left: a log stands with the trees loaded, in which clients said what came before and were given what was handed out, and the servers are what those events and the results made of them
 pub record HasCome (first : Route) (refused : List Bool) (reloads : List Reload) (events : List Scripted) (loaded : ℕ) (left : List Scripted) (given : List Shown) (k : Kept) : Type 0 where
   pub log : List (Entry dialect)
@@ -199,8 +209,11 @@ pub record HasCome (first : Route) (refused : List Bool) (reloads : List Reload)
 -- a log stands after the events that came, and stood after each: clients that weren't opened said nothing yet, nothing more can be done without a result, and unless calls may be out nothing is left to do
 pub record HasStood (first : Route) (refused : List Bool) (reloads : List Reload) (events : List Scripted) (loaded : ℕ) (left : List Scripted) (given : List Shown) (marks : List ℕ) (clients : ℕ) (k : Kept) : Type 0 where
   pub come : HasCome first refused reloads events loaded left given k
-  pub through : AreThrough events (length come.done) come.log given
-  pub steps : AreSteps events (length come.done) come.log given
+  pub outputs : List (List Shown)
+  pub by_event : AreOutputs given (length come.done) outputs []
+  pub all : HaveAllOutput come.done come.log
+  pub through : AreThrough events (length come.done) come.log outputs
+  pub steps : AreSteps events (length come.done) come.log outputs
   pub settled : leaves_out false come.done ≡ false → IsSettled come.done come.log
   pub stalled : (c : ℕ) → c < clients → IsStalled k.core c
   pub heard : (c : ℕ) → clients ≤ c → said_in come.done c ≡ []

@@ -7,7 +7,7 @@ ghost use Rattle.script_events.specs.Scripted.{Scripted, Now, Moment, loss_of, s
 ghost use Rattle.script_events.specs.Servers.{count_of};
 ghost use Rattle.script_run.specs.Breaking.{StopsFed};
 ghost use Rattle.script_run.specs.Running.{MovesFed, AreStalled, KeepStalled, IsAtRest};
-ghost use Rattle.script_run.specs.Stepping.{FedInTurn, FedInPart, Befalls, BreaksOff, IsHeard, RestsAfter, HandsOut, HandsOutAll, HandsSome};
+ghost use Rattle.script_run.specs.Stepping.{FedInTurn, FedInPart, Befalls, BreaksOff, IsHeard, RestsAfter, HandsOut, HandsOutAll, HandsSome, AddsOne, AddsRising};
 
 use crate::driver::Runner;
 use crate::log::laws::losses_go_on;
@@ -90,6 +90,7 @@ fn give(runner: &mut Runner, client: usize, transcript: &mut Transcript) -> Resu
     ensures ok { OnOk result (HandsOut (λ c. client ≡ c) (transcript_of transcript.old) (transcript_of transcript.new) runner.old runner.new) }
     ensures stalled { OnOk result (KeepStalled runner.old runner.new) }
     ensures err { OnErr result (transcript.new.shown.items ≡ transcript.old.shown.items) }
+    ensures one { AddsOne client (transcript_of transcript.old) (transcript_of transcript.new) }
     ensures longer { length transcript.old.shown.items ≤ length transcript.new.shown.items }
     ensures clients { runner.new.clients ≡ runner.old.clients }
     ensures fault { IfErr result (λ fault. fault ≡ NoMemory) }
@@ -112,6 +113,7 @@ pub fn give_all(runner: &mut Runner, transcript: &mut Transcript) -> Result<(), 
     ensures stalled { OnOk result (KeepStalled runner.old runner.new) }
     ensures clients { OnOk result (runner.new.clients ≡ runner.old.clients) }
     ensures err { OnErr result (HandsSome (transcript_of transcript.old) (transcript_of transcript.new) runner.old) }
+    ensures rising { AddsRising (transcript_of transcript.old) (transcript_of transcript.new) }
     ensures fault { IfErr result (λ fault. fault ≡ NoMemory) }
     ensures longer { length transcript.old.shown.items ≤ length transcript.new.shown.items }
 {
