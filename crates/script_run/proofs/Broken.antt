@@ -30,9 +30,8 @@ use Rattle.script_run.specs.Results.{CallResult}
 use Rattle.script_run.specs.Standing.{Kept, GoesOn, GoesOnFed, tree_by}
 use Rattle.script_run.proofs.Counted.{none_more}
 use Rattle.script_run.specs.Breaking.{AreSpent, IsWithinOne, StopsAfter, StopsFed}
-use Rattle.script_run.specs.Running.{kept_of, AreOfOne, AreAskedYet, Moves, MovesFed, MovesByResults}
+use Rattle.script_run.specs.Running.{kept_of, AreOfOne, AreAskedYet, Stays, MovesFed, MovesByResults}
 use Rattle.script_run.specs.declared.driver.runner.Runner.{Runner}
-use Rattle.script_run.proofs.DriverRunning.{stays}
 use Rattle.script_run.proofs.Breaking.{begun_spent}
 use Rattle.script_run.specs.Driving.{said_by, said_in, handed, AreThrough, HasNoResult, BringsSome, AreSteps, AreOutputs, IsStepPart, AreMarked, HaveMade, HasWorldOf, RunsBy, StepsPart, AreSpentIn, EndsStepped}
 use Rattle.script_run.specs.World.{Changes, World}
@@ -80,13 +79,13 @@ fed_in_part client bytes before part more a b s t u fault is fed h =
 
 pub none_in_part : (client : ℕ) (bytes : List ℕ) (a : Runner) (s : ScriptServers) (fault : FleetFault) → fault ≡ faults.NoMemory → FedInPart client bytes a s fault s
 none_in_part client bytes a s fault is =
-    record { mid = a; at = s; said = []; unsaid = bytes; cut = refl; fed = nothing_fed client a a s (stays a s); within = inl refl; spent = none_spent fault a.core s is }
+    record { mid = a; at = s; said = []; unsaid = bytes; cut = refl; fed = nothing_fed client a a s (λ opening tree log stands. stands); within = inl refl; spent = none_spent fault a.core s is }
 
 pub all_in_part : (client : ℕ) (bytes : List ℕ) (a b : Runner) (s t : ScriptServers) (fault : FleetFault) → MovesFed client bytes a s b s → StopsAfter (λ results. Unit {0}) b s fault t → FedInPart client bytes a s fault t
 all_in_part client bytes a b s t fault m h =
     record { mid = h.mid; at = h.at; said = bytes; unsaid = []; cut = sym (append-nil bytes); fed = fed_results client bytes a b h.mid s h.at m (h.results, h.moves); within = h.within; spent = h.spent }
 
-pub stops_after_open : (client : ℕ) (bytes : List ℕ) (a b : Runner) (fault : FleetFault) → ((s : ScriptServers) → Moves a s b s) → StopsFed client bytes b fault → StopsFed client bytes a fault
+pub stops_after_open : (client : ℕ) (bytes : List ℕ) (a b : Runner) (fault : FleetFault) → ((s : ScriptServers) → Stays a s b s) → StopsFed client bytes b fault → StopsFed client bytes a fault
 stops_after_open client bytes a b fault m h =
     record { mid = h.mid; said = h.said; unsaid = h.unsaid; cut = h.cut; moves = λ s. fed_after client h.said a b h.mid s (m s) (h.moves s); spent = h.spent }
 

@@ -1,14 +1,12 @@
 -- How it stands after each event of a script, and what a script did in the end: clients heard, outputs and marks at their places, and nothing left to do.
 use Rattle.std.proofs.Common.{◌≡◌, ℕ, zero, suc, ◌+◌, ◌<◌, ◌≤◌, Bool, true, false, List, [], ◌∷◌, ◌++◌, length, map, slice_get, take, drop, get_or, Option, Some, None, inl, inr, length-append, refl, sym, ap, ◌∙◌, subst, arith, append_assoc, append-nil}
-use Rattle.std.specs.Prelude.{◌⊎◌, MatchOption, option_map, nat_eq}
-use Rattle.std.specs.Map.{lookup}
+use Rattle.std.specs.Prelude.{◌⊎◌}
 use Rattle.std.proofs.Math.Seq.{drop-length, take-length, take-append_seam}
 use Rattle.std.proofs.lemmas.Bool.{cases_lt}
 use Rattle.std.proofs.lemmas.List.{append_cancel_right, drop-map, take-append-drop, take-append-le}
-use Rattle.core_commands.specs.Begun.{owner_by}
 use Rattle.mc_types.specs.Items.{Item}
 use Rattle.fresh_runs.specs.Log.{Shown}
-use Rattle.fresh_runs.specs.Overlap.{Slot, Entry, front_of, queue_of, given_of, owner_of}
+use Rattle.fresh_runs.specs.Overlap.{Entry, given_of}
 use Rattle.fresh_runs.specs.OverlapStream.{stream_of}
 use Rattle.fresh_runs.specs.Protocol.{IsStuck}
 use Rattle.fresh_runs.proofs.OverlapRuns.{runs}
@@ -17,13 +15,10 @@ use Rattle.route_tree.specs.Plan.{Plan}
 use Rattle.route_tree.specs.Route.{Route}
 use Rattle.route_tree.specs.Word.{tree_words}
 use Rattle.core_proxy.specs.Claims.{bars_by}
-use Rattle.core_proxy.specs.CoreState.{dialect, client_at, command_at, dropped_by, front_by, IsQueue, AreSlots, IsOut}
-use Rattle.core_proxy.specs.Polls.{IsDone, IsStalled}
+use Rattle.core_proxy.specs.CoreState.{dialect}
+use Rattle.core_proxy.specs.Polls.{IsStalled}
 use Rattle.core_proxy.specs.declared.limits.Limits.{Limits}
-use Rattle.core_client.specs.declared.client.Client.{Client}
-use Rattle.core_client.specs.declared.client.Pending.{Pending}
 use Rattle.core_proxy.specs.declared.proxy.Core.{Core}
-use Rattle.core_commands.specs.declared.command.Command.{Command}
 use Rattle.core_commands.specs.declared.sharing.Sharing.TheVariants.{Alone}
 use Rattle.script_events.specs.declared.script.Event.{Event}
 use Rattle.script_events.specs.declared.script.Reload.{Reload}
@@ -37,7 +32,7 @@ use Rattle.script_events.specs.Servers.{caches_of, turn_of, IsNew}
 use Rattle.script_events.specs.declared.servers.servers.ScriptServers.{ScriptServers}
 use Rattle.script_run.specs.Standing.{Kept, Stands, LeavesAsMuch, tree_by}
 use Rattle.script_run.specs.Laws.{StandingSays, NothingStands, IsBegin}
-use Rattle.script_run.specs.Running.{kept_of, MovesByResults, IsIdle, AreStalled, KeepStalled, IsAtRest}
+use Rattle.script_run.specs.Running.{kept_of, MovesByResults, AreStalled, KeepStalled, IsAtRest}
 use Rattle.script_run.specs.declared.driver.runner.Runner.{Runner}
 use Rattle.script_run.specs.Driving.{said_by, said_in, shown_to, handed, may_be_out, leaves_out, IsDoneFor, IsSettled, HaveAllOutput, IsThrough, AreThrough, IsStep, AreSteps, AreOutputs, IsMarked, AreMarked, one_loaded, trees_loaded, IsReached, CameSo, CameInTurn, RunsBy, DrivesStepped}
 use Rattle.script_run.specs.Holding.{put_all_on}
@@ -48,6 +43,7 @@ use Rattle.script_run.proofs.Direct.{fresh_if_direct}
 use Rattle.script_run.proofs.Messages.{each_written}
 use Rattle.script_run.proofs.Replied.{replied_unbroken}
 use Rattle.script_run.proofs.Worlds.{brought, brought_still}
+use Rattle.script_run.proofs.Served.{idle_for, free_all, comes_so}
 use Rattle.script_run.proofs.Rising.{all_handed, outputs_next, outputs_last, outputs_none}
 use Rattle.script_run.proofs.Come.{said_split, mark_count, come_on, come_ended, come_out, begins, next_left}
 
@@ -110,7 +106,7 @@ through_as events done log given shown same t =
 
 pub step_on : (events done : List Scripted) (event : Scripted) (more log : List (Entry dialect)) (given now : List Shown) → IsStep events done event log given now → IsStep events done event (more ++ log) given now
 step_on events done event more log given now s =
-    record { before = through_on events done more log given s.before; after = through_on events (done ++ event ∷ []) more log now s.after; more = s.more; goes = s.goes; brings = s.brings }
+    record { before = through_on events done more log given s.before; after = through_on events (done ++ event ∷ []) more log now s.after; more = s.more; goes = s.goes; brings = s.brings; comes = s.comes }
 
 pub steps_on : (events : List Scripted) (count : ℕ) (more log : List (Entry dialect)) (outputs : List (List Shown)) → AreSteps events count log outputs → AreSteps events count (more ++ log) outputs
 steps_on events count more log outputs steps n event lt at = step_on events (take n events) event more log (handed (take n outputs)) (handed (take (n + 1) outputs)) (steps n event lt at)
@@ -161,44 +157,6 @@ no_marks events log given [] = tt
 no_marks events log given (r ∷ reloads) = tt
 
 -- ---- where nothing is left to do
-
-none_in : (slots : List (Slot dialect)) (items : List Pending) → items ≡ [] → AreSlots items slots → slots ≡ []
-none_in [] items none are = refl
-none_in (slot ∷ slots) items none are = absurd (subst (λ (l : List Pending). AreSlots l (slot ∷ slots)) none are)
-
-differ : (b : Bool) → b ≡ true → b ≡ false → ⊥
-differ b on off = cc
-
--- the core has nothing left to do for a client: so it is in the log
-record IsEmptyFor (log : List (Entry dialect)) (c : ℕ) : Type 0 where
-  pub stuck : IsStuck dialect (front_of log c).place
-  pub shown : queue_of log c ≡ []
-
-idle_for : (opening : ℕ → List ℕ → Option Item) (tree : ℕ → Route) (log : List (Entry dialect)) (k : Kept) → Stands opening tree log k → (c : ℕ) → IsIdle k.core c → IsEmptyFor log c
-idle_for opening tree log k s c idle = by (client_at k.core c) refl idle
-  where
-    of : (x : Client) → client_at k.core c ≡ Some x → IsDone x → IsEmptyFor log c
-    of x is (inl dropped) = absurd (differ x.dropped dropped (ap dropped_by (sym is) ∙ s.leads.dropped c ∙ s.served c))
-    of x is (inr rests) =
-        record {
-          stuck = subst (λ f. IsStuck dialect f.place) (ap front_by (sym is) ∙ s.leads.front c) rests.1;
-          shown = sym (s.leads.queue c) ∙ none_in (s.beside.queue c) x.queue.items rests.0 (subst (λ (o : Option Client). IsQueue o (s.beside.queue c)) is (s.fits.queues c)).0;
-        }
-
-    by : (o : Option Client) → client_at k.core c ≡ o → MatchOption o ⊥ IsDone → IsEmptyFor log c
-    by None is h = absurd h
-    by (Some x) is h = of x is h
-
-none_left : (entries : List (ℕ × Command)) → (0 < length entries → ⊥) → entries ≡ []
-none_left [] none = refl
-none_left (entry ∷ entries) none = absurd (none (omega arith))
-
-not_there : (core : Core) → (IsOut core → ⊥) → (n : ℕ) → command_at core n ≡ None
-not_there core none n = ap (λ (es : List (ℕ × Command)). lookup (λ k. nat_eq n k) es) (none_left core.commands.entries none)
-
--- no command is under way
-free_all : (opening : ℕ → List ℕ → Option Item) (tree : ℕ → Route) (log : List (Entry dialect)) (k : Kept) → Stands opening tree log k → (IsOut k.core → ⊥) → (n : ℕ) → owner_of log n ≡ None
-free_all opening tree log k s none n = sym (s.leads.owner n) ∙ ap (option_map owner_by) (not_there k.core none n)
 
 -- all that there was is handed out
 piece_settled :
@@ -516,6 +474,7 @@ module _ (first : Route) (refused : List Bool) (reloads : List Reload) (events :
               goes = sym (append_assoc o.more g.more log);
               brings = brought_still event log (g.more ++ log) o.more (none_more opening tree (g.more ++ log) (kept_of b t) (kept_of d t) g.stands refl o.more o.stands)
                   (brought event m.results a s opening tree g.more log h.come.stands m.fit m.asked (m.goes opening tree log h.come.stands).1 (m.turns opening tree log h.come.stands));
+              comes = comes_so event (done ++ event ∷ []) b.clients log (g.more ++ log) o.more unheard (m.cuts opening tree log h.come.stands);
             });
         settled = settled;
         stalled = stalled;

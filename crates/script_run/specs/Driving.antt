@@ -3,7 +3,7 @@ use Rattle.std.specs.Prelude.{◌⊎◌, ◌≡◌, ℕ, zero, suc, ◌+◌, ◌
 use Rattle.std.specs.List.{All, AllPairs}
 use Rattle.fresh_runs.specs.Log.{Shown}
 use Rattle.mc_types.specs.declared.call.Outcome.{Outcome}
-use Rattle.fresh_runs.specs.Overlap.{Entry, Ticket, Follows, run_of, front_of, queue_of, output_of, given_of, owner_of, out_of}
+use Rattle.fresh_runs.specs.Overlap.{Entry, Feeds, Ticket, Follows, run_of, front_of, queue_of, output_of, given_of, owner_of, out_of}
 use Rattle.fresh_runs.specs.Protocol.{IsStuck}
 use Rattle.fresh_runs.specs.OverlapStream.{stream_of}
 use Rattle.fresh_runs.specs.OverlapLaws.{WritesAll}
@@ -17,6 +17,7 @@ use Rattle.core_proxy.specs.Claims.{bars_by}
 use Rattle.core_proxy.specs.CoreState.{dialect}
 use Rattle.core_proxy.specs.Polls.{IsStalled}
 use Rattle.core_commands.specs.declared.sharing.Sharing.TheVariants.{Alone}
+use Rattle.script_events.specs.declared.script.TheConstants.{PIECE_CUT}
 use Rattle.script_events.specs.declared.script.Reload.{Reload}
 use Rattle.script_events.specs.declared.script.Transcript.{Transcript}
 use Rattle.script_events.specs.declared.script.Report.{Report}
@@ -177,6 +178,65 @@ BringsSome (At turn loss) before after = HasNoResult before after
 BringsSome (Now loss) before after = HasNoResult before after
 BringsSome (Moment moment) before after = HasNoResult before after
 
+-- ---- in which cuts a piece comes
+
+-- cuts one after another; the latest comes first
+abbrev pub joined : List (List ℕ) → List ℕ
+joined [] = []
+joined (cut ∷ cuts) = joined cuts ++ cut
+
+-- these bytes are in cuts: those before the last one are as long as a cut can be, and the last one is no longer, and empty only where it is the only one
+pub record AreCuts (bytes last : List ℕ) (cuts : List (List ℕ)) : Type 0 where
+  pub bytes_are : bytes ≡ joined cuts ++ last
+  pub full : All (λ cut. length cut ≡ PIECE_CUT) cuts
+  pub within : length last ≤ PIECE_CUT
+  pub some : (cuts ≡ []) ⊎ (0 < length last)
+
+-- nothing is left to do for a client but to hand out
+pub record IsServedFor (log : List (Entry dialect)) (c : ℕ) : Type 0 where
+  pub stuck : IsStuck dialect (front_of log c).place
+  pub shown : queue_of log c ≡ []
+
+-- nothing is left to do for any client that said something in these events but to hand out, and no command is under way
+pub record IsServed (events : List Scripted) (log : List (Entry dialect)) : Type 0 where
+  pub clients : (c : ℕ) → (said_in events c ≡ []) ⊎ IsServedFor log c
+  pub free : (n : ℕ) → owner_of log n ≡ None
+
+-- a cut came at once, and the log was at rest before anything else came
+pub record CutComes (client : ℕ) (cut : List ℕ) (Rests : List (Entry dialect) → Type 0) (before after : List (Entry dialect)) : Type 0 where
+  pub more : List (Entry dialect)
+  pub goes : after ≡ more ++ Feeds client cut ∷ before
+  pub alone : (c : ℕ) → stream_of after c ≡ stream_of (Feeds client cut ∷ before) c
+  pub rests : Rests after
+
+-- these cuts came, one after another
+abbrev pub CutsCome : ℕ → (List (Entry dialect) → Type 0) → List (List ℕ) → List (Entry dialect) → List (Entry dialect) → Type 0
+CutsCome client Rests [] before after = after ≡ before
+CutsCome client Rests (cut ∷ cuts) before after = (mid : List (Entry dialect)) × CutsCome client Rests cuts before mid × CutComes client cut Rests mid after
+
+-- a piece comes in cuts: after each of them all that is complete is done, and each call has its result; what comes of the piece is handed out after the last one
+pub record ComesInCuts (done : List Scripted) (client : ℕ) (bytes : List ℕ) (before after : List (Entry dialect)) : Type 0 where
+  pub cuts : List (List ℕ)
+  pub last : List ℕ
+  pub are : AreCuts bytes last cuts
+  pub served : List (Entry dialect)
+  pub newer : List (Entry dialect)
+  pub goes : after ≡ newer ++ served
+  pub come : CutsCome client (IsServed done) (last ∷ cuts) before served
+
+-- how an event comes that is the last of these: of others than pieces nothing is said
+abbrev pub ComesSo : List Scripted → Scripted → List (Entry dialect) → List (Entry dialect) → Type 0
+ComesSo done (Piece client bytes) before after = ComesInCuts done client bytes before after
+ComesSo done (Add client bytes) before after = Unit {0}
+ComesSo done (Result server) before after = Unit {0}
+ComesSo done (Fail turn manner) before after = Unit {0}
+ComesSo done (Hold server key content) before after = Unit {0}
+ComesSo done (At turn loss) before after = Unit {0}
+ComesSo done (Now loss) before after = Unit {0}
+ComesSo done (Moment moment) before after = Unit {0}
+
+-- ---- one event after another
+
 -- two parts of the log: one after the events before this one, and a later one after this one too, with what results and outputs it brings between them
 pub record IsStep (events done : List Scripted) (event : Scripted) (log : List (Entry dialect)) (given now : List Shown) : Type 0 where
   pub before : IsThrough events done log given
@@ -184,6 +244,7 @@ pub record IsStep (events done : List Scripted) (event : Scripted) (log : List (
   pub more : List (Entry dialect)
   pub goes : after.older ≡ more ++ before.older
   pub brings : BringsResults event before.older after.older
+  pub comes : ComesSo (done ++ event ∷ []) event before.older after.older
 
 -- the log has a part before and one after each of so many events, with these outputs of each
 abbrev pub AreSteps : List Scripted → ℕ → List (Entry dialect) → List (List Shown) → Type 0
