@@ -1,10 +1,9 @@
 -- How far calls came that ended in a fault, one after another.
-use Rattle.std.proofs.Common.{◌≡◌, ℕ, ◌+◌, Bool, true, false, cond, nat_eq, List, [], ◌++◌, Result, Ok, Err, refl, sym, subst, inl, inr, arith, append-nil}
+use Rattle.std.proofs.Common.{◌≡◌, ℕ, Bool, true, false, cond, nat_eq, List, [], ◌++◌, Result, Ok, Err, refl, sym, subst, inl, inr, arith, append-nil}
 use Rattle.std.specs.Prelude.{IfErr, IsErrAnd}
 use Rattle.fresh_runs.specs.OverlapStream.{stream_of}
 use Rattle.script_events.specs.declared.servers.event.FleetFault.{FleetFault}
 use Rattle.script_events.specs.declared.servers.event.FleetFault.TheVariants.{NoMemory, Spent}
-use Rattle.core_proxy.specs.declared.fault.CoreFault.TheVariants as faults
 use Rattle.core_proxy.specs.declared.proxy.Core.{Core}
 use Rattle.script_events.specs.declared.servers.servers.ScriptServers.{ScriptServers}
 use Rattle.script_run.specs.Breaking.{IsLastBegun, AreGivenAll, AreSpent, StopsAt, StopsFed, StopsGiving, StopsAfter}

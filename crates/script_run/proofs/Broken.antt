@@ -1,5 +1,5 @@
 -- What was done until a fault: within an event, where all of it could not be handed out, or where reloads could not be loaded.
-use Rattle.std.proofs.Common.{◌≡◌, ℕ, ◌+◌, ◌<◌, ◌≤◌, Bool, true, false, cond, nat_eq, List, [], ◌∷◌, ◌++◌, length, take, slice_get, Option, Some, Result, Ok, Err, inl, inr, refl, sym, ap, ◌∙◌, subst, arith, append_assoc, append-nil}
+use Rattle.std.proofs.Common.{◌≡◌, ℕ, ◌+◌, ◌<◌, ◌≤◌, Bool, true, false, cond, nat_eq, List, [], ◌∷◌, ◌++◌, length, map, slice_get, Option, Some, Result, Ok, Err, inl, inr, refl, sym, ap, ◌∙◌, subst, arith, append_assoc, append-nil}
 use Rattle.std.specs.Prelude.{◌⊎◌, ◌^◌, IfErr}
 use Rattle.std.proofs.lemmas.List.{append_cancel_right}
 use Rattle.mc_types.specs.Items.{Item}
@@ -22,7 +22,7 @@ use Rattle.route_tree.specs.Word.{tree_words}
 use Rattle.script_events.specs.declared.script.Reload.{Reload}
 use Rattle.script_events.specs.declared.script.Transcript.{Transcript}
 use Rattle.script_events.specs.Opening.{opening_of}
-use Rattle.script_events.specs.Scripted.{Scripted, Piece, Add, Result as Results, transcript_of, fault_of}
+use Rattle.script_events.specs.Scripted.{Scripted, Piece, Add, Result as Results, shown_by, transcript_of, fault_of}
 use Rattle.script_events.specs.Servers.{turn_of, IsNew}
 use Rattle.script_events.specs.declared.servers.servers.ScriptServers.{ScriptServers}
 use Rattle.script_run.specs.Laws.{StandingSays}
@@ -30,17 +30,17 @@ use Rattle.script_run.specs.Results.{CallResult}
 use Rattle.script_run.specs.Standing.{Kept, GoesOn, GoesOnFed, tree_by}
 use Rattle.script_run.proofs.Counted.{none_more}
 use Rattle.script_run.specs.Breaking.{AreSpent, IsWithinOne, StopsAfter, StopsFed}
-use Rattle.script_run.specs.Running.{kept_of, AreOfOne, AreAskedYet, Moves, MovesFed, MovesByResults}
+use Rattle.script_run.specs.Running.{kept_of, AreOfOne, AreAskedYet, Stays, MovesFed, MovesByResults}
 use Rattle.script_run.specs.declared.driver.runner.Runner.{Runner}
-use Rattle.script_run.proofs.DriverRunning.{stays}
 use Rattle.script_run.proofs.Breaking.{begun_spent}
-use Rattle.script_run.specs.Driving.{said_by, said_in, AreThrough, HasNoResult, BringsSome, AreSteps, IsStepPart, AreMarked, HaveMade, HasWorldOf, RunsBy, StepsPart, AreSpentIn, EndsStepped}
+use Rattle.script_run.specs.Driving.{said_by, said_in, handed, AreThrough, HasNoResult, BringsSome, AreSteps, AreOutputs, IsStepPart, AreMarked, HaveMade, HasWorldOf, RunsBy, StepsPart, AreSpentIn, EndsStepped}
 use Rattle.script_run.specs.World.{Changes, World}
-use Rattle.script_run.specs.Stepping.{HasCalls, FedBy, AreFit, AreAskedBy, GoesOnInPart, FedInPart, Befalls, BreaksOff, HandsSome, HasCome, HasStood, Loads, LoadsInPart, LoadsSome, StopsPart}
+use Rattle.script_run.specs.Stepping.{HasCalls, FedBy, AreFit, AreAskedBy, GoesOnInPart, FedInPart, Befalls, BreaksOff, HandsSome, AddsRising, HasCome, HasStood, Loads, LoadsInPart, LoadsSome, StopsPart}
 use Rattle.script_run.proofs.Direct.{fresh_if_direct}
 use Rattle.script_run.proofs.Come.{turn_on, come_on, come_ended, come_some, given_none, handed_none}
 use Rattle.script_run.proofs.Steps.{after_it, handed_on, nothing_fed, fed_more, fed_after, fed_results}
-use Rattle.script_run.proofs.Stood.{said_append, through_on, steps_on, marked_on, marked_one, stalled_or_unheard, here}
+use Rattle.script_run.proofs.Rising.{outputs_last, outputs_none}
+use Rattle.script_run.proofs.Stood.{said_append, through_on, throughs_on, steps_on, marked_on, marked_one, before_it}
 use Rattle.script_run.proofs.Worlds.{world_next, world_stays, none_had, brought, brought_some, some_brought, brought_still}
 
 -- ---- results that are faults
@@ -79,13 +79,13 @@ fed_in_part client bytes before part more a b s t u fault is fed h =
 
 pub none_in_part : (client : ℕ) (bytes : List ℕ) (a : Runner) (s : ScriptServers) (fault : FleetFault) → fault ≡ faults.NoMemory → FedInPart client bytes a s fault s
 none_in_part client bytes a s fault is =
-    record { mid = a; at = s; said = []; unsaid = bytes; cut = refl; fed = nothing_fed client a a s (stays a s); within = inl refl; spent = none_spent fault a.core s is }
+    record { mid = a; at = s; said = []; unsaid = bytes; cut = refl; fed = nothing_fed client a a s (λ opening tree log stands. stands); within = inl refl; spent = none_spent fault a.core s is }
 
 pub all_in_part : (client : ℕ) (bytes : List ℕ) (a b : Runner) (s t : ScriptServers) (fault : FleetFault) → MovesFed client bytes a s b s → StopsAfter (λ results. Unit {0}) b s fault t → FedInPart client bytes a s fault t
 all_in_part client bytes a b s t fault m h =
     record { mid = h.mid; at = h.at; said = bytes; unsaid = []; cut = sym (append-nil bytes); fed = fed_results client bytes a b h.mid s h.at m (h.results, h.moves); within = h.within; spent = h.spent }
 
-pub stops_after_open : (client : ℕ) (bytes : List ℕ) (a b : Runner) (fault : FleetFault) → ((s : ScriptServers) → Moves a s b s) → StopsFed client bytes b fault → StopsFed client bytes a fault
+pub stops_after_open : (client : ℕ) (bytes : List ℕ) (a b : Runner) (fault : FleetFault) → ((s : ScriptServers) → Stays a s b s) → StopsFed client bytes b fault → StopsFed client bytes a fault
 stops_after_open client bytes a b fault m h =
     record { mid = h.mid; said = h.said; unsaid = h.unsaid; cut = h.cut; moves = λ s. fed_after client h.said a b h.mid s (m s) (h.moves s); spent = h.spent }
 
@@ -206,9 +206,9 @@ module _ (first : Route) (refused : List Bool) (reloads : List Reload) (events :
   -- all of some events was done, of which the last may not have been handed out
   abbrev part_by :
       (loaded : ℕ) (left done next : List Scripted) (given : List Shown) (marks : List ℕ) (k : Kept) (servers : ScriptServers) → loaded ≤ length reloads → (h : HasCome first refused reloads events loaded left given k) → h.done ≡ done ++ next → length next ≤ 1
-      → AreThrough events (length done) h.log given → AreSteps events (length done) h.log given → ((event : Scripted) → next ≡ event ∷ [] → IsStepPart events done event h.log given) → AreMarked events h.log given reloads marks → HaveMade h.log servers
+      → (outputs : List (List Shown)) (last : List Shown) → AreOutputs given (length done) outputs last → AreThrough events (length done) h.log outputs → AreSteps events (length done) h.log outputs → ((event : Scripted) → next ≡ event ∷ [] → IsStepPart events done event h.log (handed outputs)) → AreMarked events h.log given reloads marks → HaveMade h.log servers
       → StepsPart first refused reloads events given marks servers
-  part_by loaded left done next given marks k servers within h is one through steps begun marked made =
+  part_by loaded left done next given marks k servers within h is one outputs last by_event through steps begun marked made =
       let plans : ℕ → List ℕ → Plan = λ n key. tree_at (tree_by first h.loads n) key in
       let says = law (opening_of events) (tree_by first h.loads) h.log k h.stands in
       let run : RunsBy first h.loads events h.log = runs dialect (tree_words plans) (bars_by Alone plans) (opening_of events) h.log says.follows in
@@ -233,6 +233,9 @@ module _ (first : Route) (refused : List Bool) (reloads : List Reload) (events :
         };
         given_is = h.given_is;
         order = h.order;
+        outputs = outputs;
+        last = last;
+        by_event = by_event;
         through = inr through;
         steps = steps;
         begun = begun;
@@ -246,10 +249,10 @@ module _ (first : Route) (refused : List Bool) (reloads : List Reload) (events :
 
   stops_by :
       (loaded : ℕ) (left done next : List Scripted) (given : List Shown) (marks : List ℕ) (k : Kept) (servers : ScriptServers) (fault : FleetFault) → loaded ≤ length reloads → (h : HasCome first refused reloads events loaded left given k) → h.done ≡ done ++ next → length next ≤ 1
-      → AreThrough events (length done) h.log given → AreSteps events (length done) h.log given → ((event : Scripted) → next ≡ event ∷ [] → IsStepPart events done event h.log given) → AreMarked events h.log given reloads marks → turn_of servers ≡ k.turn → fault ≡ faults.NoMemory → StopsPart first refused reloads events given marks servers fault
-  stops_by loaded left done next given marks k servers fault within h is one through steps begun marked turn none =
+      → (outputs : List (List Shown)) (last : List Shown) → AreOutputs given (length done) outputs last → AreThrough events (length done) h.log outputs → AreSteps events (length done) h.log outputs → ((event : Scripted) → next ≡ event ∷ [] → IsStepPart events done event h.log (handed outputs)) → AreMarked events h.log given reloads marks → turn_of servers ≡ k.turn → fault ≡ faults.NoMemory → StopsPart first refused reloads events given marks servers fault
+  stops_by loaded left done next given marks k servers fault within h is one outputs last by_event through steps begun marked turn none =
       record {
-        part = part_by loaded left done next given marks k servers within h is one through steps begun marked (inl (turn ∙ (law (opening_of events) (tree_by first h.loads) h.log k h.stands).calls));
+        part = part_by loaded left done next given marks k servers within h is one outputs last by_event through steps begun marked (inl (turn ∙ (law (opening_of events) (tree_by first h.loads) h.log k h.stands).calls));
         spent = no_memory_spent fault none;
       }
 
@@ -258,7 +261,7 @@ module _ (first : Route) (refused : List Bool) (reloads : List Reload) (events :
       (left : List Scripted) (given : List Shown) (marks : List ℕ) (clients : ℕ) (servers : ScriptServers) (fault : FleetFault) → LoadsSome first refused reloads events left given marks clients servers → fault ≡ faults.NoMemory → StopsPart first refused reloads events given marks servers fault
   stops_between left given marks clients servers fault h none =
       let c = h.stood.come in
-      stops_by h.loaded left c.done [] given marks (kept_of h.runner servers) servers fault h.within c (sym (append-nil c.done)) (omega arith) h.stood.through h.stood.steps (λ event e. absurd (none_next event e)) h.marked refl none
+      stops_by h.loaded left c.done [] given marks (kept_of h.runner servers) servers fault h.within c (sym (append-nil c.done)) (omega arith) h.stood.outputs [] h.stood.by_event h.stood.through h.stood.steps (λ event e. absurd (none_next event e)) h.marked refl none
 
   -- an event was broken off
   pub stops_within :
@@ -298,11 +301,14 @@ module _ (first : Route) (refused : List Bool) (reloads : List Reload) (events :
           };
           given_is = λ c. g.given c ∙ h.come.given_is c;
           order = handed_on given g.more log h.come.order;
-          through = inr (λ n le. through_on events (take n events) g.more log given given [] (sym (append-nil given)) (h.through n le));
-          steps = steps_on events (length done) g.more log given given [] (sym (append-nil given)) h.steps;
-          begun = λ x e. subst (λ (y : Scripted). IsStepPart events done y after given) (one_next event x e)
+          outputs = h.outputs;
+          last = [];
+          by_event = h.by_event;
+          through = inr (throughs_on events (length done) g.more log h.outputs h.through);
+          steps = steps_on events (length done) g.more log h.outputs h.steps;
+          begun = λ x e. subst (λ (y : Scripted). IsStepPart events done y after (handed h.outputs)) (one_next event x e)
               (record {
-                before = through_on events done g.more log given given [] (sym (append-nil given)) (here first refused reloads events loaded (event ∷ left) given (kept_of a s) h.come (stalled_or_unheard h.come.done a.clients a.core h.heard h.stalled) h.settled);
+                before = through_on events done g.more log (handed h.outputs) (before_it first refused reloads events loaded (event ∷ left) given marks a.clients (kept_of a s) h);
                 brings = brings g.more m.asked p.1;
               });
           marked = marked_on events g.more log given given [] (sym (append-nil given)) reloads marks h.marked;
@@ -325,9 +331,9 @@ module _ (first : Route) (refused : List Bool) (reloads : List Reload) (events :
 
   -- an event was done, and not all could be handed out
   pub stops_handing :
-      (loaded : ℕ) (event : Scripted) (left : List Scripted) (given after : List Shown) (marks : List ℕ) (a b : Runner) (s t : ScriptServers) (fault : FleetFault) → loaded ≤ length reloads → Befalls event a s b t → HandsSome given after b → fault ≡ faults.NoMemory
+      (loaded : ℕ) (event : Scripted) (left : List Scripted) (given after : List Shown) (marks : List ℕ) (a b : Runner) (s t : ScriptServers) (fault : FleetFault) → loaded ≤ length reloads → Befalls event a s b t → HandsSome given after b → AddsRising given after → fault ≡ faults.NoMemory
       → HasStood first refused reloads events loaded (event ∷ left) given marks a.clients (kept_of a s) → StopsPart first refused reloads events after marks t fault
-  stops_handing loaded event left given after marks a b s t fault within m hands none h =
+  stops_handing loaded event left given after marks a b s t fault within m hands adds none h =
       let opening = opening_of events in
       let tree = tree_by first h.come.loads in
       let log = h.come.log in
@@ -335,13 +341,13 @@ module _ (first : Route) (refused : List Bool) (reloads : List Reload) (events :
       let end = come_some first refused reloads events loaded left given after b t hands mid in
       let g = (m.goes opening tree log h.come.stands).0 in
       let o = (hands t opening tree (g.more ++ log) g.stands).1 in
-      stops_by loaded left h.come.done (event ∷ []) after marks end.0 t fault within end.1 refl (omega arith)
-      (λ n le. through_on events (take n events) o.more (g.more ++ log) given after o.longer.0 o.longer.1 (through_on events (take n events) g.more log given given [] (sym (append-nil given)) (h.through n le)))
-      (steps_on events (length h.come.done) o.more (g.more ++ log) given after o.longer.0 o.longer.1 (steps_on events (length h.come.done) g.more log given given [] (sym (append-nil given)) h.steps))
-      (λ x e. subst (λ (y : Scripted). IsStepPart events h.come.done y (o.more ++ (g.more ++ log)) after) (one_next event x e)
+      stops_by loaded left h.come.done (event ∷ []) after marks end.0 t fault within end.1 refl (omega arith) h.outputs adds.outputs (outputs_last given after (length h.come.done) h.outputs adds h.by_event)
+      (throughs_on events (length h.come.done) o.more (g.more ++ log) h.outputs (throughs_on events (length h.come.done) g.more log h.outputs h.through))
+      (steps_on events (length h.come.done) o.more (g.more ++ log) h.outputs (steps_on events (length h.come.done) g.more log h.outputs h.steps))
+      (λ x e. subst (λ (y : Scripted). IsStepPart events h.come.done y (o.more ++ (g.more ++ log)) (handed h.outputs)) (one_next event x e)
       (record {
-        before = through_on events h.come.done o.more (g.more ++ log) given after o.longer.0 o.longer.1
-            (through_on events h.come.done g.more log given given [] (sym (append-nil given)) (here first refused reloads events loaded (event ∷ left) given (kept_of a s) h.come (stalled_or_unheard h.come.done a.clients a.core h.heard h.stalled) h.settled));
+        before = through_on events h.come.done o.more (g.more ++ log) (handed h.outputs)
+            (through_on events h.come.done g.more log (handed h.outputs) (before_it first refused reloads events loaded (event ∷ left) given marks a.clients (kept_of a s) h));
         brings = inr
             (some_brought event log (o.more ++ (g.more ++ log)) (brought_still event log (g.more ++ log) o.more (none_more opening tree (g.more ++ log) (kept_of b t) (kept_of (hands t opening tree (g.more ++ log) g.stands).0 t) g.stands refl o.more o.stands)
             (brought event m.results a s opening tree g.more log h.come.stands m.fit m.asked (m.goes opening tree log h.come.stands).1 (m.turns opening tree log h.come.stands))));
@@ -364,9 +370,9 @@ module _ (first : Route) (refused : List Bool) (reloads : List Reload) (events :
       let g = (m.moves.goes opening tree log h.come.stands).goes in
       let says = law opening tree (g.more ++ log) (kept_of m.mid m.at) g.stands in
       record {
-        part = part_by (length reloads) [] h.come.done [] given marks (kept_of m.mid m.at) t (omega arith) mid (sym (append-nil h.come.done)) (omega arith)
-            (λ n le. through_on events (take n events) g.more log given given [] (sym (append-nil given)) (h.through n le))
-            (steps_on events (length h.come.done) g.more log given given [] (sym (append-nil given)) h.steps)
+        part = part_by (length reloads) [] h.come.done [] given marks (kept_of m.mid m.at) t (omega arith) mid (sym (append-nil h.come.done)) (omega arith) h.outputs [] h.by_event
+            (throughs_on events (length h.come.done) g.more log h.outputs h.through)
+            (steps_on events (length h.come.done) g.more log h.outputs h.steps)
             (λ event e. absurd (none_next event e))
             (marked_on events g.more log given given [] (sym (append-nil given)) reloads marks h.marked)
             (made_by (g.more ++ log) t m.at says.calls m.within);
@@ -375,9 +381,9 @@ module _ (first : Route) (refused : List Bool) (reloads : List Reload) (events :
 
   -- the script had all reloads, and not all output could be handed out
   pub stops_last :
-      (given after : List Shown) (marks : List ℕ) (a b : Runner) (s t : ScriptServers) (fault : FleetFault) → MovesByResults a s b t → HandsSome given after b → fault ≡ faults.NoMemory
+      (given after : List Shown) (marks : List ℕ) (a b : Runner) (s t : ScriptServers) (fault : FleetFault) → MovesByResults a s b t → HandsSome given after b → AddsRising given after → fault ≡ faults.NoMemory
       → HasStood first refused reloads events (length reloads) [] given marks a.clients (kept_of a s) → StopsPart first refused reloads events after marks t fault
-  stops_last given after marks a b s t fault m hands none h =
+  stops_last given after marks a b s t fault m hands adds none h =
       let opening = opening_of events in
       let tree = tree_by first h.come.loads in
       let log = h.come.log in
@@ -385,9 +391,9 @@ module _ (first : Route) (refused : List Bool) (reloads : List Reload) (events :
       let end = come_some first refused reloads events (length reloads) [] given after b t hands mid in
       let g = (m.1.goes opening tree log h.come.stands).goes in
       let o = (hands t opening tree (g.more ++ log) g.stands).1 in
-      stops_by (length reloads) [] h.come.done [] after marks end.0 t fault (omega arith) end.1 (sym (append-nil h.come.done)) (omega arith)
-      (λ n le. through_on events (take n events) o.more (g.more ++ log) given after o.longer.0 o.longer.1 (through_on events (take n events) g.more log given given [] (sym (append-nil given)) (h.through n le)))
-      (steps_on events (length h.come.done) o.more (g.more ++ log) given after o.longer.0 o.longer.1 (steps_on events (length h.come.done) g.more log given given [] (sym (append-nil given)) h.steps))
+      stops_by (length reloads) [] h.come.done [] after marks end.0 t fault (omega arith) end.1 (sym (append-nil h.come.done)) (omega arith) h.outputs adds.outputs (outputs_last given after (length h.come.done) h.outputs adds h.by_event)
+      (throughs_on events (length h.come.done) o.more (g.more ++ log) h.outputs (throughs_on events (length h.come.done) g.more log h.outputs h.through))
+      (steps_on events (length h.come.done) o.more (g.more ++ log) h.outputs (steps_on events (length h.come.done) g.more log h.outputs h.steps))
       (λ event e. absurd (none_next event e))
       (marked_on events o.more (g.more ++ log) given after o.longer.0 o.longer.1 reloads marks (marked_on events g.more log given given [] (sym (append-nil given)) reloads marks h.marked))
       refl none
@@ -432,6 +438,9 @@ nothing_done first refused reloads events t marks count s u fault none unmarked 
         streams = λ c. record { said = []; unsaid = []; cut = refl; stream = refl };
         given_is = given_none t none;
         order = handed_none t none;
+        outputs = [];
+        last = [];
+        by_event = outputs_none (transcript_of t) (ap (map shown_by) none);
         through = inl refl;
         steps = λ n event lt at. absurd (omega (arith, lt));
         begun = λ event e. absurd (none_next event e);

@@ -11,7 +11,6 @@ use Rattle.fresh_runs.specs.OverlapStream.{stream_of}
 use Rattle.cache_server.specs.Contents.{empty}
 use Rattle.script_events.specs.Limits.{capacity}
 use Rattle.script_events.specs.Caches.{held_at}
-use Rattle.script_events.specs.declared.servers.event.FleetFault.TheVariants as faults
 use Rattle.core_proxy.specs.CoreState.{dialect}
 use Rattle.route_tree.specs.Route.{Route}
 use Rattle.script_events.specs.declared.script.Event.{Event}

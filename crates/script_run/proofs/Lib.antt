@@ -6,12 +6,15 @@ pub mod ResultsFound
 pub mod Results
 pub mod Counted
 pub mod Giving
+pub mod Feeding
 pub mod Outs
 pub mod DriverRunning
 pub mod Progressing
 pub mod Leasts
 pub mod Breaking
 pub mod Firsts
+pub mod Rising
+pub mod Served
 pub mod Steps
 pub mod Held
 pub mod Come

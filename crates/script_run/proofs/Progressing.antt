@@ -3,7 +3,6 @@ use Rattle.std.proofs.Common.{◌≡◌, ℕ, ◌+◌, ◌<◌, inl, inr, arith,
 use Rattle.std.proofs.lemmas.Bool.{cases_lt}
 use Rattle.core_proxy.specs.Polls.{Polls, IsWhy, IsBusy, NoneGoesOn, IsStalled}
 use Rattle.core_proxy.specs.declared.note.Poll.{Poll}
-use Rattle.core_proxy.specs.declared.note.Poll.TheVariants as polls
 use Rattle.core_proxy.specs.declared.proxy.Core.{Core}
 use Rattle.script_run.specs.Progressing.{both_gave, TakesSo, LeavesSo, AreStillBelow}
 use Rattle.script_run.specs.Running.{IsIdle, AreIdle, AreStalled}

@@ -5,7 +5,7 @@ use Rattle.std.proofs.lemmas.List.{take-append-drop, map-append, nil_from_length
 use Rattle.std.proofs.lemmas.Bool.{eqb-true, ne_eqb}
 use Rattle.mc_types.specs.Items.{Item}
 use Rattle.fresh_runs.specs.Log.{Shown}
-use Rattle.fresh_runs.specs.Overlap.{Entry, given_of, output_of, run_of}
+use Rattle.fresh_runs.specs.Overlap.{Entry, Feeds, given_of, output_of, run_of}
 use Rattle.fresh_runs.specs.OverlapStream.{stream_of}
 use Rattle.core_proxy.specs.CoreState.{dialect}
 use Rattle.route_tree.specs.Route.{Route}
@@ -21,13 +21,14 @@ use Rattle.script_events.specs.declared.servers.servers.ScriptServers.{ScriptSer
 use Rattle.script_run.specs.Results.{CallResult, NumberedCall, call_of, calls_of}
 use Rattle.script_run.specs.Standing.{Kept, Stands, GoesOn, GoesOnFed, GoesOnGiven, LeavesAsMuch}
 use Rattle.script_run.proofs.Counted.{none_more}
-use Rattle.script_run.specs.Running.{kept_of, Moves, MovesAt, MovesByResults, MovesFed, MovesGiven}
+use Rattle.script_run.specs.Running.{kept_of, Stays, MovesAt, MovesByResults, MovesFed, MovesFedAtOnce, MovesGiven, IsAtRest}
 use Rattle.script_run.specs.Turns.{AreInTurn, MovesInTurn}
 use Rattle.script_run.proofs.DriverRunning.{given_then, in_turn_then}
+use Rattle.script_run.proofs.Served.{served_below}
 use Rattle.script_run.specs.declared.driver.runner.Runner.{Runner}
-use Rattle.script_run.specs.Driving.{said_by, shown_to, IsHanded, AreHandedInTurn}
+use Rattle.script_run.specs.Driving.{said_by, joined, CutsCome, shown_to, IsHanded, AreHandedInTurn}
 use Rattle.script_run.specs.World.{Changes}
-use Rattle.script_run.specs.Stepping.{HasCalls, FedBy, FedInTurn, TakesTurns, AreFit, AreAskedBy, IsHeard, LeavesBy, GoesOnSaid, Befalls, IsGivenAll, HandsOut, HandsSome}
+use Rattle.script_run.specs.Stepping.{HasCalls, FedBy, FedInTurn, FedAtOnce, IsServedBelow, FedInCuts, FedAsPiece, CutsBy, TakesTurns, AreFit, AreAskedBy, IsHeard, LeavesBy, GoesOnSaid, Befalls, IsGivenAll, HandsOut, HandsSome}
 
 -- ---- bytes that a client says
 
@@ -44,10 +45,8 @@ after_it true xs bytes = refl
 after_it false xs bytes = sym (append-nil xs)
 
 -- a client said nothing
-fed_nothing : (client : ℕ) (a b : Runner) (s t : ScriptServers) → Moves a s b t → MovesFed client [] a s b t
-fed_nothing client a b s t m opening tree log stands =
-    let g = m opening tree log stands in
-    record { more = g.more; stands = g.stands; streams = λ c. g.streams c ∙ same_twice (nat_eq client c) (stream_of log c); given = g.given }
+fed_nothing : (client : ℕ) (a b : Runner) (s : ScriptServers) → Stays a s b s → MovesFed client [] a s b s
+fed_nothing client a b s stays opening tree log stands = record { more = []; stands = stays opening tree log stands; streams = λ c. same_twice (nat_eq client c) (stream_of log c); given = λ c. refl }
 
 -- a client said these bytes, and no call had its result
 pub fed_by_none : (client : ℕ) (bytes : List ℕ) (a b : Runner) (s : ScriptServers) → MovesFed client bytes a s b s → FedBy client bytes a s b s
@@ -58,8 +57,8 @@ fed_by_none client bytes a b s m =
       goes = λ opening tree log stands. let g = m opening tree log stands in (g, none_more opening tree log (kept_of a s) (kept_of b s) stands refl g.more g.stands);
     }
 
-pub nothing_fed : (client : ℕ) (a b : Runner) (s : ScriptServers) → Moves a s b s → FedBy client [] a s b s
-nothing_fed client a b s m = fed_by_none client [] a b s (fed_nothing client a b s s m)
+pub nothing_fed : (client : ℕ) (a b : Runner) (s : ScriptServers) → Stays a s b s → FedBy client [] a s b s
+nothing_fed client a b s stays = fed_by_none client [] a b s (fed_nothing client a b s stays)
 
 -- results that came later, before those that came first
 calls_joined : (later first : List CallResult) (more front log : List (Entry dialect)) → HasCalls later more (front ++ log) → HasCalls first front log → HasCalls (later ++ first) (more ++ front) log
@@ -89,18 +88,9 @@ fed_more client first second a b d s t u m n =
           );
     }
 
--- something else was done before
-pub fed_after : (client : ℕ) (bytes : List ℕ) (a b d : Runner) (s : ScriptServers) → Moves a s b s → MovesFed client bytes b s d s → MovesFed client bytes a s d s
-fed_after client bytes a b d s m n opening tree log stands =
-    let g = m opening tree log stands in
-    let h = n opening tree (g.more ++ log) g.stands in
-    let joined = append_assoc h.more g.more log in
-    record {
-      more = h.more ++ g.more;
-      stands = subst (λ l. Stands opening tree l (kept_of d s)) (sym joined) h.stands;
-      streams = λ c. ap (λ l. stream_of l c) joined ∙ h.streams c ∙ ap (λ xs. cond (nat_eq client c) (xs ++ bytes) xs) (g.streams c);
-      given = λ c. ap (λ l. given_of l c) joined ∙ h.given c ∙ g.given c;
-    }
+-- clients were opened before
+pub fed_after : (client : ℕ) (bytes : List ℕ) (a b d : Runner) (s : ScriptServers) → Stays a s b s → MovesFed client bytes b s d s → MovesFed client bytes a s d s
+fed_after client bytes a b d s stays m opening tree log stands = m opening tree log (stays opening tree log stands)
 
 -- bytes, and then results
 pub fed_results : (client : ℕ) (bytes : List ℕ) (a b d : Runner) (s t : ScriptServers) → MovesFed client bytes a s b s → MovesByResults b s d t → FedBy client bytes a s d t
@@ -125,11 +115,11 @@ fed_results client bytes a b d s t m n =
 
 -- ---- results in their turn
 
-pub turn_nothing : (client : ℕ) (a b : Runner) (s : ScriptServers) → Moves a s b s → FedInTurn client [] a s b s
+turn_nothing : (client : ℕ) (a b : Runner) (s : ScriptServers) → Stays a s b s → FedInTurn client [] a s b s
 unfolding nothing_fed fed_by_none
-turn_nothing client a b s m = record { fed = nothing_fed client a b s m; in_turn = λ opening tree log stands. tt }
+turn_nothing client a b s stays = record { fed = nothing_fed client a b s stays; in_turn = λ opening tree log stands. tt }
 
-pub turn_more : (client : ℕ) (first second : List ℕ) (a b d : Runner) (s t u : ScriptServers) → FedInTurn client first a s b t → FedInTurn client second b t d u → FedInTurn client (first ++ second) a s d u
+turn_more : (client : ℕ) (first second : List ℕ) (a b d : Runner) (s t u : ScriptServers) → FedInTurn client first a s b t → FedInTurn client second b t d u → FedInTurn client (first ++ second) a s d u
 unfolding fed_more
 turn_more client first second a b d s t u m n =
     record {
@@ -141,7 +131,7 @@ turn_more client first second a b d s t u m n =
           in_turn_then n.fed.results m.fed.results h.more g.more log p.1 (n.in_turn opening tree (g.more ++ log) g.stands) (m.in_turn opening tree log stands);
     }
 
-pub turn_results : (client : ℕ) (bytes : List ℕ) (a b d : Runner) (s t : ScriptServers) → MovesFed client bytes a s b s → MovesInTurn b s d t → FedInTurn client bytes a s d t
+turn_results : (client : ℕ) (bytes : List ℕ) (a b d : Runner) (s t : ScriptServers) → MovesFed client bytes a s b s → MovesInTurn b s d t → FedInTurn client bytes a s d t
 unfolding fed_results
 turn_results client bytes a b d s t m n =
     record {
@@ -151,6 +141,54 @@ turn_results client bytes a b d s t m n =
           let h = (n.moves.goes opening tree (g.more ++ log) g.stands).goes in
           subst (λ (rs : List CallResult). AreInTurn rs (h.more ++ g.more) log) (append-nil n.results)
           (in_turn_then n.results [] h.more g.more log (none_more opening tree log (kept_of a s) (kept_of b s) stands refl g.more g.stands) (n.in_turn opening tree (g.more ++ log) g.stands) tt);
+    }
+
+-- ---- in which cuts bytes come
+
+-- bytes that came at once, without what is known of their entry
+pub fed_so : (client : ℕ) (bytes : List ℕ) (a b : Runner) (s : ScriptServers) → MovesFedAtOnce client bytes a s b s → MovesFed client bytes a s b s
+fed_so client bytes a b s m opening tree log stands = (m opening tree log stands).0
+
+-- bytes that came at once, and then results in their turn
+pub once_results : (client : ℕ) (bytes : List ℕ) (a b d : Runner) (s t : ScriptServers) → MovesFedAtOnce client bytes a s b s → MovesInTurn b s d t → FedAtOnce client bytes a s d t
+unfolding turn_results fed_results fed_so
+once_results client bytes a b d s t m n =
+    record {
+      turn = turn_results client bytes a b d s t (fed_so client bytes a b s m) n;
+      first = λ opening tree log stands.
+          let p = m opening tree log stands in
+          let h = (n.moves.goes opening tree (p.0.more ++ log) p.0.stands).goes in
+          (h.more, ap (λ (l : List (Entry dialect)). h.more ++ l) p.1);
+    }
+
+-- no cut came, and clients were opened
+pub cuts_none : (client : ℕ) (a b : Runner) (s : ScriptServers) → Stays a s b s → FedInCuts client [] a s b s
+unfolding turn_nothing nothing_fed fed_by_none fed_nothing
+cuts_none client a b s stays = record { turn = turn_nothing client a b s stays; come = λ opening tree log stands. refl }
+
+-- one cut more
+pub cuts_more :
+    (client : ℕ) (cuts : List (List ℕ)) (cut : List ℕ) (a b d : Runner) (s t u : ScriptServers) → FedInCuts client cuts a s b t → FedAtOnce client cut b t d u → d.clients ≡ b.clients → IsAtRest d
+    → FedInCuts client (cut ∷ cuts) a s d u
+unfolding turn_more fed_more
+cuts_more client cuts cut a b d s t u m n same rest =
+    record {
+      turn = turn_more client (joined cuts) cut a b d s t u m.turn n.turn;
+      come = λ opening tree log stands.
+          let g = (m.turn.fed.goes opening tree log stands).0 in
+          let mid = g.more ++ log in
+          let h = (n.turn.fed.goes opening tree mid g.stands).0 in
+          let first = n.first opening tree mid g.stands in
+          let whole : (h.more ++ g.more) ++ log ≡ h.more ++ mid = append_assoc h.more g.more log in (
+            mid,
+            subst (λ (count : ℕ). CutsCome client (IsServedBelow count) cuts log mid) (sym same) (m.come opening tree log stands),
+            record {
+              more = first.0;
+              goes = whole ∙ ap (λ (l : List (Entry dialect)). l ++ mid) first.1 ∙ append_assoc first.0 (Feeds client cut ∷ []) mid;
+              alone = λ c. ap (λ (l : List (Entry dialect)). stream_of l c) whole ∙ h.streams c;
+              rests = subst (IsServedBelow d.clients) (sym whole) (served_below opening tree (h.more ++ mid) d u h.stands rest);
+            },
+          );
     }
 
 -- a cut, and what is left
@@ -164,9 +202,11 @@ said : (event : Scripted) (client : ℕ) (bytes : List ℕ) → ((c : ℕ) → s
 said event client bytes says opening tree log k g left =
     record { more = g.more; stands = g.stands; streams = λ c. g.streams c ∙ after_it (nat_eq client c) (stream_of log c) bytes ∙ ap (λ xs. stream_of log c ++ xs) (sym (says c)); given = g.given; left = left }
 
-pub piece_said : (client : ℕ) (bytes : List ℕ) (a b : Runner) (s t : ScriptServers) → FedInTurn client bytes a s b t → Befalls (Piece client bytes) a s b t
+pub piece_said : (client : ℕ) (bytes : List ℕ) (a b : Runner) (s t : ScriptServers) → FedAsPiece client bytes a s b t → Befalls (Piece client bytes) a s b t
 unfolding said
-piece_said client bytes a b s t m =
+piece_said client bytes a b s t piece =
+    let m = piece.fed.turn in
+    let all = joined piece.cuts ++ piece.last in
     record {
       mid = s;
       changes = refl;
@@ -174,8 +214,11 @@ piece_said client bytes a b s t m =
       given = m.fed.given;
       fit = tt;
       asked = tt;
-      goes = λ opening tree log stands. let p = m.fed.goes opening tree log stands in (said (Piece client bytes) client bytes (λ c. refl) opening tree log (kept_of b t) p.0 tt, p.1);
+      goes = λ opening tree log stands.
+          let p = m.fed.goes opening tree log stands in
+          (said (Piece client bytes) client all (λ c. ap (λ (l : List ℕ). cond (nat_eq client c) l []) piece.are.bytes_are) opening tree log (kept_of b t) p.0 tt, p.1);
       turns = m.in_turn;
+      cuts = λ opening tree log stands. record { cuts = piece.cuts; last = piece.last; are = piece.are; come = piece.fed.come opening tree log stands };
     }
 
 pub add_said : (client : ℕ) (bytes : List ℕ) (a b : Runner) (s : ScriptServers) → MovesFed client bytes a s b s → Befalls (Add client bytes) a s b s
@@ -191,6 +234,7 @@ add_said client bytes a b s m =
       goes = λ opening tree log stands.
           let g = m opening tree log stands in (said (Add client bytes) client bytes (λ c. refl) opening tree log (kept_of b s) g tt, none_more opening tree log (kept_of a s) (kept_of b s) stands refl g.more g.stands);
       turns = λ opening tree log stands. tt;
+      cuts = λ opening tree log stands. tt;
     }
 
 -- an event that says nothing
@@ -211,6 +255,7 @@ result_asked server a b s t m =
       asked = m.1;
       goes = λ opening tree log stands. let q = m.2.goes opening tree log stands in (quiet (Result server) (λ c. refl) opening tree log (kept_of b t) q.goes tt, q.calls);
       turns = λ opening tree log stands. tt;
+      cuts = λ opening tree log stands. tt;
     }
 
 -- each log goes on, and clients have as much to do as the event leaves them
@@ -230,9 +275,9 @@ no_turns (Now loss) more log = tt
 no_turns (Moment moment) more log = tt
 
 -- an event that changes the servers, and for which no call has a result
-pub changed : (event : Scripted) → ((c : ℕ) → said_by event c ≡ []) → AreFit event [] → (a : Runner) (s t : ScriptServers) → AreAskedBy event a s [] → turn_of t ≡ turn_of s → Changes event s t → MovesQuietly event a s t → Befalls event a s a t
+pub changed : (event : Scripted) → ((c : ℕ) → said_by event c ≡ []) → AreFit event [] → ((count : ℕ) (before after : List (Entry dialect)) → CutsBy event count before after) → (a : Runner) (s t : ScriptServers) → AreAskedBy event a s [] → turn_of t ≡ turn_of s → Changes event s t → MovesQuietly event a s t → Befalls event a s a t
 unfolding quiet
-changed event says fit a s t asked turn changes m =
+changed event says fit cuts a s t asked turn changes m =
     record {
       mid = t;
       changes = changes;
@@ -245,6 +290,7 @@ changed event says fit a s t asked turn changes m =
           let g = p.0 in
           (quiet event says opening tree log (kept_of a t) g p.1, none_more opening tree log (kept_of a s) (kept_of a t) stands turn g.more g.stands);
       turns = λ opening tree log stands. no_turns event (m opening tree log stands).0.more log;
+      cuts = λ opening tree log stands. cuts a.clients log ((m opening tree log stands).0.more ++ log);
     }
 
 -- a log stands whatever servers that hold the same are kept
@@ -289,13 +335,13 @@ stays_as event a s t same opening tree log stands = (
 -- nothing is put on servers any more
 pub held_before : (server : ℕ) (key content : List ℕ) (a : Runner) (s : ScriptServers) → Befalls (Hold server key content) a s a s
 held_before server key content a s =
-    changed (Hold server key content) (λ c. refl) refl a s s tt refl refl
+    changed (Hold server key content) (λ c. refl) refl (λ count before after. tt) a s s tt refl refl
     (λ opening tree log stands. (record { more = []; stands = stands; streams = λ c. refl; given = λ c. refl }, leaves_same (Hold server key content) log))
 
 -- a failure is named
 pub named : (turn : ℕ) (manner : Manner) (a : Runner) (s t : ScriptServers) → ((n : ℕ) → named_of t n ≡ cond (nat_eq (turn_of s + turn) n) (Some manner) (named_of s n)) → t ≡ record s { failures = t.failures } → Befalls (Fail turn manner) a s a t
 named turn manner a s t names rest =
-    changed (Fail turn manner) (λ c. refl) refl a s t tt (ap turn_of rest) (names, rest) (stays_as (Fail turn manner) a s t (ap (λ x. record (kept_of a x) { servers = t }) rest))
+    changed (Fail turn manner) (λ c. refl) refl (λ count before after. tt) a s t tt (ap turn_of rest) (names, rest) (stays_as (Fail turn manner) a s t (ap (λ x. record (kept_of a x) { servers = t }) rest))
 
 map_if : (b : Bool) (xs : List Loss) (loss : Loss) → map loss_of (cond b (xs ++ loss ∷ []) xs) ≡ cond b (map loss_of xs ++ loss_of loss ∷ []) (map loss_of xs)
 map_if true xs loss = map-append loss_of xs (loss ∷ [])
@@ -304,18 +350,18 @@ map_if false xs loss = refl
 -- a loss is named
 pub loss_named : (turn : ℕ) (loss : Loss) (a : Runner) (s t : ScriptServers) → ((n : ℕ) → lost_of t n ≡ cond (nat_eq (turn_of s + turn) n) (lost_of s n ++ loss ∷ []) (lost_of s n)) → t ≡ record s { losses = t.losses } → Befalls (At turn (loss_of loss)) a s a t
 loss_named turn loss a s t losses rest =
-    changed (At turn (loss_of loss)) (λ c. refl) refl a s t tt (ap turn_of rest) ((λ n. ap (map loss_of) (losses n) ∙ map_if (nat_eq (turn_of s + turn) n) (lost_of s n) loss), rest) (stays_as (At turn (loss_of loss)) a s t (ap (λ x. record (kept_of a x) { servers = t }) rest))
+    changed (At turn (loss_of loss)) (λ c. refl) refl (λ count before after. tt) a s t tt (ap turn_of rest) ((λ n. ap (map loss_of) (losses n) ∙ map_if (nat_eq (turn_of s + turn) n) (lost_of s n) loss), rest) (stays_as (At turn (loss_of loss)) a s t (ap (λ x. record (kept_of a x) { servers = t }) rest))
 
 -- the time changes
 pub timed : (moment : ℤ) (a : Runner) (s t : ScriptServers) → moment_of t ≡ moment → t ≡ record s { moment = t.moment } → Befalls (Moment moment) a s a t
-timed moment a s t now rest = changed (Moment moment) (λ c. refl) refl a s t tt (ap turn_of rest) (now, rest) (stays_as (Moment moment) a s t (ap (λ x. record (kept_of a x) { servers = t }) rest))
+timed moment a s t now rest = changed (Moment moment) (λ c. refl) refl (λ count before after. tt) a s t tt (ap turn_of rest) (now, rest) (stays_as (Moment moment) a s t (ap (λ x. record (kept_of a x) { servers = t }) rest))
 
 -- something is lost
 pub lost :
     LossesGoOn → (a : Runner) (s t : ScriptServers) (loss : Loss) → caches_of t ≡ after_loss (losing.loss_of loss) (caches_of s)
     → ((i : ℕ) (key : List ℕ) → held_at (caches_of t) i key ≡ after_event (losing.loss_of loss) (held_at (caches_of s)) i key) → t ≡ record s { caches = t.caches } → Befalls (Now (loss_of loss)) a s a t
 lost law a s t loss caches held rest =
-    changed (Now (loss_of loss)) (λ c. refl) refl a s t tt (ap turn_of rest) ((loss, refl, caches), rest)
+    changed (Now (loss_of loss)) (λ c. refl) refl (λ count before after. tt) a s t tt (ap turn_of rest) ((loss, refl, caches), rest)
     (λ opening tree log stands.
     law opening tree log loss (kept_of a s) (kept_of a t) stands (
     record {

@@ -1,14 +1,12 @@
 -- How it stands after each event of a script, and what a script did in the end: clients heard, outputs and marks at their places, and nothing left to do.
 use Rattle.std.proofs.Common.{◌≡◌, ℕ, zero, suc, ◌+◌, ◌<◌, ◌≤◌, Bool, true, false, List, [], ◌∷◌, ◌++◌, length, map, slice_get, take, drop, get_or, Option, Some, None, inl, inr, length-append, refl, sym, ap, ◌∙◌, subst, arith, append_assoc, append-nil}
-use Rattle.std.specs.Prelude.{◌⊎◌, MatchOption, option_map, nat_eq}
-use Rattle.std.specs.Map.{lookup}
+use Rattle.std.specs.Prelude.{◌⊎◌}
 use Rattle.std.proofs.Math.Seq.{drop-length, take-length, take-append_seam}
 use Rattle.std.proofs.lemmas.Bool.{cases_lt}
 use Rattle.std.proofs.lemmas.List.{append_cancel_right, drop-map, take-append-drop, take-append-le}
-use Rattle.core_commands.specs.Begun.{owner_by}
 use Rattle.mc_types.specs.Items.{Item}
 use Rattle.fresh_runs.specs.Log.{Shown}
-use Rattle.fresh_runs.specs.Overlap.{Slot, Entry, front_of, queue_of, given_of, owner_of}
+use Rattle.fresh_runs.specs.Overlap.{Entry, given_of}
 use Rattle.fresh_runs.specs.OverlapStream.{stream_of}
 use Rattle.fresh_runs.specs.Protocol.{IsStuck}
 use Rattle.fresh_runs.proofs.OverlapRuns.{runs}
@@ -17,13 +15,10 @@ use Rattle.route_tree.specs.Plan.{Plan}
 use Rattle.route_tree.specs.Route.{Route}
 use Rattle.route_tree.specs.Word.{tree_words}
 use Rattle.core_proxy.specs.Claims.{bars_by}
-use Rattle.core_proxy.specs.CoreState.{dialect, client_at, command_at, dropped_by, front_by, IsQueue, AreSlots, IsOut}
-use Rattle.core_proxy.specs.Polls.{IsDone, IsStalled}
+use Rattle.core_proxy.specs.CoreState.{dialect}
+use Rattle.core_proxy.specs.Polls.{IsStalled}
 use Rattle.core_proxy.specs.declared.limits.Limits.{Limits}
-use Rattle.core_client.specs.declared.client.Client.{Client}
-use Rattle.core_client.specs.declared.client.Pending.{Pending}
 use Rattle.core_proxy.specs.declared.proxy.Core.{Core}
-use Rattle.core_commands.specs.declared.command.Command.{Command}
 use Rattle.core_commands.specs.declared.sharing.Sharing.TheVariants.{Alone}
 use Rattle.script_events.specs.declared.script.Event.{Event}
 use Rattle.script_events.specs.declared.script.Reload.{Reload}
@@ -32,22 +27,24 @@ use Rattle.script_events.specs.declared.script.Transcript.{Transcript}
 use Rattle.script_events.specs.Bad.{first_bad}
 use Rattle.script_events.specs.Opening.{opening_of}
 use Rattle.script_events.specs.Reloads.{is_refused}
-use Rattle.script_events.specs.Scripted.{Scripted, Piece, Add, Result, Fail, Hold, At, Now, Moment, scripted_of, transcript_of}
+use Rattle.script_events.specs.Scripted.{Scripted, Piece, Add, Result, Fail, Hold, At, Now, Moment, scripted_of, shown_by, transcript_of}
 use Rattle.script_events.specs.Servers.{caches_of, turn_of, IsNew}
 use Rattle.script_events.specs.declared.servers.servers.ScriptServers.{ScriptServers}
 use Rattle.script_run.specs.Standing.{Kept, Stands, LeavesAsMuch, tree_by}
 use Rattle.script_run.specs.Laws.{StandingSays, NothingStands, IsBegin}
-use Rattle.script_run.specs.Running.{kept_of, MovesByResults, IsIdle, AreStalled, KeepStalled, IsAtRest}
+use Rattle.script_run.specs.Running.{kept_of, MovesByResults, AreStalled, KeepStalled, IsAtRest}
 use Rattle.script_run.specs.declared.driver.runner.Runner.{Runner}
-use Rattle.script_run.specs.Driving.{said_by, said_in, shown_to, may_be_out, leaves_out, IsDoneFor, IsSettled, IsThrough, AreThrough, IsStep, AreSteps, IsMarked, AreMarked, one_loaded, trees_loaded, IsReached, CameSo, CameInTurn, RunsBy, DrivesStepped}
+use Rattle.script_run.specs.Driving.{said_by, said_in, shown_to, handed, may_be_out, leaves_out, IsDoneFor, IsSettled, HaveAllOutput, IsThrough, AreThrough, IsStep, AreSteps, AreOutputs, IsMarked, AreMarked, one_loaded, trees_loaded, IsReached, CameSo, CameInTurn, RunsBy, DrivesStepped}
 use Rattle.script_run.specs.Holding.{put_all_on}
-use Rattle.script_run.specs.Stepping.{Befalls, LeavesBy, IsHeard, RestsAfter, IsGivenAll, HandsOutAll, HasCome, HasStood, TakesUp, Loads}
+use Rattle.script_run.specs.Stepping.{Befalls, LeavesBy, IsHeard, RestsAfter, IsGivenAll, HandsOutAll, AddsRising, HasCome, HasStood, TakesUp, Loads}
 use Rattle.script_run.specs.World.{World}
 use Rattle.script_run.proofs.Counted.{none_more}
 use Rattle.script_run.proofs.Direct.{fresh_if_direct}
 use Rattle.script_run.proofs.Messages.{each_written}
 use Rattle.script_run.proofs.Replied.{replied_unbroken}
 use Rattle.script_run.proofs.Worlds.{brought, brought_still}
+use Rattle.script_run.proofs.Served.{idle_for, free_all, comes_so}
+use Rattle.script_run.proofs.Rising.{all_handed, outputs_next, outputs_last, outputs_none}
 use Rattle.script_run.proofs.Come.{said_split, mark_count, come_on, come_ended, come_out, begins, next_left}
 
 -- ---- what is said in events, one after another
@@ -76,36 +73,46 @@ first_shown n given after rest c is within = ap (λ l. shown_to l c) (sym (take-
 pub longer_by : (given after rest : List Shown) → after ≡ given ++ rest → length given ≤ length after
 longer_by given after rest is = let e = ap length is ∙ length-append given rest in omega (arith, e)
 
-abbrev pub through_on : (events done : List Scripted) (more log : List (Entry dialect)) (given after rest : List Shown) → after ≡ given ++ rest → IsThrough events done log given → IsThrough events done (more ++ log) after
-through_on events done more log given after rest is t =
-    let within = t.within in
-    let longer = longer_by given after rest is in
+abbrev pub through_on : (events done : List Scripted) (more log : List (Entry dialect)) (given : List Shown) → IsThrough events done log given → IsThrough events done (more ++ log) given
+through_on events done more log given t =
     record {
       newer = more ++ t.newer;
       older = t.older;
       log_is = ap (λ l. more ++ l) t.log_is ∙ sym (append_assoc more t.newer t.older);
-      shown = t.shown;
-      within = omega (arith, within, longer);
       streams = t.streams;
-      given_is = λ c. t.given_is c ∙ first_shown t.shown given after rest c is t.within;
+      given_is = t.given_is;
+      all = t.all;
       servers = t.servers;
       world = t.world;
       stalled = t.stalled;
       settled = t.settled;
     }
 
-pub step_on : (events done : List Scripted) (event : Scripted) (more log : List (Entry dialect)) (given after rest : List Shown) → after ≡ given ++ rest → IsStep events done event log given → IsStep events done event (more ++ log) after
-step_on events done event more log given after rest is s =
+-- so it is with the same outputs
+abbrev pub through_as : (events done : List Scripted) (log : List (Entry dialect)) (given shown : List Shown) → given ≡ shown → IsThrough events done log given → IsThrough events done log shown
+through_as events done log given shown same t =
     record {
-      before = through_on events done more log given after rest is s.before;
-      after = through_on events (done ++ event ∷ []) more log given after rest is s.after;
-      more = s.more;
-      goes = s.goes;
-      brings = s.brings;
+      newer = t.newer;
+      older = t.older;
+      log_is = t.log_is;
+      streams = t.streams;
+      given_is = λ c. t.given_is c ∙ ap (λ l. shown_to l c) same;
+      all = t.all;
+      servers = t.servers;
+      world = t.world;
+      stalled = t.stalled;
+      settled = t.settled;
     }
 
-pub steps_on : (events : List Scripted) (count : ℕ) (more log : List (Entry dialect)) (given after rest : List Shown) → after ≡ given ++ rest → AreSteps events count log given → AreSteps events count (more ++ log) after
-steps_on events count more log given after rest is steps n event lt at = step_on events (take n events) event more log given after rest is (steps n event lt at)
+pub step_on : (events done : List Scripted) (event : Scripted) (more log : List (Entry dialect)) (given now : List Shown) → IsStep events done event log given now → IsStep events done event (more ++ log) given now
+step_on events done event more log given now s =
+    record { before = through_on events done more log given s.before; after = through_on events (done ++ event ∷ []) more log now s.after; more = s.more; goes = s.goes; brings = s.brings; comes = s.comes }
+
+pub steps_on : (events : List Scripted) (count : ℕ) (more log : List (Entry dialect)) (outputs : List (List Shown)) → AreSteps events count log outputs → AreSteps events count (more ++ log) outputs
+steps_on events count more log outputs steps n event lt at = step_on events (take n events) event more log (handed (take n outputs)) (handed (take (n + 1) outputs)) (steps n event lt at)
+
+pub throughs_on : (events : List Scripted) (count : ℕ) (more log : List (Entry dialect)) (outputs : List (List Shown)) → AreThrough events count log outputs → AreThrough events count (more ++ log) outputs
+throughs_on events count more log outputs through n le = through_on events (take n events) more log (handed (take n outputs)) (through n le)
 
 -- marks that are within what was handed out
 pub marked_on :
@@ -150,44 +157,6 @@ no_marks events log given [] = tt
 no_marks events log given (r ∷ reloads) = tt
 
 -- ---- where nothing is left to do
-
-none_in : (slots : List (Slot dialect)) (items : List Pending) → items ≡ [] → AreSlots items slots → slots ≡ []
-none_in [] items none are = refl
-none_in (slot ∷ slots) items none are = absurd (subst (λ (l : List Pending). AreSlots l (slot ∷ slots)) none are)
-
-differ : (b : Bool) → b ≡ true → b ≡ false → ⊥
-differ b on off = cc
-
--- the core has nothing left to do for a client: so it is in the log
-record IsEmptyFor (log : List (Entry dialect)) (c : ℕ) : Type 0 where
-  pub stuck : IsStuck dialect (front_of log c).place
-  pub shown : queue_of log c ≡ []
-
-idle_for : (opening : ℕ → List ℕ → Option Item) (tree : ℕ → Route) (log : List (Entry dialect)) (k : Kept) → Stands opening tree log k → (c : ℕ) → IsIdle k.core c → IsEmptyFor log c
-idle_for opening tree log k s c idle = by (client_at k.core c) refl idle
-  where
-    of : (x : Client) → client_at k.core c ≡ Some x → IsDone x → IsEmptyFor log c
-    of x is (inl dropped) = absurd (differ x.dropped dropped (ap dropped_by (sym is) ∙ s.leads.dropped c ∙ s.served c))
-    of x is (inr rests) =
-        record {
-          stuck = subst (λ f. IsStuck dialect f.place) (ap front_by (sym is) ∙ s.leads.front c) rests.1;
-          shown = sym (s.leads.queue c) ∙ none_in (s.beside.queue c) x.queue.items rests.0 (subst (λ (o : Option Client). IsQueue o (s.beside.queue c)) is (s.fits.queues c)).0;
-        }
-
-    by : (o : Option Client) → client_at k.core c ≡ o → MatchOption o ⊥ IsDone → IsEmptyFor log c
-    by None is h = absurd h
-    by (Some x) is h = of x is h
-
-none_left : (entries : List (ℕ × Command)) → (0 < length entries → ⊥) → entries ≡ []
-none_left [] none = refl
-none_left (entry ∷ entries) none = absurd (none (omega arith))
-
-not_there : (core : Core) → (IsOut core → ⊥) → (n : ℕ) → command_at core n ≡ None
-not_there core none n = ap (λ (es : List (ℕ × Command)). lookup (λ k. nat_eq n k) es) (none_left core.commands.entries none)
-
--- no command is under way
-free_all : (opening : ℕ → List ℕ → Option Item) (tree : ℕ → Route) (log : List (Entry dialect)) (k : Kept) → Stands opening tree log k → (IsOut k.core → ⊥) → (n : ℕ) → owner_of log n ≡ None
-free_all opening tree log k s none n = sym (s.leads.owner n) ∙ ap (option_map owner_by) (not_there k.core none n)
 
 -- all that there was is handed out
 piece_settled :
@@ -326,6 +295,9 @@ loads_one law refused reloads next shown n marks marks' r is a b place at same m
             done_is = come.done_is;
             world = come.world;
           };
+          outputs = h.outputs;
+          by_event = h.by_event;
+          all = h.all;
           through = h.through;
           steps = h.steps;
           settled = h.settled;
@@ -349,6 +321,9 @@ loads_one law refused reloads next shown n marks marks' r is a b place at same m
             done_is = come.done_is;
             world = come.world;
           };
+          outputs = h.outputs;
+          by_event = h.by_event;
+          all = h.all;
           through = h.through;
           steps = h.steps;
           settled = h.settled;
@@ -378,20 +353,26 @@ stalled_or_unheard done count core unheard held c = elim (cases_lt c count) [
   | inr le ↦ inl (unheard c le)
 ]
 
+-- a client was opened, and was given all, or said nothing
+given_or_unheard : (done : List Scripted) (count : ℕ) (log : List (Entry dialect)) → ((c : ℕ) → count ≤ c → said_in done c ≡ []) → ((c : ℕ) → c < count → IsGivenAll log c) → HaveAllOutput done log
+given_or_unheard done count log unheard all c = elim (cases_lt c count) [
+  | inl lt ↦ inr (all c lt)
+  | inr le ↦ inl (unheard c le)
+]
+
 module _ (first : Route) (refused : List Bool) (reloads : List Reload) (events : List Scripted) where
   -- the part of the log that is all of it
   abbrev pub here :
-      (loaded : ℕ) (left : List Scripted) (given : List Shown) (k : Kept) (h : HasCome first refused reloads events loaded left given k) → ((c : ℕ) → (said_in h.done c ≡ []) ⊎ IsStalled k.core c) → (leaves_out false h.done ≡ false → IsSettled h.done h.log)
+      (loaded : ℕ) (left : List Scripted) (given : List Shown) (k : Kept) (h : HasCome first refused reloads events loaded left given k) → ((c : ℕ) → (said_in h.done c ≡ []) ⊎ IsStalled k.core c) → HaveAllOutput h.done h.log → (leaves_out false h.done ≡ false → IsSettled h.done h.log)
       → IsThrough events h.done h.log given
-  here loaded left given k h stalled settled =
+  here loaded left given k h stalled all settled =
       record {
         newer = [];
         older = h.log;
         log_is = refl;
-        shown = length given;
-        within = omega arith;
         streams = λ c. append_cancel_right (stream_of h.log c) (said_in h.done c) (said_in left c) (sym (h.streams c) ∙ ap (λ l. said_in l c) h.done_is ∙ said_append h.done left c);
-        given_is = λ c. h.given_is c ∙ ap (λ l. shown_to l c) (sym (take-length given));
+        given_is = h.given_is;
+        all = all;
         servers = k.servers;
         world = h.world;
         stalled = record { trees = tree_by first h.loads; kept = k; stands = h.stands; clients = stalled };
@@ -399,15 +380,23 @@ module _ (first : Route) (refused : List Bool) (reloads : List Reload) (events :
       }
 
   -- the log has a part after one more event
-  through_next : (done left : List Scripted) (event : Scripted) (log : List (Entry dialect)) (given : List Shown) → events ≡ (done ++ event ∷ []) ++ left → ((n : ℕ) → n ≤ length done → IsThrough events (take n events) log given) → IsThrough events (done ++ event ∷ []) log given
-      → AreThrough events (length (done ++ event ∷ [])) log given
-  through_next done left event log given is before now n le = elim (cases_lt (length done) n) [
-    | inl lt ↦ subst (λ (l : List Scripted). IsThrough events l log given) (sym (first_done events (done ++ event ∷ []) left is) ∙ ap (λ (m : ℕ). take m events) (last lt)) now
-    | inr few ↦ before n few
+  through_next : (done left : List Scripted) (event : Scripted) (log : List (Entry dialect)) (outputs : List (List Shown)) (shown : List Shown) → events ≡ (done ++ event ∷ []) ++ left → length outputs ≡ length done → AreThrough events (length done) log outputs
+      → IsThrough events (done ++ event ∷ []) log (handed (outputs ++ shown ∷ [])) → AreThrough events (length (done ++ event ∷ [])) log (outputs ++ shown ∷ [])
+  through_next done left event log outputs shown is each before now n le = elim (cases_lt (length done) n) [
+    | inl lt ↦ subst (λ (l : List Scripted). IsThrough events l log (handed (take n (outputs ++ shown ∷ [])))) (sym (first_done events (done ++ event ∷ []) left is) ∙ ap (λ (m : ℕ). take m events) (last lt))
+        (through_as events (done ++ event ∷ []) log (handed (outputs ++ shown ∷ [])) (handed (take n (outputs ++ shown ∷ []))) (ap handed (all (last lt))) now)
+    | inr few ↦ through_as events (take n events) log (handed (take n outputs)) (handed (take n (outputs ++ shown ∷ []))) (ap handed (sym (take-append-le n outputs (shown ∷ []) (omega (arith, few, each))))) (before n few)
   ]
     where
       last : length done < n → length (done ++ event ∷ []) ≡ n
       last lt = let e = length-append done (event ∷ []) in omega (arith, e, lt, le)
+
+      all : length (done ++ event ∷ []) ≡ n → outputs ++ shown ∷ [] ≡ take n (outputs ++ shown ∷ [])
+      all same =
+          let e = length-append done (event ∷ []) in
+          let f = length-append outputs (shown ∷ []) in
+          let whole : length (outputs ++ shown ∷ []) ≡ n = omega (arith, e, f, each, same) in
+          sym (take-length (outputs ++ shown ∷ [])) ∙ ap (λ (m : ℕ). take m (outputs ++ shown ∷ [])) whole
 
   -- the event after those that are done
   at_seam : (done left : List Scripted) (event : Scripted) → slice_get (done ++ event ∷ left) (length done) ≡ Some event
@@ -418,14 +407,19 @@ module _ (first : Route) (refused : List Bool) (reloads : List Reload) (events :
   same_event x y e = cc
 
   -- the log has a step for one more event
-  steps_next : (done left : List Scripted) (event : Scripted) (log : List (Entry dialect)) (given : List Shown) → events ≡ (done ++ event ∷ []) ++ left → AreSteps events (length done) log given → IsStep events done event log given
-      → AreSteps events (length (done ++ event ∷ [])) log given
-  steps_next done left event log given is before now n x lt at = elim (cases_lt n (length done)) [
-    | inl few ↦ before n x few at
-    | inr le ↦ subst (λ (y : Scripted). IsStep events (take n events) y log given) (same_event event x (found (last le) ∙ at))
-        (subst (λ (l : List Scripted). IsStep events l event log given) (sym (first_done events done (event ∷ left) whole) ∙ ap (λ (m : ℕ). take m events) (last le)) now)
+  steps_next : (done left : List Scripted) (event : Scripted) (log : List (Entry dialect)) (outputs : List (List Shown)) (shown : List Shown) → events ≡ (done ++ event ∷ []) ++ left → length outputs ≡ length done → AreSteps events (length done) log outputs
+      → IsStep events done event log (handed outputs) (handed (outputs ++ shown ∷ [])) → AreSteps events (length (done ++ event ∷ [])) log (outputs ++ shown ∷ [])
+  steps_next done left event log outputs shown is each before now n x lt at = elim (cases_lt n (length done)) [
+    | inl few ↦ step_as (take n events) x (ap handed (sym (take-append-le n outputs (shown ∷ []) (omega (arith, few, each))))) (ap handed (sym (take-append-le (n + 1) outputs (shown ∷ []) (omega (arith, few, each))))) (before n x few at)
+    | inr le ↦ step_as (take n events) x (ap handed (sym (take-append_seam outputs (shown ∷ [])) ∙ ap (λ (m : ℕ). take m (outputs ++ shown ∷ [])) (each ∙ last le)))
+        (ap handed (sym (take-length (outputs ++ shown ∷ [])) ∙ ap (λ (m : ℕ). take m (outputs ++ shown ∷ [])) (length-append outputs (shown ∷ []) ∙ ap (λ (m : ℕ). m + 1) (each ∙ last le))))
+        (subst (λ (y : Scripted). IsStep events (take n events) y log (handed outputs) (handed (outputs ++ shown ∷ []))) (same_event event x (found (last le) ∙ at))
+        (subst (λ (l : List Scripted). IsStep events l event log (handed outputs) (handed (outputs ++ shown ∷ []))) (sym (first_done events done (event ∷ left) whole) ∙ ap (λ (m : ℕ). take m events) (last le)) now))
   ]
     where
+      step_as : (front : List Scripted) (y : Scripted) {a b p q : List Shown} → a ≡ p → b ≡ q → IsStep events front y log a b → IsStep events front y log p q
+      step_as front y {a} {b} {p} {q} first second s = subst (λ (l : List Shown). IsStep events front y log p l) second (subst (λ (l : List Shown). IsStep events front y log l b) first s)
+
       last : length done ≤ n → length done ≡ n
       last le = let e = length-append done (event ∷ []) in omega (arith, e, lt, le)
 
@@ -435,11 +429,17 @@ module _ (first : Route) (refused : List Bool) (reloads : List Reload) (events :
       found : length done ≡ n → Some event ≡ slice_get events n
       found e = sym (at_seam done left event) ∙ ap (λ (l : List Scripted). slice_get l (length done)) (sym whole) ∙ ap (slice_get events) e
 
+  -- how it stands before the next event
+  abbrev pub before_it : (loaded : ℕ) (left : List Scripted) (given : List Shown) (marks : List ℕ) (clients : ℕ) (k : Kept) (h : HasStood first refused reloads events loaded left given marks clients k) → IsThrough events h.come.done h.come.log (handed h.outputs)
+  before_it loaded left given marks clients k h =
+      through_as events h.come.done h.come.log given (handed h.outputs) (all_handed given (length h.come.done) h.outputs h.by_event)
+      (here loaded left given k h.come (stalled_or_unheard h.come.done clients k.core h.heard h.stalled) h.all h.settled)
+
   pub stood_next :
       (loaded : ℕ) (event : Scripted) (left : List Scripted) (given after : List Shown) (marks : List ℕ) (a b d : Runner) (s t : ScriptServers) → Befalls event a s b t → IsHeard event a b → RestsAfter event a b
-      → HandsOutAll given after b d → KeepStalled b d → d.clients ≡ b.clients
+      → HandsOutAll given after b d → AddsRising given after → KeepStalled b d → d.clients ≡ b.clients
       → HasStood first refused reloads events loaded (event ∷ left) given marks a.clients (kept_of a s) → HasStood first refused reloads events loaded left after marks d.clients (kept_of d t)
-  stood_next loaded event left given after marks a b d s t m heard rest hands keeps same h =
+  stood_next loaded event left given after marks a b d s t m heard rest hands adds keeps same h =
       let opening = opening_of events in
       let tree = tree_by first h.come.loads in
       let log = h.come.log in
@@ -452,21 +452,29 @@ module _ (first : Route) (refused : List Bool) (reloads : List Reload) (events :
       let settled : leaves_out false (done ++ event ∷ []) ≡ false → IsSettled (done ++ event ∷ []) (o.more ++ (g.more ++ log)) = λ out.
       event_settled done event opening tree log (g.more ++ log) (o.more ++ (g.more ++ log)) a b t g.stands g.left rest o.left g.given o.kept o.all unheard h.settled (sym (out_append false done event) ∙ out) in
       let stalled : (c : ℕ) → c < d.clients → IsStalled d.core c = λ c lt. keeps c (stalled_after event a b rest h.stalled c (subst (λ (n : ℕ). c < n) same lt)) in
+      let all : HaveAllOutput (done ++ event ∷ []) (o.more ++ (g.more ++ log)) = given_or_unheard (done ++ event ∷ []) b.clients (o.more ++ (g.more ++ log)) unheard o.all in
+      let by_event = outputs_next given after (length done) h.outputs adds h.by_event in
+      let outputs = h.outputs ++ adds.outputs ∷ [] in
+      let now : IsThrough events (done ++ event ∷ []) (o.more ++ (g.more ++ log)) (handed outputs) = through_as events (done ++ event ∷ []) (o.more ++ (g.more ++ log)) after (handed outputs) (all_handed after (length done + 1) outputs by_event)
+      (here loaded left after (kept_of d t) end (stalled_or_unheard (done ++ event ∷ []) d.clients d.core (λ c le. unheard c (subst (λ (n : ℕ). n ≤ c) same le)) stalled) all settled) in
       record {
         come = end;
-        through = through_next done left event (o.more ++ (g.more ++ log)) after end.done_is
-            (λ n le. through_on events (take n events) o.more (g.more ++ log) given after o.longer.0 o.longer.1 (through_on events (take n events) g.more log given given [] (sym (append-nil given)) (h.through n le)))
-            (here loaded left after (kept_of d t) end (stalled_or_unheard (done ++ event ∷ []) d.clients d.core (λ c le. unheard c (subst (λ (n : ℕ). n ≤ c) same le)) stalled) settled);
-        steps = steps_next done left event (o.more ++ (g.more ++ log)) after end.done_is
-            (steps_on events (length done) o.more (g.more ++ log) given after o.longer.0 o.longer.1 (steps_on events (length done) g.more log given given [] (sym (append-nil given)) h.steps))
+        outputs = outputs;
+        by_event = subst (λ (n : ℕ). AreOutputs after n outputs []) (sym (length-append done (event ∷ []))) by_event;
+        all = all;
+        through = through_next done left event (o.more ++ (g.more ++ log)) h.outputs adds.outputs end.done_is h.by_event.each
+            (throughs_on events (length done) o.more (g.more ++ log) h.outputs (throughs_on events (length done) g.more log h.outputs h.through)) now;
+        steps = steps_next done left event (o.more ++ (g.more ++ log)) h.outputs adds.outputs end.done_is h.by_event.each
+            (steps_on events (length done) o.more (g.more ++ log) h.outputs (steps_on events (length done) g.more log h.outputs h.steps))
             (record {
-              before = through_on events done o.more (g.more ++ log) given after o.longer.0 o.longer.1
-                  (through_on events done g.more log given given [] (sym (append-nil given)) (here loaded (event ∷ left) given (kept_of a s) h.come (stalled_or_unheard done a.clients a.core h.heard h.stalled) h.settled));
-              after = here loaded left after (kept_of d t) end (stalled_or_unheard (done ++ event ∷ []) d.clients d.core (λ c le. unheard c (subst (λ (n : ℕ). n ≤ c) same le)) stalled) settled;
+              before = through_on events done o.more (g.more ++ log) (handed h.outputs)
+                  (through_on events done g.more log (handed h.outputs) (before_it loaded (event ∷ left) given marks a.clients (kept_of a s) h));
+              after = now;
               more = o.more ++ g.more;
               goes = sym (append_assoc o.more g.more log);
               brings = brought_still event log (g.more ++ log) o.more (none_more opening tree (g.more ++ log) (kept_of b t) (kept_of d t) g.stands refl o.more o.stands)
                   (brought event m.results a s opening tree g.more log h.come.stands m.fit m.asked (m.goes opening tree log h.come.stands).1 (m.turns opening tree log h.come.stands));
+              comes = comes_so event (done ++ event ∷ []) b.clients log (g.more ++ log) o.more unheard (m.cuts opening tree log h.come.stands);
             });
         settled = settled;
         stalled = stalled;
@@ -482,10 +490,10 @@ module _ (first : Route) (refused : List Bool) (reloads : List Reload) (events :
 
   -- all was done, and nothing is left to do
   pub stood_ended :
-      StandingSays → (given after : List Shown) (marks : List ℕ) (report : Report) (a b d : Runner) (s t : ScriptServers) → MovesByResults a s b t → b.clients ≡ a.clients → IsAtRest b → HandsOutAll given after b d
+      StandingSays → (given after : List Shown) (marks : List ℕ) (report : Report) (a b d : Runner) (s t : ScriptServers) → MovesByResults a s b t → b.clients ≡ a.clients → IsAtRest b → HandsOutAll given after b d → AddsRising given after
       → report.commands ≡ (kept_of d t).commands → report.calls ≡ (kept_of d t).turn → report.stale ≡ (kept_of d t).stale
       → HasStood first refused reloads events (length reloads) [] given marks a.clients (kept_of a s) → DrivesStepped first refused reloads events after marks report
-  stood_ended law given after marks report a b d s t m same rest hands commands calls stale h =
+  stood_ended law given after marks report a b d s t m same rest hands adds commands calls stale h =
       let opening = opening_of events in
       let tree = tree_by first h.come.loads in
       let log = h.come.log in
@@ -510,10 +518,13 @@ module _ (first : Route) (refused : List Bool) (reloads : List Reload) (events :
         streams = said;
         given_is = end.given_is;
         order = end.order;
-        through = λ n le. through_on events (take n events) o.more (g.more ++ log) given after o.longer.0 o.longer.1
-            (through_on events (take n events) g.more log given given [] (sym (append-nil given)) (h.through n (subst (λ (l : List Scripted). n ≤ length l) (sym all) le)));
-        steps = subst (λ (l : List Scripted). AreSteps events (length l) (o.more ++ (g.more ++ log)) after) all
-            (steps_on events (length done) o.more (g.more ++ log) given after o.longer.0 o.longer.1 (steps_on events (length done) g.more log given given [] (sym (append-nil given)) h.steps));
+        outputs = h.outputs;
+        last = adds.outputs;
+        by_event = subst (λ (l : List Scripted). AreOutputs after (length l) h.outputs adds.outputs) all (outputs_last given after (length done) h.outputs adds h.by_event);
+        through = subst (λ (l : List Scripted). AreThrough events (length l) (o.more ++ (g.more ++ log)) h.outputs) all
+            (throughs_on events (length done) o.more (g.more ++ log) h.outputs (throughs_on events (length done) g.more log h.outputs h.through));
+        steps = subst (λ (l : List Scripted). AreSteps events (length l) (o.more ++ (g.more ++ log)) h.outputs) all
+            (steps_on events (length done) o.more (g.more ++ log) h.outputs (steps_on events (length done) g.more log h.outputs h.steps));
         marked = marked_on events o.more (g.more ++ log) given after o.longer.0 o.longer.1 reloads marks (marked_on events g.more log given given [] (sym (append-nil given)) reloads marks h.marked);
         settled = settled;
         written = each_written (tree_words plans) (bars_by Alone plans) opening events end.log says.follows said settled;
@@ -545,11 +556,11 @@ module _ (first : Route) (refused : List Bool) (reloads : List Reload) (xs : Lis
 
   pub event_next :
       (i shown before loaded : ℕ) (x : Event) (given after : List Shown) (marks marks' : List ℕ) (a b d e : Runner) (s t : ScriptServers) → i < length xs → x ≡ get_or xs i x → shown ≡ length given → b.clients ≡ a.clients
-      → Loads refused reloads i shown before loaded marks marks' a b → Befalls (scripted_of x) b s d t → IsHeard (scripted_of x) b d → RestsAfter (scripted_of x) b d → HandsOutAll given after d e → KeepStalled d e → e.clients ≡ d.clients
+      → Loads refused reloads i shown before loaded marks marks' a b → Befalls (scripted_of x) b s d t → IsHeard (scripted_of x) b d → RestsAfter (scripted_of x) b d → HandsOutAll given after d e → AddsRising given after → KeepStalled d e → e.clients ≡ d.clients
       → HasStood first refused reloads (map scripted_of xs) before (map scripted_of (drop i xs)) given marks a.clients (kept_of a s)
       → HasStood first refused reloads (map scripted_of xs) loaded (map scripted_of (drop (i + 1) xs)) after marks' e.clients (kept_of e t)
-  event_next i shown before loaded x given after marks marks' a b d e s t lt is all same loads befalls heard rest hands keeps kept h =
-      stood_next first refused reloads (map scripted_of xs) loaded (scripted_of x) (map scripted_of (drop (i + 1) xs)) given after marks' b d e s t befalls heard rest hands keeps kept
+  event_next i shown before loaded x given after marks marks' a b d e s t lt is all same loads befalls heard rest hands adds keeps kept h =
+      stood_next first refused reloads (map scripted_of xs) loaded (scripted_of x) (map scripted_of (drop (i + 1) xs)) given after marks' b d e s t befalls heard rest hands adds keeps kept
       (due i shown before loaded x given marks marks' a b s lt is all same loads h)
 
   -- the reloads after the last event
@@ -576,7 +587,12 @@ begins_stood law first refused reloads events n a s t x marks begin nobody new p
     let settled : IsSettled [] [] = record { clients = λ c. inl refl; free = λ n. refl } in
     record {
       come = come;
-      through = λ m le. subst (λ (l : List Scripted). IsThrough (map scripted_of events) l [] (transcript_of x)) (none_of m (map scripted_of events) le) (here first refused reloads (map scripted_of events) 0 (map scripted_of events) (transcript_of x) (kept_of a t) come (λ c. inl refl) (λ out. settled));
+      outputs = [];
+      by_event = outputs_none (transcript_of x) (ap (map shown_by) none);
+      all = λ c. inl refl;
+      through = λ m le. subst (λ (l : List Scripted). IsThrough (map scripted_of events) l [] (handed (take m []))) (none_of m (map scripted_of events) le)
+          (through_as (map scripted_of events) [] [] (transcript_of x) (handed (take m [])) (ap (map shown_by) none ∙ ap handed (no_outputs m le))
+          (here first refused reloads (map scripted_of events) 0 (map scripted_of events) (transcript_of x) (kept_of a t) come (λ c. inl refl) (λ c. inl refl) (λ out. settled)));
       steps = λ m event lt at. absurd (omega (arith, lt));
       settled = λ out. settled;
       stalled = λ c lt. absurd (omega (arith, lt, nobody));
@@ -588,3 +604,7 @@ begins_stood law first refused reloads events n a s t x marks begin nobody new p
     none_of : (m : ℕ) (l : List Scripted) → m ≤ 0 → [] ≡ take m l
     none_of zero l le = refl
     none_of (suc m) l le = absurd (omega (arith, le))
+
+    no_outputs : (m : ℕ) → m ≤ 0 → ◌≡◌ {A = List (List Shown)} [] (take m [])
+    no_outputs zero le = refl
+    no_outputs (suc m) le = absurd (omega (arith, le))

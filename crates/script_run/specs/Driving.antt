@@ -1,9 +1,9 @@
 -- What a script that steps its calls does. Source: mcgate's own.
 use Rattle.std.specs.Prelude.{◌⊎◌, ◌≡◌, ℕ, zero, suc, ◌+◌, ◌<◌, ◌≤◌, ◌^◌, Bool, true, false, List, [], ◌∷◌, ◌++◌, length, map, take, Option, Some, None, slice_get, if◌then◌else◌, nat_eq}
-use Rattle.std.specs.List.{All}
+use Rattle.std.specs.List.{All, AllPairs}
 use Rattle.fresh_runs.specs.Log.{Shown}
 use Rattle.mc_types.specs.declared.call.Outcome.{Outcome}
-use Rattle.fresh_runs.specs.Overlap.{Entry, Ticket, Follows, run_of, front_of, queue_of, output_of, given_of, owner_of, out_of}
+use Rattle.fresh_runs.specs.Overlap.{Entry, Feeds, Ticket, Follows, run_of, front_of, queue_of, output_of, given_of, owner_of, out_of}
 use Rattle.fresh_runs.specs.Protocol.{IsStuck}
 use Rattle.fresh_runs.specs.OverlapStream.{stream_of}
 use Rattle.fresh_runs.specs.OverlapLaws.{WritesAll}
@@ -17,6 +17,7 @@ use Rattle.core_proxy.specs.Claims.{bars_by}
 use Rattle.core_proxy.specs.CoreState.{dialect}
 use Rattle.core_proxy.specs.Polls.{IsStalled}
 use Rattle.core_commands.specs.declared.sharing.Sharing.TheVariants.{Alone}
+use Rattle.script_events.specs.declared.script.TheConstants.{PIECE_CUT}
 use Rattle.script_events.specs.declared.script.Reload.{Reload}
 use Rattle.script_events.specs.declared.script.Transcript.{Transcript}
 use Rattle.script_events.specs.declared.script.Report.{Report}
@@ -64,9 +65,19 @@ pub record IsHanded (log : List (Entry dialect)) (outputs : List Shown) : Type 0
   pub log_is : log ≡ newer ++ older
   pub given : (c : ℕ) → given_of older c ≡ shown_to outputs c
 
--- outputs were handed out one after another, whichever clients they were for
+-- outputs were handed out one after another
 abbrev pub AreHandedInTurn : List Shown → List (Entry dialect) → Type 0
 AreHandedInTurn given log = (n : ℕ) → n ≤ length given → IsHanded log (take n given)
+
+-- outputs of one event: each is for a client of a greater number than those before it, and none is empty
+pub record AreRising (outputs : List Shown) : Type 0 where
+  pub clients : AllPairs (λ one other. one.client < other.client) outputs
+  pub some : All (λ shown. shown.bytes ≡ [] → ⊥) outputs
+
+-- the outputs of some events, one event after another
+abbrev pub handed : List (List Shown) → List Shown
+handed [] = []
+handed (outputs ∷ more) = outputs ++ handed more
 
 -- ---- where nothing is left to do
 
@@ -104,23 +115,26 @@ pub record IsStalledIn (events done : List Scripted) (log : List (Entry dialect)
   pub stands : Stands (opening_of events) trees log kept
   pub clients : (c : ℕ) → (said_in done c ≡ []) ⊎ IsStalled kept.core c
 
--- a part of the log, after the first events of a script: clients had said what these say, and were given the first outputs; servers were what they and the results made of them; nothing more could be done without a result; and unless calls may be out nothing was left to do
+-- clients that said something in these events were given all that there was for them
+abbrev pub HaveAllOutput : List Scripted → List (Entry dialect) → Type 0
+HaveAllOutput done log = (c : ℕ) → (said_in done c ≡ []) ⊎ (given_of log c ≡ output_of log c)
+
+-- a part of the log, after the first events of a script: clients had said what these say, and were given their outputs, which were all that there were; servers were what they and the results made of them; nothing more could be done without a result; and unless calls may be out nothing was left to do
 pub record IsThrough (events done : List Scripted) (log : List (Entry dialect)) (given : List Shown) : Type 0 where
   pub newer : List (Entry dialect)
   pub older : List (Entry dialect)
   pub log_is : log ≡ newer ++ older
-  pub shown : ℕ
-  pub within : shown ≤ length given
   pub streams : (c : ℕ) → stream_of older c ≡ said_in done c
-  pub given_is : (c : ℕ) → given_of older c ≡ shown_to (take shown given) c
+  pub given_is : (c : ℕ) → given_of older c ≡ shown_to given c
+  pub all : HaveAllOutput done older
   pub servers : ScriptServers
   pub world : World events done older servers
   pub stalled : IsStalledIn events done older
   pub settled : leaves_out false done ≡ false → IsSettled done older
 
--- the log has a part after each of so many events
-abbrev pub AreThrough : List Scripted → ℕ → List (Entry dialect) → List Shown → Type 0
-AreThrough events count log given = (n : ℕ) → n ≤ count → IsThrough events (take n events) log given
+-- the log has a part after each of so many events, with these outputs of each
+abbrev pub AreThrough : List Scripted → ℕ → List (Entry dialect) → List (List Shown) → Type 0
+AreThrough events count log outputs = (n : ℕ) → n ≤ count → IsThrough events (take n events) log (handed (take n outputs))
 
 -- ---- which results come
 
@@ -164,17 +178,84 @@ BringsSome (At turn loss) before after = HasNoResult before after
 BringsSome (Now loss) before after = HasNoResult before after
 BringsSome (Moment moment) before after = HasNoResult before after
 
--- two parts of the log: one after the events before this one, and a later one after this one too, with what results it brings between them
-pub record IsStep (events done : List Scripted) (event : Scripted) (log : List (Entry dialect)) (given : List Shown) : Type 0 where
+-- ---- in which cuts a piece comes
+
+-- cuts one after another; the latest comes first
+abbrev pub joined : List (List ℕ) → List ℕ
+joined [] = []
+joined (cut ∷ cuts) = joined cuts ++ cut
+
+-- these bytes are in cuts: those before the last one are as long as a cut can be, and the last one is no longer, and empty only where it is the only one
+pub record AreCuts (bytes last : List ℕ) (cuts : List (List ℕ)) : Type 0 where
+  pub bytes_are : bytes ≡ joined cuts ++ last
+  pub full : All (λ cut. length cut ≡ PIECE_CUT) cuts
+  pub within : length last ≤ PIECE_CUT
+  pub some : (cuts ≡ []) ⊎ (0 < length last)
+
+-- nothing is left to do for a client but to hand out
+pub record IsServedFor (log : List (Entry dialect)) (c : ℕ) : Type 0 where
+  pub stuck : IsStuck dialect (front_of log c).place
+  pub shown : queue_of log c ≡ []
+
+-- nothing is left to do for any client that said something in these events but to hand out, and no command is under way
+pub record IsServed (events : List Scripted) (log : List (Entry dialect)) : Type 0 where
+  pub clients : (c : ℕ) → (said_in events c ≡ []) ⊎ IsServedFor log c
+  pub free : (n : ℕ) → owner_of log n ≡ None
+
+-- a cut came at once, and the log was at rest before anything else came
+pub record CutComes (client : ℕ) (cut : List ℕ) (Rests : List (Entry dialect) → Type 0) (before after : List (Entry dialect)) : Type 0 where
+  pub more : List (Entry dialect)
+  pub goes : after ≡ more ++ Feeds client cut ∷ before
+  pub alone : (c : ℕ) → stream_of after c ≡ stream_of (Feeds client cut ∷ before) c
+  pub rests : Rests after
+
+-- these cuts came, one after another
+abbrev pub CutsCome : ℕ → (List (Entry dialect) → Type 0) → List (List ℕ) → List (Entry dialect) → List (Entry dialect) → Type 0
+CutsCome client Rests [] before after = after ≡ before
+CutsCome client Rests (cut ∷ cuts) before after = (mid : List (Entry dialect)) × CutsCome client Rests cuts before mid × CutComes client cut Rests mid after
+
+-- a piece comes in cuts: after each of them all that is complete is done, and each call has its result; what comes of the piece is handed out after the last one
+pub record ComesInCuts (done : List Scripted) (client : ℕ) (bytes : List ℕ) (before after : List (Entry dialect)) : Type 0 where
+  pub cuts : List (List ℕ)
+  pub last : List ℕ
+  pub are : AreCuts bytes last cuts
+  pub served : List (Entry dialect)
+  pub newer : List (Entry dialect)
+  pub goes : after ≡ newer ++ served
+  pub come : CutsCome client (IsServed done) (last ∷ cuts) before served
+
+-- how an event comes that is the last of these: of others than pieces nothing is said
+abbrev pub ComesSo : List Scripted → Scripted → List (Entry dialect) → List (Entry dialect) → Type 0
+ComesSo done (Piece client bytes) before after = ComesInCuts done client bytes before after
+ComesSo done (Add client bytes) before after = Unit {0}
+ComesSo done (Result server) before after = Unit {0}
+ComesSo done (Fail turn manner) before after = Unit {0}
+ComesSo done (Hold server key content) before after = Unit {0}
+ComesSo done (At turn loss) before after = Unit {0}
+ComesSo done (Now loss) before after = Unit {0}
+ComesSo done (Moment moment) before after = Unit {0}
+
+-- ---- one event after another
+
+-- two parts of the log: one after the events before this one, and a later one after this one too, with what results and outputs it brings between them
+pub record IsStep (events done : List Scripted) (event : Scripted) (log : List (Entry dialect)) (given now : List Shown) : Type 0 where
   pub before : IsThrough events done log given
-  pub after : IsThrough events (done ++ event ∷ []) log given
+  pub after : IsThrough events (done ++ event ∷ []) log now
   pub more : List (Entry dialect)
   pub goes : after.older ≡ more ++ before.older
   pub brings : BringsResults event before.older after.older
+  pub comes : ComesSo (done ++ event ∷ []) event before.older after.older
 
--- the log has a part before and one after each of so many events
-abbrev pub AreSteps : List Scripted → ℕ → List (Entry dialect) → List Shown → Type 0
-AreSteps events count log given = (n : ℕ) (event : Scripted) → n < count → slice_get events n ≡ Some event → IsStep events (take n events) event log given
+-- the log has a part before and one after each of so many events, with these outputs of each
+abbrev pub AreSteps : List Scripted → ℕ → List (Entry dialect) → List (List Shown) → Type 0
+AreSteps events count log outputs = (n : ℕ) (event : Scripted) → n < count → slice_get events n ≡ Some event → IsStep events (take n events) event log (handed (take n outputs)) (handed (take (n + 1) outputs))
+
+-- what was handed out are the outputs of so many events, and some more after them, those of each event in rising order of clients
+pub record AreOutputs (given : List Shown) (count : ℕ) (outputs : List (List Shown)) (last : List Shown) : Type 0 where
+  pub given_are : given ≡ handed outputs ++ last
+  pub each : length outputs ≡ count
+  pub rising : All AreRising outputs
+  pub last_rising : AreRising last
 
 -- the log may have gone on by this event, which may have brought its results
 pub record IsStepPart (events done : List Scripted) (event : Scripted) (log : List (Entry dialect)) (given : List Shown) : Type 0 where
@@ -268,8 +349,12 @@ pub record DrivesStepped (first : Route) (refused : List Bool) (reloads : List R
   pub streams : (c : ℕ) → stream_of log c ≡ said_in events c
   pub given_is : (c : ℕ) → given_of log c ≡ shown_to given c
   pub order : AreHandedInTurn given log
-  pub through : AreThrough events (length events) log given
-  pub steps : AreSteps events (length events) log given
+  -- what was handed out after each event, and what was at the end
+  pub outputs : List (List Shown)
+  pub last : List Shown
+  pub by_event : AreOutputs given (length events) outputs last
+  pub through : AreThrough events (length events) log outputs
+  pub steps : AreSteps events (length events) log outputs
   pub marked : AreMarked events log given reloads marks
   pub settled : IsSettled events log
   pub written : (c : ℕ) → IsWritten first loads events log c
@@ -320,9 +405,13 @@ pub record StepsPart (first : Route) (refused : List Bool) (reloads : List Reloa
   pub streams : (c : ℕ) → IsSaid done next log c
   pub given_is : (c : ℕ) → given_of log c ≡ shown_to given c
   pub order : AreHandedInTurn given log
-  pub through : (log ≡ []) ⊎ AreThrough events (length done) log given
-  pub steps : AreSteps events (length done) log given
-  pub begun : (event : Scripted) → next ≡ event ∷ [] → IsStepPart events done event log given
+  -- what was handed out after each event, and what was after them
+  pub outputs : List (List Shown)
+  pub last : List Shown
+  pub by_event : AreOutputs given (length done) outputs last
+  pub through : (log ≡ []) ⊎ AreThrough events (length done) log outputs
+  pub steps : AreSteps events (length done) log outputs
+  pub begun : (event : Scripted) → next ≡ event ∷ [] → IsStepPart events done event log (handed outputs)
   pub marked : AreMarked events log given reloads marks
   pub run : RunsBy first loads events log
   -- nobody but the core writes the servers

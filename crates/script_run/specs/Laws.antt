@@ -5,6 +5,7 @@ use Rattle.mc_types.specs.declared.call.Origin.{Origin}
 use Rattle.mc_types.specs.Items.{Item}
 use Rattle.fresh_runs.specs.Fleet.{after_event}
 use Rattle.fresh_runs.specs.Overlap.{Entry, Follows, run_of, without}
+use Rattle.fresh_runs.specs.Overlap as entry
 use Rattle.fresh_runs.specs.Sharing.{LosesOnly, commands_in, calls_in, IsFreshByNumber}
 use Rattle.fresh_runs.specs.SharingStale.{stale_in}
 use Rattle.fresh_runs.specs.Cover.{IsCovered}
@@ -114,15 +115,18 @@ LossesGoOn =
 
 -- ---- clients
 
+-- a client that is opened changes nothing of the log
 abbrev pub OpeningsGoOn : Type 0
 OpeningsGoOn =
     (opening : ℕ → List ℕ → Option Item) (tree : ℕ → Route) (log : List (Entry dialect)) (client : ℕ) (old new : Kept)
-    → Stands opening tree log old → Opens old.core client new.core → IsBesides old new → GoesOn opening tree log new
+    → Stands opening tree log old → Opens old.core client new.core → IsBesides old new → Stands opening tree log new
 
+-- a piece is the next entry of the log
 abbrev pub FeedsGoOn : Type 0
 FeedsGoOn =
     (opening : ℕ → List ℕ → Option Item) (tree : ℕ → Route) (log : List (Entry dialect)) (client : ℕ) (bytes : List ℕ) (old new : Kept)
-    → Stands opening tree log old → Feeds old.core client bytes new.core → IsBesides old new → GoesOnFed opening tree log client bytes new
+    → Stands opening tree log old → Feeds old.core client bytes new.core → IsBesides old new
+    → (g : GoesOnFed opening tree log client bytes new) × (g.more ≡ entry.Feeds client bytes ∷ [])
 
 abbrev pub GivesGoOn : Type 0
 GivesGoOn =

@@ -8,7 +8,6 @@ use Rattle.gate_check.specs.Reload.{AreKept, IsReloadFault}
 use Rattle.gate_check.specs.declared.reloading.ReloadFault.{ReloadFault}
 use Rattle.gate_check.specs.declared.reloading.ReloadFault.TheVariants as faults
 use Rattle.script_events.specs.declared.script.Reload.{Reload}
-use Rattle.script_events.specs.declared.script.DriveFault.TheVariants.{NoMemory}
 use Rattle.script_run.specs.declared.accepted.judging.Loading.{Loading}
 use Rattle.script_run.specs.declared.accepted.judging.Loading.TheVariants.{Loaded, Refused}
 

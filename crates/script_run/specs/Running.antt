@@ -1,7 +1,7 @@
 -- What a runner and its servers keep, and what its calls make of the log. Source: mcgate's own.
 use Rattle.std.specs.Prelude.{◌≡◌, ◌⊎◌, ℕ, ◌<◌, List, [], ◌∷◌, Option}
 use Rattle.mc_types.specs.Items.{Item}
-use Rattle.fresh_runs.specs.Overlap.{Entry, out_of}
+use Rattle.fresh_runs.specs.Overlap.{Entry, Feeds, out_of}
 use Rattle.route_tree.specs.Route.{Route}
 use Rattle.core_proxy.specs.CoreState.{dialect}
 use Rattle.core_proxy.specs.CoreState.{IsOut}
@@ -34,6 +34,11 @@ kept_of runner servers =
 abbrev pub Moves : Runner → ScriptServers → Runner → ScriptServers → Type 0
 Moves old before new after =
     (opening : ℕ → List ℕ → Option Item) (tree : ℕ → Route) (log : List (Entry dialect)) → Stands opening tree log (kept_of old before) → GoesOn opening tree log (kept_of new after)
+
+-- each log that stood before stands after
+abbrev pub Stays : Runner → ScriptServers → Runner → ScriptServers → Type 0
+Stays old before new after =
+    (opening : ℕ → List ℕ → Option Item) (tree : ℕ → Route) (log : List (Entry dialect)) → Stands opening tree log (kept_of old before) → Stands opening tree log (kept_of new after)
 
 -- the servers gave these results, the latest first, and each log that stood before goes on by them, and stands after
 pub record MovesBy (results : List CallResult) (old : Runner) (before : ScriptServers) (new : Runner) (after : ScriptServers) : Type 0 where
@@ -71,6 +76,11 @@ MovesAt server old before new after = (results : List CallResult) × AreAsked se
 abbrev pub MovesFed : ℕ → List ℕ → Runner → ScriptServers → Runner → ScriptServers → Type 0
 MovesFed client bytes old before new after =
     (opening : ℕ → List ℕ → Option Item) (tree : ℕ → Route) (log : List (Entry dialect)) → Stands opening tree log (kept_of old before) → GoesOnFed opening tree log client bytes (kept_of new after)
+
+-- each log that stood before goes on by these bytes of a client, which come at once
+abbrev pub MovesFedAtOnce : ℕ → List ℕ → Runner → ScriptServers → Runner → ScriptServers → Type 0
+MovesFedAtOnce client bytes old before new after =
+    (opening : ℕ → List ℕ → Option Item) (tree : ℕ → Route) (log : List (Entry dialect)) → Stands opening tree log (kept_of old before) → (g : GoesOnFed opening tree log client bytes (kept_of new after)) × (g.more ≡ Feeds client bytes ∷ [])
 
 -- each log that stood before goes on, where a client was given these bytes
 abbrev pub MovesGiven : ℕ → List ℕ → Runner → ScriptServers → Runner → ScriptServers → Type 0

@@ -1,8 +1,8 @@
 -- How far a script that steps its calls has come, and what each step makes of its log. Source: mcgate's own.
-use Rattle.std.specs.Prelude.{◌≡◌, ◌⊎◌, ℕ, ◌<◌, ◌≤◌, Bool, true, false, List, [], ◌++◌, length, map, drop, Option, IfSome, slice_get}
+use Rattle.std.specs.Prelude.{◌≡◌, ◌⊎◌, ℕ, ◌<◌, ◌≤◌, Bool, true, false, List, [], ◌∷◌, ◌++◌, length, map, drop, Option, None, IfSome, slice_get}
 use Rattle.mc_types.specs.Items.{Item}
 use Rattle.fresh_runs.specs.Log.{Shown}
-use Rattle.fresh_runs.specs.Overlap.{Entry, given_of, output_of, run_of}
+use Rattle.fresh_runs.specs.Overlap.{Entry, Feeds, given_of, output_of, owner_of, run_of}
 use Rattle.fresh_runs.specs.OverlapStream.{stream_of}
 use Rattle.route_tree.specs.Route.{Route}
 use Rattle.core_proxy.specs.CoreState.{dialect}
@@ -21,7 +21,7 @@ use Rattle.script_run.specs.Turns.{AreInTurn}
 use Rattle.script_run.specs.Running.{kept_of, IsLoadedBy, AreOfOne, AreAsked, AreStalled, KeepStalled, IsAtRest}
 use Rattle.script_run.specs.declared.driver.runner.Runner.{Runner}
 use Rattle.script_run.specs.World.{Changes, World}
-use Rattle.script_run.specs.Driving.{said_by, said_in, shown_to, AreHandedInTurn, trees_loaded, loaded_trees, CameInTurn, leaves_out, IsSettled, AreThrough, AreSteps, AreMarked, StepsPart, AreSpentIn}
+use Rattle.script_run.specs.Driving.{said_by, said_in, shown_to, joined, AreCuts, IsServedFor, CutsCome, AreHandedInTurn, AreRising, AreOutputs, HaveAllOutput, trees_loaded, loaded_trees, CameInTurn, leaves_out, IsSettled, AreThrough, AreSteps, AreMarked, StepsPart, AreSpentIn}
 
 -- an event that asks clients nothing leaves as much to do as there was
 abbrev pub LeavesBy : Scripted → List (Entry dialect) → List (Entry dialect) → Type 0
@@ -57,6 +57,49 @@ pub record FedInTurn (client : ℕ) (bytes : List ℕ) (old : Runner) (before : 
   pub fed : FedBy client bytes old before new after
   pub in_turn :
       (opening : ℕ → List ℕ → Option Item) (tree : ℕ → Route) (log : List (Entry dialect)) (stands : Stands opening tree log (kept_of old before)) → AreInTurn fed.results (fed.goes opening tree log stands).0.more log
+
+-- the same, and the bytes came at once, before anything was done of them
+pub record FedAtOnce (client : ℕ) (bytes : List ℕ) (old : Runner) (before : ScriptServers) (new : Runner) (after : ScriptServers) : Type 0 where
+  pub turn : FedInTurn client bytes old before new after
+  pub first :
+      (opening : ℕ → List ℕ → Option Item) (tree : ℕ → Route) (log : List (Entry dialect)) (stands : Stands opening tree log (kept_of old before))
+      → (rest : List (Entry dialect)) × ((turn.fed.goes opening tree log stands).0.more ≡ rest ++ Feeds client bytes ∷ [])
+
+-- nothing is left to do for so many clients but to hand out, and no command is under way
+pub record IsServedBelow (count : ℕ) (log : List (Entry dialect)) : Type 0 where
+  pub clients : (c : ℕ) → c < count → IsServedFor log c
+  pub free : (n : ℕ) → owner_of log n ≡ None
+
+-- a client said these cuts, one after another, and after each of them all was done
+pub record FedInCuts (client : ℕ) (cuts : List (List ℕ)) (old : Runner) (before : ScriptServers) (new : Runner) (after : ScriptServers) : Type 0 where
+  pub turn : FedInTurn client (joined cuts) old before new after
+  pub come :
+      (opening : ℕ → List ℕ → Option Item) (tree : ℕ → Route) (log : List (Entry dialect)) (stands : Stands opening tree log (kept_of old before))
+      → CutsCome client (IsServedBelow new.clients) cuts log ((turn.fed.goes opening tree log stands).0.more ++ log)
+
+-- a client said these bytes in cuts
+pub record FedAsPiece (client : ℕ) (bytes : List ℕ) (old : Runner) (before : ScriptServers) (new : Runner) (after : ScriptServers) : Type 0 where
+  pub cuts : List (List ℕ)
+  pub last : List ℕ
+  pub are : AreCuts bytes last cuts
+  pub fed : FedInCuts client (last ∷ cuts) old before new after
+
+-- a piece came in cuts, after each of which nothing was left to do for so many clients but to hand out
+pub record CameInCuts (client : ℕ) (bytes : List ℕ) (count : ℕ) (before after : List (Entry dialect)) : Type 0 where
+  pub cuts : List (List ℕ)
+  pub last : List ℕ
+  pub are : AreCuts bytes last cuts
+  pub come : CutsCome client (IsServedBelow count) (last ∷ cuts) before after
+
+abbrev pub CutsBy : Scripted → ℕ → List (Entry dialect) → List (Entry dialect) → Type 0
+CutsBy (Piece client bytes) count before after = CameInCuts client bytes count before after
+CutsBy (Add client bytes) count before after = Unit {0}
+CutsBy (Result server) count before after = Unit {0}
+CutsBy (Fail turn manner) count before after = Unit {0}
+CutsBy (Hold server key content) count before after = Unit {0}
+CutsBy (At turn loss) count before after = Unit {0}
+CutsBy (Now loss) count before after = Unit {0}
+CutsBy (Moment moment) count before after = Unit {0}
 
 -- which results an event asks for
 abbrev pub AreFit : Scripted → List CallResult → Type 0
@@ -101,6 +144,7 @@ pub record Befalls (event : Scripted) (old : Runner) (before : ScriptServers) (n
   pub asked : AreAskedBy event old before results
   pub goes : (opening : ℕ → List ℕ → Option Item) (tree : ℕ → Route) (log : List (Entry dialect)) → Stands opening tree log (kept_of old before) → (g : GoesOnSaid opening tree log event (kept_of new after)) × HasCalls results g.more log
   pub turns : (opening : ℕ → List ℕ → Option Item) (tree : ℕ → Route) (log : List (Entry dialect)) (stands : Stands opening tree log (kept_of old before)) → TakesTurns event results (goes opening tree log stands).0.more log
+  pub cuts : (opening : ℕ → List ℕ → Option Item) (tree : ℕ → Route) (log : List (Entry dialect)) (stands : Stands opening tree log (kept_of old before)) → CutsBy event new.clients log ((goes opening tree log stands).0.more ++ log)
 
 -- the log goes on, and clients said a beginning of what the event says
 pub record GoesOnInPart (opening : ℕ → List ℕ → Option Item) (tree : ℕ → Route) (log : List (Entry dialect)) (event : Scripted) (k : Kept) : Type 0 where
@@ -182,6 +226,16 @@ HandsSome before after old =
     (servers : ScriptServers) (opening : ℕ → List ℕ → Option Item) (tree : ℕ → Route) (log : List (Entry dialect)) → Stands opening tree log (kept_of old servers)
     → (new : Runner) × GoesOnShown (λ c. ⊥) opening tree log before after (kept_of new servers)
 
+-- one output more of this client was handed out, which isn't empty, or none
+abbrev pub AddsOne : ℕ → List Shown → List Shown → Type 0
+AddsOne client before after = (after ≡ before) ⊎ ((bytes : List ℕ) × (bytes ≡ [] → ⊥) × (after ≡ before ++ record { client = client; bytes = bytes } ∷ []))
+
+-- some outputs more were handed out, in rising order of clients
+pub record AddsRising (before after : List Shown) : Type 0 where
+  pub outputs : List Shown
+  pub after_is : after ≡ before ++ outputs
+  pub rising : AreRising outputs
+
 -- so many reloads came, and these events are left: a log stands with the trees loaded, in which clients said what came before and were given what was handed out, and the servers are what those events and the results made of them
 pub record HasCome (first : Route) (refused : List Bool) (reloads : List Reload) (events : List Scripted) (loaded : ℕ) (left : List Scripted) (given : List Shown) (k : Kept) : Type 0 where
   pub log : List (Entry dialect)
@@ -199,8 +253,11 @@ pub record HasCome (first : Route) (refused : List Bool) (reloads : List Reload)
 -- a log stands after the events that came, and stood after each: clients that weren't opened said nothing yet, nothing more can be done without a result, and unless calls may be out nothing is left to do
 pub record HasStood (first : Route) (refused : List Bool) (reloads : List Reload) (events : List Scripted) (loaded : ℕ) (left : List Scripted) (given : List Shown) (marks : List ℕ) (clients : ℕ) (k : Kept) : Type 0 where
   pub come : HasCome first refused reloads events loaded left given k
-  pub through : AreThrough events (length come.done) come.log given
-  pub steps : AreSteps events (length come.done) come.log given
+  pub outputs : List (List Shown)
+  pub by_event : AreOutputs given (length come.done) outputs []
+  pub all : HaveAllOutput come.done come.log
+  pub through : AreThrough events (length come.done) come.log outputs
+  pub steps : AreSteps events (length come.done) come.log outputs
   pub settled : leaves_out false come.done ≡ false → IsSettled come.done come.log
   pub stalled : (c : ℕ) → c < clients → IsStalled k.core c
   pub heard : (c : ℕ) → clients ≤ c → said_in come.done c ≡ []

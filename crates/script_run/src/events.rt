@@ -7,21 +7,21 @@ ghost use Rattle.script_events.specs.Scripted.{Scripted, Now, Moment, loss_of, s
 ghost use Rattle.script_events.specs.Servers.{count_of};
 ghost use Rattle.script_run.specs.Breaking.{StopsFed};
 ghost use Rattle.script_run.specs.Running.{MovesFed, AreStalled, KeepStalled, IsAtRest};
-ghost use Rattle.script_run.specs.Stepping.{FedInTurn, FedInPart, Befalls, BreaksOff, IsHeard, RestsAfter, HandsOut, HandsOutAll, HandsSome};
+ghost use Rattle.script_run.specs.Stepping.{FedAtOnce, FedAsPiece, FedInPart, Befalls, BreaksOff, IsHeard, RestsAfter, HandsOut, HandsOutAll, HandsSome, AddsOne, AddsRising};
 
 use crate::driver::Runner;
 use crate::log::laws::losses_go_on;
 use script_events::servers::{FleetFault, Loss, ScriptServers};
 use script_events::{Event, Output, PIECE_CUT, Transcript};
 
-// Bytes come, and each call that is out has its result.
+// Bytes come at once, and each call that is out has its result.
 fn serve(
     runner: &mut Runner,
     servers: &mut ScriptServers,
     client: usize,
     bytes: &[u8],
 ) -> Result<(), FleetFault>
-    ensures ok { OnOk result (FedInTurn client bytes.now runner.old servers.old runner.new servers.new) }
+    ensures ok { OnOk result (FedAtOnce client bytes.now runner.old servers.old runner.new servers.new) }
     ensures count { count_of servers.new ≡ count_of servers.old }
     ensures clients { OnOk result (runner.new.clients ≡ runner.old.clients) }
     ensures rest { OnOk result (IsAtRest runner.new) }
@@ -38,7 +38,7 @@ fn piece(
     client: usize,
     bytes: &[u8],
 ) -> Result<(), FleetFault>
-    ensures ok { OnOk result (FedInTurn client bytes.now runner.old servers.old runner.new servers.new) }
+    ensures ok { OnOk result (FedAsPiece client bytes.now runner.old servers.old runner.new servers.new) }
     ensures count { count_of servers.new ≡ count_of servers.old }
     ensures opened { OnOk result ((client < runner.new.clients) × (runner.old.clients ≤ runner.new.clients)) }
     ensures rest { OnOk result (IsAtRest runner.new) }
@@ -90,6 +90,7 @@ fn give(runner: &mut Runner, client: usize, transcript: &mut Transcript) -> Resu
     ensures ok { OnOk result (HandsOut (λ c. client ≡ c) (transcript_of transcript.old) (transcript_of transcript.new) runner.old runner.new) }
     ensures stalled { OnOk result (KeepStalled runner.old runner.new) }
     ensures err { OnErr result (transcript.new.shown.items ≡ transcript.old.shown.items) }
+    ensures one { AddsOne client (transcript_of transcript.old) (transcript_of transcript.new) }
     ensures longer { length transcript.old.shown.items ≤ length transcript.new.shown.items }
     ensures clients { runner.new.clients ≡ runner.old.clients }
     ensures fault { IfErr result (λ fault. fault ≡ NoMemory) }
@@ -112,6 +113,7 @@ pub fn give_all(runner: &mut Runner, transcript: &mut Transcript) -> Result<(), 
     ensures stalled { OnOk result (KeepStalled runner.old runner.new) }
     ensures clients { OnOk result (runner.new.clients ≡ runner.old.clients) }
     ensures err { OnErr result (HandsSome (transcript_of transcript.old) (transcript_of transcript.new) runner.old) }
+    ensures rising { AddsRising (transcript_of transcript.old) (transcript_of transcript.new) }
     ensures fault { IfErr result (λ fault. fault ≡ NoMemory) }
     ensures longer { length transcript.old.shown.items ≤ length transcript.new.shown.items }
 {

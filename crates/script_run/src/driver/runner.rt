@@ -133,7 +133,7 @@ fn lesser(one: Option<ServerId>, other: ServerId) -> ServerId
 }
 
 impl Runner {
-    ghost use Rattle.script_run.specs.Running.{kept_of, Moves, MovesByOne, MovesAt, MovesFed, MovesGiven, IsLoadedBy, AreIdle, AreStalled, KeepStalled, IsAtRest, AreAskedYet};
+    ghost use Rattle.script_run.specs.Running.{kept_of, Moves, Stays, MovesByOne, MovesAt, MovesFed, MovesFedAtOnce, MovesGiven, IsLoadedBy, AreIdle, AreStalled, KeepStalled, IsAtRest, AreAskedYet};
     ghost use Rattle.script_run.specs.Progressing.{TakesSo, LeavesSo, AreStill};
     ghost use Rattle.script_run.specs.Breaking.{IsLastBegun, StopsAt, StopsFed, StopsGiving, StopsAfter};
     ghost use Rattle.script_run.specs.Turns.{TakesFirst, MovesInTurn};
@@ -175,7 +175,7 @@ impl Runner {
 
     // One more client.
     fn open_next(&mut self) -> Result<(), FleetFault>
-        ensures moves { OnOk result ((servers : ScriptServers) → Moves self.old servers self.new servers) }
+        ensures stays { OnOk result ((servers : ScriptServers) → Stays self.old servers self.new servers) }
         ensures clients { OnOk result (self.new.clients ≡ self.old.clients + 1) }
         ensures fault { IfErr result (λ fault. fault ≡ NoMemory) }
     {
@@ -194,7 +194,7 @@ impl Runner {
 
     /// Clients are opened up to this one, counted from 0. The only error is running out of memory.
     pub fn open(&mut self, client: usize) -> Result<(), FleetFault>
-        ensures moves { OnOk result ((servers : ScriptServers) → Moves self.old servers self.new servers) }
+        ensures stays { OnOk result ((servers : ScriptServers) → Stays self.old servers self.new servers) }
         ensures opened { OnOk result ((client < self.new.clients) × (self.old.clients ≤ self.new.clients)) }
         ensures fault { IfErr result (λ fault. fault ≡ NoMemory) }
     {
@@ -206,7 +206,7 @@ impl Runner {
 
     /// A client's bytes come, and nothing is done of them yet. The only error is running out of memory.
     pub fn feed(&mut self, client: usize, piece: &[u8]) -> Result<(), FleetFault>
-        ensures fed { OnOk result ((servers : ScriptServers) → MovesFed client piece.now self.old servers self.new servers) }
+        ensures fed { OnOk result ((servers : ScriptServers) → MovesFedAtOnce client piece.now self.old servers self.new servers) }
         ensures clients { self.new.clients ≡ self.old.clients }
         ensures fault { IfErr result (λ fault. fault ≡ NoMemory) }
     {

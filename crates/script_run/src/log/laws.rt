@@ -17,12 +17,12 @@ pub fn losses_go_on()
     ensures { LossesGoOn }
 {}
 
-/// A client that is opened changes nothing of the log.
+/// Where a client is opened, the same log stands.
 pub fn openings_go_on()
     ensures { OpeningsGoOn }
 {}
 
-/// A piece of a client's bytes goes on with the log.
+/// A piece of a client's bytes is the log's next entry.
 pub fn feeds_go_on()
     ensures { FeedsGoOn }
 {}

@@ -6,7 +6,7 @@ use Rattle.script_run.proofs.Broken.{stops_after_open}
 use Rattle.script_run.proofs.events.add.Goals as goal
 
 pub returns-clause-fed : goal.returns-clause-fed
-returns-clause-fed c = on_ok c.add.result _ _ (λ m s. fed_after c.args.client c.args.bytes.now c.args.runner.now c.open.new.self c.add.new.self s (c.in_ok-open.ensures.moves s) (m s)) c.add.ensures.fed
+returns-clause-fed c = on_ok c.add.result _ _ (λ m s. fed_after c.args.client c.args.bytes.now c.args.runner.now c.open.new.self c.add.new.self s (c.in_ok-open.ensures.stays s) (m s)) c.add.ensures.fed
 
 pub returns-clause-opened : goal.returns-clause-opened
 returns-clause-opened c =
@@ -17,7 +17,7 @@ returns-in_err-open-clause-err c = passed c.from_residual.result _ _ c.from_resi
 
 pub returns-clause-err : goal.returns-clause-err
 returns-clause-err c =
-    err_weaker c.add.result _ _ (λ fault h. stops_after_open c.args.client c.args.bytes.now c.args.runner.now c.open.new.self fault c.in_ok-open.ensures.moves h) c.add.ensures.err
+    err_weaker c.add.result _ _ (λ fault h. stops_after_open c.args.client c.args.bytes.now c.args.runner.now c.open.new.self fault c.in_ok-open.ensures.stays h) c.add.ensures.err
 
 pub returns-clause-stalled : goal.returns-clause-stalled
 returns-clause-stalled c = c.add.ensures.stalled

@@ -7,7 +7,7 @@ use Rattle.script_run.specs.Breaking.{StopsFed}
 use Rattle.script_run.proofs.DriverRunning.{on_ok}
 use Rattle.script_run.specs.Running.{MovesFed}
 use Rattle.script_run.specs.declared.driver.runner.Runner.{Runner}
-use Rattle.script_run.specs.Stepping.{FedInTurn, FedInPart, Befalls, BreaksOff, IsHeard, RestsAfter}
+use Rattle.script_run.specs.Stepping.{FedAsPiece, FedInPart, Befalls, BreaksOff, IsHeard, RestsAfter}
 use Rattle.script_run.proofs.Steps.{heard_of, heard_more, piece_said, add_said, result_asked, held_before, named, loss_named}
 use Rattle.script_run.proofs.Breaking.{err_weaker}
 use Rattle.script_run.proofs.Broken.{if_err, named_late, piece_breaks, add_breaks, result_breaks, nothing_breaks}
@@ -18,7 +18,7 @@ returns-in-Piece-clause-ok c =
     on_ok c.piece.result _ _
     (λ m. subst (λ (e : Event). Befalls (scripted_of e) c.args.runner.now c.args.servers.now c.piece.new.runner c.piece.new.servers) (sym c.in-Piece.is)
     (piece_said c.in-Piece.client c.in-Piece.bytes.items c.args.runner.now c.piece.new.runner c.args.servers.now c.piece.new.servers
-    (subst (λ (l : List ℕ). FedInTurn c.in-Piece.client l c.args.runner.now c.args.servers.now c.piece.new.runner c.piece.new.servers) c.as_slice.ensures.value m)))
+    (subst (λ (l : List ℕ). FedAsPiece c.in-Piece.client l c.args.runner.now c.args.servers.now c.piece.new.runner c.piece.new.servers) c.as_slice.ensures.value m)))
     c.piece.ensures.ok
 
 pub returns-in-Add-clause-ok : goal.returns-in-Add-clause-ok

@@ -6,6 +6,7 @@ use Rattle.script_events.specs.Scripted.{transcript_of, shown_by}
 use Rattle.route_job.proofs.Executing.{on_err}
 use Rattle.script_run.specs.Stepping.{HandsOut, HandsSome}
 use Rattle.script_run.proofs.Steps.{hands_nothing, hands_then, hands_some}
+use Rattle.script_run.proofs.Rising.{adds_none, adds_one}
 use Rattle.script_run.proofs.events.give_all.Goals as goal
 
 pub loop-client-init : goal.loop-client-init
@@ -14,6 +15,7 @@ loop-client-init c = record {
   longer = omega arith;
   clients = refl;
   stalled = λ m h. h;
+  adds = adds_none 0 (transcript_of c.args.transcript.now);
 }
 
 pub returns-in_err-give-clause-err : goal.returns-in_err-give-clause-err
@@ -36,6 +38,7 @@ loop-client-preserved c =
       longer = let a = c.loop-client.invariant.longer in let b = c.in_ok-give.ensures.longer in omega (arith, a, b);
       clients = c.in_ok-give.ensures.clients ∙ c.loop-client.invariant.clients;
       stalled = λ m h. c.in_ok-give.ensures.stalled m (c.loop-client.invariant.stalled m h);
+      adds = adds_one n (transcript_of c.args.transcript.now) (transcript_of c.loop-client.transcript) (transcript_of c.give.new.transcript) c.loop-client.invariant.adds c.in_ok-give.ensures.one;
     }
 
 pub returns-clause-ok : goal.returns-clause-ok
@@ -49,3 +52,10 @@ returns-clause-clients c = c.loop-client.invariant.clients
 
 pub returns-clause-stalled : goal.returns-clause-stalled
 returns-clause-stalled c = c.loop-client.invariant.stalled
+
+pub returns-clause-rising : goal.returns-clause-rising
+returns-clause-rising c = c.loop-client.invariant.adds.adds
+
+pub returns-in_err-give-clause-rising : goal.returns-in_err-give-clause-rising
+returns-in_err-give-clause-rising c =
+    (adds_one c.loop-client.client (transcript_of c.args.transcript.now) (transcript_of c.loop-client.transcript) (transcript_of c.give.new.transcript) c.loop-client.invariant.adds c.in_err-give.ensures.one).adds

@@ -76,7 +76,7 @@ returns-in_err-give_all-clause-err c =
     let given = transcript_of c.loop-next.transcript in
     passed c.from_residual-in_err-give_all.result _ _ c.from_residual-in_err-give_all.ensures.1
     (λ first h. stops_handing first c.args.refused.now c.args.reloads.now (map scripted_of xs) c.standing_says.ensures c.in_ok-loaded.loaded (scripted_of x) (map scripted_of (drop (i + 1) xs)) given (transcript_of c.give_all.new.transcript) c.load_due.new.marks.items
-    c.load_due.new.runner c.befall.new.runner c.loop-next.servers c.befall.new.servers _ c.in_ok-loaded.ensures.within c.in_ok-befall.ensures.ok c.in_err-give_all.ensures.err c.in_err-give_all.ensures.fault
+    c.load_due.new.runner c.befall.new.runner c.loop-next.servers c.befall.new.servers _ c.in_ok-loaded.ensures.within c.in_ok-befall.ensures.ok c.in_err-give_all.ensures.err c.in_err-give_all.ensures.rising c.in_err-give_all.ensures.fault
     (due first c.args.refused.now c.args.reloads.now xs i (length c.as_slice-shown.result.now) c.loop-next.loaded c.in_ok-loaded.loaded x given c.loop-next.marks.items c.load_due.new.marks.items c.loop-next.runner c.load_due.new.runner c.loop-next.servers
     c.loop-next-test.true c.index-events-next.is (shown_all c.loop-next.transcript c.as_slice-shown.result.now c.as_slice-shown.ensures.value) c.in_ok-loaded.ensures.clients c.in_ok-loaded.ensures.ok (v.stood first h)))
 
@@ -97,7 +97,7 @@ loop-next-preserved c =
       stood = λ first h. event_next first c.args.refused.now c.args.reloads.now xs i (length c.as_slice-shown.result.now) c.loop-next.loaded c.in_ok-loaded.loaded x (transcript_of c.loop-next.transcript) (transcript_of c.give_all.new.transcript)
           c.loop-next.marks.items c.load_due.new.marks.items c.loop-next.runner c.load_due.new.runner c.befall.new.runner c.give_all.new.runner c.loop-next.servers c.befall.new.servers lt c.index-events-next.is
           (shown_all c.loop-next.transcript c.as_slice-shown.result.now c.as_slice-shown.ensures.value) c.in_ok-loaded.ensures.clients c.in_ok-loaded.ensures.ok c.in_ok-befall.ensures.ok c.in_ok-befall.ensures.heard c.in_ok-befall.ensures.rest
-          c.in_ok-give_all.ensures.ok c.in_ok-give_all.ensures.stalled c.in_ok-give_all.ensures.clients (v.stood first h);
+          c.in_ok-give_all.ensures.ok c.in_ok-give_all.ensures.rising c.in_ok-give_all.ensures.stalled c.in_ok-give_all.ensures.clients (v.stood first h);
       marked = c.in_ok-loaded.ensures.marked v.marked;
       marks = marks_on (length c.as_slice-shown.result.now) (length c.loop-next.transcript.shown.items) (length c.give_all.new.transcript.shown.items) c.loop-next.marks.items c.load_due.new.marks.items
           (ap (λ (l : List Output). length l) c.as_slice-shown.ensures.value) c.in_ok-give_all.ensures.longer v.marks c.in_ok-loaded.ensures.marks;
