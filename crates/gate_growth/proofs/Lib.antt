@@ -15,3 +15,4 @@ pub mod Among
 pub mod Since
 pub mod Reload
 pub mod Slots
+pub mod Paging
