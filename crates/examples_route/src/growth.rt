@@ -47,7 +47,8 @@ any own: ab; ab#ac; ab#ac => 1; 2; 3
 any own: ab; ab#ac; ab#ab => 1; 2; generation=2 server=b residue=1/2 prefix=k:
 any own: ab; ab#ac; ab => 1; 2; generation=2 server=b residue=1/2 prefix=k:
 # A tree that doesn't clear what it takes itself.
-own own: ab; ab>cd => 1; generation=2 server=a residue=0/2"#
+own own: ab; ab>cd => 1; generation=2 server=a residue=0/2
+own own: ab>cd => generation=1 server=a residue=0/2"#
 }
 
 fn push_servers(out: &mut String, slots: &str) -> Result<(), AllocError> {
@@ -156,7 +157,7 @@ fn fault_line(alloc: Global, config: &Config, fault: &Unsound) -> Result<String,
     Ok(out)
 }
 
-// What comes of the configuration, as a judgement and as the next generation.
+// What comes of the configuration after others, as a judgement and as the next generation.
 fn followed(
     alloc: Global,
     ledger: &mut Ledger,
@@ -179,19 +180,45 @@ fn followed(
 // All configurations one after another.
 #[derive(Drop)]
 struct Walk {
-    ledger: Ledger,
+    ledger: Option<Ledger>,
     servers: Servers,
     out: String,
+}
+
+// What comes of the configuration as the first one.
+fn begun(
+    alloc: Global,
+    walk: &mut Walk,
+    config: &Config,
+    opened: Beginning,
+) -> Result<String, AllocError> {
+    match Ledger::first(alloc, config, opened) {
+        Ok(ledger) => {
+            walk.ledger = Some(ledger);
+            "1".to_string(alloc)
+        }
+        Err(fault) => fault_line(alloc, config, &fault),
+    }
+}
+
+fn verdict(
+    alloc: Global,
+    walk: &mut Walk,
+    config: &Config,
+    new: Beginning,
+) -> Result<String, AllocError> {
+    walk.servers = config.servers().copy(alloc)?;
+    match &mut walk.ledger {
+        None => begun(alloc, walk, config, new),
+        Some(ledger) => followed(alloc, ledger, config, new),
+    }
 }
 
 fn walk_on(alloc: Global, walk: &mut Walk, tree: &str, new: Beginning) -> Result<(), AllocError> {
     let text = configuration(alloc, tree)?;
     let servers = walk.servers.copy(alloc)?;
     let line = match read_config_after(alloc, servers, text.as_str()) {
-        Ok(config) => {
-            walk.servers = config.servers().copy(alloc)?;
-            followed(alloc, &mut walk.ledger, &config, new)?
-        }
+        Ok(config) => verdict(alloc, walk, &config, new)?,
         Err(fault) => fault.to_string(alloc)?,
     };
     if !walk.out.is_empty() {
@@ -207,7 +234,7 @@ impl Teller for OfSteps {
         let (begun, trees) = halves(example, ": ");
         let (opened, later) = halves(begun, " ");
         let mut walk = Walk {
-            ledger: Ledger::new(alloc)?,
+            ledger: None,
             servers: Servers::new(alloc),
             out: String::new(alloc),
         };

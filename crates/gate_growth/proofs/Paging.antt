@@ -1,5 +1,5 @@
 -- Pages: servers that no tree names are alike, and one tree more.
-use Rattle.std.proofs.Common.{◌≡◌, ℕ, ◌<◌, ◌≤◌, Bool, true, false, ◌||◌, List, [], ◌∷◌, ◌++◌, map, length, Option, Some, None, MatchOption, inl, inr, ⊎_elim, refl, sym, ap, ◌∙◌, subst, arith, nat_eq, slice_get}
+use Rattle.std.proofs.Common.{◌≡◌, ℕ, ◌<◌, ◌≤◌, Bool, true, false, cond, ◌||◌, List, [], ◌∷◌, ◌++◌, map, length, Option, Some, None, MatchOption, inl, inr, ⊎_elim, refl, sym, ap, ◌∙◌, subst, arith, nat_eq, slice_get}
 use Rattle.std.proofs.lemmas.Bool.{eqb-true, eq-eqb}
 use Rattle.mc_types.specs.declared.ask.Ask.{Ask}
 use Rattle.mc_types.specs.declared.call.Origin.{Origin}
@@ -13,14 +13,16 @@ use Rattle.route_tree.specs.Word.{Given, Word}
 use Rattle.route_tree.proofs.Parts.{each_at, each_weaker}
 use Rattle.route_tree.proofs.Places.{each_append}
 use Rattle.route_tree.proofs.Servers.{calls_stay}
+use Rattle.gate_coverage.proofs.Choices.{either_left, either_right, either_split, bool_is}
 use Rattle.gate_growth.specs.Puts.{Puts}
+use Rattle.gate_growth.specs.declared.ledger.mark.Mark.{Mark}
 use Rattle.gate_growth.specs.declared.ledger.row.Cell.{Cell}
 use Rattle.gate_growth.specs.declared.ledger.row.Refused.{Refused}
 use Rattle.gate_growth.specs.declared.ledger.page.Beginning.{Beginning}
 use Rattle.gate_growth.specs.declared.ledger.page.Beginning.TheVariants.{Any, Own}
 use Rattle.gate_growth.specs.Marks.{IsTaken, IsClear, Leaves, NoneLeaves, IsFirstLeft, MayFollow, IsRefusedFor, IsMarkOf}
 use Rattle.gate_growth.specs.Rows.{servers_of, AreCellsOf, IsNotAfter, IsFirstRefused, IfRefused}
-use Rattle.gate_growth.specs.Pages.{is_any, AreBegun, unnamed_mark, HasCells, IsPageOf, IsPageWith, IsFirstOf, IfRefusedOf}
+use Rattle.gate_growth.specs.Pages.{is_any, AreBegun, unnamed_mark, has_cell, with_cell, HasCells, IsPageOf, IsPageWith, IsFirstOf, IfRefusedOf}
 use Rattle.gate_growth.proofs.Marking.{none_held}
 
 -- ---- a server that a plain tree doesn't name
@@ -153,3 +155,62 @@ module _ (arbitrary : ℕ → Bool) (plans : List Plan) (later : Plan) (bound : 
         named = named;
         others = λ s none. mark_same more bound s (without bound new more no_new named) (without s new more none named) after at;
       }
+
+-- ---- cells of several servers
+
+pub has_cell_in : (cells : List Cell) (s : ℕ) → has_cell cells s ≡ true → IsIn s (servers_of cells)
+has_cell_in [] s e = absurd cc
+has_cell_in (c ∷ cells) s e = ⊎_elim (λ h. inl (sym (eqb-true c.server s h))) (λ h. inr (has_cell_in cells s h)) (either_split (nat_eq c.server s) (has_cell cells s) e)
+
+pub has_no_cell : (cells : List Cell) (s : ℕ) → has_cell cells s ≡ false → IsIn s (servers_of cells) → ⊥
+has_no_cell [] s e i = i
+has_no_cell (c ∷ cells) s e (inl is) = let t : (nat_eq c.server s || has_cell cells s) ≡ true = either_left (nat_eq c.server s) (has_cell cells s) (eq-eqb c.server s (sym is)) in cc
+has_no_cell (c ∷ cells) s e (inr i) =
+    has_no_cell cells s (⊎_elim (λ (t : has_cell cells s ≡ true). absurd (let u : (nat_eq c.server s || has_cell cells s) ≡ true = either_right (nat_eq c.server s) (has_cell cells s) t in cc)) (λ f. f) (bool_is (has_cell cells s))) i
+
+module _ (arbitrary : ℕ → Bool) (plans : List Plan) (bound : ℕ) (others : Option ℕ) (begun : List Beginning) (are : AreBegun arbitrary begun) where
+  -- one server more, unless it has a cell
+  one_more : (cells : List Cell) (s : ℕ) (b : Beginning) → s < bound → slice_get begun s ≡ Some b → IsPageOf arbitrary plans bound cells others → IsPageWith arbitrary plans bound cells others (s ∷ []) (with_cell cells (record { server = s; mark = unnamed_mark b others }))
+  one_more cells s b lt got page =
+      let cell : Cell = record { server = s; mark = unnamed_mark b others } in
+      (elim (has_cell cells s) as (λ t. has_cell cells s ≡ t → IsPageWith arbitrary plans bound cells others (s ∷ []) (cond t cells (cells ++ cell ∷ []))) [
+        | true ↦ λ e. record { page = page; kept = λ x i. i; have = (has_cell_in cells s e, tt) }
+        | false ↦ λ e. record {
+          page = one_cell arbitrary plans bound others begun are cells s b lt got page (has_no_cell cells s e);
+          kept = λ x i. in_append cells cell x i;
+          have = (in_last cells cell, tt);
+        }
+      ]) refl
+
+  pub no_more_cells : (cells : List Cell) → IsPageOf arbitrary plans bound cells others → IsPageWith arbitrary plans bound cells others [] cells
+  no_more_cells cells page = record { page = page; kept = λ x i. i; have = tt }
+
+  pub more_cells : (cells : List Cell) (s : ℕ) (b : Beginning) (rest : List ℕ) (new : List Cell) → s < bound → slice_get begun s ≡ Some b → IsPageOf arbitrary plans bound cells others
+      → (IsPageOf arbitrary plans bound (with_cell cells (record { server = s; mark = unnamed_mark b others })) others → IsPageWith arbitrary plans bound (with_cell cells (record { server = s; mark = unnamed_mark b others })) others rest new)
+      → IsPageWith arbitrary plans bound cells others (s ∷ rest) new
+  more_cells cells s b rest new lt got page goes =
+      let one = one_more cells s b lt got page in
+      let all = goes one.page in
+      record { page = all.page; kept = λ x i. all.kept x (one.kept x i); have = (all.kept s one.have.0, all.have) }
+
+-- more servers may have a cell
+pub bound_more : (arbitrary : ℕ → Bool) (plans : List Plan) (bound bound' : ℕ) (cells : List Cell) (others : Option ℕ) → bound ≤ bound' → IsPageOf arbitrary plans bound cells others → IsPageOf arbitrary plans bound' cells others
+bound_more arbitrary plans bound bound' cells others le page = record {
+  marks = page.marks;
+  below = each_weaker (λ s. s < bound) (λ s. s < bound') (servers_of cells) (λ s lt. omega (arith, lt, le)) page.below;
+  named = page.named;
+  others = page.others;
+}
+
+-- the page of no trees
+pub no_page : (arbitrary : ℕ → Bool) (bound : ℕ) → IsPageOf arbitrary [] bound [] None
+no_page arbitrary bound = record {
+  marks = tt;
+  below = tt;
+  named = tt;
+  others = λ s none. record { holds = ((λ _. inl refl), (λ _. refl)); first = λ i leaves. (let e = leaves.1 in cc) };
+}
+
+-- an arbitrary server may hold anything, whatever its mark says
+pub any_mark : (plans : List Plan) (s : ℕ) (mark : Mark) → IsMarkOf true plans s mark → IsMarkOf true plans s (unnamed_mark Any mark.left)
+any_mark plans s mark of = record { holds = ((λ _. inl refl), (λ _. refl)); first = of.first }

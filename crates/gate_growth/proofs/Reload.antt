@@ -42,7 +42,7 @@ tree_of_plan place [] i p e = absurd cc
 tree_of_plan place (t ∷ trees) zero p e = (t, refl, cc)
 tree_of_plan place (t ∷ trees) (suc i) p e = tree_of_plan place trees i p e
 
-plans_good : (place : Place) (trees : List Route) → Each IsTree trees → Each IsGood (plans_at place trees)
+pub plans_good : (place : Place) (trees : List Route) → Each IsTree trees → Each IsGood (plans_at place trees)
 plans_good place [] are = tt
 plans_good place (t ∷ trees) are = (good_plain t (prefix_text place.prefix) place.residue are.0, plans_good place trees are.1)
 

@@ -43,11 +43,11 @@ abbrev pub HasCells : List Cell → Plan → Type 0
 HasCells cells plan = Each (λ s. IsIn s (servers_of cells)) (servers plan)
 
 -- the page of a place after these trees: the marks of the servers that they name there, all below the bound, and those of an arbitrary server that none of them names
-pub record IsPageOf (arbitrary : ℕ → Bool) (plans : List Plan) (bound : ℕ) (cells : List Cell) (others : Option ℕ) : Type 0 where
+pub record IsPageOf (arbitrary : ℕ → Bool) (plans : List Plan) (bound : ℕ) (cells : List Cell) (left : Option ℕ) : Type 0 where
   pub marks : AreCellsOf arbitrary plans cells
   pub below : Each (λ s. s < bound) (servers_of cells)
   pub named : Each (HasCells cells) plans
-  pub others : (s : ℕ) → (IsIn s (servers_of cells) → ⊥) → IsMarkOf true plans s (unnamed_mark Any others)
+  pub others : (s : ℕ) → (IsIn s (servers_of cells) → ⊥) → IsMarkOf true plans s (unnamed_mark Any left)
 
 -- more cells on the page, of each of these servers one
 pub record IsPageWith (arbitrary : ℕ → Bool) (plans : List Plan) (bound : ℕ) (old : List Cell) (others : Option ℕ) (named : List ℕ) (cells : List Cell) : Type 0 where

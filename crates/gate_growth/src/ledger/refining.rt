@@ -132,7 +132,11 @@ fn better(classes: &[ClassPages], best: usize, index: usize, text: &[u8]) -> usi
 {
     let own = prefix_text(&classes[index].prefix);
     let other = prefix_text(&classes[best].prefix);
-    if is_longer(other, own, text) { index } else { best }
+    if is_longer(other, own, text) {
+        index
+    } else {
+        best
+    }
 }
 
 // Whether the second begins the text and is longer than the first.

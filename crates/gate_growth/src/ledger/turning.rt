@@ -3,17 +3,14 @@
 ghost use Rattle.std.specs.Prelude.{◌≡◌, ℕ, ◌%◌, ◌<◌, ◌^◌, Bool, List, [], ◌∷◌, ◌++◌, map, length, Some, None, IfOk, slice_get};
 ghost use Rattle.route_tree.specs.Each.{Each};
 ghost use Rattle.route_tree.specs.Plan.{Plan, IsGood};
-ghost use Rattle.route_tree.specs.Route.{Route};
-ghost use Rattle.route_tree.specs.Place.{tree_at_place};
 ghost use Rattle.route_json.specs.Fits.{IsBelow};
 ghost use Rattle.gate_coverage.specs.Seen.{plan_of};
 ghost use Rattle.gate_check.specs.Looking.{IsFirstTaken};
 ghost use Rattle.gate_growth.specs.Marks.{IsTaken};
-ghost use Rattle.gate_growth.specs.Grown.{plans_at};
-ghost use Rattle.gate_growth.specs.Pages.{IsPageOf, IsFirstOf, IfRefusedOf};
+ghost use Rattle.gate_growth.specs.Pages.{IsFirstOf, IfRefusedOf};
 ghost use Rattle.gate_growth.specs.Classes.{prefixes_of};
 ghost use Rattle.gate_growth.specs.LeftGaps.{IsLeftBy, IfLeftBy, earlier};
-ghost use Rattle.gate_growth.specs.Turning.{AreBefore, Turns};
+ghost use Rattle.gate_growth.specs.Turning.{Turns, TurnsPage, TurnsGap};
 
 use crate::ledger::class::ClassPages;
 use crate::ledger::page::{Beginning, Page, turn_page};
@@ -165,8 +162,8 @@ fn turned_row(
 ) -> Result<TurnedRow, AllocError>
     requires below { IsBelow (length step.now.begun.now) step.now.tree.now }
     requires few { length step.now.begun.now < 2 ^ 32 }
-    ensures page { IfOk result (λ row. (arbitrary : ℕ → Bool) (trees : List Route) → AreBefore arbitrary trees step.now.number step.now.begun.now → IsPageOf arbitrary (plans_at place trees) (length step.now.begun.now) page.now.cells.items page.now.others → IsPageOf arbitrary (plans_at place (trees ++ step.now.tree.now ∷ [])) (length step.now.begun.now) row.page.cells.items row.page.others) }
-    ensures gap { IfOk result (λ row. (arbitrary : ℕ → Bool) (trees : List Route) → AreBefore arbitrary trees step.now.number step.now.begun.now → IsPageOf arbitrary (plans_at place trees) (length step.now.begun.now) page.now.cells.items page.now.others → IfLeftBy arbitrary (plans_at place trees) (tree_at_place step.now.tree.now place) place row.gap) }
+    ensures page { IfOk result (λ row. TurnsPage step.now place page.now row.page) }
+    ensures gap { IfOk result (λ row. TurnsGap step.now place page.now row.gap) }
 {
     let _form = step.tree.form();
     let at = At {
