@@ -77,11 +77,14 @@ turn_none known step prefix pages arbitrary trees m bound b le k = ((λ r lt. ab
 
 -- ---- a class
 
-pub turn_class : (known : List ClassPages) (step : Step) (class : ClassPages) (gap : Option LeftGap) (r : ℕ) → r ≡ step.modulus → length class.pages.items ≡ r → TurnsBelow known step class.prefix class.pages.items r gap → Turns known step (class ∷ []) gap
-turn_class known step class gap r end size below arbitrary trees m bound b le k =
-    let all = subst (λ n. TurnsBelow known step class.prefix class.pages.items n gap) end below arbitrary trees m bound b le k in (
+pub turn_class : (known : List ClassPages) (step : Step) (prefix : Option (List ℕ)) (pages : List Page) (gap : Option LeftGap) (r : ℕ) → r ≡ step.modulus → length pages ≡ r → TurnsBelow known step prefix pages r gap
+    → (arbitrary : ℕ → Bool) (trees : List Route) (modulus bound : ℕ) → AreBefore arbitrary trees step.number step.begun.now → bound ≤ length step.begun.now → AreKnown arbitrary trees modulus bound known
+    → (((length pages ≡ step.modulus) × ArePagesBelow arbitrary (trees ++ step.tree.now ∷ []) prefix step.modulus (length step.begun.now) pages step.modulus) × Unit {0})
+    × IfFirstLeft arbitrary trees step.tree.now (rows_below prefix step.modulus step.modulus ++ []) gap
+turn_class known step prefix pages gap r end size below arbitrary trees m bound b le k =
+    let all = subst (λ n. TurnsBelow known step prefix pages n gap) end below arbitrary trees m bound b le k in (
       ((size ∙ end, all.0), tt),
-      subst (λ rows. IfFirstLeft arbitrary trees step.tree.now rows gap) (sym (rows_one class.prefix step.modulus)) all.1,
+      subst (λ (rows : List Place). IfFirstLeft arbitrary trees step.tree.now rows gap) (sym (rows_one prefix step.modulus)) all.1,
     )
 
 -- ---- several classes

@@ -135,7 +135,7 @@ fn turned_class(
             residue,
             modulus: step.modulus,
         };
-        let row = turned_row(alloc, page_of(class, residue), place, step)?;
+        let row = turned_row(alloc, page_of(class, residue), &place, step)?;
         gap = earlier(gap, row.gap);
         pages.push(row.page)?;
     }
@@ -157,13 +157,13 @@ fn page_of(class: &ClassPages, residue: u32) -> &Page
 fn turned_row(
     alloc: Global,
     page: &Page,
-    place: Place,
+    place: &Place,
     step: &Step,
 ) -> Result<TurnedRow, AllocError>
     requires below { IsBelow (length step.now.begun.now) step.now.tree.now }
     requires few { length step.now.begun.now < 2 ^ 32 }
-    ensures page { IfOk result (λ row. TurnsPage step.now place page.now row.page) }
-    ensures gap { IfOk result (λ row. TurnsGap step.now place page.now row.gap) }
+    ensures page { IfOk result (λ row. TurnsPage step.now place.now page.now row.page) }
+    ensures gap { IfOk result (λ row. TurnsGap step.now place.now page.now row.gap) }
 {
     let _form = step.tree.form();
     let at = At {
@@ -173,7 +173,7 @@ fn turned_row(
     let turned = turn_page(alloc, page, step.begun, step.number, step.tree, &at)?;
     Ok(TurnedRow {
         page: turned.page,
-        gap: gap_of(place, Seen::Tree(step.tree, &at), turned.refused),
+        gap: gap_of(*place, Seen::Tree(step.tree, &at), turned.refused),
     })
 }
 
