@@ -9,11 +9,12 @@ use Rattle.gate_check.specs.declared.gap.Gap.{Gap}
 use Rattle.gate_check.proofs.LeastMultiples.{one_is_least}
 use Rattle.gate_check.proofs.PlacesValidity.{each_in}
 use Rattle.gate_growth.specs.declared.ledger.row.Cell.{Cell}
+use Rattle.gate_growth.specs.declared.ledger.page.Beginning.{Beginning}
 use Rattle.gate_growth.specs.declared.ledger.page.Page.{Page}
 use Rattle.gate_growth.specs.declared.ledger.class.ClassPages.{ClassPages}
 use Rattle.gate_growth.specs.Marks.{NoneLeaves, IsFirstLeft as IsFirstLeaving, IsRefusedFor}
 use Rattle.gate_growth.specs.Grown.{IsPlaceAmong, AreSoundSince, plans_at}
-use Rattle.gate_growth.specs.Pages.{AreBegun, IsPageOf}
+use Rattle.gate_growth.specs.Pages.{AreBegun, AreOpened, IsPageOf}
 use Rattle.gate_growth.specs.Classes.{prefixes_of, ArePagesOf}
 use Rattle.gate_growth.specs.PlaceRows.{rows_of, AreRowsOf}
 use Rattle.gate_growth.specs.LeftGaps.{MayFollowAt, IsFirstLeft}
@@ -34,16 +35,34 @@ no_rows = record { least = one_is_least; texts = []; first = refl; in_order = tt
 pub no_sound : (arbitrary : ℕ → Bool) → AreSoundSince arbitrary []
 no_sound arbitrary i j a b le ga gb place among server taken = absurd cc
 
-pub no_pages : (arbitrary : ℕ → Bool) (bound : ℕ) (class : ClassPages) (page : Page) → class.pages.items ≡ page ∷ [] → page.cells.items ≡ [] → page.others ≡ None → ArePagesOf arbitrary [] 1 bound class
-no_pages arbitrary bound class page one cells others = (
+no_page_of : (arbitrary : ℕ → Bool) (bound : ℕ) (class : ClassPages) (page : Page) → class.pages.items ≡ page ∷ [] → page.cells.items ≡ [] → page.others ≡ None → ArePagesOf arbitrary [] 1 bound class
+no_page_of arbitrary bound class page one cells others = (
   ap length one,
   (λ r lt.
-      let zero : 0 ≡ r = omega (arith, lt) in (
-        page,
-        subst (λ n. slice_get class.pages.items n ≡ Some page) zero (subst (λ (l : List Page). slice_get l 0 ≡ Some page) (sym one) refl),
-        subst (λ o. IsPageOf arbitrary [] bound page.cells.items o) (sym others) (subst (λ (l : List Cell). IsPageOf arbitrary [] bound l None) (sym cells) (no_page arbitrary bound)),
-      )),
+  let zero : 0 ≡ r = omega (arith, lt) in (
+    page,
+    subst (λ n. slice_get class.pages.items n ≡ Some page) zero (subst (λ (l : List Page). slice_get l 0 ≡ Some page) (sym one) refl),
+    subst (λ o. IsPageOf arbitrary [] bound page.cells.items o) (sym others) (subst (λ (l : List Cell). IsPageOf arbitrary [] bound l None) (sym cells) (no_page arbitrary bound)),
+  )),
 )
+
+pub no_known : (arbitrary : ℕ → Bool) (bound : ℕ) (classes before : List ClassPages) (class : ClassPages) (pages : List Page) (page : Page) → classes ≡ before ++ class ∷ [] → before ≡ [] → class.prefix ≡ None → class.pages.items ≡ pages ++ page ∷ [] → pages ≡ [] → page.cells.items ≡ [] → page.others ≡ None
+    → AreKnown arbitrary [] 1 bound classes
+no_known arbitrary bound classes before class pages page are none prefix paged empty cells others =
+    let one : classes ≡ class ∷ [] = are ∙ ap (λ l. l ++ class ∷ []) none in
+    let one_page : class.pages.items ≡ page ∷ [] = paged ∙ ap (λ l. l ++ page ∷ []) empty in
+    subst (AreKnown arbitrary [] 1 bound) (sym one) (record {
+      rows = subst (λ (o : Option (List ℕ)). AreRowsOf [] (o ∷ []) 1) (sym prefix) no_rows;
+      pages = (no_page_of arbitrary bound class page one_page cells others, tt);
+    })
+
+-- servers that a configuration brings began so
+pub begun_next : (arbitrary : ℕ → Bool) (known held begun : List Beginning) (bound servers : ℕ) (new : Beginning) → held ≡ known → servers ≡ bound → (AreBegun arbitrary held → AreOpened arbitrary (length held) servers new → AreBegun arbitrary begun) → AreBegun arbitrary known → AreOpened arbitrary (length known) bound new → AreBegun arbitrary begun
+begun_next arbitrary known held begun bound servers new same size goes are opened =
+    goes (subst (AreBegun arbitrary) (sym same) are) (subst (λ (l : List Beginning). AreOpened arbitrary (length l) servers new) (sym same) (subst (λ n. AreOpened arbitrary (length known) n new) (sym size) opened))
+
+pub none_begun : (arbitrary : ℕ → Bool) (begun : List Beginning) → begun ≡ [] → AreBegun arbitrary begun
+none_begun arbitrary begun none = subst (AreBegun arbitrary) (sym none) (λ s b e. absurd cc)
 
 -- ---- one tree more
 

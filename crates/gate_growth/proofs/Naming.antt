@@ -5,6 +5,7 @@ use Rattle.route_tree.specs.Each.{Each}
 use Rattle.route_tree.specs.Route.{Route, Routes, Policies, Prefixes, Pool, Server, Null, Failing, AllSync, Failover, MissFailover, WarmUp, ByOperation, ByPrefix, End, More, Otherwise, Policy, Wildcard, Prefix, IsTree}
 use Rattle.route_tree.specs.At.{plain_for}
 use Rattle.route_tree.specs.Servers.{servers, tree_servers, tree_servers_of_all, tree_servers_of_policies, tree_servers_of_prefixes}
+use Rattle.route_tree.proofs.Parts.{each_weaker}
 use Rattle.route_tree.proofs.Places.{each_append}
 use Rattle.route_tree.proofs.Servers.{plain_has}
 use Rattle.route_json.specs.Fits.{IsBelow, AreBelow, ArePoliciesBelow, ArePrefixesBelow}
@@ -45,8 +46,12 @@ module _ (bound : ℕ) where
     prefixes_low (Wildcard r) h = tree_low r h
     prefixes_low (Prefix p r ps) h = each_append Low (tree_servers r) (tree_servers_of_prefixes ps) (tree_low r h.0) (prefixes_low ps h.1)
 
-  pub plain_low : (r : Route) → IsTree r → IsBelow bound r → (hash : ℕ) (text : List ℕ) → Each Low (servers (plain_for hash text r))
-  plain_low r tree h hash text = plain_has Low hash text r tree.good (tree_low r h)
+-- so they are below a larger number
+pub servers_low : (bound more : ℕ) (r : Route) → bound ≤ more → IsBelow bound r → Each (λ s. s < more) (tree_servers r)
+servers_low bound more r le h = each_weaker (λ s. s < bound) (λ s. s < more) (tree_servers r) (λ s lt. omega (arith, lt, le)) (tree_low bound r h)
+
+pub plain_low : (bound : ℕ) (r : Route) → IsTree r → Each (λ s. s < bound) (tree_servers r) → (hash : ℕ) (text : List ℕ) → Each (λ s. s < bound) (servers (plain_for hash text r))
+plain_low bound r tree h hash text = plain_has (λ s. s < bound) hash text r tree.good h
 
 -- one server more, which began so
 pub begun_more : (arbitrary : ℕ → Bool) (begun : List Beginning) (b : Beginning) (from bound : ℕ) → from ≤ length begun → length begun < bound → AreOpened arbitrary from bound b → AreBegun arbitrary begun → AreBegun arbitrary (begun ++ b ∷ [])

@@ -7,7 +7,7 @@ use crate::ledger::begun::all_begun;
 use crate::ledger::class::ClassPages;
 use crate::ledger::page::{Beginning, Page};
 use crate::ledger::refining::finer_rows;
-use crate::ledger::turning::{Step, turned_classes};
+use crate::ledger::turning::{Step, TurnedAll, turned_classes};
 use crate::ledger::unsound::Unsound;
 use route_json::Config;
 use std::alloc::{AllocError, Global};
@@ -109,14 +109,15 @@ impl Ledger {
             begun: &begun,
             modulus: finer.modulus,
         };
-        let all = turned_classes(alloc, &self.classes, &finer.texts, &step)?;
-        match all.gap {
+        let TurnedAll { classes, gap } =
+            turned_classes(alloc, &self.classes, &finer.texts, &step)?;
+        match gap {
             Some(left) => Err(Unsound::Left(left.generation.saturating_add(1), left.gap)),
             None => Ok(Ledger {
                 count: self.count + 1,
                 begun,
                 modulus: finer.modulus,
-                classes: all.classes,
+                classes,
             }),
         }
     }

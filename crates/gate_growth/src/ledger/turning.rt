@@ -3,7 +3,7 @@
 ghost use Rattle.std.specs.Prelude.{◌≡◌, ℕ, ◌%◌, ◌<◌, ◌^◌, Bool, List, [], ◌∷◌, ◌++◌, map, length, Some, None, IfOk, slice_get};
 ghost use Rattle.route_tree.specs.Each.{Each};
 ghost use Rattle.route_tree.specs.Plan.{Plan, IsGood};
-ghost use Rattle.route_json.specs.Fits.{IsBelow};
+ghost use Rattle.route_tree.specs.Servers.{tree_servers};
 ghost use Rattle.gate_coverage.specs.Seen.{plan_of};
 ghost use Rattle.gate_check.specs.Looking.{IsFirstTaken};
 ghost use Rattle.gate_growth.specs.Marks.{IsTaken};
@@ -75,7 +75,7 @@ pub fn turned_classes(
 ) -> Result<TurnedAll, AllocError>
     requires some { 0 < length known.now }
     requires counted { 0 < step.now.modulus }
-    requires below { IsBelow (length step.now.begun.now) step.now.tree.now }
+    requires below { Each (λ s. s < length step.now.begun.now) (tree_servers step.now.tree.now) }
     requires few { length step.now.begun.now < 2 ^ 32 }
     ensures prefixes { IfOk result (λ all. prefixes_of all.classes.items ≡ None ∷ map Some texts.now) }
     ensures turned { IfOk result (λ all. Turns known.now step.now all.classes.items all.gap) }
@@ -101,7 +101,7 @@ fn add_class(
 ) -> Result<(), AllocError>
     requires some { 0 < length known.now }
     requires counted { 0 < step.now.modulus }
-    requires below { IsBelow (length step.now.begun.now) step.now.tree.now }
+    requires below { Each (λ s. s < length step.now.begun.now) (tree_servers step.now.tree.now) }
     requires few { length step.now.begun.now < 2 ^ 32 }
     ensures prefixes { IfOk result (λ _. prefixes_of all.new.classes.items ≡ prefixes_of all.old.classes.items ++ prefix.now ∷ []) }
     ensures turned { IfOk result (λ _. Turns known.now step.now all.old.classes.items all.old.gap → Turns known.now step.now all.new.classes.items all.new.gap) }
@@ -121,7 +121,7 @@ fn turned_class(
 ) -> Result<TurnedClass, AllocError>
     requires some { 0 < length known.now }
     requires counted { 0 < step.now.modulus }
-    requires below { IsBelow (length step.now.begun.now) step.now.tree.now }
+    requires below { Each (λ s. s < length step.now.begun.now) (tree_servers step.now.tree.now) }
     requires few { length step.now.begun.now < 2 ^ 32 }
     ensures prefix { IfOk result (λ turned. turned.class.prefix ≡ prefix.now) }
     ensures turned { IfOk result (λ turned. Turns known.now step.now (turned.class ∷ []) turned.gap) }
@@ -160,7 +160,7 @@ fn turned_row(
     place: &Place,
     step: &Step,
 ) -> Result<TurnedRow, AllocError>
-    requires below { IsBelow (length step.now.begun.now) step.now.tree.now }
+    requires below { Each (λ s. s < length step.now.begun.now) (tree_servers step.now.tree.now) }
     requires few { length step.now.begun.now < 2 ^ 32 }
     ensures page { IfOk result (λ row. TurnsPage step.now place.now page.now row.page) }
     ensures gap { IfOk result (λ row. TurnsGap step.now place.now page.now row.gap) }
