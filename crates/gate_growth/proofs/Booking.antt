@@ -1,7 +1,7 @@
 -- The ledger of one tree more, and why there is none.
-use Rattle.std.proofs.Common.{◌≡◌, ℕ, suc, ◌+◌, ◌<◌, ◌≤◌, Bool, List, [], ◌∷◌, ◌++◌, map, length, Option, Some, None, inl, inr, ⊎_elim, refl, sym, ap, ◌∙◌, subst, arith, slice_get}
+use Rattle.std.proofs.Common.{◌≡◌, ℕ, ◌+◌, ◌<◌, ◌≤◌, Bool, List, [], ◌∷◌, ◌++◌, length, Option, Some, None, ⊎_elim, refl, sym, ap, ◌∙◌, subst, arith, slice_get}
 use Rattle.route_tree.specs.declared.place.Place.{Place}
-use Rattle.route_tree.specs.Each.{Each, IsIn}
+use Rattle.route_tree.specs.Each.{Each}
 use Rattle.route_tree.specs.Route.{Route, IsTree}
 use Rattle.route_tree.specs.Place.{tree_at_place}
 use Rattle.route_tree.proofs.Places.{each_append, each_right}
@@ -12,10 +12,10 @@ use Rattle.gate_growth.specs.declared.ledger.row.Cell.{Cell}
 use Rattle.gate_growth.specs.declared.ledger.page.Beginning.{Beginning}
 use Rattle.gate_growth.specs.declared.ledger.page.Page.{Page}
 use Rattle.gate_growth.specs.declared.ledger.class.ClassPages.{ClassPages}
-use Rattle.gate_growth.specs.Marks.{NoneLeaves, IsFirstLeft as IsFirstLeaving, IsRefusedFor}
+use Rattle.gate_growth.specs.Marks.{IsFirstLeft as IsFirstLeaving, IsRefusedFor}
 use Rattle.gate_growth.specs.Grown.{IsPlaceAmong, AreSoundSince, plans_at}
 use Rattle.gate_growth.specs.Pages.{AreBegun, AreOpened, IsPageOf}
-use Rattle.gate_growth.specs.Classes.{prefixes_of, ArePagesOf}
+use Rattle.gate_growth.specs.Classes.{ArePagesOf}
 use Rattle.gate_growth.specs.PlaceRows.{rows_of, AreRowsOf}
 use Rattle.gate_growth.specs.LeftGaps.{MayFollowAt, IsFirstLeft}
 use Rattle.gate_growth.specs.Turning.{AreKnown}
@@ -39,11 +39,11 @@ no_page_of : (arbitrary : ℕ → Bool) (bound : ℕ) (class : ClassPages) (page
 no_page_of arbitrary bound class page one cells others = (
   ap length one,
   (λ r lt.
-  let zero : 0 ≡ r = omega (arith, lt) in (
-    page,
-    subst (λ n. slice_get class.pages.items n ≡ Some page) zero (subst (λ (l : List Page). slice_get l 0 ≡ Some page) (sym one) refl),
-    subst (λ o. IsPageOf arbitrary [] bound page.cells.items o) (sym others) (subst (λ (l : List Cell). IsPageOf arbitrary [] bound l None) (sym cells) (no_page arbitrary bound)),
-  )),
+      let zero : 0 ≡ r = omega (arith, lt) in (
+        page,
+        subst (λ n. slice_get class.pages.items n ≡ Some page) zero (subst (λ (l : List Page). slice_get l 0 ≡ Some page) (sym one) refl),
+        subst (λ o. IsPageOf arbitrary [] bound page.cells.items o) (sym others) (subst (λ (l : List Cell). IsPageOf arbitrary [] bound l None) (sym cells) (no_page arbitrary bound)),
+      )),
 )
 
 pub no_known : (arbitrary : ℕ → Bool) (bound : ℕ) (classes before : List ClassPages) (class : ClassPages) (pages : List Page) (page : Page) → classes ≡ before ++ class ∷ [] → before ≡ [] → class.prefix ≡ None → class.pages.items ≡ pages ++ page ∷ [] → pages ≡ [] → page.cells.items ≡ [] → page.others ≡ None

@@ -1,14 +1,13 @@
 -- The class whose prefix is the longest that begins a text, of one class after another.
-use Rattle.std.proofs.Common.{◌≡◌, ℕ, zero, suc, ◌+◌, ◌<◌, ◌≤◌, Bool, true, false, cond, ◌&&◌, List, [], ◌∷◌, ◌++◌, map, length, nat_lt, Option, Some, None, ⊎_elim, refl, sym, ap, ◌∙◌, subst, arith, take, slice_get}
+use Rattle.std.proofs.Common.{◌≡◌, ℕ, zero, suc, ◌+◌, ◌<◌, ◌≤◌, Bool, true, false, cond, List, [], ◌∷◌, ◌++◌, length, nat_lt, Some, None, ⊎_elim, refl, sym, ap, subst, arith, take, slice_get}
 use Rattle.std.proofs.lemmas.Bool.{leb-true}
-use Rattle.route_tree.specs.Each.{Each}
 use Rattle.route_tree.specs.At.{begins}
 use Rattle.route_tree.specs.Place.{prefix_text}
 use Rattle.route_tree.proofs.Parts.{each_weaker}
 use Rattle.route_tree.proofs.Places.{each_append}
 use Rattle.gate_coverage.proofs.Choices.{both, both_split, bool_is}
 use Rattle.gate_growth.specs.declared.ledger.class.ClassPages.{ClassPages}
-use Rattle.gate_growth.specs.Classes.{prefixes_of, AreClasses, NoneLonger}
+use Rattle.gate_growth.specs.Classes.{AreClasses, NoneLonger}
 use Rattle.gate_growth.specs.Finer.{is_longer}
 use Rattle.gate_growth.proofs.Rowing.{not_less}
 

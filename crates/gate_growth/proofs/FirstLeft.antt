@@ -1,5 +1,5 @@
 -- The first gap of some places and of others after them.
-use Rattle.std.proofs.Common.{◌≡◌, ℕ, ◌<◌, ◌≤◌, Bool, true, false, cond, List, [], ◌∷◌, ◌++◌, length, nat_lt, Option, Some, None, MatchOption, ◌⊎◌, inl, inr, refl, sym, ap, ◌∙◌, subst, arith, slice_get}
+use Rattle.std.proofs.Common.{◌≡◌, ℕ, ◌≤◌, Bool, true, false, cond, List, [], ◌∷◌, ◌++◌, length, nat_lt, Option, Some, None, ◌⊎◌, inl, inr, refl, sym, ap, ◌∙◌, subst, arith, slice_get}
 use Rattle.std.proofs.lemmas.Bool.{leb-true}
 use Rattle.std.proofs.lemmas.List.{append_assoc}
 use Rattle.fresh_runs.proofs.Stamps.{get_left, get_seam}
@@ -18,11 +18,11 @@ use Rattle.gate_check.specs.Looking.{IsFirstTaken}
 use Rattle.gate_check.specs.declared.gap.Gap.{Gap}
 use Rattle.gate_growth.specs.declared.ledger.row.Refused.{Refused}
 use Rattle.gate_growth.specs.declared.ledger.turning.LeftGap.{LeftGap}
-use Rattle.gate_growth.specs.Marks.{IsTaken, IsClear, NoneLeaves, IsFirstLeft as IsFirstLeaving, IsRefusedFor}
+use Rattle.gate_growth.specs.Marks.{IsTaken, IsClear, NoneLeaves, IsFirstLeft as IsFirstLeaving}
 use Rattle.gate_growth.specs.Rows.{IsNotAfter}
 use Rattle.gate_growth.specs.Pages.{IsFirstOf}
 use Rattle.gate_growth.specs.Grown.{plans_at}
-use Rattle.gate_growth.specs.LeftGaps.{IsLeftBy, IfLeftBy, MayFollowAt, IsRefusedThere, IsRefusedLater, IsRefusedNotBefore, IsFirstLeft, IfFirstLeft, earlier}
+use Rattle.gate_growth.specs.LeftGaps.{IsLeftBy, IfLeftBy, MayFollowAt, IsRefusedLater, IsRefusedNotBefore, IsFirstLeft, IfFirstLeft, earlier}
 use Rattle.gate_growth.proofs.Rowing.{not_less, not_refused}
 
 -- ---- the gap of a refusal

@@ -1,5 +1,5 @@
 -- The servers that a plain tree names at a place are some of the tree's, and how servers began.
-use Rattle.std.proofs.Common.{◌≡◌, ℕ, ◌<◌, ◌≤◌, Bool, List, [], ◌∷◌, ◌++◌, length, Some, ⊎_elim, ◌∙◌, subst, ap, sym, arith, slice_get}
+use Rattle.std.proofs.Common.{◌≡◌, ℕ, ◌<◌, ◌≤◌, Bool, List, [], ◌∷◌, ◌++◌, length, Some, ⊎_elim, subst, arith, slice_get}
 use Rattle.fresh_runs.proofs.Lists.{get_last}
 use Rattle.route_tree.specs.Each.{Each}
 use Rattle.route_tree.specs.Route.{Route, Routes, Policies, Prefixes, Pool, Server, Null, Failing, AllSync, Failover, MissFailover, WarmUp, ByOperation, ByPrefix, End, More, Otherwise, Policy, Wildcard, Prefix, IsTree}

@@ -1,8 +1,7 @@
 -- Pages: servers that no tree names are alike, and one tree more.
-use Rattle.std.proofs.Common.{◌≡◌, ℕ, ◌<◌, ◌≤◌, Bool, true, false, cond, ◌||◌, List, [], ◌∷◌, ◌++◌, map, length, Option, Some, None, MatchOption, inl, inr, ⊎_elim, refl, sym, ap, ◌∙◌, subst, arith, nat_eq, slice_get}
+use Rattle.std.proofs.Common.{◌≡◌, ℕ, ◌<◌, ◌≤◌, Bool, true, false, cond, ◌||◌, List, [], ◌∷◌, ◌++◌, length, Option, Some, None, MatchOption, inl, inr, ⊎_elim, refl, sym, subst, arith, nat_eq, slice_get}
 use Rattle.std.proofs.lemmas.Bool.{eqb-true, eq-eqb}
 use Rattle.mc_types.specs.declared.ask.Ask.{Ask}
-use Rattle.mc_types.specs.declared.call.Origin.{Origin}
 use Rattle.mc_types.specs.declared.call.Origin.TheVariants.{Client}
 use Rattle.fresh_runs.specs.Run.{Call}
 use Rattle.fresh_runs.specs.Cover.{ClearsIn}
@@ -21,8 +20,8 @@ use Rattle.gate_growth.specs.declared.ledger.row.Refused.{Refused}
 use Rattle.gate_growth.specs.declared.ledger.page.Beginning.{Beginning}
 use Rattle.gate_growth.specs.declared.ledger.page.Beginning.TheVariants.{Any, Own}
 use Rattle.gate_growth.specs.Marks.{IsTaken, IsClear, Leaves, NoneLeaves, IsFirstLeft, MayFollow, IsRefusedFor, IsMarkOf}
-use Rattle.gate_growth.specs.Rows.{servers_of, AreCellsOf, IsNotAfter, IsFirstRefused, IfRefused}
-use Rattle.gate_growth.specs.Pages.{is_any, AreBegun, unnamed_mark, has_cell, with_cell, HasCells, IsPageOf, IsPageWith, IsFirstOf, IfRefusedOf}
+use Rattle.gate_growth.specs.Rows.{servers_of, AreCellsOf, IsNotAfter, IfRefused}
+use Rattle.gate_growth.specs.Pages.{is_any, AreBegun, unnamed_mark, has_cell, with_cell, HasCells, IsPageOf, IsPageWith, IfRefusedOf}
 use Rattle.gate_growth.proofs.Marking.{none_held}
 
 -- ---- a server that a plain tree doesn't name

@@ -1,5 +1,5 @@
 -- The modulus and the prefixes of one tree more, and when there are too many places.
-use Rattle.std.proofs.Common.{◌≡◌, ℕ, suc, ◌+◌, ◌*◌, ◌/◌, ◌%◌, ◌<◌, ◌≤◌, List, [], ◌∷◌, ◌++◌, map, length, Option, Some, None, inl, inr, ⊎_elim, ◌⊎◌, refl, sym, ap, ◌∙◌, subst, arith}
+use Rattle.std.proofs.Common.{◌≡◌, ℕ, suc, ◌+◌, ◌*◌, ◌/◌, ◌%◌, ◌<◌, ◌≤◌, List, [], ◌∷◌, ◌++◌, map, length, Option, Some, None, inl, inr, ◌⊎◌, refl, sym, ap, ◌∙◌, subst, arith}
 use Rattle.std.proofs.lemmas.List.{length-map}
 use Rattle.std.proofs.lemmas.Nat.Gcd.{dvd_trans, dvd_refl, le_of_dvd}
 use Rattle.std.proofs.Math.Nat.{mul-le-mul_left}
@@ -9,7 +9,7 @@ use Rattle.route_tree.specs.Route.{Route, IsTree}
 use Rattle.route_tree.specs.Place.{sizes, prefixes, IsLeastCommonMultiple}
 use Rattle.route_tree.proofs.Parts.{each_weaker}
 use Rattle.route_tree.proofs.Places.{each_append, each_left, each_right}
-use Rattle.gate_check.specs.Tables.{most_rows, AreSizes, AreTooMany, IsMultiple}
+use Rattle.gate_check.specs.Tables.{most_rows, AreSizes, IsMultiple}
 use Rattle.gate_check.specs.Texts.{ordered}
 use Rattle.gate_check.specs.Valid.{all_sizes, all_prefixes, AreInOrder}
 use Rattle.gate_check.proofs.LeastMultiples.{least_divides}

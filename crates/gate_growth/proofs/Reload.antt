@@ -1,5 +1,5 @@
 -- One tree more is sound exactly where it may follow, at each place of all trees.
-use Rattle.std.proofs.Common.{◌≡◌, ℕ, zero, suc, ◌+◌, ◌<◌, ◌≤◌, Bool, true, List, [], ◌∷◌, ◌++◌, length, Some, ◌⊎◌, inl, inr, ⊎_elim, refl, sym, ap, ap₂, subst, arith, slice_get, take, length-append}
+use Rattle.std.proofs.Common.{◌≡◌, ℕ, zero, suc, ◌<◌, ◌≤◌, Bool, true, List, [], ◌∷◌, ◌++◌, length, Some, inl, inr, ⊎_elim, refl, sym, ap, ap₂, subst, arith, slice_get, take, length-append}
 use Rattle.fresh_runs.proofs.Lists.{get_last}
 use Rattle.fresh_runs.proofs.Stamps.{get_left, get_seam}
 use Rattle.route_tree.specs.declared.place.Place.{Place}

@@ -1,13 +1,12 @@
 -- The pages of a class after one tree more, of one place after another, and those of several classes.
-use Rattle.std.proofs.Common.{◌≡◌, ℕ, suc, ◌+◌, ◌%◌, ◌<◌, ◌≤◌, Bool, List, [], ◌∷◌, ◌++◌, map, length, Option, Some, None, inl, inr, ⊎_elim, refl, sym, ap, ◌∙◌, subst, arith, slice_get}
+use Rattle.std.proofs.Common.{◌≡◌, ℕ, suc, ◌+◌, ◌%◌, ◌<◌, ◌≤◌, Bool, List, [], ◌∷◌, ◌++◌, length, Option, Some, None, ⊎_elim, sym, ap, ◌∙◌, subst, arith, slice_get}
 use Rattle.std.proofs.lemmas.Bool.{cases_lt}
 use Rattle.std.proofs.lemmas.List.{map-append}
 use Rattle.fresh_runs.proofs.Stamps.{get_left, get_seam}
 use Rattle.route_tree.specs.declared.place.Place.{Place}
-use Rattle.route_tree.specs.Each.{Each}
 use Rattle.route_tree.specs.Plan.{Plan}
 use Rattle.route_tree.specs.Route.{Route}
-use Rattle.route_tree.specs.Place.{prefix_text, tree_at_place}
+use Rattle.route_tree.specs.Place.{prefix_text}
 use Rattle.route_tree.proofs.Parts.{each_at}
 use Rattle.route_tree.proofs.Places.{each_append}
 use Rattle.gate_check.specs.Places.{place_at}
@@ -20,8 +19,8 @@ use Rattle.gate_growth.specs.Grown.{plans_at}
 use Rattle.gate_growth.specs.Pages.{IsPageOf}
 use Rattle.gate_growth.specs.Classes.{prefixes_of, IsBest, IsBestAt, ArePagesBelow, ArePagesOf}
 use Rattle.gate_growth.specs.PlaceRows.{rows_below, rows_of}
-use Rattle.gate_growth.specs.LeftGaps.{IfLeftBy, IfFirstLeft, earlier}
-use Rattle.gate_growth.specs.Turning.{AreBefore, AreKnown, AreTurned, Turns, TurnsBelow, TurnsPage, TurnsGap}
+use Rattle.gate_growth.specs.LeftGaps.{IfFirstLeft, earlier}
+use Rattle.gate_growth.specs.Turning.{AreBefore, AreKnown, Turns, TurnsBelow, TurnsPage, TurnsGap}
 use Rattle.gate_growth.proofs.Paging.{bound_more}
 use Rattle.gate_growth.proofs.Coarse.{plans_coarse, best_tests}
 use Rattle.gate_growth.proofs.RowPlaces.{rows_append, rows_one}

@@ -109,8 +109,7 @@ impl Ledger {
             begun: &begun,
             modulus: finer.modulus,
         };
-        let TurnedAll { classes, gap } =
-            turned_classes(alloc, &self.classes, &finer.texts, &step)?;
+        let TurnedAll { classes, gap } = turned_classes(alloc, &self.classes, &finer.texts, &step)?;
         match gap {
             Some(left) => Err(Unsound::Left(left.generation.saturating_add(1), left.gap)),
             None => Ok(Ledger {

@@ -1,4 +1,4 @@
-use Rattle.std.proofs.Common.{◌++◌, sym, ap, ap₂, ◌∙◌, arith}
+use Rattle.std.proofs.Common.{◌≡◌, ◌++◌, ℕ, List, sym, ap, ap₂, ◌∙◌, arith}
 use Rattle.std.proofs.lemmas.Result.{IfOk-weaker}
 use Rattle.route_tree.specs.Route.{ByPrefix}
 use Rattle.route_tree.specs.RouteCode.{route_size}
@@ -21,4 +21,6 @@ add_servers-returns-in-ByPrefix t c =
     let plain = plain_for c.args.hash c.args.text.now in
     let is = ap₂ (λ ps d. ByPrefix (prefixes_of ps d)) c.deref-in-ByPrefix.ensures.value c.deref-in-ByPrefix-2.ensures ∙ ap route_of_form (sym c.in-ByPrefix.is) ∙ c.form.ensures.form in
     let same = ap plain c.longest.ensures ∙ sym (plain_for_chosen c.args.hash c.args.text.now (prefixes_of c.deref-in-ByPrefix.result.now c.deref-in-ByPrefix-2.result.now)) ∙ ap plain is in
-    IfOk-weaker c.add_servers-in-ByPrefix.result _ _ (λ p h. h ∙ ap (λ r. c.args.list.now.items ++ servers r) same) c.add_servers-in-ByPrefix.ensures
+    let new : List ℕ = c.add_servers-in-ByPrefix.new.list.items in
+    let old : List ℕ = c.args.list.now.items in
+    IfOk-weaker c.add_servers-in-ByPrefix.result (λ p. new ≡ old ++ servers (plain c.longest.result.now)) (λ p. new ≡ old ++ servers (plain c.args.tree.now)) (λ p h. h ∙ ap (λ r. old ++ servers r) same) c.add_servers-in-ByPrefix.ensures

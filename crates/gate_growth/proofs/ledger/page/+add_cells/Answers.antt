@@ -1,10 +1,9 @@
-use Rattle.std.proofs.Common.{◌≡◌, ◌∷◌, ◌<◌, ◌-◌, ℕ, List, Bool, length, take, drop, ap, sym, subst, ◌∙◌}
+use Rattle.std.proofs.Common.{◌≡◌, ◌∷◌, ◌<◌, ◌-◌, ℕ, List, length, take, drop, ap, sym, subst, ◌∙◌}
 use Rattle.std.proofs.lemmas.Result.{IfOk-weaker}
 use Rattle.route_tree.specs.Each.{Each}
-use Rattle.route_tree.specs.Plan.{Plan}
 use Rattle.gate_growth.specs.declared.ledger.row.Cell.{Cell}
 use Rattle.gate_growth.specs.declared.ledger.mark.Mark.{Mark}
-use Rattle.gate_growth.specs.Pages.{with_cell, unnamed_mark, AreBegun, IsPageOf, IsPageWith}
+use Rattle.gate_growth.specs.Pages.{with_cell, unnamed_mark, IsPageOf, IsPageWith}
 use Rattle.gate_growth.proofs.Coarse.{parted}
 use Rattle.gate_growth.proofs.Paging.{more_cells}
 use Rattle.gate_growth.proofs.ledger.page.+add_cells.Goals as goal

@@ -1,4 +1,4 @@
-use Rattle.std.proofs.Common.{◌≡◌, ◌++◌, ◌∷◌, [], ℕ, List, true, length, ap, sym, subst, ◌∙◌}
+use Rattle.std.proofs.Common.{◌≡◌, ◌++◌, ◌∷◌, [], List, true, length, ap, sym, subst, ◌∙◌}
 use Rattle.route_tree.specs.At.{plain_for}
 use Rattle.gate_growth.specs.declared.ledger.row.Cell.{Cell}
 use Rattle.gate_growth.specs.declared.ledger.page.Beginning.TheVariants.{Any}

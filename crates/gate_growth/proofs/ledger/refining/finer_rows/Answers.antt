@@ -1,4 +1,4 @@
-use Rattle.std.proofs.Common.{◌∷◌, ◌/◌, None, Some, map, ap, length, subst, ◌∙◌}
+use Rattle.std.proofs.Common.{◌∷◌, subst, ◌∙◌}
 use Rattle.route_tree.specs.Place.{sizes}
 use Rattle.gate_check.specs.Tables.{IsMultiple}
 use Rattle.gate_growth.specs.Classes.{prefixes_of}

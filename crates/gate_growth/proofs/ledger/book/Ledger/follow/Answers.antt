@@ -1,4 +1,4 @@
-use Rattle.std.proofs.Common.{◌+◌, ◌∙◌, length, suc, arith}
+use Rattle.std.proofs.Common.{arith}
 use Rattle.std.proofs.lemmas.List.{length_push}
 use Rattle.std.proofs.lemmas.Result.{err_from_is_err_and}
 use Rattle.gate_growth.proofs.ledger.book.Ledger.follow.Goals as goal

@@ -3,7 +3,6 @@ use Rattle.std.proofs.lemmas.List.{length_push}
 use Rattle.route_tree.specs.Each.{Each}
 use Rattle.route_tree.specs.Route.{Route, IsTree}
 use Rattle.route_tree.specs.Servers.{tree_servers}
-use Rattle.gate_growth.specs.declared.ledger.page.Beginning.{Beginning}
 use Rattle.gate_growth.specs.declared.ledger.class.ClassPages.{ClassPages}
 use Rattle.gate_growth.specs.declared.ledger.turning.LeftGap.{LeftGap}
 use Rattle.gate_growth.specs.Pages.{AreBegun}
