@@ -12,13 +12,17 @@ use Rattle.gate_growth.specs.declared.ledger.book.Ledger.{Ledger}
 use Rattle.gate_growth.specs.declared.ledger.unsound.Unsound.{Unsound}
 use Rattle.gate_growth.specs.declared.ledger.unsound.Unsound.TheVariants as reasons
 
+-- so many servers are known to it
+abbrev pub server_count : Ledger → ℕ
+server_count ledger = length ledger.begun.items
+
 -- the ledger of these trees, each of which was sound after those before it: it has the page of each place of all of them. An arbitrary server may hold anything before the first of them, or before its first call
 pub record IsLedgerOf (arbitrary : ℕ → Bool) (trees : List Route) (ledger : Ledger) : Type 0 where
   pub count : ledger.count ≡ length trees
   pub trees_are : Each IsTree trees
   pub sound : AreSoundSince arbitrary trees
   pub begun : AreBegun arbitrary ledger.begun.items
-  pub known : AreKnown arbitrary trees ledger.modulus (length ledger.begun.items) ledger.classes.items
+  pub known : AreKnown arbitrary trees ledger.modulus (server_count ledger) ledger.classes.items
 
 -- the most generations that have a number
 abbrev pub most_generations : ℕ

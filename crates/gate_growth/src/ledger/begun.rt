@@ -1,6 +1,6 @@
 //! How the servers of generations began.
 
-ghost use Rattle.std.specs.Prelude.{ℕ, ◌<◌, ◌≤◌, ◌^◌, Bool, IfOk, length};
+ghost use Rattle.std.specs.Prelude.{◌≡◌, ℕ, ◌<◌, ◌^◌, Bool, IfOk, length, max};
 ghost use Rattle.gate_growth.specs.Pages.{AreBegun, AreOpened};
 
 use crate::ledger::page::Beginning;
@@ -16,9 +16,7 @@ pub fn all_begun(
     requires few_known { length known.now < 2 ^ 32 }
     requires few { servers < 2 ^ 32 }
     ensures begun { IfOk result (λ begun. (arbitrary : ℕ → Bool) → AreBegun arbitrary known.now → AreOpened arbitrary (length known.now) servers new → AreBegun arbitrary begun.items) }
-    ensures known { IfOk result (λ begun. length known.now ≤ length begun.items) }
-    ensures whole { IfOk result (λ begun. servers ≤ length begun.items) }
-    ensures few { IfOk result (λ begun. length begun.items < 2 ^ 32) }
+    ensures size { IfOk result (λ begun. length begun.items ≡ max (length known.now) servers) }
 {
     let mut begun = Vec::from_slice(alloc, known)?;
     for _server in known.len()..servers {

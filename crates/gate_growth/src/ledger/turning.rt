@@ -44,18 +44,18 @@ pub struct LeftGap {
     pub gap: Gap,
 }
 
-/// A page after one more tree, and the gap at its place.
+// A page after one more tree, and the gap at its place.
 #[derive(Drop)]
-pub struct TurnedRow {
-    pub page: Page,
-    pub gap: Option<LeftGap>,
+struct TurnedRow {
+    page: Page,
+    gap: Option<LeftGap>,
 }
 
-/// The pages of a class after one more tree, and its first gap.
+// The pages of a class after one more tree, and its first gap.
 #[derive(Drop)]
-pub struct TurnedClass {
-    pub class: ClassPages,
-    pub gap: Option<LeftGap>,
+struct TurnedClass {
+    class: ClassPages,
+    gap: Option<LeftGap>,
 }
 
 /// All classes after one more tree, and the first gap.
@@ -220,8 +220,8 @@ fn first_taking(seen: Seen, server: ServerId) -> Op
     }
 }
 
-/// The one of the earlier generation; of one generation the first.
-pub fn earlier(best: Option<LeftGap>, here: Option<LeftGap>) -> Option<LeftGap>
+// The one of the earlier generation; of one generation the first.
+fn earlier(best: Option<LeftGap>, here: Option<LeftGap>) -> Option<LeftGap>
     ensures { result ≡ earlier best here }
 {
     match here {

@@ -2,8 +2,8 @@ use Rattle.std.proofs.Common.{length, refl}
 use Rattle.gate_growth.proofs.Booking.{no_sound, no_known, none_begun}
 use Rattle.gate_growth.proofs.ledger.book.Ledger.new.Goals as goal
 
-pub returns : goal.returns
-returns c = λ arbitrary. record {
+pub returns-clause-ledger : goal.returns-clause-ledger
+returns-clause-ledger c = λ arbitrary. record {
   count = refl;
   trees_are = tt;
   sound = no_sound arbitrary;

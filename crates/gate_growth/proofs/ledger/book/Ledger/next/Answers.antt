@@ -14,8 +14,8 @@ use Rattle.gate_growth.proofs.Naming.{servers_low}
 use Rattle.gate_growth.proofs.Booking.{begun_next, are_more, sound_with, first_left}
 use Rattle.gate_growth.proofs.ledger.book.Ledger.next.Goals as goal
 
-pub returns-in-None : goal.returns-in-None
-returns-in-None c = λ arbitrary trees is opened.
+pub returns-in-None-clause-next : goal.returns-in-None-clause-next
+returns-in-None-clause-next c = λ arbitrary trees is opened.
     let self = c.args.self.now in
     let rows = subst (λ (l : List ClassPages). AreRowsOf trees (prefixes_of l) self.modulus) (sym c.deref.ensures.value) is.known.rows in
     subst (λ (t : Route). AreTooManyPlaces (trees ++ t ∷ [])) c.tree-tree.ensures.tree
@@ -26,11 +26,11 @@ turned_classes-requires-clause-below c =
     let bound = length c.args.config.now.servers in
     let size : c.len.result ≡ bound = c.len.ensures.len ∙ ap length c.servers.ensures.servers in
     let begun : length c.deref-3.result.now ≡ length c.in_ok-begun.begun.items = ap length c.deref-3.ensures.value in
-    let whole = c.in_ok-begun.ensures.whole in
+    let whole = c.in_ok-begun.ensures.size in
     subst (λ (t : Route). Each (λ s. s < length c.deref-3.result.now) (tree_servers t)) (sym c.tree-tree.ensures.tree) (servers_low bound (length c.deref-3.result.now) c.args.config.now.tree (omega (arith, size, begun, whole)) c.tree-tree.ensures.below)
 
-pub returns-in-Some-gap : goal.returns-in-Some-gap
-returns-in-Some-gap c = λ arbitrary trees is opened.
+pub returns-in-Some-gap-clause-next : goal.returns-in-Some-gap-clause-next
+returns-in-Some-gap-clause-next c = λ arbitrary trees is opened.
     let self = c.args.self.now in
     let tree = c.args.config.now.tree in
     let old = c.tree-tree.result.now in
@@ -45,7 +45,7 @@ returns-in-Some-gap c = λ arbitrary trees is opened.
     let before : AreBefore arbitrary trees self.count c.deref-3.result.now = record { counted = sym is.count; trees_are = is.trees_are; began = subst (AreBegun arbitrary) (sym c.deref-3.ensures.value) began } in
     let size_old : length c.deref-2.result.now ≡ length self.begun.items = ap length c.deref-2.ensures.value in
     let size : bound ≡ length begun = ap length c.deref-3.ensures.value in
-    let more = c.in_ok-begun.ensures.known in
+    let more = c.in_ok-begun.ensures.size in
     let within : length self.begun.items ≤ bound = omega (arith, size_old, size, more) in
     let known : AreKnown arbitrary trees self.modulus (length self.begun.items) c.deref-4.result.now = subst (AreKnown arbitrary trees self.modulus (length self.begun.items)) (sym c.deref-4.ensures.value) is.known in
     let turned_old : AreTurned arbitrary trees old modulus bound classes c.in_ok-classes.field-0.gap = c.in_ok-classes.ensures.turned arbitrary trees self.modulus (length self.begun.items) before within known in
@@ -60,8 +60,8 @@ returns-in-Some-gap c = λ arbitrary trees is opened.
     let some = c.if-self.false in
     first_left arbitrary trees tree is.trees_are good (prefixes_of classes) modulus rows left.generation self.count c.saturating_add.result left.gap turned.1 is.count (omega (arith, some)) (λ low. (omega (arith, next, low)))
 
-pub returns : goal.returns
-returns c = λ arbitrary trees is opened.
+pub returns-clause-next : goal.returns-clause-next
+returns-clause-next c = λ arbitrary trees is opened.
     let self = c.args.self.now in
     let tree = c.args.config.now.tree in
     let old = c.tree-tree.result.now in
@@ -76,7 +76,7 @@ returns c = λ arbitrary trees is opened.
     let before : AreBefore arbitrary trees self.count c.deref-3.result.now = record { counted = sym is.count; trees_are = is.trees_are; began = subst (AreBegun arbitrary) (sym c.deref-3.ensures.value) began } in
     let size_old : length c.deref-2.result.now ≡ length self.begun.items = ap length c.deref-2.ensures.value in
     let size : bound ≡ length begun = ap length c.deref-3.ensures.value in
-    let more = c.in_ok-begun.ensures.known in
+    let more = c.in_ok-begun.ensures.size in
     let within : length self.begun.items ≤ bound = omega (arith, size_old, size, more) in
     let known : AreKnown arbitrary trees self.modulus (length self.begun.items) c.deref-4.result.now = subst (AreKnown arbitrary trees self.modulus (length self.begun.items)) (sym c.deref-4.ensures.value) is.known in
     let turned_old : AreTurned arbitrary trees old modulus bound classes c.in_ok-classes.field-0.gap = c.in_ok-classes.ensures.turned arbitrary trees self.modulus (length self.begun.items) before within known in
