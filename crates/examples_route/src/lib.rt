@@ -6,6 +6,8 @@ mod configs;
 #[cfg(test)]
 mod gates;
 #[cfg(test)]
+mod growth;
+#[cfg(test)]
 mod hashes;
 #[cfg(test)]
 mod jobs;

@@ -15,3 +15,12 @@ pub mod Among
 pub mod Since
 pub mod Reload
 pub mod Slots
+pub mod Paging
+pub mod Naming
+pub mod Coarse
+pub mod Refining
+pub mod RowPlaces
+pub mod FirstLeft
+pub mod Turnings
+pub mod Booking
+pub mod Choosing

@@ -1,5 +1,5 @@
 -- One tree more is sound exactly where it may follow, at each place of all trees.
-use Rattle.std.proofs.Common.{◌≡◌, ℕ, zero, suc, ◌+◌, ◌<◌, ◌≤◌, Bool, true, List, [], ◌∷◌, ◌++◌, length, Some, ◌⊎◌, inl, inr, ⊎_elim, refl, sym, ap, ap₂, subst, arith, slice_get, take, length-append}
+use Rattle.std.proofs.Common.{◌≡◌, ℕ, zero, suc, ◌<◌, ◌≤◌, Bool, true, List, [], ◌∷◌, ◌++◌, length, Some, inl, inr, ⊎_elim, refl, sym, ap, ap₂, subst, arith, slice_get, take, length-append}
 use Rattle.fresh_runs.proofs.Lists.{get_last}
 use Rattle.fresh_runs.proofs.Stamps.{get_left, get_seam}
 use Rattle.route_tree.specs.declared.place.Place.{Place}
@@ -42,7 +42,7 @@ tree_of_plan place [] i p e = absurd cc
 tree_of_plan place (t ∷ trees) zero p e = (t, refl, cc)
 tree_of_plan place (t ∷ trees) (suc i) p e = tree_of_plan place trees i p e
 
-plans_good : (place : Place) (trees : List Route) → Each IsTree trees → Each IsGood (plans_at place trees)
+pub plans_good : (place : Place) (trees : List Route) → Each IsTree trees → Each IsGood (plans_at place trees)
 plans_good place [] are = tt
 plans_good place (t ∷ trees) are = (good_plain t (prefix_text place.prefix) place.residue are.0, plans_good place trees are.1)
 

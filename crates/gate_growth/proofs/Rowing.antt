@@ -10,7 +10,7 @@ use Rattle.gate_growth.specs.declared.ledger.row.Refused.{Refused}
 use Rattle.gate_growth.specs.Marks.{IsFirstLeft, MayFollow, IsRefusedFor}
 use Rattle.gate_growth.specs.Rows.{IsRefusedAt, IsNotAfter, IfRefused, lesser_of, lesser}
 
-not_less : (n m : ℕ) → nat_lt n m ≡ false → m ≤ n
+pub not_less : (n m : ℕ) → nat_lt n m ≡ false → m ≤ n
 not_less n m e = ⊎_elim (λ (lt : n < m). absurd (let h : ⊥ = grind arith in h)) (λ le. le) (cases_lt n m)
 
 -- ---- one server

@@ -1,5 +1,5 @@
 -- A word that puts an item on a server on which one is computed to be put.
-use Rattle.std.proofs.Common.{◌≡◌, ◌≢◌, ℕ, ◌+◌, ◌≤◌, pos, true, false, not, ◌&&◌, ◌||◌, List, [], ◌∷◌, ◌++◌, length, Some, None, ◌⊎◌, inr, ⊎_elim, refl, sym, ap, ◌∙◌, subst, arith, nat_eq, append_assoc}
+use Rattle.std.proofs.Common.{◌≡◌, ◌≢◌, ℕ, ◌+◌, ◌≤◌, pos, true, false, not, ◌&&◌, ◌||◌, List, [], ◌∷◌, ◌++◌, length, Some, None, inr, ⊎_elim, refl, sym, ap, ◌∙◌, subst, arith, nat_eq, append_assoc}
 use Rattle.std.proofs.lemmas.Bool.{eqb-true}
 use Rattle.std.proofs.lemmas.Int.{ints}
 use Rattle.mc_types.specs.declared.ask.Op.{Op}

@@ -10,7 +10,7 @@ use Rattle.mc_types.specs.declared.call.Origin.TheVariants.{Client, CopyOf}
 use Rattle.mc_types.specs.declared.call.Outcome.TheVariants.{Answered, Failed}
 use Rattle.mc_types.specs.Items.{Item}
 use Rattle.fresh_runs.specs.Life.{held_in}
-use Rattle.fresh_runs.specs.Run.{Call, End, Read, Unread, Never, outcome_of, Event, Begins, Calls, Replies, Loses, Restarts, Command, life_of, under_way, calls_so_far, held, item_at, GivesStamp, EndsWell, IsNewNumber, IsFront, MayCome, Run, AcknowledgedBy, IsAcknowledged, IsShown, IsFresh}
+use Rattle.fresh_runs.specs.Run.{Call, End, Read, Unread, Never, outcome_of, Event, Begins, Calls, Replies, Loses, Restarts, Command, life_of, under_way, calls_so_far, held, item_at, GivesStamp, IsNewNumber, IsFront, MayCome, Run, AcknowledgedBy, IsAcknowledged, IsShown, IsFresh}
 use Rattle.fresh_runs.specs.Cover.{ClearsIn, IsCleared}
 use Rattle.fresh_runs.proofs.Stamps.{IsNewer, IsGone, GivesNewer, by_test, newer_from_gone, newer_marks, gone_marks, clear_marks, other_key, get_left, get_seam, clears_split}
 use Rattle.fresh_runs.proofs.Fresh.{own_key, is_delete}

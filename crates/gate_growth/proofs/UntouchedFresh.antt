@@ -12,7 +12,7 @@ use Rattle.mc_types.specs.Items.{Item}
 use Rattle.fresh_runs.specs.Life.{held_in}
 use Rattle.fresh_runs.specs.Run.{Call, End, Read, Unread, Never, outcome_of}
 use Rattle.fresh_runs.specs.Cover.{ClearsIn, IsCleared, IsCovered}
-use Rattle.fresh_runs.specs.Sharing.{Event, Begins, Calls, Replies, Breaks, Turns, Restarts, LosesOnly, life_of, under_way, calls_so_far, before, HasEnded, IsNewNumber, AreAlone, held, item_at, GivesStamp, EndsWell, IsFront, CopiesBar, MayCome, Run, AcknowledgedBy, IsAcknowledged, IsShown, IsFresh, IsFreshByNumber}
+use Rattle.fresh_runs.specs.Sharing.{Event, Begins, Calls, Replies, Breaks, Turns, Restarts, LosesOnly, life_of, under_way, calls_so_far, before, HasEnded, IsNewNumber, AreAlone, held, item_at, GivesStamp, IsFront, CopiesBar, MayCome, Run, AcknowledgedBy, IsAcknowledged, IsShown, IsFresh, IsFreshByNumber}
 use Rattle.fresh_runs.proofs.Stamps.{by_test, clear_marks, get_left, get_seam, clears_split}
 use Rattle.fresh_runs.proofs.SharingStamps.{Has, Gives, has_from_gone, has_marks, delete_marks}
 use Rattle.fresh_runs.proofs.Sharing.{some_ask, no_ask, differs, differ, acked_below, shown_below, new_calls, new_item_at, ended_since, acked_since, acked_over, acked_delete, over, apart, began_after, above}

@@ -10,3 +10,10 @@ pub mod Computed
 pub mod Rows
 pub mod Grown
 pub mod Slots
+pub mod Pages
+pub mod Classes
+pub mod PlaceRows
+pub mod Finer
+pub mod LeftGaps
+pub mod Turning
+pub mod Ledgers

@@ -1,10 +1,14 @@
 -- The marks of several servers at a place, and the first refusal among them. Source: mcgate's own.
-use Rattle.std.specs.Prelude.{◌≡◌, ℕ, ◌<◌, ◌≤◌, Bool, List, Option, Some, None, MatchOption, nat_lt, ◌⊎◌, if◌then◌else◌}
+use Rattle.std.specs.Prelude.{◌≡◌, ℕ, ◌<◌, ◌≤◌, Bool, List, map, Option, Some, None, MatchOption, nat_lt, ◌⊎◌, if◌then◌else◌}
 use Rattle.route_tree.specs.Each.{Each}
 use Rattle.route_tree.specs.Plan.{Plan}
 use Rattle.gate_growth.specs.declared.ledger.row.Cell.{Cell}
 use Rattle.gate_growth.specs.declared.ledger.row.Refused.{Refused}
 use Rattle.gate_growth.specs.Marks.{IsMarkOf, MayFollow, IsRefusedFor}
+
+-- whose marks they are
+abbrev pub servers_of : List Cell → List ℕ
+servers_of cells = map (λ (c : Cell). c.server) cells
 
 -- each has the marks of its server after these trees
 abbrev pub AreCellsOf : (ℕ → Bool) → List Plan → List Cell → Type 0

@@ -4,7 +4,7 @@ ghost use Rattle.std.specs.Prelude.{◌≡◌, ℕ, List, [], ◌∷◌, ◌++�
 ghost use Rattle.route_tree.specs.Plan.{Plan};
 ghost use Rattle.gate_coverage.specs.Seen.{plan_of};
 ghost use Rattle.gate_growth.specs.Marks.{IsMarkOf};
-ghost use Rattle.gate_growth.specs.Rows.{AreCellsOf, IfRefused, IsRefusedAt, lesser, lesser_of};
+ghost use Rattle.gate_growth.specs.Rows.{servers_of, AreCellsOf, IfRefused, IsRefusedAt, lesser, lesser_of};
 
 use crate::ledger::mark::{Mark, after, follow};
 use gate_coverage::Seen;
@@ -38,14 +38,15 @@ pub fn first_refused(cells: &[Cell], number: u32, seen: Seen) -> Option<Refused>
     best
 }
 
-/// The marks after the tree of this number. The only error is that memory was refused.
+/// The marks after the tree of this number, of the same servers in the same order. The only error is that memory was refused.
 pub fn cells_after(
     alloc: Global,
     cells: &[Cell],
     number: u32,
     seen: Seen,
 ) -> Result<Vec<Cell>, AllocError>
-    ensures { IfOk result (λ new. (arbitrary : ℕ → Bool) (plans : List Plan) → length plans ≡ number → AreCellsOf arbitrary plans cells.now → AreCellsOf arbitrary (plans ++ plan_of seen.entry ∷ []) new.items) }
+    ensures servers { IfOk result (λ new. servers_of new.items ≡ servers_of cells.now) }
+    ensures marks { IfOk result (λ new. (arbitrary : ℕ → Bool) (plans : List Plan) → length plans ≡ number → AreCellsOf arbitrary plans cells.now → AreCellsOf arbitrary (plans ++ plan_of seen.entry ∷ []) new.items) }
 {
     let mut new = Vec::new(alloc);
     for cell in cells {
@@ -56,7 +57,8 @@ pub fn cells_after(
 
 // Of one server.
 fn cell_after(cell: Cell, number: u32, seen: Seen) -> Cell
-    ensures { (arbitrary : ℕ → Bool) (plans : List Plan) → length plans ≡ number → IsMarkOf (arbitrary cell.server) plans cell.server cell.mark → IsMarkOf (arbitrary result.server) (plans ++ plan_of seen.entry ∷ []) result.server result.mark }
+    ensures server { result.server ≡ cell.server }
+    ensures mark { (arbitrary : ℕ → Bool) (plans : List Plan) → length plans ≡ number → IsMarkOf (arbitrary cell.server) plans cell.server cell.mark → IsMarkOf (arbitrary result.server) (plans ++ plan_of seen.entry ∷ []) result.server result.mark }
 {
     Cell {
         server: cell.server,
