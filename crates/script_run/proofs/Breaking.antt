@@ -39,7 +39,7 @@ same_bytes false xs = refl
 
 -- no bytes came
 pub none_fed : (client : ℕ) (a : Runner) (s : ScriptServers) → MovesFed client [] a s a s
-none_fed client a s opening tree log stands = record { more = []; stands = stands; streams = λ c. same_bytes (nat_eq client c) (stream_of log c); given = λ c. refl }
+none_fed client a s opening tree log stands = (record { more = []; stands = stands; streams = λ c. same_bytes (nat_eq client c) (stream_of log c); given = λ c. refl }, refl)
 
 pub fed_none : (client : ℕ) (bytes : List ℕ) (a : Runner) (fault : FleetFault) → fault ≡ NoMemory → StopsFed client bytes a fault
 fed_none client bytes a fault is = record { mid = a; said = []; unsaid = bytes; cut = refl; moves = λ s. none_fed client a s; spent = none_begun fault a.core is }

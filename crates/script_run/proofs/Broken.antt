@@ -6,7 +6,7 @@ use Rattle.mc_types.specs.Items.{Item}
 use Rattle.fresh_runs.specs.Log.{Shown}
 use Rattle.fresh_runs.specs.Overlap.{Entry, run_of}
 use Rattle.fresh_runs.specs.OverlapStream.{stream_of}
-use Rattle.fresh_runs.specs.Sharing.{calls_in, commands_in}
+use Rattle.fresh_runs.specs.Sharing.{Event as Past, calls_in, commands_in}
 use Rattle.fresh_runs.proofs.OverlapRuns.{runs}
 use Rattle.script_events.specs.Limits.{last_turn}
 use Rattle.script_events.specs.declared.servers.event.FleetFault.{FleetFault}
@@ -26,22 +26,22 @@ use Rattle.script_events.specs.Scripted.{Scripted, Piece, Add, Result as Results
 use Rattle.script_events.specs.Servers.{turn_of, IsNew}
 use Rattle.script_events.specs.declared.servers.servers.ScriptServers.{ScriptServers}
 use Rattle.script_run.specs.Laws.{StandingSays}
-use Rattle.script_run.specs.Results.{CallResult}
-use Rattle.script_run.specs.Standing.{Kept, GoesOn, GoesOnFed, tree_by}
-use Rattle.script_run.proofs.Counted.{none_more}
+use Rattle.script_run.specs.Results.{CallResult, AreTold}
+use Rattle.script_run.specs.Standing.{Kept, story_of, GoesOn, GoesOnFed, tree_by}
+use Rattle.script_run.proofs.Told.{has_calls, has_calls_by, no_result, none_told}
 use Rattle.script_run.specs.Breaking.{AreSpent, IsWithinOne, StopsAfter, StopsFed}
 use Rattle.script_run.specs.Running.{kept_of, AreOfOne, AreAskedYet, Stays, MovesFed, MovesByResults}
 use Rattle.script_run.specs.declared.driver.runner.Runner.{Runner}
 use Rattle.script_run.proofs.Breaking.{begun_spent}
 use Rattle.script_run.specs.Driving.{said_by, said_in, handed, AreThrough, HasNoResult, BringsSome, AreSteps, AreOutputs, IsStepPart, AreMarked, HaveMade, HasWorldOf, RunsBy, StepsPart, AreSpentIn, EndsStepped}
-use Rattle.script_run.specs.World.{Changes, World}
-use Rattle.script_run.specs.Stepping.{HasCalls, FedBy, AreFit, AreAskedBy, GoesOnInPart, FedInPart, Befalls, BreaksOff, HandsSome, AddsRising, HasCome, HasStood, Loads, LoadsInPart, LoadsSome, StopsPart}
+use Rattle.script_run.specs.World.{Changes, lost_now, World}
+use Rattle.script_run.specs.Stepping.{HasCalls, HasStory, FedBy, AreFit, AreAskedBy, GoesOnInPart, FedInPart, Befalls, BreaksOff, HandsSome, AddsRising, HasCome, HasStood, Loads, LoadsInPart, LoadsSome, StopsPart}
 use Rattle.script_run.proofs.Direct.{fresh_if_direct}
 use Rattle.script_run.proofs.Come.{turn_on, come_on, come_ended, come_some, given_none, handed_none}
 use Rattle.script_run.proofs.Steps.{after_it, handed_on, nothing_fed, fed_more, fed_after, fed_results}
 use Rattle.script_run.proofs.Rising.{outputs_last, outputs_none}
 use Rattle.script_run.proofs.Stood.{said_append, through_on, throughs_on, steps_on, marked_on, marked_one, before_it}
-use Rattle.script_run.proofs.Worlds.{world_next, world_stays, none_had, brought, brought_some, some_brought, brought_still}
+use Rattle.script_run.proofs.Worlds.{AreHeld, held_so, world_next, world_stays, none_had, brought, brought_some, some_brought, brought_still}
 
 -- ---- results that are faults
 
@@ -117,7 +117,7 @@ piece_breaks client bytes a s t fault h =
       at = h.at;
       results = h.fed.results;
       given = h.fed.given;
-      come = inr refl;
+      come = inr (refl, refl);
       fit = tt;
       asked = inr tt;
       goes = λ opening tree log stands. let p = h.fed.goes opening tree log stands in (in_part (Piece client bytes) client bytes h.said h.unsaid (λ c. refl) h.cut opening tree log (kept_of h.mid h.at) p.0, p.1);
@@ -132,12 +132,12 @@ add_breaks client bytes a s fault h =
       at = s;
       results = [];
       given = refl;
-      come = inr refl;
+      come = inr (refl, refl);
       fit = refl;
       asked = inr tt;
       goes = λ opening tree log stands.
-          let g = h.moves s opening tree log stands in
-          (in_part (Add client bytes) client bytes h.said h.unsaid (λ c. refl) h.cut opening tree log (kept_of h.mid s) g, none_more opening tree log (kept_of a s) (kept_of h.mid s) stands refl g.more g.stands);
+          let p = h.moves s opening tree log stands in
+          (in_part (Add client bytes) client bytes h.said h.unsaid (λ c. refl) h.cut opening tree log (kept_of h.mid s) p.0, none_told s p.0.more log p.1);
       within = inl refl;
       spent = begun_spent fault h.mid.core s h.spent;
     }
@@ -155,10 +155,10 @@ result_breaks server a s t fault h =
       at = h.at;
       results = h.results;
       given = h.moves.given;
-      come = inr refl;
+      come = inr (refl, refl);
       fit = of_one h.results h.fit;
       asked = h.fit;
-      goes = λ opening tree log stands. let q = h.moves.goes opening tree log stands in (in_quiet (Results server) (λ c. refl) opening tree log (kept_of h.mid h.at) q.goes, q.calls);
+      goes = λ opening tree log stands. let q = h.moves.goes opening tree log stands in (in_quiet (Results server) (λ c. refl) opening tree log (kept_of h.mid h.at) q.goes, q.told);
       within = h.within;
       spent = h.spent;
     }
@@ -178,7 +178,7 @@ nothing_breaks event fit a s t fault same spent =
       come = inl refl;
       fit = fit;
       asked = inl refl;
-      goes = λ opening tree log stands. (record { more = []; stands = stands; said = λ c. []; unsaid = λ c. said_by event c; cut = λ c. refl; streams = λ c. sym (append-nil (stream_of log c)); given = λ c. refl }, refl);
+      goes = λ opening tree log stands. (record { more = []; stands = stands; said = λ c. []; unsaid = λ c. said_by event c; cut = λ c. refl; streams = λ c. sym (append-nil (stream_of log c)); given = λ c. refl }, (refl, refl));
       within = inl same;
       spent = spent;
     }
@@ -309,13 +309,13 @@ module _ (first : Route) (refused : List Bool) (reloads : List Reload) (events :
           begun = λ x e. subst (λ (y : Scripted). IsStepPart events done y after (handed h.outputs)) (one_next event x e)
               (record {
                 before = through_on events done g.more log (handed h.outputs) (before_it first refused reloads events loaded (event ∷ left) given marks a.clients (kept_of a s) h);
-                brings = brings g.more m.asked p.1;
+                brings = brings g.more m.asked (has_calls m.results s m.at g.more log p.1);
               });
           marked = marked_on events g.more log given given [] (sym (append-nil given)) reloads marks h.marked;
           run = run;
           loses = says.loses;
           direct = fresh_if_direct first refused reloads events loaded h.come.loads after within turn says.loses run;
-          world = inr (by g.more m.come p.1);
+          world = inr (by g.more m.come p.1 (held_so events tree after m.mid m.at g.stands));
           made = made_by after t m.at says.calls m.within;
         };
         spent = spent_in fault m.mid.core m.at after says.begun says.calls m.spent;
@@ -325,9 +325,15 @@ module _ (first : Route) (refused : List Bool) (reloads : List Reload) (events :
       brings more (inl none) calls = inl (none_had m.results more h.come.log none calls)
       brings more (inr asked) calls = inr (brought_some event m.results a s (opening_of events) (tree_by first h.come.loads) more h.come.log h.come.stands m.fit asked calls)
 
-      by : (more : List (Entry dialect)) → (m.results ≡ []) ⊎ Changes event s s → HasCalls m.results more h.come.log → HasWorldOf events h.come.done (event ∷ []) (more ++ h.come.log)
-      by more (inl none) calls = (s, inl (world_stays events h.come.done h.come.log more s h.come.world (subst (λ (rs : List CallResult). HasCalls rs more h.come.log) none calls)))
-      by more (inr changes) calls = (m.at, inr (world_next events h.come.done h.come.log more event m.results s s m.at h.come.world changes m.given m.fit calls))
+      by : (more : List (Entry dialect)) → (m.results ≡ []) ⊎ (Changes event s s × (lost_now event ≡ [])) → HasStory m.results s m.at more h.come.log → AreHeld events (more ++ h.come.log) m.at → HasWorldOf events h.come.done (event ∷ []) (more ++ h.come.log)
+      by more (inl none) told held =
+          let same = subst (λ (rs : List CallResult). HasStory rs s m.at more h.come.log) none told in
+          (s, inl (world_stays events h.come.done h.come.log more s h.come.world same.1 (subst (AreHeld events (more ++ h.come.log)) same.0 held)))
+      by more (inr here) told held = (
+        m.at,
+        inr (world_next events h.come.done h.come.log more event m.results s s m.at h.come.world here.0 m.fit
+            (subst (λ (l : List Past). AreTold m.results s m.at (l ++ story_of (run_of h.come.log)) (story_of (run_of (more ++ h.come.log)))) (sym here.1) told) held),
+      )
 
   -- an event was done, and not all could be handed out
   pub stops_handing :
@@ -349,8 +355,8 @@ module _ (first : Route) (refused : List Bool) (reloads : List Reload) (events :
         before = through_on events h.come.done o.more (g.more ++ log) (handed h.outputs)
             (through_on events h.come.done g.more log (handed h.outputs) (before_it first refused reloads events loaded (event ∷ left) given marks a.clients (kept_of a s) h));
         brings = inr
-            (some_brought event log (o.more ++ (g.more ++ log)) (brought_still event log (g.more ++ log) o.more (none_more opening tree (g.more ++ log) (kept_of b t) (kept_of (hands t opening tree (g.more ++ log) g.stands).0 t) g.stands refl o.more o.stands)
-            (brought event m.results a s opening tree g.more log h.come.stands m.fit m.asked (m.goes opening tree log h.come.stands).1 (m.turns opening tree log h.come.stands))));
+            (some_brought event log (o.more ++ (g.more ++ log)) (brought_still event log (g.more ++ log) o.more (no_result (g.more ++ log) (o.more ++ (g.more ++ log)) o.story)
+            (brought event m.results a s opening tree g.more log h.come.stands m.fit m.asked (has_calls_by event m.results m.mid t g.more log (m.goes opening tree log h.come.stands).1) (m.turns opening tree log h.come.stands))));
       }))
       (marked_on events o.more (g.more ++ log) given after o.longer.0 o.longer.1 reloads marks (marked_on events g.more log given given [] (sym (append-nil given)) reloads marks h.marked))
       refl none

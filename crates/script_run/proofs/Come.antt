@@ -30,9 +30,8 @@ use Rattle.script_run.specs.declared.driver.runner.Runner.{Runner}
 use Rattle.script_run.specs.Driving.{said_by, said_in, shown_to, AreHandedInTurn, IsReached, CameSo, CameInTurn, AreMarks}
 use Rattle.script_run.specs.Holding.{put_all_on}
 use Rattle.script_run.specs.Stepping.{Befalls, HandsOut, HandsSome, HasCome, IsDue}
-use Rattle.script_run.proofs.Counted.{none_more}
 use Rattle.script_run.proofs.Held.{held_new, opened_new}
-use Rattle.script_run.proofs.Worlds.{world_next, world_ended, world_stays}
+use Rattle.script_run.proofs.Worlds.{held_so, world_next, world_ended, world_stays}
 use Rattle.script_run.proofs.Steps.{handed_on}
 
 -- ---- reloads
@@ -83,7 +82,7 @@ module _ (first : Route) (refused : List Bool) (reloads : List Reload) (events :
         order = handed_on given g.more h.log h.order;
         done = h.done ++ event ∷ [];
         done_is = h.done_is ∙ sym (append_assoc h.done (event ∷ []) left);
-        world = world_next events h.done h.log g.more event m.results s m.mid t h.world m.changes m.given m.fit p.1;
+        world = world_next events h.done h.log g.more event m.results s m.mid t h.world m.changes m.fit p.1 (held_so events (tree_by first h.loads) (g.more ++ h.log) b t g.stands);
       }
 
   -- the script is at its end, and what is still out has its results
@@ -104,7 +103,7 @@ module _ (first : Route) (refused : List Bool) (reloads : List Reload) (events :
         order = handed_on given g.more h.log h.order;
         done = h.done;
         done_is = h.done_is;
-        world = world_ended events h.done h.log g.more m.0 s t h.world m.1.given q.calls;
+        world = world_ended events h.done h.log g.more m.0 s t h.world q.told (held_so events (tree_by first h.loads) (g.more ++ h.log) b t g.stands);
       }
 
   -- what is new is handed out
@@ -124,7 +123,7 @@ module _ (first : Route) (refused : List Bool) (reloads : List Reload) (events :
         order = g.order h.given_is h.order;
         done = h.done;
         done_is = h.done_is;
-        world = world_stays events h.done h.log g.more s h.world (none_more (opening_of events) (tree_by first h.loads) h.log (kept_of a s) (kept_of b s) h.stands refl g.more g.stands);
+        world = world_stays events h.done h.log g.more s h.world g.story (held_so events (tree_by first h.loads) (g.more ++ h.log) b s g.stands);
       }
 
   -- a script has come as far where some of the output was handed out
@@ -146,7 +145,7 @@ module _ (first : Route) (refused : List Bool) (reloads : List Reload) (events :
           order = g.order h.given_is h.order;
           done = h.done;
           done_is = h.done_is;
-          world = world_stays events h.done h.log g.more s h.world (none_more (opening_of events) (tree_by first h.loads) h.log (kept_of a s) (kept_of p.0 s) h.stands refl g.more g.stands);
+          world = world_stays events h.done h.log g.more s h.world g.story (held_so events (tree_by first h.loads) (g.more ++ h.log) p.0 s g.stands);
         },
       )
 
@@ -233,15 +232,18 @@ begins law first refused reloads events n a s t x begin new put rest good none =
       world = record {
         deeds = [];
         script_is = refl;
-        lead = record {
-          caches = λ i cache at. opened_new n events i cache (ap (λ l. slice_get l i) (sym puts) ∙ at);
-          turn = ap turn_of rest ∙ new.turn;
-          moment = ap moment_of rest ∙ new.moment;
-          named = λ i. ap (λ y. named_of y i) rest ∙ new.named i;
-          lost = λ i. ap (λ y. lost_of y i) rest ∙ new.lost i;
-        };
+        lead = (
+          refl,
+          record {
+            caches = λ i cache at. opened_new n events i cache (ap (λ l. slice_get l i) (sym puts) ∙ at);
+            turn = ap turn_of rest ∙ new.turn;
+            moment = ap moment_of rest ∙ new.moment;
+            named = λ i. ap (λ y. named_of y i) rest ∙ new.named i;
+            lost = λ i. ap (λ y. lost_of y i) rest ∙ new.lost i;
+          },
+        );
         in_turn = tt;
-        calls = refl;
+        holds = λ i key. sym (each i key);
       };
     }
   where

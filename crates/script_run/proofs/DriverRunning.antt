@@ -25,9 +25,9 @@ use Rattle.script_events.specs.declared.servers.event.Made.{Made}
 use Rattle.script_events.specs.Calling.{Ends}
 use Rattle.script_events.specs.Servers.{Answers}
 use Rattle.script_events.specs.declared.servers.servers.ScriptServers.{ScriptServers}
-use Rattle.script_run.specs.Standing.{Kept, calls_at, Stands, GoesOn, GoesOnFed, IsBesides}
+use Rattle.script_run.specs.Standing.{Kept, calls_at, story_of, Stands, GoesOn, GoesOnFed, IsBesides}
 use Rattle.script_run.specs.Results.{CallResult, AreOfFirst, NumberedCall, call_of, calls_of, AreGiven, GoesOnBy}
-use Rattle.script_run.proofs.Counted.{goes_on_by_none}
+use Rattle.script_run.proofs.Told.{has_calls, none_told, same_then, story_then, story_before}
 use Rattle.script_run.proofs.Outs.{called_is_out}
 use Rattle.script_run.specs.Laws.{CountsPoll, PollsGoOn, ResultsGoOn, LoadsGoOn}
 use Rattle.script_run.specs.Counting.{last_of}
@@ -40,7 +40,7 @@ use Rattle.script_run.proofs.Firsts.{out_call, left_out, is_there_one, none_belo
 
 -- nothing was done
 pub stays : (a : Runner) (s : ScriptServers) → Moves a s a s
-stays a s opening tree log stands = record { more = []; stands = stands; streams = λ c. refl; given = λ c. refl }
+stays a s opening tree log stands = (record { more = []; stands = stands; streams = λ c. refl; given = λ c. refl }, refl)
 
 module _ (opening : ℕ → List ℕ → Option Item) (tree : ℕ → Route) (log : List (Entry dialect)) where
   longer : (more first : List (Entry dialect)) (k : Kept) → Stands opening tree (more ++ (first ++ log)) k → Stands opening tree ((more ++ first) ++ log) k
@@ -52,7 +52,7 @@ module _ (opening : ℕ → List ℕ → Option Item) (tree : ℕ → Route) (lo
   given_on : (more first : List (Entry dialect)) (c : ℕ) → given_of (more ++ (first ++ log)) c ≡ given_of (first ++ log) c → given_of ((more ++ first) ++ log) c ≡ given_of (first ++ log) c
   given_on more first c e = ap (λ l. given_of l c) (append_assoc more first log) ∙ e
 
-  goes_then : (k l : Kept) (g : GoesOn opening tree log k) → GoesOn opening tree (g.more ++ log) l → GoesOn opening tree log l
+  abbrev goes_then : (k l : Kept) (g : GoesOn opening tree log k) → GoesOn opening tree (g.more ++ log) l → GoesOn opening tree log l
   goes_then k l g h =
       record {
         more = h.more ++ g.more;
@@ -61,7 +61,7 @@ module _ (opening : ℕ → List ℕ → Option Item) (tree : ℕ → Route) (lo
         given = λ c. given_on h.more g.more c (h.given c) ∙ g.given c;
       }
 
-  fed_goes_then : (client : ℕ) (bytes : List ℕ) (k l : Kept) (g : GoesOnFed opening tree log client bytes k) → GoesOn opening tree (g.more ++ log) l → GoesOnFed opening tree log client bytes l
+  abbrev fed_goes_then : (client : ℕ) (bytes : List ℕ) (k l : Kept) (g : GoesOnFed opening tree log client bytes k) → GoesOn opening tree (g.more ++ log) l → GoesOnFed opening tree log client bytes l
   fed_goes_then client bytes k l g h =
       record {
         more = h.more ++ g.more;
@@ -73,14 +73,18 @@ module _ (opening : ℕ → List ℕ → Option Item) (tree : ℕ → Route) (lo
 -- one after another
 pub then : (a b d : Runner) (s t u : ScriptServers) → Moves a s b t → Moves b t d u → Moves a s d u
 then a b d s t u m n opening tree log stands =
-    let g = m opening tree log stands in
-    goes_then opening tree log (kept_of b t) (kept_of d u) g (n opening tree (g.more ++ log) g.stands)
+    let p = m opening tree log stands in
+    let g = p.0 in
+    let q = n opening tree (g.more ++ log) g.stands in
+    (goes_then opening tree log (kept_of b t) (kept_of d u) g q.0, same_then q.0.more g.more log p.1 q.1)
 
 -- bytes, and then what is done of them
 pub fed_then : (client : ℕ) (bytes : List ℕ) (a b d : Runner) (s t u : ScriptServers) → MovesFed client bytes a s b t → Moves b t d u → MovesFed client bytes a s d u
 fed_then client bytes a b d s t u m n opening tree log stands =
-    let g = m opening tree log stands in
-    fed_goes_then opening tree log client bytes (kept_of b t) (kept_of d u) g (n opening tree (g.more ++ log) g.stands)
+    let p = m opening tree log stands in
+    let g = p.0 in
+    let q = n opening tree (g.more ++ log) g.stands in
+    (fed_goes_then opening tree log client bytes (kept_of b t) (kept_of d u) g q.0, same_then q.0.more g.more log p.1 q.1)
 
 -- ---- moves by results
 
@@ -91,22 +95,16 @@ given_then (r ∷ later) first s t u g h = (h.0, given_then later first s t h.0 
 
 -- no result came
 pub none_by : (a b : Runner) (s : ScriptServers) → Moves a s b s → MovesBy [] a s b s
-none_by a b s m = record { given = refl; goes = λ opening tree log stands. goes_on_by_none opening tree log (kept_of a s) (kept_of b s) stands refl (m opening tree log stands) }
+none_by a b s m = record { given = refl; goes = λ opening tree log stands. let p = m opening tree log stands in record { goes = p.0; told = none_told s p.0.more log p.1 } }
 
 pub by_none : (a b : Runner) (s : ScriptServers) → Moves a s b s → MovesByResults a s b s
 by_none a b s m = ([], none_by a b s m)
 
 by_goes_then :
-    (opening : ℕ → List ℕ → Option Item) (tree : ℕ → Route) (log : List (Entry dialect)) (later first : List CallResult) (k l : Kept) (g : GoesOnBy opening tree log first k)
-    → GoesOnBy opening tree (g.goes.more ++ log) later l → GoesOnBy opening tree log (later ++ first) l
-unfolding goes_then
-by_goes_then opening tree log later first k l g h =
-    record {
-      goes = goes_then opening tree log k l g.goes h.goes;
-      calls =
-          ap (λ es. calls_of (run_of es)) (append_assoc h.goes.more g.goes.more log) ∙ h.calls ∙ ap (λ (cs : List NumberedCall). map call_of later ++ cs) g.calls
-          ∙ sym (append_assoc (map call_of later) (map call_of first) (calls_of (run_of log))) ∙ ap (λ (cs : List NumberedCall). cs ++ calls_of (run_of log)) (sym (map-append call_of later first));
-    }
+    (opening : ℕ → List ℕ → Option Item) (tree : ℕ → Route) (log : List (Entry dialect)) (before : ScriptServers) (later first : List CallResult) (k l : Kept) (g : GoesOnBy opening tree log before first k)
+    → GoesOnBy opening tree (g.goes.more ++ log) k.servers later l → GoesOnBy opening tree log before (later ++ first) l
+by_goes_then opening tree log before later first k l g h =
+    record { goes = goes_then opening tree log k l g.goes h.goes; told = story_then later first before k.servers l.servers h.goes.more g.goes.more log g.told h.told }
 
 -- one after another
 pub by_then : (a b d : Runner) (s t u : ScriptServers) → MovesByResults a s b t → MovesByResults b t d u → MovesByResults a s d u
@@ -116,7 +114,7 @@ by_then a b d s t u m n = (
     given = given_then n.0 m.0 s t u m.1.given n.1.given;
     goes = λ opening tree log stands.
         let g = m.1.goes opening tree log stands in
-        by_goes_then opening tree log n.0 m.0 (kept_of b t) (kept_of d u) g (n.1.goes opening tree (g.goes.more ++ log) g.goes.stands);
+        by_goes_then opening tree log s n.0 m.0 (kept_of b t) (kept_of d u) g (n.1.goes opening tree (g.goes.more ++ log) g.goes.stands);
   },
 )
 
@@ -129,14 +127,10 @@ at_then server a b d s t m n = (
     given = m.2.given;
     goes = λ opening tree log stands.
         let g = m.2.goes opening tree log stands in
-        by_goes_then opening tree log [] m.0 (kept_of b t) (kept_of d t) g
-        (goes_on_by_none opening tree (g.goes.more ++ log) (kept_of b t) (kept_of d t) g.goes.stands refl (n opening tree (g.goes.more ++ log) g.goes.stands));
+        let p = n opening tree (g.goes.more ++ log) g.goes.stands in
+        record { goes = goes_then opening tree log (kept_of b t) (kept_of d t) g.goes p.0; told = story_before m.0 s t p.0.more g.goes.more log g.told p.1 };
   },
 )
-
--- each log goes on where it goes on by results
-pub moved : (a b : Runner) (s t : ScriptServers) → MovesByResults a s b t → Moves a s b t
-moved a b s t m opening tree log stands = (m.1.goes opening tree log stands).goes
 
 -- a call of this server
 pub at_server : (server other : ℕ) (a b : Runner) (s t : ScriptServers) → other ≡ server → MovesByOne other a s b t → MovesByOne server a s b t
@@ -247,7 +241,8 @@ resulted law server ask origin made stamp ticket old a b room s t takes called s
       },
       record {
         given = (s, refl, by, rest);
-        goes = λ opening tree log stands. law opening tree log number server ask origin made s t (kept_of old s) (kept_of b t) stands (
+        goes = λ opening tree log stands.
+            let p = law opening tree log number server ask origin made s t (kept_of old s) (kept_of b t) stands (
             record {
               called = of_core;
               caches_were = refl;
@@ -260,7 +255,8 @@ resulted law server ask origin made stamp ticket old a b room s t takes called s
               counts = record { commands = ap (λ c. c.tally.commands) counted; stale = ap (λ c. c.tally.stale) counted; last = λ key. ap (λ c. last_of c key) counted };
               out = λ n. ap (λ v. calls_at n v.items) out ∙ left_out server ticket old a takes n;
             }
-            );
+            ) in
+            record { goes = p.0; told = (s, story_of (run_of log), (refl, refl), by, rest, p.1) };
       },
     )
 
@@ -296,7 +292,7 @@ in_turn_then (r ∷ later) first more front log had h g =
 
 -- one after another
 pub turns_then : (a b d : Runner) (s t u : ScriptServers) → MovesInTurn a s b t → MovesInTurn b t d u → MovesInTurn a s d u
-unfolding by_goes_then goes_then
+unfolding by_goes_then
 turns_then a b d s t u m n =
     record {
       results = n.results ++ m.results;
@@ -304,12 +300,12 @@ turns_then a b d s t u m n =
         given = given_then n.results m.results s t u m.moves.given n.moves.given;
         goes = λ opening tree log stands.
             let g = m.moves.goes opening tree log stands in
-            by_goes_then opening tree log n.results m.results (kept_of b t) (kept_of d u) g (n.moves.goes opening tree (g.goes.more ++ log) g.goes.stands);
+            by_goes_then opening tree log s n.results m.results (kept_of b t) (kept_of d u) g (n.moves.goes opening tree (g.goes.more ++ log) g.goes.stands);
       };
       in_turn = λ opening tree log stands.
           let g = m.moves.goes opening tree log stands in
           let h = n.moves.goes opening tree (g.goes.more ++ log) g.goes.stands in
-          in_turn_then n.results m.results h.goes.more g.goes.more log g.calls (n.in_turn opening tree (g.goes.more ++ log) g.goes.stands) (m.in_turn opening tree log stands);
+          in_turn_then n.results m.results h.goes.more g.goes.more log (has_calls m.results s t g.goes.more log g.told) (n.in_turn opening tree (g.goes.more ++ log) g.goes.stands) (m.in_turn opening tree log stands);
     }
 
 -- no result came

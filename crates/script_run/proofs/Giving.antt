@@ -45,5 +45,6 @@ gives_go_on opening tree log client bytes old new stands step rest =
       streams = λ c. refl;
       given = λ c. refl;
       all = ap (λ b. cond b (given_of log client ++ bytes) (given_of log client)) (eq-eqb client client refl) ∙ leads.follows.0;
+      story = refl;
       left = record { front = λ c. refl; queue = λ c. refl; output = λ c. refl; owner = λ n. refl };
     }

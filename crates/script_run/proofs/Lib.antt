@@ -4,7 +4,7 @@ pub mod PollsEntries
 pub mod ResultsLosses
 pub mod ResultsFound
 pub mod Results
-pub mod Counted
+pub mod Told
 pub mod Giving
 pub mod Feeding
 pub mod Outs

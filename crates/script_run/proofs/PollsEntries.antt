@@ -18,7 +18,7 @@ use Rattle.core_proxy.specs.declared.limits.Limits.{Limits}
 use Rattle.core_proxy.specs.declared.note.Poll.{Poll}
 use Rattle.core_proxy.specs.declared.note.Poll.TheVariants as polls
 use Rattle.core_proxy.specs.declared.proxy.Core.{Core}
-use Rattle.script_run.specs.Standing.{Kept, HasServers}
+use Rattle.script_run.specs.Standing.{Kept, GoesOn, HasServers}
 use Rattle.script_run.specs.Laws.{CountsPoll, PollsGoOn}
 use Rattle.script_run.proofs.PollsTells.{Tells, besides, sends, begins, shown_more, ends}
 
@@ -60,7 +60,7 @@ module _ (at : ℕ → List ℕ → Plan) (Bars : ℕ → Ask → ℕ → Ask �
     passed : (log : List (Entry dialect)) (client : ℕ) (message : Message) (next : dialect.Place) (second : List (Entry dialect)) (k : Kept) → second ≡ Passes client message next ∷ [] → Tells opening base found log k → Tells opening base found (second ++ log) k
     passed log client message next second k is t =
         subst (λ l. Tells opening base found (l ++ log) k) (sym is)
-        (record { served = t.served; unbroken = t.unbroken; loses = t.loses; out = t.out; known = t.known; items = t.items; commands = t.commands; stale = t.stale; last = t.last; later = t.later; streams = t.streams; given = t.given })
+        (record { served = t.served; unbroken = t.unbroken; loses = t.loses; out = t.out; known = t.known; items = t.items; commands = t.commands; stale = t.stale; last = t.last; later = t.later; streams = t.streams; given = t.given; story = t.story })
 
     -- what a poll answers tells what came of the log
     polled : (log : List (Entry dialect)) (client : ℕ) (poll : Poll) (second : List (Entry dialect)) (old new : Kept) → Follows (tree_words at) Bars opening (second ++ log) → IsPolled client poll second → CountsPoll poll old new → Tells opening base found log old → Tells opening base found (second ++ log) new
@@ -132,11 +132,12 @@ polls_go_on opening tree log client poll old new stands p counts =
       later = omega arith;
       streams = λ c. refl;
       given = λ c. refl;
+      story = refl;
     } in
     let began = begun beside.at bars opening log beside.found old.core client first old kind.2 (λ n high. stands.fits.unseen n (omega (arith, count, high))) (λ n high. stands.unknown n (omega (arith, count, high))) (behind beside.at bars opening second (first ++ log) follows) told in
     let t : Tells opening log beside.found (g.1 ++ log) new = subst (λ l. Tells opening log beside.found l new) (sym whole) (polled beside.at bars opening log beside.found (first ++ log) client poll second old new follows kind.3 counts began) in
     let servers = servers_stay poll old new counts in
-    record {
+    let goes : GoesOn opening tree log new = record {
       more = g.1;
       stands = record {
         beside = g.0;
@@ -158,4 +159,5 @@ polls_go_on opening tree log client poll old new stands p counts =
       };
       streams = t.streams;
       given = t.given;
-    }
+    } in
+    (goes, t.story)

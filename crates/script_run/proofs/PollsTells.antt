@@ -27,7 +27,7 @@ use Rattle.route_tree.proofs.Showing.{replies_show_what_was_found}
 use Rattle.core_commands.specs.declared.ticket.Ticket.{Ticket}
 use Rattle.core_proxy.specs.CoreState.{dialect}
 use Rattle.core_proxy.specs.declared.note.Note.{Note}
-use Rattle.script_run.specs.Standing.{Kept, calls_at, replied_in, broken_in, IsBesides}
+use Rattle.script_run.specs.Standing.{Kept, calls_at, replied_in, broken_in, HasSameStory, IsBesides}
 use Rattle.script_run.specs.Laws.{is_as_old, stamp_shown, CountsOne, SendsOne}
 
 -- ---- small facts
@@ -108,6 +108,7 @@ pub record Tells (opening : ℕ → List ℕ → Option Item) (base : List (Entr
   pub later : commands_in (run_of base) ≤ commands_in (run_of log)
   pub streams : (c : ℕ) → stream_of log c ≡ stream_of base c
   pub given : (c : ℕ) → given_of log c ≡ given_of base c
+  pub story : HasSameStory base log
 
 module _ (opening : ℕ → List ℕ → Option Item) (base : List (Entry dialect)) (found : ℕ → List (Option Item)) where
   -- what is told of a log is told still where all but the core is as it was
@@ -126,6 +127,7 @@ module _ (opening : ℕ → List ℕ → Option Item) (base : List (Entry dialec
         later = t.later;
         streams = t.streams;
         given = t.given;
+        story = t.story;
       }
 
   -- a call went out
@@ -146,6 +148,7 @@ module _ (opening : ℕ → List ℕ → Option Item) (base : List (Entry dialec
         later = t.later;
         streams = t.streams;
         given = t.given;
+        story = t.story;
       }
 
   -- a command that begins made no calls, and nothing is known of it
@@ -177,6 +180,7 @@ module _ (opening : ℕ → List ℕ → Option Item) (base : List (Entry dialec
         later = (let low = t.later in omega (arith, low));
         streams = t.streams;
         given = t.given;
+        story = t.story;
       }
 
   -- replies that are shown change nothing of it
@@ -184,7 +188,7 @@ module _ (opening : ℕ → List ℕ → Option Item) (base : List (Entry dialec
   shown_more client [] log k t = t
   shown_more client (s ∷ shown) log k t =
       let r = shown_more client shown log k t in
-      record { served = r.served; unbroken = r.unbroken; loses = r.loses; out = r.out; known = r.known; items = r.items; commands = r.commands; stale = r.stale; last = r.last; later = r.later; streams = r.streams; given = r.given }
+      record { served = r.served; unbroken = r.unbroken; loses = r.loses; out = r.out; known = r.known; items = r.items; commands = r.commands; stale = r.stale; last = r.last; later = r.later; streams = r.streams; given = r.given; story = r.story }
 
   -- the stamp that is known of what a reply shows is that of the item which its call found
   stamp_is : (past : List Event) (number : ℕ) (from : Option ℕ) (reply : Answer) (stamps : List (Option ℕ)) → AreFound (calls_so_far past number) (found number) stamps → ((i : ℕ) (item : Item) → slice_get (found number) i ≡ Some (Some item) → item_at opening past number i ≡ Some item)
@@ -240,4 +244,5 @@ module _ (opening : ℕ → List ℕ → Option Item) (base : List (Entry dialec
           later = t.later;
           streams = t.streams;
           given = t.given;
+          story = t.story;
         }

@@ -9,7 +9,7 @@ use Rattle.mc_types.specs.Items.{Item}
 use Rattle.fresh_runs.specs.Run.{Call, End, outcome_of}
 use Rattle.fresh_runs.specs.Fleet.{StampIn}
 use Rattle.fresh_runs.specs.Sharing.{Event, calls_so_far}
-use Rattle.fresh_runs.specs.SharingFleet.{Fleet, AreLosses}
+use Rattle.fresh_runs.specs.SharingFleet.{Fleet}
 use Rattle.fresh_runs.specs.Overlap.{Entry, Happens, Frees, Ticket as LogTicket, without, run_of, out_of, given_of}
 use Rattle.fresh_runs.specs.OverlapState.{OverlapState, LeadsTo, found_after}
 use Rattle.fresh_runs.specs.OverlapStream.{stream_of}
@@ -34,16 +34,12 @@ use Rattle.core_commands.specs.declared.command.Command.{Command}
 use Rattle.core_proxy.specs.declared.limits.Limits.{Limits}
 use Rattle.core_proxy.specs.declared.proxy.Core.{Core}
 use Rattle.core_commands.proofs.Commands.{some_command, no_command}
-use Rattle.script_run.specs.Standing.{Kept, calls_at, Stands, GoesOn, CountsAsMany}
-use Rattle.script_run.specs.Results.{NumberedCall, calls_of}
+use Rattle.script_run.specs.Standing.{Kept, calls_at, story_of, Stands, GoesOn, CountsAsMany}
+use Rattle.script_run.specs.Results.{CallResult, IsTold}
 use Rattle.script_run.specs.Laws.{ResultsGoOn}
-use Rattle.script_run.proofs.ResultsLosses.{bereft, happened, still_fits, losses_lead, IsAlike, alike_then, call_alike, losses_alike, calls_same, out_same, losses_of_none}
+use Rattle.script_run.proofs.ResultsLosses.{bereft, happened, still_fits, losses_lead, IsAlike, alike_then, call_alike, losses_alike, calls_same, out_same, losses_told}
+use Rattle.script_run.proofs.Told.{are_spills}
 use Rattle.script_run.proofs.ResultsFound.{stamp_in_turn, found_if, same_last}
-
--- what a server drops by itself is lost
-are_spills : (server : ℕ) (keys : List (List ℕ)) → AreLosses (spills_of server keys)
-are_spills server [] = tt
-are_spills server (key ∷ keys) = (refl, are_spills server keys)
 
 -- a log leads by the same trees and limits
 led_there :
@@ -201,31 +197,44 @@ module _ (opening : ℕ → List ℕ → Option Item) (tree : ℕ → Route) (lo
     abbrev entries : List (Entry dialect)
     entries = Happens event ∷ (happened step.call.lost ++ happened spills)
 
-    called : calls_of (run_of (entries ++ log)) ≡ record { number = number; call = record { server = server; ask = ask; origin = origin; outcome = made.outcome } } ∷ calls_of (run_of log)
-    called =
-        ap (λ l. record { number = number; call = call } ∷ calls_of (run_of l)) (append_assoc (happened step.call.lost) (happened spills) log)
-        ∙ ap (λ (cs : List NumberedCall). record { number = number; call = call } ∷ cs) (losses_of_none (happened spills ++ log) step.call.lost step.call.losses ∙ losses_of_none log spills (are_spills server step.spilled))
-        ∙ ap (λ (o : Outcome). record { number = number; call = record { server = server; ask = ask; origin = origin; outcome = o } } ∷ calls_of (run_of log)) (sym step.call.outcome)
+    -- the result, as the servers gave it
+    abbrev result : CallResult
+    result = record { number = number; server = server; ask = ask; origin = origin; stamp = stamp_given (old.stamps number) number origin; made = made }
+
+    told : IsTold result before (story_of (run_of log)) (story_of (run_of (entries ++ log)))
+    told =
+        record {
+          end = end;
+          as_named = step.as_named;
+          outcome_is = step.call.outcome;
+          spilled = step.spilled;
+          are_spilled = step.are_spilled;
+          story_is =
+              ap (λ (l : List (Entry dialect)). event ∷ story_of (run_of l)) (append_assoc (happened step.call.lost) (happened spills) log)
+              ∙ ap (λ (l : List Event). event ∷ l)
+              (losses_told step.call.lost (happened spills ++ log) step.call.losses ∙ ap (λ (l : List Event). step.call.lost ++ l) (losses_told spills log (are_spills server step.spilled))
+              ∙ ap (λ (l : List Event). l ++ (spills ++ story_of (run_of log))) step.losses_are);
+        }
 
     -- the losses named for the call and what its server dropped, and then its result
-    goes : new.caches ≡ caches_of after → new.turn ≡ old.turn + 1 → ((n : ℕ) → new.stamps n ≡ cond (nat_eq number n) (old.stamps n ++ made.stamp ∷ []) (old.stamps n)) → CountsAsMany old new → ((s : ℕ) → calls_at s new.out ≡ cond (nat_eq server s) (without number (calls_at s old.out)) (calls_at s old.out)) → (g : GoesOn opening tree log new) × (calls_of (run_of (g.more ++ log)) ≡ record { number = number; call = record { server = server; ask = ask; origin = origin; outcome = made.outcome } } ∷ calls_of (run_of log))
+    goes : new.caches ≡ caches_of after → new.turn ≡ old.turn + 1 → ((n : ℕ) → new.stamps n ≡ cond (nat_eq number n) (old.stamps n ++ made.stamp ∷ []) (old.stamps n)) → CountsAsMany old new → ((s : ℕ) → calls_at s new.out ≡ cond (nat_eq server s) (without number (calls_at s old.out)) (calls_at s old.out)) → (g : GoesOn opening tree log new) × IsTold result before (story_of (run_of log)) (story_of (run_of (g.more ++ log)))
     unfolding goes_on_as
     goes caches turn stamps counts out =
         let t = settles.goes met end (still_fits old.core spilled step.call.lost (still_fits old.core stands.beside spills stands.fits)) step.call.outcome step.call.ends in
         let none : t.1 ≡ [] = t.4 ∙ ap (λ z. cond z (Frees number ∷ []) []) served_is in (
           goes_on_as opening tree entries log (Happens event ∷ past) new (ap (λ (l : List (Entry dialect)). Happens event ∷ l) (append_assoc (happened step.call.lost) (happened spills) log)) alike
               (stands_then t.0 t.1 t.2 t.3 none (t.5 opening past past_leads) t.6 caches turn stamps counts out),
-          called,
+          told,
         )
 
--- equal calls of a command
-same_call :
-    (number s t : ℕ) (x y : Ask) (o p : Origin) (outcome : Outcome) → s ≡ t → x ≡ y → o ≡ p
-    → ◌≡◌ {A = NumberedCall} (record { number = number; call = record { server = s; ask = x; origin = o; outcome = outcome } }) (record { number = number; call = record { server = t; ask = y; origin = p; outcome = outcome } })
-same_call number s t x y o p outcome a b c =
-    ap (λ (z : ℕ). record { number = number; call = record { server = z; ask = x; origin = o; outcome = outcome } }) a
-    ∙ ap (λ (z : Ask). record { number = number; call = record { server = t; ask = z; origin = o; outcome = outcome } }) b
-    ∙ ap (λ (z : Origin). record { number = number; call = record { server = t; ask = y; origin = z; outcome = outcome } }) c
+-- equal results of a command
+same_result :
+    (number s t : ℕ) (x y : Ask) (o p : Origin) (stamps : List (Option ℕ)) (made : Made) → s ≡ t → x ≡ y → o ≡ p
+    → ◌≡◌ {A = CallResult} (record { number = number; server = s; ask = x; origin = o; stamp = stamp_given stamps number o; made = made }) (record { number = number; server = t; ask = y; origin = p; stamp = stamp_given stamps number p; made = made })
+same_result number s t x y o p stamps made a b c =
+    ap (λ (z : ℕ). record { number = number; server = z; ask = x; origin = o; stamp = stamp_given stamps number o; made = made }) a
+    ∙ ap (λ (z : Ask). record { number = number; server = t; ask = z; origin = o; stamp = stamp_given stamps number o; made = made }) b
+    ∙ ap (λ (z : Origin). record { number = number; server = t; ask = y; origin = z; stamp = stamp_given stamps number z; made = made }) c
 
 -- a call that is out has the result that the servers gave
 pub results_go_on : ResultsGoOn
@@ -243,5 +252,8 @@ results_go_on opening tree log number server ask origin made before after old ne
     answers_are_steps number (stamp_given (old.stamps number) number (origin_under a.job.frames.items OfClient)) (origin_under a.job.frames.items OfClient) before (server_in a.job.pending) (ask_under a.job.frames.items a.job.ask) made after
     (record { holds = stands.beside.holds; found = stands.beside.found }) answers (λ s k. stands.holds s k ∙ ap (λ l. held_at l s k) h.caches_were) (given opening tree log number made before after old new stands h.settles) in
     let g = goes opening tree log number made before after old new stands h.settles step.0 step.1 h.caches_are (h.turn_is ∙ answers.turn_is ∙ ap (λ t. t + 1) (sym h.turn_was)) h.stamps h.counts
-    (λ s. h.out s ∙ ap (λ (t : ℕ). cond (nat_eq t s) (without number (calls_at s old.out)) (calls_at s old.out)) server_is) in
-    record { goes = g.0; calls = g.1 ∙ ap (λ (n : NumberedCall). n ∷ calls_of (run_of log)) (sym (same_call number server (server_in a.job.pending) ask (ask_under a.job.frames.items a.job.ask) origin (origin_under a.job.frames.items OfClient) made.outcome server_is ask_is origin_is)) }
+    (λ s. h.out s ∙ ap (λ (t : ℕ). cond (nat_eq t s) (without number (calls_at s old.out)) (calls_at s old.out)) server_is) in (
+      g.0,
+      subst (λ (r : CallResult). IsTold r before (story_of (run_of log)) (story_of (run_of (g.0.more ++ log))))
+          (sym (same_result number server (server_in a.job.pending) ask (ask_under a.job.frames.items a.job.ask) origin (origin_under a.job.frames.items OfClient) (old.stamps number) made server_is ask_is origin_is)) g.1,
+    )

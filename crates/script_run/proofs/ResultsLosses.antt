@@ -21,8 +21,7 @@ use Rattle.script_events.proofs.Losses.{same_event, same_held}
 use Rattle.route_tree.specs.Word.{tree_words}
 use Rattle.core_proxy.specs.declared.proxy.Core.{Core}
 use Rattle.core_proxy.specs.CoreState.{dialect, bars_of, Beside, Fits, state_of}
-use Rattle.script_run.specs.Standing.{calls_at, replied_in, broken_in, GoesOn}
-use Rattle.script_run.specs.Results.{calls_of}
+use Rattle.script_run.specs.Standing.{calls_at, replied_in, broken_in, story_of, GoesOn}
 use Rattle.script_run.specs.Laws.{LossesGoOn}
 
 -- what stands beside the core after losses
@@ -127,16 +126,6 @@ calls_same log (Calls number server ask origin end ∷ es) are n = absurd are
 calls_same log (Replies number key reply from ∷ es) are n = absurd are
 calls_same log (Breaks number ∷ es) are n = absurd are
 
--- a run has no further call by losses
-pub losses_of_none : (log : List (Entry dialect)) (lost : List Event) → AreLosses lost → calls_of (run_of (happened lost ++ log)) ≡ calls_of (run_of log)
-losses_of_none log [] are = refl
-losses_of_none log (Turns server key turned ∷ es) are = losses_of_none log es are.1
-losses_of_none log (Restarts server ∷ es) are = losses_of_none log es are
-losses_of_none log (Begins number ask ∷ es) are = absurd are
-losses_of_none log (Calls number server ask origin end ∷ es) are = absurd are
-losses_of_none log (Replies number key reply from ∷ es) are = absurd are
-losses_of_none log (Breaks number ∷ es) are = absurd are
-
 -- after losses the calls are out that were out before
 pub out_same : (log : List (Entry dialect)) (lost : List Event) → AreLosses lost → (s : ℕ) → out_of (happened lost ++ log) s ≡ out_of log s
 out_same log [] are s = refl
@@ -151,6 +140,21 @@ out_same log (Breaks number ∷ es) are s = absurd are
 one_loss : (loss : Loss) → AreLosses (lost_by (told_of loss) ∷ [])
 one_loss (LostItem server key) = (refl, tt)
 one_loss (Restart server) = tt
+
+-- what is lost is told
+told : (loss : Loss) (log : List (Entry dialect)) → story_of (lost_by (told_of loss) ∷ run_of log) ≡ lost_by (told_of loss) ∷ story_of (run_of log)
+told (LostItem server key) log = refl
+told (Restart server) log = refl
+
+-- losses are told, as they came
+pub losses_told : (lost : List Event) (log : List (Entry dialect)) → AreLosses lost → story_of (run_of (happened lost ++ log)) ≡ lost ++ story_of (run_of log)
+losses_told [] log are = refl
+losses_told (Turns server key turned ∷ es) log are = ap (λ (l : List Event). Turns server key turned ∷ l) (losses_told es log are.1)
+losses_told (Restarts server ∷ es) log are = ap (λ (l : List Event). Restarts server ∷ l) (losses_told es log are)
+losses_told (Begins number ask ∷ es) log are = absurd are
+losses_told (Calls number server ask origin end ∷ es) log are = absurd are
+losses_told (Replies number key reply from ∷ es) log are = absurd are
+losses_told (Breaks number ∷ es) log are = absurd are
 
 -- what a server loses goes on with the log
 pub losses_go_on : LossesGoOn
@@ -184,4 +188,4 @@ losses_go_on opening tree log loss old new stands lost =
       streams = alike.stream;
       given = alike.given;
     } in
-    (goes, record { front = λ c. refl; queue = λ c. refl; output = λ c. refl; owner = λ n. refl })
+    (goes, record { front = λ c. refl; queue = λ c. refl; output = λ c. refl; owner = λ n. refl }, told loss log)

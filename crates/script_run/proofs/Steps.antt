@@ -12,23 +12,28 @@ use Rattle.route_tree.specs.Route.{Route}
 use Rattle.script_events.specs.Caches.{held_at, after_loss}
 use Rattle.script_events.specs.Caches as losing
 use Rattle.script_events.specs.declared.servers.event.Loss.{Loss}
+use Rattle.script_events.specs.declared.servers.event.Loss.TheVariants.{Item as LostItem, Restart}
+use Rattle.script_events.specs.Losing.{told_of}
+use Rattle.fresh_runs.specs.ScriptLog.{lost_by}
+use Rattle.fresh_runs.specs.Sharing.{Event as Past}
+use Rattle.fresh_runs.specs.Log.{Loss as Lost}
 use Rattle.fresh_runs.specs.Fleet.{after_event}
 use Rattle.script_events.specs.declared.script.Output.{Output}
 use Rattle.script_events.specs.Scripted.{Scripted, Manner, Piece, Add, Result, Fail, Hold, At, Now, Moment, loss_of, shown_by}
 use Rattle.script_events.specs.Servers.{caches_of, turn_of, moment_of, named_of, lost_of}
 use Rattle.script_run.specs.Laws.{LossesGoOn}
 use Rattle.script_events.specs.declared.servers.servers.ScriptServers.{ScriptServers}
-use Rattle.script_run.specs.Results.{CallResult, NumberedCall, call_of, calls_of}
-use Rattle.script_run.specs.Standing.{Kept, Stands, GoesOn, GoesOnFed, GoesOnGiven, LeavesAsMuch}
-use Rattle.script_run.proofs.Counted.{none_more}
+use Rattle.script_run.specs.Results.{CallResult}
+use Rattle.script_run.specs.Standing.{Kept, story_of, Stands, GoesOn, GoesOnFed, GoesOnGiven, LeavesAsMuch}
+use Rattle.script_run.proofs.Told.{has_calls, no_result, none_told, same_then, story_then, story_after}
 use Rattle.script_run.specs.Running.{kept_of, Stays, MovesAt, MovesByResults, MovesFed, MovesFedAtOnce, MovesGiven, IsAtRest}
 use Rattle.script_run.specs.Turns.{AreInTurn, MovesInTurn}
 use Rattle.script_run.proofs.DriverRunning.{given_then, in_turn_then}
 use Rattle.script_run.proofs.Served.{served_below}
 use Rattle.script_run.specs.declared.driver.runner.Runner.{Runner}
 use Rattle.script_run.specs.Driving.{said_by, joined, CutsCome, shown_to, IsHanded, AreHandedInTurn}
-use Rattle.script_run.specs.World.{Changes}
-use Rattle.script_run.specs.Stepping.{HasCalls, FedBy, FedInTurn, FedAtOnce, IsServedBelow, FedInCuts, FedAsPiece, CutsBy, TakesTurns, AreFit, AreAskedBy, IsHeard, LeavesBy, GoesOnSaid, Befalls, IsGivenAll, HandsOut, HandsSome}
+use Rattle.script_run.specs.World.{Changes, lost_now}
+use Rattle.script_run.specs.Stepping.{FedBy, FedInTurn, FedAtOnce, IsServedBelow, FedInCuts, FedAsPiece, CutsBy, TakesTurns, AreFit, AreAskedBy, IsHeard, LeavesBy, GoesOnSaid, Befalls, IsGivenAll, HandsOut, HandsSome}
 
 -- ---- bytes that a client says
 
@@ -46,7 +51,7 @@ after_it false xs bytes = sym (append-nil xs)
 
 -- a client said nothing
 fed_nothing : (client : ℕ) (a b : Runner) (s : ScriptServers) → Stays a s b s → MovesFed client [] a s b s
-fed_nothing client a b s stays opening tree log stands = record { more = []; stands = stays opening tree log stands; streams = λ c. same_twice (nat_eq client c) (stream_of log c); given = λ c. refl }
+fed_nothing client a b s stays opening tree log stands = (record { more = []; stands = stays opening tree log stands; streams = λ c. same_twice (nat_eq client c) (stream_of log c); given = λ c. refl }, refl)
 
 -- a client said these bytes, and no call had its result
 pub fed_by_none : (client : ℕ) (bytes : List ℕ) (a b : Runner) (s : ScriptServers) → MovesFed client bytes a s b s → FedBy client bytes a s b s
@@ -54,17 +59,11 @@ fed_by_none client bytes a b s m =
     record {
       results = [];
       given = refl;
-      goes = λ opening tree log stands. let g = m opening tree log stands in (g, none_more opening tree log (kept_of a s) (kept_of b s) stands refl g.more g.stands);
+      goes = λ opening tree log stands. let p = m opening tree log stands in (p.0, none_told s p.0.more log p.1);
     }
 
 pub nothing_fed : (client : ℕ) (a b : Runner) (s : ScriptServers) → Stays a s b s → FedBy client [] a s b s
 nothing_fed client a b s stays = fed_by_none client [] a b s (fed_nothing client a b s stays)
-
--- results that came later, before those that came first
-calls_joined : (later first : List CallResult) (more front log : List (Entry dialect)) → HasCalls later more (front ++ log) → HasCalls first front log → HasCalls (later ++ first) (more ++ front) log
-calls_joined later first more front log h g =
-    ap (λ es. calls_of (run_of es)) (append_assoc more front log) ∙ h ∙ ap (λ (cs : List NumberedCall). map call_of later ++ cs) g
-    ∙ sym (append_assoc (map call_of later) (map call_of first) (calls_of (run_of log))) ∙ ap (λ (cs : List NumberedCall). cs ++ calls_of (run_of log)) (sym (map-append call_of later first))
 
 -- a client said these bytes, and then those
 pub fed_more : (client : ℕ) (first second : List ℕ) (a b d : Runner) (s t u : ScriptServers) → FedBy client first a s b t → FedBy client second b t d u → FedBy client (first ++ second) a s d u
@@ -84,7 +83,7 @@ fed_more client first second a b d s t u m n =
               streams = λ c. ap (λ l. stream_of l c) joined ∙ h.streams c ∙ ap (λ xs. cond (nat_eq client c) (xs ++ second) xs) (g.streams c) ∙ one_then (nat_eq client c) (stream_of log c) first second;
               given = λ c. ap (λ l. given_of l c) joined ∙ h.given c ∙ g.given c;
             },
-            calls_joined n.results m.results h.more g.more log q.1 p.1,
+            story_then n.results m.results s t u h.more g.more log p.1 q.1,
           );
     }
 
@@ -99,7 +98,8 @@ fed_results client bytes a b d s t m n =
       results = n.0;
       given = n.1.given;
       goes = λ opening tree log stands.
-          let g = m opening tree log stands in
+          let p = m opening tree log stands in
+          let g = p.0 in
           let q = n.1.goes opening tree (g.more ++ log) g.stands in
           let h = q.goes in
           let joined = append_assoc h.more g.more log in (
@@ -109,7 +109,7 @@ fed_results client bytes a b d s t m n =
               streams = λ c. ap (λ l. stream_of l c) joined ∙ h.streams c ∙ g.streams c;
               given = λ c. ap (λ l. given_of l c) joined ∙ h.given c ∙ g.given c;
             },
-            ap (λ es. calls_of (run_of es)) joined ∙ q.calls ∙ ap (λ (cs : List NumberedCall). map call_of n.0 ++ cs) (none_more opening tree log (kept_of a s) (kept_of b s) stands refl g.more g.stands),
+            story_after n.0 s t h.more g.more log p.1 q.told,
           );
     }
 
@@ -128,7 +128,7 @@ turn_more client first second a b d s t u m n =
           let p = m.fed.goes opening tree log stands in
           let g = p.0 in
           let h = (n.fed.goes opening tree (g.more ++ log) g.stands).0 in
-          in_turn_then n.fed.results m.fed.results h.more g.more log p.1 (n.in_turn opening tree (g.more ++ log) g.stands) (m.in_turn opening tree log stands);
+          in_turn_then n.fed.results m.fed.results h.more g.more log (has_calls m.fed.results s t g.more log p.1) (n.in_turn opening tree (g.more ++ log) g.stands) (m.in_turn opening tree log stands);
     }
 
 turn_results : (client : ℕ) (bytes : List ℕ) (a b d : Runner) (s t : ScriptServers) → MovesFed client bytes a s b s → MovesInTurn b s d t → FedInTurn client bytes a s d t
@@ -137,17 +137,18 @@ turn_results client bytes a b d s t m n =
     record {
       fed = fed_results client bytes a b d s t m (n.results, n.moves);
       in_turn = λ opening tree log stands.
-          let g = m opening tree log stands in
+          let p = m opening tree log stands in
+          let g = p.0 in
           let h = (n.moves.goes opening tree (g.more ++ log) g.stands).goes in
           subst (λ (rs : List CallResult). AreInTurn rs (h.more ++ g.more) log) (append-nil n.results)
-          (in_turn_then n.results [] h.more g.more log (none_more opening tree log (kept_of a s) (kept_of b s) stands refl g.more g.stands) (n.in_turn opening tree (g.more ++ log) g.stands) tt);
+          (in_turn_then n.results [] h.more g.more log (no_result log (g.more ++ log) p.1) (n.in_turn opening tree (g.more ++ log) g.stands) tt);
     }
 
 -- ---- in which cuts bytes come
 
 -- bytes that came at once, without what is known of their entry
 pub fed_so : (client : ℕ) (bytes : List ℕ) (a b : Runner) (s : ScriptServers) → MovesFedAtOnce client bytes a s b s → MovesFed client bytes a s b s
-fed_so client bytes a b s m opening tree log stands = (m opening tree log stands).0
+fed_so client bytes a b s m opening tree log stands = let p = m opening tree log stands in (p.0, ap (λ (l : List (Entry dialect)). story_of (run_of (l ++ log))) p.1)
 
 -- bytes that came at once, and then results in their turn
 pub once_results : (client : ℕ) (bytes : List ℕ) (a b d : Runner) (s t : ScriptServers) → MovesFedAtOnce client bytes a s b s → MovesInTurn b s d t → FedAtOnce client bytes a s d t
@@ -232,7 +233,7 @@ add_said client bytes a b s m =
       fit = refl;
       asked = tt;
       goes = λ opening tree log stands.
-          let g = m opening tree log stands in (said (Add client bytes) client bytes (λ c. refl) opening tree log (kept_of b s) g tt, none_more opening tree log (kept_of a s) (kept_of b s) stands refl g.more g.stands);
+          let p = m opening tree log stands in (said (Add client bytes) client bytes (λ c. refl) opening tree log (kept_of b s) p.0 tt, none_told s p.0.more log p.1);
       turns = λ opening tree log stands. tt;
       cuts = λ opening tree log stands. tt;
     }
@@ -253,15 +254,16 @@ result_asked server a b s t m =
       given = m.2.given;
       fit = m.1.one;
       asked = m.1;
-      goes = λ opening tree log stands. let q = m.2.goes opening tree log stands in (quiet (Result server) (λ c. refl) opening tree log (kept_of b t) q.goes tt, q.calls);
+      goes = λ opening tree log stands. let q = m.2.goes opening tree log stands in (quiet (Result server) (λ c. refl) opening tree log (kept_of b t) q.goes tt, q.told);
       turns = λ opening tree log stands. tt;
       cuts = λ opening tree log stands. tt;
     }
 
--- each log goes on, and clients have as much to do as the event leaves them
+-- each log goes on, and clients have as much to do as the event leaves them; what befell the servers is what it loses
 abbrev MovesQuietly : Scripted → Runner → ScriptServers → ScriptServers → Type 0
 MovesQuietly event a s t =
-    (opening : ℕ → List ℕ → Option Item) (tree : ℕ → Route) (log : List (Entry dialect)) → Stands opening tree log (kept_of a s) → (g : GoesOn opening tree log (kept_of a t)) × LeavesBy event log (g.more ++ log)
+    (opening : ℕ → List ℕ → Option Item) (tree : ℕ → Route) (log : List (Entry dialect)) → Stands opening tree log (kept_of a s)
+    → (g : GoesOn opening tree log (kept_of a t)) × LeavesBy event log (g.more ++ log) × (story_of (run_of (g.more ++ log)) ≡ lost_now event ++ story_of (run_of log))
 
 -- none comes in no turn
 no_turns : (event : Scripted) (more log : List (Entry dialect)) → TakesTurns event [] more log
@@ -275,9 +277,9 @@ no_turns (Now loss) more log = tt
 no_turns (Moment moment) more log = tt
 
 -- an event that changes the servers, and for which no call has a result
-pub changed : (event : Scripted) → ((c : ℕ) → said_by event c ≡ []) → AreFit event [] → ((count : ℕ) (before after : List (Entry dialect)) → CutsBy event count before after) → (a : Runner) (s t : ScriptServers) → AreAskedBy event a s [] → turn_of t ≡ turn_of s → Changes event s t → MovesQuietly event a s t → Befalls event a s a t
+pub changed : (event : Scripted) → ((c : ℕ) → said_by event c ≡ []) → AreFit event [] → ((count : ℕ) (before after : List (Entry dialect)) → CutsBy event count before after) → (a : Runner) (s t : ScriptServers) → AreAskedBy event a s [] → Changes event s t → MovesQuietly event a s t → Befalls event a s a t
 unfolding quiet
-changed event says fit cuts a s t asked turn changes m =
+changed event says fit cuts a s t asked changes m =
     record {
       mid = t;
       changes = changes;
@@ -288,7 +290,7 @@ changed event says fit cuts a s t asked turn changes m =
       goes = λ opening tree log stands.
           let p = m opening tree log stands in
           let g = p.0 in
-          (quiet event says opening tree log (kept_of a t) g p.1, none_more opening tree log (kept_of a s) (kept_of a t) stands turn g.more g.stands);
+          (quiet event says opening tree log (kept_of a t) g p.1, (refl, p.2));
       turns = λ opening tree log stands. no_turns event (m opening tree log stands).0.more log;
       cuts = λ opening tree log stands. cuts a.clients log ((m opening tree log stands).0.more ++ log);
     }
@@ -326,22 +328,23 @@ leaves_same (At turn loss) log = record { front = λ c. refl; queue = λ c. refl
 leaves_same (Now loss) log = record { front = λ c. refl; queue = λ c. refl; output = λ c. refl; owner = λ n. refl }
 leaves_same (Moment moment) log = record { front = λ c. refl; queue = λ c. refl; output = λ c. refl; owner = λ n. refl }
 
-stays_as : (event : Scripted) (a : Runner) (s t : ScriptServers) → kept_of a t ≡ record (kept_of a s) { servers = t } → MovesQuietly event a s t
-stays_as event a s t same opening tree log stands = (
+stays_as : (event : Scripted) → lost_now event ≡ [] → (a : Runner) (s t : ScriptServers) → kept_of a t ≡ record (kept_of a s) { servers = t } → MovesQuietly event a s t
+stays_as event none a s t same opening tree log stands = (
   record { more = []; stands = subst (λ k. Stands opening tree log k) (sym same) (stands_as opening tree log (kept_of a s) t stands); streams = λ c. refl; given = λ c. refl },
   leaves_same event log,
+  ap (λ (l : List Past). l ++ story_of (run_of log)) (sym none),
 )
 
 -- nothing is put on servers any more
 pub held_before : (server : ℕ) (key content : List ℕ) (a : Runner) (s : ScriptServers) → Befalls (Hold server key content) a s a s
 held_before server key content a s =
-    changed (Hold server key content) (λ c. refl) refl (λ count before after. tt) a s s tt refl refl
-    (λ opening tree log stands. (record { more = []; stands = stands; streams = λ c. refl; given = λ c. refl }, leaves_same (Hold server key content) log))
+    changed (Hold server key content) (λ c. refl) refl (λ count before after. tt) a s s tt refl
+    (λ opening tree log stands. (record { more = []; stands = stands; streams = λ c. refl; given = λ c. refl }, leaves_same (Hold server key content) log, refl))
 
 -- a failure is named
 pub named : (turn : ℕ) (manner : Manner) (a : Runner) (s t : ScriptServers) → ((n : ℕ) → named_of t n ≡ cond (nat_eq (turn_of s + turn) n) (Some manner) (named_of s n)) → t ≡ record s { failures = t.failures } → Befalls (Fail turn manner) a s a t
 named turn manner a s t names rest =
-    changed (Fail turn manner) (λ c. refl) refl (λ count before after. tt) a s t tt (ap turn_of rest) (names, rest) (stays_as (Fail turn manner) a s t (ap (λ x. record (kept_of a x) { servers = t }) rest))
+    changed (Fail turn manner) (λ c. refl) refl (λ count before after. tt) a s t tt (names, rest) (stays_as (Fail turn manner) refl a s t (ap (λ x. record (kept_of a x) { servers = t }) rest))
 
 map_if : (b : Bool) (xs : List Loss) (loss : Loss) → map loss_of (cond b (xs ++ loss ∷ []) xs) ≡ cond b (map loss_of xs ++ loss_of loss ∷ []) (map loss_of xs)
 map_if true xs loss = map-append loss_of xs (loss ∷ [])
@@ -350,20 +353,25 @@ map_if false xs loss = refl
 -- a loss is named
 pub loss_named : (turn : ℕ) (loss : Loss) (a : Runner) (s t : ScriptServers) → ((n : ℕ) → lost_of t n ≡ cond (nat_eq (turn_of s + turn) n) (lost_of s n ++ loss ∷ []) (lost_of s n)) → t ≡ record s { losses = t.losses } → Befalls (At turn (loss_of loss)) a s a t
 loss_named turn loss a s t losses rest =
-    changed (At turn (loss_of loss)) (λ c. refl) refl (λ count before after. tt) a s t tt (ap turn_of rest) ((λ n. ap (map loss_of) (losses n) ∙ map_if (nat_eq (turn_of s + turn) n) (lost_of s n) loss), rest) (stays_as (At turn (loss_of loss)) a s t (ap (λ x. record (kept_of a x) { servers = t }) rest))
+    changed (At turn (loss_of loss)) (λ c. refl) refl (λ count before after. tt) a s t tt ((λ n. ap (map loss_of) (losses n) ∙ map_if (nat_eq (turn_of s + turn) n) (lost_of s n) loss), rest) (stays_as (At turn (loss_of loss)) refl a s t (ap (λ x. record (kept_of a x) { servers = t }) rest))
 
 -- the time changes
 pub timed : (moment : ℤ) (a : Runner) (s t : ScriptServers) → moment_of t ≡ moment → t ≡ record s { moment = t.moment } → Befalls (Moment moment) a s a t
-timed moment a s t now rest = changed (Moment moment) (λ c. refl) refl (λ count before after. tt) a s t tt (ap turn_of rest) (now, rest) (stays_as (Moment moment) a s t (ap (λ x. record (kept_of a x) { servers = t }) rest))
+timed moment a s t now rest = changed (Moment moment) (λ c. refl) refl (λ count before after. tt) a s t tt (now, rest) (stays_as (Moment moment) refl a s t (ap (λ x. record (kept_of a x) { servers = t }) rest))
+
+-- a loss is told as the script says it
+same_loss : (loss : Loss) → told_of loss ≡ loss_of loss
+same_loss (LostItem server key) = refl
+same_loss (Restart server) = refl
 
 -- something is lost
 pub lost :
     LossesGoOn → (a : Runner) (s t : ScriptServers) (loss : Loss) → caches_of t ≡ after_loss (losing.loss_of loss) (caches_of s)
     → ((i : ℕ) (key : List ℕ) → held_at (caches_of t) i key ≡ after_event (losing.loss_of loss) (held_at (caches_of s)) i key) → t ≡ record s { caches = t.caches } → Befalls (Now (loss_of loss)) a s a t
 lost law a s t loss caches held rest =
-    changed (Now (loss_of loss)) (λ c. refl) refl (λ count before after. tt) a s t tt (ap turn_of rest) ((loss, refl, caches), rest)
+    changed (Now (loss_of loss)) (λ c. refl) refl (λ count before after. tt) a s t tt ((loss, refl, caches), rest)
     (λ opening tree log stands.
-    law opening tree log loss (kept_of a s) (kept_of a t) stands (
+    let p = law opening tree log loss (kept_of a s) (kept_of a t) stands (
     record {
       core = refl;
       caches = caches;
@@ -373,7 +381,8 @@ lost law a s t loss caches held rest =
       found = λ n. refl;
       out = refl;
     }
-    ))
+    ) in
+    (p.0, p.1, p.2 ∙ ap (λ (l : Lost). lost_by l ∷ story_of (run_of log)) (same_loss loss)))
 
 -- ---- what is handed out
 
@@ -417,6 +426,7 @@ hands_nothing AreGiven none shown a s opening tree log stands =
       kept = λ c h. h;
       all = λ c h. absurd (none c h);
       longer = ([], sym (append-nil shown));
+      story = refl;
     }
 
 -- first this, then that
@@ -441,6 +451,7 @@ hands_then First Then All each x y z a b d m n s opening tree log stands =
       kept = λ c is. subst (λ l. IsGivenAll l c) (sym joined) (h.kept c (g.kept c is));
       all = λ c is. subst (λ l. IsGivenAll l c) (sym joined) (all c is);
       longer = (g.longer.0 ++ h.longer.0, h.longer.1 ∙ ap (λ l. l ++ h.longer.0) g.longer.1 ∙ append_assoc x g.longer.0 h.longer.0);
+      story = same_then h.more g.more log g.story h.story;
     }
 
 -- who was given all stays so where a client is given its output
@@ -465,6 +476,7 @@ given_nothing client bytes shown a b none m s opening tree log stands =
       kept = λ c is. kept_one client bytes opening tree log (kept_of b s) g c is;
       all = λ c same. subst (IsGivenAll (g.more ++ log)) same g.all;
       longer = ([], sym (append-nil shown));
+      story = g.story;
     }
 
 -- a client is given its output, which isn't empty: it is handed out
@@ -487,13 +499,14 @@ given_more client bytes before after a b more m s opening tree log stands =
       kept = λ c is. kept_one client bytes opening tree log (kept_of b s) g c is;
       all = λ c same. subst (IsGivenAll (g.more ++ log)) same g.all;
       longer = (one ∷ [], more);
+      story = g.story;
     }
 
 -- where all output is handed out, some of it is
 pub hands_some : (AreGiven : ℕ → Type 0) (before after : List Shown) (a b : Runner) → HandsOut AreGiven before after a b → HandsSome before after a
 hands_some AreGiven before after a b m s opening tree log stands =
     let g = m s opening tree log stands in
-    (b, record { more = g.more; stands = g.stands; streams = g.streams; given = g.given; order = g.order; left = g.left; kept = g.kept; all = λ c none. absurd none; longer = g.longer })
+    (b, record { more = g.more; stands = g.stands; streams = g.streams; given = g.given; order = g.order; left = g.left; kept = g.kept; all = λ c none. absurd none; longer = g.longer; story = g.story })
 
 pub one_more_shown : (xs ys : List Output) (client : ℕ) (o : Output) → ys ≡ xs ++ o ∷ [] → map shown_by ys ≡ map shown_by xs ++ shown_by o ∷ []
 one_more_shown xs ys client o is = ap (map shown_by) is ∙ map-append shown_by xs (o ∷ [])

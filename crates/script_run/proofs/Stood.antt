@@ -38,7 +38,7 @@ use Rattle.script_run.specs.Driving.{said_by, said_in, shown_to, handed, may_be_
 use Rattle.script_run.specs.Holding.{put_all_on}
 use Rattle.script_run.specs.Stepping.{Befalls, LeavesBy, IsHeard, RestsAfter, IsGivenAll, HandsOutAll, AddsRising, HasCome, HasStood, TakesUp, Loads}
 use Rattle.script_run.specs.World.{World}
-use Rattle.script_run.proofs.Counted.{none_more}
+use Rattle.script_run.proofs.Told.{no_result, has_calls_by}
 use Rattle.script_run.proofs.Direct.{fresh_if_direct}
 use Rattle.script_run.proofs.Messages.{each_written}
 use Rattle.script_run.proofs.Replied.{replied_unbroken}
@@ -472,8 +472,8 @@ module _ (first : Route) (refused : List Bool) (reloads : List Reload) (events :
               after = now;
               more = o.more ++ g.more;
               goes = sym (append_assoc o.more g.more log);
-              brings = brought_still event log (g.more ++ log) o.more (none_more opening tree (g.more ++ log) (kept_of b t) (kept_of d t) g.stands refl o.more o.stands)
-                  (brought event m.results a s opening tree g.more log h.come.stands m.fit m.asked (m.goes opening tree log h.come.stands).1 (m.turns opening tree log h.come.stands));
+              brings = brought_still event log (g.more ++ log) o.more (no_result (g.more ++ log) (o.more ++ (g.more ++ log)) o.story)
+                  (brought event m.results a s opening tree g.more log h.come.stands m.fit m.asked (has_calls_by event m.results m.mid t g.more log (m.goes opening tree log h.come.stands).1) (m.turns opening tree log h.come.stands));
               comes = comes_so event (done ++ event ∷ []) b.clients log (g.more ++ log) o.more unheard (m.cuts opening tree log h.come.stands);
             });
         settled = settled;

@@ -1,20 +1,23 @@
 -- The world of a log goes on by events and by results, and which results an event brings.
 use Rattle.std.proofs.Common.{◌≡◌, ℕ, List, [], ◌∷◌, ◌++◌, map, Option, refl, sym, ap, ◌∙◌, subst, append_assoc}
-use Rattle.std.proofs.lemmas.List.{map-append}
 use Rattle.mc_types.specs.Items.{Item}
+use Rattle.fresh_runs.specs.Sharing.{Event, held}
 use Rattle.fresh_runs.specs.Overlap.{Entry, Ticket, run_of, out_of}
 use Rattle.route_tree.specs.Route.{Route}
 use Rattle.core_proxy.specs.CoreState.{dialect}
+use Rattle.script_events.specs.Caches.{held_at}
+use Rattle.script_events.specs.Opening.{opening_of}
+use Rattle.script_events.specs.Servers.{caches_of}
 use Rattle.script_events.specs.Scripted.{Scripted, Piece, Add, Result, Fail, Hold, At, Now, Moment}
 use Rattle.script_events.specs.declared.servers.servers.ScriptServers.{ScriptServers}
-use Rattle.script_run.specs.Results.{CallResult, AreOfFirst, NumberedCall, AreGiven, call_of, calls_of}
-use Rattle.script_run.specs.Standing.{Stands}
+use Rattle.script_run.specs.Results.{CallResult, AreOfFirst, AreTold, call_of, calls_of}
+use Rattle.script_run.specs.Standing.{Stands, story_of, HasSameStory}
 use Rattle.script_run.specs.Running.{kept_of, AreOfOne}
 use Rattle.script_run.specs.declared.driver.runner.Runner.{Runner}
 use Rattle.script_run.specs.Driving.{HasNoResult, FirstHasResult, BringsResults, BringsSome}
-use Rattle.script_run.specs.World.{Deed, Takes, Ends, Gives, Changes, LeadTo, AreMany, IsAwaited, AreInTurn, World, script_of, results_of}
+use Rattle.script_run.specs.World.{Deed, Takes, Ends, Gives, Changes, lost_now, LeadTo, AreMany, IsAwaited, AreInTurn, World, script_of}
 use Rattle.script_run.proofs.DriverRunning.{in_turn_on}
-use Rattle.script_run.specs.Stepping.{HasCalls, AreFit, AreAskedBy, TakesTurns}
+use Rattle.script_run.specs.Stepping.{HasCalls, HasStory, HasStoryBy, AreFit, AreAskedBy, TakesTurns}
 
 -- results after deeds, the latest first
 abbrev then_given : List CallResult → List Deed → List Deed
@@ -25,13 +28,17 @@ script_same : (rs : List CallResult) (deeds : List Deed) → script_of (then_giv
 script_same [] deeds = refl
 script_same (r ∷ rs) deeds = script_same rs deeds
 
-results_more : (rs : List CallResult) (deeds : List Deed) → results_of (then_given rs deeds) ≡ rs ++ results_of deeds
-results_more [] deeds = refl
-results_more (r ∷ rs) deeds = ap (λ (l : List CallResult). r ∷ l) (results_more rs deeds)
+led_on : (events : List Scripted) (rs : List CallResult) (deeds : List Deed) (earlier story : List Event) (old new : ScriptServers) → LeadTo events deeds earlier old → AreTold rs old new earlier story → LeadTo events (then_given rs deeds) story new
+led_on events [] deeds earlier story old new lead told = subst (λ (l : List Event). LeadTo events deeds l new) (sym told.1) (subst (LeadTo events deeds earlier) (sym told.0) lead)
+led_on events (r ∷ rs) deeds earlier story old new lead told = (told.0, told.1, led_on events rs deeds earlier told.1 old told.0 lead told.2, told.3, told.4, told.5)
 
-led_on : (events : List Scripted) (rs : List CallResult) (deeds : List Deed) (old new : ScriptServers) → LeadTo events deeds old → AreGiven rs old new → LeadTo events (then_given rs deeds) new
-led_on events [] deeds old new lead given = subst (LeadTo events deeds) (sym given) lead
-led_on events (r ∷ rs) deeds old new lead given = (given.0, led_on events rs deeds old given.0 lead given.1, given.2, given.3)
+-- what servers hold
+abbrev pub AreHeld : List Scripted → List (Entry dialect) → ScriptServers → Type 0
+AreHeld events log servers = (s : ℕ) (key : List ℕ) → held (opening_of events) (run_of log) s key ≡ held_at (caches_of servers) s key
+
+-- servers hold what the run of a log that stands leaves on them
+pub held_so : (events : List Scripted) (tree : ℕ → Route) (log : List (Entry dialect)) (a : Runner) (servers : ScriptServers) → Stands (opening_of events) tree log (kept_of a servers) → AreHeld events log servers
+held_so events tree log a servers stands s key = sym (stands.leads.holds s key) ∙ stands.holds s key
 
 -- after deeds of this kind come as many results as there are
 record AreOpen (deeds : List Deed) : Type 0 where
@@ -66,38 +73,35 @@ turns_fit (At turn loss) rs deeds fit turns = subst (λ (l : List CallResult). A
 turns_fit (Now loss) rs deeds fit turns = subst (λ (l : List CallResult). AreInTurn (then_given l (Takes (Now loss) ∷ deeds))) (sym fit) turns
 turns_fit (Moment moment) rs deeds fit turns = subst (λ (l : List CallResult). AreInTurn (then_given l (Takes (Moment moment) ∷ deeds))) (sym fit) turns
 
-calls_then : (rs : List CallResult) (deeds : List Deed) (more log : List (Entry dialect)) → map call_of (results_of deeds) ≡ calls_of (run_of log) → HasCalls rs more log → map call_of (results_of (then_given rs deeds)) ≡ calls_of (run_of (more ++ log))
-calls_then rs deeds more log same has =
-    ap (map call_of) (results_more rs deeds) ∙ map-append call_of rs (results_of deeds) ∙ ap (λ (cs : List NumberedCall). map call_of rs ++ cs) same ∙ sym has
-
 module _ (events done : List Scripted) (log more : List (Entry dialect)) where
   -- the next event, and its results
   pub world_next :
-      (event : Scripted) (rs : List CallResult) (old mid new : ScriptServers) → World events done log old → Changes event old mid → AreGiven rs mid new → AreFit event rs → HasCalls rs more log
+      (event : Scripted) (rs : List CallResult) (old mid new : ScriptServers) → World events done log old → Changes event old mid → AreFit event rs → HasStoryBy event rs mid new more log → AreHeld events (more ++ log) new
       → World events (done ++ event ∷ []) (more ++ log) new
-  world_next event rs old mid new w changes given fit has =
+  world_next event rs old mid new w changes fit told held =
       record {
         deeds = then_given rs (Takes event ∷ w.deeds);
         script_is = script_same rs (Takes event ∷ w.deeds) ∙ ap (λ (l : List Scripted). l ++ event ∷ []) w.script_is;
-        lead = led_on events rs (Takes event ∷ w.deeds) mid new (old, w.lead, changes) given;
+        lead = led_on events rs (Takes event ∷ w.deeds) (lost_now event ++ story_of (run_of log)) (story_of (run_of (more ++ log))) mid new (old, story_of (run_of log), w.lead, changes, refl) told;
         in_turn = turns_fit event rs w.deeds fit w.in_turn;
-        calls = calls_then rs (Takes event ∷ w.deeds) more log w.calls has;
+        holds = held;
       }
 
   -- the script's end, and the results of what is still out
-  pub world_ended : (rs : List CallResult) (old new : ScriptServers) → World events done log old → AreGiven rs old new → HasCalls rs more log → World events done (more ++ log) new
-  world_ended rs old new w given has =
+  pub world_ended : (rs : List CallResult) (old new : ScriptServers) → World events done log old → HasStory rs old new more log → AreHeld events (more ++ log) new → World events done (more ++ log) new
+  world_ended rs old new w told held =
       record {
         deeds = then_given rs (Ends ∷ w.deeds);
         script_is = script_same rs (Ends ∷ w.deeds) ∙ w.script_is;
-        lead = led_on events rs (Ends ∷ w.deeds) old new w.lead given;
+        lead = led_on events rs (Ends ∷ w.deeds) (story_of (run_of log)) (story_of (run_of (more ++ log))) old new w.lead told;
         in_turn = turns_on rs (Ends ∷ w.deeds) (record { many = tt; awaited = λ r. tt }) w.in_turn;
-        calls = calls_then rs (Ends ∷ w.deeds) more log w.calls has;
+        holds = held;
       }
 
-  -- the world stays where no call had its result
-  pub world_stays : (servers : ScriptServers) → World events done log servers → calls_of (run_of (more ++ log)) ≡ calls_of (run_of log) → World events done (more ++ log) servers
-  world_stays servers w same = record { deeds = w.deeds; script_is = w.script_is; lead = w.lead; in_turn = w.in_turn; calls = w.calls ∙ sym same }
+  -- the world stays where nothing befell the servers
+  pub world_stays : (servers : ScriptServers) → World events done log servers → HasSameStory log (more ++ log) → AreHeld events (more ++ log) servers → World events done (more ++ log) servers
+  world_stays servers w same held =
+      record { deeds = w.deeds; script_is = w.script_is; lead = subst (λ (l : List Event). LeadTo events w.deeds l servers) (sym same) w.lead; in_turn = w.in_turn; holds = held }
 
 -- ---- which results an event brings
 

@@ -9,7 +9,9 @@ use Rattle.fresh_runs.specs.Overlap as entry
 use Rattle.fresh_runs.specs.Sharing.{LosesOnly, commands_in, calls_in, IsFreshByNumber}
 use Rattle.fresh_runs.specs.SharingStale.{stale_in}
 use Rattle.fresh_runs.specs.Cover.{IsCovered}
+use Rattle.fresh_runs.specs.ScriptLog.{lost_by}
 use Rattle.script_events.specs.Found.{stamp_at, stamp_given}
+use Rattle.script_events.specs.Losing.{told_of}
 use Rattle.script_events.specs.Caches.{loss_of, after_loss}
 use Rattle.script_events.specs.declared.servers.event.Loss.{Loss}
 use Rattle.script_events.specs.declared.servers.event.Made.{Made}
@@ -29,8 +31,8 @@ use Rattle.core_proxy.specs.declared.note.Note.{Note}
 use Rattle.core_proxy.specs.declared.note.Poll.{Poll}
 use Rattle.core_proxy.specs.declared.note.Poll.TheVariants as polls
 use Rattle.script_events.specs.Caches.{held_at}
-use Rattle.script_run.specs.Results.{GoesOnBy}
-use Rattle.script_run.specs.Standing.{Kept, replied_in, broken_in, tree_by, calls_at, Stands, GoesOn, GoesOnFed, GoesOnGiven, LeavesAsMuch, CountsAsMany, HasServers, FoundAsMuch, IsBesides}
+use Rattle.script_run.specs.Results.{IsTold}
+use Rattle.script_run.specs.Standing.{Kept, story_of, HasSameStory, replied_in, broken_in, tree_by, calls_at, Stands, GoesOn, GoesOnFed, GoesOnGiven, LeavesAsMuch, CountsAsMany, HasServers, FoundAsMuch, IsBesides}
 
 -- ---- polls
 
@@ -75,7 +77,8 @@ CountsPoll polls.Busy old new = IsBesides old new
 abbrev pub PollsGoOn : Type 0
 PollsGoOn =
     (opening : ℕ → List ℕ → Option Item) (tree : ℕ → Route) (log : List (Entry dialect)) (client : ℕ) (poll : Poll) (old new : Kept)
-    → Stands opening tree log old → Polls old.core client poll new.core → CountsPoll poll old new → GoesOn opening tree log new
+    → Stands opening tree log old → Polls old.core client poll new.core → CountsPoll poll old new
+    → (g : GoesOn opening tree log new) × HasSameStory log (g.more ++ log)
 
 -- ---- results
 
@@ -96,7 +99,8 @@ abbrev pub ResultsGoOn : Type 0
 ResultsGoOn =
     (opening : ℕ → List ℕ → Option Item) (tree : ℕ → Route) (log : List (Entry dialect)) (number server : ℕ) (ask : Ask) (origin : Origin) (made : Made) (before after : ScriptServers) (old new : Kept)
     → Stands opening tree log old → HasResult number server ask origin made before after old new
-    → GoesOnBy opening tree log (record { number = number; server = server; ask = ask; origin = origin; stamp = stamp_given (old.stamps number) number origin; made = made } ∷ []) new
+    → (g : GoesOn opening tree log new)
+    × IsTold (record { number = number; server = server; ask = ask; origin = origin; stamp = stamp_given (old.stamps number) number origin; made = made }) before (story_of (run_of log)) (story_of (run_of (g.more ++ log)))
 
 -- something is lost: of what servers held, nothing else goes
 pub record IsLost (loss : Loss) (old new : Kept) : Type 0 where
@@ -111,7 +115,7 @@ pub record IsLost (loss : Loss) (old new : Kept) : Type 0 where
 abbrev pub LossesGoOn : Type 0
 LossesGoOn =
     (opening : ℕ → List ℕ → Option Item) (tree : ℕ → Route) (log : List (Entry dialect)) (loss : Loss) (old new : Kept) → Stands opening tree log old → IsLost loss old new
-    → (g : GoesOn opening tree log new) × LeavesAsMuch log (g.more ++ log)
+    → (g : GoesOn opening tree log new) × LeavesAsMuch log (g.more ++ log) × (story_of (run_of (g.more ++ log)) ≡ lost_by (told_of loss) ∷ story_of (run_of log))
 
 -- ---- clients
 

@@ -1,17 +1,20 @@
 -- The results of calls: as the servers of a script gave them, and as a run has them. Source: mcgate's own.
-use Rattle.std.specs.Prelude.{◌≡◌, ℕ, List, [], ◌∷◌, ◌++◌, map, Option}
+use Rattle.std.specs.Prelude.{◌≡◌, ℕ, ◌+◌, List, [], ◌∷◌, ◌++◌, Option}
 use Rattle.mc_types.specs.declared.ask.Ask.{Ask}
 use Rattle.mc_types.specs.declared.call.Origin.{Origin}
 use Rattle.mc_types.specs.Items.{Item}
-use Rattle.fresh_runs.specs.Run.{Call, outcome_of}
+use Rattle.fresh_runs.specs.Run.{Call, End, outcome_of}
 use Rattle.fresh_runs.specs.Sharing.{Event, Begins, Calls, Replies, Breaks, Turns, Restarts}
 use Rattle.fresh_runs.specs.Overlap.{Entry, Ticket as LogTicket, run_of}
 use Rattle.script_events.specs.declared.servers.event.Made.{Made}
-use Rattle.script_events.specs.Servers.{Answers}
+use Rattle.script_events.specs.Losing.{events_of}
+use Rattle.script_events.specs.Calling.{EndsAs}
+use Rattle.script_events.specs.Law.{spills_of, caches_before, AreSpilled}
+use Rattle.script_events.specs.Servers.{turn_of, moment_of, named_of, lost_of, Answers}
 use Rattle.script_events.specs.declared.servers.servers.ScriptServers.{ScriptServers}
 use Rattle.route_tree.specs.Route.{Route}
 use Rattle.core_proxy.specs.CoreState.{dialect}
-use Rattle.script_run.specs.Standing.{Kept, GoesOn}
+use Rattle.script_run.specs.Standing.{Kept, GoesOn, story_of}
 
 -- a call of a command, with the stamp of what it stores, and what came of it
 pub record CallResult : Type 0 where
@@ -51,13 +54,28 @@ calls_of (Breaks number ∷ past) = calls_of past
 calls_of (Turns server key turned ∷ past) = calls_of past
 calls_of (Restarts server ∷ past) = calls_of past
 
+-- what a result adds to the servers' story: its call ended as it was named, just after the losses that were named for it; and before those its server dropped by itself what had expired and what the call pushes out
+pub record IsTold (r : CallResult) (before : ScriptServers) (earlier story : List Event) : Type 0 where
+  pub end : End
+  pub as_named : EndsAs r.ask (named_of before (turn_of before + 1)) end
+  pub outcome_is : r.made.outcome ≡ outcome_of end
+  pub spilled : List (List ℕ)
+  pub are_spilled : AreSpilled (moment_of before) (caches_before before) r.server r.ask end spilled
+  pub story_is : story ≡ Calls r.number r.server r.ask r.origin end ∷ (events_of (lost_of before (turn_of before + 1)) ++ (spills_of r.server spilled ++ earlier))
+
 -- the servers gave these results, the latest first, one after another: each by its server's table at the moment, after the losses named for it, and in the manner named for it; what is named stays
 abbrev pub AreGiven : List CallResult → ScriptServers → ScriptServers → Type 0
 AreGiven [] old new = new ≡ old
 AreGiven (r ∷ rs) old new =
     (mid : ScriptServers) × AreGiven rs old mid × Answers r.stamp mid r.server r.ask r.made new × (new ≡ record mid { caches = new.caches; turn = new.turn })
 
--- the log goes on, and leads there; the calls that had their results are these, and then those of before
-pub record GoesOnBy (opening : ℕ → List ℕ → Option Item) (tree : ℕ → Route) (log : List (Entry dialect)) (results : List CallResult) (k : Kept) : Type 0 where
+-- the servers gave these results, the latest first, and their story tells of them, and of nothing else
+abbrev pub AreTold : List CallResult → ScriptServers → ScriptServers → List Event → List Event → Type 0
+AreTold [] old new earlier story = (new ≡ old) × (story ≡ earlier)
+AreTold (r ∷ rs) old new earlier story =
+    (mid : ScriptServers) × (between : List Event) × AreTold rs old mid earlier between × Answers r.stamp mid r.server r.ask r.made new × (new ≡ record mid { caches = new.caches; turn = new.turn }) × IsTold r mid between story
+
+-- the log goes on, and leads there; what befell the servers are these results
+pub record GoesOnBy (opening : ℕ → List ℕ → Option Item) (tree : ℕ → Route) (log : List (Entry dialect)) (before : ScriptServers) (results : List CallResult) (k : Kept) : Type 0 where
   pub goes : GoesOn opening tree log k
-  pub calls : calls_of (run_of (goes.more ++ log)) ≡ map call_of results ++ calls_of (run_of log)
+  pub told : AreTold results before k.servers (story_of (run_of log)) (story_of (run_of (goes.more ++ log)))

@@ -1,5 +1,5 @@
 -- What a runner and its servers keep, and what its calls make of the log. Source: mcgate's own.
-use Rattle.std.specs.Prelude.{◌≡◌, ◌⊎◌, ℕ, ◌<◌, List, [], ◌∷◌, Option}
+use Rattle.std.specs.Prelude.{◌≡◌, ◌⊎◌, ℕ, ◌<◌, List, [], ◌∷◌, ◌++◌, Option}
 use Rattle.mc_types.specs.Items.{Item}
 use Rattle.fresh_runs.specs.Overlap.{Entry, Feeds, out_of}
 use Rattle.route_tree.specs.Route.{Route}
@@ -9,7 +9,7 @@ use Rattle.core_proxy.specs.Polls.{ForClient, IsDone, IsStalled}
 use Rattle.core_proxy.specs.declared.proxy.Core.{Core}
 use Rattle.script_events.specs.Servers.{caches_of, turn_of}
 use Rattle.script_events.specs.declared.servers.servers.ScriptServers.{ScriptServers}
-use Rattle.script_run.specs.Standing.{Kept, Stands, GoesOn, GoesOnFed, GoesOnGiven, tree_by}
+use Rattle.script_run.specs.Standing.{Kept, HasSameStory, Stands, GoesOn, GoesOnFed, GoesOnGiven, tree_by}
 use Rattle.script_run.specs.Results.{CallResult, AreOfFirst, AreGiven, GoesOnBy}
 use Rattle.script_run.specs.Counting.{last_of}
 use Rattle.script_run.specs.Finding.{found_of}
@@ -30,10 +30,10 @@ kept_of runner servers =
       last = last_of runner.counts;
     }
 
--- each log that stood before goes on, and stands after
+-- each log that stood before goes on, and stands after; nothing befell the servers
 abbrev pub Moves : Runner → ScriptServers → Runner → ScriptServers → Type 0
 Moves old before new after =
-    (opening : ℕ → List ℕ → Option Item) (tree : ℕ → Route) (log : List (Entry dialect)) → Stands opening tree log (kept_of old before) → GoesOn opening tree log (kept_of new after)
+    (opening : ℕ → List ℕ → Option Item) (tree : ℕ → Route) (log : List (Entry dialect)) → Stands opening tree log (kept_of old before) → (g : GoesOn opening tree log (kept_of new after)) × HasSameStory log (g.more ++ log)
 
 -- each log that stood before stands after
 abbrev pub Stays : Runner → ScriptServers → Runner → ScriptServers → Type 0
@@ -43,7 +43,7 @@ Stays old before new after =
 -- the servers gave these results, the latest first, and each log that stood before goes on by them, and stands after
 pub record MovesBy (results : List CallResult) (old : Runner) (before : ScriptServers) (new : Runner) (after : ScriptServers) : Type 0 where
   pub given : AreGiven results before after
-  pub goes : (opening : ℕ → List ℕ → Option Item) (tree : ℕ → Route) (log : List (Entry dialect)) → Stands opening tree log (kept_of old before) → GoesOnBy opening tree log results (kept_of new after)
+  pub goes : (opening : ℕ → List ℕ → Option Item) (tree : ℕ → Route) (log : List (Entry dialect)) → Stands opening tree log (kept_of old before) → GoesOnBy opening tree log before results (kept_of new after)
 
 -- the servers gave some results, and each log that stood before goes on by them, and stands after
 abbrev pub MovesByResults : Runner → ScriptServers → Runner → ScriptServers → Type 0
@@ -72,10 +72,10 @@ MovesByOne server old before new after = (r : CallResult) × AreAsked server old
 abbrev pub MovesAt : ℕ → Runner → ScriptServers → Runner → ScriptServers → Type 0
 MovesAt server old before new after = (results : List CallResult) × AreAsked server old before results × MovesBy results old before new after
 
--- each log that stood before goes on, where a client said these bytes
+-- each log that stood before goes on, where a client said these bytes; nothing befell the servers
 abbrev pub MovesFed : ℕ → List ℕ → Runner → ScriptServers → Runner → ScriptServers → Type 0
 MovesFed client bytes old before new after =
-    (opening : ℕ → List ℕ → Option Item) (tree : ℕ → Route) (log : List (Entry dialect)) → Stands opening tree log (kept_of old before) → GoesOnFed opening tree log client bytes (kept_of new after)
+    (opening : ℕ → List ℕ → Option Item) (tree : ℕ → Route) (log : List (Entry dialect)) → Stands opening tree log (kept_of old before) → (g : GoesOnFed opening tree log client bytes (kept_of new after)) × HasSameStory log (g.more ++ log)
 
 -- each log that stood before goes on by these bytes of a client, which come at once
 abbrev pub MovesFedAtOnce : ℕ → List ℕ → Runner → ScriptServers → Runner → ScriptServers → Type 0

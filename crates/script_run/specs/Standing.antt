@@ -51,6 +51,20 @@ broken_in (Replies number key reply from ∷ past) = broken_in past
 broken_in (Turns server key turned ∷ past) = broken_in past
 broken_in (Restarts server ∷ past) = broken_in past
 
+-- the servers' story in a run: the calls that had their results, as they ended, and what was lost
+abbrev pub story_of : List Event → List Event
+story_of [] = []
+story_of (Calls number server ask origin end ∷ past) = Calls number server ask origin end ∷ story_of past
+story_of (Turns server key turned ∷ past) = Turns server key turned ∷ story_of past
+story_of (Restarts server ∷ past) = Restarts server ∷ story_of past
+story_of (Begins number ask ∷ past) = story_of past
+story_of (Replies number key reply from ∷ past) = story_of past
+story_of (Breaks number ∷ past) = story_of past
+
+-- between two parts of a log nothing befell the servers
+abbrev pub HasSameStory : List (Entry dialect) → List (Entry dialect) → Type 0
+HasSameStory before after = story_of (run_of after) ≡ story_of (run_of before)
+
 -- the tree of a command, by its number: the first one, or that which was loaded last before it began; of each that was loaded it is known how many commands had begun. The latest comes first
 abbrev pub tree_by : Route → List (ℕ × Route) → ℕ → Route
 tree_by first [] n = first
@@ -111,6 +125,7 @@ pub record GoesOnGiven (opening : ℕ → List ℕ → Option Item) (tree : ℕ 
   pub streams : (c : ℕ) → stream_of (more ++ log) c ≡ stream_of log c
   pub given : (c : ℕ) → given_of (more ++ log) c ≡ (if nat_eq client c then given_of log c ++ bytes else given_of log c)
   pub all : given_of (more ++ log) client ≡ output_of (more ++ log) client
+  pub story : HasSameStory log (more ++ log)
   pub left : LeavesAsMuch log (more ++ log)
 
 -- all is kept as it was but the core, the servers, which calls are out and what calls found

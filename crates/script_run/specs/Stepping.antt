@@ -12,15 +12,15 @@ use Rattle.script_events.specs.declared.script.Reload.{Reload}
 use Rattle.script_events.specs.Scripted.{Scripted, Piece, Add, Result, Fail, Hold, At, Now, Moment}
 use Rattle.script_events.specs.Opening.{opening_of}
 use Rattle.script_events.specs.declared.servers.servers.ScriptServers.{ScriptServers}
-use Rattle.script_run.specs.Results.{CallResult, AreGiven, call_of, calls_of}
-use Rattle.script_run.specs.Standing.{Kept, Stands, GoesOnFed, LeavesAsMuch, tree_by}
+use Rattle.script_run.specs.Results.{CallResult, AreGiven, AreTold, call_of, calls_of}
+use Rattle.script_run.specs.Standing.{Kept, story_of, HasSameStory, Stands, GoesOnFed, LeavesAsMuch, tree_by}
 use Rattle.script_events.specs.declared.servers.event.FleetFault.{FleetFault}
 use Rattle.script_events.specs.declared.servers.event.FleetFault.TheVariants.{Spent}
 use Rattle.script_run.specs.Breaking.{AreSpent, IsWithinOne}
 use Rattle.script_run.specs.Turns.{AreInTurn}
 use Rattle.script_run.specs.Running.{kept_of, IsLoadedBy, AreOfOne, AreAsked, AreStalled, KeepStalled, IsAtRest}
 use Rattle.script_run.specs.declared.driver.runner.Runner.{Runner}
-use Rattle.script_run.specs.World.{Changes, World}
+use Rattle.script_run.specs.World.{Changes, lost_now, World}
 use Rattle.script_run.specs.Driving.{said_by, said_in, shown_to, joined, AreCuts, IsServedFor, CutsCome, AreHandedInTurn, AreRising, AreOutputs, HaveAllOutput, trees_loaded, loaded_trees, CameInTurn, leaves_out, IsSettled, AreThrough, AreSteps, AreMarked, StepsPart, AreSpentIn}
 
 -- an event that asks clients nothing leaves as much to do as there was
@@ -46,11 +46,19 @@ pub record GoesOnSaid (opening : ℕ → List ℕ → Option Item) (tree : ℕ �
 abbrev pub HasCalls : List CallResult → List (Entry dialect) → List (Entry dialect) → Type 0
 HasCalls results more log = calls_of (run_of (more ++ log)) ≡ map call_of results ++ calls_of (run_of log)
 
+-- what befell the servers are these results
+abbrev pub HasStory : List CallResult → ScriptServers → ScriptServers → List (Entry dialect) → List (Entry dialect) → Type 0
+HasStory results before after more log = AreTold results before after (story_of (run_of log)) (story_of (run_of (more ++ log)))
+
+-- what befell the servers is what the event loses, and then these results
+abbrev pub HasStoryBy : Scripted → List CallResult → ScriptServers → ScriptServers → List (Entry dialect) → List (Entry dialect) → Type 0
+HasStoryBy event results before after more log = AreTold results before after (lost_now event ++ story_of (run_of log)) (story_of (run_of (more ++ log)))
+
 -- a client said these bytes, and the servers gave some results: each log that stood before goes on so
 pub record FedBy (client : ℕ) (bytes : List ℕ) (old : Runner) (before : ScriptServers) (new : Runner) (after : ScriptServers) : Type 0 where
   pub results : List CallResult
   pub given : AreGiven results before after
-  pub goes : (opening : ℕ → List ℕ → Option Item) (tree : ℕ → Route) (log : List (Entry dialect)) → Stands opening tree log (kept_of old before) → (g : GoesOnFed opening tree log client bytes (kept_of new after)) × HasCalls results g.more log
+  pub goes : (opening : ℕ → List ℕ → Option Item) (tree : ℕ → Route) (log : List (Entry dialect)) → Stands opening tree log (kept_of old before) → (g : GoesOnFed opening tree log client bytes (kept_of new after)) × HasStory results before after g.more log
 
 -- a client said these bytes, and the servers gave some results, which come in their turn
 pub record FedInTurn (client : ℕ) (bytes : List ℕ) (old : Runner) (before : ScriptServers) (new : Runner) (after : ScriptServers) : Type 0 where
@@ -142,7 +150,7 @@ pub record Befalls (event : Scripted) (old : Runner) (before : ScriptServers) (n
   pub given : AreGiven results mid after
   pub fit : AreFit event results
   pub asked : AreAskedBy event old before results
-  pub goes : (opening : ℕ → List ℕ → Option Item) (tree : ℕ → Route) (log : List (Entry dialect)) → Stands opening tree log (kept_of old before) → (g : GoesOnSaid opening tree log event (kept_of new after)) × HasCalls results g.more log
+  pub goes : (opening : ℕ → List ℕ → Option Item) (tree : ℕ → Route) (log : List (Entry dialect)) → Stands opening tree log (kept_of old before) → (g : GoesOnSaid opening tree log event (kept_of new after)) × HasStoryBy event results mid after g.more log
   pub turns : (opening : ℕ → List ℕ → Option Item) (tree : ℕ → Route) (log : List (Entry dialect)) (stands : Stands opening tree log (kept_of old before)) → TakesTurns event results (goes opening tree log stands).0.more log
   pub cuts : (opening : ℕ → List ℕ → Option Item) (tree : ℕ → Route) (log : List (Entry dialect)) (stands : Stands opening tree log (kept_of old before)) → CutsBy event new.clients log ((goes opening tree log stands).0.more ++ log)
 
@@ -173,10 +181,10 @@ pub record BreaksOff (event : Scripted) (old : Runner) (before : ScriptServers) 
   pub at : ScriptServers
   pub results : List CallResult
   pub given : AreGiven results before at
-  pub come : (results ≡ []) ⊎ Changes event before before
+  pub come : (results ≡ []) ⊎ (Changes event before before × (lost_now event ≡ []))
   pub fit : AreFit event results
   pub asked : (results ≡ []) ⊎ AreAskedBy event old before results
-  pub goes : (opening : ℕ → List ℕ → Option Item) (tree : ℕ → Route) (log : List (Entry dialect)) → Stands opening tree log (kept_of old before) → (g : GoesOnInPart opening tree log event (kept_of mid at)) × HasCalls results g.more log
+  pub goes : (opening : ℕ → List ℕ → Option Item) (tree : ℕ → Route) (log : List (Entry dialect)) → Stands opening tree log (kept_of old before) → (g : GoesOnInPart opening tree log event (kept_of mid at)) × HasStory results before at g.more log
   pub within : IsWithinOne at after
   pub spent : AreSpent fault mid.core at
 
@@ -210,6 +218,7 @@ pub record GoesOnShown (AreGiven : ℕ → Type 0) (opening : ℕ → List ℕ �
   pub kept : (c : ℕ) → IsGivenAll log c → IsGivenAll (more ++ log) c
   pub all : (c : ℕ) → AreGiven c → IsGivenAll (more ++ log) c
   pub longer : (rest : List Shown) × (after ≡ before ++ rest)
+  pub story : HasSameStory log (more ++ log)
 
 -- each log that stood before goes on so
 abbrev pub HandsOut : (ℕ → Type 0) → List Shown → List Shown → Runner → Runner → Type 0

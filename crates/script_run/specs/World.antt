@@ -1,15 +1,19 @@
 -- What a script's events and the results of calls make of the servers, one after another. Source: mcgate's own.
 use Rattle.std.specs.Prelude.{◌≡◌, ℕ, ◌+◌, pos, List, [], ◌∷◌, ◌++◌, map, Some, None, slice_get, if◌then◌else◌, nat_eq}
 use Rattle.fresh_runs.specs.Overlap.{Entry, run_of}
+use Rattle.fresh_runs.specs.ScriptLog.{lost_by}
+use Rattle.fresh_runs.specs.Sharing.{Event, held}
 use Rattle.cache_server.specs.Contents.{Contents}
 use Rattle.script_events.specs.Caches as losing
+use Rattle.script_events.specs.Caches.{held_at}
 use Rattle.script_events.specs.declared.servers.event.Loss.{Loss}
 use Rattle.script_events.specs.Servers.{caches_of, turn_of, moment_of, named_of, lost_of, Answers}
 use Rattle.script_events.specs.declared.servers.servers.ScriptServers.{ScriptServers}
 use Rattle.core_proxy.specs.CoreState.{dialect}
-use Rattle.script_events.specs.Opening.{opening_cache}
+use Rattle.script_events.specs.Opening.{opening_cache, opening_of}
 use Rattle.script_events.specs.Scripted.{Scripted, Piece, Add, Result, Fail, Hold, At, Now, Moment, loss_of}
-use Rattle.script_run.specs.Results.{CallResult, call_of, calls_of}
+use Rattle.script_run.specs.Standing.{story_of}
+use Rattle.script_run.specs.Results.{CallResult, IsTold}
 
 -- The latest deed comes first.
 pub data Deed : Type 0 where
@@ -26,13 +30,6 @@ script_of [] = []
 script_of (Takes event ∷ deeds) = script_of deeds ++ event ∷ []
 script_of (Ends ∷ deeds) = script_of deeds
 script_of (Gives r ∷ deeds) = script_of deeds
-
--- the results, the latest first
-abbrev pub results_of : List Deed → List CallResult
-results_of [] = []
-results_of (Takes event ∷ deeds) = results_of deeds
-results_of (Ends ∷ deeds) = results_of deeds
-results_of (Gives r ∷ deeds) = r ∷ results_of deeds
 
 -- servers at the start: they hold what the script puts there, no call was made or named, and the time is 0
 pub record AreOpened (events : List Scripted) (servers : ScriptServers) : Type 0 where
@@ -55,13 +52,24 @@ Changes (At turn loss) old new =
 Changes (Now loss) old new = ((lost : Loss) × (loss_of lost ≡ loss) × (caches_of new ≡ losing.after_loss (losing.loss_of lost) (caches_of old))) × (new ≡ record old { caches = new.caches })
 Changes (Moment moment) old new = (moment_of new ≡ moment) × (new ≡ record old { moment = new.moment })
 
--- these deeds led to the servers: each result is the answer of its server's table at that time, after what was named to be lost just before it, or it fails in the manner that was named
-abbrev pub LeadTo : List Scripted → List Deed → ScriptServers → Type 0
-LeadTo events [] servers = AreOpened events servers
-LeadTo events (Takes event ∷ deeds) servers = (old : ScriptServers) × LeadTo events deeds old × Changes event old servers
-LeadTo events (Ends ∷ deeds) servers = LeadTo events deeds servers
-LeadTo events (Gives r ∷ deeds) servers =
-    (old : ScriptServers) × LeadTo events deeds old × Answers r.stamp old r.server r.ask r.made servers × (servers ≡ record old { caches = servers.caches; turn = servers.turn })
+-- what an event adds to the servers' story by itself: what is lost now
+abbrev pub lost_now : Scripted → List Event
+lost_now (Now loss) = lost_by loss ∷ []
+lost_now (Piece client bytes) = []
+lost_now (Add client bytes) = []
+lost_now (Result server) = []
+lost_now (Fail turn manner) = []
+lost_now (Hold server key content) = []
+lost_now (At turn loss) = []
+lost_now (Moment moment) = []
+
+-- these deeds led to the servers, and this is their story: each result is the answer of its server's table at that time, after what was named to be lost just before it, or it fails in the manner that was named; and nothing else befell them than what events lose, what servers drop by themselves, and calls that ended so
+abbrev pub LeadTo : List Scripted → List Deed → List Event → ScriptServers → Type 0
+LeadTo events [] story servers = (story ≡ []) × AreOpened events servers
+LeadTo events (Takes event ∷ deeds) story servers = (old : ScriptServers) × (earlier : List Event) × LeadTo events deeds earlier old × Changes event old servers × (story ≡ lost_now event ++ earlier)
+LeadTo events (Ends ∷ deeds) story servers = LeadTo events deeds story servers
+LeadTo events (Gives r ∷ deeds) story servers =
+    (old : ScriptServers) × (earlier : List Event) × LeadTo events deeds earlier old × Answers r.stamp old r.server r.ask r.made servers × (servers ≡ record old { caches = servers.caches; turn = servers.turn }) × IsTold r old earlier story
 
 -- results come after a piece and at the end, as many as there are
 abbrev pub AreMany : List Deed → Type 0
@@ -97,10 +105,10 @@ AreInTurn (Takes event ∷ deeds) = AreInTurn deeds
 AreInTurn (Ends ∷ deeds) = AreInTurn deeds
 AreInTurn (Gives r ∷ deeds) = IsAwaited r deeds × AreInTurn deeds
 
--- the world of a log is what its script makes of it: there are deeds of these events whose results are the calls of its run, in order
+-- the world of a log is what its script makes of it: there are deeds of these events whose story is that of its run, which leaves on the servers what they hold
 pub record World (events done : List Scripted) (log : List (Entry dialect)) (servers : ScriptServers) : Type 0 where
   pub deeds : List Deed
   pub script_is : script_of deeds ≡ done
-  pub lead : LeadTo events deeds servers
+  pub lead : LeadTo events deeds (story_of (run_of log)) servers
   pub in_turn : AreInTurn deeds
-  pub calls : map call_of (results_of deeds) ≡ calls_of (run_of log)
+  pub holds : (s : ℕ) (key : List ℕ) → held (opening_of events) (run_of log) s key ≡ held_at (caches_of servers) s key
