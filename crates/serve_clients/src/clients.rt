@@ -562,6 +562,7 @@ impl Clients {
     /// What the system told of its socket is noted beside what it told before, and the client is to be served where something can be read, and has something
     /// to send where something can be sent and is there.
     pub fn note(&mut self, id: usize, told: Ready) -> Result<(), AllocError>
+        ensures ends { KeepsEnds self.old self.new }
         ensures client { OnOk result (Changes (noted told) id self.old self.new) }
         ensures served { OnOk result (self.new.ready.items ≡ ids_if told.reads (λ x. x.is_ready) (client_of self.old id) id self.old.ready.items) }
         ensures unsent { OnOk result (self.new.with_output.items ≡ ids_if (will_send told (client_of self.old id)) (λ x. x.has_output) (client_of self.old id) id self.old.with_output.items) }

@@ -76,6 +76,19 @@ IsOfTurn (Gave client bytes) = Unit {0}
 IsOfTurn (Closed client) = Unit {0}
 IsOfTurn (LeftLine client) = Unit {0}
 
+-- a call of a server has an outcome
+abbrev pub IsSettlement : Step → Type 0
+IsSettlement (Settled number outcome) = Unit {0}
+IsSettlement (Opened client) = ⊥
+IsSettlement (NotOpened fault) = ⊥
+IsSettlement (Fed client piece) = ⊥
+IsSettlement (Polled client poll) = ⊥
+IsSettlement (Stopped client fault) = ⊥
+IsSettlement (Gave client bytes) = ⊥
+IsSettlement (Closed client) = ⊥
+IsSettlement (LeftLine client) = ⊥
+IsSettlement (Loaded configuration generation) = ⊥
+
 -- a call of a server has failed
 abbrev pub IsFailure : Step → Type 0
 IsFailure (Settled number outcome) = outcome ≡ Failed

@@ -3,7 +3,7 @@
 ghost use Rattle.std.specs.Prelude.{◌≡◌, ◌++◌, false, OnOk, OnErr};
 ghost use Rattle.wire_parts.specs.Sending.{bytes_of};
 ghost use Rattle.core_proxy.specs.CoreState.{client_at, output_by};
-ghost use Rattle.serve_links.specs.CoreSteps.{GoesOn};
+ghost use Rattle.serve_links.specs.CoreSteps.{Gave, Does, GoesOn};
 ghost use Rattle.serve_wire.specs.Agreement.{TouchesOnly};
 ghost use Rattle.serve_clients.specs.Agrees.{GoesOnAgreeing};
 ghost use Rattle.serve_links.specs.Pieces.{Takes, FeedsHeld};
@@ -93,6 +93,8 @@ pub fn show(core: &mut ServedCore, id: usize, client: &mut Client) -> Result<usi
     ensures bytes { OnOk result (bytes_of client.new.conn.unsent ≡ bytes_of client.old.conn.unsent ++ output_by (client_at core.old.core id)) }
     ensures kept { OnErr result (bytes_of client.new.conn.unsent ≡ bytes_of client.old.conn.unsent) }
     ensures rest { client.new ≡ record client.old { conn = record client.old.conn { unsent = client.new.conn.unsent } } }
+    ensures gives { OnOk result (Does (Gave id (output_by (client_at core.old.core id))) core.old core.new) }
+    ensures same { OnErr result (core.new ≡ core.old) }
 {
     let unsent = client.conn.unsent.len();
     core.move_output(id, &mut client.conn.unsent)?;

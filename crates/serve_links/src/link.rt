@@ -180,7 +180,9 @@ impl Link {
     }
 
     /// The call waits. Where memory was refused it is given back.
-    pub fn let_wait(&mut self, call: SentCall) -> Result<(), SentCall> {
+    pub fn let_wait(&mut self, call: SentCall) -> Result<(), SentCall>
+        ensures rest { self.new ≡ record self.old { waiting = self.new.waiting } }
+    {
         match self.waiting.push_back(call) {
             Ok(()) => Ok(()),
             Err(AllocFailed { value }) => Err(value),

@@ -4,7 +4,7 @@ ghost use Rattle.std.specs.Prelude.{◌≡◌, ◌≢◌, true, ◌++◌, [], dr
 ghost use Rattle.serve_wire.specs.Ends.{HoldsAnew};
 ghost use Rattle.serve_clients.specs.Agrees.{KeepsEnds};
 ghost use Rattle.serve_links.specs.Calls.{SettlesNext};
-ghost use Rattle.serve_links.specs.CoreSteps.{GoesOn, Fails};
+ghost use Rattle.serve_links.specs.CoreSteps.{GoesBy, IsSettlement, Fails};
 ghost use Rattle.serve_links.specs.Links.{AllFail, IsDown};
 ghost use Rattle.serve_links.specs.Settled.{HoldsNoAnswer, SettlesSome, used_by};
 
@@ -79,6 +79,7 @@ pub fn fail_all(
     ensures down { OnOk result (IsDown link.new) }
     ensures all { OnOk result (AllFail (link.old.calls.sent.items ++ link.old.waiting.items) core.old core.new) }
     ensures closed { link.new.conn ≡ None }
+    ensures text { link.new.text ≡ link.old.text }
     ensures ends { KeepsEnds clients.old clients.new }
 {
     fail_sent(&mut link.calls, core, clients)?;
@@ -177,7 +178,7 @@ fn front_stop(stops: Stops, held: &[u8]) -> Option<HeldStop>
 
 // The first call is settled by its answer, if these bytes begin with it.
 fn settle_first(calls: &mut LinkCalls, core: &mut ServedCore, received: &Received) -> Next
-    ensures core { GoesOn core.old core.new }
+    ensures core { GoesBy IsSettlement core.old core.new }
     ensures next { SettlesNext calls.old.sent.items received.now core.old result calls.new.sent.items core.new }
 {
     calls.settle_next(core, received)
@@ -185,7 +186,7 @@ fn settle_first(calls: &mut LinkCalls, core: &mut ServedCore, received: &Receive
 
 // The first call is settled by its answer, if what stands from this place on begins with it. (apart, so that what is made for it is gone by the end)
 fn settle_at(calls: &mut LinkCalls, core: &mut ServedCore, received: &Received, at: usize) -> Next
-    ensures core { GoesOn core.old core.new }
+    ensures core { GoesBy IsSettlement core.old core.new }
     ensures next { SettlesNext calls.old.sent.items (drop at received.now) core.old result calls.new.sent.items core.new }
 {
     let at = at.min(received.bytes().len());
@@ -201,7 +202,7 @@ fn settle_in(
     received: &Received,
     stops: Stops,
 ) -> Result<(usize, HeldStop), AllocError>
-    ensures core { GoesOn core.old core.new }
+    ensures core { GoesBy IsSettlement core.old core.new }
     ensures left { IfOk result (λ did. did.1 ≡ HeldStop.More → HoldsNoAnswer calls.new.sent.items (drop did.0 received.now) core.new) }
     ensures settled { IfOk result (λ did. SettlesSome calls.old.sent.items received.now core.old calls.new.sent.items (drop did.0 received.now) core.new) }
     ensures ends { KeepsEnds clients.old clients.new }
@@ -242,7 +243,7 @@ fn settle_here(
     held: &[u8],
     stops: Stops,
 ) -> Result<(usize, HeldStop), AllocError>
-    ensures core { GoesOn core.old core.new }
+    ensures core { GoesBy IsSettlement core.old core.new }
     ensures left { IfOk result (λ did. did.1 ≡ HeldStop.More → HoldsNoAnswer calls.new.sent.items (drop did.0 held.now) core.new) }
     ensures settled { IfOk result (λ did. SettlesSome calls.old.sent.items held.now core.old calls.new.sent.items (drop did.0 held.now) core.new) }
     ensures ends { KeepsEnds clients.old clients.new }
@@ -265,7 +266,7 @@ fn settle_cut(
     is_freed: &mut bool,
     front: &Bytes,
 ) -> Result<(usize, HeldStop), AllocError>
-    ensures core { GoesOn core.old core.new }
+    ensures core { GoesBy IsSettlement core.old core.new }
     ensures left { IfOk result (λ did. did.1 ≡ HeldStop.More → HoldsNoAnswer calls.new.sent.items (drop did.0 front.now) core.new) }
     ensures settled { IfOk result (λ did. SettlesSome calls.old.sent.items front.now core.old calls.new.sent.items (drop did.0 front.now) core.new) }
     ensures ends { KeepsEnds clients.old clients.new }
@@ -288,7 +289,7 @@ fn settle_copied(
     is_freed: &mut bool,
     conn: &mut Conn,
 ) -> Result<HeldFront, AllocError>
-    ensures core { GoesOn core.old core.new }
+    ensures core { GoesBy IsSettlement core.old core.new }
     ensures left { IfOk result (λ front. front ≡ HeldFront.More → HoldsNoAnswer calls.new.sent.items conn.new.held.items core.new) }
     ensures settled { IfOk result (λ front. front ≢ HeldFront.Foreign → SettlesSome calls.old.sent.items conn.old.held.items core.old calls.new.sent.items conn.new.held.items core.new) }
     ensures ends { KeepsEnds clients.old clients.new }
@@ -334,7 +335,7 @@ fn settle_long(
     is_freed: &mut bool,
     conn: &mut Conn,
 ) -> Result<(bool, HeldFront), AllocError>
-    ensures core { GoesOn core.old core.new }
+    ensures core { GoesBy IsSettlement core.old core.new }
     ensures left { IfOk result (λ did. did.1 ≡ HeldFront.More → HoldsNoAnswer calls.new.sent.items conn.new.held.items core.new) }
     ensures settled { IfOk result (λ did. did.1 ≢ HeldFront.Foreign → SettlesSome calls.old.sent.items conn.old.held.items core.old calls.new.sent.items conn.new.held.items core.new) }
     ensures ends { KeepsEnds clients.old clients.new }
@@ -367,7 +368,7 @@ fn settle_shared(
     front: &Bytes,
     conn: &mut Conn,
 ) -> (Next, bool)
-    ensures core { GoesOn core.old core.new }
+    ensures core { GoesBy IsSettlement core.old core.new }
     ensures settled { result.1 ≡ true → SettlesSome calls.old.sent.items (front.now ++ conn.old.held.items) core.old calls.new.sent.items conn.new.held.items core.new }
     ensures rest { HoldsAnew conn.old conn.new }
 {
@@ -387,7 +388,7 @@ fn settle_large(
     conn: &mut Conn,
     len: usize,
 ) -> Result<HeldFront, AllocError>
-    ensures core { GoesOn core.old core.new }
+    ensures core { GoesBy IsSettlement core.old core.new }
     ensures left { IfOk result (λ front. front ≡ HeldFront.More → HoldsNoAnswer calls.new.sent.items conn.new.held.items core.new) }
     ensures settled { IfOk result (λ front. front ≢ HeldFront.Foreign → SettlesSome calls.old.sent.items conn.old.held.items core.old calls.new.sent.items conn.new.held.items core.new) }
     ensures ends { KeepsEnds clients.old clients.new }
@@ -422,7 +423,7 @@ fn settle_stop(
     stop: HeldStop,
 ) -> Result<(bool, HeldFront), AllocError>
     requires { stop ≡ HeldStop.More → HoldsNoAnswer calls.old.sent.items conn.old.held.items core.old }
-    ensures core { GoesOn core.old core.new }
+    ensures core { GoesBy IsSettlement core.old core.new }
     ensures left { IfOk result (λ did. did.1 ≡ HeldFront.More → HoldsNoAnswer calls.new.sent.items conn.new.held.items core.new) }
     ensures settled { IfOk result (λ did. did.1 ≢ HeldFront.Foreign → SettlesSome calls.old.sent.items conn.old.held.items core.old calls.new.sent.items conn.new.held.items core.new) }
     ensures ends { KeepsEnds clients.old clients.new }
@@ -448,7 +449,7 @@ fn settle_some(
     conn: &mut Conn,
     stops: Stops,
 ) -> Result<(bool, HeldFront), AllocError>
-    ensures core { GoesOn core.old core.new }
+    ensures core { GoesBy IsSettlement core.old core.new }
     ensures left { IfOk result (λ did. did.1 ≡ HeldFront.More → HoldsNoAnswer calls.new.sent.items conn.new.held.items core.new) }
     ensures settled { IfOk result (λ did. did.1 ≢ HeldFront.Foreign → SettlesSome calls.old.sent.items conn.old.held.items core.old calls.new.sent.items conn.new.held.items core.new) }
     ensures ends { KeepsEnds clients.old clients.new }
@@ -497,7 +498,7 @@ pub fn settle_held(
     is_freed: &mut bool,
     conn: &mut Conn,
 ) -> Result<HeldAnswers, AllocError>
-    ensures core { GoesOn core.old core.new }
+    ensures core { GoesBy IsSettlement core.old core.new }
     ensures left { IfOk result (λ answers. answers.is_kept ≡ true → HoldsNoAnswer calls.new.sent.items conn.new.held.items core.new) }
     ensures settled { IfOk result (λ answers. answers.is_kept ≡ true → SettlesSome calls.old.sent.items conn.old.held.items core.old calls.new.sent.items conn.new.held.items core.new) }
     ensures ends { KeepsEnds clients.old clients.new }
