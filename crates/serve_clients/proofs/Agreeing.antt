@@ -7,11 +7,12 @@ use Rattle.wire_parts.specs.Sending.{bytes_of}
 use Rattle.serve_wire.specs.Events.{Event, role}
 use Rattle.serve_wire.specs.Agreement.{ClientAgrees, ClientLost, IsUntouched, TouchesOnly}
 use Rattle.serve_wire.specs.Flow.{ReadsOn, SendsOn}
+use Rattle.serve_wire.specs.declared.outcomes.Ready.{Ready}
 use Rattle.serve_wire.proofs.Steps.{apart, client_stays}
 use Rattle.serve_wire.proofs.Flows.{client_reads, client_sends}
 use Rattle.serve_clients.specs.declared.clients.Client.{Client}
 use Rattle.serve_clients.specs.declared.clients.Clients.{Clients}
-use Rattle.serve_clients.specs.Marks.{client_of, Changes, AreAlike, with_ready, with_unsent, with_busy, one_settled, one_waits, one_waited}
+use Rattle.serve_clients.specs.Marks.{client_of, Changes, AreAlike, with_ready, with_unsent, with_busy, ready_if, unsent_if, told_of, one_settled, one_waits, one_waited}
 use Rattle.serve_clients.specs.Agrees.{said_of, StateAgrees, EndAgrees, AllAgree, KeepsEnds}
 use Rattle.serve_clients.proofs.Marked.{changed, kept}
 
@@ -195,6 +196,21 @@ output_keeps (Err refused) at old new ok err = keeps_alike old new err
 pub busy_keeps : {E : Type 0} (r : Result (Unit {0}) E) (at : ℕ) (old new : Clients) → OnOk r (Changes (with_busy true) at old new) → OnErr r (AreAlike old new) → KeepsEnds old new
 busy_keeps (Ok done) at old new ok err = keeps_by (with_busy true) at old new (λ x. refl) ok
 busy_keeps (Err refused) at old new ok err = keeps_alike old new err
+
+pub marked_keeps : {E : Type 0} (r : Result (Unit {0}) E) (change : Client → Client) (at : ℕ) (old new : Clients) → ((x : Client) → said_of (change x) ≡ said_of x) → OnOk r (Changes change at old new) → OnErr r (AreAlike old new) → KeepsEnds old new
+marked_keeps (Ok done) change at old new same ok err = keeps_by change at old new same ok
+marked_keeps (Err refused) change at old new same ok err = keeps_alike old new err
+
+pub ready_said : (reads : Bool) (x : Client) → said_of (ready_if reads x) ≡ said_of x
+ready_said true x = refl
+ready_said false x = refl
+
+pub unsent_said : (writes : Bool) (x : Client) → said_of (unsent_if writes x) ≡ said_of x
+unsent_said true x = refl
+unsent_said false x = refl
+
+pub told_keeps : (told : Ready) (at : ℕ) (old new : Clients) → Changes (told_of told) at old new → KeepsEnds old new
+told_keeps told at old new is = keeps_by (told_of told) at old new (λ x. refl) is
 
 pub idle_keeps : (at : ℕ) (old new : Clients) → Changes (with_ready false) at old new → KeepsEnds old new
 idle_keeps at old new is = keeps_by (with_ready false) at old new (λ x. refl) is

@@ -469,7 +469,9 @@ impl Clients {
     }
 
     /// Those that wait for a key or a server, but for those that are ready too, go after these.
+    #[tactic(auto, using(crate::proofs::Agreeing::keeps_none))]
     pub fn move_busy(&mut self, to: &mut Vec<usize>) -> Result<(), AllocError>
+        ensures ends { KeepsEnds self.old self.new }
         ensures moved { OnOk result (to.new.items ≡ to.old.items ++ filter (λ id. is_idle (client_of self.old id)) self.old.busy.items) }
         ensures clients { OnOk result (EndsBusy self.old.busy.items self.old self.new) }
         ensures none { OnOk result (self.new.busy.items ≡ []) }
@@ -484,7 +486,9 @@ impl Clients {
     }
 
     // One that waits for a key or a server does so no longer, and goes after these if it isn't ready.
+    #[tactic(auto, using(crate::proofs::Agreeing::free_keeps))]
     fn move_one(&mut self, id: usize, to: &mut Vec<usize>) -> Result<(), AllocError>
+        ensures ends { KeepsEnds self.old self.new }
         ensures client { Changes (with_busy false) id self.old self.new }
         ensures moved { OnOk result (to.new.items ≡ (if is_idle (client_of self.old id) then to.old.items ++ id ∷ [] else to.old.items)) }
         ensures rest { self.new ≡ record self.old { all = self.new.all } }

@@ -20,7 +20,7 @@ use Rattle.serve_links.specs.declared.calls.calls.Next.TheVariants as nexts
 use Rattle.core_accepted.specs.Results.{IsSettled}
 use Rattle.core_accepted.specs.Loading.{IsLoaded}
 use Rattle.serve_links.specs.Calls.{SettlesFirst, SettlesNext}
-use Rattle.serve_links.specs.CoreSteps.{Step, Opened, NotOpened, Fed, Polled, Stopped, Settled, Gave, Closed, LeftLine, Loaded, Does, Walks, AreOf, GoesBy, IsOfTurn, IsFailure, GoesOn, Fails, WalksKeep}
+use Rattle.serve_links.specs.CoreSteps.{Step, Opened, NotOpened, Fed, Polled, Stopped, Settled, Gave, Closed, LeftLine, Loaded, Does, Walks, AreOf, GoesBy, IsOfTurn, IsSettlement, IsFailure, GoesOn, Fails, WalksKeep}
 
 pub walked : (later first : List Step) (a b c : ServedCore) → Walks first a b → Walks later b c → Walks (later ++ first) a c
 walked [] first a b c w v = subst (λ x. Walks first a x) (sym v) w
@@ -82,6 +82,26 @@ each_of_turn (step ∷ steps) each = (of_turn step each.0, each_of_turn steps ea
 pub failed : {a b : ServedCore} → Fails a b → GoesOn a b
 failed f = record { steps = f.steps; kinds = each_of_turn f.steps f.kinds; walks = f.walks }
 
+-- where calls have outcomes it goes on
+pub each_settled : (steps : List Step) → AreOf IsSettlement steps → AreOf IsOfTurn steps
+each_settled [] kinds = tt
+each_settled (step ∷ steps) each = (of_turn step each.0, each_settled steps each.1)
+  where
+    of_turn : (s : Step) → IsSettlement s → IsOfTurn s
+    of_turn (Settled number outcome) is = tt
+    of_turn (Opened client) is = tt
+    of_turn (NotOpened fault) is = tt
+    of_turn (Fed client piece) is = tt
+    of_turn (Polled client poll) is = tt
+    of_turn (Stopped client fault) is = tt
+    of_turn (Gave client bytes) is = tt
+    of_turn (Closed client) is = tt
+    of_turn (LeftLine client) is = tt
+    of_turn (Loaded configuration generation) is = is
+
+pub settled : {a b : ServedCore} → GoesBy IsSettlement a b → GoesOn a b
+settled g = record { steps = g.steps; kinds = each_settled g.steps g.kinds; walks = g.walks }
+
 -- ---- each call of a core
 
 pub by_open :
@@ -103,6 +123,13 @@ pub by_output :
     → OnOk r (LogsGoBy a (λ entries. entries ≡ log.Gives client (output_by (client_at a.core client)) ∷ []) b) → GoesOn a b
 by_output client (Ok done) a b ok err fresh = one IsOfTurn (Gave client (output_by (client_at a.core client))) a b tt (ok, fresh)
 by_output client (Err fault) a b ok err fresh = still err.1
+
+-- what the core had for the client was given, where it was no error
+pub does_give :
+    (client : ℕ) (r : Result (Unit {0}) CoreFault) (a b : ServedCore) → OnOk r (Gives a.core client (output_by (client_at a.core client)) b.core)
+    → OnOk r (LogsGoBy a (λ entries. entries ≡ log.Gives client (output_by (client_at a.core client)) ∷ []) b) → OnOk r (Does (Gave client (output_by (client_at a.core client))) a b)
+does_give client (Ok done) a b ok fresh = (ok, fresh)
+does_give client (Err fault) a b ok fresh = tt
 
 pub by_close :
     (client : ℕ) (r : Result (Unit {0}) CoreFault) (a b : ServedCore) → OnOk r (CanClose a.core client × Closes a.core client b.core)
@@ -126,11 +153,11 @@ pub by_fail_next : (sent : List SentCall) (client : Option ℕ) (sent' : List Se
 by_fail_next [] client sent' a b is = still is.2
 by_fail_next (call ∷ sent) client sent' a b is = by_failure call.ticket.number a b is.2
 
-by_first : (sent : List SentCall) (outcome : Outcome) (client : Option ℕ) (sent' : List SentCall) (a b : ServedCore) → SettlesFirst sent a outcome client sent' b → GoesOn a b
+by_first : (sent : List SentCall) (outcome : Outcome) (client : Option ℕ) (sent' : List SentCall) (a b : ServedCore) → SettlesFirst sent a outcome client sent' b → GoesBy IsSettlement a b
 by_first [] outcome client sent' a b is = still is.2
-by_first (call ∷ sent) outcome client sent' a b is = one IsOfTurn (Settled call.ticket.number outcome) a b tt is.2
+by_first (call ∷ sent) outcome client sent' a b is = one IsSettlement (Settled call.ticket.number outcome) a b tt is.2
 
-pub by_settle_next : (sent : List SentCall) (bytes : List ℕ) (next : Next) (sent' : List SentCall) (a b : ServedCore) → SettlesNext sent bytes a next sent' b → GoesOn a b
+pub by_settle_next : (sent : List SentCall) (bytes : List ℕ) (next : Next) (sent' : List SentCall) (a b : ServedCore) → SettlesNext sent bytes a next sent' b → GoesBy IsSettlement a b
 by_settle_next sent bytes (nexts.Settled client used) sent' a b is = by_first sent (Answered is.0) (Some client) sent' a b is.2
 by_settle_next sent bytes nexts.More sent' a b is = still is.2
 by_settle_next sent bytes nexts.Foreign sent' a b is = still is.1

@@ -447,7 +447,9 @@ impl Link {
     }
 
     /// Its news, if they may be told now. Of several the last is told.
-    pub fn take_news(&mut self, now: u64) -> Option<LinkNews> {
+    pub fn take_news(&mut self, now: u64) -> Option<LinkNews>
+        ensures { KeepsLines self.old self.new }
+    {
         if now < self.news_from {
             return None;
         }

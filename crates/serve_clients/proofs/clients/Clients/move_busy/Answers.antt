@@ -1,5 +1,6 @@
 use Rattle.std.proofs.Common.{◌≡◌, ◌∙◌, ◌<◌, ap, sym, length, get_or, rules}
 use Rattle.serve_clients.specs.Marks.{client_of, is_idle}
+use Rattle.serve_clients.proofs.Agreeing.{keeps_twice}
 use Rattle.serve_clients.proofs.Marked.{erased_more, ends_more, moved_more, idle_still}
 use Rattle.serve_clients.proofs.clients.Clients.move_busy.Goals as goal
 
@@ -14,4 +15,8 @@ loop-i-preserved c =
           within is (idle_still c.args.self.now c.loop-i.self c.index-id.result.now c.loop-i.invariant.erased) c.loop-i.invariant.moved c.in_ok-move_one.ensures.moved;
       ends = ends_more c.args.self.now.busy.items c.args.self.now c.loop-i.self c.move_one.new.self c.loop-i.i c.index-id.result.now within is c.loop-i.invariant.erased c.loop-i.invariant.ends c.move_one.ensures.client;
       erased = erased_more c.args.self.now c.loop-i.self c.move_one.new.self c.index-id.result.now c.loop-i.invariant.erased c.move_one.ensures.client;
+      kept = keeps_twice c.args.self.now c.loop-i.self c.move_one.new.self c.loop-i.invariant.kept c.move_one.ensures.ends;
     }
+
+pub returns-in_err-move_one-clause-ends : goal.returns-in_err-move_one-clause-ends
+returns-in_err-move_one-clause-ends c = keeps_twice c.args.self.now c.loop-i.self c.move_one.new.self c.loop-i.invariant.kept c.move_one.ensures.ends

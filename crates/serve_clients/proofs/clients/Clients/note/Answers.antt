@@ -1,4 +1,6 @@
 use Rattle.std.proofs.Common.{ap, ◌∙◌}
+use Rattle.serve_clients.proofs.Agreeing.{keeps_twice, marked_keeps, ready_said, unsent_said, told_keeps}
+use Rattle.serve_clients.specs.Marks.{ready_if, unsent_if}
 use Rattle.serve_clients.proofs.Marked.{noted_so, served_so, unsent_so, kept, kept_by}
 use Rattle.serve_clients.proofs.clients.Clients.note.Goals as goal
 
@@ -19,3 +21,19 @@ returns-clause-others c = λ other apart.
     kept_by c.mark_output_if.result c.mark_ready_if.new.self c.mark_output_if.new.self c.args.id other _ apart c.mark_output_if.ensures.client c.mark_output_if.ensures.refused
     ∙ kept c.note_told-sends.new.self.all.items c.mark_ready_if.new.self.all.items c.args.id other _ apart c.in_ok-mark_ready_if.ensures.client
     ∙ kept c.args.self.now.all.items c.note_told-sends.new.self.all.items c.args.id other _ apart c.note_told-sends.ensures.client
+
+pub returns-clause-ends : goal.returns-clause-ends
+returns-clause-ends c =
+    let was = c.args.self.now in
+    let told = c.note_told-sends.new.self in
+    let read = c.mark_ready_if.new.self in
+    keeps_twice was told c.mark_output_if.new.self (told_keeps c.args.told c.args.id was told c.note_told-sends.ensures.client)
+    (keeps_twice told read c.mark_output_if.new.self (marked_keeps c.mark_ready_if.result (ready_if c.args.told.reads) c.args.id told read (ready_said c.args.told.reads) c.mark_ready_if.ensures.client c.mark_ready_if.ensures.refused)
+    (marked_keeps c.mark_output_if.result (unsent_if c.note_told-sends.result) c.args.id read c.mark_output_if.new.self (unsent_said c.note_told-sends.result) c.mark_output_if.ensures.client c.mark_output_if.ensures.refused))
+
+pub returns-in_err-mark_ready_if-clause-ends : goal.returns-in_err-mark_ready_if-clause-ends
+returns-in_err-mark_ready_if-clause-ends c =
+    let was = c.args.self.now in
+    let told = c.note_told-sends.new.self in
+    keeps_twice was told c.mark_ready_if.new.self (told_keeps c.args.told c.args.id was told c.note_told-sends.ensures.client)
+    (marked_keeps c.mark_ready_if.result (ready_if c.args.told.reads) c.args.id told c.mark_ready_if.new.self (ready_said c.args.told.reads) c.mark_ready_if.ensures.client c.mark_ready_if.ensures.refused)
