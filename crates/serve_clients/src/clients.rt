@@ -380,7 +380,9 @@ pub struct Clients {
 
 impl Clients {
     /// No clients.
-    pub fn new(alloc: Global) -> Clients {
+    pub fn new(alloc: Global) -> Clients
+        ensures none { result.all.items ≡ [] }
+    {
         Clients {
             all: Vec::new(alloc),
             ready: Vec::new(alloc),
