@@ -1,7 +1,8 @@
 -- How the ends of a proxy go on, one after another.
-use Rattle.std.proofs.Common.{◌≡◌, ◌≢◌, ℕ, true, false, List, [], ◌++◌, Option, Some, None, refl, sym, ap, ◌∙◌, subst, inl, inr, append_assoc}
+use Rattle.std.proofs.Common.{◌≡◌, ◌≢◌, ℕ, Bool, true, false, List, [], ◌++◌, Option, Some, None, refl, sym, ap, ◌∙◌, subst, inl, inr, append_assoc}
 use Rattle.std.specs.Prelude.{IfSome, nat_eq, slice_get}
 use Rattle.std.proofs.lemmas.Bool.{cases_Bool, eq-eqb, eqb-true}
+use Rattle.mc_types.specs.declared.ask.Ask.{Ask}
 use Rattle.wire_parts.specs.Sending.{bytes_of}
 use Rattle.serve_wire.specs.Events.{Event}
 use Rattle.serve_wire.specs.Agreement.{IsUntouched}
@@ -12,8 +13,10 @@ use Rattle.serve_clients.specs.Agrees.{EndAgrees, AllAgree}
 use Rattle.serve_clients.proofs.Agreeing.{its, state_stays}
 use Rattle.serve_clients.specs.Marks.{client_of}
 use Rattle.serve_links.specs.declared.link.Link.{Link}
-use Rattle.serve_links.specs.CoreSteps.{Step}
-use Rattle.serve_links.specs.Story.{fed_in, gave_in, AgreesWith, LineAgrees, LinesAgree, texts_of, OneGoes, LineGoes, AnEnd, Agrees, AllGo, StoriesGoOn}
+use Rattle.serve_links.specs.CoreSteps.{Step, AreOf}
+use Rattle.serve_links.specs.Talks.{SaidAsk, Talk, talk_in}
+use Rattle.serve_links.specs.Story.{fed_in, gave_in, AgreesWith, TalkAgrees, said_asks, LineAgrees, LinesAgree, texts_of, OneGoes, LineGoesFrom, LineGoes, AnEnd, Agrees, AgreesBut, AgreesCalled, AllGoFrom, AllGo, StoriesGoOn}
+use Rattle.serve_links.proofs.Talking.{called_later, calls_later, IsPlain, clients_plain, plain_talk, plain_orderly, server_tells_none, talk_elsewhere}
 use Rattle.serve_links.proofs.Walked.{walked, of_both}
 
 -- ---- one end
@@ -44,9 +47,28 @@ each_client h input output clients each id = by (client_of clients id) refl
     by None e = tt
     by (Some x) e = each id x e
 
--- a link's connection that nothing touched
-pub line_stays : (h h' : List Event) (at : ℕ) (link : Link) → ((conn : Conn) → link.conn ≡ Some conn → IsUntouched conn.number h h') → LineAgrees h at link → LineAgrees h' at link
-line_stays h h' at link same was = λ conn is. let s = same conn is in let w = was conn is in (s.same_role ∙ w.0, s.same_address ∙ w.1)
+-- a connection that nothing touched, and of which nothing more was told
+pub talk_stays :
+    (h h' : List Event) (at : ℕ) (text : List ℕ) (t t' : Talk) (c : ℕ) (held unsent : List ℕ) (out : List SaidAsk) (awaits : Bool) → IsUntouched c h h' → t' ≡ t
+    → TalkAgrees h at text t c held unsent out awaits → TalkAgrees h' at text t' c held unsent out awaits
+talk_stays h h' at text t t' c held unsent out awaits same e was = record {
+  is_to = same.same_role ∙ was.is_to;
+  address = same.same_address ∙ was.address;
+  sent_is = ap (λ (x : Talk). x.sent) e ∙ was.sent_is ∙ ap (λ l. l ++ unsent) (sym same.same_went);
+  told_is = same.same_came ∙ was.told_is ∙ ap (λ (x : Talk). x.told ++ held) (sym e);
+  out_is = ap (λ (x : Talk). x.out) e ∙ was.out_is;
+  awaits_is = ap (λ (x : Talk). x.awaits) e ∙ was.awaits_is;
+}
+
+-- a link whose connection nothing touched, and of whose server nothing more was told
+pub line_stays :
+    (h h' : List Event) (at : ℕ) (steps past : List Step) (link : Link) → ((conn : Conn) → link.conn ≡ Some conn → IsUntouched conn.number h h') → talk_in (steps ++ past) at ≡ talk_in past at
+    → LineAgrees at past h link → LineAgrees at (steps ++ past) h' link
+line_stays h h' at steps past link same told was = record {
+  conn = λ conn is.
+      talk_stays h h' at link.text.items (talk_in past at) (talk_in (steps ++ past) at) conn.number conn.held.items (bytes_of conn.unsent) (said_asks link.calls.sent.items) link.awaits_dialect (same conn is) told (was.conn conn is);
+  waiting = calls_later steps past at link.waiting.items was.waiting;
+}
 
 -- ---- whose connections are apart
 
@@ -102,20 +124,27 @@ one_of_all {Is} id old new x y was is others links g = record { steps = g.steps;
             let mine_was = was_of past a id x was in let was_z = was_of past a j z (sym (others j e) ∙ there) in let told = g.others past j e in
             end_stays h h' (fed_in past) (gave_in past) (fed_in (g.steps ++ past)) (gave_in (g.steps ++ past)) j z ((g.agrees past mine_was).1 z.conn.number (0, j) (its h (fed_in past) (gave_in past) j z was_z) (client_apart id j e)) told.0 told.1 was_z
 
-    lines : (past : List Step) → Agrees past old → LinesAgree h' new.links
+    plain : AreOf IsPlain g.steps
+    plain = clients_plain g.steps g.own
+
+    lines : (past : List Step) → Agrees past old → LinesAgree (g.steps ++ past) h' new.links
     lines past a at link there =
         let was_there = ap (λ (ls : List Link). slice_get ls at) (sym links) ∙ there in let was_l = a.links at link was_there in
-        line_stays h h' at link (λ conn c. (g.agrees past (was_of past a id x was)).1 conn.number (1, at) (was_l conn c).0 (λ e. kinds_apart id at (sym e))) was_l
+        line_stays h h' at g.steps past link (λ conn c. (g.agrees past (was_of past a id x was)).1 conn.number (1, at) (was_l.conn conn c).is_to (λ e. kinds_apart id at (sym e))) (plain_talk g.steps plain past at) was_l
 
     agree : (past : List Step) → Agrees past old → Agrees (g.steps ++ past) new
-    agree past a = record { clients = each_client h' (fed_in (g.steps ++ past)) (gave_in (g.steps ++ past)) new.clients (client past a); links = lines past a }
+    agree past a = record {
+      orderly = plain_orderly g.steps plain past a.orderly;
+      clients = each_client h' (fed_in (g.steps ++ past)) (gave_in (g.steps ++ past)) new.clients (client past a);
+      links = lines past a;
+    }
 
 -- one link's end goes on, and the others are as they were
-pub line_of_all :
-    {Is : Step → Type 0} (at : ℕ) (old new : AnEnd) (x y : Link) → slice_get old.links at ≡ Some x → slice_get new.links at ≡ Some y
+pub line_among :
+    {Before After : ℕ → List Step → List Event → Link → Type 0} {Is : Step → Type 0} (at : ℕ) (old new : AnEnd) (x y : Link) → slice_get old.links at ≡ Some x → slice_get new.links at ≡ Some y
     → ((j : ℕ) → nat_eq at j ≡ false → slice_get new.links j ≡ slice_get old.links j) → texts_of new.links ≡ texts_of old.links → ((j : ℕ) → client_of new.clients j ≡ client_of old.clients j)
-    → LineGoes Is at old.core old.history x new.core new.history y → AllGo Is old new
-line_of_all {Is} at old new x y was is others texts clients_are g = record { steps = g.steps; kinds = g.kinds; walks = g.walks; agree = agree; texts = texts }
+    → LineGoesFrom Before After Is at old.core old.history x new.core new.history y → AllGoFrom (AgreesBut Before at) (AgreesBut After at) Is old new
+line_among {Before} {After} {Is} at old new x y was is others texts clients_are g = record { steps = g.steps; kinds = g.kinds; walks = g.walks; agree = agree; texts = texts }
   where
     h : List Event
     h = old.history
@@ -123,26 +152,47 @@ line_of_all {Is} at old new x y was is others texts clients_are g = record { ste
     h' : List Event
     h' = new.history
 
-    client : (past : List Step) → Agrees past old → (j : ℕ) (z : Client) → client_of new.clients j ≡ Some z → AgreesWith (g.steps ++ past) h' j z
+    client : (past : List Step) → AgreesBut Before at past old → (j : ℕ) (z : Client) → client_of new.clients j ≡ Some z → AgreesWith (g.steps ++ past) h' j z
     client past a j z there =
-        let was_z = at_client h (fed_in past) (gave_in past) old.clients j z (sym (clients_are j) ∙ there) a.clients in let told = g.others past j in
-        end_stays h h' (fed_in past) (gave_in past) (fed_in (g.steps ++ past)) (gave_in (g.steps ++ past)) j z ((g.agrees (a.links at x was)).1 z.conn.number (0, j) (its h (fed_in past) (gave_in past) j z was_z) (kinds_apart j at)) told.0 told.1 was_z
+        let was_z = at_client h (fed_in past) (gave_in past) old.clients j z (sym (clients_are j) ∙ there) a.clients in let told = server_tells_none at g.steps g.own past j in
+        let keeps = (g.agrees past a.orderly (a.this x was)).2 in
+        end_stays h h' (fed_in past) (gave_in past) (fed_in (g.steps ++ past)) (gave_in (g.steps ++ past)) j z (keeps z.conn.number (0, j) (its h (fed_in past) (gave_in past) j z was_z) (kinds_apart j at)) told.0 told.1 was_z
 
-    lines : (past : List Step) → Agrees past old → LinesAgree h' new.links
-    lines past a j z there = elim (cases_Bool (nat_eq at j)) [ inl e ↦ mine (eqb-true at j e) | inr e ↦ other e ]
-      where
-        mine : at ≡ j → LineAgrees h' j z
-        mine e =
-            let z_is : y ≡ z = same_some y z (sym is ∙ ap (slice_get new.links) e ∙ there) in
-            subst (λ k. LineAgrees h' k z) e (subst (λ c. LineAgrees h' at c) z_is (g.agrees (a.links at x was)).0)
+    other : (past : List Step) → AgreesBut Before at past old → (j : ℕ) (z : Link) → nat_eq at j ≡ false → slice_get new.links j ≡ Some z → LineAgrees j (g.steps ++ past) h' z
+    other past a j z e there =
+        let was_z = a.links j z e (sym (others j e) ∙ there) in
+        let keeps = (g.agrees past a.orderly (a.this x was)).2 in
+        line_stays h h' j g.steps past z (λ conn c. keeps conn.number (1, j) (was_z.conn conn c).is_to (links_apart at j e)) (talk_elsewhere at g.steps g.own past j e) was_z
 
-        other : nat_eq at j ≡ false → LineAgrees h' j z
-        other e =
-            let was_z = a.links j z (sym (others j e) ∙ there) in
-            line_stays h h' j z (λ conn c. (g.agrees (a.links at x was)).1 conn.number (1, j) (was_z conn c).0 (links_apart at j e)) was_z
+    agree : (past : List Step) → AgreesBut Before at past old → AgreesBut After at (g.steps ++ past) new
+    agree past a = let goes = g.agrees past a.orderly (a.this x was) in record {
+      orderly = goes.0;
+      clients = each_client h' (fed_in (g.steps ++ past)) (gave_in (g.steps ++ past)) new.clients (client past a);
+      links = other past a;
+      this = λ link there. subst (After at (g.steps ++ past) h') (same_some y link (sym is ∙ there)) goes.1;
+    }
 
-    agree : (past : List Step) → Agrees past old → Agrees (g.steps ++ past) new
-    agree past a = record { clients = each_client h' (fed_in (g.steps ++ past)) (gave_in (g.steps ++ past)) new.clients (client past a); links = lines past a }
+-- where the link at one place agrees like the others, all agree
+pub but_all : (at : ℕ) (past : List Step) (x : AnEnd) → AgreesBut LineAgrees at past x → Agrees past x
+but_all at past x a = record { orderly = a.orderly; clients = a.clients; links = λ j link there. elim (cases_Bool (nat_eq at j)) [ inl e ↦ mine j link there (eqb-true at j e) | inr e ↦ a.links j link e there ] }
+  where
+    mine : (j : ℕ) (link : Link) → slice_get x.links j ≡ Some link → at ≡ j → LineAgrees j past x.history link
+    mine j link there e = subst (λ k. LineAgrees k past x.history link) e (a.this link (ap (slice_get x.links) e ∙ there))
+
+pub all_but : (at : ℕ) (past : List Step) (x : AnEnd) → Agrees past x → AgreesBut LineAgrees at past x
+all_but at past x a = record { orderly = a.orderly; clients = a.clients; links = λ j link e there. a.links j link there; this = λ link there. a.links at link there }
+
+-- what is wanted before is there, and what is there after is more than is wanted
+pub go_between :
+    {P P' Q Q' : List Step → AnEnd → Type 0} {Is : Step → Type 0} {a b : AnEnd} → ((past : List Step) → P' past a → P past a) → ((past : List Step) → Q past b → Q' past b) → AllGoFrom P Q Is a b
+    → AllGoFrom P' Q' Is a b
+go_between before after g = record { steps = g.steps; kinds = g.kinds; walks = g.walks; agree = λ past was. after (g.steps ++ past) (g.agree past (before past was)); texts = g.texts }
+
+pub line_of_all :
+    {Is : Step → Type 0} (at : ℕ) (old new : AnEnd) (x y : Link) → slice_get old.links at ≡ Some x → slice_get new.links at ≡ Some y
+    → ((j : ℕ) → nat_eq at j ≡ false → slice_get new.links j ≡ slice_get old.links j) → texts_of new.links ≡ texts_of old.links → ((j : ℕ) → client_of new.clients j ≡ client_of old.clients j)
+    → LineGoes Is at old.core old.history x new.core new.history y → AllGo Is old new
+line_of_all at old new x y was is others texts clients_are g = go_between (λ past a. all_but at past old a) (λ past a. but_all at past new a) (line_among at old new x y was is others texts clients_are g)
 
 -- ---- one after another
 
@@ -150,15 +200,22 @@ line_of_all {Is} at old new x y was is others texts clients_are g = record { ste
 pub all_still : {Is : Step → Type 0} (old new : AnEnd) → new ≡ old → AllGo Is old new
 all_still {Is} old new same = subst (λ x. AllGo Is old x) (sym same) (record { steps = []; kinds = tt; walks = refl; agree = λ past a. a; texts = refl })
 
-pub all_then : {Is : Step → Type 0} (a b c : AnEnd) → AllGo Is a b → AllGo Is b c → AllGo Is a c
-all_then {Is} a b c g k =
+pub from_then : {P Q R : List Step → AnEnd → Type 0} {Is : Step → Type 0} (a b c : AnEnd) → AllGoFrom P Q Is a b → AllGoFrom Q R Is b c → AllGoFrom P R Is a c
+from_then {P} {Q} {R} {Is} a b c g k =
     record {
       steps = k.steps ++ g.steps;
       kinds = of_both Is k.steps g.steps k.kinds g.kinds;
       walks = walked k.steps g.steps a.core b.core c.core g.walks k.walks;
-      agree = λ past was. subst (λ l. Agrees l c) (sym (append_assoc k.steps g.steps past)) (k.agree (g.steps ++ past) (g.agree past was));
+      agree = λ past was. subst (λ l. R l c) (sym (append_assoc k.steps g.steps past)) (k.agree (g.steps ++ past) (g.agree past was));
       texts = k.texts ∙ g.texts;
     }
+
+pub all_then : {Is : Step → Type 0} (a b c : AnEnd) → AllGo Is a b → AllGo Is b c → AllGo Is a c
+all_then a b c g k = from_then a b c g k
+
+-- what the core gave out for a server stays so
+pub still_called : {Is : Step → Type 0} {a b : AnEnd} (number at : ℕ) (ask : Ask) → AllGo Is a b → AllGoFrom (AgreesCalled number at ask) (AgreesCalled number at ask) Is a b
+still_called number at ask g = record { steps = g.steps; kinds = g.kinds; walks = g.walks; agree = λ past was. (g.agree past was.0, called_later g.steps past number at ask was.1); texts = g.texts }
 
 -- the laws, by calls of any kind
 pub stories_go_on : (Is : Step → Type 0) → StoriesGoOn Is

@@ -1,5 +1,8 @@
 -- What may happen to the core of a proxy, one call after another. Source: mcgate's own.
-use Rattle.std.specs.Prelude.{◌≡◌, ℕ, List, [], ◌∷◌}
+use Rattle.std.specs.Prelude.{◌≡◌, ℕ, List, [], ◌∷◌, Some}
+use Rattle.mc_types.specs.declared.ask.Ask.{Ask}
+use Rattle.mc_types.specs.declared.ask.Dialect.{Dialect}
+use Rattle.mc_types.specs.declared.answer.Answer.{Answer}
 use Rattle.mc_types.specs.declared.call.Outcome.{Outcome}
 use Rattle.mc_types.specs.declared.call.Outcome.TheVariants.{Failed}
 use Rattle.fresh_runs.specs.Overlap as log
@@ -8,14 +11,17 @@ use Rattle.core_proxy.specs.declared.fault.CoreFault.{CoreFault}
 use Rattle.core_proxy.specs.declared.note.Poll.{Poll}
 use Rattle.core_proxy.specs.Faults.{CanOpen, CanFeed, CanClose, OpenFault}
 use Rattle.core_proxy.specs.CoreState.{Opens, Feeds, Gives, Closes, LeavesLine, client_at, dropped_by}
+use Rattle.core_proxy.specs.Settles as of_calls
 use Rattle.core_proxy.specs.Polls.{Polls, PollFault, Then, Perhaps, BeginsOne, IsPolled}
 use Rattle.core_accepted.specs.Logs.{LogsGoBy, IsAccepted, fed}
 use Rattle.core_accepted.specs.Results.{PollStops}
 use Rattle.core_accepted.specs.declared.served.ServedCore.{ServedCore}
 use Rattle.core_accepted.specs.Results.{IsSettled}
 use Rattle.core_accepted.specs.Loading.{IsLoaded}
+use Rattle.serve_links.specs.declared.settings.ServerDialect.{ServerDialect}
 
--- one call of a core that changes it, and what came of it
+-- one call of a core that changes it, and what came of it; or what was done at a server's connection, which changes no core: a new one was begun, a call's ask is to be sent, what the server told
+-- of its dialects was taken from its bytes, or they spell the answer to a call
 pub data Step : Type 0 where
   Opened : (client : ℕ) → Step
   NotOpened : (fault : CoreFault) → Step
@@ -27,8 +33,13 @@ pub data Step : Type 0 where
   Closed : (client : ℕ) → Step
   LeftLine : (client : ℕ) → Step
   Loaded : (configuration : Configuration) (generation : ℕ) → Step
+  Linked : (at : ℕ) (dialect : ServerDialect) → Step
+  Asked : (at number : ℕ) (dialect : Dialect) (ask : Ask) → Step
+  Greeted : (at : ℕ) (bytes : List ℕ) → Step
+  Spelled : (at number : ℕ) (ask : Ask) (answer : Answer) (bytes : List ℕ) → Step
 
--- a core goes from one state to another by this call: as the core's own call of that name goes, and with each log that may have led to it
+-- a core goes from one state to another by this call: as the core's own call of that name goes, and with each log that may have led to it. By what was done at a connection it stays; where bytes
+-- spell the answer to a call, that call of the core is out, and asks this
 abbrev pub Does : Step → ServedCore → ServedCore → Type 0
 Does (Opened client) old new = CanOpen old.core × Opens old.core client new.core × LogsGoBy old (λ entries. entries ≡ []) new
 Does (NotOpened fault) old new = OpenFault old.core fault new.core × LogsGoBy old (λ entries. entries ≡ []) new
@@ -42,6 +53,10 @@ Does (Gave client bytes) old new = Gives old.core client bytes new.core × LogsG
 Does (Closed client) old new = CanClose old.core client × Closes old.core client new.core × LogsGoBy old (λ entries. entries ≡ log.Resets client ∷ []) new
 Does (LeftLine client) old new = LeavesLine old.core client new.core × LogsGoBy old (λ entries. entries ≡ []) new
 Does (Loaded configuration generation) old new = IsLoaded old configuration generation new
+Does (Linked at dialect) old new = new ≡ old
+Does (Asked at number dialect ask) old new = new ≡ old
+Does (Greeted at bytes) old new = new ≡ old
+Does (Spelled at number ask answer bytes) old new = (new ≡ old) × (of_calls.asked old.core number ≡ Some ask)
 
 -- these calls, the latest first, lead from one state to the other
 abbrev pub Walks : List Step → ServedCore → ServedCore → Type 0
@@ -75,6 +90,10 @@ IsOfTurn (Settled number outcome) = Unit {0}
 IsOfTurn (Gave client bytes) = Unit {0}
 IsOfTurn (Closed client) = Unit {0}
 IsOfTurn (LeftLine client) = Unit {0}
+IsOfTurn (Linked at dialect) = Unit {0}
+IsOfTurn (Asked at number dialect ask) = Unit {0}
+IsOfTurn (Greeted at bytes) = Unit {0}
+IsOfTurn (Spelled at number ask answer bytes) = Unit {0}
 
 -- a call of a server has an outcome
 abbrev pub IsSettlement : Step → Type 0
@@ -88,8 +107,12 @@ IsSettlement (Gave client bytes) = ⊥
 IsSettlement (Closed client) = ⊥
 IsSettlement (LeftLine client) = ⊥
 IsSettlement (Loaded configuration generation) = ⊥
+IsSettlement (Linked at dialect) = ⊥
+IsSettlement (Asked at number dialect ask) = ⊥
+IsSettlement (Greeted at bytes) = ⊥
+IsSettlement (Spelled at number ask answer bytes) = ⊥
 
--- a call of a server has failed
+-- a call of a server has failed; or a connection was begun, or an ask is to be sent, which changes no core
 abbrev pub IsFailure : Step → Type 0
 IsFailure (Settled number outcome) = outcome ≡ Failed
 IsFailure (Opened client) = ⊥
@@ -101,12 +124,16 @@ IsFailure (Gave client bytes) = ⊥
 IsFailure (Closed client) = ⊥
 IsFailure (LeftLine client) = ⊥
 IsFailure (Loaded configuration generation) = ⊥
+IsFailure (Linked at dialect) = Unit {0}
+IsFailure (Asked at number dialect ask) = Unit {0}
+IsFailure (Greeted at bytes) = ⊥
+IsFailure (Spelled at number ask answer bytes) = ⊥
 
 -- it goes on by calls of it alone, and keeps its configuration
 abbrev pub GoesOn : ServedCore → ServedCore → Type 0
 GoesOn old new = GoesBy IsOfTurn old new
 
--- nothing is done but that calls fail
+-- nothing is done with the core but that calls fail
 abbrev pub Fails : ServedCore → ServedCore → Type 0
 Fails old new = GoesBy IsFailure old new
 

@@ -6,4 +6,5 @@ pub mod Lines
 pub mod Links
 pub mod Pieces
 pub mod Settled
+pub mod Talks
 pub mod Story

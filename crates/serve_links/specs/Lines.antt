@@ -1,5 +1,5 @@
 -- What a link's connection has to do with the wire. Source: mcgate's own; what a server is asked for its dialects is of memcached's protocol.txt, "Meta No-Op".
-use Rattle.std.specs.Prelude.{◌≡◌, ℕ, Bool, false, List, [], ◌∷◌, ◌++◌, codes, Option, Some, None}
+use Rattle.std.specs.Prelude.{◌≡◌, ◌⊎◌, ℕ, Bool, true, false, List, [], ◌∷◌, ◌++◌, codes, Option, Some, None}
 use Rattle.wire_parts.specs.Sending.{bytes_of}
 use Rattle.serve_wire.specs.Events.{Event, connects, IsNew}
 use Rattle.serve_wire.specs.Calls.{Closes}
@@ -16,6 +16,12 @@ first_asked_of asks.Auto = codes "mn\r\n"
 first_asked_of asks.Classic = []
 first_asked_of asks.Meta = []
 
+-- whether its answer comes before all answers to calls
+abbrev pub awaits_first : ServerDialect → Bool
+awaits_first asks.Auto = true
+awaits_first asks.Classic = false
+awaits_first asks.Meta = false
+
 -- an end has the number, the held bytes and the unsent ones that it had
 pub record SameEnd (x y : Conn) : Type 0 where
   pub number : y.number ≡ x.number
@@ -28,23 +34,27 @@ SameLine None y = y ≡ None
 SameLine (Some x) None = ⊥
 SameLine (Some x) (Some y) = SameEnd x y
 
--- a link is to the server that it was to, has the connection that it had, with the same bytes, and the same calls
+-- a link is to the server that it was to, has the connection that it had, with the same bytes, and the same calls, and awaits of its server's dialects what it did
 pub record KeepsLines (old new : Link) : Type 0 where
   pub text : new.text ≡ old.text
   pub conn : SameLine old.conn new.conn
   pub calls : new.calls ≡ old.calls
   pub waiting : new.waiting ≡ old.waiting
+  pub awaits : new.awaits_dialect ≡ old.awaits_dialect
 
 -- it has this end: nothing came over it, and what is asked first is to be sent
 abbrev pub IsNewEnd : ℕ → ServerDialect → Option Conn → Type 0
 IsNewEnd number dialect None = ⊥
 IsNewEnd number dialect (Some x) = (x.number ≡ number) × (x.held.items ≡ []) × (bytes_of x.unsent ≡ first_asked_of dialect)
 
+-- no call is out over it yet, and what the server tells of its dialects is awaited where it is asked for that
 pub record HasNewEnd (number : ℕ) (dialect : ServerDialect) (old new : Link) : Type 0 where
   pub text : new.text ≡ old.text
   pub conn : IsNewEnd number dialect new.conn
+  pub none_out : old.calls.sent.items ≡ []
   pub calls : new.calls ≡ old.calls
   pub waiting : new.waiting ≡ old.waiting
+  pub awaits : new.awaits_dialect ≡ awaits_first dialect
 
 -- a new connection to this server was begun, at the address that the link's text names; and where memory was refused for its end it was closed
 abbrev pub OpensBy : ℕ → ServerDialect → Opening → Link → Link → List Event → List Event → Type 0
@@ -63,4 +73,5 @@ UsesSome (Some x) (Some y) = (bytes : List ℕ) × (x.held.items ≡ bytes ++ y.
 pub record Learns (can : Bool) (old new : Link) : Type 0 where
   pub uses : UsesSome old.conn new.conn
   pub none : can ≡ false → new ≡ old
+  pub told : (new ≡ old) ⊎ (new.awaits_dialect ≡ false)
   pub rest : new ≡ record old { conn = new.conn; dialect = new.dialect; awaits_dialect = new.awaits_dialect }

@@ -1,6 +1,8 @@
--- What a walk of a core tells of its clients, and how their ends on a wire go on with it. Source: mcgate's own.
-use Rattle.std.specs.Prelude.{◌≡◌, ◌≢◌, ℕ, false, List, [], ◌∷◌, ◌++◌, Some, map as each, if◌then◌else◌, nat_eq, slice_get}
-use Rattle.serve_wire.specs.Events.{Event, role}
+-- What a walk of a core tells of its clients, and how the ends of clients and links on a wire go on with it. Source: mcgate's own.
+use Rattle.std.specs.Prelude.{◌≡◌, ◌≢◌, ℕ, Bool, false, List, [], ◌∷◌, ◌++◌, Option, Some, map as each, option_map, if◌then◌else◌, nat_eq, slice_get}
+use Rattle.mc_types.specs.declared.ask.Ask.{Ask}
+use Rattle.wire_parts.specs.Sending.{bytes_of}
+use Rattle.serve_wire.specs.Events.{Event, role, delivered, taken}
 use Rattle.serve_wire.specs.Agreement.{AddressAgrees, IsUntouched}
 use Rattle.serve_wire.specs.declared.conn.conn.Conn.{Conn}
 use Rattle.core_accepted.specs.declared.served.ServedCore.{ServedCore}
@@ -8,8 +10,10 @@ use Rattle.serve_clients.specs.declared.clients.Client.{Client}
 use Rattle.serve_clients.specs.declared.clients.Clients.{Clients}
 use Rattle.serve_clients.specs.Agrees.{EndAgrees, AllAgree}
 use Rattle.serve_clients.specs.Marks.{client_of}
+use Rattle.serve_links.specs.declared.calls.calls.SentCall.{SentCall}
 use Rattle.serve_links.specs.declared.link.Link.{Link}
-use Rattle.serve_links.specs.CoreSteps.{Step, Opened, NotOpened, Fed, Polled, Stopped, Settled, Gave, Closed, LeftLine, Loaded, Walks, AreOf}
+use Rattle.serve_links.specs.CoreSteps.{Step, Opened, NotOpened, Fed, Polled, Stopped, Settled, Gave, Closed, LeftLine, Loaded, Linked, Asked, Greeted, Spelled, Walks, AreOf}
+use Rattle.serve_links.specs.Talks.{SaidAsk, Talk, talk_in, IsCalledIn, IsOrderly, IsOfClients, IsOfServer}
 
 -- all that the core was fed for this client since it was opened, by the calls of a walk, the latest first
 abbrev pub fed_in : List Step → ℕ → List ℕ
@@ -24,6 +28,10 @@ fed_in (Gave client bytes ∷ steps) i = fed_in steps i
 fed_in (Closed client ∷ steps) i = fed_in steps i
 fed_in (LeftLine client ∷ steps) i = fed_in steps i
 fed_in (Loaded configuration generation ∷ steps) i = fed_in steps i
+fed_in (Linked at dialect ∷ steps) i = fed_in steps i
+fed_in (Asked at number dialect ask ∷ steps) i = fed_in steps i
+fed_in (Greeted at bytes ∷ steps) i = fed_in steps i
+fed_in (Spelled at number ask answer bytes ∷ steps) i = fed_in steps i
 
 -- all that the core gave for this client since it was opened
 abbrev pub gave_in : List Step → ℕ → List ℕ
@@ -38,6 +46,10 @@ gave_in (Gave client bytes ∷ steps) i = if nat_eq client i then gave_in steps 
 gave_in (Closed client ∷ steps) i = gave_in steps i
 gave_in (LeftLine client ∷ steps) i = gave_in steps i
 gave_in (Loaded configuration generation ∷ steps) i = gave_in steps i
+gave_in (Linked at dialect ∷ steps) i = gave_in steps i
+gave_in (Asked at number dialect ask ∷ steps) i = gave_in steps i
+gave_in (Greeted at bytes ∷ steps) i = gave_in steps i
+gave_in (Spelled at number ask answer bytes ∷ steps) i = gave_in steps i
 
 -- a client's end agrees with what was fed and given for it by these calls
 abbrev pub AgreesWith : List Step → List Event → ℕ → Client → Type 0
@@ -51,33 +63,78 @@ AgreeWith steps h clients = AllAgree h (fed_in steps) (gave_in steps) clients
 abbrev pub TellsNone : ℕ → List Step → List Step → Type 0
 TellsNone j past steps = (fed_in (steps ++ past) j ≡ fed_in past j) × (gave_in (steps ++ past) j ≡ gave_in past j)
 
--- each link's connection is to its server, and was begun at the address that the link's text names
-abbrev pub LineAgrees : List Event → ℕ → Link → Type 0
-LineAgrees h at link = (conn : Conn) → link.conn ≡ Some conn → (role conn.number h ≡ Some (1, at)) × AddressAgrees h link.text.items conn.number
+-- calls, as a walk has them
+abbrev pub said_asks : List SentCall → List SaidAsk
+said_asks calls = each (λ call. (call.ticket.number, call.dialect, call.ticket.ask)) calls
 
-abbrev pub LinesAgree : List Event → List Link → Type 0
-LinesAgree h links = (at : ℕ) (link : Link) → slice_get links at ≡ Some link → LineAgrees h at link
+-- the core gave out each of these calls for this server
+abbrev pub AreCalled : List Step → ℕ → List SentCall → Type 0
+AreCalled past at [] = Unit {0}
+AreCalled past at (call ∷ calls) = IsCalledIn past call.ticket.number at call.ticket.ask × AreCalled past at calls
+
+-- a connection agrees with what was said over it: it is to this server, and was begun at the address that this text names; what was to be sent is what it took, and then what is unsent; what it delivered told all
+-- that was told, and is else held; these calls are out, and what the server tells of its dialects is awaited or not
+pub record TalkAgrees (h : List Event) (at : ℕ) (text : List ℕ) (talk : Talk) (c : ℕ) (held unsent : List ℕ) (out : List SaidAsk) (awaits : Bool) : Type 0 where
+  pub is_to : role c h ≡ Some (1, at)
+  pub address : AddressAgrees h text c
+  pub sent_is : talk.sent ≡ taken c h ++ unsent
+  pub told_is : delivered c h ≡ talk.told ++ held
+  pub out_is : talk.out ≡ out
+  pub awaits_is : talk.awaits ≡ awaits
+
+-- so does that of a link, if it has one, where so much of it is held
+abbrev pub ConnAgrees : ℕ → List Step → List Event → Link → Conn → List ℕ → Type 0
+ConnAgrees at past h link conn held = TalkAgrees h at link.text.items (talk_in past at) conn.number held (bytes_of conn.unsent) (said_asks link.calls.sent.items) link.awaits_dialect
+
+-- a link agrees with these calls, and the core gave out all calls that wait for it
+pub record LineAgrees (at : ℕ) (past : List Step) (h : List Event) (link : Link) : Type 0 where
+  pub conn : (conn : Conn) → link.conn ≡ Some conn → ConnAgrees at past h link conn conn.held.items
+  pub waiting : AreCalled past at link.waiting.items
+
+-- the same of a link whose bytes were lost: it agrees but for what it holds
+pub record LineLost (at : ℕ) (past : List Step) (h : List Event) (link : Link) : Type 0 where
+  pub conn : (conn : Conn) → link.conn ≡ Some conn → (held : List ℕ) × ConnAgrees at past h link conn held
+  pub waiting : AreCalled past at link.waiting.items
+
+-- a link agrees, and the core gave out this call for its server
+abbrev pub LineCalled : ℕ → Ask → (at : ℕ) → List Step → List Event → Link → Type 0
+LineCalled number ask at past h link = LineAgrees at past h link × IsCalledIn past number at ask
+
+-- each link agrees with these calls
+abbrev pub LinesAgree : List Step → List Event → List Link → Type 0
+LinesAgree past h links = (at : ℕ) (link : Link) → slice_get links at ≡ Some link → LineAgrees at past h link
+
+-- all that a link has to do with its connection and its calls: what names its server's address, the connection's number, what is held of it and what is to be sent, the calls that are out, those that wait, and
+-- whether its server is to tell of its dialects
+abbrev pub line_of : Link → List ℕ × Option (ℕ × List ℕ × List ℕ) × List SaidAsk × List SentCall × Bool
+line_of link = (link.text.items, option_map (λ (x : Conn). (x.number, x.held.items, bytes_of x.unsent)) link.conn, said_asks link.calls.sent.items, link.waiting.items, link.awaits_dialect)
 
 -- all connections of others than this one are as they were
 abbrev pub KeepsOthers : ℕ × ℕ → List Event → List Event → Type 0
 KeepsOthers its h h' = (d : ℕ) (p : ℕ × ℕ) → role d h ≡ Some p → p ≢ its → IsUntouched d h h'
 
--- by calls of this kind the core goes on, and a client's end on the wire with it: where it agreed with all calls before, it agrees with all calls after, and no other's end is touched
+-- by calls of this kind, which tell nothing of servers, the core goes on, and a client's end on the wire with it: where it agreed with all calls before, it agrees with all calls after, and no other's end is touched
 pub record OneGoes (Is : Step → Type 0) (id : ℕ) (core : ServedCore) (h : List Event) (client : Client) (core' : ServedCore) (h' : List Event) (client' : Client) : Type 0 where
   pub steps : List Step
   pub kinds : AreOf Is steps
+  pub own : AreOf IsOfClients steps
   pub walks : Walks steps core core'
   pub agrees : (past : List Step) → AgreesWith past h id client → AgreesWith (steps ++ past) h' id client' × KeepsOthers (0, id) h h'
   pub others : (past : List Step) (j : ℕ) → nat_eq id j ≡ false → TellsNone j past steps
 
--- by calls of this kind, which tell nothing of clients, the core goes on, and a link's end on the wire with it. No other's connection is touched
-pub record LineGoes (Is : Step → Type 0) (at : ℕ) (core : ServedCore) (h : List Event) (link : Link) (core' : ServedCore) (h' : List Event) (link' : Link) : Type 0 where
+-- by calls of this kind, which tell of this server alone, the core goes on, and the server's link on the wire with it: where the one held of it and of all calls before, the other holds of it and of all calls after, and
+-- all happened in order if it had before. No other's connection is touched
+pub record LineGoesFrom (Before After : ℕ → List Step → List Event → Link → Type 0) (Is : Step → Type 0) (at : ℕ) (core : ServedCore) (h : List Event) (link : Link) (core' : ServedCore) (h' : List Event) (link' : Link) : Type 0 where
   pub steps : List Step
   pub kinds : AreOf Is steps
+  pub own : AreOf (IsOfServer at) steps
   pub walks : Walks steps core core'
-  pub agrees : LineAgrees h at link → LineAgrees h' at link' × KeepsOthers (1, at) h h'
+  pub agrees : (past : List Step) → IsOrderly past → Before at past h link → IsOrderly (steps ++ past) × After at (steps ++ past) h' link' × KeepsOthers (1, at) h h'
   pub text : link'.text ≡ link.text
-  pub others : (past : List Step) (j : ℕ) → TellsNone j past steps
+
+-- a link that agrees goes on to agree
+abbrev pub LineGoes : (Step → Type 0) → ℕ → ServedCore → List Event → Link → ServedCore → List Event → Link → Type 0
+LineGoes = LineGoesFrom LineAgrees LineAgrees
 
 -- what a proxy's end has: a core, and the ends of clients and links on a wire
 pub record AnEnd : Type 0 where
@@ -90,18 +147,34 @@ pub record AnEnd : Type 0 where
 abbrev pub texts_of : List Link → List (List ℕ)
 texts_of links = each (λ link. link.text.items) links
 
--- each end agrees with these calls
+-- all happened in order by these calls, and each end agrees with them
 pub record Agrees (past : List Step) (x : AnEnd) : Type 0 where
+  pub orderly : IsOrderly past
   pub clients : AgreeWith past x.history x.clients
-  pub links : LinesAgree x.history x.links
+  pub links : LinesAgree past x.history x.links
 
--- by calls of this kind it goes on, and where its ends agreed with all calls before, they agree with all calls after. The links are to the servers that they were to
-pub record AllGo (Is : Step → Type 0) (old new : AnEnd) : Type 0 where
+-- the same, but that this holds of the link at one place
+pub record AgreesBut (This : ℕ → List Step → List Event → Link → Type 0) (at : ℕ) (past : List Step) (x : AnEnd) : Type 0 where
+  pub orderly : IsOrderly past
+  pub clients : AgreeWith past x.history x.clients
+  pub links : (j : ℕ) (link : Link) → nat_eq at j ≡ false → slice_get x.links j ≡ Some link → LineAgrees j past x.history link
+  pub this : (link : Link) → slice_get x.links at ≡ Some link → This at past x.history link
+
+-- all agree, and the core gave out this call for this server
+abbrev pub AgreesCalled : ℕ → ℕ → Ask → List Step → AnEnd → Type 0
+AgreesCalled number at ask past x = Agrees past x × IsCalledIn past number at ask
+
+-- by calls of this kind it goes on: where the one held of it and of all calls before, the other holds of it and of all calls after. The links are to the servers that they were to
+pub record AllGoFrom (Before After : List Step → AnEnd → Type 0) (Is : Step → Type 0) (old new : AnEnd) : Type 0 where
   pub steps : List Step
   pub kinds : AreOf Is steps
   pub walks : Walks steps old.core new.core
-  pub agree : (past : List Step) → Agrees past old → Agrees (steps ++ past) new
+  pub agree : (past : List Step) → Before past old → After (steps ++ past) new
   pub texts : texts_of new.links ≡ texts_of old.links
+
+-- where its ends agreed with all calls before, they agree with all calls after
+abbrev pub AllGo : (Step → Type 0) → AnEnd → AnEnd → Type 0
+AllGo = AllGoFrom Agrees Agrees
 
 -- laws of all ends, by calls of one kind: what is done to one of them is done to all, and one after another
 pub record StoriesGoOn (Is : Step → Type 0) : Type 0 where

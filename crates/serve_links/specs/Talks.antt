@@ -1,0 +1,162 @@
+-- What a walk tells of what was said over each server's connection. Source: mcgate's own.
+use Rattle.std.specs.Prelude.{◌≡◌, ℕ, Bool, true, false, List, [], ◌∷◌, ◌++◌, nat_eq, length, if◌then◌else◌}
+use Rattle.mc_types.specs.declared.ask.Ask.{Ask}
+use Rattle.mc_types.specs.declared.ask.Dialect.{Dialect}
+use Rattle.mc_types.specs.declared.answer.Answer.{Answer}
+use Rattle.mc_types.specs.declared.call.Outcome.{Outcome}
+use Rattle.mc_types.specs.declared.call.Outcome.TheVariants.{Answered, Failed}
+use Rattle.wire_stream.specs.Spelling.{spelling_of}
+use Rattle.core_commands.specs.declared.ticket.Ticket.{Ticket}
+use Rattle.core_proxy.specs.declared.note.Poll.TheVariants as polls
+use Rattle.serve_links.specs.Dialects.{asked_in, SpellsIn}
+use Rattle.serve_links.specs.Lines.{first_asked_of, awaits_first}
+use Rattle.serve_links.specs.CoreSteps.{Step, Opened, NotOpened, Fed, Polled, Stopped, Settled, Gave, Closed, LeftLine, Loaded, Linked, Asked, Greeted, Spelled}
+
+-- a call that a server was asked: its number, in which dialect it was asked, and its ask
+abbrev pub SaidAsk : Type 0
+SaidAsk = ℕ × Dialect × Ask
+
+-- of a server's connection: what was to be sent over it, which bytes that came over it told something, the calls that are out there, the one that was asked first in front, and whether the server is still
+-- to tell of its dialects, before it answers any call
+pub record Talk : Type 0 where
+  pub sent : List ℕ
+  pub told : List ℕ
+  pub out : List SaidAsk
+  pub awaits : Bool
+
+-- without the first
+abbrev pub behind : List SaidAsk → List SaidAsk
+behind [] = []
+behind (ask ∷ asks) = asks
+
+-- where there was no connection yet
+abbrev pub no_talk : Talk
+no_talk = record { sent = []; told = []; out = []; awaits = false }
+
+-- a new connection, over which this is asked first
+abbrev pub first_talk : List ℕ → Bool → Talk
+first_talk first awaits = record { sent = first; told = []; out = []; awaits = awaits }
+
+-- one more call is asked in its dialect
+abbrev pub with_ask : ℕ → Dialect → Ask → Talk → Talk
+with_ask number dialect ask talk = record talk { sent = talk.sent ++ spelling_of (asked_in dialect ask); out = talk.out ++ (number, dialect, ask) ∷ [] }
+
+-- the server told of its dialects
+abbrev pub greeted : List ℕ → Talk → Talk
+greeted bytes talk = record talk { told = talk.told ++ bytes; awaits = false }
+
+-- the first call is out no more
+abbrev pub with_answer : List ℕ → Talk → Talk
+with_answer bytes talk = record talk { told = talk.told ++ bytes; out = behind talk.out }
+
+-- what a step adds to what was said over the connection of the server of this number
+abbrev pub talk_after : Step → ℕ → Talk → Talk
+talk_after (Linked at dialect) i talk = if nat_eq at i then first_talk (first_asked_of dialect) (awaits_first dialect) else talk
+talk_after (Asked at number dialect ask) i talk = if nat_eq at i then with_ask number dialect ask talk else talk
+talk_after (Greeted at bytes) i talk = if nat_eq at i then greeted bytes talk else talk
+talk_after (Spelled at number ask answer bytes) i talk = if nat_eq at i then with_answer bytes talk else talk
+talk_after (Opened client) i talk = talk
+talk_after (NotOpened fault) i talk = talk
+talk_after (Fed client piece) i talk = talk
+talk_after (Polled client poll) i talk = talk
+talk_after (Stopped client fault) i talk = talk
+talk_after (Settled number outcome) i talk = talk
+talk_after (Gave client bytes) i talk = talk
+talk_after (Closed client) i talk = talk
+talk_after (LeftLine client) i talk = talk
+talk_after (Loaded configuration generation) i talk = talk
+
+-- what was said over it by these steps, the latest first
+abbrev pub talk_in : List Step → ℕ → Talk
+talk_in [] i = no_talk
+talk_in (step ∷ steps) i = talk_after step i (talk_in steps i)
+
+-- in one of these steps the core gave out this call: its number, its server, and its ask
+pub record IsCalledIn (steps : List Step) (number at : ℕ) (ask : Ask) : Type 0 where
+  pub client : ℕ
+  pub ticket : Ticket
+  pub number_is : ticket.number ≡ number
+  pub server_is : ticket.server ≡ at
+  pub ask_is : ticket.ask ≡ ask
+  pub later : List Step
+  pub earlier : List Step
+  pub was : steps ≡ later ++ Polled client (polls.Call ticket) ∷ earlier
+
+-- the call that was asked first of those that are out has this number, nothing else is told before its answer, and these bytes, whatever follows them, spell this answer to the ask, in the dialect in which it was asked
+pub record IsNextAnswer (number : ℕ) (ask : Ask) (answer : Answer) (bytes : List ℕ) (talk : Talk) : Type 0 where
+  pub dialect : Dialect
+  pub said : Ask
+  pub others : List SaidAsk
+  pub is_first : talk.out ≡ (number, dialect, said) ∷ others
+  pub none_before : talk.awaits ≡ false
+  pub more : List ℕ
+  pub spells : SpellsIn dialect ask (bytes ++ more) answer (length bytes)
+
+-- the last step was that the bytes of some server spelled this answer to the call
+pub record IsJustSpelled (number : ℕ) (answer : Answer) (steps : List Step) : Type 0 where
+  pub at : ℕ
+  pub ask : Ask
+  pub bytes : List ℕ
+  pub earlier : List Step
+  pub last : steps ≡ Spelled at number ask answer bytes ∷ earlier
+
+-- no call is answered but by what its server's bytes spell
+abbrev pub ComesBy : ℕ → Outcome → List Step → Type 0
+ComesBy number (Answered answer) past = IsJustSpelled number answer past
+ComesBy number Failed past = Unit {0}
+
+-- after these steps this one may come: a server is asked what the core gave out for it, tells of its dialects where it is asked for that, and then answers its calls in their order; and a call is settled by its answer
+abbrev pub MayFollow : Step → List Step → Type 0
+MayFollow (Asked at number dialect ask) past = IsCalledIn past number at ask
+MayFollow (Greeted at bytes) past = (talk_in past at).awaits ≡ true
+MayFollow (Spelled at number ask answer bytes) past = IsNextAnswer number ask answer bytes (talk_in past at)
+MayFollow (Settled number outcome) past = ComesBy number outcome past
+MayFollow (Linked at dialect) past = Unit {0}
+MayFollow (Opened client) past = Unit {0}
+MayFollow (NotOpened fault) past = Unit {0}
+MayFollow (Fed client piece) past = Unit {0}
+MayFollow (Polled client poll) past = Unit {0}
+MayFollow (Stopped client fault) past = Unit {0}
+MayFollow (Gave client bytes) past = Unit {0}
+MayFollow (Closed client) past = Unit {0}
+MayFollow (LeftLine client) past = Unit {0}
+MayFollow (Loaded configuration generation) past = Unit {0}
+
+-- so it is with each of them, after those before it
+abbrev pub IsOrderly : List Step → Type 0
+IsOrderly [] = Unit {0}
+IsOrderly (step ∷ steps) = MayFollow step steps × IsOrderly steps
+
+-- a step tells nothing of servers
+abbrev pub IsOfClients : Step → Type 0
+IsOfClients (Opened client) = Unit {0}
+IsOfClients (NotOpened fault) = Unit {0}
+IsOfClients (Fed client piece) = Unit {0}
+IsOfClients (Polled client poll) = Unit {0}
+IsOfClients (Stopped client fault) = Unit {0}
+IsOfClients (Gave client bytes) = Unit {0}
+IsOfClients (Closed client) = Unit {0}
+IsOfClients (LeftLine client) = Unit {0}
+IsOfClients (Loaded configuration generation) = Unit {0}
+IsOfClients (Settled number outcome) = ⊥
+IsOfClients (Linked at dialect) = ⊥
+IsOfClients (Asked at number dialect ask) = ⊥
+IsOfClients (Greeted at bytes) = ⊥
+IsOfClients (Spelled at number ask answer bytes) = ⊥
+
+-- a step tells of this server, or settles a call
+abbrev pub IsOfServer : ℕ → Step → Type 0
+IsOfServer i (Settled number outcome) = Unit {0}
+IsOfServer i (Linked at dialect) = at ≡ i
+IsOfServer i (Asked at number dialect ask) = at ≡ i
+IsOfServer i (Greeted at bytes) = at ≡ i
+IsOfServer i (Spelled at number ask answer bytes) = at ≡ i
+IsOfServer i (Opened client) = ⊥
+IsOfServer i (NotOpened fault) = ⊥
+IsOfServer i (Fed client piece) = ⊥
+IsOfServer i (Polled client poll) = ⊥
+IsOfServer i (Stopped client fault) = ⊥
+IsOfServer i (Gave client bytes) = ⊥
+IsOfServer i (Closed client) = ⊥
+IsOfServer i (LeftLine client) = ⊥
+IsOfServer i (Loaded configuration generation) = ⊥
