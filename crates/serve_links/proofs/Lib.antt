@@ -7,3 +7,6 @@ pub mod Leaving
 pub mod Reading
 pub mod Story
 pub mod Ends
+pub mod Talking
+pub mod Answering
+pub mod LinkGoes

@@ -112,7 +112,7 @@ IsSettlement (Asked at number dialect ask) = ⊥
 IsSettlement (Greeted at bytes) = ⊥
 IsSettlement (Spelled at number ask answer bytes) = ⊥
 
--- a call of a server has failed; or a connection was begun, or an ask is to be sent, which changes no core
+-- a call of a server has failed
 abbrev pub IsFailure : Step → Type 0
 IsFailure (Settled number outcome) = outcome ≡ Failed
 IsFailure (Opened client) = ⊥
@@ -124,16 +124,33 @@ IsFailure (Gave client bytes) = ⊥
 IsFailure (Closed client) = ⊥
 IsFailure (LeftLine client) = ⊥
 IsFailure (Loaded configuration generation) = ⊥
-IsFailure (Linked at dialect) = Unit {0}
-IsFailure (Asked at number dialect ask) = Unit {0}
+IsFailure (Linked at dialect) = ⊥
+IsFailure (Asked at number dialect ask) = ⊥
 IsFailure (Greeted at bytes) = ⊥
 IsFailure (Spelled at number ask answer bytes) = ⊥
+
+-- a call of a server is to be sent, over a connection that was there or a new one, or has failed
+abbrev pub IsSending : Step → Type 0
+IsSending (Settled number outcome) = outcome ≡ Failed
+IsSending (Linked at dialect) = Unit {0}
+IsSending (Asked at number dialect ask) = Unit {0}
+IsSending (Opened client) = ⊥
+IsSending (NotOpened fault) = ⊥
+IsSending (Fed client piece) = ⊥
+IsSending (Polled client poll) = ⊥
+IsSending (Stopped client fault) = ⊥
+IsSending (Gave client bytes) = ⊥
+IsSending (Closed client) = ⊥
+IsSending (LeftLine client) = ⊥
+IsSending (Loaded configuration generation) = ⊥
+IsSending (Greeted at bytes) = ⊥
+IsSending (Spelled at number ask answer bytes) = ⊥
 
 -- it goes on by calls of it alone, and keeps its configuration
 abbrev pub GoesOn : ServedCore → ServedCore → Type 0
 GoesOn old new = GoesBy IsOfTurn old new
 
--- nothing is done with the core but that calls fail
+-- nothing is done but that calls fail
 abbrev pub Fails : ServedCore → ServedCore → Type 0
 Fails old new = GoesBy IsFailure old new
 

@@ -36,6 +36,10 @@ pub record SettlesSome (sent : List SentCall) (bytes : List ℕ) (core : ServedC
   pub spelled : List ℕ
   pub bytes_are : bytes ≡ spelled ++ bytes'
 
+-- so it is with some answers, or none, and whatever is left of the bytes
+abbrev pub SettlesFront : List SentCall → List ℕ → ServedCore → List SentCall → ServedCore → Type 0
+SettlesFront sent bytes core sent' core' = (rest : List ℕ) × SettlesSome sent bytes core sent' rest core'
+
 -- how many bytes the answer took that was settled, if one was
 abbrev pub used_by : Next → ℕ
 used_by (nexts.Settled client used) = used

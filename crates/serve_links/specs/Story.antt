@@ -130,7 +130,7 @@ pub record LineGoesFrom (Before After : ℕ → List Step → List Event → Lin
   pub own : AreOf (IsOfServer at) steps
   pub walks : Walks steps core core'
   pub agrees : (past : List Step) → IsOrderly past → Before at past h link → IsOrderly (steps ++ past) × After at (steps ++ past) h' link' × KeepsOthers (1, at) h h'
-  pub text : link'.text ≡ link.text
+  pub text : link'.text.items ≡ link.text.items
 
 -- a link that agrees goes on to agree
 abbrev pub LineGoes : (Step → Type 0) → ℕ → ServedCore → List Event → Link → ServedCore → List Event → Link → Type 0

@@ -1,9 +1,9 @@
 //! One server's link: its connection, if it has one, and the calls that are out.
 
-ghost use Rattle.std.specs.Prelude.{◌≡◌, ◌+◌, ◌<◌, ◌++◌, false, ◌∷◌, [], None, length, MatchOption, IfOk, OnOk, OnErr, option_map};
+ghost use Rattle.std.specs.Prelude.{◌≡◌, ◌+◌, ◌<◌, ◌++◌, false, ◌∷◌, [], None, length, MatchOption, IfOk, IfErr, OnOk, OnErr, option_map};
 ghost use Rattle.serve_links.specs.Links.{IsDown};
 ghost use Rattle.wire_parts.specs.Sending.{bytes_of};
-ghost use Rattle.serve_links.specs.Lines.{first_asked_of, KeepsLines, HasNewEnd, OpensBy, Learns};
+ghost use Rattle.serve_links.specs.Lines.{first_asked_of, awaits_first, KeepsLines, HasNewEnd, OpensBy, Learns};
 
 use crate::calls::{LinkCalls, SentCall};
 use crate::news::{Cause, LinkNews};
@@ -54,6 +54,16 @@ pub fn vain(has_failed: bool) -> Option<Cause> {
         Some(Cause::VainReads)
     } else {
         None
+    }
+}
+
+// Whether its server is to tell of its dialects before it answers calls.
+fn awaits_first(dialect: ServerDialect) -> bool
+    ensures { result ≡ awaits_first dialect }
+{
+    match dialect {
+        ServerDialect::Auto => true,
+        ServerDialect::Classic | ServerDialect::Meta => false,
     }
 }
 
@@ -182,6 +192,8 @@ impl Link {
     /// The call waits. Where memory was refused it is given back.
     pub fn let_wait(&mut self, call: SentCall) -> Result<(), SentCall>
         ensures rest { self.new ≡ record self.old { waiting = self.new.waiting } }
+        ensures ok { OnOk result (self.new.waiting.items ≡ self.old.waiting.items ++ call ∷ []) }
+        ensures err { IfErr result (λ given. (given ≡ call) × (self.new.waiting.items ≡ self.old.waiting.items)) }
     {
         match self.waiting.push_back(call) {
             Ok(()) => Ok(()),
@@ -304,7 +316,7 @@ impl Link {
     }
 
     /// A connection to its server is begun, at the address that its text names. Where the server is to tell its dialects, calls go out in the
-    /// classic one until it has. Where memory is refused for its end, the connection is closed.
+    /// classic one until it has. Where memory is refused for its end, the connection is closed. While calls are out none is begun.
     ///
     /// Source: mcgate's own.
     pub fn connect<N: Net, W: Wire>(
@@ -318,6 +330,9 @@ impl Link {
     ) -> Opening
         ensures opens { OpensBy server dialect result self.old self.new (W.history wire.old) (W.history wire.new) }
     {
+        if !self.calls.is_empty() {
+            return Opening::Failed;
+        }
         match wire.connect(net, server, &self.text) {
             Connected::Begun(number) => {
                 if self.open(alloc, number, now, dialect).is_ok() {
@@ -339,6 +354,7 @@ impl Link {
         now: u64,
         dialect: ServerDialect,
     ) -> Result<(), AllocError>
+        requires { self.old.calls.sent.items ≡ [] }
         ensures ok { OnOk result (HasNewEnd number dialect self.old self.new) }
         ensures err { OnErr result (KeepsLines self.old self.new) }
     {
@@ -346,7 +362,7 @@ impl Link {
         conn.readable = false;
         conn.writable = false;
         ask_first(dialect, &mut conn)?;
-        self.awaits_dialect = dialect == ServerDialect::Auto;
+        self.awaits_dialect = awaits_first(dialect);
         self.dialect = first_dialect(dialect);
         self.conn = Some(conn);
         self.opened = now;

@@ -1,0 +1,145 @@
+-- Answers that settle calls, as steps of a walk.
+use Rattle.std.proofs.Common.{◌≡◌, ℕ, ◌≤◌, true, false, if◌then◌else◌, List, [], ◌∷◌, ◌++◌, length, take, drop, Option, Some, None, refl, sym, ap, ◌∙◌, subst, append_assoc, append-nil, length-take, arith}
+use Rattle.std.proofs.lemmas.List.{take-append-drop}
+use Rattle.mc_types.specs.declared.ask.Ask.{Ask}
+use Rattle.mc_types.specs.declared.ask.Dialect.{Dialect}
+use Rattle.mc_types.specs.declared.ask.Dialect.TheVariants.{Classic, Meta}
+use Rattle.mc_types.specs.declared.answer.Answer.{Answer}
+use Rattle.mc_types.specs.declared.call.Outcome.TheVariants.{Answered}
+use Rattle.wire_answers.proofs.ReadLemmas.{spelled_within}
+use Rattle.wire_meta_gets.specs.Form.{in_meta}
+use Rattle.serve_wire.proofs.Steps.{equal}
+use Rattle.core_proxy.specs.Settles as of_calls
+use Rattle.core_accepted.specs.declared.served.ServedCore.{ServedCore}
+use Rattle.core_accepted.specs.Results.{IsSettled}
+use Rattle.serve_links.specs.declared.calls.calls.SentCall.{SentCall}
+use Rattle.serve_links.specs.CoreSteps.{Step, Settled, Spelled, Walks, AreOf, IsOfTurn}
+use Rattle.serve_links.specs.Dialects.{SpellsIn}
+use Rattle.serve_links.specs.Settled.{SettlesOne, SettlesEach, SettlesSome}
+use Rattle.serve_links.specs.Talks.{SaidAsk, Talk, behind, with_answer, talk_in, IsNextAnswer, IsOrderly, IsOfServer}
+use Rattle.serve_links.specs.Story.{said_asks}
+use Rattle.serve_links.proofs.Walked.{walked, of_both}
+
+-- the walk that answers to calls make, and what it tells of their server
+pub record Answers (at : ℕ) (sent : List SentCall) (bytes : List ℕ) (a : ServedCore) (sent' : List SentCall) (rest : List ℕ) (b : ServedCore) : Type 0 where
+  pub steps : List Step
+  pub kinds : AreOf IsOfTurn steps
+  pub own : AreOf (IsOfServer at) steps
+  pub walks : Walks steps a b
+  pub spelled : List ℕ
+  pub whole : bytes ≡ spelled ++ rest
+  pub orderly :
+      (past : List Step) → IsOrderly past → (talk_in past at).out ≡ said_asks sent → (talk_in past at).awaits ≡ false
+      → IsOrderly (steps ++ past) × (talk_in (steps ++ past) at ≡ record (talk_in past at) { told = (talk_in past at).told ++ spelled; out = said_asks sent' })
+
+spells_within : (dialect : Dialect) (ask : Ask) (bytes : List ℕ) (answer : Answer) (used : ℕ) → SpellsIn dialect ask bytes answer used → used ≤ length bytes
+spells_within Classic ask bytes answer used s = spelled_within ask bytes answer used s
+spells_within Meta ask bytes answer used s = spelled_within (in_meta ask) bytes s.told used s.spells
+
+-- so many bytes spell it, whatever follows them
+spells_front : (dialect : Dialect) (ask : Ask) (bytes : List ℕ) (answer : Answer) (used : ℕ) → SpellsIn dialect ask bytes answer used → SpellsIn dialect ask (take used bytes ++ drop used bytes) answer (length (take used bytes))
+spells_front dialect ask bytes answer used s =
+    let within = spells_within dialect ask bytes answer used s in
+    let count : length (take used bytes) ≡ used = omega (arith, within, length-take used bytes) in
+    subst (λ n. SpellsIn dialect ask (take used bytes ++ drop used bytes) answer n) (sym count) (subst (λ l. SpellsIn dialect ask l answer used) (sym (take-append-drop used bytes)) s)
+
+none_some : {A : Type 0} {x : A} → None ≡ Some x → ⊥
+none_some e = cc
+
+same_pair : {p q : ℕ × Dialect} → ◌≡◌ {A = Option (ℕ × Dialect)} (Some p) (Some q) → p ≡ q
+same_pair e = cc
+
+-- one answer
+one : (at : ℕ) (sent : List SentCall) (bytes : List ℕ) (a : ServedCore) (answer : Answer) (sent' : List SentCall) (rest : List ℕ) (b : ServedCore) → SettlesOne sent bytes a answer sent' rest b → Answers at sent bytes a sent' rest b
+one at [] bytes a answer sent' rest b s = absurd (none_some s.answers.is_first)
+one at (call ∷ calls) bytes a answer sent' rest b s = record {
+  steps = Settled number (Answered answer) ∷ Spelled at number ask answer spelled ∷ [];
+  kinds = (tt, tt, tt);
+  own = (tt, refl, tt);
+  walks = (a, (a, refl, (refl, asks)), s.settles.2);
+  spelled = spelled;
+  whole = s.whole ∙ ap (λ l. l ++ s.more) (sym (take-append-drop s.used s.front)) ∙ append_assoc spelled (drop s.used s.front) s.more ∙ ap (λ l. spelled ++ l) (sym s.rest);
+  orderly = λ past o out off. ((record { at = at; ask = ask; bytes = spelled; earlier = past; last = refl }, next past out off, o), told past out);
+}
+  where
+    number : ℕ
+    number = call.ticket.number
+
+    ask : Ask
+    ask = s.answers.ask
+
+    spelled : List ℕ
+    spelled = take s.used s.front
+
+    first : ◌≡◌ {A = ℕ × Dialect} (number, call.dialect) (s.answers.number, s.answers.dialect)
+    first = same_pair s.answers.is_first
+
+    asks : of_calls.asked a.core number ≡ Some ask
+    asks = ap (λ (p : ℕ × Dialect). of_calls.asked a.core p.0) first ∙ s.answers.asks
+
+    next : (past : List Step) → (talk_in past at).out ≡ said_asks (call ∷ calls) → (talk_in past at).awaits ≡ false → IsNextAnswer number ask answer spelled (talk_in past at)
+    next past out off = record {
+      dialect = call.dialect;
+      said = call.ticket.ask;
+      others = said_asks calls;
+      is_first = out;
+      none_before = off;
+      more = drop s.used s.front;
+      spells = spells_front call.dialect ask s.front answer s.used (subst (λ (p : ℕ × Dialect). SpellsIn p.1 ask s.front answer s.used) (sym first) s.answers.spells);
+    }
+
+    told :
+        (past : List Step) → (talk_in past at).out ≡ said_asks (call ∷ calls)
+        → talk_in (Settled number (Answered answer) ∷ Spelled at number ask answer spelled ∷ past) at ≡ record (talk_in past at) { told = (talk_in past at).told ++ spelled; out = said_asks sent' }
+    told past out =
+        ap (λ t. if t then with_answer spelled (talk_in past at) else talk_in past at) (equal at)
+        ∙ ap (λ (l : List SaidAsk). record (talk_in past at) { told = (talk_in past at).told ++ spelled; out = l }) (ap behind out ∙ ap said_asks (sym s.settles.1))
+
+-- one after another
+pub answers_each :
+    (at : ℕ) (answers : List Answer) (sent : List SentCall) (bytes : List ℕ) (a : ServedCore) (sent' : List SentCall) (rest : List ℕ) (b : ServedCore) → SettlesEach answers sent bytes a sent' rest b
+    → Answers at sent bytes a sent' rest b
+answers_each at [] sent bytes a sent' rest b s = record {
+  steps = [];
+  kinds = tt;
+  own = tt;
+  walks = s.2;
+  spelled = [];
+  whole = sym s.1;
+  orderly = λ past o out off. (o, none past out);
+}
+  where
+    none : (past : List Step) → (talk_in past at).out ≡ said_asks sent → talk_in past at ≡ record (talk_in past at) { told = (talk_in past at).told ++ []; out = said_asks sent' }
+    none past out =
+        ap (λ (l : List SaidAsk). record (talk_in past at) { out = l }) (out ∙ ap said_asks (sym s.0))
+        ∙ ap (λ (l : List ℕ). record (talk_in past at) { told = l; out = said_asks sent' }) (sym (append-nil (talk_in past at).told))
+answers_each at (answer ∷ answers) sent bytes a sent' rest b s = record {
+  steps = g.steps ++ f.steps;
+  kinds = of_both IsOfTurn g.steps f.steps g.kinds f.kinds;
+  own = of_both (IsOfServer at) g.steps f.steps g.own f.own;
+  walks = walked g.steps f.steps a s.2 b f.walks g.walks;
+  spelled = f.spelled ++ g.spelled;
+  whole = f.whole ∙ ap (λ l. f.spelled ++ l) g.whole ∙ sym (append_assoc f.spelled g.spelled rest);
+  orderly = both;
+}
+  where
+    f : Answers at sent bytes a s.0 s.1 s.2
+    f = one at sent bytes a answer s.0 s.1 s.2 s.3
+
+    g : Answers at s.0 s.1 s.2 sent' rest b
+    g = answers_each at answers s.0 s.1 s.2 sent' rest b s.4
+
+    both :
+        (past : List Step) → IsOrderly past → (talk_in past at).out ≡ said_asks sent → (talk_in past at).awaits ≡ false
+        → IsOrderly ((g.steps ++ f.steps) ++ past) × (talk_in ((g.steps ++ f.steps) ++ past) at ≡ record (talk_in past at) { told = (talk_in past at).told ++ f.spelled ++ g.spelled; out = said_asks sent' })
+    both past o out off =
+        let first = f.orderly past o out off in
+        let later = g.orderly (f.steps ++ past) first.0 (ap (λ (t : Talk). t.out) first.1) (ap (λ (t : Talk). t.awaits) first.1 ∙ off) in
+        subst (λ l. IsOrderly l × (talk_in l at ≡ record (talk_in past at) { told = (talk_in past at).told ++ f.spelled ++ g.spelled; out = said_asks sent' })) (sym (append_assoc g.steps f.steps past)) (
+          later.0,
+          later.1 ∙ ap (λ (t : Talk). record t { told = t.told ++ g.spelled; out = said_asks sent' }) first.1
+          ∙ ap (λ (l : List ℕ). record (talk_in past at) { told = l; out = said_asks sent' }) (append_assoc (talk_in past at).told f.spelled g.spelled),
+        )
+
+pub answers_some : (at : ℕ) (sent : List SentCall) (bytes : List ℕ) (a : ServedCore) (sent' : List SentCall) (rest : List ℕ) (b : ServedCore) → SettlesSome sent bytes a sent' rest b → Answers at sent bytes a sent' rest b
+answers_some at sent bytes a sent' rest b s = answers_each at s.answers sent bytes a sent' rest b s.each

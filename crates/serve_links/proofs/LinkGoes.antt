@@ -1,0 +1,477 @@
+-- What is done at one link, as steps of a walk with which it goes on to agree.
+use Rattle.std.proofs.Common.{◌≡◌, ◌≢◌, ℕ, ◌≤◌, Bool, true, false, if◌then◌else◌, List, [], ◌∷◌, ◌++◌, length, take, drop, Option, Some, None, ◌⊎◌, inl, inr, refl, sym, ap, ◌∙◌, subst, append_assoc}
+use Rattle.std.specs.Prelude.{IfSome, map as each, option_map}
+use Rattle.mc_types.specs.declared.ask.Ask.{Ask}
+use Rattle.mc_types.specs.declared.ask.Dialect.{Dialect}
+use Rattle.mc_types.specs.declared.call.Outcome.TheVariants.{Failed}
+use Rattle.wire_stream.specs.Spelling.{spelling_of}
+use Rattle.wire_parts.specs.Sending.{bytes_of}
+use Rattle.serve_wire.specs.Events.{Event, connects, role, address_of, delivered, taken, IsNew}
+use Rattle.serve_wire.specs.Flow.{ReadsOn, SendsOn}
+use Rattle.serve_wire.specs.Calls.{Closes}
+use Rattle.serve_wire.specs.Agreement.{IsUntouched, TouchesOnly}
+use Rattle.serve_wire.specs.declared.conn.conn.Conn.{Conn}
+use Rattle.serve_wire.proofs.Steps.{equal, apart, new_apart, untouched, only_twice, only_connects, only_closes, address_begins}
+use Rattle.core_accepted.specs.declared.served.ServedCore.{ServedCore}
+use Rattle.serve_links.specs.declared.calls.calls.SentCall.{SentCall}
+use Rattle.serve_links.specs.declared.settings.ServerDialect.{ServerDialect}
+use Rattle.serve_links.specs.declared.link.Opening.{Opening}
+use Rattle.serve_links.specs.declared.link.Opening.TheVariants as opening
+use Rattle.serve_links.specs.declared.link.Link.{Link}
+use Rattle.serve_links.specs.CoreSteps.{Step, Opened, NotOpened, Fed, Polled, Stopped, Settled, Gave, Closed, LeftLine, Loaded, Linked, Asked, Greeted, Spelled, Walks, AreOf, IsOfTurn, IsFailure, IsSending, Fails}
+use Rattle.serve_links.specs.Dialects.{asked_in}
+use Rattle.serve_links.specs.Lines.{first_asked_of, awaits_first, SameLine, KeepsLines, IsNewEnd, HasNewEnd, OpensBy, UsesSome, Learns}
+use Rattle.serve_links.specs.Settled.{SettlesSome}
+use Rattle.serve_links.specs.Talks.{SaidAsk, Talk, first_talk, with_ask, greeted, talk_in, IsCalledIn, IsOrderly, IsOfServer}
+use Rattle.serve_links.specs.Story.{said_asks, AreCalled, TalkAgrees, ConnAgrees, LineAgrees, LineLost, LineCalled, line_of, KeepsOthers, LineGoesFrom, LineGoes}
+use Rattle.serve_links.proofs.Talking.{calls_later, one_more, IsPlain, plain_talk, plain_orderly}
+use Rattle.serve_links.proofs.Answering.{Answers, answers_some}
+use Rattle.serve_links.proofs.Story.{line_stays}
+
+same_some : {A : Type 0} {x y : A} → Some x ≡ Some y → x ≡ y
+same_some e = cc
+
+none_some : {A : Type 0} {x : A} → None ≡ Some x → ⊥
+none_some e = cc
+
+-- ---- connections of others
+
+pub keeps_others : (c : ℕ) (its : ℕ × ℕ) (h h' : List Event) → role c h ≡ Some its → TouchesOnly c h h' → KeepsOthers its h h'
+keeps_others c its h h' of_c only = λ d p of_d other. only d (apart c d h its p of_c of_d (λ e. other (sym e)))
+
+pub all_kept : (its : ℕ × ℕ) (h h' : List Event) → ((d : ℕ) → IsUntouched d h h') → KeepsOthers its h h'
+all_kept its h h' quiet = λ d p of_d other. quiet d
+
+pub quiet : (h : List Event) (d : ℕ) → IsUntouched d h h
+quiet h d = untouched d h
+
+-- ---- what agrees, in equal words
+
+pub talk_as :
+    {h : List Event} {at : ℕ} {text text' : List ℕ} {t t' : Talk} {c c' : ℕ} {held held' unsent unsent' : List ℕ} {out out' : List SaidAsk} {awaits awaits' : Bool}
+    → text' ≡ text → t' ≡ t → c' ≡ c → held' ≡ held → unsent' ≡ unsent → out' ≡ out → awaits' ≡ awaits
+    → TalkAgrees h at text t c held unsent out awaits → TalkAgrees h at text' t' c' held' unsent' out' awaits'
+talk_as {h} {at} {text} {text'} {t} {t'} {c} {c'} {held} {held'} {unsent} {unsent'} {out} {out'} {awaits} {awaits'} text_is t_is c_is held_same unsent_same out_same awaits_same was = record {
+  is_to = ap (λ n. role n h) c_is ∙ was.is_to;
+  address = ap (λ n. address_of n h) c_is ∙ was.address ∙ ap (λ (x : List ℕ). Some x) (sym text_is);
+  sent_is = ap (λ (x : Talk). x.sent) t_is ∙ was.sent_is ∙ ap (λ n. taken n h ++ unsent) (sym c_is) ∙ ap (λ l. taken c' h ++ l) (sym unsent_same);
+  told_is = ap (λ n. delivered n h) c_is ∙ was.told_is ∙ ap (λ (x : Talk). x.told ++ held) (sym t_is) ∙ ap (λ l. t'.told ++ l) (sym held_same);
+  out_is = ap (λ (x : Talk). x.out) t_is ∙ was.out_is ∙ sym out_same;
+  awaits_is = ap (λ (x : Talk). x.awaits) t_is ∙ was.awaits_is ∙ sym awaits_same;
+}
+
+-- a link that has this connection
+pub has_conn : (at : ℕ) (past : List Step) (h : List Event) (y : Link) (d : Conn) → y.conn ≡ Some d → ConnAgrees at past h y d d.held.items → AreCalled past at y.waiting.items → LineAgrees at past h y
+has_conn at past h y d is agrees waiting = record { conn = λ conn there. subst (λ (z : Conn). ConnAgrees at past h y z z.held.items) (same_some (sym is ∙ there)) agrees; waiting = waiting }
+
+-- and one that has none
+pub has_none : (at : ℕ) (past : List Step) (h : List Event) (y : Link) → y.conn ≡ None → AreCalled past at y.waiting.items → LineAgrees at past h y
+has_none at past h y is waiting = record { conn = λ conn there. absurd (none_some (sym is ∙ there)); waiting = waiting }
+
+pub as_lost : (at : ℕ) (past : List Step) (h : List Event) (x : Link) → LineAgrees at past h x → LineLost at past h x
+as_lost at past h x a = record { conn = λ conn is. (conn.held.items, a.conn conn is); waiting = a.waiting }
+
+-- nothing happened but at the connection, and no step is told of
+pub line_moves :
+    {Before After : ℕ → List Step → List Event → Link → Type 0} {Is : Step → Type 0} {at : ℕ} {a b : ServedCore} {h h' : List Event} {x y : Link} → b ≡ a → y.text.items ≡ x.text.items
+    → ((past : List Step) → Before at past h x → After at past h' y × KeepsOthers (1, at) h h') → LineGoesFrom Before After Is at a h x b h' y
+line_moves same text moves = record { steps = []; kinds = tt; own = tt; walks = same; agrees = λ past o was. let m = moves past was in (o, m.0, m.1); text = text }
+
+-- what is wanted before is there, and what is there after is more than is wanted
+pub line_between :
+    {P P' Q Q' : ℕ → List Step → List Event → Link → Type 0} {Is : Step → Type 0} {at : ℕ} {a b : ServedCore} {h h' : List Event} {x y : Link}
+    → ((past : List Step) → P' at past h x → P at past h x) → ((past : List Step) → Q at past h' y → Q' at past h' y) → LineGoesFrom P Q Is at a h x b h' y → LineGoesFrom P' Q' Is at a h x b h' y
+line_between before after g = record {
+  steps = g.steps;
+  kinds = g.kinds;
+  own = g.own;
+  walks = g.walks;
+  agrees = λ past o was. let r = g.agrees past o (before past was) in (r.0, after (g.steps ++ past) r.1, r.2);
+  text = g.text;
+}
+
+-- ---- a link that has the same
+
+abbrev OfConn : ℕ → List Step → List Event → List ℕ → List SaidAsk → Bool → Option (ℕ × List ℕ × List ℕ) → Type 0
+OfConn at past h text out awaits None = Unit {0}
+OfConn at past h text out awaits (Some e) = TalkAgrees h at text (talk_in past at) e.0 e.1 e.2 out awaits
+
+abbrev OfLine : ℕ → List Step → List Event → List ℕ × Option (ℕ × List ℕ × List ℕ) × List SaidAsk × List SentCall × Bool → Type 0
+OfLine at past h s = OfConn at past h s.0 s.2 s.4 s.1 × AreCalled past at s.3
+
+to_line : (at : ℕ) (past : List Step) (h : List Event) (x : Link) → LineAgrees at past h x → OfLine at past h (line_of x)
+to_line at past h x a = (by x.conn refl, a.waiting)
+  where
+    by : (o : Option Conn) → x.conn ≡ o → OfConn at past h x.text.items (said_asks x.calls.sent.items) x.awaits_dialect (option_map (λ (c : Conn). (c.number, c.held.items, bytes_of c.unsent)) o)
+    by None e = tt
+    by (Some c) e = a.conn c e
+
+from_line : (at : ℕ) (past : List Step) (h : List Event) (y : Link) → OfLine at past h (line_of y) → LineAgrees at past h y
+from_line at past h y o = record {
+  conn = λ conn is. subst (λ (q : Option Conn). OfConn at past h y.text.items (said_asks y.calls.sent.items) y.awaits_dialect (option_map (λ (c : Conn). (c.number, c.held.items, bytes_of c.unsent)) q)) is o.0;
+  waiting = o.1;
+}
+
+pub same_line : (at : ℕ) (past : List Step) (h : List Event) (x y : Link) → line_of y ≡ line_of x → LineAgrees at past h x → LineAgrees at past h y
+same_line at past h x y same a = from_line at past h y (subst (OfLine at past h) (sym same) (to_line at past h x a))
+
+-- where its connection is as it was
+pub line_keeps :
+    {Is : Step → Type 0} {at : ℕ} {core : ServedCore} {h h' : List Event} {x y : Link} → ((d : ℕ) → IsUntouched d h h') → line_of y ≡ line_of x → LineGoes Is at core h x core h' y
+line_keeps {at = at} {h = h} {h' = h'} {x = x} {y = y} still same =
+    line_moves refl (ap (λ (s : List ℕ × Option (ℕ × List ℕ × List ℕ) × List SaidAsk × List SentCall × Bool). s.0) same)
+    (λ past a. (same_line at past h' x y same (line_stays h h' at [] past x (λ conn is. still conn.number) refl a), all_kept (1, at) h h' still))
+
+-- of five parts
+of_five : {A B C D E : Type 0} {a a' : A} {b b' : B} {c c' : C} {d d' : D} {e e' : E} → a' ≡ a → b' ≡ b → c' ≡ c → d' ≡ d → e' ≡ e → ◌≡◌ {A = A × B × C × D × E} (a', b', c', d', e') (a, b, c, d, e)
+of_five {a = a} {a' = a'} {b = b} {b' = b'} {c = c} {c' = c'} {d = d} {d' = d'} {e = e} {e' = e'} p q r s t =
+    ap (λ x. (x, b', c', d', e')) p ∙ ap (λ x. (a, x, c', d', e')) q ∙ ap (λ x. (a, b, x, d', e')) r ∙ ap (λ x. (a, b, c, x, e')) s ∙ ap (λ x. (a, b, c, d, x)) t
+
+-- what a link's own functions leave as it was
+pub keeps_line : (x y : Link) → KeepsLines x y → line_of y ≡ line_of x
+keeps_line x y k = of_five (ap (λ t. t.items) k.text) (conns x.conn y.conn k.conn) (ap (λ c. said_asks c.sent.items) k.calls) (ap (λ w. w.items) k.waiting) k.awaits
+  where
+    ends : (c d : Conn) → d.number ≡ c.number → d.held.items ≡ c.held.items → bytes_of d.unsent ≡ bytes_of c.unsent → ◌≡◌ {A = ℕ × List ℕ × List ℕ} (d.number, d.held.items, bytes_of d.unsent) (c.number, c.held.items, bytes_of c.unsent)
+    ends c d n l u = ap (λ m. (m, d.held.items, bytes_of d.unsent)) n ∙ ap (λ m. (c.number, m, bytes_of d.unsent)) l ∙ ap (λ m. (c.number, c.held.items, m)) u
+
+    conns :
+        (o p : Option Conn) → SameLine o p
+        → option_map (λ (c : Conn). (c.number, c.held.items, bytes_of c.unsent)) p ≡ option_map (λ (c : Conn). (c.number, c.held.items, bytes_of c.unsent)) o
+    conns None p same = ap (option_map (λ (c : Conn). (c.number, c.held.items, bytes_of c.unsent))) same
+    conns (Some c) None same = absurd same
+    conns (Some c) (Some d) same = ap (λ (e : ℕ × List ℕ × List ℕ). Some e) (ends c d same.number same.held (ap bytes_of same.unsent))
+
+-- ---- reads and writes
+
+talk_reads :
+    (h h' : List Event) (at : ℕ) (text : List ℕ) (t : Talk) (c : ℕ) (held held' unsent : List ℕ) (out : List SaidAsk) (awaits : Bool) → ReadsOn c held held' h h' → TalkAgrees h at text t c held unsent out awaits
+    → TalkAgrees h' at text t c held' unsent out awaits
+talk_reads h h' at text t c held held' unsent out awaits r was = record {
+  is_to = r.same_role ∙ was.is_to;
+  address = r.same_address ∙ was.address;
+  sent_is = was.sent_is ∙ ap (λ l. l ++ unsent) (sym r.same_went);
+  told_is = r.came ∙ ap (λ l. l ++ r.bytes) was.told_is ∙ append_assoc t.told held r.bytes ∙ ap (λ l. t.told ++ l) (sym r.held_is);
+  out_is = was.out_is;
+  awaits_is = was.awaits_is;
+}
+
+-- what came is held
+pub line_reads :
+    {Is : Step → Type 0} {at : ℕ} {core : ServedCore} {h h' : List Event} (x y : Link) (c d : Conn) → x.conn ≡ Some c → y ≡ record x { conn = Some d } → d.number ≡ c.number → bytes_of d.unsent ≡ bytes_of c.unsent
+    → ReadsOn c.number c.held.items d.held.items h h' → LineGoes Is at core h x core h' y
+line_reads {at = at} {h = h} {h' = h'} x y c d was is number unsent r =
+    line_moves refl (ap (λ (z : Link). z.text.items) is) (λ past a. (agrees past a, keeps_others c.number (1, at) h h' (a.conn c was).is_to r.elsewhere))
+  where
+    agrees : (past : List Step) → LineAgrees at past h x → LineAgrees at past h' y
+    agrees past a =
+        let out = said_asks x.calls.sent.items in
+        let now = talk_reads h h' at x.text.items (talk_in past at) c.number c.held.items d.held.items (bytes_of c.unsent) out x.awaits_dialect r (a.conn c was) in
+        subst (λ z. LineAgrees at past h' z) (sym is) (has_conn at past h' (record x { conn = Some d }) d refl (talk_as refl refl number refl unsent refl refl now) a.waiting)
+
+talk_sends :
+    (h h' : List Event) (at : ℕ) (text : List ℕ) (t : Talk) (c : ℕ) (held unsent unsent' : List ℕ) (out : List SaidAsk) (awaits : Bool) → SendsOn c unsent unsent' h h' → TalkAgrees h at text t c held unsent out awaits
+    → TalkAgrees h' at text t c held unsent' out awaits
+talk_sends h h' at text t c held unsent unsent' out awaits s was = record {
+  is_to = s.same_role ∙ was.is_to;
+  address = s.same_address ∙ was.address;
+  sent_is = was.sent_is ∙ s.went;
+  told_is = s.same_came ∙ was.told_is;
+  out_is = was.out_is;
+  awaits_is = was.awaits_is;
+}
+
+-- what is to be sent goes out, as far as it is taken
+pub line_sends :
+    {Is : Step → Type 0} {at : ℕ} {core : ServedCore} {h h' : List Event} (x y : Link) (c d : Conn) → x.conn ≡ Some c → y ≡ record x { conn = Some d } → d.number ≡ c.number → d.held.items ≡ c.held.items
+    → SendsOn c.number (bytes_of c.unsent) (bytes_of d.unsent) h h' → LineGoes Is at core h x core h' y
+line_sends {at = at} {h = h} {h' = h'} x y c d was is number held s =
+    line_moves refl (ap (λ (z : Link). z.text.items) is) (λ past a. (agrees past a, keeps_others c.number (1, at) h h' (a.conn c was).is_to s.elsewhere))
+  where
+    agrees : (past : List Step) → LineAgrees at past h x → LineAgrees at past h' y
+    agrees past a =
+        let out = said_asks x.calls.sent.items in
+        let now = talk_sends h h' at x.text.items (talk_in past at) c.number c.held.items (bytes_of c.unsent) (bytes_of d.unsent) out x.awaits_dialect s (a.conn c was) in
+        subst (λ z. LineAgrees at past h' z) (sym is) (has_conn at past h' (record x { conn = Some d }) d refl (talk_as refl refl number held refl refl refl now) a.waiting)
+
+-- ---- a new connection
+
+first_agrees : (h : List Event) (at number : ℕ) (text first : List ℕ) (awaits : Bool) → IsNew number h → TalkAgrees (connects number at text ∷ h) at text (first_talk first awaits) number [] first [] awaits
+first_agrees h at number text first awaits new = record {
+  is_to = ap (λ b. if b then Some (1, at) else role number h) (equal number);
+  address = address_begins h text at number;
+  sent_is = ap (λ l. l ++ first) (sym new.none_went);
+  told_is = new.none_came;
+  out_is = refl;
+  awaits_is = refl;
+}
+
+begins :
+    (at : ℕ) (core : ServedCore) (h h' : List Event) (x y : Link) (dialect : ServerDialect) (number : ℕ) → IsNew number h → h' ≡ connects number at x.text.items ∷ h → HasNewEnd number dialect x y
+    → LineGoes IsSending at core h x core h' y
+begins at core h h' x y dialect number new noted has = record {
+  steps = Linked at dialect ∷ [];
+  kinds = (tt, tt);
+  own = (refl, tt);
+  walks = (core, refl, refl);
+  agrees = λ past o a. ((tt, o), by past a y.conn refl has.conn, λ d p of_d other. subst (IsUntouched d h) (sym noted) (only_connects number at x.text.items h d (new_apart number d h p of_d new.no_role)));
+  text = ap (λ t. t.items) has.text;
+}
+  where
+    by : (past : List Step) → LineAgrees at past h x → (o : Option Conn) → y.conn ≡ o → IsNewEnd number dialect o → LineAgrees at (Linked at dialect ∷ past) h' y
+    by past a None e end = absurd end
+    by past a (Some d) e end =
+        let talk = ap (λ b. if b then first_talk (first_asked_of dialect) (awaits_first dialect) else talk_in past at) (equal at) in
+        let none : said_asks y.calls.sent.items ≡ [] = ap (λ c. said_asks c.sent.items) has.calls ∙ ap said_asks has.none_out in
+        let first = subst (λ k. TalkAgrees k at x.text.items (first_talk (first_asked_of dialect) (awaits_first dialect)) number [] (first_asked_of dialect) [] (awaits_first dialect)) (sym noted) (first_agrees h at number x.text.items (first_asked_of dialect) (awaits_first dialect) new) in
+        has_conn at (Linked at dialect ∷ past) h' y d e (talk_as (ap (λ t. t.items) has.text) talk end.0 end.1 end.2 none has.awaits first)
+        (calls_later (Linked at dialect ∷ []) past at y.waiting.items (subst (λ w. AreCalled past at w) (sym (ap (λ w. w.items) has.waiting)) a.waiting))
+
+only_closed : (c : ℕ) (h h' : List Event) → Closes c h h' → TouchesOnly c h h'
+only_closed c h h' (inl closed) = subst (TouchesOnly c h) (sym closed) (only_closes c h)
+only_closed c h h' (inr same) = subst (TouchesOnly c h) (sym same) (λ d other. untouched d h)
+
+-- one was begun, and closed
+begins_in_vain :
+    (at : ℕ) (core : ServedCore) (h h' : List Event) (x y : Link) (number : ℕ) → IsNew number h → Closes number (connects number at x.text.items ∷ h) h' → KeepsLines x y → LineGoes IsSending at core h x core h' y
+begins_in_vain at core h h' x y number new closed keeps =
+    let same = keeps_line x y keeps in
+    let only = only_twice number h (connects number at x.text.items ∷ h) h' (only_connects number at x.text.items h) (only_closed number (connects number at x.text.items ∷ h) h' closed) in
+    line_moves refl (ap (λ t. t.items) keeps.text) (λ past a. (
+      same_line at past h' x y same (line_stays h h' at [] past x (λ conn is. only conn.number (new_apart number conn.number h (1, at) (a.conn conn is).is_to new.no_role)) refl a),
+      λ d p of_d other. only d (new_apart number d h p of_d new.no_role),
+    ))
+
+at_same : {Is : Step → Type 0} (at : ℕ) (core : ServedCore) (h h' : List Event) (x y : Link) → h' ≡ h → KeepsLines x y → LineGoes Is at core h x core h' y
+at_same at core h h' x y same keeps = line_keeps (λ d. subst (IsUntouched d h) (sym same) (untouched d h)) (keeps_line x y keeps)
+
+-- a connection was begun, or not
+pub line_opens :
+    {at : ℕ} {core : ServedCore} {h h' : List Event} (x y : Link) (dialect : ServerDialect) (o : Opening) → OpensBy at dialect o x y h h' → LineGoes IsSending at core h x core h' y
+line_opens {at} {core} {h} {h'} x y dialect opening.Begun opens = begins at core h h' x y dialect opens.0 opens.1 opens.2 opens.3
+line_opens {at} {core} {h} {h'} x y dialect opening.NoAddress opens = at_same at core h h' x y opens.0 opens.1
+line_opens {at} {core} {h} {h'} x y dialect opening.Failed opens = at_same at core h h' x y opens.0 opens.1
+line_opens {at} {core} {h} {h'} x y dialect opening.NoMemory opens = begins_in_vain at core h h' x y opens.0 opens.1 opens.2 opens.3
+
+-- ---- what the server tells of its dialects
+
+talk_greets : (h : List Event) (at : ℕ) (text : List ℕ) (t : Talk) (c : ℕ) (bytes held unsent : List ℕ) (out : List SaidAsk) (awaits : Bool) → TalkAgrees h at text t c (bytes ++ held) unsent out awaits → TalkAgrees h at text (greeted bytes t) c held unsent out false
+talk_greets h at text t c bytes held unsent out awaits was = record {
+  is_to = was.is_to;
+  address = was.address;
+  sent_is = was.sent_is;
+  told_is = was.told_is ∙ sym (append_assoc t.told bytes held);
+  out_is = was.out_is;
+  awaits_is = refl;
+}
+
+-- it is taken from the front of what is held, where it is awaited
+pub line_learns : {at : ℕ} {core : ServedCore} {h : List Event} (x y : Link) (can : Bool) → x.awaits_dialect ≡ true → Learns can x y → LineGoes IsOfTurn at core h x core h y
+line_learns {at} {core} {h} x y can on l = by l.told
+  where
+    learned : (c d : Conn) → x.conn ≡ Some c → y.conn ≡ Some d → UsesSome (Some c) (Some d) → y.awaits_dialect ≡ false → LineGoes IsOfTurn at core h x core h y
+    learned c d was is uses off = record {
+      steps = Greeted at uses.0 ∷ [];
+      kinds = (tt, tt);
+      own = (refl, tt);
+      walks = (core, refl, refl);
+      agrees = λ past o a. (((a.conn c was).awaits_is ∙ on, o), agreed past a, all_kept (1, at) h h (quiet h));
+      text = ap (λ (z : Link). z.text.items) l.rest;
+    }
+      where
+        agreed : (past : List Step) → LineAgrees at past h x → LineAgrees at (Greeted at uses.0 ∷ past) h y
+        agreed past a =
+            let talk = ap (λ b. if b then greeted uses.0 (talk_in past at) else talk_in past at) (equal at) in
+            let before = talk_as refl refl refl (sym uses.1) refl refl refl (a.conn c was) in
+            let now = talk_greets h at x.text.items (talk_in past at) c.number uses.0 d.held.items (bytes_of c.unsent) (said_asks x.calls.sent.items) x.awaits_dialect before in
+            has_conn at (Greeted at uses.0 ∷ past) h y d is
+            (talk_as (ap (λ (z : Link). z.text.items) l.rest) talk (ap (λ (z : Conn). z.number) uses.2) refl (ap (λ (z : Conn). bytes_of z.unsent) uses.2) (ap (λ (z : Link). said_asks z.calls.sent.items) l.rest) off now)
+            (calls_later (Greeted at uses.0 ∷ []) past at y.waiting.items (subst (λ w. AreCalled past at w) (sym (ap (λ (z : Link). z.waiting.items) l.rest)) a.waiting))
+
+    by_conns : (o p : Option Conn) → x.conn ≡ o → y.conn ≡ p → UsesSome o p → y.awaits_dialect ≡ false → LineGoes IsOfTurn at core h x core h y
+    by_conns None p was is uses off =
+        line_moves refl (ap (λ (z : Link). z.text.items) l.rest)
+        (λ past a. (has_none at past h y (is ∙ uses) (subst (λ w. AreCalled past at w) (sym (ap (λ (z : Link). z.waiting.items) l.rest)) a.waiting), all_kept (1, at) h h (quiet h)))
+    by_conns (Some c) None was is uses off = absurd uses
+    by_conns (Some c) (Some d) was is uses off = learned c d was is uses off
+
+    by : (y ≡ x) ⊎ (y.awaits_dialect ≡ false) → LineGoes IsOfTurn at core h x core h y
+    by (inl same) = line_keeps (quiet h) (ap line_of same)
+    by (inr off) = by_conns x.conn y.conn refl refl l.uses off
+
+-- ---- calls
+
+one_said : (calls : List SentCall) (call : SentCall) → said_asks (calls ++ call ∷ []) ≡ said_asks calls ++ (call.ticket.number, call.dialect, call.ticket.ask) ∷ []
+one_said [] call = refl
+one_said (first ∷ calls) call = ap (λ (l : List SaidAsk). (first.ticket.number, first.dialect, first.ticket.ask) ∷ l) (one_said calls call)
+
+talk_asks :
+    (h : List Event) (at : ℕ) (text : List ℕ) (t : Talk) (c : ℕ) (held unsent : List ℕ) (out : List SaidAsk) (awaits : Bool) (number : ℕ) (dialect : Dialect) (ask : Ask) → TalkAgrees h at text t c held unsent out awaits
+    → TalkAgrees h at text (with_ask number dialect ask t) c held (unsent ++ spelling_of (asked_in dialect ask)) (out ++ (number, dialect, ask) ∷ []) awaits
+talk_asks h at text t c held unsent out awaits number dialect ask was = record {
+  is_to = was.is_to;
+  address = was.address;
+  sent_is = ap (λ l. l ++ spelling_of (asked_in dialect ask)) was.sent_is ∙ append_assoc (taken c h) unsent (spelling_of (asked_in dialect ask));
+  told_is = was.told_is;
+  out_is = ap (λ (l : List SaidAsk). l ++ (number, dialect, ask) ∷ []) was.out_is;
+  awaits_is = was.awaits_is;
+}
+
+-- a call that the core gave out for its server is asked
+pub line_asks :
+    {at : ℕ} {core : ServedCore} {h : List Event} (x y : Link) (c d : Conn) (call : SentCall) → x.conn ≡ Some c → y ≡ record x { calls = y.calls; conn = Some d } → d ≡ record c { unsent = d.unsent }
+    → y.calls.sent.items ≡ x.calls.sent.items ++ call ∷ [] → bytes_of d.unsent ≡ bytes_of c.unsent ++ spelling_of (asked_in call.dialect call.ticket.ask)
+    → LineGoesFrom (LineCalled call.ticket.number call.ticket.ask) LineAgrees IsSending at core h x core h y
+line_asks {at} {core} {h} x y c d call was is same more unsent = record {
+  steps = step ∷ [];
+  kinds = (tt, tt);
+  own = (refl, tt);
+  walks = (core, refl, refl);
+  agrees = λ past o a. ((a.1, o), agreed past a.0, all_kept (1, at) h h (quiet h));
+  text = ap (λ (z : Link). z.text.items) is;
+}
+  where
+    step : Step
+    step = Asked at call.ticket.number call.dialect call.ticket.ask
+
+    agreed : (past : List Step) → LineAgrees at past h x → LineAgrees at (step ∷ past) h y
+    agreed past a =
+        let talk = ap (λ b. if b then with_ask call.ticket.number call.dialect call.ticket.ask (talk_in past at) else talk_in past at) (equal at) in
+        let now = talk_asks h at x.text.items (talk_in past at) c.number c.held.items (bytes_of c.unsent) (said_asks x.calls.sent.items) x.awaits_dialect call.ticket.number call.dialect call.ticket.ask (a.conn c was) in
+        has_conn at (step ∷ past) h y d (ap (λ (z : Link). z.conn) is)
+        (talk_as (ap (λ (z : Link). z.text.items) is) talk (ap (λ (z : Conn). z.number) same) (ap (λ (z : Conn). z.held.items) same) unsent (ap said_asks more ∙ one_said x.calls.sent.items call) (ap (λ (z : Link). z.awaits_dialect) is) now)
+        (calls_later (step ∷ []) past at y.waiting.items (subst (λ w. AreCalled past at w) (sym (ap (λ (z : Link). z.waiting.items) is)) a.waiting))
+
+-- a link that has another list of calls that wait
+waits_with : (at : ℕ) (past : List Step) (h : List Event) (x y : Link) → y ≡ record x { waiting = y.waiting } → LineAgrees at past h x → AreCalled past at y.waiting.items → LineAgrees at past h y
+waits_with at past h x y is a waiting = record {
+  conn = λ conn there.
+      talk_as (ap (λ (z : Link). z.text.items) is) refl refl refl refl (ap (λ (z : Link). said_asks z.calls.sent.items) is) (ap (λ (z : Link). z.awaits_dialect) is)
+      (a.conn conn (sym (ap (λ (z : Link). z.conn) is) ∙ there));
+  waiting = waiting;
+}
+
+-- it waits
+pub line_waits :
+    {Is : Step → Type 0} {at : ℕ} {core : ServedCore} {h : List Event} (x y : Link) (call : SentCall) → y ≡ record x { waiting = y.waiting } → y.waiting.items ≡ x.waiting.items ++ call ∷ []
+    → LineGoesFrom (LineCalled call.ticket.number call.ticket.ask) LineAgrees Is at core h x core h y
+line_waits {at = at} {h = h} x y call is more =
+    line_moves refl (ap (λ (z : Link). z.text.items) is)
+    (λ past a. (waits_with at past h x y is a.0 (subst (λ w. AreCalled past at w) (sym more) (one_more past at x.waiting.items call a.0.waiting a.1)), all_kept (1, at) h h (quiet h)))
+
+-- the first that waits is taken
+pub line_takes :
+    {Is : Step → Type 0} {at : ℕ} {core : ServedCore} {h : List Event} (x y : Link) (call : SentCall) → y ≡ record x { waiting = y.waiting } → x.waiting.items ≡ call ∷ y.waiting.items
+    → LineGoesFrom LineAgrees (LineCalled call.ticket.number call.ticket.ask) Is at core h x core h y
+line_takes {at = at} {h = h} x y call is first =
+    line_moves refl (ap (λ (z : Link). z.text.items) is)
+    (λ past a. let all = subst (λ w. AreCalled past at w) first a.waiting in ((waits_with at past h x y is a all.1, all.0), all_kept (1, at) h h (quiet h)))
+
+-- ---- answers
+
+talk_answers :
+    (h : List Event) (at : ℕ) (text : List ℕ) (t : Talk) (c : ℕ) (spelled held unsent : List ℕ) (out out' : List SaidAsk) (awaits : Bool) → TalkAgrees h at text t c (spelled ++ held) unsent out awaits
+    → TalkAgrees h at text (record t { told = t.told ++ spelled; out = out' }) c held unsent out' awaits
+talk_answers h at text t c spelled held unsent out out' awaits was = record {
+  is_to = was.is_to;
+  address = was.address;
+  sent_is = was.sent_is;
+  told_is = was.told_is ∙ sym (append_assoc t.told spelled held);
+  out_is = refl;
+  awaits_is = was.awaits_is;
+}
+
+-- the answers in front of what is held settle calls, and this is left of it
+settles_to :
+    {After : ℕ → List Step → List Event → Link → Type 0} {at : ℕ} {core core' : ServedCore} {h : List Event} (x y : Link) (c d : Conn) (rest : List ℕ) → x.conn ≡ Some c → x.awaits_dialect ≡ false
+    → y.text.items ≡ x.text.items → y.waiting.items ≡ x.waiting.items → y.awaits_dialect ≡ x.awaits_dialect → d.number ≡ c.number → bytes_of d.unsent ≡ bytes_of c.unsent
+    → ((past : List Step) → ConnAgrees at past h y d rest → AreCalled past at y.waiting.items → After at past h y)
+    → SettlesSome x.calls.sent.items c.held.items core y.calls.sent.items rest core' → LineGoesFrom LineAgrees After IsOfTurn at core h x core' h y
+settles_to {After} {at} {core} {core'} {h} x y c d rest was off text waiting awaits number unsent after s = record {
+  steps = g.steps;
+  kinds = g.kinds;
+  own = g.own;
+  walks = g.walks;
+  agrees = λ past o a. let t = a.conn c was in let r = g.orderly past o t.out_is (t.awaits_is ∙ off) in (r.0, agreed past a r.1, all_kept (1, at) h h (quiet h));
+  text = text;
+}
+  where
+    g : Answers at x.calls.sent.items c.held.items core y.calls.sent.items rest core'
+    g = answers_some at x.calls.sent.items c.held.items core y.calls.sent.items rest core' s
+
+    agreed : (past : List Step) → LineAgrees at past h x → talk_in (g.steps ++ past) at ≡ record (talk_in past at) { told = (talk_in past at).told ++ g.spelled; out = said_asks y.calls.sent.items } → After at (g.steps ++ past) h y
+    agreed past a talk =
+        let before = talk_as refl refl refl (sym g.whole) refl refl refl (a.conn c was) in
+        let now = talk_answers h at x.text.items (talk_in past at) c.number g.spelled rest (bytes_of c.unsent) (said_asks x.calls.sent.items) (said_asks y.calls.sent.items) x.awaits_dialect before in
+        after (g.steps ++ past) (talk_as text talk number refl unsent refl awaits now) (calls_later g.steps past at y.waiting.items (subst (λ w. AreCalled past at w) (sym waiting) a.waiting))
+
+-- what is left of it is held
+pub line_settles :
+    {at : ℕ} {core core' : ServedCore} {h : List Event} (x y : Link) (c d : Conn) → x.conn ≡ Some c → y.conn ≡ Some d → x.awaits_dialect ≡ false → y.text.items ≡ x.text.items → y.waiting.items ≡ x.waiting.items
+    → y.awaits_dialect ≡ x.awaits_dialect → d.number ≡ c.number → bytes_of d.unsent ≡ bytes_of c.unsent → SettlesSome x.calls.sent.items c.held.items core y.calls.sent.items d.held.items core'
+    → LineGoes IsOfTurn at core h x core' h y
+line_settles {at} {core} {core'} {h} x y c d was is off text waiting awaits number unsent s =
+    settles_to x y c d d.held.items was off text waiting awaits number unsent (λ past agrees called. has_conn at past h y d is agrees called) s
+
+-- or it is lost
+pub line_loses :
+    {at : ℕ} {core core' : ServedCore} {h : List Event} (x y : Link) (c d : Conn) (rest : List ℕ) → x.conn ≡ Some c → y.conn ≡ Some d → x.awaits_dialect ≡ false → y.text.items ≡ x.text.items
+    → y.waiting.items ≡ x.waiting.items → y.awaits_dialect ≡ x.awaits_dialect → d.number ≡ c.number → bytes_of d.unsent ≡ bytes_of c.unsent → SettlesSome x.calls.sent.items c.held.items core y.calls.sent.items rest core'
+    → LineGoesFrom LineAgrees LineLost IsOfTurn at core h x core' h y
+line_loses {at} {core} {core'} {h} x y c d rest was is off text waiting awaits number unsent s =
+    settles_to x y c d rest was off text waiting awaits number unsent
+    (λ past agrees called. record { conn = λ conn there. subst (λ (z : Conn). (held : List ℕ) × ConnAgrees at past h y z held) (same_some (sym is ∙ there)) (rest, agrees); waiting = called }) s
+
+-- ---- the end of a connection
+
+-- its connection was closed, whatever it held
+pub line_closes :
+    {Is : Step → Type 0} {at : ℕ} {core : ServedCore} {h h' : List Event} (x y : Link) (r : Option ℕ) → r ≡ option_map (λ (z : Conn). z.number) x.conn → IfSome r (λ c. Closes c h h') → (r ≡ None → h' ≡ h) → y.conn ≡ None
+    → y.text.items ≡ x.text.items → y.waiting.items ≡ x.waiting.items → LineGoesFrom LineLost LineAgrees Is at core h x core h' y
+line_closes {at = at} {h = h} {h' = h'} x y r r_is some none closed text waiting =
+    line_moves refl text (λ past a. (has_none at past h' y closed (subst (λ w. AreCalled past at w) (sym waiting) a.waiting), keeps past a x.conn refl))
+  where
+    keeps : (past : List Step) → LineLost at past h x → (o : Option Conn) → x.conn ≡ o → KeepsOthers (1, at) h h'
+    keeps past a None e = all_kept (1, at) h h' (λ d. subst (IsUntouched d h) (sym (none (r_is ∙ ap (option_map (λ (z : Conn). z.number)) e))) (untouched d h))
+    keeps past a (Some c) e =
+        let closes_it = subst (λ o. IfSome o (λ n. Closes n h h')) (r_is ∙ ap (option_map (λ (z : Conn). z.number)) e) some in
+        keeps_others c.number (1, at) h h' ((a.conn c e).1.is_to) (only_closed c.number h h' closes_it)
+
+failed_own : (at : ℕ) (steps : List Step) → AreOf IsFailure steps → AreOf (IsOfServer at) steps × AreOf IsPlain steps
+failed_own at [] kinds = (tt, tt)
+failed_own at (Settled number outcome ∷ steps) kinds = let rest = failed_own at steps kinds.1 in ((tt, rest.0), (kinds.0, rest.1))
+failed_own at (Opened client ∷ steps) kinds = absurd kinds.0
+failed_own at (NotOpened fault ∷ steps) kinds = absurd kinds.0
+failed_own at (Fed client piece ∷ steps) kinds = absurd kinds.0
+failed_own at (Polled client poll ∷ steps) kinds = absurd kinds.0
+failed_own at (Stopped client fault ∷ steps) kinds = absurd kinds.0
+failed_own at (Gave client bytes ∷ steps) kinds = absurd kinds.0
+failed_own at (Closed client ∷ steps) kinds = absurd kinds.0
+failed_own at (LeftLine client ∷ steps) kinds = absurd kinds.0
+failed_own at (Loaded configuration generation ∷ steps) kinds = absurd kinds.0
+failed_own at (Linked a dialect ∷ steps) kinds = absurd kinds.0
+failed_own at (Asked a number dialect ask ∷ steps) kinds = absurd kinds.0
+failed_own at (Greeted a bytes ∷ steps) kinds = absurd kinds.0
+failed_own at (Spelled a number ask answer bytes ∷ steps) kinds = absurd kinds.0
+
+last_called : (past : List Step) (at : ℕ) (first later : List SentCall) → AreCalled past at (first ++ later) → AreCalled past at later
+last_called past at [] later are = are
+last_called past at (call ∷ first) later are = last_called past at first later are.1
+
+-- calls of it fail, while it has no connection; of those that wait the first do
+pub line_fails :
+    {at : ℕ} {core core' : ServedCore} {h : List Event} (x y : Link) (gone : List SentCall) → Fails core core' → y.conn ≡ None → y.text.items ≡ x.text.items → x.waiting.items ≡ gone ++ y.waiting.items
+    → LineGoes IsFailure at core h x core' h y
+line_fails {at} {core} {core'} {h} x y gone f none text waiting =
+    let own = failed_own at f.steps f.kinds in
+    record {
+      steps = f.steps;
+      kinds = f.kinds;
+      own = own.0;
+      walks = f.walks;
+      agrees = λ past o a. (
+        plain_orderly f.steps own.1 past o,
+        has_none at (f.steps ++ past) h y none (calls_later f.steps past at y.waiting.items (last_called past at gone y.waiting.items (subst (λ w. AreCalled past at w) waiting a.waiting))),
+        all_kept (1, at) h h (quiet h),
+      );
+      text = text;
+    }
