@@ -1,5 +1,5 @@
 -- Calls of a link that fail, one after another.
-use Rattle.std.proofs.Common.{◌≡◌, ℕ, zero, suc, ◌+◌, List, [], ◌∷◌, ◌++◌, length, Option, Some, None, Result, Ok, Err, refl, sym, ap, subst, arith}
+use Rattle.std.proofs.Common.{◌≡◌, ℕ, zero, suc, ◌+◌, List, [], ◌∷◌, ◌++◌, length, Option, Some, None, Result, Ok, Err, refl, sym, ap, ◌∙◌, subst, append_assoc, arith}
 use Rattle.std.proofs.Math.ListN.{set}
 use Rattle.std.specs.Prelude.{OnOk, IfSome, slice_get}
 use Rattle.mc_types.specs.declared.call.Outcome.TheVariants.{Failed}
@@ -8,7 +8,7 @@ use Rattle.serve_links.specs.declared.calls.calls.SentCall.{SentCall}
 use Rattle.core_accepted.specs.Results.{IsSettled}
 use Rattle.serve_links.specs.Calls.{SettlesFirst}
 use Rattle.serve_links.specs.declared.link.Link.{Link}
-use Rattle.serve_links.specs.Links.{AllFail}
+use Rattle.serve_links.specs.Links.{AllFail, LosesFirst}
 
 pub all_then : (xs ys : List SentCall) (a b c : ServedCore) → AllFail xs a b → AllFail ys b c → AllFail (xs ++ ys) a c
 all_then [] ys a b c f g = subst (λ x. AllFail ys x c) f g
@@ -48,6 +48,13 @@ all_by_none sent a e = subst (λ xs. AllFail xs a a) (sym e) refl
 -- of calls that wait the first has failed
 pub waiting_then : (waiting : List SentCall) (call : SentCall) (rest : List SentCall) (a b c : ServedCore) → waiting ≡ call ∷ rest → IsSettled a call.ticket.number Failed b → AllFail rest b c → AllFail waiting a c
 waiting_then waiting call rest a b c e is g = subst (λ xs. AllFail xs a c) (sym e) (b, is, g)
+
+-- one more is gone
+pub one_gone : (calls waiting rest : List SentCall) (call : SentCall) → LosesFirst calls waiting → waiting ≡ call ∷ rest → LosesFirst calls rest
+one_gone calls waiting rest call was e = (was.0 ++ call ∷ [], was.1 ∙ ap (λ xs. was.0 ++ xs) e ∙ sym (append_assoc was.0 (call ∷ []) rest))
+
+pub none_gone : (calls : List SentCall) → LosesFirst calls calls
+none_gone calls = ([], refl)
 
 -- of a result that came
 pub on_ok : {A E : Type 0} (r : Result A E) (P Q : Type 0) → (P → Q) → OnOk r P → OnOk r Q

@@ -8,7 +8,7 @@ use Rattle.serve_links.specs.declared.calls.calls.SentCall.{SentCall}
 use Rattle.serve_links.specs.declared.calls.calls.Next.{Next}
 use Rattle.serve_links.specs.declared.calls.calls.Next.TheVariants as nexts
 use Rattle.serve_links.specs.Calls.{AwaitsFirst, SettlesNext}
-use Rattle.serve_links.specs.Settled.{HoldsNoAnswer, SettlesOne, SettlesEach, SettlesSome, used_by}
+use Rattle.serve_links.specs.Settled.{HoldsNoAnswer, SettlesOne, SettlesEach, SettlesSome, SettlesFront, used_by}
 
 -- more is awaited, and nothing has changed
 pub awaited : (sent : List SentCall) (bytes : List ℕ) (a : ServedCore) (sent' : List SentCall) (b : ServedCore) → SettlesNext sent bytes a nexts.More sent' b → HoldsNoAnswer sent' bytes b
@@ -97,6 +97,33 @@ over {s} {x} {a} {t} {y} {b} more f = record {
 pub between :
     {s : List SentCall} {x y : List ℕ} {a : ServedCore} {t : List SentCall} {v w : List ℕ} {b : ServedCore} → y ≡ x → w ≡ v → SettlesSome s x a t v b → SettlesSome s y a t w b
 between {s} {x} {y} {a} {t} {v} {w} {b} e f is = subst (λ (l : List ℕ). SettlesSome s l a t w b) (sym e) (subst (λ (l : List ℕ). SettlesSome s x a t l b) (sym f) is)
+
+-- whatever is left of the bytes
+pub in_front : {s : List SentCall} {x : List ℕ} {a : ServedCore} {t : List SentCall} {y : List ℕ} {b : ServedCore} → SettlesSome s x a t y b → SettlesFront s x a t b
+in_front {y = y} f = (y, f)
+
+-- nothing was settled
+pub none_front : {s : List SentCall} {x : List ℕ} {a : ServedCore} {t : List SentCall} {b : ServedCore} → t ≡ s → b ≡ a → SettlesFront s x a t b
+none_front {x = x} e c = (x, none e refl c)
+
+-- some were, and then others of what was left
+pub front_then :
+    {s : List SentCall} {x : List ℕ} {a : ServedCore} {t : List SentCall} {y : List ℕ} {b : ServedCore} {u : List SentCall} {c : ServedCore} → SettlesSome s x a t y b → SettlesFront t y b u c → SettlesFront s x a u c
+front_then f g = (g.0, both f g.1)
+
+-- the first of them was, or not
+pub front_next :
+    (sent : List SentCall) (bytes : List ℕ) (a : ServedCore) (next : Next) (sent' : List SentCall) (b : ServedCore) → SettlesNext sent bytes a next sent' b → SettlesFront sent bytes a sent' b
+front_next sent bytes a next sent' b is = (drop (used_by next) bytes, by_next sent bytes a next sent' b is)
+
+-- more stands after the bytes
+pub front_over :
+    {s : List SentCall} {x : List ℕ} {a : ServedCore} {t : List SentCall} {b : ServedCore} (more : List ℕ) → SettlesFront s x a t b → SettlesFront s (x ++ more) a t b
+front_over more f = (f.0 ++ more, over more f.1)
+
+-- the same of equal bytes
+pub front_as : {s : List SentCall} {x y : List ℕ} {a : ServedCore} {t : List SentCall} {b : ServedCore} → y ≡ x → SettlesFront s x a t b → SettlesFront s y a t b
+front_as {s} {x} {y} {a} {t} {b} e f = subst (λ (l : List ℕ). SettlesFront s l a t b) (sym e) f
 
 -- so many bytes that were cut off, and the others
 pub cut_apart : (count : ℕ) (held front rest : List ℕ) → front ≡ take count held → rest ≡ drop count held → held ≡ front ++ rest

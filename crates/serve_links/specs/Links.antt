@@ -1,5 +1,5 @@
 -- The links of a proxy to its servers. Source: mcgate's own.
-use Rattle.std.specs.Prelude.{◌≡◌, ℕ, ◌+◌, List, [], ◌∷◌, length, None, IfSome, slice_get}
+use Rattle.std.specs.Prelude.{◌≡◌, ℕ, ◌+◌, List, [], ◌∷◌, ◌++◌, length, None, IfSome, slice_get}
 use Rattle.mc_types.specs.declared.call.Outcome.TheVariants.{Failed}
 use Rattle.core_accepted.specs.declared.served.ServedCore.{ServedCore}
 use Rattle.serve_links.specs.declared.calls.calls.SentCall.{SentCall}
@@ -15,6 +15,10 @@ calls_out (link ∷ links) = length link.calls.sent.items + length link.waiting.
 abbrev pub AllFail : List SentCall → ServedCore → ServedCore → Type 0
 AllFail [] old new = new ≡ old
 AllFail (call ∷ calls) old new = (mid : ServedCore) × IsSettled old call.ticket.number Failed mid × AllFail calls mid new
+
+-- of these calls the first are gone
+abbrev pub LosesFirst : List SentCall → List SentCall → Type 0
+LosesFirst calls calls' = (gone : List SentCall) × (calls ≡ gone ++ calls')
 
 -- the link has no connection, and none of its calls is out
 pub record IsDown (link : Link) : Type 0 where

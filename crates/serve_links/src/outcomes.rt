@@ -5,8 +5,8 @@ ghost use Rattle.serve_wire.specs.Ends.{HoldsAnew};
 ghost use Rattle.serve_clients.specs.Agrees.{KeepsEnds};
 ghost use Rattle.serve_links.specs.Calls.{SettlesNext};
 ghost use Rattle.serve_links.specs.CoreSteps.{GoesBy, IsSettlement, Fails};
-ghost use Rattle.serve_links.specs.Links.{AllFail, IsDown};
-ghost use Rattle.serve_links.specs.Settled.{HoldsNoAnswer, SettlesSome, used_by};
+ghost use Rattle.serve_links.specs.Links.{AllFail, IsDown, LosesFirst};
+ghost use Rattle.serve_links.specs.Settled.{HoldsNoAnswer, SettlesSome, SettlesFront, used_by};
 
 use crate::calls::{LinkCalls, Next, fail_call};
 use crate::link::Link;
@@ -53,6 +53,7 @@ fn fail_waiting(
     ensures core { Fails core.old core.new }
     ensures none { OnOk result (link.new.waiting.items ≡ []) }
     ensures all { OnOk result (AllFail link.old.waiting.items core.old core.new) }
+    ensures left { LosesFirst link.old.waiting.items link.new.waiting.items }
     ensures rest { link.new ≡ record link.old { waiting = link.new.waiting } }
     ensures ends { KeepsEnds clients.old clients.new }
 {
@@ -80,6 +81,7 @@ pub fn fail_all(
     ensures all { OnOk result (AllFail (link.old.calls.sent.items ++ link.old.waiting.items) core.old core.new) }
     ensures closed { link.new.conn ≡ None }
     ensures text { link.new.text ≡ link.old.text }
+    ensures left { LosesFirst link.old.waiting.items link.new.waiting.items }
     ensures ends { KeepsEnds clients.old clients.new }
 {
     fail_sent(&mut link.calls, core, clients)?;
@@ -205,6 +207,7 @@ fn settle_in(
     ensures core { GoesBy IsSettlement core.old core.new }
     ensures left { IfOk result (λ did. did.1 ≡ HeldStop.More → HoldsNoAnswer calls.new.sent.items (drop did.0 received.now) core.new) }
     ensures settled { IfOk result (λ did. SettlesSome calls.old.sent.items received.now core.old calls.new.sent.items (drop did.0 received.now) core.new) }
+    ensures front { SettlesFront calls.old.sent.items received.now core.old calls.new.sent.items core.new }
     ensures ends { KeepsEnds clients.old clients.new }
 {
     let held = received.bytes();
@@ -246,6 +249,7 @@ fn settle_here(
     ensures core { GoesBy IsSettlement core.old core.new }
     ensures left { IfOk result (λ did. did.1 ≡ HeldStop.More → HoldsNoAnswer calls.new.sent.items (drop did.0 held.now) core.new) }
     ensures settled { IfOk result (λ did. SettlesSome calls.old.sent.items held.now core.old calls.new.sent.items (drop did.0 held.now) core.new) }
+    ensures front { SettlesFront calls.old.sent.items held.now core.old calls.new.sent.items core.new }
     ensures ends { KeepsEnds clients.old clients.new }
 {
     settle_in(
@@ -269,6 +273,7 @@ fn settle_cut(
     ensures core { GoesBy IsSettlement core.old core.new }
     ensures left { IfOk result (λ did. did.1 ≡ HeldStop.More → HoldsNoAnswer calls.new.sent.items (drop did.0 front.now) core.new) }
     ensures settled { IfOk result (λ did. SettlesSome calls.old.sent.items front.now core.old calls.new.sent.items (drop did.0 front.now) core.new) }
+    ensures front { SettlesFront calls.old.sent.items front.now core.old calls.new.sent.items core.new }
     ensures ends { KeepsEnds clients.old clients.new }
 {
     settle_in(
@@ -292,6 +297,7 @@ fn settle_copied(
     ensures core { GoesBy IsSettlement core.old core.new }
     ensures left { IfOk result (λ front. front ≡ HeldFront.More → HoldsNoAnswer calls.new.sent.items conn.new.held.items core.new) }
     ensures settled { IfOk result (λ front. front ≢ HeldFront.Foreign → SettlesSome calls.old.sent.items conn.old.held.items core.old calls.new.sent.items conn.new.held.items core.new) }
+    ensures front { SettlesFront calls.old.sent.items conn.old.held.items core.old calls.new.sent.items core.new }
     ensures ends { KeepsEnds clients.old clients.new }
     ensures rest { HoldsAnew conn.old conn.new }
 {
@@ -338,6 +344,7 @@ fn settle_long(
     ensures core { GoesBy IsSettlement core.old core.new }
     ensures left { IfOk result (λ did. did.1 ≡ HeldFront.More → HoldsNoAnswer calls.new.sent.items conn.new.held.items core.new) }
     ensures settled { IfOk result (λ did. did.1 ≢ HeldFront.Foreign → SettlesSome calls.old.sent.items conn.old.held.items core.old calls.new.sent.items conn.new.held.items core.new) }
+    ensures front { SettlesFront calls.old.sent.items conn.old.held.items core.old calls.new.sent.items core.new }
     ensures ends { KeepsEnds clients.old clients.new }
     ensures rest { HoldsAnew conn.old conn.new }
 {
@@ -370,6 +377,7 @@ fn settle_shared(
 ) -> (Next, bool)
     ensures core { GoesBy IsSettlement core.old core.new }
     ensures settled { result.1 ≡ true → SettlesSome calls.old.sent.items (front.now ++ conn.old.held.items) core.old calls.new.sent.items conn.new.held.items core.new }
+    ensures front { SettlesFront calls.old.sent.items (front.now ++ conn.old.held.items) core.old calls.new.sent.items core.new }
     ensures rest { HoldsAnew conn.old conn.new }
 {
     let next = settle_first(calls, core, &Received::shared(front));
@@ -391,6 +399,7 @@ fn settle_large(
     ensures core { GoesBy IsSettlement core.old core.new }
     ensures left { IfOk result (λ front. front ≡ HeldFront.More → HoldsNoAnswer calls.new.sent.items conn.new.held.items core.new) }
     ensures settled { IfOk result (λ front. front ≢ HeldFront.Foreign → SettlesSome calls.old.sent.items conn.old.held.items core.old calls.new.sent.items conn.new.held.items core.new) }
+    ensures front { SettlesFront calls.old.sent.items conn.old.held.items core.old calls.new.sent.items core.new }
     ensures ends { KeepsEnds clients.old clients.new }
     ensures rest { HoldsAnew conn.old conn.new }
 {
@@ -426,6 +435,7 @@ fn settle_stop(
     ensures core { GoesBy IsSettlement core.old core.new }
     ensures left { IfOk result (λ did. did.1 ≡ HeldFront.More → HoldsNoAnswer calls.new.sent.items conn.new.held.items core.new) }
     ensures settled { IfOk result (λ did. did.1 ≢ HeldFront.Foreign → SettlesSome calls.old.sent.items conn.old.held.items core.old calls.new.sent.items conn.new.held.items core.new) }
+    ensures front { SettlesFront calls.old.sent.items conn.old.held.items core.old calls.new.sent.items core.new }
     ensures ends { KeepsEnds clients.old clients.new }
     ensures rest { HoldsAnew conn.old conn.new }
 {
@@ -452,6 +462,7 @@ fn settle_some(
     ensures core { GoesBy IsSettlement core.old core.new }
     ensures left { IfOk result (λ did. did.1 ≡ HeldFront.More → HoldsNoAnswer calls.new.sent.items conn.new.held.items core.new) }
     ensures settled { IfOk result (λ did. did.1 ≢ HeldFront.Foreign → SettlesSome calls.old.sent.items conn.old.held.items core.old calls.new.sent.items conn.new.held.items core.new) }
+    ensures front { SettlesFront calls.old.sent.items conn.old.held.items core.old calls.new.sent.items core.new }
     ensures ends { KeepsEnds clients.old clients.new }
     ensures rest { HoldsAnew conn.old conn.new }
 {
@@ -489,7 +500,7 @@ fn told(has_settled: bool, is_kept: bool, held: &[u8]) -> HeldAnswers
 }
 
 /// All whole answers that the link's connection holds are settled, one after another, and are held no more: nothing is left, or the begin of the next one.
-/// Where what is left can't be kept, nothing is said of it. Large data, of [`SHARED_FROM`] bytes or more, share the buffer that they came in. So do long
+/// Where what is left can't be kept, nothing is said of it, and each answer that was settled was in front all the same. Large data, of [`SHARED_FROM`] bytes or more, share the buffer that they came in. So do long
 /// ones, of [`CUT_FROM`] bytes or more, where 16,384 bytes or more are held and none that shared another buffer before is in use. All others are copied.
 pub fn settle_held(
     calls: &mut LinkCalls,
@@ -501,6 +512,7 @@ pub fn settle_held(
     ensures core { GoesBy IsSettlement core.old core.new }
     ensures left { IfOk result (λ answers. answers.is_kept ≡ true → HoldsNoAnswer calls.new.sent.items conn.new.held.items core.new) }
     ensures settled { IfOk result (λ answers. answers.is_kept ≡ true → SettlesSome calls.old.sent.items conn.old.held.items core.old calls.new.sent.items conn.new.held.items core.new) }
+    ensures front { SettlesFront calls.old.sent.items conn.old.held.items core.old calls.new.sent.items core.new }
     ensures ends { KeepsEnds clients.old clients.new }
     ensures rest { HoldsAnew conn.old conn.new }
 {

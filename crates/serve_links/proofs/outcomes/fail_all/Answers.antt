@@ -1,6 +1,6 @@
 use Rattle.serve_clients.proofs.Agreeing.{keeps_twice}
 use Rattle.serve_links.proofs.Walked.{then}
-use Rattle.serve_links.proofs.Failing.{on_ok, all_then}
+use Rattle.serve_links.proofs.Failing.{on_ok, all_then, none_gone}
 use Rattle.serve_links.proofs.outcomes.fail_all.Goals as goal
 
 pub returns-clause-core : goal.returns-clause-core
@@ -11,3 +11,6 @@ returns-clause-all c = on_ok c.fail_waiting.result _ _ (λ f. all_then c.args.li
 
 pub returns-clause-ends : goal.returns-clause-ends
 returns-clause-ends c = keeps_twice c.args.clients.now c.fail_sent.new.clients c.fail_waiting.new.clients c.fail_sent.ensures.ends c.fail_waiting.ensures.ends
+
+pub returns-in_err-fail_sent-clause-left : goal.returns-in_err-fail_sent-clause-left
+returns-in_err-fail_sent-clause-left c = none_gone c.args.link.now.waiting.items

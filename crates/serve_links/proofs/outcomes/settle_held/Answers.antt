@@ -2,7 +2,7 @@ use Rattle.std.proofs.Common.{refl, ap}
 use Rattle.serve_wire.proofs.Anew.{anew_twice}
 use Rattle.serve_clients.proofs.Agreeing.{keeps_none, keeps_twice}
 use Rattle.serve_links.proofs.Walked.{still, then}
-use Rattle.serve_links.proofs.Leaving.{none, both}
+use Rattle.serve_links.proofs.Leaving.{none, both, front_then}
 use Rattle.serve_links.proofs.outcomes.settle_held.Goals as goal
 
 pub loop-init : goal.loop-init
@@ -50,3 +50,12 @@ returns-in-Foreign-clause-ends c = keeps_twice c.args.clients.now c.loop.clients
 
 pub returns-in-Foreign-clause-rest : goal.returns-in-Foreign-clause-rest
 returns-in-Foreign-clause-rest c = anew_twice c.args.conn.now c.loop.conn c.settle_some.new.conn c.loop.invariant.rest c.settle_some.ensures.rest
+
+pub returns-in_err-others-clause-front : goal.returns-in_err-others-clause-front
+returns-in_err-others-clause-front c = front_then c.loop.invariant.settled c.settle_some.ensures.front
+
+pub returns-in-More-clause-front : goal.returns-in-More-clause-front
+returns-in-More-clause-front c = front_then c.loop.invariant.settled c.settle_some.ensures.front
+
+pub returns-in-Foreign-clause-front : goal.returns-in-Foreign-clause-front
+returns-in-Foreign-clause-front c = front_then c.loop.invariant.settled c.settle_some.ensures.front

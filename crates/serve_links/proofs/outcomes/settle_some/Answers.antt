@@ -2,7 +2,7 @@ use Rattle.std.proofs.Common.{ℕ, List, drop, sym, ap, ◌∙◌}
 use Rattle.serve_wire.proofs.Anew.{anew_held, anew_twice}
 use Rattle.serve_clients.proofs.Agreeing.{keeps_twice}
 use Rattle.serve_links.proofs.Walked.{then}
-use Rattle.serve_links.proofs.Leaving.{both, between}
+use Rattle.serve_links.proofs.Leaving.{both, between, front_then, front_as}
 use Rattle.serve_links.proofs.outcomes.settle_some.Goals as goal
 
 pub returns-in_err-others-clause-core : goal.returns-in_err-others-clause-core
@@ -41,3 +41,18 @@ returns-else-used-gt0-clause-ends c = keeps_twice c.args.clients.now c.settle_he
 
 pub returns-else-used-gt0-clause-rest : goal.returns-else-used-gt0-clause-rest
 returns-else-used-gt0-clause-rest c = anew_twice c.args.conn.now c.use_up.new.self c.settle_stop.new.conn (anew_held c.args.conn.now c.use_up.new.self c.use_up.ensures.rest) c.settle_stop.ensures.rest
+
+pub returns-in_err-others-clause-front : goal.returns-in_err-others-clause-front
+returns-in_err-others-clause-front c =
+    let rest = c.use_up.ensures.held ∙ ap (λ (l : List ℕ). drop c.in_ok-used.used l) (sym c.as_slice.ensures) in
+    front_then (between (sym c.as_slice.ensures) rest c.in_ok-used.ensures.settled) c.settle_stop.ensures.front
+
+pub returns-then-used-gt0-clause-front : goal.returns-then-used-gt0-clause-front
+returns-then-used-gt0-clause-front c =
+    let rest = c.use_up.ensures.held ∙ ap (λ (l : List ℕ). drop c.in_ok-used.used l) (sym c.as_slice.ensures) in
+    front_then (between (sym c.as_slice.ensures) rest c.in_ok-used.ensures.settled) c.settle_stop.ensures.front
+
+pub returns-else-used-gt0-clause-front : goal.returns-else-used-gt0-clause-front
+returns-else-used-gt0-clause-front c =
+    let rest = c.use_up.ensures.held ∙ ap (λ (l : List ℕ). drop c.in_ok-used.used l) (sym c.as_slice.ensures) in
+    front_then (between (sym c.as_slice.ensures) rest c.in_ok-used.ensures.settled) c.settle_stop.ensures.front
