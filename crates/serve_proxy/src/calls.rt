@@ -1,6 +1,7 @@
 //! A call that the core makes goes to its server's link: it is written there, waits there, or has failed.
 
 ghost use Rattle.serve_links.specs.CoreSteps.{Fails};
+ghost use Rattle.serve_proxy.specs.Ends.{AllFailOn};
 
 use crate::failing::look_at_idle;
 use crate::sockets::Sockets;
@@ -81,6 +82,7 @@ fn begin_call<W: Wire>(
     call: SentCall,
 ) -> Result<(), AllocError>
     ensures core { Fails core.old core.new }
+    ensures ends { AllFailOn W.history core.old sockets.old core.new sockets.new }
 {
     match sockets.links.write_call(at, call) {
         Ok(()) => Ok(()),
@@ -96,6 +98,7 @@ fn refuse_call<W: Wire>(
     ticket: Ticket,
 ) -> Result<(), AllocError>
     ensures core { Fails core.old core.new }
+    ensures ends { AllFailOn W.history core.old sockets.old core.new sockets.new }
 {
     fail_call(core, ticket);
     sockets.clients.mark_settled(id)
@@ -108,6 +111,7 @@ pub fn begin_waiting<W: Wire>(
     at: usize,
 ) -> Result<bool, AllocError>
     ensures core { Fails core.old core.new }
+    ensures ends { AllFailOn W.history core.old sockets.old core.new sockets.new }
 {
     let mut has_begun = false;
     for _ in 0..sockets.links.waiting(at) {
@@ -126,6 +130,7 @@ fn begin_next<W: Wire>(
     at: usize,
 ) -> Result<bool, AllocError>
     ensures core { Fails core.old core.new }
+    ensures ends { AllFailOn W.history core.old sockets.old core.new sockets.new }
 {
     let Some(call) = sockets.links.next_waiting(at) else {
         return Ok(false);

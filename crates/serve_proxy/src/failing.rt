@@ -3,8 +3,9 @@
 ghost use Rattle.std.specs.Prelude.{OnOk};
 ghost use Rattle.serve_links.specs.CoreSteps.{GoesOn, Fails};
 ghost use Rattle.serve_links.specs.Links.{IsDownAt, IsClosedAt};
+ghost use Rattle.serve_proxy.specs.Ends.{GoAlone};
 
-use crate::answers::serve_link;
+use crate::answers::{read_line, serve_link};
 use crate::sockets::{Sockets, close_if_any};
 use core_accepted::ServedCore;
 use serve_links::{Cause, Link, fail_all};
@@ -124,21 +125,19 @@ fn idle_fault(got: Got) -> Option<Cause> {
 
 impl<W: Wire> Sockets<W> {
     // One read of the link, where nothing is out on its connection and something may have come over it. Why it fails by that, if it does.
-    fn read_idle(&mut self, at: usize) -> Result<Option<Cause>, AllocError> {
+    fn read_idle(&mut self, at: usize) -> Result<Option<Cause>, AllocError>
+        ensures ends { GoAlone W.history self.old self.new }
+    {
         let Some(link) = self.links.all.get_mut(at) else {
             return Ok(None);
         };
         if !is_idle(link) {
             return Ok(None);
         }
-        let room = link.read_room();
-        let Some(conn) = link.conn.as_mut() else {
-            return Ok(None);
-        };
-        if !conn.readable {
-            return Ok(None);
+        match read_line(link, &mut self.wire)? {
+            Some(got) => Ok(idle_fault(got)),
+            None => Ok(None),
         }
-        Ok(idle_fault(conn.read_once(&mut self.wire, room)?))
     }
 
     // Why the link has failed by now, if it has taken too long.

@@ -5,6 +5,7 @@ ghost use Rattle.std.specs.Prelude.{◌≡◌, ◌↔◌, ◌++◌, drop, length
 ghost use Rattle.core_accepted.specs.Loading.{IsLoaded};
 ghost use Rattle.serve_links.specs.CoreSteps.{GoesOn, Fails};
 ghost use Rattle.serve_links.specs.Links.{IsDownAt, IsClosedAt};
+ghost use Rattle.serve_proxy.specs.Ends.{AllGoOn};
 ghost use Rattle.serve_proxy.specs.LogsGoOn.{LogsAreFresh};
 ghost use Rattle.serve_proxy.specs.Stillness.{IsStill};
 ghost use Rattle.serve_proxy.specs.Texts.{texts_of};
@@ -213,6 +214,7 @@ impl<W: Wire> ProxyEnd<W> {
     /// What was held back goes to its clients, as far as they take it: for whoever turns it no more.
     pub fn end_turns(&mut self) -> io::Result<()>
         ensures core { GoesOn self.old.core.value self.new.core.value }
+        ensures ends { AllGoOn W.history self.old.core.value self.old.sockets self.new.core.value self.new.sockets }
     {
         send_clients(self.core.as_mut(), &mut self.sockets)
     }

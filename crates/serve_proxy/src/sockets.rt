@@ -2,6 +2,7 @@
 
 ghost use Rattle.std.specs.Prelude.{◌≡◌, ◌↔◌, false, None, IfSome, IsTrue};
 ghost use Rattle.serve_wire.specs.Calls.{Closes};
+ghost use Rattle.serve_proxy.specs.Ends.{Stay};
 ghost use Rattle.serve_proxy.specs.Stillness.{HasNoWork, AreStill};
 
 use crate::accepting::Accepting;
@@ -105,13 +106,18 @@ impl<W: Wire> Sockets<W> {
     }
 
     // The clock is looked at.
-    fn look<C: Clock>(&mut self, clock: &C) -> io::Result<()> {
-        self.time = self.wire.millis(clock)?;
+    fn look<C: Clock>(&mut self, clock: &C) -> io::Result<()>
+        ensures ends { Stay W.history self.old self.new }
+    {
+        let time = self.wire.millis(clock)?;
+        self.time = time;
         Ok(())
     }
 
     /// How long may be waited, by the clock of now.
-    pub fn wait_limit<C: Clock>(&mut self, clock: &C) -> io::Result<Option<Duration>> {
+    pub fn wait_limit<C: Clock>(&mut self, clock: &C) -> io::Result<Option<Duration>>
+        ensures ends { Stay W.history self.old self.new }
+    {
         self.look(clock)?;
         if self.has_work() {
             return Ok(Some(Duration::from_millis(0)));
