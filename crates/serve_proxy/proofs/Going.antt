@@ -27,7 +27,7 @@ use Rattle.serve_clients.specs.Agrees.{said_of, Breaks, StateAgrees, EndAgrees, 
 use Rattle.serve_clients.specs.Lending.{with_client}
 use Rattle.serve_clients.proofs.Agreeing.{its, state_stays, agree_still}
 use Rattle.serve_links.specs.declared.link.Link.{Link}
-use Rattle.serve_links.specs.CoreSteps.{Step, Opened, NotOpened, Fed, Polled, Stopped, Settled, Gave, Closed, LeftLine, Loaded, Does, Walks, AreOf, GoesBy, IsOfTurn, IsFailure, GoesOn, Fails}
+use Rattle.serve_links.specs.CoreSteps.{Step, Opened, NotOpened, Fed, Polled, Stopped, Settled, Gave, Closed, LeftLine, Loaded, Does, Walks, AreOf, GoesBy, IsOfTurn, IsSettlement, IsFailure, GoesOn, Fails}
 use Rattle.serve_links.specs.Pieces.{KeepsAllButHeld, FeedsHeld}
 use Rattle.serve_links.specs.Story.{fed_in, gave_in, AgreesWith, TellsNone, LineAgrees, LinesAgree, KeepsOthers, OneGoes, LineGoes, AnEnd, Agrees, AllGo, texts_of}
 use Rattle.serve_links.proofs.Reading.{breaks_now}
@@ -218,6 +218,25 @@ fails_go {a = a} {b = b} f = calls_go a b f.steps f.kinds (fails_silent f.steps 
 
 pub quietly_go : {h : List Event} {cs : Clients} {ls : List Link} {a b : ServedCore} → GoesBy IsSilent a b → AllGo IsOfTurn (record { core = a; history = h; clients = cs; links = ls }) (record { core = b; history = h; clients = cs; links = ls })
 quietly_go {a = a} {b = b} f = calls_go a b f.steps (silent_turn f.steps f.kinds) f.kinds f.walks
+
+settlements_silent : (steps : List Step) → AreOf IsSettlement steps → AreOf IsSilent steps
+settlements_silent [] kinds = tt
+settlements_silent (step ∷ steps) kinds = (silent step kinds.0, settlements_silent steps kinds.1)
+  where
+    silent : (s : Step) → IsSettlement s → IsSilent s
+    silent (Settled number outcome) is = tt
+    silent (NotOpened fault) is = tt
+    silent (Polled client poll) is = tt
+    silent (Stopped client fault) is = tt
+    silent (Closed client) is = tt
+    silent (LeftLine client) is = tt
+    silent (Opened client) is = is
+    silent (Fed client piece) is = is
+    silent (Gave client bytes) is = is
+    silent (Loaded configuration generation) is = is
+
+pub settles_go : {h : List Event} {cs : Clients} {ls : List Link} {a b : ServedCore} → GoesBy IsSettlement a b → AllGo IsOfTurn (record { core = a; history = h; clients = cs; links = ls }) (record { core = b; history = h; clients = cs; links = ls })
+settles_go f = quietly_go (record { steps = f.steps; kinds = settlements_silent f.steps f.kinds; walks = f.walks })
 
 pub nothing : {a : ServedCore} → GoesBy IsSilent a a
 nothing = record { steps = []; kinds = tt; walks = refl }

@@ -1,5 +1,5 @@
 -- What stays of the ends of a proxy, and the links one by one.
-use Rattle.std.proofs.Common.{◌≡◌, ◌≢◌, ◌⊎◌, inl, inr, ℕ, zero, suc, if◌then◌else◌, List, [], ◌∷◌, get_or, Option, Some, None, refl, sym, ap, ◌∙◌, subst}
+use Rattle.std.proofs.Common.{◌≡◌, ◌≢◌, ◌⊎◌, inl, inr, ℕ, zero, suc, Bool, if◌then◌else◌, List, [], ◌∷◌, get_or, Option, Some, None, refl, sym, ap, ◌∙◌, subst}
 use Rattle.std.proofs.Math.ListN.{set}
 use Rattle.std.specs.Prelude.{IfSome}
 use Rattle.std.specs.Option.{option_map}
@@ -17,7 +17,7 @@ use Rattle.serve_links.specs.declared.settings.ServerDialect.{ServerDialect}
 use Rattle.serve_links.specs.declared.link.Link.{Link}
 use Rattle.serve_links.specs.declared.link.Opening.{Opening}
 use Rattle.serve_links.specs.declared.link.Opening.TheVariants as opening
-use Rattle.serve_links.specs.Lines.{SameLine, KeepsLines, OpensBy, IsNewEnd}
+use Rattle.serve_links.specs.Lines.{SameLine, KeepsLines, OpensBy, IsNewEnd, UsesSome, Learns}
 use Rattle.serve_links.specs.Story.{LineAgrees, KeepsOthers}
 use Rattle.serve_proxy.specs.Ends.{line_of, lines_of, IsQuiet, EndsStay, LineStands}
 
@@ -37,6 +37,15 @@ kept_line x y keeps = ap (λ t. (t, option_map (λ (z : Conn). z.number) y.conn)
     by None b same = ap (option_map (λ (z : Conn). z.number)) same
     by (Some a) None same = absurd same
     by (Some a) (Some b) same = ap Some same.number
+
+-- so has one that learnt what its server tells of its dialects
+pub learnt_line : (can : Bool) (x y : Link) → Learns can x y → line_of y ≡ line_of x
+learnt_line can x y learns = ap line_of learns.rest ∙ ap (λ o. (x.text.items, o)) (by x.conn y.conn learns.uses)
+  where
+    by : (a b : Option Conn) → UsesSome a b → option_map (λ (z : Conn). z.number) b ≡ option_map (λ (z : Conn). z.number) a
+    by None b uses = ap (option_map (λ (z : Conn). z.number)) uses
+    by (Some a) None uses = absurd uses
+    by (Some a) (Some b) uses = ap (λ (z : Conn). Some z.number) uses.2
 
 -- ---- what a link agrees with
 

@@ -1,12 +1,14 @@
 //! Links are read, and whole answers settle the calls that are out.
 
 ghost use Rattle.std.specs.Prelude.{◌≡◌, ℕ};
-ghost use Rattle.serve_links.specs.CoreSteps.{GoesOn};
-ghost use Rattle.serve_proxy.specs.Ends.{line_of, LineStands, Stay, GoAlone};
+ghost use Rattle.serve_links.specs.CoreSteps.{GoesBy, IsSettlement};
+ghost use Rattle.serve_proxy.specs.Ends.{line_of, LineStands, Stay, GoAlone, AllGoOn};
+ghost use Rattle.serve_clients.specs.Agrees.{KeepsEnds};
 
 use crate::failing::fail_link;
 use crate::sockets::Sockets;
 use core_accepted::ServedCore;
+use serve_clients::Clients;
 use serve_links::{Cause, KEPT_ROOM, Link, settle_held, vain};
 use serve_wire::Wire;
 use serve_wire::conn::Got;
@@ -15,7 +17,7 @@ use std::io;
 
 /// Links that are ready are read.
 pub fn read_links<W: Wire>(core: &mut ServedCore, sockets: &mut Sockets<W>) -> io::Result<()>
-    ensures core { GoesOn core.old core.new }
+    ensures ends { AllGoOn W.history core.old sockets.old core.new sockets.new }
 {
     let links = sockets.work.take(&mut sockets.links.ready);
     for at in links.as_slice() {
@@ -32,15 +34,12 @@ pub fn serve_link<W: Wire>(
     sockets: &mut Sockets<W>,
     at: usize,
 ) -> io::Result<()>
-    ensures core { GoesOn core.old core.new }
+    ensures ends { AllGoOn W.history core.old sockets.old core.new sockets.new }
 {
     if let Some(cause) = read_link(core, sockets, at)? {
         return Ok(fail_link(core, sockets, at, cause)?);
     }
-    if sockets.links.may_have_more(at) {
-        sockets.links.mark_ready(at)?;
-    }
-    Ok(())
+    Ok(sockets.links.mark_rest(at)?)
 }
 
 // One read, and all whole answers are settled. Why the link fails by that, if it does.
@@ -49,7 +48,7 @@ fn read_link<W: Wire>(
     sockets: &mut Sockets<W>,
     at: usize,
 ) -> io::Result<Option<Cause>>
-    ensures core { GoesOn core.old core.new }
+    ensures ends { AllGoOn W.history core.old sockets.old core.new sockets.new }
 {
     match sockets.read_link_once(at)? {
         None => Ok(None),
@@ -67,7 +66,7 @@ fn learn_and_settle<W: Wire>(
     sockets: &mut Sockets<W>,
     at: usize,
 ) -> io::Result<Option<Cause>>
-    ensures core { GoesOn core.old core.new }
+    ensures ends { AllGoOn W.history core.old sockets.old core.new sockets.new }
 {
     let Some(link) = sockets.links.all.get_mut(at) else {
         return Ok(None);
@@ -91,23 +90,40 @@ fn settle_all<W: Wire>(
     at: usize,
     has_answered: bool,
 ) -> io::Result<Option<Cause>>
-    ensures core { GoesOn core.old core.new }
+    ensures ends { AllGoOn W.history core.old sockets.old core.new sockets.new }
 {
+    let polls = sockets.links.settings.polls;
     let Some(link) = sockets.links.all.get_mut(at) else {
         return Ok(None);
     };
-    let Some(conn) = link.conn.as_mut() else {
-        return Ok(None);
-    };
-    let answers = settle_held(
-        &mut link.calls,
+    Ok(settle_line(
+        link,
         core,
         &mut sockets.clients,
         &mut sockets.is_freed,
-        conn,
-    )?;
+        has_answered,
+        polls,
+    )?)
+}
+
+// The same of the link alone.
+fn settle_line(
+    link: &mut Link,
+    core: &mut ServedCore,
+    clients: &mut Clients,
+    is_freed: &mut bool,
+    has_answered: bool,
+    polls: Option<u32>,
+) -> Result<Option<Cause>, AllocError>
+    ensures core { GoesBy IsSettlement core.old core.new }
+    ensures line { line_of link.new ≡ line_of link.old }
+    ensures ends { KeepsEnds clients.old clients.new }
+{
+    let Some(conn) = link.conn.as_mut() else {
+        return Ok(None);
+    };
+    let answers = settle_held(&mut link.calls, core, clients, is_freed, conn)?;
     link.awaited = answers.awaited;
-    let polls = sockets.links.settings.polls;
     let has_failed = link.has_read(has_answered || answers.has_settled, polls);
     if !answers.is_kept {
         return Ok(Some(Cause::Foreign));

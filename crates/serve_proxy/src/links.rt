@@ -243,6 +243,16 @@ impl Links {
         }
     }
 
+    /// It is to be read again, where that may give more.
+    pub fn mark_rest(&mut self, at: usize) -> Result<(), AllocError>
+        ensures lines { lines_of self.new.all.items ≡ lines_of self.old.all.items }
+    {
+        if self.may_have_more(at) {
+            return self.mark_ready(at);
+        }
+        Ok(())
+    }
+
     /// The link's connection stands, which is news.
     pub fn has_stood(&mut self, at: usize)
         ensures lines { lines_of self.new.all.items ≡ lines_of self.old.all.items }
@@ -311,7 +321,9 @@ impl Links {
     }
 
     /// The call waits until its server takes more, or is given back.
-    pub fn let_wait(&mut self, at: usize, call: SentCall) -> Result<(), SentCall> {
+    pub fn let_wait(&mut self, at: usize, call: SentCall) -> Result<(), SentCall>
+        ensures lines { lines_of self.new.all.items ≡ lines_of self.old.all.items }
+    {
         match self.all.get_mut(at) {
             Some(link) => link.let_wait(call),
             None => Err(call),

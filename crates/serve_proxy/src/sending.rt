@@ -1,8 +1,8 @@
 //! What is to be sent goes out: calls to servers, and replies to clients. Each end is written once.
 
 ghost use Rattle.std.specs.Prelude.{ℕ};
-ghost use Rattle.serve_links.specs.CoreSteps.{GoesOn, Fails};
-ghost use Rattle.serve_proxy.specs.Ends.{Stay, GoAlone, LineStands, AllGoOn};
+ghost use Rattle.serve_links.specs.CoreSteps.{GoesOn};
+ghost use Rattle.serve_proxy.specs.Ends.{Stay, GoAlone, LineStands, AllGoOn, AllFailOn};
 
 use crate::calls::begin_waiting;
 use crate::failing::fail_link;
@@ -23,7 +23,7 @@ pub fn send_links<W: Wire>(
     core: &mut ServedCore,
     sockets: &mut Sockets<W>,
 ) -> Result<(), AllocError>
-    ensures core { Fails core.old core.new }
+    ensures ends { AllFailOn W.history core.old sockets.old core.new sockets.new }
 {
     let links = sockets.work.take(&mut sockets.links.with_output);
     for at in links.as_slice() {
@@ -40,7 +40,7 @@ fn send_link<W: Wire>(
     sockets: &mut Sockets<W>,
     at: usize,
 ) -> Result<(), AllocError>
-    ensures core { Fails core.old core.new }
+    ensures ends { AllFailOn W.history core.old sockets.old core.new sockets.new }
 {
     sockets.links.end_output(at);
     for _ in 0..LINK_SENDS {

@@ -1,4 +1,4 @@
-use Rattle.serve_proxy.proofs.Going.{still, and_then, core_of}
+use Rattle.serve_proxy.proofs.Going.{still, and_then}
 use Rattle.serve_proxy.proofs.calls.begin_waiting.Goals as goal
 
 pub loop-init : goal.loop-init
@@ -8,10 +8,10 @@ pub loop-preserved : goal.loop-preserved
 loop-preserved g c = and_then c.loop.invariant c.begin_next.ensures.ends
 
 pub returns-in_err-begin_next : goal.returns-in_err-begin_next
-returns-in_err-begin_next g c = let e = and_then c.loop.invariant c.begin_next.ensures.ends in record { core = core_of e; ends = e }
+returns-in_err-begin_next g c = record { ends = and_then c.loop.invariant c.begin_next.ensures.ends }
 
 pub returns-then-not-branch : goal.returns-then-not-branch
-returns-then-not-branch g c = let e = and_then c.loop.invariant c.begin_next.ensures.ends in record { core = core_of e; ends = e }
+returns-then-not-branch g c = record { ends = and_then c.loop.invariant c.begin_next.ensures.ends }
 
 pub returns : goal.returns
-returns g c = record { core = core_of c.loop.invariant; ends = c.loop.invariant }
+returns g c = record { ends = c.loop.invariant }
