@@ -6,7 +6,6 @@ ghost use Rattle.serve_wire.specs.Events.{IsNew, admits};
 ghost use Rattle.serve_wire.specs.Agreement.{TouchesOnly};
 ghost use Rattle.serve_clients.specs.Marks.{client_of};
 ghost use Rattle.serve_clients.specs.Agrees.{said_of};
-ghost use Rattle.serve_links.specs.CoreSteps.{GoesOn};
 ghost use Rattle.serve_proxy.specs.Ends.{AllGoOn, AllGoOpened};
 ghost use Rattle.serve_proxy.specs.Stillness.{MayAccept};
 
@@ -56,7 +55,6 @@ impl Accepting {
 
 /// Clients that wait are accepted, if it is time.
 pub fn accept_ready<W: Wire>(core: &mut ServedCore, sockets: &mut Sockets<W>)
-    ensures core { GoesOn core.old core.new }
     ensures ends { AllGoOn W.history core.old sockets.old core.new sockets.new }
 {
     if sockets.accepting.is_due(sockets.time) {
@@ -65,7 +63,6 @@ pub fn accept_ready<W: Wire>(core: &mut ServedCore, sockets: &mut Sockets<W>)
 }
 
 fn accept_some<W: Wire>(core: &mut ServedCore, sockets: &mut Sockets<W>)
-    ensures core { GoesOn core.old core.new }
     ensures ends { AllGoOn W.history core.old sockets.old core.new sockets.new }
 {
     for _ in 0..ACCEPTS {
@@ -77,7 +74,6 @@ fn accept_some<W: Wire>(core: &mut ServedCore, sockets: &mut Sockets<W>)
 
 // Whether another may be accepted now.
 fn accept_one<W: Wire>(core: &mut ServedCore, sockets: &mut Sockets<W>) -> bool
-    ensures core { GoesOn core.old core.new }
     ensures ends { AllGoOn W.history core.old sockets.old core.new sockets.new }
 {
     match sockets.wire.accept() {
@@ -101,7 +97,6 @@ fn accept_one<W: Wire>(core: &mut ServedCore, sockets: &mut Sockets<W>) -> bool
 // A client came: it is one more, or is told that there are too many. One for which there is no memory is closed.
 fn take_client<W: Wire>(core: &mut ServedCore, sockets: &mut Sockets<W>, conn: usize)
     requires { IsNew conn (W.history sockets.old.wire) }
-    ensures core { GoesOn core.old core.new }
     ensures ends { AllGoOn W.history core.old sockets.old core.new sockets.new }
 {
     match core.open_client() {
@@ -113,7 +108,6 @@ fn take_client<W: Wire>(core: &mut ServedCore, sockets: &mut Sockets<W>, conn: u
 // It is kept by its id. Where it can't be, the core closes it.
 fn keep_client<W: Wire>(core: &mut ServedCore, sockets: &mut Sockets<W>, id: usize, conn: usize)
     requires { IsNew conn (W.history sockets.old.wire) }
-    ensures core { GoesOn core.old core.new }
     ensures ends { AllGoOpened W.history id core.old sockets.old core.new sockets.new }
 {
     if sockets.insert_client(id, conn) {

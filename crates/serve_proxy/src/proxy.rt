@@ -50,7 +50,7 @@ fn run_turn<W: Wire, R: Net + Clock>(
     sockets: &mut Sockets<W>,
     limit: Option<Duration>,
 ) -> io::Result<()>
-    ensures core { GoesOn core.old core.new }
+    ensures ends { AllGoOn W.history core.old sockets.old core.new sockets.new }
 {
     // Something is waited for, and what is ready is noted.
     sockets.wait(rt, limit)?;
@@ -198,6 +198,7 @@ impl<W: Wire> ProxyEnd<W> {
     /// One turn: a wait until something is ready or late, and then all that is ready is done.
     pub fn turn<R: Net + Clock>(&mut self, rt: &R) -> io::Result<()>
         ensures core { GoesOn self.old.core.value self.new.core.value }
+        ensures ends { AllGoOn W.history self.old.core.value self.old.sockets self.new.core.value self.new.sockets }
     {
         let limit = self.sockets.wait_limit(rt)?;
         run_turn(rt, self.core.as_mut(), &mut self.sockets, limit)
@@ -206,6 +207,7 @@ impl<W: Wire> ProxyEnd<W> {
     /// The same, but it waits this long at most, so that several ends can be turned in one thread.
     pub fn turn_within<R: Net + Clock>(&mut self, rt: &R, most: Duration) -> io::Result<()>
         ensures core { GoesOn self.old.core.value self.new.core.value }
+        ensures ends { AllGoOn W.history self.old.core.value self.old.sockets self.new.core.value self.new.sockets }
     {
         let limit = self.sockets.wait_limit(rt)?;
         let limit = Some(at_most(limit, most));

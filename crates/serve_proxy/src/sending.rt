@@ -56,7 +56,6 @@ fn send_link<W: Wire>(
 
 /// Clients that have something to send are written.
 pub fn send_clients<W: Wire>(core: &mut ServedCore, sockets: &mut Sockets<W>) -> io::Result<()>
-    ensures core { GoesOn core.old core.new }
     ensures ends { AllGoOn W.history core.old sockets.old core.new sockets.new }
 {
     let ids = sockets.work.take(&mut sockets.clients.with_output);
@@ -72,7 +71,6 @@ fn send_client<W: Wire>(
     sockets: &mut Sockets<W>,
     id: usize,
 ) -> io::Result<()>
-    ensures core { GoesOn core.old core.new }
     ensures ends { AllGoOn W.history core.old sockets.old core.new sockets.new }
 {
     if sockets.holds_back(id) {

@@ -4,7 +4,7 @@ ghost use Rattle.std.specs.Prelude.{◌≡◌, List};
 ghost use Rattle.serve_wire.specs.Events.{Event};
 ghost use Rattle.serve_wire.specs.Agreement.{TouchesOnly};
 ghost use Rattle.serve_clients.specs.Agrees.{GoesOnAgreeing};
-ghost use Rattle.serve_links.specs.CoreSteps.{IsOfTurn, GoesOn};
+ghost use Rattle.serve_links.specs.CoreSteps.{IsOfTurn};
 ghost use Rattle.serve_links.specs.Story.{OneGoes};
 ghost use Rattle.serve_proxy.specs.Ends.{Stay, AllGoOn};
 
@@ -31,7 +31,7 @@ pub fn serve_asks<W: Wire, N: Net>(
     core: &mut ServedCore,
     sockets: &mut Sockets<W>,
 ) -> io::Result<()>
-    ensures core { GoesOn core.old core.new }
+    ensures ends { AllGoOn W.history core.old sockets.old core.new sockets.new }
 {
     if sockets.in_rounds {
         return Ok(());
@@ -46,7 +46,7 @@ pub fn serve_all<W: Wire, N: Net>(
     core: &mut ServedCore,
     sockets: &mut Sockets<W>,
 ) -> io::Result<()>
-    ensures core { GoesOn core.old core.new }
+    ensures ends { AllGoOn W.history core.old sockets.old core.new sockets.new }
 {
     if sockets.in_rounds {
         return serve_round(net, core, sockets);
@@ -62,7 +62,7 @@ fn serve_ready<W: Wire, N: Net>(
     core: &mut ServedCore,
     sockets: &mut Sockets<W>,
 ) -> io::Result<()>
-    ensures core { GoesOn core.old core.new }
+    ensures ends { AllGoOn W.history core.old sockets.old core.new sockets.new }
 {
     let ids = sockets.work.take(&mut sockets.clients.ready);
     serve_list(net, core, sockets, ids)
@@ -74,7 +74,7 @@ fn serve_busy<W: Wire, N: Net>(
     core: &mut ServedCore,
     sockets: &mut Sockets<W>,
 ) -> io::Result<()>
-    ensures core { GoesOn core.old core.new }
+    ensures ends { AllGoOn W.history core.old sockets.old core.new sockets.new }
 {
     if !sockets.is_freed {
         return Ok(());
@@ -95,7 +95,7 @@ fn serve_round<W: Wire, N: Net>(
     core: &mut ServedCore,
     sockets: &mut Sockets<W>,
 ) -> io::Result<()>
-    ensures core { GoesOn core.old core.new }
+    ensures ends { AllGoOn W.history core.old sockets.old core.new sockets.new }
 {
     sockets.is_freed = false;
     let mut ids = sockets.work.take(&mut sockets.clients.ready);
@@ -111,7 +111,7 @@ fn serve_list<W: Wire, N: Net>(
     sockets: &mut Sockets<W>,
     ids: Vec<usize>,
 ) -> io::Result<()>
-    ensures core { GoesOn core.old core.new }
+    ensures ends { AllGoOn W.history core.old sockets.old core.new sockets.new }
 {
     for id in ids.as_slice() {
         sockets.clients.end_ready(*id);
@@ -127,7 +127,7 @@ fn serve_client<W: Wire, N: Net>(
     sockets: &mut Sockets<W>,
     id: usize,
 ) -> io::Result<()>
-    ensures core { GoesOn core.old core.new }
+    ensures ends { AllGoOn W.history core.old sockets.old core.new sockets.new }
 {
     read_client(core, sockets, id);
     let is_lent = lend_room(core, sockets, id)?;
@@ -139,7 +139,6 @@ fn serve_client<W: Wire, N: Net>(
 
 // One read of the client, and what it holds is given to the core.
 fn read_client<W: Wire>(core: &mut ServedCore, sockets: &mut Sockets<W>, id: usize)
-    ensures core { GoesOn core.old core.new }
     ensures ends { AllGoOn W.history core.old sockets.old core.new sockets.new }
 {
     let Some(client) = sockets.clients.get_mut(id) else {
@@ -167,7 +166,6 @@ fn read_end<W: Wire>(client: &mut Client, wire: &mut W, rooms: &mut Rooms, tally
 
 // What it holds is given to the core, and the room that was lent comes back.
 fn feed_end(core: &mut ServedCore, id: usize, client: &mut Client, rooms: &mut Rooms)
-    ensures core { GoesOn core.old core.new }
     ensures one { (h : List Event) → OneGoes IsOfTurn id core.old h client.old core.new h client.new }
 {
     feed_held(core, id, client);
@@ -181,7 +179,7 @@ fn poll_client<W: Wire, N: Net>(
     sockets: &mut Sockets<W>,
     id: usize,
 ) -> Result<Rest, AllocError>
-    ensures core { GoesOn core.old core.new }
+    ensures ends { AllGoOn W.history core.old sockets.old core.new sockets.new }
 {
     for _ in 0..sockets.polls() {
         if !sockets.may_go_on(id) {
@@ -198,7 +196,6 @@ fn poll_client<W: Wire, N: Net>(
 
 // Nobody waits behind a client that isn't polled until it has taken what it was sent.
 fn leave_line<W: Wire>(core: &mut ServedCore, sockets: &mut Sockets<W>, id: usize)
-    ensures core { GoesOn core.old core.new }
     ensures ends { AllGoOn W.history core.old sockets.old core.new sockets.new }
 {
     if core.leave_line(id) {
@@ -213,7 +210,7 @@ fn poll_once<W: Wire, N: Net>(
     sockets: &mut Sockets<W>,
     id: usize,
 ) -> Result<Rest, AllocError>
-    ensures core { GoesOn core.old core.new }
+    ensures ends { AllGoOn W.history core.old sockets.old core.new sockets.new }
 {
     match core.poll(id) {
         Ok(Polled::Call(ticket)) => {
@@ -245,7 +242,6 @@ fn poll_once<W: Wire, N: Net>(
 
 // A client that has ended, for which nothing is left to do and to send, is gone.
 fn close_client<W: Wire>(core: &mut ServedCore, sockets: &mut Sockets<W>, id: usize, rest: Rest)
-    ensures core { GoesOn core.old core.new }
     ensures ends { AllGoOn W.history core.old sockets.old core.new sockets.new }
 {
     if !is_over(core, sockets, id, rest) {

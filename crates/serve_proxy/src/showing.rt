@@ -2,7 +2,7 @@
 
 ghost use Rattle.std.specs.Prelude.{List};
 ghost use Rattle.serve_wire.specs.Events.{Event};
-ghost use Rattle.serve_links.specs.CoreSteps.{IsOfTurn, GoesOn};
+ghost use Rattle.serve_links.specs.CoreSteps.{IsOfTurn};
 ghost use Rattle.serve_links.specs.Story.{OneGoes};
 ghost use Rattle.serve_proxy.specs.Ends.{Stay, AllGoOn};
 
@@ -21,7 +21,6 @@ pub fn show_client<W: Wire>(
     sockets: &mut Sockets<W>,
     id: usize,
 ) -> io::Result<()>
-    ensures core { GoesOn core.old core.new }
     ensures ends { AllGoOn W.history core.old sockets.old core.new sockets.new }
 {
     let Some(client) = sockets.clients.get_mut(id) else {
@@ -34,7 +33,6 @@ pub fn show_client<W: Wire>(
 // What the core has for the client goes after what is to be sent by its end: how many bytes that is. Where memory is refused for it, the
 // client is broken off.
 fn show_end(core: &mut ServedCore, id: usize, client: &mut Client) -> usize
-    ensures core { GoesOn core.old core.new }
     ensures one { (h : List Event) → OneGoes IsOfTurn id core.old h client.old core.new h client.new }
 {
     match give(core, id, client) {
@@ -49,7 +47,6 @@ fn show_end(core: &mut ServedCore, id: usize, client: &mut Client) -> usize
 
 // The same, but that its end stays as it is where memory is refused.
 fn give(core: &mut ServedCore, id: usize, client: &mut Client) -> Result<usize, CoreFault>
-    ensures core { GoesOn core.old core.new }
     ensures one { (h : List Event) → OneGoes IsOfTurn id core.old h client.old core.new h client.new }
 {
     let unsent = client.conn.unsent.len();
@@ -77,7 +74,6 @@ pub fn lend_room<W: Wire>(
     sockets: &mut Sockets<W>,
     id: usize,
 ) -> io::Result<bool>
-    ensures core { GoesOn core.old core.new }
     ensures ends { AllGoOn W.history core.old sockets.old core.new sockets.new }
 {
     if !sockets.rooms.has_spare() {
@@ -104,7 +100,6 @@ fn exchange_room<W: Wire>(
     id: usize,
     buffer: SendBuffer,
 )
-    ensures core { GoesOn core.old core.new }
     ensures ends { AllGoOn W.history core.old sockets.old core.new sockets.new }
 {
     let mut buffer = buffer;
@@ -119,7 +114,6 @@ fn exchange_at<W: Wire>(
     id: usize,
     buffer: &mut SendBuffer,
 )
-    ensures core { GoesOn core.old core.new }
     ensures ends { AllGoOn W.history core.old sockets.old core.new sockets.new }
 {
     if let Some(client) = sockets.clients.get_mut(id) {
@@ -129,7 +123,6 @@ fn exchange_at<W: Wire>(
 
 // The same of its end. Where the core has something for the client after all, that is lost, and so the client is broken off.
 fn exchange_end(core: &mut ServedCore, id: usize, client: &mut Client, buffer: &mut SendBuffer)
-    ensures core { GoesOn core.old core.new }
     ensures one { (h : List Event) → OneGoes IsOfTurn id core.old h client.old core.new h client.new }
 {
     let _ = core.move_output(id, buffer);
@@ -146,7 +139,6 @@ pub fn show_lent<W: Wire>(
     id: usize,
     is_lent: bool,
 ) -> io::Result<()>
-    ensures core { GoesOn core.old core.new }
     ensures ends { AllGoOn W.history core.old sockets.old core.new sockets.new }
 {
     show_client(core, sockets, id)?;
@@ -157,7 +149,6 @@ pub fn show_lent<W: Wire>(
 
 // The core gets other room for the client, if some was lent.
 fn end_lent<W: Wire>(core: &mut ServedCore, sockets: &mut Sockets<W>, id: usize, is_lent: bool)
-    ensures core { GoesOn core.old core.new }
     ensures ends { AllGoOn W.history core.old sockets.old core.new sockets.new }
 {
     if is_lent {
@@ -173,7 +164,6 @@ pub fn take_rooms<W: Wire>(
     sockets: &mut Sockets<W>,
     id: usize,
 ) -> io::Result<()>
-    ensures core { GoesOn core.old core.new }
     ensures ends { AllGoOn W.history core.old sockets.old core.new sockets.new }
 {
     sockets.take_room(id);
@@ -184,7 +174,6 @@ pub fn take_rooms<W: Wire>(
 
 /// Where nothing large came for a while, the room that was for it goes back, and so does what clients that wait for nothing have.
 pub fn give_back_room<W: Wire>(core: &mut ServedCore, sockets: &mut Sockets<W>) -> io::Result<()>
-    ensures core { GoesOn core.old core.new }
     ensures ends { AllGoOn W.history core.old sockets.old core.new sockets.new }
 {
     if !sockets.rooms.are_due(sockets.time) {
@@ -199,7 +188,6 @@ pub fn give_back_room<W: Wire>(core: &mut ServedCore, sockets: &mut Sockets<W>) 
 
 // Room of all clients goes back. Whether something that one of them sent isn't done.
 fn give_back_clients<W: Wire>(core: &mut ServedCore, sockets: &mut Sockets<W>) -> io::Result<bool>
-    ensures core { GoesOn core.old core.new }
     ensures ends { AllGoOn W.history core.old sockets.old core.new sockets.new }
 {
     let mut is_held = false;
@@ -218,7 +206,6 @@ fn give_back_client<W: Wire>(
     sockets: &mut Sockets<W>,
     id: usize,
 ) -> io::Result<bool>
-    ensures core { GoesOn core.old core.new }
     ensures ends { AllGoOn W.history core.old sockets.old core.new sockets.new }
 {
     sockets.give_back_end(id);

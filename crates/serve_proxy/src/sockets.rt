@@ -129,7 +129,9 @@ impl<W: Wire> Sockets<W> {
     }
 
     /// A wait until something is ready, and no longer than this. What is ready is noted.
-    pub fn wait<C: Clock>(&mut self, clock: &C, limit: Option<Duration>) -> io::Result<()> {
+    pub fn wait<C: Clock>(&mut self, clock: &C, limit: Option<Duration>) -> io::Result<()>
+        ensures ends { Stay W.history self.old self.new }
+    {
         let count = self.wire.wait(limit)?;
         for at in 0..count {
             if let Some(report) = self.wire.report(at) {
@@ -140,7 +142,9 @@ impl<W: Wire> Sockets<W> {
     }
 
     // What was told.
-    fn note(&mut self, report: Report) -> Result<(), AllocError> {
+    fn note(&mut self, report: Report) -> Result<(), AllocError>
+        ensures ends { Stay W.history self.old self.new }
+    {
         match report {
             Report::Listener => {
                 self.accepting = Accepting::Now;
