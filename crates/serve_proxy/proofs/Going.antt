@@ -406,15 +406,14 @@ more_given past id bytes = ap (λ (t : Bool). if t then gave_in past id ++ bytes
 
 -- and it is to be sent
 pub one_shown :
-    {id : ℕ} {a b : ServedCore} {h : List Event} (x y : Client) (r : Result (Unit {0}) CoreFault) → OnOk r (Gives a.core id (output_by (client_at a.core id)) b.core)
-    → IfErr r (λ fault. OutputFault a.core id fault × (b ≡ a)) → OnOk r (LogsGoBy a (λ entries. entries ≡ log.Gives id (output_by (client_at a.core id)) ∷ []) b)
+    {id : ℕ} {a b : ServedCore} {h : List Event} (x y : Client) (r : Result ℕ CoreFault) → OnOk r (Does (Gave id (output_by (client_at a.core id))) a b) → OnErr r (b ≡ a)
     → OnOk r (bytes_of y.conn.unsent ≡ bytes_of x.conn.unsent ++ output_by (client_at a.core id)) → OnErr r (bytes_of y.conn.unsent ≡ bytes_of x.conn.unsent)
     → y ≡ record x { conn = record x.conn { unsent = y.conn.unsent } } → OneGoes IsOfTurn id a h x b h y
-one_shown {id} {a} {b} {h} x y (Ok done) ok err fresh more kept rest =
+one_shown {id} {a} {b} {h} x y (Ok shown) gives same more kept rest =
     let bytes = output_by (client_at a.core id) in
     let said : said_of y ≡ (x.conn.number, x.conn.held.items, bytes_of x.conn.unsent ++ bytes, x.is_broken, x.is_ended) = ap said_of rest ∙ ap (λ l. (x.conn.number, x.conn.held.items, l, x.is_broken, x.is_ended)) more in
-    gave_one x y bytes (ok, fresh) (λ past was.
+    gave_one x y bytes gives (λ past was.
     subst (of_said h (fed_in past) (gave_in (Gave id bytes ∷ past)) id) (sym said)
     (gave_state h (fed_in past) (gave_in past) (gave_in (Gave id bytes ∷ past)) id x.conn.number x.conn.held.items (bytes_of x.conn.unsent) bytes x.is_broken x.is_ended (more_given past id bytes) was))
-one_shown {id} {a} {b} {h} x y (Err fault) ok err fresh more kept rest =
-    one_touched err.1 (same_agrees h x y (ap said_of rest ∙ ap (λ l. (x.conn.number, x.conn.held.items, l, x.is_broken, x.is_ended)) kept)) (λ d other. untouched d h)
+one_shown {id} {a} {b} {h} x y (Err fault) gives same more kept rest =
+    one_touched same (same_agrees h x y (ap said_of rest ∙ ap (λ l. (x.conn.number, x.conn.held.items, l, x.is_broken, x.is_ended)) kept)) (λ d other. untouched d h)

@@ -10,7 +10,7 @@ use crate::sockets::Sockets;
 use core_accepted::ServedCore;
 use core_proxy::CoreFault;
 use serve_clients::Client;
-use serve_links::KEPT_ROOM;
+use serve_links::{KEPT_ROOM, show};
 use serve_wire::Wire;
 use std::io;
 use wire_parts::to_send::SendBuffer;
@@ -35,7 +35,7 @@ pub fn show_client<W: Wire>(
 fn show_end(core: &mut ServedCore, id: usize, client: &mut Client) -> usize
     ensures one { (h : List Event) → OneGoes IsOfTurn id core.old h client.old core.new h client.new }
 {
-    match give(core, id, client) {
+    match show(core, id, client) {
         Ok(shown) => shown,
         Err(CoreFault::NoMemory) => {
             client.break_off();
@@ -43,15 +43,6 @@ fn show_end(core: &mut ServedCore, id: usize, client: &mut Client) -> usize
         }
         Err(_) => 0,
     }
-}
-
-// The same, but that its end stays as it is where memory is refused.
-fn give(core: &mut ServedCore, id: usize, client: &mut Client) -> Result<usize, CoreFault>
-    ensures one { (h : List Event) → OneGoes IsOfTurn id core.old h client.old core.new h client.new }
-{
-    let unsent = client.conn.unsent.len();
-    core.move_output(id, &mut client.conn.unsent)?;
-    Ok(client.conn.unsent.len().saturating_sub(unsent))
 }
 
 impl<W: Wire> Sockets<W> {

@@ -5,14 +5,14 @@ use Rattle.serve_proxy.proofs.accepting.accept_one.Goals as goal
 pub take_client-requires : goal.take_client-requires
 take_client-requires g c = accepted_new c.in-Peer.conn _ _ c.in-Peer.ensures
 
-pub returns-in-Peer-clause-ends : goal.returns-in-Peer-clause-ends
-returns-in-Peer-clause-ends g c = and_then (stays c.args.core.now (stay_accepts c.in-Peer.conn _ _ _ _ c.in-Peer.ensures.1)) c.take_client.ensures.ends
+pub returns-in-Peer : goal.returns-in-Peer
+returns-in-Peer g c = record { ends = and_then (stays c.args.core.now (stay_accepts c.in-Peer.conn _ _ _ _ c.in-Peer.ensures.1)) c.take_client.ensures.ends }
 
-pub returns-in-Gone-clause-ends : goal.returns-in-Gone-clause-ends
-returns-in-Gone-clause-ends g c = stays c.args.core.now (stay_same _ _ _ _ c.in-Gone.ensures)
+pub returns-in-Gone : goal.returns-in-Gone
+returns-in-Gone g c = record { ends = stays c.args.core.now (stay_same _ _ _ _ c.in-Gone.ensures) }
 
-pub returns-in-Nobody-clause-ends : goal.returns-in-Nobody-clause-ends
-returns-in-Nobody-clause-ends g c = stays c.args.core.now (stay_same _ _ _ _ c.in-Nobody.ensures)
+pub returns-in-Nobody : goal.returns-in-Nobody
+returns-in-Nobody g c = record { ends = stays c.args.core.now (stay_same _ _ _ _ c.in-Nobody.ensures) }
 
-pub returns-in-Refused-clause-ends : goal.returns-in-Refused-clause-ends
-returns-in-Refused-clause-ends g c = stays c.args.core.now (stay_same _ _ _ _ c.in-Refused.ensures)
+pub returns-in-Refused : goal.returns-in-Refused
+returns-in-Refused g c = record { ends = stays c.args.core.now (stay_same _ _ _ _ c.in-Refused.ensures) }

@@ -1,4 +1,4 @@
-use Rattle.serve_proxy.proofs.Going.{still, and_then, core_of}
+use Rattle.serve_proxy.proofs.Going.{still, and_then}
 use Rattle.serve_proxy.proofs.accepting.accept_some.Goals as goal
 
 pub loop-init : goal.loop-init
@@ -8,7 +8,7 @@ pub loop-preserved : goal.loop-preserved
 loop-preserved g c = and_then c.loop.invariant c.accept_one.ensures.ends
 
 pub returns-then-not-accept_one : goal.returns-then-not-accept_one
-returns-then-not-accept_one g c = let e = and_then c.loop.invariant c.accept_one.ensures.ends in record { core = core_of e; ends = e }
+returns-then-not-accept_one g c = record { ends = and_then c.loop.invariant c.accept_one.ensures.ends }
 
 pub returns : goal.returns
-returns g c = record { core = core_of c.loop.invariant; ends = c.loop.invariant }
+returns g c = record { ends = c.loop.invariant }

@@ -1,6 +1,6 @@
 use Rattle.std.proofs.Common.{refl}
-use Rattle.serve_proxy.proofs.Going.{and_then, core_of, stays}
 use Rattle.serve_proxy.proofs.Staying.{stay_clients}
+use Rattle.serve_proxy.proofs.Going.{and_then, stays}
 use Rattle.serve_proxy.proofs.sending.send_clients.Goals as goal
 
 pub loop-id-init : goal.loop-id-init
@@ -10,7 +10,7 @@ pub loop-id-preserved : goal.loop-id-preserved
 loop-id-preserved g c = and_then c.loop-id.invariant c.send_client.ensures.ends
 
 pub returns-in_err-send_client : goal.returns-in_err-send_client
-returns-in_err-send_client g c = let e = and_then c.loop-id.invariant c.send_client.ensures.ends in record { core = core_of e; ends = e }
+returns-in_err-send_client g c = record { ends = and_then c.loop-id.invariant c.send_client.ensures.ends }
 
 pub returns : goal.returns
-returns g c = record { core = core_of c.loop-id.invariant; ends = c.loop-id.invariant }
+returns g c = record { ends = c.loop-id.invariant }

@@ -1,4 +1,4 @@
 use Rattle.serve_proxy.proofs.showing.exchange_room.Goals as goal
 
 pub returns : goal.returns
-returns g c = record { core = c.exchange_at.ensures.core; ends = c.exchange_at.ensures.ends }
+returns g c = record { ends = c.exchange_at.ensures.ends }

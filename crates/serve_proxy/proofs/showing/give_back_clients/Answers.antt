@@ -1,4 +1,4 @@
-use Rattle.serve_proxy.proofs.Going.{still, and_then, core_of}
+use Rattle.serve_proxy.proofs.Going.{still, and_then}
 use Rattle.serve_proxy.proofs.showing.give_back_clients.Goals as goal
 
 pub loop-id-init : goal.loop-id-init
@@ -8,7 +8,7 @@ pub loop-id-preserved : goal.loop-id-preserved
 loop-id-preserved g c = and_then c.loop-id.invariant c.give_back_client.ensures.ends
 
 pub returns-in_err-give_back_client : goal.returns-in_err-give_back_client
-returns-in_err-give_back_client g c = let e = and_then c.loop-id.invariant c.give_back_client.ensures.ends in record { core = core_of e; ends = e }
+returns-in_err-give_back_client g c = record { ends = and_then c.loop-id.invariant c.give_back_client.ensures.ends }
 
 pub returns : goal.returns
-returns g c = record { core = core_of c.loop-id.invariant; ends = c.loop-id.invariant }
+returns g c = record { ends = c.loop-id.invariant }
