@@ -56,12 +56,12 @@ same_some e = cc
 none_some : {A : Type 0} {x : A} → None ≡ Some x → ⊥
 none_some e = cc
 
-get_line : (links : List Link) (at : ℕ) → option_map line_of (slice_get links at) ≡ slice_get (lines_of links) at
+pub get_line : (links : List Link) (at : ℕ) → option_map line_of (slice_get links at) ≡ slice_get (lines_of links) at
 get_line [] at = refl
 get_line (link ∷ links) zero = refl
 get_line (link ∷ links) (suc at) = get_line links at
 
-texts_by_lines : (links : List Link) → each (λ (p : List ℕ × Option ℕ). p.0) (lines_of links) ≡ texts_of links
+pub texts_by_lines : (links : List Link) → each (λ (p : List ℕ × Option ℕ). p.0) (lines_of links) ≡ texts_of links
 texts_by_lines [] = refl
 texts_by_lines (link ∷ links) = ap (λ l. link.text.items ∷ l) (texts_by_lines links)
 

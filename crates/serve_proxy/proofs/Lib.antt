@@ -5,3 +5,4 @@ pub mod Staying
 pub mod Going
 pub mod Lent
 pub mod Told
+pub mod Growing

@@ -83,7 +83,7 @@ pub line_stands : (at : ℕ) (h : List Event) (x y : Link) → y.text ≡ x.text
 line_stands at h x y text same = record { agrees = λ was. (line_same h at x y same was, kept_none (1, at) h h refl); text = text }
 
 -- it has no connection any more
-closed_agrees : (h : List Event) (at : ℕ) (y : Link) → y.conn ≡ None → LineAgrees h at y
+pub closed_agrees : (h : List Event) (at : ℕ) (y : Link) → y.conn ≡ None → LineAgrees h at y
 closed_agrees h at y none = λ conn is. absurd (none_some conn (sym none ∙ is))
 
 only_closed : (c : ℕ) (h h' : List Event) → Closes c h h' → TouchesOnly c h h'

@@ -4,7 +4,7 @@
 ghost use Rattle.std.specs.Prelude.{◌≡◌, ◌↔◌, [], ◌∷◌, ◌++◌, drop, length, IsTrue, IfOk, OnOk};
 ghost use Rattle.serve_clients.specs.declared.clients.Clients.{Clients};
 ghost use Rattle.serve_links.specs.Links.{calls_out};
-ghost use Rattle.serve_proxy.specs.Ends.{line_of, lines_of, LineStands, EndsGo};
+ghost use Rattle.serve_proxy.specs.Ends.{line_of, lines_of, LineStands, EndsGo, AddsLines};
 ghost use Rattle.serve_proxy.specs.Texts.{texts_of};
 
 use crate::clock::earlier;
@@ -98,7 +98,8 @@ pub struct Links {
 impl Links {
     /// One link to each server, without a connection.
     pub fn to(alloc: Global, servers: &Servers, settings: Settings) -> Result<Links, AllocError>
-        ensures { IfOk result (λ links. texts_of links.all.items ≡ servers.now) }
+        ensures texts { IfOk result (λ links. texts_of links.all.items ≡ servers.now) }
+        ensures down { IfOk result (λ links. AddsLines [] links.all.items) }
     {
         let mut links = Links::none(alloc, settings);
         links.add(servers)?;
@@ -121,7 +122,8 @@ impl Links {
 
     /// Servers that have no link yet get one, without a connection.
     pub fn add(&mut self, servers: &Servers) -> Result<(), AllocError>
-        ensures { OnOk result (texts_of self.new.all.items ≡ texts_of self.old.all.items ++ drop (length self.old.all.items) servers.now) }
+        ensures texts { OnOk result (texts_of self.new.all.items ≡ texts_of self.old.all.items ++ drop (length self.old.all.items) servers.now) }
+        ensures adds { AddsLines self.old.all.items self.new.all.items }
     {
         for at in self.all.len()..servers.len() {
             if let Some(text) = text_at(servers, at) {
@@ -134,7 +136,8 @@ impl Links {
     // The server whose address this text names gets one, at the end.
     #[tactic(auto, using(crate::proofs::LinkTexts::added))]
     fn add_one(&mut self, text: &str) -> Result<(), AllocError>
-        ensures { OnOk result (texts_of self.new.all.items ≡ texts_of self.old.all.items ++ text.now ∷ []) }
+        ensures texts { OnOk result (texts_of self.new.all.items ≡ texts_of self.old.all.items ++ text.now ∷ []) }
+        ensures adds { AddsLines self.old.all.items self.new.all.items }
     {
         let link = Link::new(self.alloc, text.as_bytes())?;
         self.all.push(link)?;
@@ -409,7 +412,9 @@ impl Links {
     }
 
     /// What happened to a link, and its server's number, if that may be told by now.
-    pub fn next_news(&mut self, time: u64) -> Option<(usize, LinkNews)> {
+    pub fn next_news(&mut self, time: u64) -> Option<(usize, LinkNews)>
+        ensures lines { lines_of self.new.all.items ≡ lines_of self.old.all.items }
+    {
         if !self.has_news {
             return None;
         }

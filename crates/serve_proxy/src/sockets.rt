@@ -1,6 +1,6 @@
 //! What an end has besides its core: its wire, the ends of clients and links, and what it knows of them. Nothing here knows the core.
 
-ghost use Rattle.std.specs.Prelude.{◌≡◌, ◌↔◌, false, None, IfSome, IsTrue};
+ghost use Rattle.std.specs.Prelude.{◌≡◌, ◌↔◌, [], false, None, IfSome, IsTrue};
 ghost use Rattle.serve_wire.specs.Calls.{Closes};
 ghost use Rattle.serve_proxy.specs.Ends.{Stay};
 ghost use Rattle.serve_proxy.specs.Stillness.{HasNoWork, AreStill};
@@ -50,7 +50,8 @@ pub fn close_if_any<W: Wire>(wire: &mut W, conn: Option<usize>)
 impl<W: Wire> Sockets<W> {
     /// No client is there yet, and no link has a connection.
     pub fn new(alloc: Global, wire: W, links: Links) -> Sockets<W>
-        ensures { result.links ≡ links }
+        ensures links { result.links ≡ links }
+        ensures none { result.clients.all.items ≡ [] }
     {
         Sockets {
             alloc,
