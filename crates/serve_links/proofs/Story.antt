@@ -1,20 +1,20 @@
 -- How the ends of a proxy go on, one after another.
-use Rattle.std.proofs.Common.{◌≡◌, ◌≢◌, ℕ, true, false, List, [], ◌++◌, Option, Some, None, refl, sym, ap, ◌∙◌, subst, inl, inr, append_assoc}
+use Rattle.std.proofs.Common.{◌≡◌, ◌≢◌, ◌⊎◌, ℕ, Bool, true, false, List, [], ◌∷◌, ◌++◌, Option, Some, None, refl, sym, ap, ◌∙◌, subst, inl, inr, append_assoc}
 use Rattle.std.specs.Prelude.{IfSome, nat_eq, slice_get}
 use Rattle.std.specs.Option.{option_map}
 use Rattle.std.proofs.lemmas.Bool.{cases_Bool, eq-eqb, eqb-true}
 use Rattle.wire_parts.specs.Sending.{bytes_of}
-use Rattle.serve_wire.specs.Events.{Event, role}
-use Rattle.serve_wire.specs.Agreement.{IsUntouched}
+use Rattle.serve_wire.specs.Events.{Event, role, delivered, taken}
+use Rattle.serve_wire.specs.Agreement.{ClientLost, IsUntouched}
 use Rattle.serve_wire.specs.declared.conn.conn.Conn.{Conn}
 use Rattle.serve_wire.proofs.Steps.{apart}
 use Rattle.serve_clients.specs.declared.clients.Client.{Client}
 use Rattle.serve_clients.specs.declared.clients.Clients.{Clients}
 use Rattle.serve_clients.specs.Agrees.{EndAgrees, AllAgree}
-use Rattle.serve_clients.proofs.Agreeing.{its, state_stays, lost_stays}
+use Rattle.serve_clients.proofs.Agreeing.{its, state_stays, client_lost}
 use Rattle.serve_clients.specs.Marks.{client_of}
 use Rattle.serve_links.specs.declared.link.Link.{Link}
-use Rattle.serve_links.specs.CoreSteps.{Step, Closed}
+use Rattle.serve_links.specs.CoreSteps.{Step, Closed, Opened}
 use Rattle.serve_links.specs.Story.{fed_in, gave_in, AgreesWith, IsGone, HasOrHad, LineAgrees, LinesAgree, texts_of, OneGoes, LineGoes, AnEnd, Agrees, AllGo, StoriesGoOn}
 use Rattle.serve_links.proofs.Walked.{walked, of_both}
 
@@ -52,21 +52,60 @@ line_stays h h' at link same was = λ conn is. let s = same conn is in let w = w
 
 -- ---- connections of clients
 
--- what is known of one that is gone stays known
-gone_stays : (past steps : List Step) (h h' : List Event) (id conn : ℕ) → IsUntouched conn h h' → IsGone past h id conn → IsGone (steps ++ past) h' id conn
-gone_stays past steps h h' id conn same gone = record {
-  later = steps ++ gone.later;
-  earlier = gone.earlier;
-  parts = ap (λ l. steps ++ l) gone.parts ∙ sym (append_assoc steps gone.later (Closed id ∷ gone.earlier));
-  lost = lost_stays h h' (fed_in gone.earlier) (gave_in gone.earlier) id conn same gone.lost;
+-- whose a connection is, and what came over it and went, is the same
+abbrev pub TellsSame : ℕ → List Event → List Event → Type 0
+TellsSame d h h' = (role d h' ≡ role d h) × (delivered d h' ≡ delivered d h) × (taken d h' ≡ taken d h)
+
+pub same_told : (d : ℕ) (h h' : List Event) → IsUntouched d h h' → TellsSame d h h'
+same_told d h h' same = (same.same_role, same.same_came, same.same_went)
+
+lost_told : (h h' : List Event) (input output : ℕ → List ℕ) (id conn : ℕ) → TellsSame conn h h' → ClientLost h input output id conn → ClientLost h' input output id conn
+lost_told h h' input output id conn same was = record {
+  is_its = same.0 ∙ was.is_its;
+  unread = was.unread;
+  input_is = same.1 ∙ was.input_is;
+  unsent = was.unsent;
+  output_is = was.output_is ∙ ap (λ l. l ++ was.unsent) (sym same.2);
 }
 
--- a connection that nothing touched, where the client's end has the number that it had
+-- what is known of one that is gone stays known
+pub gone_stays : (past steps : List Step) (h h' : List Event) (id conn : ℕ) → TellsSame conn h h' → IsGone past h id conn → IsGone (steps ++ past) h' id conn
+gone_stays past steps h h' id conn same gone = record {
+  later = steps ++ gone.later;
+  last = gone.last;
+  ends = gone.ends;
+  earlier = gone.earlier;
+  parts = ap (λ l. steps ++ l) gone.parts ∙ sym (append_assoc steps gone.later (gone.last ∷ gone.earlier));
+  lost = lost_told h h' (fed_in gone.earlier) (gave_in gone.earlier) id conn same gone.lost;
+}
+
+-- what is left of an end that agrees
+end_lost : (h : List Event) (input output : ℕ → List ℕ) (id : ℕ) (x : Client) → EndAgrees h input output id x → ClientLost h input output id x.conn.number
+end_lost h input output id x was = by x.is_broken refl
+  where
+    by : (b : Bool) → x.is_broken ≡ b → ClientLost h input output id x.conn.number
+    by false e = client_lost h input output id x.conn.number x.conn.held.items (bytes_of x.conn.unsent) (was.stands e)
+    by true e = was.lost e
+
+-- the client whose end this was is gone by this call
+pub end_gone :
+    (past steps : List Step) (last : Step) (h h' : List Event) (id conn : ℕ) (x : Client) → (last ≡ Closed id) ⊎ (last ≡ Opened id) → AgreesWith past h id x → x.conn.number ≡ conn → TellsSame conn h h'
+    → IsGone (steps ++ last ∷ past) h' id conn
+end_gone past steps last h h' id conn x ends was is same = record {
+  later = steps;
+  last = last;
+  ends = ends;
+  earlier = past;
+  parts = refl;
+  lost = lost_told h h' (fed_in past) (gave_in past) id conn same (subst (λ c. ClientLost h (fed_in past) (gave_in past) id c) is (end_lost h (fed_in past) (gave_in past) id x was));
+}
+
+-- and of one over which nothing came or went, where the client's end has the number that it had
 pub had_stays :
-    (past steps : List Step) (h h' : List Event) (cs cs' : Clients) (id conn : ℕ) → IsUntouched conn h h' → option_map (λ (x : Client). x.conn.number) (client_of cs' id) ≡ option_map (λ (x : Client). x.conn.number) (client_of cs id)
+    (past steps : List Step) (h h' : List Event) (cs cs' : Clients) (id conn : ℕ) → TellsSame conn h h' → option_map (λ (x : Client). x.conn.number) (client_of cs' id) ≡ option_map (λ (x : Client). x.conn.number) (client_of cs id)
     → HasOrHad past h cs id conn → HasOrHad (steps ++ past) h' cs' id conn
 had_stays past steps h h' cs cs' id conn same ends (inl now) = inl (ends ∙ now)
-had_stays past steps h h' cs cs' id conn same ends (inr (inl unused)) = inr (inl (same.same_came ∙ unused.0, same.same_went ∙ unused.1))
+had_stays past steps h h' cs cs' id conn same ends (inr (inl unused)) = inr (inl (same.1 ∙ unused.0, same.2 ∙ unused.1))
 had_stays past steps h h' cs cs' id conn same ends (inr (inr gone)) = inr (inr (gone_stays past steps h h' id conn same gone))
 
 -- ---- whose connections are apart
@@ -152,7 +191,7 @@ one_of_all {Is} id old new x y was is others links g = record { steps = g.steps;
             inl (ap (λ k. option_map (λ (z : Client). z.conn.number) (client_of new.clients k)) (sym same) ∙ ap (option_map (λ (z : Client). z.conn.number)) is ∙ ap (λ n. Some n) here)
 
         other : nat_eq x.conn.number conn ≡ false → HasOrHad (g.steps ++ past) h' new.clients j conn
-        other e = let same = g.only conn e in had_stays past g.steps h h' old.clients new.clients j conn same (numbers j) (a.gone conn j (sym same.same_role ∙ its_now))
+        other e = let same = g.only conn e in had_stays past g.steps h h' old.clients new.clients j conn (same_told conn h h' same) (numbers j) (a.gone conn j (sym same.same_role ∙ its_now))
 
     agree : (past : List Step) → Agrees past old → Agrees (g.steps ++ past) new
     agree past a = record { clients = each_client h' (fed_in (g.steps ++ past)) (gave_in (g.steps ++ past)) new.clients (client past a); links = lines past a; gone = gone past a }
@@ -191,7 +230,7 @@ line_of_all {Is} at old new x y was is others texts clients_are g = record { ste
     gone : (past : List Step) → Agrees past old → (conn j : ℕ) → role conn h' ≡ Some (0, j) → HasOrHad (g.steps ++ past) h' new.clients j conn
     gone past a conn j its_now =
         let same = (g.agrees (a.links at x was)).1 conn (0, j) (inr its_now) (kinds_apart j at) in
-        had_stays past g.steps h h' old.clients new.clients j conn same (ap (option_map (λ (z : Client). z.conn.number)) (clients_are j)) (a.gone conn j (sym same.same_role ∙ its_now))
+        had_stays past g.steps h h' old.clients new.clients j conn (same_told conn h h' same) (ap (option_map (λ (z : Client). z.conn.number)) (clients_are j)) (a.gone conn j (sym same.same_role ∙ its_now))
 
     agree : (past : List Step) → Agrees past old → Agrees (g.steps ++ past) new
     agree past a = record { clients = each_client h' (fed_in (g.steps ++ past)) (gave_in (g.steps ++ past)) new.clients (client past a); links = lines past a; gone = gone past a }

@@ -52,11 +52,13 @@ AgreeWith steps h clients = AllAgree h (fed_in steps) (gave_in steps) clients
 abbrev pub TellsNone : ℕ → List Step → List Step → Type 0
 TellsNone j past steps = (fed_in (steps ++ past) j ≡ fed_in past j) × (gave_in (steps ++ past) j ≡ gave_in past j)
 
--- the client whose connection this was is gone: before the core closed it, what was fed for it was the first of what its connection has delivered, and its connection has taken the first of what was given for it
+-- the client whose connection this was is gone: the core closed it, or opened it anew, and until then its connection delivered what was fed for it, and more perhaps, and took the first of what was given for it
 pub record IsGone (past : List Step) (h : List Event) (id conn : ℕ) : Type 0 where
   pub later : List Step
+  pub last : Step
+  pub ends : (last ≡ Closed id) ⊎ (last ≡ Opened id)
   pub earlier : List Step
-  pub parts : past ≡ later ++ Closed id ∷ earlier
+  pub parts : past ≡ later ++ last ∷ earlier
   pub lost : ClientLost h (fed_in earlier) (gave_in earlier) id conn
 
 -- nothing came over a connection, and it took nothing
