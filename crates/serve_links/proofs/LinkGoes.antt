@@ -1,6 +1,8 @@
 -- What is done at one link, as steps of a walk with which it goes on to agree.
 use Rattle.std.proofs.Common.{◌≡◌, ◌≢◌, ℕ, ◌≤◌, Bool, true, false, if◌then◌else◌, List, [], ◌∷◌, ◌++◌, length, take, drop, Option, Some, None, ◌⊎◌, inl, inr, refl, sym, ap, ◌∙◌, subst, append_assoc}
-use Rattle.std.specs.Prelude.{IfSome, map as each, option_map}
+use Rattle.std.specs.Prelude.{IfSome, nat_eq}
+use Rattle.std.specs.Option.{option_map}
+use Rattle.std.proofs.lemmas.Bool.{cases_Bool, eqb-true}
 use Rattle.mc_types.specs.declared.ask.Ask.{Ask}
 use Rattle.mc_types.specs.declared.ask.Dialect.{Dialect}
 use Rattle.mc_types.specs.declared.call.Outcome.TheVariants.{Failed}
@@ -36,8 +38,20 @@ none_some e = cc
 
 -- ---- connections of others
 
-pub keeps_others : (c : ℕ) (its : ℕ × ℕ) (h h' : List Event) → role c h ≡ Some its → TouchesOnly c h h' → KeepsOthers its h h'
-keeps_others c its h h' of_c only = λ d p of_d other. only d (apart c d h its p of_c of_d (λ e. other (sym e)))
+-- nothing but this connection was touched, which is no other's before and after
+pub keeps_by : (c : ℕ) (its : ℕ × ℕ) (h h' : List Event) → ((p : ℕ × ℕ) → (role c h ≡ Some p) ⊎ (role c h' ≡ Some p) → p ≡ its) → TouchesOnly c h h' → KeepsOthers its h h'
+keeps_by c its h h' its_own only d p of_d other = elim (cases_Bool (nat_eq c d)) [ inl e ↦ absurd (other (mine of_d (eqb-true c d e))) | inr e ↦ only d e ]
+  where
+    mine : (role d h ≡ Some p) ⊎ (role d h' ≡ Some p) → c ≡ d → p ≡ its
+    mine (inl was) e = its_own p (inl (ap (λ n. role n h) e ∙ was))
+    mine (inr is) e = its_own p (inr (ap (λ n. role n h') e ∙ is))
+
+pub keeps_others : (c : ℕ) (its : ℕ × ℕ) (h h' : List Event) → role c h ≡ Some its → role c h' ≡ role c h → TouchesOnly c h h' → KeepsOthers its h h'
+keeps_others c its h h' of_c same only = keeps_by c its h h' own only
+  where
+    own : (p : ℕ × ℕ) → (role c h ≡ Some p) ⊎ (role c h' ≡ Some p) → p ≡ its
+    own p (inl was) = same_some (sym was ∙ of_c)
+    own p (inr is) = same_some (sym is ∙ same ∙ of_c)
 
 pub all_kept : (its : ℕ × ℕ) (h h' : List Event) → ((d : ℕ) → IsUntouched d h h') → KeepsOthers its h h'
 all_kept its h h' quiet = λ d p of_d other. quiet d
@@ -160,7 +174,7 @@ pub line_reads :
     {Is : Step → Type 0} {at : ℕ} {core : ServedCore} {h h' : List Event} (x y : Link) (c d : Conn) → x.conn ≡ Some c → y ≡ record x { conn = Some d } → d.number ≡ c.number → bytes_of d.unsent ≡ bytes_of c.unsent
     → ReadsOn c.number c.held.items d.held.items h h' → LineGoes Is at core h x core h' y
 line_reads {at = at} {h = h} {h' = h'} x y c d was is number unsent r =
-    line_moves refl (ap (λ (z : Link). z.text.items) is) (λ past a. (agrees past a, keeps_others c.number (1, at) h h' (a.conn c was).is_to r.elsewhere))
+    line_moves refl (ap (λ (z : Link). z.text.items) is) (λ past a. (agrees past a, keeps_others c.number (1, at) h h' (a.conn c was).is_to r.same_role r.elsewhere))
   where
     agrees : (past : List Step) → LineAgrees at past h x → LineAgrees at past h' y
     agrees past a =
@@ -185,7 +199,7 @@ pub line_sends :
     {Is : Step → Type 0} {at : ℕ} {core : ServedCore} {h h' : List Event} (x y : Link) (c d : Conn) → x.conn ≡ Some c → y ≡ record x { conn = Some d } → d.number ≡ c.number → d.held.items ≡ c.held.items
     → SendsOn c.number (bytes_of c.unsent) (bytes_of d.unsent) h h' → LineGoes Is at core h x core h' y
 line_sends {at = at} {h = h} {h' = h'} x y c d was is number held s =
-    line_moves refl (ap (λ (z : Link). z.text.items) is) (λ past a. (agrees past a, keeps_others c.number (1, at) h h' (a.conn c was).is_to s.elsewhere))
+    line_moves refl (ap (λ (z : Link). z.text.items) is) (λ past a. (agrees past a, keeps_others c.number (1, at) h h' (a.conn c was).is_to s.same_role s.elsewhere))
   where
     agrees : (past : List Step) → LineAgrees at past h x → LineAgrees at past h' y
     agrees past a =
@@ -205,6 +219,15 @@ first_agrees h at number text first awaits new = record {
   awaits_is = refl;
 }
 
+-- a new connection is this server's only
+new_own : (at number : ℕ) (h h' : List Event) → role number h ≡ None → role number h' ≡ Some (1, at) → (p : ℕ × ℕ) → (role number h ≡ Some p) ⊎ (role number h' ≡ Some p) → p ≡ (1, at)
+new_own at number h h' none now p (inl was) = absurd (none_some (sym none ∙ was))
+new_own at number h h' none now p (inr is) = same_some (sym is ∙ now)
+
+closed_role : (c : ℕ) (h h' : List Event) → Closes c h h' → role c h' ≡ role c h
+closed_role c h h' (inl closed) = ap (role c) closed
+closed_role c h h' (inr same) = ap (role c) same
+
 begins :
     (at : ℕ) (core : ServedCore) (h h' : List Event) (x y : Link) (dialect : ServerDialect) (number : ℕ) → IsNew number h → h' ≡ connects number at x.text.items ∷ h → HasNewEnd number dialect x y
     → LineGoes IsSending at core h x core h' y
@@ -213,7 +236,7 @@ begins at core h h' x y dialect number new noted has = record {
   kinds = (tt, tt);
   own = (refl, tt);
   walks = (core, refl, refl);
-  agrees = λ past o a. ((tt, o), by past a y.conn refl has.conn, λ d p of_d other. subst (IsUntouched d h) (sym noted) (only_connects number at x.text.items h d (new_apart number d h p of_d new.no_role)));
+  agrees = λ past o a. ((tt, o), by past a y.conn refl has.conn, keeps_by number (1, at) h h' (new_own at number h h' new.no_role (ap (role number) noted ∙ ap (λ b. if b then Some (1, at) else role number h) (equal number))) (subst (TouchesOnly number h) (sym noted) (only_connects number at x.text.items h)));
   text = ap (λ t. t.items) has.text;
 }
   where
@@ -238,7 +261,7 @@ begins_in_vain at core h h' x y number new closed keeps =
     let only = only_twice number h (connects number at x.text.items ∷ h) h' (only_connects number at x.text.items h) (only_closed number (connects number at x.text.items ∷ h) h' closed) in
     line_moves refl (ap (λ t. t.items) keeps.text) (λ past a. (
       same_line at past h' x y same (line_stays h h' at [] past x (λ conn is. only conn.number (new_apart number conn.number h (1, at) (a.conn conn is).is_to new.no_role)) refl a),
-      λ d p of_d other. only d (new_apart number d h p of_d new.no_role),
+      keeps_by number (1, at) h h' (new_own at number h h' new.no_role (closed_role number (connects number at x.text.items ∷ h) h' closed ∙ ap (λ b. if b then Some (1, at) else role number h) (equal number))) only,
     ))
 
 at_same : {Is : Step → Type 0} (at : ℕ) (core : ServedCore) (h h' : List Event) (x y : Link) → h' ≡ h → KeepsLines x y → LineGoes Is at core h x core h' y
@@ -434,7 +457,7 @@ line_closes {at = at} {h = h} {h' = h'} x y r r_is some none closed text waiting
     keeps past a None e = all_kept (1, at) h h' (λ d. subst (IsUntouched d h) (sym (none (r_is ∙ ap (option_map (λ (z : Conn). z.number)) e))) (untouched d h))
     keeps past a (Some c) e =
         let closes_it = subst (λ o. IfSome o (λ n. Closes n h h')) (r_is ∙ ap (option_map (λ (z : Conn). z.number)) e) some in
-        keeps_others c.number (1, at) h h' ((a.conn c e).1.is_to) (only_closed c.number h h' closes_it)
+        keeps_others c.number (1, at) h h' (a.conn c e).1.is_to (closed_role c.number h h' closes_it) (only_closed c.number h h' closes_it)
 
 failed_own : (at : ℕ) (steps : List Step) → AreOf IsFailure steps → AreOf (IsOfServer at) steps × AreOf IsPlain steps
 failed_own at [] kinds = (tt, tt)

@@ -1,9 +1,9 @@
 -- What a walk of a core tells of its clients, and how the ends of clients and links on a wire go on with it. Source: mcgate's own.
-use Rattle.std.specs.Prelude.{◌≡◌, ◌≢◌, ℕ, Bool, false, List, [], ◌∷◌, ◌++◌, Option, Some, map as each, option_map, if◌then◌else◌, nat_eq, slice_get}
+use Rattle.std.specs.Prelude.{◌≡◌, ◌≢◌, ℕ, Bool, false, List, [], ◌∷◌, ◌++◌, Option, Some, map as each, if◌then◌else◌, nat_eq, slice_get, ◌⊎◌}
 use Rattle.mc_types.specs.declared.ask.Ask.{Ask}
 use Rattle.wire_parts.specs.Sending.{bytes_of}
 use Rattle.serve_wire.specs.Events.{Event, role, delivered, taken}
-use Rattle.serve_wire.specs.Agreement.{AddressAgrees, IsUntouched}
+use Rattle.serve_wire.specs.Agreement.{AddressAgrees, IsUntouched, ClientLost, TouchesOnly}
 use Rattle.serve_wire.specs.declared.conn.conn.Conn.{Conn}
 use Rattle.core_accepted.specs.declared.served.ServedCore.{ServedCore}
 use Rattle.serve_clients.specs.declared.clients.Client.{Client}
@@ -14,6 +14,7 @@ use Rattle.serve_links.specs.declared.calls.calls.SentCall.{SentCall}
 use Rattle.serve_links.specs.declared.link.Link.{Link}
 use Rattle.serve_links.specs.CoreSteps.{Step, Opened, NotOpened, Fed, Polled, Stopped, Settled, Gave, Closed, LeftLine, Loaded, Linked, Asked, Greeted, Spelled, Walks, AreOf}
 use Rattle.serve_links.specs.Talks.{SaidAsk, Talk, talk_in, IsCalledIn, IsOrderly, IsOfClients, IsOfServer}
+use Rattle.std.specs.Option.{option_map}
 
 -- all that the core was fed for this client since it was opened, by the calls of a walk, the latest first
 abbrev pub fed_in : List Step → ℕ → List ℕ
@@ -63,6 +64,23 @@ AgreeWith steps h clients = AllAgree h (fed_in steps) (gave_in steps) clients
 abbrev pub TellsNone : ℕ → List Step → List Step → Type 0
 TellsNone j past steps = (fed_in (steps ++ past) j ≡ fed_in past j) × (gave_in (steps ++ past) j ≡ gave_in past j)
 
+-- the client whose connection this was is gone: the core closed it, or opened it anew, and until then its connection delivered what was fed for it, and more perhaps, and took the first of what was given for it
+pub record IsGone (past : List Step) (h : List Event) (id conn : ℕ) : Type 0 where
+  pub later : List Step
+  pub last : Step
+  pub ends : (last ≡ Closed id) ⊎ (last ≡ Opened id)
+  pub earlier : List Step
+  pub parts : past ≡ later ++ last ∷ earlier
+  pub lost : ClientLost h (fed_in earlier) (gave_in earlier) id conn
+
+-- nothing came over a connection, and it took nothing
+abbrev pub IsUnused : ℕ → List Event → Type 0
+IsUnused conn h = (delivered conn h ≡ []) × (taken conn h ≡ [])
+
+-- a connection of the client of this id is that of its end now, or was never used, or the client is gone
+abbrev pub HasOrHad : List Step → List Event → Clients → ℕ → ℕ → Type 0
+HasOrHad past h clients id conn = (option_map (λ x. x.conn.number) (client_of clients id) ≡ Some conn) ⊎ IsUnused conn h ⊎ IsGone past h id conn
+
 -- calls, as a walk has them
 abbrev pub said_asks : List SentCall → List SaidAsk
 said_asks calls = each (λ call. (call.ticket.number, call.dialect, call.ticket.ask)) calls
@@ -109,17 +127,19 @@ LinesAgree past h links = (at : ℕ) (link : Link) → slice_get links at ≡ So
 abbrev pub line_of : Link → List ℕ × Option (ℕ × List ℕ × List ℕ) × List SaidAsk × List SentCall × Bool
 line_of link = (link.text.items, option_map (λ (x : Conn). (x.number, x.held.items, bytes_of x.unsent)) link.conn, said_asks link.calls.sent.items, link.waiting.items, link.awaits_dialect)
 
--- all connections of others than this one are as they were
+-- all connections that were or are of others than this one are as they were
 abbrev pub KeepsOthers : ℕ × ℕ → List Event → List Event → Type 0
-KeepsOthers its h h' = (d : ℕ) (p : ℕ × ℕ) → role d h ≡ Some p → p ≢ its → IsUntouched d h h'
+KeepsOthers its h h' = (d : ℕ) (p : ℕ × ℕ) → (role d h ≡ Some p) ⊎ (role d h' ≡ Some p) → p ≢ its → IsUntouched d h h'
 
--- by calls of this kind, which tell nothing of servers, the core goes on, and a client's end on the wire with it: where it agreed with all calls before, it agrees with all calls after, and no other's end is touched
+-- by calls of this kind, which tell nothing of servers, the core goes on, and a client's end on the wire with it: where it agreed with all calls before, it agrees with all calls after, and no other connection is touched
 pub record OneGoes (Is : Step → Type 0) (id : ℕ) (core : ServedCore) (h : List Event) (client : Client) (core' : ServedCore) (h' : List Event) (client' : Client) : Type 0 where
   pub steps : List Step
   pub kinds : AreOf Is steps
   pub own : AreOf IsOfClients steps
   pub walks : Walks steps core core'
-  pub agrees : (past : List Step) → AgreesWith past h id client → AgreesWith (steps ++ past) h' id client' × KeepsOthers (0, id) h h'
+  pub agrees : (past : List Step) → AgreesWith past h id client → AgreesWith (steps ++ past) h' id client'
+  pub number : client'.conn.number ≡ client.conn.number
+  pub only : TouchesOnly client.conn.number h h'
   pub others : (past : List Step) (j : ℕ) → nat_eq id j ≡ false → TellsNone j past steps
 
 -- by calls of this kind, which tell of this server alone, the core goes on, and the server's link on the wire with it: where the one held of it and of all calls before, the other holds of it and of all calls after, and
@@ -147,11 +167,12 @@ pub record AnEnd : Type 0 where
 abbrev pub texts_of : List Link → List (List ℕ)
 texts_of links = each (λ link. link.text.items) links
 
--- all happened in order by these calls, and each end agrees with them
+-- all happened in order by these calls, and each end agrees with them, and so does each connection that was a client's
 pub record Agrees (past : List Step) (x : AnEnd) : Type 0 where
   pub orderly : IsOrderly past
   pub clients : AgreeWith past x.history x.clients
   pub links : LinesAgree past x.history x.links
+  pub gone : (conn id : ℕ) → role conn x.history ≡ Some (0, id) → HasOrHad past x.history x.clients id conn
 
 -- the same, but that this holds of the link at one place
 pub record AgreesBut (This : ℕ → List Step → List Event → Link → Type 0) (at : ℕ) (past : List Step) (x : AnEnd) : Type 0 where
@@ -159,6 +180,7 @@ pub record AgreesBut (This : ℕ → List Step → List Event → Link → Type 
   pub clients : AgreeWith past x.history x.clients
   pub links : (j : ℕ) (link : Link) → nat_eq at j ≡ false → slice_get x.links j ≡ Some link → LineAgrees j past x.history link
   pub this : (link : Link) → slice_get x.links at ≡ Some link → This at past x.history link
+  pub gone : (conn id : ℕ) → role conn x.history ≡ Some (0, id) → HasOrHad past x.history x.clients id conn
 
 -- all agree, and the core gave out this call for this server
 abbrev pub AgreesCalled : ℕ → ℕ → Ask → List Step → AnEnd → Type 0

@@ -1,3 +1,4 @@
+pub mod Ends
 pub mod LogsGoOn
 pub mod Beginning
 pub mod Stillness

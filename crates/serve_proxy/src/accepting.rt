@@ -1,8 +1,13 @@
 //! Clients are accepted.
 
-ghost use Rattle.std.specs.Prelude.{◌≡◌, ◌↔◌, IsTrue, None};
-ghost use Rattle.serve_wire.specs.Events.{role};
-ghost use Rattle.serve_links.specs.CoreSteps.{GoesOn};
+ghost use Rattle.std.specs.Prelude.{◌≡◌, ◌≢◌, ℕ, ◌↔◌, ◌∷◌, [], IsTrue, true, false, Some};
+ghost use Rattle.std.specs.Option.{option_map};
+ghost use Rattle.serve_wire.specs.Events.{IsNew, admits};
+ghost use Rattle.serve_wire.specs.Agreement.{TouchesOnly};
+ghost use Rattle.serve_clients.specs.Marks.{client_of};
+ghost use Rattle.serve_clients.specs.Agrees.{said_of};
+ghost use Rattle.serve_links.specs.Story.{IsUnused};
+ghost use Rattle.serve_proxy.specs.Ends.{AllGoOn, AllGoOpened};
 ghost use Rattle.serve_proxy.specs.Stillness.{MayAccept};
 
 use crate::sockets::Sockets;
@@ -51,7 +56,7 @@ impl Accepting {
 
 /// Clients that wait are accepted, if it is time.
 pub fn accept_ready<W: Wire>(core: &mut ServedCore, sockets: &mut Sockets<W>)
-    ensures core { GoesOn core.old core.new }
+    ensures ends { AllGoOn W.history core.old sockets.old core.new sockets.new }
 {
     if sockets.accepting.is_due(sockets.time) {
         accept_some(core, sockets);
@@ -59,7 +64,7 @@ pub fn accept_ready<W: Wire>(core: &mut ServedCore, sockets: &mut Sockets<W>)
 }
 
 fn accept_some<W: Wire>(core: &mut ServedCore, sockets: &mut Sockets<W>)
-    ensures core { GoesOn core.old core.new }
+    ensures ends { AllGoOn W.history core.old sockets.old core.new sockets.new }
 {
     for _ in 0..ACCEPTS {
         if !accept_one(core, sockets) {
@@ -70,7 +75,7 @@ fn accept_some<W: Wire>(core: &mut ServedCore, sockets: &mut Sockets<W>)
 
 // Whether another may be accepted now.
 fn accept_one<W: Wire>(core: &mut ServedCore, sockets: &mut Sockets<W>) -> bool
-    ensures core { GoesOn core.old core.new }
+    ensures ends { AllGoOn W.history core.old sockets.old core.new sockets.new }
 {
     match sockets.wire.accept() {
         Accepted::Peer(conn) => {
@@ -92,8 +97,8 @@ fn accept_one<W: Wire>(core: &mut ServedCore, sockets: &mut Sockets<W>) -> bool
 
 // A client came: it is one more, or is told that there are too many. One for which there is no memory is closed.
 fn take_client<W: Wire>(core: &mut ServedCore, sockets: &mut Sockets<W>, conn: usize)
-    requires { role conn (W.history sockets.old.wire) ≡ None }
-    ensures core { GoesOn core.old core.new }
+    requires { IsNew conn (W.history sockets.old.wire) }
+    ensures ends { AllGoOn W.history core.old sockets.old core.new sockets.new }
 {
     match core.open_client() {
         Ok(id) => keep_client(core, sockets, id, conn),
@@ -103,8 +108,8 @@ fn take_client<W: Wire>(core: &mut ServedCore, sockets: &mut Sockets<W>, conn: u
 
 // It is kept by its id. Where it can't be, the core closes it.
 fn keep_client<W: Wire>(core: &mut ServedCore, sockets: &mut Sockets<W>, id: usize, conn: usize)
-    requires { role conn (W.history sockets.old.wire) ≡ None }
-    ensures core { GoesOn core.old core.new }
+    requires { IsNew conn (W.history sockets.old.wire) }
+    ensures ends { AllGoOpened W.history id core.old sockets.old core.new sockets.new }
 {
     if sockets.insert_client(id, conn) {
         return;
@@ -117,12 +122,30 @@ fn keep_client<W: Wire>(core: &mut ServedCore, sockets: &mut Sockets<W>, id: usi
 impl<W: Wire> Sockets<W> {
     // The client's end is one of the clients'. Whether it could be.
     fn insert_client(&mut self, id: usize, conn: usize) -> bool
-        requires { role conn (W.history self.old.wire) ≡ None }
+        requires { IsNew conn (W.history self.old.wire) }
+        ensures begins { result ≡ true → option_map said_of (client_of self.new.clients id) ≡ Some (conn, [], [], false, false) }
+        ensures admitted { result ≡ true → W.history self.new.wire ≡ admits conn id ∷ W.history self.old.wire }
+        ensures only { TouchesOnly conn (W.history self.old.wire) (W.history self.new.wire) }
+        ensures unused { IsUnused conn (W.history self.new.wire) }
+        ensures others { (other : ℕ) → other ≢ id → client_of self.new.clients other ≡ client_of self.old.clients other }
+        ensures links { self.new.links ≡ self.old.links }
     {
-        if self.wire.admit(conn, id).is_err() {
-            return false;
+        match self.wire.admit(conn, id) {
+            Ok(()) => self.insert_new(id, conn),
+            Err(_) => false,
         }
+    }
+
+    // The same of its end alone.
+    fn insert_new(&mut self, id: usize, conn: usize) -> bool
+        ensures begins { result ≡ true → option_map said_of (client_of self.new.clients id) ≡ Some (conn, [], [], false, false) }
+        ensures others { (other : ℕ) → other ≢ id → client_of self.new.clients other ≡ client_of self.old.clients other }
+        ensures rest { self.new ≡ record self.old { clients = self.new.clients } }
+    {
         let client = Client::new(self.alloc, conn);
-        self.clients.insert(id, client).is_ok()
+        match self.clients.insert(id, client) {
+            Ok(()) => true,
+            Err(_) => false,
+        }
     }
 }

@@ -1,11 +1,15 @@
 //! Links are read, and whole answers settle the calls that are out.
 
-ghost use Rattle.serve_links.specs.CoreSteps.{GoesOn};
+ghost use Rattle.std.specs.Prelude.{◌≡◌, ℕ};
+ghost use Rattle.serve_links.specs.CoreSteps.{GoesBy, IsSettlement};
+ghost use Rattle.serve_proxy.specs.Ends.{line_of, LineStands, Stay, GoAlone, AllGoOn};
+ghost use Rattle.serve_clients.specs.Agrees.{KeepsEnds};
 
 use crate::failing::fail_link;
 use crate::sockets::Sockets;
 use core_accepted::ServedCore;
-use serve_links::{Cause, KEPT_ROOM, settle_held, vain};
+use serve_clients::Clients;
+use serve_links::{Cause, KEPT_ROOM, Link, settle_held, vain};
 use serve_wire::Wire;
 use serve_wire::conn::Got;
 use std::alloc::AllocError;
@@ -13,7 +17,7 @@ use std::io;
 
 /// Links that are ready are read.
 pub fn read_links<W: Wire>(core: &mut ServedCore, sockets: &mut Sockets<W>) -> io::Result<()>
-    ensures core { GoesOn core.old core.new }
+    ensures ends { AllGoOn W.history core.old sockets.old core.new sockets.new }
 {
     let links = sockets.work.take(&mut sockets.links.ready);
     for at in links.as_slice() {
@@ -30,15 +34,12 @@ pub fn serve_link<W: Wire>(
     sockets: &mut Sockets<W>,
     at: usize,
 ) -> io::Result<()>
-    ensures core { GoesOn core.old core.new }
+    ensures ends { AllGoOn W.history core.old sockets.old core.new sockets.new }
 {
     if let Some(cause) = read_link(core, sockets, at)? {
         return Ok(fail_link(core, sockets, at, cause)?);
     }
-    if sockets.links.may_have_more(at) {
-        sockets.links.mark_ready(at)?;
-    }
-    Ok(())
+    Ok(sockets.links.mark_rest(at)?)
 }
 
 // One read, and all whole answers are settled. Why the link fails by that, if it does.
@@ -47,7 +48,7 @@ fn read_link<W: Wire>(
     sockets: &mut Sockets<W>,
     at: usize,
 ) -> io::Result<Option<Cause>>
-    ensures core { GoesOn core.old core.new }
+    ensures ends { AllGoOn W.history core.old sockets.old core.new sockets.new }
 {
     match sockets.read_link_once(at)? {
         None => Ok(None),
@@ -65,7 +66,7 @@ fn learn_and_settle<W: Wire>(
     sockets: &mut Sockets<W>,
     at: usize,
 ) -> io::Result<Option<Cause>>
-    ensures core { GoesOn core.old core.new }
+    ensures ends { AllGoOn W.history core.old sockets.old core.new sockets.new }
 {
     let Some(link) = sockets.links.all.get_mut(at) else {
         return Ok(None);
@@ -89,23 +90,40 @@ fn settle_all<W: Wire>(
     at: usize,
     has_answered: bool,
 ) -> io::Result<Option<Cause>>
-    ensures core { GoesOn core.old core.new }
+    ensures ends { AllGoOn W.history core.old sockets.old core.new sockets.new }
 {
+    let polls = sockets.links.settings.polls;
     let Some(link) = sockets.links.all.get_mut(at) else {
         return Ok(None);
     };
-    let Some(conn) = link.conn.as_mut() else {
-        return Ok(None);
-    };
-    let answers = settle_held(
-        &mut link.calls,
+    Ok(settle_line(
+        link,
         core,
         &mut sockets.clients,
         &mut sockets.is_freed,
-        conn,
-    )?;
+        has_answered,
+        polls,
+    )?)
+}
+
+// The same of the link alone.
+fn settle_line(
+    link: &mut Link,
+    core: &mut ServedCore,
+    clients: &mut Clients,
+    is_freed: &mut bool,
+    has_answered: bool,
+    polls: Option<u32>,
+) -> Result<Option<Cause>, AllocError>
+    ensures core { GoesBy IsSettlement core.old core.new }
+    ensures line { line_of link.new ≡ line_of link.old }
+    ensures ends { KeepsEnds clients.old clients.new }
+{
+    let Some(conn) = link.conn.as_mut() else {
+        return Ok(None);
+    };
+    let answers = settle_held(&mut link.calls, core, clients, is_freed, conn)?;
     link.awaited = answers.awaited;
-    let polls = sockets.links.settings.polls;
     let has_failed = link.has_read(has_answered || answers.has_settled, polls);
     if !answers.is_kept {
         return Ok(Some(Cause::Foreign));
@@ -115,34 +133,71 @@ fn settle_all<W: Wire>(
 
 impl<W: Wire> Sockets<W> {
     // One read of the link, if something may have come over it: what it gave.
-    fn read_link_once(&mut self, at: usize) -> Result<Option<Got>, AllocError> {
+    fn read_link_once(&mut self, at: usize) -> Result<Option<Got>, AllocError>
+        ensures ends { GoAlone W.history self.old self.new }
+    {
         let Some(link) = self.links.all.get_mut(at) else {
             return Ok(None);
         };
-        let room = link.read_room();
-        let Some(conn) = link.conn.as_mut() else {
-            return Ok(None);
-        };
-        if !conn.readable {
-            return Ok(None);
-        }
-        let got = conn.read_once(&mut self.wire, room)?;
-        if got == Got::Bytes {
-            let is_large = conn.held.len() > KEPT_ROOM;
-            let has_room = conn.has_room_above(KEPT_ROOM);
-            link.reads_long = conn.readable;
-            if link.stand() {
-                self.links.has_stood(at);
+        match read_line(link, &mut self.wire)? {
+            Some(Got::Bytes) => {
+                self.note_came(at);
+                Ok(Some(Got::Bytes))
             }
-            self.rooms.note(is_large, has_room, self.time);
+            got => Ok(got),
         }
-        Ok(Some(got))
+    }
+
+    // Something came over the link, which stands by that.
+    fn note_came(&mut self, at: usize)
+        ensures ends { Stay W.history self.old self.new }
+    {
+        let Some(link) = self.links.all.get_mut(at) else {
+            return;
+        };
+        let (is_large, has_room) = note_room(link);
+        let is_news = has_come(link);
+        self.links.note_news(at, is_news);
+        self.rooms.note(is_large, has_room, self.time);
     }
 
     // A read of the link brought no whole answer. Why the link fails by that, if it does.
-    fn read_in_vain(&mut self, at: usize) -> Option<Cause> {
+    fn read_in_vain(&mut self, at: usize) -> Option<Cause>
+        ensures ends { Stay W.history self.old self.new }
+    {
         let polls = self.links.settings.polls;
         let link = self.links.all.get_mut(at)?;
         vain(link.has_read(false, polls))
     }
+}
+
+/// One read of the link, if something may have come over its connection: what it gave.
+pub fn read_line<W: Wire>(link: &mut Link, wire: &mut W) -> Result<Option<Got>, AllocError>
+    ensures stands { (at : ℕ) → LineStands at (W.history wire.old) (W.history wire.new) link.old link.new }
+{
+    let room = link.read_room();
+    let Some(conn) = link.conn.as_mut() else {
+        return Ok(None);
+    };
+    if !conn.readable {
+        return Ok(None);
+    }
+    Ok(Some(conn.read_once(wire, room)?))
+}
+
+// Whether it holds much, and whether it has much room.
+fn note_room(link: &Link) -> (bool, bool) {
+    match &link.conn {
+        Some(conn) => (conn.held.len() > KEPT_ROOM, conn.has_room_above(KEPT_ROOM)),
+        None => (false, false),
+    }
+}
+
+// Something came over it: whether it stands by that, which is news.
+#[tactic(auto, using(crate::proofs::Staying::kept_line))]
+fn has_come(link: &mut Link) -> bool
+    ensures line { line_of link.new ≡ line_of link.old }
+{
+    link.reads_long = link.may_have_more();
+    link.stand()
 }

@@ -1,6 +1,6 @@
 //! A call that the core makes goes to its server's link: it is written there, waits there, or has failed.
 
-ghost use Rattle.serve_links.specs.CoreSteps.{Fails};
+ghost use Rattle.serve_proxy.specs.Ends.{AllFailOn};
 
 use crate::failing::look_at_idle;
 use crate::sockets::Sockets;
@@ -20,7 +20,7 @@ pub fn send_call<W: Wire, N: Net>(
     id: usize,
     ticket: Ticket,
 ) -> Result<(), AllocError>
-    ensures core { Fails core.old core.new }
+    ensures ends { AllFailOn W.history core.old sockets.old core.new sockets.new }
 {
     look_at_idle(core, sockets, ticket.server.number() as usize)?;
     send_looked(net, core, sockets, id, ticket)
@@ -34,7 +34,7 @@ fn send_looked<W: Wire, N: Net>(
     id: usize,
     ticket: Ticket,
 ) -> Result<(), AllocError>
-    ensures core { Fails core.old core.new }
+    ensures ends { AllFailOn W.history core.old sockets.old core.new sockets.new }
 {
     let at = ticket.server.number() as usize;
     let time = sockets.time;
@@ -61,7 +61,7 @@ fn let_wait<W: Wire>(
     at: usize,
     call: SentCall,
 ) -> Result<(), AllocError>
-    ensures core { Fails core.old core.new }
+    ensures ends { AllFailOn W.history core.old sockets.old core.new sockets.new }
 {
     let client = call.client;
     match sockets.links.let_wait(at, call) {
@@ -80,7 +80,7 @@ fn begin_call<W: Wire>(
     at: usize,
     call: SentCall,
 ) -> Result<(), AllocError>
-    ensures core { Fails core.old core.new }
+    ensures ends { AllFailOn W.history core.old sockets.old core.new sockets.new }
 {
     match sockets.links.write_call(at, call) {
         Ok(()) => Ok(()),
@@ -95,7 +95,7 @@ fn refuse_call<W: Wire>(
     id: usize,
     ticket: Ticket,
 ) -> Result<(), AllocError>
-    ensures core { Fails core.old core.new }
+    ensures ends { AllFailOn W.history core.old sockets.old core.new sockets.new }
 {
     fail_call(core, ticket);
     sockets.clients.mark_settled(id)
@@ -107,7 +107,7 @@ pub fn begin_waiting<W: Wire>(
     sockets: &mut Sockets<W>,
     at: usize,
 ) -> Result<bool, AllocError>
-    ensures core { Fails core.old core.new }
+    ensures ends { AllFailOn W.history core.old sockets.old core.new sockets.new }
 {
     let mut has_begun = false;
     for _ in 0..sockets.links.waiting(at) {
@@ -125,7 +125,7 @@ fn begin_next<W: Wire>(
     sockets: &mut Sockets<W>,
     at: usize,
 ) -> Result<bool, AllocError>
-    ensures core { Fails core.old core.new }
+    ensures ends { AllFailOn W.history core.old sockets.old core.new sockets.new }
 {
     let Some(call) = sockets.links.next_waiting(at) else {
         return Ok(false);

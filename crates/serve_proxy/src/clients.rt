@@ -1,6 +1,11 @@
 //! What is noted of a client, by its id, as it is served. Nothing here knows the core.
 
+ghost use Rattle.std.specs.Prelude.{◌≡◌, true};
+ghost use Rattle.serve_clients.specs.Agrees.{said_of};
+ghost use Rattle.serve_proxy.specs.Ends.{Stay, GoAlone, AllGoClosed};
+
 use crate::sockets::{Sockets, close_if_any};
+use serve_clients::Client;
 use serve_links::IDLE_ROOM;
 use serve_wire::Wire;
 use std::alloc::AllocError;
@@ -23,6 +28,21 @@ pub enum Rest {
 // So many things are done for a client before the next one's turn.
 const POLLS: usize = 128;
 
+// Nothing more is read of it.
+fn end(client: &mut Client)
+    ensures { client.new ≡ record client.old { is_ended = true } }
+{
+    client.is_ended = true;
+}
+
+// What its polls ended with, and whether more may be done for it. In rounds all is read as it comes.
+fn note_rest(client: &mut Client, rest: Rest, in_rounds: bool) -> bool
+    ensures said { said_of client.new ≡ said_of client.old }
+{
+    client.wants_more = in_rounds || rest == Rest::Idle || rest == Rest::Waiting;
+    rest == Rest::More || client.can_read() || (rest == Rest::Idle && client.has_held())
+}
+
 impl<W: Wire> Sockets<W> {
     /// How often a client is polled before the next one's turn.
     pub fn polls(&self) -> usize {
@@ -30,7 +50,9 @@ impl<W: Wire> Sockets<W> {
     }
 
     /// Whether one of its commands may go on, or begin.
-    pub fn may_go_on(&mut self, id: usize) -> bool {
+    pub fn may_go_on(&mut self, id: usize) -> bool
+        ensures ends { Stay W.history self.old self.new }
+    {
         match self.clients.get_mut(id) {
             Some(client) => client.may_go_on(),
             None => false,
@@ -38,21 +60,27 @@ impl<W: Wire> Sockets<W> {
     }
 
     /// One of its commands went on.
-    pub fn note_went_on(&mut self, id: usize) {
+    pub fn note_went_on(&mut self, id: usize)
+        ensures ends { Stay W.history self.old self.new }
+    {
         if let Some(client) = self.clients.get_mut(id) {
             client.went_on();
         }
     }
 
     /// One of its commands went on, or began, by a call.
-    pub fn note_called(&mut self, id: usize) {
+    pub fn note_called(&mut self, id: usize)
+        ensures ends { Stay W.history self.old self.new }
+    {
         if let Some(client) = self.clients.get_mut(id) {
             client.has_called();
         }
     }
 
     /// Whether a command of it can go on, as its call was settled.
-    pub fn has_settled(&mut self, id: usize) -> bool {
+    pub fn has_settled(&mut self, id: usize) -> bool
+        ensures ends { Stay W.history self.old self.new }
+    {
         match self.clients.get_mut(id) {
             Some(client) => client.settled > 0,
             None => false,
@@ -60,33 +88,49 @@ impl<W: Wire> Sockets<W> {
     }
 
     /// Nothing more is read of it.
-    pub fn end_client(&mut self, id: usize) {
+    pub fn end_client(&mut self, id: usize)
+        ensures ends { GoAlone W.history self.old self.new }
+    {
         if let Some(client) = self.clients.get_mut(id) {
-            client.is_ended = true;
+            end(client);
         }
     }
 
     /// What its polls ended with, and what may be done for it, is noted.
-    pub fn mark_rest(&mut self, id: usize, rest: Rest) -> Result<(), AllocError> {
+    pub fn mark_rest(&mut self, id: usize, rest: Rest) -> Result<(), AllocError>
+        ensures ends { Stay W.history self.old self.new }
+    {
         // Who was served has room that it may not need for long.
         self.rooms.note(false, true, self.time);
-        // In rounds all is read as it comes.
-        let in_rounds = self.in_rounds;
-        let is_more = match self.clients.get_mut(id) {
-            Some(client) => {
-                client.wants_more = in_rounds || rest == Rest::Idle || rest == Rest::Waiting;
-                rest == Rest::More || client.can_read() || (rest == Rest::Idle && client.has_held())
-            }
-            None => false,
-        };
-        if rest == Rest::Busy {
-            self.clients.mark_busy(id)?;
-        }
+        let is_more = self.note_rest(id, rest);
+        self.mark_busy_if(id, rest == Rest::Busy)?;
         self.mark_ready_if(id, is_more)
     }
 
+    // A command of it waits for a key or a server, if it is so.
+    fn mark_busy_if(&mut self, id: usize, is_busy: bool) -> Result<(), AllocError>
+        ensures ends { Stay W.history self.old self.new }
+    {
+        if is_busy {
+            return self.clients.mark_busy(id);
+        }
+        Ok(())
+    }
+
+    // The same of its end alone: whether more may be done for it.
+    fn note_rest(&mut self, id: usize, rest: Rest) -> bool
+        ensures ends { Stay W.history self.old self.new }
+    {
+        match self.clients.get_mut(id) {
+            Some(client) => note_rest(client, rest, self.in_rounds),
+            None => false,
+        }
+    }
+
     /// It is to be served, if it is so.
-    pub fn mark_ready_if(&mut self, id: usize, is_more: bool) -> Result<(), AllocError> {
+    pub fn mark_ready_if(&mut self, id: usize, is_more: bool) -> Result<(), AllocError>
+        ensures ends { Stay W.history self.old self.new }
+    {
         if is_more {
             return self.clients.mark_ready(id);
         }
@@ -94,7 +138,9 @@ impl<W: Wire> Sockets<W> {
     }
 
     /// Whether what is to be sent to it is held back in this turn. In rounds all is sent as it comes.
-    pub fn holds_back(&mut self, id: usize) -> bool {
+    pub fn holds_back(&mut self, id: usize) -> bool
+        ensures ends { Stay W.history self.old self.new }
+    {
         if self.in_rounds {
             return false;
         }
@@ -105,20 +151,26 @@ impl<W: Wire> Sockets<W> {
     }
 
     /// If it has nothing to send it keeps no large room for that: it is spare.
-    pub fn take_room(&mut self, id: usize) {
+    pub fn take_room(&mut self, id: usize)
+        ensures ends { Stay W.history self.old self.new }
+    {
         if let Some(client) = self.clients.get_mut(id) {
             self.rooms.take_room(client, self.time);
         }
     }
 
     /// It is gone, and its connection is closed.
-    pub fn remove_client(&mut self, id: usize) {
+    pub fn remove_client(&mut self, id: usize)
+        ensures ends { AllGoClosed W.history id self.old self.new }
+    {
         let conn = self.clients.remove(id);
         close_if_any(&mut self.wire, conn);
     }
 
     /// Its end gives back the room in which nothing is left.
-    pub fn give_back_end(&mut self, id: usize) {
+    pub fn give_back_end(&mut self, id: usize)
+        ensures ends { Stay W.history self.old self.new }
+    {
         if let Some(client) = self.clients.get_mut(id) {
             client.conn.give_back(self.alloc, IDLE_ROOM);
         }

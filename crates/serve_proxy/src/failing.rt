@@ -1,10 +1,10 @@
 //! Links fail: their connections broke, brought what is no answer, or took too long.
 
 ghost use Rattle.std.specs.Prelude.{OnOk};
-ghost use Rattle.serve_links.specs.CoreSteps.{GoesOn, Fails};
 ghost use Rattle.serve_links.specs.Links.{IsDownAt, IsClosedAt};
+ghost use Rattle.serve_proxy.specs.Ends.{GoAlone, AllFailOn, AllGoOn};
 
-use crate::answers::serve_link;
+use crate::answers::{read_line, serve_link};
 use crate::sockets::{Sockets, close_if_any};
 use core_accepted::ServedCore;
 use serve_links::{Cause, Link, fail_all};
@@ -23,7 +23,7 @@ pub fn fail_link<W: Wire>(
     at: usize,
     cause: Cause,
 ) -> Result<(), AllocError>
-    ensures core { Fails core.old core.new }
+    ensures ends { AllFailOn W.history core.old sockets.old core.new sockets.new }
     ensures down { OnOk result (IsDownAt at sockets.new.links.all.items) }
     ensures closed { IsClosedAt at sockets.new.links.all.items }
 {
@@ -44,7 +44,7 @@ pub fn look_at_idle<W: Wire>(
     sockets: &mut Sockets<W>,
     at: usize,
 ) -> Result<(), AllocError>
-    ensures core { Fails core.old core.new }
+    ensures ends { AllFailOn W.history core.old sockets.old core.new sockets.new }
 {
     match sockets.read_idle(at)? {
         Some(cause) => fail_link(core, sockets, at, cause),
@@ -55,7 +55,7 @@ pub fn look_at_idle<W: Wire>(
 /// Links that have taken too long fail, if one may have. What has come over them is read and settled before: the system was asked for it
 /// after the clock was looked at, and had nothing.
 pub fn fail_late<W: Wire>(core: &mut ServedCore, sockets: &mut Sockets<W>) -> io::Result<()>
-    ensures core { GoesOn core.old core.new }
+    ensures ends { AllGoOn W.history core.old sockets.old core.new sockets.new }
 {
     if !sockets.links.may_be_late(sockets.time) {
         return Ok(());
@@ -72,7 +72,7 @@ fn fail_if_late<W: Wire>(
     sockets: &mut Sockets<W>,
     at: usize,
 ) -> io::Result<()>
-    ensures core { GoesOn core.old core.new }
+    ensures ends { AllGoOn W.history core.old sockets.old core.new sockets.new }
 {
     read_late(core, sockets, at)?;
     match sockets.lateness(at) {
@@ -83,7 +83,7 @@ fn fail_if_late<W: Wire>(
 
 // What has come over a link that is late is read, until it is late no longer or nothing more is there.
 fn read_late<W: Wire>(core: &mut ServedCore, sockets: &mut Sockets<W>, at: usize) -> io::Result<()>
-    ensures core { GoesOn core.old core.new }
+    ensures ends { AllGoOn W.history core.old sockets.old core.new sockets.new }
 {
     for _ in 0..LATE_READS {
         if sockets.lateness(at).is_none() {
@@ -99,7 +99,7 @@ fn read_late<W: Wire>(core: &mut ServedCore, sockets: &mut Sockets<W>, at: usize
 
 // The system is asked whether the link's connection stands, or for what has come over it, though it told of nothing.
 fn look_again<W: Wire>(core: &mut ServedCore, sockets: &mut Sockets<W>, at: usize) -> io::Result<()>
-    ensures core { GoesOn core.old core.new }
+    ensures ends { AllGoOn W.history core.old sockets.old core.new sockets.new }
 {
     if sockets.links.look_again(&sockets.wire, at)? {
         return Ok(());
@@ -124,21 +124,19 @@ fn idle_fault(got: Got) -> Option<Cause> {
 
 impl<W: Wire> Sockets<W> {
     // One read of the link, where nothing is out on its connection and something may have come over it. Why it fails by that, if it does.
-    fn read_idle(&mut self, at: usize) -> Result<Option<Cause>, AllocError> {
+    fn read_idle(&mut self, at: usize) -> Result<Option<Cause>, AllocError>
+        ensures ends { GoAlone W.history self.old self.new }
+    {
         let Some(link) = self.links.all.get_mut(at) else {
             return Ok(None);
         };
         if !is_idle(link) {
             return Ok(None);
         }
-        let room = link.read_room();
-        let Some(conn) = link.conn.as_mut() else {
-            return Ok(None);
-        };
-        if !conn.readable {
-            return Ok(None);
+        match read_line(link, &mut self.wire)? {
+            Some(got) => Ok(idle_fault(got)),
+            None => Ok(None),
         }
-        Ok(idle_fault(conn.read_once(&mut self.wire, room)?))
     }
 
     // Why the link has failed by now, if it has taken too long.

@@ -2,7 +2,9 @@
 //! of them. Nothing here knows the core.
 
 ghost use Rattle.std.specs.Prelude.{◌≡◌, ◌↔◌, [], ◌∷◌, ◌++◌, drop, length, IsTrue, IfOk, OnOk};
+ghost use Rattle.serve_clients.specs.declared.clients.Clients.{Clients};
 ghost use Rattle.serve_links.specs.Links.{calls_out};
+ghost use Rattle.serve_proxy.specs.Ends.{line_of, lines_of, LineStands, EndsGo, AddsLines};
 ghost use Rattle.serve_proxy.specs.Texts.{texts_of};
 
 use crate::clock::earlier;
@@ -14,6 +16,69 @@ use serve_links::{Cause, KEPT_ROOM, Link, LinkNews, Opening, Settings};
 use serve_wire::{Ready, Wire};
 use std::alloc::{AllocError, Global};
 use std::net::Net;
+
+// What the system told of a link's connection, if it has one: whether it stands by that, which is news.
+#[tactic(auto, using(crate::proofs::Staying::kept_line))]
+fn note_told(link: &mut Link, told: Ready) -> Option<bool>
+    ensures line { line_of link.new ≡ line_of link.old }
+{
+    let conn = link.conn.as_mut()?;
+    conn.note(told);
+    Some(told.writes && !told.closes && link.stand())
+}
+
+// The system is asked whether its connection stands: whether it does, which is news.
+#[tactic(auto, using(crate::proofs::Staying::kept_line))]
+fn look_at<W: Wire>(link: &mut Link, wire: &W) -> bool
+    ensures line { line_of link.new ≡ line_of link.old }
+{
+    link.look_again(wire)
+}
+
+// A connection of the link is begun. Where it can't be, its calls fail for a while.
+fn begin<W: Wire, N: Net>(
+    link: &mut Link,
+    alloc: Global,
+    net: &N,
+    wire: &mut W,
+    at: usize,
+    time: u64,
+    settings: &Settings,
+) -> Opening
+    ensures stands { LineStands at (W.history wire.old) (W.history wire.new) link.old link.new }
+{
+    match link.connect(alloc, net, wire, at, time, settings.server_dialect) {
+        Opening::Failed => {
+            let _ = link.close(Cause::Unreachable, time, settings);
+            Opening::Failed
+        }
+        opening => opening,
+    }
+}
+
+// The call is written to the link, or given back.
+fn write_to(link: &mut Link, call: SentCall) -> Result<(), SentCall>
+    ensures line { line_of link.new ≡ line_of link.old }
+{
+    match link.conn.as_mut() {
+        Some(conn) => link.calls.begin(call, &mut conn.unsent),
+        None => Err(call),
+    }
+}
+
+// It gives back the room that it doesn't need now. Whether it has much that it needs.
+fn give_back_line(link: &mut Link, alloc: Global) -> bool
+    ensures line { line_of link.new ≡ line_of link.old }
+{
+    link.calls.let_go();
+    match link.conn.as_mut() {
+        Some(conn) => {
+            conn.give_back(alloc, KEPT_ROOM);
+            conn.has_room_above(KEPT_ROOM)
+        }
+        None => false,
+    }
+}
 
 /// The links, and the lists of those that are marked.
 #[derive(Drop)]
@@ -33,7 +98,8 @@ pub struct Links {
 impl Links {
     /// One link to each server, without a connection.
     pub fn to(alloc: Global, servers: &Servers, settings: Settings) -> Result<Links, AllocError>
-        ensures { IfOk result (λ links. texts_of links.all.items ≡ servers.now) }
+        ensures texts { IfOk result (λ links. texts_of links.all.items ≡ servers.now) }
+        ensures down { IfOk result (λ links. AddsLines [] links.all.items) }
     {
         let mut links = Links::none(alloc, settings);
         links.add(servers)?;
@@ -56,7 +122,8 @@ impl Links {
 
     /// Servers that have no link yet get one, without a connection.
     pub fn add(&mut self, servers: &Servers) -> Result<(), AllocError>
-        ensures { OnOk result (texts_of self.new.all.items ≡ texts_of self.old.all.items ++ drop (length self.old.all.items) servers.now) }
+        ensures texts { OnOk result (texts_of self.new.all.items ≡ texts_of self.old.all.items ++ drop (length self.old.all.items) servers.now) }
+        ensures adds { AddsLines self.old.all.items self.new.all.items }
     {
         for at in self.all.len()..servers.len() {
             if let Some(text) = text_at(servers, at) {
@@ -69,7 +136,8 @@ impl Links {
     // The server whose address this text names gets one, at the end.
     #[tactic(auto, using(crate::proofs::LinkTexts::added))]
     fn add_one(&mut self, text: &str) -> Result<(), AllocError>
-        ensures { OnOk result (texts_of self.new.all.items ≡ texts_of self.old.all.items ++ text.now ∷ []) }
+        ensures texts { OnOk result (texts_of self.new.all.items ≡ texts_of self.old.all.items ++ text.now ∷ []) }
+        ensures adds { AddsLines self.old.all.items self.new.all.items }
     {
         let link = Link::new(self.alloc, text.as_bytes())?;
         self.all.push(link)?;
@@ -91,28 +159,45 @@ impl Links {
     }
 
     /// What the system told of a link.
-    pub fn note(&mut self, at: usize, told: Ready) -> Result<(), AllocError> {
+    pub fn note(&mut self, at: usize, told: Ready) -> Result<(), AllocError>
+        ensures lines { lines_of self.new.all.items ≡ lines_of self.old.all.items }
+    {
         let Some(link) = self.all.get_mut(at) else {
             return Ok(());
         };
-        let Some(conn) = link.conn.as_mut() else {
+        let Some(is_news) = note_told(link, told) else {
             return Ok(());
         };
-        conn.note(told);
-        if told.writes && !told.closes && link.stand() {
+        self.note_news(at, is_news);
+        self.mark_told(at, told)
+    }
+
+    /// Its connection stands, where that is news.
+    pub fn note_news(&mut self, at: usize, is_news: bool)
+        ensures lines { lines_of self.new.all.items ≡ lines_of self.old.all.items }
+    {
+        if is_news {
             self.has_stood(at);
         }
+    }
+
+    // It is to be read and written, where that was told.
+    fn mark_told(&mut self, at: usize, told: Ready) -> Result<(), AllocError>
+        ensures lines { lines_of self.new.all.items ≡ lines_of self.old.all.items }
+    {
         if told.reads {
             self.mark_ready(at)?;
         }
         if told.writes {
-            self.mark_output(at)?;
+            return self.mark_output(at);
         }
         Ok(())
     }
 
     /// It is to be read.
-    pub fn mark_ready(&mut self, at: usize) -> Result<(), AllocError> {
+    pub fn mark_ready(&mut self, at: usize) -> Result<(), AllocError>
+        ensures lines { lines_of self.new.all.items ≡ lines_of self.old.all.items }
+    {
         if let Some(link) = self.all.get_mut(at) {
             if !link.is_ready {
                 link.is_ready = true;
@@ -123,14 +208,18 @@ impl Links {
     }
 
     /// It stands no longer among those that are ready.
-    pub fn end_ready(&mut self, at: usize) {
+    pub fn end_ready(&mut self, at: usize)
+        ensures lines { lines_of self.new.all.items ≡ lines_of self.old.all.items }
+    {
         if let Some(link) = self.all.get_mut(at) {
             link.is_ready = false;
         }
     }
 
     /// It has something to send.
-    pub fn mark_output(&mut self, at: usize) -> Result<(), AllocError> {
+    pub fn mark_output(&mut self, at: usize) -> Result<(), AllocError>
+        ensures lines { lines_of self.new.all.items ≡ lines_of self.old.all.items }
+    {
         if let Some(link) = self.all.get_mut(at) {
             if !link.has_output {
                 link.has_output = true;
@@ -141,7 +230,9 @@ impl Links {
     }
 
     /// It stands no longer among those that have something to send.
-    pub fn end_output(&mut self, at: usize) {
+    pub fn end_output(&mut self, at: usize)
+        ensures lines { lines_of self.new.all.items ≡ lines_of self.old.all.items }
+    {
         if let Some(link) = self.all.get_mut(at) {
             link.has_output = false;
         }
@@ -155,19 +246,33 @@ impl Links {
         }
     }
 
+    /// It is to be read again, where that may give more.
+    pub fn mark_rest(&mut self, at: usize) -> Result<(), AllocError>
+        ensures lines { lines_of self.new.all.items ≡ lines_of self.old.all.items }
+    {
+        if self.may_have_more(at) {
+            return self.mark_ready(at);
+        }
+        Ok(())
+    }
+
     /// The link's connection stands, which is news.
-    pub fn has_stood(&mut self, at: usize) {
+    pub fn has_stood(&mut self, at: usize)
+        ensures lines { lines_of self.new.all.items ≡ lines_of self.old.all.items }
+    {
         self.has_news = true;
         self.note_limit(at);
     }
 
     /// The system is asked whether the link's connection stands, though it told of nothing: whether it does, which is news, and it is to
     /// be read and written. Where it stood before, it is to be read at once.
-    pub fn look_again<W: Wire>(&mut self, wire: &W, at: usize) -> Result<bool, AllocError> {
+    pub fn look_again<W: Wire>(&mut self, wire: &W, at: usize) -> Result<bool, AllocError>
+        ensures lines { lines_of self.new.all.items ≡ lines_of self.old.all.items }
+    {
         let Some(link) = self.all.get_mut(at) else {
             return Ok(false);
         };
-        if !link.look_again(wire) {
+        if !look_at(link, wire) {
             return Ok(false);
         }
         self.has_stood(at);
@@ -177,13 +282,9 @@ impl Links {
     }
 
     /// Whether a call may go out on the link: it has a connection, or one could be begun, and it isn't held back.
-    pub fn is_open<W: Wire, N: Net>(
-        &mut self,
-        net: &N,
-        wire: &mut W,
-        at: usize,
-        time: u64,
-    ) -> bool {
+    pub fn is_open<W: Wire, N: Net>(&mut self, net: &N, wire: &mut W, at: usize, time: u64) -> bool
+        ensures ends { (clients : Clients) → EndsGo (W.history wire.old) (W.history wire.new) clients clients self.old.all.items self.new.all.items }
+    {
         let Some(link) = self.all.get_mut(at) else {
             return false;
         };
@@ -193,15 +294,13 @@ impl Links {
         if link.conn.is_some() {
             return true;
         }
-        let dialect = self.settings.server_dialect;
-        match link.connect(self.alloc, net, wire, at, time, dialect) {
+        match begin(link, self.alloc, net, wire, at, time, &self.settings) {
             Opening::Begun => {
                 self.note_limit(at);
                 true
             }
             Opening::NoAddress | Opening::NoMemory => false,
             Opening::Failed => {
-                let _ = link.close(Cause::Unreachable, time, &self.settings);
                 self.has_news = true;
                 false
             }
@@ -225,7 +324,9 @@ impl Links {
     }
 
     /// The call waits until its server takes more, or is given back.
-    pub fn let_wait(&mut self, at: usize, call: SentCall) -> Result<(), SentCall> {
+    pub fn let_wait(&mut self, at: usize, call: SentCall) -> Result<(), SentCall>
+        ensures lines { lines_of self.new.all.items ≡ lines_of self.old.all.items }
+    {
         match self.all.get_mut(at) {
             Some(link) => link.let_wait(call),
             None => Err(call),
@@ -241,19 +342,20 @@ impl Links {
     }
 
     /// Of the calls that wait for it the first that may go out.
-    pub fn next_waiting(&mut self, at: usize) -> Option<SentCall> {
+    pub fn next_waiting(&mut self, at: usize) -> Option<SentCall>
+        ensures lines { lines_of self.new.all.items ≡ lines_of self.old.all.items }
+    {
         self.all.get_mut(at)?.next_waiting()
     }
 
     /// The call is written to the link, or given back.
-    pub fn write_call(&mut self, at: usize, call: SentCall) -> Result<(), SentCall> {
-        let Some(link) = self.all.get_mut(at) else {
-            return Err(call);
-        };
-        let Some(conn) = link.conn.as_mut() else {
-            return Err(call);
-        };
-        link.calls.begin(call, &mut conn.unsent)
+    pub fn write_call(&mut self, at: usize, call: SentCall) -> Result<(), SentCall>
+        ensures lines { lines_of self.new.all.items ≡ lines_of self.old.all.items }
+    {
+        match self.all.get_mut(at) {
+            Some(link) => write_to(link, call),
+            None => Err(call),
+        }
     }
 
     /// Why the link has failed by now, if it has taken too long. One over which more may have come than was read isn't late yet.
@@ -265,7 +367,9 @@ impl Links {
     }
 
     /// The link may be late before the others, by what happened to it: it was opened, or stands, or calls went out.
-    pub fn note_limit(&mut self, at: usize) {
+    pub fn note_limit(&mut self, at: usize)
+        ensures lines { lines_of self.new.all.items ≡ lines_of self.old.all.items }
+    {
         if let Some(link) = self.all.get(at) {
             self.late_from = earlier(self.late_from, link.time_limit(&self.settings));
         }
@@ -280,7 +384,9 @@ impl Links {
     }
 
     /// All were looked at: none is late before the first of them is.
-    pub fn note_limits(&mut self) {
+    pub fn note_limits(&mut self)
+        ensures lines { lines_of self.new.all.items ≡ lines_of self.old.all.items }
+    {
         let mut first = None;
         for link in self.all.as_slice() {
             first = earlier(first, link.time_limit(&self.settings));
@@ -306,7 +412,9 @@ impl Links {
     }
 
     /// What happened to a link, and its server's number, if that may be told by now.
-    pub fn next_news(&mut self, time: u64) -> Option<(usize, LinkNews)> {
+    pub fn next_news(&mut self, time: u64) -> Option<(usize, LinkNews)>
+        ensures lines { lines_of self.new.all.items ≡ lines_of self.old.all.items }
+    {
         if !self.has_news {
             return None;
         }
@@ -322,17 +430,23 @@ impl Links {
     }
 
     /// They give back the room that they don't need now. Whether one has much that it needs.
-    pub fn give_back(&mut self) -> bool {
+    pub fn give_back(&mut self) -> bool
+        ensures lines { lines_of self.new.all.items ≡ lines_of self.old.all.items }
+    {
         let mut has_room = false;
         for at in 0..self.all.len() {
-            if let Some(link) = self.all.get_mut(at) {
-                link.calls.let_go();
-                if let Some(conn) = link.conn.as_mut() {
-                    conn.give_back(self.alloc, KEPT_ROOM);
-                    has_room = has_room || conn.has_room_above(KEPT_ROOM);
-                }
-            }
+            has_room = self.give_back_at(at) || has_room;
         }
         has_room
+    }
+
+    // One of them does.
+    fn give_back_at(&mut self, at: usize) -> bool
+        ensures lines { lines_of self.new.all.items ≡ lines_of self.old.all.items }
+    {
+        match self.all.get_mut(at) {
+            Some(link) => give_back_line(link, self.alloc),
+            None => false,
+        }
     }
 }

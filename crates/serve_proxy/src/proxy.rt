@@ -1,10 +1,12 @@
 //! The proxy's end, and its turns: what is ready is read, what was asked goes to the links and what was answered to the
 //! clients, and then each end that has something to send is written once.
 
-ghost use Rattle.std.specs.Prelude.{◌≡◌, ◌↔◌, ◌++◌, drop, length, true, IsTrue, IfOk, IfErr, OnOk};
+ghost use Rattle.std.specs.Prelude.{◌≡◌, ◌↔◌, [], ◌++◌, drop, length, true, IsTrue, IfOk, IfErr, OnOk};
 ghost use Rattle.core_accepted.specs.Loading.{IsLoaded};
 ghost use Rattle.serve_links.specs.CoreSteps.{GoesOn, Fails};
 ghost use Rattle.serve_links.specs.Links.{IsDownAt, IsClosedAt};
+ghost use Rattle.serve_links.specs.Story.{Agrees};
+ghost use Rattle.serve_proxy.specs.Ends.{Stay, end_of, AllGoOn, AllFailOn, AllLoad, HasNoClients};
 ghost use Rattle.serve_proxy.specs.LogsGoOn.{LogsAreFresh};
 ghost use Rattle.serve_proxy.specs.Stillness.{IsStill};
 ghost use Rattle.serve_proxy.specs.Texts.{texts_of};
@@ -49,7 +51,7 @@ fn run_turn<W: Wire, R: Net + Clock>(
     sockets: &mut Sockets<W>,
     limit: Option<Duration>,
 ) -> io::Result<()>
-    ensures core { GoesOn core.old core.new }
+    ensures ends { AllGoOn W.history core.old sockets.old core.new sockets.new }
 {
     // Something is waited for, and what is ready is noted.
     sockets.wait(rt, limit)?;
@@ -82,6 +84,7 @@ impl<W: Wire + Drop> ProxyEnd<W> {
         settings: Settings,
     ) -> Result<ProxyEnd<W>, AllocError>
         ensures core { IfOk result (λ end. BeginsFresh accepted settings end.core.value) }
+        ensures ends { IfOk result (λ end. HasNoClients (W.history wire) → Agrees [] (end_of W.history end.core.value end.sockets)) }
         ensures texts { IfOk result (λ end. texts_of end.sockets.links.all.items ≡ servers.now) }
     {
         let links = Links::to(alloc, servers, settings)?;
@@ -98,6 +101,7 @@ impl<W: Wire + Drop> ProxyEnd<W> {
         settings: Settings,
     ) -> Result<ProxyEnd<W>, AllocError>
         ensures core { IfOk result (λ end. BeginsUnchecked tree settings end.core.value) }
+        ensures ends { IfOk result (λ end. HasNoClients (W.history wire) → Agrees [] (end_of W.history end.core.value end.sockets)) }
         ensures texts { IfOk result (λ end. texts_of end.sockets.links.all.items ≡ servers.now) }
     {
         let links = Links::to(alloc, servers, settings)?;
@@ -110,6 +114,8 @@ impl<W: Wire> ProxyEnd<W> {
     fn of(alloc: Global, core: Box<ServedCore>, wire: W, links: Links) -> ProxyEnd<W>
         ensures core { result.core ≡ core }
         ensures links { result.sockets.links ≡ links }
+        ensures none { result.sockets.clients.all.items ≡ [] }
+        ensures wire { result.sockets.wire ≡ wire }
     {
         ProxyEnd {
             core,
@@ -127,6 +133,7 @@ impl<W: Wire> ProxyEnd<W> {
     /// Looks up the address that a server's text names. Connections that are begun from now on go there.
     pub fn resolve<N: Net>(&mut self, net: &N, text: &str) -> io::Result<()>
         ensures core { self.new.core ≡ self.old.core }
+        ensures ends { Stay W.history self.old.sockets self.new.sockets }
     {
         self.sockets.wire.resolve(net, text.as_bytes())
     }
@@ -138,6 +145,7 @@ impl<W: Wire> ProxyEnd<W> {
     pub fn load(&mut self, config: Config, servers: &Servers) -> Result<u32, LoadFault>
         ensures loaded { IfOk result (λ generation. IsLoaded self.old.core.value config generation self.new.core.value) }
         ensures refused { IfErr result (λ fault. LoadStops self.old.core.value config fault self.new.core.value) }
+        ensures ends { AllLoad W.history config self.old.core.value self.old.sockets self.new.core.value self.new.sockets }
         ensures texts { OnOk result (texts_of self.new.sockets.links.all.items ≡ texts_of self.old.sockets.links.all.items ++ drop (length self.old.sockets.links.all.items) servers.now) }
     {
         let generation = self.core.load(self.sockets.alloc, config)?;
@@ -151,6 +159,7 @@ impl<W: Wire> ProxyEnd<W> {
     /// last. It is asked after each turn until there is none.
     pub fn next_news(&mut self) -> Option<(usize, LinkNews)>
         ensures core { self.new.core ≡ self.old.core }
+        ensures ends { Stay W.history self.old.sockets self.new.sockets }
     {
         self.sockets.links.next_news(self.sockets.time)
     }
@@ -187,6 +196,7 @@ impl<W: Wire> ProxyEnd<W> {
     /// The connection to a server is closed, and what came over it is never read: the calls that are out on it have failed.
     pub fn drop_link(&mut self, server: usize) -> Result<(), AllocError>
         ensures core { Fails self.old.core.value self.new.core.value }
+        ensures ends { AllFailOn W.history self.old.core.value self.old.sockets self.new.core.value self.new.sockets }
         ensures down { OnOk result (IsDownAt server self.new.sockets.links.all.items) }
         ensures closed { IsClosedAt server self.new.sockets.links.all.items }
     {
@@ -196,6 +206,7 @@ impl<W: Wire> ProxyEnd<W> {
     /// One turn: a wait until something is ready or late, and then all that is ready is done.
     pub fn turn<R: Net + Clock>(&mut self, rt: &R) -> io::Result<()>
         ensures core { GoesOn self.old.core.value self.new.core.value }
+        ensures ends { AllGoOn W.history self.old.core.value self.old.sockets self.new.core.value self.new.sockets }
     {
         let limit = self.sockets.wait_limit(rt)?;
         run_turn(rt, self.core.as_mut(), &mut self.sockets, limit)
@@ -204,6 +215,7 @@ impl<W: Wire> ProxyEnd<W> {
     /// The same, but it waits this long at most, so that several ends can be turned in one thread.
     pub fn turn_within<R: Net + Clock>(&mut self, rt: &R, most: Duration) -> io::Result<()>
         ensures core { GoesOn self.old.core.value self.new.core.value }
+        ensures ends { AllGoOn W.history self.old.core.value self.old.sockets self.new.core.value self.new.sockets }
     {
         let limit = self.sockets.wait_limit(rt)?;
         let limit = Some(at_most(limit, most));
@@ -213,6 +225,7 @@ impl<W: Wire> ProxyEnd<W> {
     /// What was held back goes to its clients, as far as they take it: for whoever turns it no more.
     pub fn end_turns(&mut self) -> io::Result<()>
         ensures core { GoesOn self.old.core.value self.new.core.value }
+        ensures ends { AllGoOn W.history self.old.core.value self.old.sockets self.new.core.value self.new.sockets }
     {
         send_clients(self.core.as_mut(), &mut self.sockets)
     }

@@ -1,13 +1,15 @@
 //! What is to be sent goes out: calls to servers, and replies to clients. Each end is written once.
 
-ghost use Rattle.serve_links.specs.CoreSteps.{GoesOn, Fails};
+ghost use Rattle.std.specs.Prelude.{ℕ};
+ghost use Rattle.serve_links.specs.CoreSteps.{GoesOn};
+ghost use Rattle.serve_proxy.specs.Ends.{Stay, GoAlone, LineStands, AllGoOn, AllFailOn};
 
 use crate::calls::begin_waiting;
 use crate::failing::fail_link;
 use crate::showing::take_rooms;
 use crate::sockets::Sockets;
 use core_accepted::ServedCore;
-use serve_links::{Cause, KEPT_ROOM, has_spare, send_once};
+use serve_links::{Cause, KEPT_ROOM, Link, has_spare, send_once};
 use serve_wire::Wire;
 use serve_wire::conn::send;
 use std::alloc::AllocError;
@@ -21,7 +23,7 @@ pub fn send_links<W: Wire>(
     core: &mut ServedCore,
     sockets: &mut Sockets<W>,
 ) -> Result<(), AllocError>
-    ensures core { Fails core.old core.new }
+    ensures ends { AllFailOn W.history core.old sockets.old core.new sockets.new }
 {
     let links = sockets.work.take(&mut sockets.links.with_output);
     for at in links.as_slice() {
@@ -38,7 +40,7 @@ fn send_link<W: Wire>(
     sockets: &mut Sockets<W>,
     at: usize,
 ) -> Result<(), AllocError>
-    ensures core { Fails core.old core.new }
+    ensures ends { AllFailOn W.history core.old sockets.old core.new sockets.new }
 {
     sockets.links.end_output(at);
     for _ in 0..LINK_SENDS {
@@ -54,7 +56,7 @@ fn send_link<W: Wire>(
 
 /// Clients that have something to send are written.
 pub fn send_clients<W: Wire>(core: &mut ServedCore, sockets: &mut Sockets<W>) -> io::Result<()>
-    ensures core { GoesOn core.old core.new }
+    ensures ends { AllGoOn W.history core.old sockets.old core.new sockets.new }
 {
     let ids = sockets.work.take(&mut sockets.clients.with_output);
     for id in ids.as_slice() {
@@ -69,16 +71,12 @@ fn send_client<W: Wire>(
     sockets: &mut Sockets<W>,
     id: usize,
 ) -> io::Result<()>
-    ensures core { GoesOn core.old core.new }
+    ensures ends { AllGoOn W.history core.old sockets.old core.new sockets.new }
 {
     if sockets.holds_back(id) {
-        return Ok(sockets.clients.with_output.push(id)?);
+        return sockets.hold_back(id);
     }
-    let Some(client) = sockets.clients.get_mut(id) else {
-        return Ok(());
-    };
-    let is_more = send_once(core, id, client, &mut sockets.wire);
-    let has_spare = has_spare(&client.conn.unsent);
+    let (is_more, has_spare) = write_client(core, sockets, id);
     sockets.mark_ready_if(id, is_more)?;
     if has_spare {
         return take_rooms(core, sockets, id);
@@ -86,18 +84,55 @@ fn send_client<W: Wire>(
     Ok(())
 }
 
+// The client is written, if it is there: whether it is to be served for that, and whether it has spare room then.
+fn write_client<W: Wire>(core: &ServedCore, sockets: &mut Sockets<W>, id: usize) -> (bool, bool)
+    ensures ends { GoAlone W.history sockets.old sockets.new }
+{
+    match sockets.clients.get_mut(id) {
+        Some(client) => {
+            let is_more = send_once(core, id, client, &mut sockets.wire);
+            (is_more, has_spare(&client.conn.unsent))
+        }
+        None => (false, false),
+    }
+}
+
 impl<W: Wire> Sockets<W> {
+    // The client has something to send in the next turn too.
+    fn hold_back(&mut self, id: usize) -> io::Result<()>
+        ensures ends { Stay W.history self.old self.new }
+    {
+        Ok(self.clients.with_output.push(id)?)
+    }
+
     // What is to be sent to the server goes out, as far as it is taken. Whether the link stands still.
-    fn send_unsent(&mut self, at: usize) -> bool {
-        let Some(link) = self.links.all.get_mut(at) else {
-            return true;
-        };
-        let Some(conn) = link.conn.as_mut() else {
-            return true;
-        };
-        let is_large = conn.unsent.len() > KEPT_ROOM;
-        let is_kept = send(conn, &mut self.wire);
-        self.rooms.note(is_large, false, self.time);
-        is_kept
+    fn send_unsent(&mut self, at: usize) -> bool
+        ensures ends { GoAlone W.history self.old self.new }
+    {
+        match self.links.all.get_mut(at) {
+            Some(link) => {
+                self.rooms.note(has_much(link), false, self.time);
+                send_line(link, &mut self.wire)
+            }
+            None => true,
+        }
+    }
+}
+
+// Whether the link has much to send.
+fn has_much(link: &Link) -> bool {
+    match &link.conn {
+        Some(conn) => conn.unsent.len() > KEPT_ROOM,
+        None => false,
+    }
+}
+
+// The same of the link alone.
+fn send_line<W: Wire>(link: &mut Link, wire: &mut W) -> bool
+    ensures stands { (at : ℕ) → LineStands at (W.history wire.old) (W.history wire.new) link.old link.new }
+{
+    match link.conn.as_mut() {
+        Some(conn) => send(conn, wire),
+        None => true,
     }
 }

@@ -1,16 +1,24 @@
 //! Clients are served: what came of them goes to the core, their commands begin and go on, and their replies are shown.
 
-ghost use Rattle.serve_links.specs.CoreSteps.{GoesOn};
+ghost use Rattle.std.specs.Prelude.{◌≡◌, List};
+ghost use Rattle.serve_wire.specs.Events.{Event};
+ghost use Rattle.serve_wire.specs.Agreement.{TouchesOnly};
+ghost use Rattle.serve_clients.specs.Agrees.{GoesOnAgreeing};
+ghost use Rattle.serve_links.specs.CoreSteps.{IsOfTurn};
+ghost use Rattle.serve_links.specs.Story.{OneGoes};
+ghost use Rattle.serve_proxy.specs.Ends.{Stay, AllGoOn};
 
 use crate::accepting::Accepting;
 use crate::calls::send_call;
 use crate::clients::Rest;
+use crate::rooms::Rooms;
 use crate::sending::send_links;
 use crate::showing::{lend_room, show_lent};
 use crate::sockets::Sockets;
 use core_accepted::ServedCore;
 use core_proxy::{CoreFault, Poll as Polled};
-use serve_links::{feed_held, read_once};
+use serve_clients::Client;
+use serve_links::{Tally, feed_held, read_once};
 use serve_wire::Wire;
 use std::alloc::AllocError;
 use std::io;
@@ -23,7 +31,7 @@ pub fn serve_asks<W: Wire, N: Net>(
     core: &mut ServedCore,
     sockets: &mut Sockets<W>,
 ) -> io::Result<()>
-    ensures core { GoesOn core.old core.new }
+    ensures ends { AllGoOn W.history core.old sockets.old core.new sockets.new }
 {
     if sockets.in_rounds {
         return Ok(());
@@ -38,7 +46,7 @@ pub fn serve_all<W: Wire, N: Net>(
     core: &mut ServedCore,
     sockets: &mut Sockets<W>,
 ) -> io::Result<()>
-    ensures core { GoesOn core.old core.new }
+    ensures ends { AllGoOn W.history core.old sockets.old core.new sockets.new }
 {
     if sockets.in_rounds {
         return serve_round(net, core, sockets);
@@ -54,7 +62,7 @@ fn serve_ready<W: Wire, N: Net>(
     core: &mut ServedCore,
     sockets: &mut Sockets<W>,
 ) -> io::Result<()>
-    ensures core { GoesOn core.old core.new }
+    ensures ends { AllGoOn W.history core.old sockets.old core.new sockets.new }
 {
     let ids = sockets.work.take(&mut sockets.clients.ready);
     serve_list(net, core, sockets, ids)
@@ -66,7 +74,7 @@ fn serve_busy<W: Wire, N: Net>(
     core: &mut ServedCore,
     sockets: &mut Sockets<W>,
 ) -> io::Result<()>
-    ensures core { GoesOn core.old core.new }
+    ensures ends { AllGoOn W.history core.old sockets.old core.new sockets.new }
 {
     if !sockets.is_freed {
         return Ok(());
@@ -87,7 +95,7 @@ fn serve_round<W: Wire, N: Net>(
     core: &mut ServedCore,
     sockets: &mut Sockets<W>,
 ) -> io::Result<()>
-    ensures core { GoesOn core.old core.new }
+    ensures ends { AllGoOn W.history core.old sockets.old core.new sockets.new }
 {
     sockets.is_freed = false;
     let mut ids = sockets.work.take(&mut sockets.clients.ready);
@@ -103,7 +111,7 @@ fn serve_list<W: Wire, N: Net>(
     sockets: &mut Sockets<W>,
     ids: Vec<usize>,
 ) -> io::Result<()>
-    ensures core { GoesOn core.old core.new }
+    ensures ends { AllGoOn W.history core.old sockets.old core.new sockets.new }
 {
     for id in ids.as_slice() {
         sockets.clients.end_ready(*id);
@@ -119,7 +127,7 @@ fn serve_client<W: Wire, N: Net>(
     sockets: &mut Sockets<W>,
     id: usize,
 ) -> io::Result<()>
-    ensures core { GoesOn core.old core.new }
+    ensures ends { AllGoOn W.history core.old sockets.old core.new sockets.new }
 {
     read_client(core, sockets, id);
     let is_lent = lend_room(core, sockets, id)?;
@@ -131,17 +139,38 @@ fn serve_client<W: Wire, N: Net>(
 
 // One read of the client, and what it holds is given to the core.
 fn read_client<W: Wire>(core: &mut ServedCore, sockets: &mut Sockets<W>, id: usize)
-    ensures core { GoesOn core.old core.new }
+    ensures ends { AllGoOn W.history core.old sockets.old core.new sockets.new }
 {
     let Some(client) = sockets.clients.get_mut(id) else {
         return;
     };
+    read_end(
+        client,
+        &mut sockets.wire,
+        &mut sockets.rooms,
+        &mut sockets.tally,
+    );
+    feed_end(core, id, client, &mut sockets.rooms);
+}
+
+// One read of it, if it may give something, into room that is lent for that.
+fn read_end<W: Wire>(client: &mut Client, wire: &mut W, rooms: &mut Rooms, tally: &mut Tally)
+    ensures agrees { GoesOnAgreeing (W.history wire.old) (W.history wire.new) client.old client.new }
+    ensures elsewhere { TouchesOnly client.old.conn.number (W.history wire.old) (W.history wire.new) }
+    ensures number { client.new.conn.number ≡ client.old.conn.number }
+{
     if client.can_read() {
-        sockets.rooms.lend_input(&mut client.conn.held);
-        read_once(client, &mut sockets.wire, &mut sockets.tally);
+        rooms.lend_input(&mut client.conn.held);
+        read_once(client, wire, tally);
     }
+}
+
+// What it holds is given to the core, and the room that was lent comes back.
+fn feed_end(core: &mut ServedCore, id: usize, client: &mut Client, rooms: &mut Rooms)
+    ensures one { (h : List Event) → OneGoes IsOfTurn id core.old h client.old core.new h client.new }
+{
     feed_held(core, id, client);
-    sockets.rooms.take_input(&mut client.conn.held);
+    rooms.take_input(&mut client.conn.held);
 }
 
 // What can be done for the client is done.
@@ -151,7 +180,7 @@ fn poll_client<W: Wire, N: Net>(
     sockets: &mut Sockets<W>,
     id: usize,
 ) -> Result<Rest, AllocError>
-    ensures core { GoesOn core.old core.new }
+    ensures ends { AllGoOn W.history core.old sockets.old core.new sockets.new }
 {
     for _ in 0..sockets.polls() {
         if !sockets.may_go_on(id) {
@@ -168,7 +197,7 @@ fn poll_client<W: Wire, N: Net>(
 
 // Nobody waits behind a client that isn't polled until it has taken what it was sent.
 fn leave_line<W: Wire>(core: &mut ServedCore, sockets: &mut Sockets<W>, id: usize)
-    ensures core { GoesOn core.old core.new }
+    ensures ends { AllGoOn W.history core.old sockets.old core.new sockets.new }
 {
     if core.leave_line(id) {
         sockets.is_freed = true;
@@ -182,7 +211,7 @@ fn poll_once<W: Wire, N: Net>(
     sockets: &mut Sockets<W>,
     id: usize,
 ) -> Result<Rest, AllocError>
-    ensures core { GoesOn core.old core.new }
+    ensures ends { AllGoOn W.history core.old sockets.old core.new sockets.new }
 {
     match core.poll(id) {
         Ok(Polled::Call(ticket)) => {
@@ -214,19 +243,34 @@ fn poll_once<W: Wire, N: Net>(
 
 // A client that has ended, for which nothing is left to do and to send, is gone.
 fn close_client<W: Wire>(core: &mut ServedCore, sockets: &mut Sockets<W>, id: usize, rest: Rest)
-    ensures core { GoesOn core.old core.new }
+    ensures ends { AllGoOn W.history core.old sockets.old core.new sockets.new }
 {
-    let Some(client) = sockets.clients.get_mut(id) else {
+    if !is_over(core, sockets, id, rest) {
         return;
-    };
+    }
+    match core.close(id) {
+        Ok(()) => {
+            sockets.remove_client(id);
+            sockets.accepting = Accepting::Now;
+        }
+        Err(_) => {}
+    }
+}
+
+// Whether that is so of a client.
+fn is_over<W: Wire>(core: &ServedCore, sockets: &mut Sockets<W>, id: usize, rest: Rest) -> bool
+    ensures ends { Stay W.history sockets.old sockets.new }
+{
+    match sockets.clients.get_mut(id) {
+        Some(client) => is_done(core, id, client, rest),
+        None => false,
+    }
+}
+
+// Whether it is so of a client with this end.
+fn is_done(core: &ServedCore, id: usize, client: &Client, rest: Rest) -> bool {
     let is_ended = client.is_ended || core.is_closed(id);
     // Bytes that were left unread would take the last replies with them when the socket is closed.
     let is_read = client.is_ended || !client.conn.readable;
-    if rest != Rest::Idle || !is_ended || !is_read || !client.conn.unsent.is_empty() {
-        return;
-    }
-    if core.close(id).is_ok() {
-        sockets.remove_client(id);
-        sockets.accepting = Accepting::Now;
-    }
+    rest == Rest::Idle && is_ended && is_read && client.conn.unsent.is_empty()
 }

@@ -1,10 +1,15 @@
 //! What the core has for a client goes to its end, and the room for that comes and goes.
 
-ghost use Rattle.serve_links.specs.CoreSteps.{GoesOn};
+ghost use Rattle.std.specs.Prelude.{List};
+ghost use Rattle.serve_wire.specs.Events.{Event};
+ghost use Rattle.serve_links.specs.CoreSteps.{IsOfTurn};
+ghost use Rattle.serve_links.specs.Story.{OneGoes};
+ghost use Rattle.serve_proxy.specs.Ends.{Stay, AllGoOn};
 
 use crate::sockets::Sockets;
 use core_accepted::ServedCore;
 use core_proxy::CoreFault;
+use serve_clients::Client;
 use serve_links::{KEPT_ROOM, show};
 use serve_wire::Wire;
 use std::io;
@@ -16,25 +21,35 @@ pub fn show_client<W: Wire>(
     sockets: &mut Sockets<W>,
     id: usize,
 ) -> io::Result<()>
-    ensures core { GoesOn core.old core.new }
+    ensures ends { AllGoOn W.history core.old sockets.old core.new sockets.new }
 {
     let Some(client) = sockets.clients.get_mut(id) else {
         return Ok(());
     };
-    let shown = match show(core, id, client) {
+    let shown = show_end(core, id, client);
+    sockets.note_shown(id, shown)
+}
+
+// What the core has for the client goes after what is to be sent by its end: how many bytes that is. Where memory is refused for it, the
+// client is broken off.
+fn show_end(core: &mut ServedCore, id: usize, client: &mut Client) -> usize
+    ensures one { (h : List Event) → OneGoes IsOfTurn id core.old h client.old core.new h client.new }
+{
+    match show(core, id, client) {
         Ok(shown) => shown,
         Err(CoreFault::NoMemory) => {
             client.break_off();
-            return Ok(());
+            0
         }
-        Err(_) => return Ok(()),
-    };
-    sockets.note_shown(id, shown)
+        Err(_) => 0,
+    }
 }
 
 impl<W: Wire> Sockets<W> {
     // So many bytes more are to be sent to the client.
-    fn note_shown(&mut self, id: usize, count: usize) -> io::Result<()> {
+    fn note_shown(&mut self, id: usize, count: usize) -> io::Result<()>
+        ensures ends { Stay W.history self.old self.new }
+    {
         if count == 0 {
             return Ok(());
         }
@@ -50,7 +65,7 @@ pub fn lend_room<W: Wire>(
     sockets: &mut Sockets<W>,
     id: usize,
 ) -> io::Result<bool>
-    ensures core { GoesOn core.old core.new }
+    ensures ends { AllGoOn W.history core.old sockets.old core.new sockets.new }
 {
     if !sockets.rooms.has_spare() {
         return Ok(false);
@@ -76,11 +91,36 @@ fn exchange_room<W: Wire>(
     id: usize,
     buffer: SendBuffer,
 )
-    ensures core { GoesOn core.old core.new }
+    ensures ends { AllGoOn W.history core.old sockets.old core.new sockets.new }
 {
     let mut buffer = buffer;
-    let _ = core.move_output(id, &mut buffer);
+    exchange_at(core, sockets, id, &mut buffer);
     sockets.rooms.keep_spare(buffer, sockets.time);
+}
+
+// The same, but that what it wrote into so far is left in the buffer. Without its client's end the core keeps what it has.
+fn exchange_at<W: Wire>(
+    core: &mut ServedCore,
+    sockets: &mut Sockets<W>,
+    id: usize,
+    buffer: &mut SendBuffer,
+)
+    ensures ends { AllGoOn W.history core.old sockets.old core.new sockets.new }
+{
+    if let Some(client) = sockets.clients.get_mut(id) {
+        exchange_end(core, id, client, buffer);
+    }
+}
+
+// The same of its end. Where the core has something for the client after all, that is lost, and so the client is broken off.
+fn exchange_end(core: &mut ServedCore, id: usize, client: &mut Client, buffer: &mut SendBuffer)
+    ensures one { (h : List Event) → OneGoes IsOfTurn id core.old h client.old core.new h client.new }
+{
+    let _ = core.move_output(id, buffer);
+    if buffer.is_empty() {
+        return;
+    }
+    client.break_off();
 }
 
 /// What was done for the client is shown to it, and the core keeps no room that was lent.
@@ -90,7 +130,7 @@ pub fn show_lent<W: Wire>(
     id: usize,
     is_lent: bool,
 ) -> io::Result<()>
-    ensures core { GoesOn core.old core.new }
+    ensures ends { AllGoOn W.history core.old sockets.old core.new sockets.new }
 {
     show_client(core, sockets, id)?;
     end_lent(core, sockets, id, is_lent);
@@ -100,7 +140,7 @@ pub fn show_lent<W: Wire>(
 
 // The core gets other room for the client, if some was lent.
 fn end_lent<W: Wire>(core: &mut ServedCore, sockets: &mut Sockets<W>, id: usize, is_lent: bool)
-    ensures core { GoesOn core.old core.new }
+    ensures ends { AllGoOn W.history core.old sockets.old core.new sockets.new }
 {
     if is_lent {
         let buffer = SendBuffer::new(sockets.alloc);
@@ -115,7 +155,7 @@ pub fn take_rooms<W: Wire>(
     sockets: &mut Sockets<W>,
     id: usize,
 ) -> io::Result<()>
-    ensures core { GoesOn core.old core.new }
+    ensures ends { AllGoOn W.history core.old sockets.old core.new sockets.new }
 {
     sockets.take_room(id);
     show_client(core, sockets, id)?;
@@ -125,7 +165,7 @@ pub fn take_rooms<W: Wire>(
 
 /// Where nothing large came for a while, the room that was for it goes back, and so does what clients that wait for nothing have.
 pub fn give_back_room<W: Wire>(core: &mut ServedCore, sockets: &mut Sockets<W>) -> io::Result<()>
-    ensures core { GoesOn core.old core.new }
+    ensures ends { AllGoOn W.history core.old sockets.old core.new sockets.new }
 {
     if !sockets.rooms.are_due(sockets.time) {
         return Ok(());
@@ -139,7 +179,7 @@ pub fn give_back_room<W: Wire>(core: &mut ServedCore, sockets: &mut Sockets<W>) 
 
 // Room of all clients goes back. Whether something that one of them sent isn't done.
 fn give_back_clients<W: Wire>(core: &mut ServedCore, sockets: &mut Sockets<W>) -> io::Result<bool>
-    ensures core { GoesOn core.old core.new }
+    ensures ends { AllGoOn W.history core.old sockets.old core.new sockets.new }
 {
     let mut is_held = false;
     for id in 0..sockets.clients.len() {
@@ -157,7 +197,7 @@ fn give_back_client<W: Wire>(
     sockets: &mut Sockets<W>,
     id: usize,
 ) -> io::Result<bool>
-    ensures core { GoesOn core.old core.new }
+    ensures ends { AllGoOn W.history core.old sockets.old core.new sockets.new }
 {
     sockets.give_back_end(id);
     // What the core has for it, mostly room alone, goes to its end.

@@ -1,7 +1,8 @@
 //! What an end has besides its core: its wire, the ends of clients and links, and what it knows of them. Nothing here knows the core.
 
-ghost use Rattle.std.specs.Prelude.{◌≡◌, ◌↔◌, false, None, IfSome, IsTrue};
+ghost use Rattle.std.specs.Prelude.{◌≡◌, ◌↔◌, [], false, None, IfSome, IsTrue};
 ghost use Rattle.serve_wire.specs.Calls.{Closes};
+ghost use Rattle.serve_proxy.specs.Ends.{Stay};
 ghost use Rattle.serve_proxy.specs.Stillness.{HasNoWork, AreStill};
 
 use crate::accepting::Accepting;
@@ -49,7 +50,9 @@ pub fn close_if_any<W: Wire>(wire: &mut W, conn: Option<usize>)
 impl<W: Wire> Sockets<W> {
     /// No client is there yet, and no link has a connection.
     pub fn new(alloc: Global, wire: W, links: Links) -> Sockets<W>
-        ensures { result.links ≡ links }
+        ensures links { result.links ≡ links }
+        ensures none { result.clients.all.items ≡ [] }
+        ensures wire { result.wire ≡ wire }
     {
         Sockets {
             alloc,
@@ -105,13 +108,18 @@ impl<W: Wire> Sockets<W> {
     }
 
     // The clock is looked at.
-    fn look<C: Clock>(&mut self, clock: &C) -> io::Result<()> {
-        self.time = self.wire.millis(clock)?;
+    fn look<C: Clock>(&mut self, clock: &C) -> io::Result<()>
+        ensures ends { Stay W.history self.old self.new }
+    {
+        let time = self.wire.millis(clock)?;
+        self.time = time;
         Ok(())
     }
 
     /// How long may be waited, by the clock of now.
-    pub fn wait_limit<C: Clock>(&mut self, clock: &C) -> io::Result<Option<Duration>> {
+    pub fn wait_limit<C: Clock>(&mut self, clock: &C) -> io::Result<Option<Duration>>
+        ensures ends { Stay W.history self.old self.new }
+    {
         self.look(clock)?;
         if self.has_work() {
             return Ok(Some(Duration::from_millis(0)));
@@ -123,7 +131,9 @@ impl<W: Wire> Sockets<W> {
     }
 
     /// A wait until something is ready, and no longer than this. What is ready is noted.
-    pub fn wait<C: Clock>(&mut self, clock: &C, limit: Option<Duration>) -> io::Result<()> {
+    pub fn wait<C: Clock>(&mut self, clock: &C, limit: Option<Duration>) -> io::Result<()>
+        ensures ends { Stay W.history self.old self.new }
+    {
         let count = self.wire.wait(limit)?;
         for at in 0..count {
             if let Some(report) = self.wire.report(at) {
@@ -134,7 +144,9 @@ impl<W: Wire> Sockets<W> {
     }
 
     // What was told.
-    fn note(&mut self, report: Report) -> Result<(), AllocError> {
+    fn note(&mut self, report: Report) -> Result<(), AllocError>
+        ensures ends { Stay W.history self.old self.new }
+    {
         match report {
             Report::Listener => {
                 self.accepting = Accepting::Now;

@@ -1,8 +1,15 @@
-use Rattle.serve_links.proofs.Walked.{then}
+use Rattle.serve_proxy.proofs.Going.{still, and_then, stays}
+use Rattle.serve_proxy.proofs.Staying.{stay_links}
 use Rattle.serve_proxy.proofs.answers.read_links.Goals as goal
 
+pub loop-at-init : goal.loop-at-init
+loop-at-init g c = still
+
 pub loop-at-preserved : goal.loop-at-preserved
-loop-at-preserved g c = then c.loop-at.invariant c.serve_link.ensures.core
+loop-at-preserved g c = and_then (and_then c.loop-at.invariant (stays c.loop-at.core (stay_links _ _ _ _ c.end_ready.ensures.lines))) c.serve_link.ensures.ends
 
 pub returns-in_err-serve_link : goal.returns-in_err-serve_link
-returns-in_err-serve_link g c = record { core = then c.loop-at.invariant c.serve_link.ensures.core }
+returns-in_err-serve_link g c = record { ends = and_then (and_then c.loop-at.invariant (stays c.loop-at.core (stay_links _ _ _ _ c.end_ready.ensures.lines))) c.serve_link.ensures.ends }
+
+pub returns : goal.returns
+returns g c = record { ends = c.loop-at.invariant }

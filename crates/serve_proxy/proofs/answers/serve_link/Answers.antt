@@ -1,8 +1,18 @@
-use Rattle.serve_links.proofs.Walked.{failed, then}
+use Rattle.serve_proxy.proofs.Going.{and_then, failing, stays}
+use Rattle.serve_proxy.proofs.Staying.{stay_links}
 use Rattle.serve_proxy.proofs.answers.serve_link.Goals as goal
 
+pub returns-in_err-cause : goal.returns-in_err-cause
+returns-in_err-cause g c = record { ends = c.read_link.ensures.ends }
+
 pub returns-in_err-fail_link : goal.returns-in_err-fail_link
-returns-in_err-fail_link g c = record { core = then c.read_link.ensures.core (failed c.fail_link.ensures.core) }
+returns-in_err-fail_link g c = record { ends = and_then c.read_link.ensures.ends (failing c.fail_link.ensures.ends) }
 
 pub returns-in-Some : goal.returns-in-Some
-returns-in-Some g c = record { core = then c.read_link.ensures.core (failed c.fail_link.ensures.core) }
+returns-in-Some g c = record { ends = and_then c.read_link.ensures.ends (failing c.fail_link.ensures.ends) }
+
+pub returns-in_err-mark_rest : goal.returns-in_err-mark_rest
+returns-in_err-mark_rest g c = record { ends = and_then c.read_link.ensures.ends (stays c.read_link.new.core (stay_links _ _ _ _ c.mark_rest.ensures.lines)) }
+
+pub returns : goal.returns
+returns g c = record { ends = and_then c.read_link.ensures.ends (stays c.read_link.new.core (stay_links _ _ _ _ c.mark_rest.ensures.lines)) }

@@ -1,11 +1,17 @@
-use Rattle.serve_links.proofs.Walked.{then}
+use Rattle.serve_proxy.proofs.Going.{still, and_then}
 use Rattle.serve_proxy.proofs.calls.begin_waiting.Goals as goal
 
+pub loop-init : goal.loop-init
+loop-init g c = still
+
 pub loop-preserved : goal.loop-preserved
-loop-preserved g c = then c.loop.invariant c.begin_next.ensures.core
+loop-preserved g c = and_then c.loop.invariant c.begin_next.ensures.ends
 
 pub returns-in_err-begin_next : goal.returns-in_err-begin_next
-returns-in_err-begin_next g c = record { core = then c.loop.invariant c.begin_next.ensures.core }
+returns-in_err-begin_next g c = record { ends = and_then c.loop.invariant c.begin_next.ensures.ends }
 
 pub returns-then-not-branch : goal.returns-then-not-branch
-returns-then-not-branch g c = record { core = then c.loop.invariant c.begin_next.ensures.core }
+returns-then-not-branch g c = record { ends = and_then c.loop.invariant c.begin_next.ensures.ends }
+
+pub returns : goal.returns
+returns g c = record { ends = c.loop.invariant }

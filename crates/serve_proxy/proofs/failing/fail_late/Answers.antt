@@ -1,8 +1,18 @@
-use Rattle.serve_links.proofs.Walked.{then}
+use Rattle.serve_proxy.proofs.Going.{still, and_then, stays}
+use Rattle.serve_proxy.proofs.Staying.{stay_links}
 use Rattle.serve_proxy.proofs.failing.fail_late.Goals as goal
 
+pub returns-then-not-may_be_late : goal.returns-then-not-may_be_late
+returns-then-not-may_be_late g c = record { ends = still }
+
+pub loop-at-init : goal.loop-at-init
+loop-at-init g c = still
+
 pub loop-at-preserved : goal.loop-at-preserved
-loop-at-preserved g c = then c.loop-at.invariant c.fail_if_late.ensures.core
+loop-at-preserved g c = and_then c.loop-at.invariant c.fail_if_late.ensures.ends
 
 pub returns-in_err-fail_if_late : goal.returns-in_err-fail_if_late
-returns-in_err-fail_if_late g c = record { core = then c.loop-at.invariant c.fail_if_late.ensures.core }
+returns-in_err-fail_if_late g c = record { ends = and_then c.loop-at.invariant c.fail_if_late.ensures.ends }
+
+pub returns : goal.returns
+returns g c = record { ends = and_then c.loop-at.invariant (stays c.loop-at.core (stay_links _ _ _ _ c.note_limits.ensures.lines)) }

@@ -1,8 +1,16 @@
-use Rattle.serve_links.proofs.Walked.{then}
+use Rattle.std.proofs.Common.{refl}
+use Rattle.serve_proxy.proofs.Staying.{stay_clients}
+use Rattle.serve_proxy.proofs.Going.{and_then, stays}
 use Rattle.serve_proxy.proofs.sending.send_clients.Goals as goal
 
+pub loop-id-init : goal.loop-id-init
+loop-id-init g c = stays c.args.core.now (stay_clients _ _ _ _ (λ j. refl))
+
 pub loop-id-preserved : goal.loop-id-preserved
-loop-id-preserved g c = then c.loop-id.invariant c.send_client.ensures.core
+loop-id-preserved g c = and_then c.loop-id.invariant c.send_client.ensures.ends
 
 pub returns-in_err-send_client : goal.returns-in_err-send_client
-returns-in_err-send_client g c = record { core = then c.loop-id.invariant c.send_client.ensures.core }
+returns-in_err-send_client g c = record { ends = and_then c.loop-id.invariant c.send_client.ensures.ends }
+
+pub returns : goal.returns
+returns g c = record { ends = c.loop-id.invariant }

@@ -1,5 +1,5 @@
-use Rattle.serve_links.specs.CoreSteps.{Fails}
+use Rattle.serve_proxy.specs.Ends.{AllFailOn}
 use Rattle.serve_proxy.proofs.sending.send_link.Given as goal
 
 abbrev pub invariant-loop : goal.invariant-loop
-invariant-loop g l = Fails l.fn.core l.core
+invariant-loop g l = AllFailOn g.W.Wire.history l.fn.core l.fn.sockets l.core l.sockets

@@ -1,14 +1,20 @@
-use Rattle.serve_links.proofs.Walked.{then}
+use Rattle.serve_proxy.proofs.Going.{still, and_then, stays}
 use Rattle.serve_proxy.proofs.serving.poll_client.Goals as goal
 
+pub loop-init : goal.loop-init
+loop-init g c = still
+
 pub returns-in_err-rest : goal.returns-in_err-rest
-returns-in_err-rest g c = record { core = then c.loop.invariant c.poll_once.ensures.core }
+returns-in_err-rest g c = record { ends = and_then (and_then c.loop.invariant (stays c.loop.core c.may_go_on.ensures.ends)) c.poll_once.ensures.ends }
 
 pub loop-preserved : goal.loop-preserved
-loop-preserved g c = then c.loop.invariant c.poll_once.ensures.core
+loop-preserved g c = and_then (and_then c.loop.invariant (stays c.loop.core c.may_go_on.ensures.ends)) c.poll_once.ensures.ends
 
 pub returns-then-not-may_go_on : goal.returns-then-not-may_go_on
-returns-then-not-may_go_on g c = record { core = then c.loop.invariant c.leave_line.ensures.core }
+returns-then-not-may_go_on g c = record { ends = and_then (and_then c.loop.invariant (stays c.loop.core c.may_go_on.ensures.ends)) c.leave_line.ensures.ends }
 
 pub returns-in_default : goal.returns-in_default
-returns-in_default g c = record { core = then c.loop.invariant c.poll_once.ensures.core }
+returns-in_default g c = record { ends = and_then (and_then c.loop.invariant (stays c.loop.core c.may_go_on.ensures.ends)) c.poll_once.ensures.ends }
+
+pub returns : goal.returns
+returns g c = record { ends = c.loop.invariant }

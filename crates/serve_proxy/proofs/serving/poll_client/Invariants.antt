@@ -1,5 +1,5 @@
-use Rattle.serve_links.specs.CoreSteps.{GoesOn}
+use Rattle.serve_proxy.specs.Ends.{AllGoOn}
 use Rattle.serve_proxy.proofs.serving.poll_client.Given as goal
 
 abbrev pub invariant-loop : goal.invariant-loop
-invariant-loop g l = GoesOn l.fn.core l.core
+invariant-loop g l = AllGoOn g.W.Wire.history l.fn.core l.fn.sockets l.core l.sockets

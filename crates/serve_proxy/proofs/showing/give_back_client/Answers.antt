@@ -1,5 +1,8 @@
-use Rattle.serve_links.proofs.Walked.{to}
+use Rattle.serve_proxy.proofs.Going.{and_then, stays, same_core}
 use Rattle.serve_proxy.proofs.showing.give_back_client.Goals as goal
 
+pub returns-in_err-show_client : goal.returns-in_err-show_client
+returns-in_err-show_client g c = record { ends = and_then (stays c.args.core.now c.give_back_end.ensures.ends) c.show_client.ensures.ends }
+
 pub returns : goal.returns
-returns g c = record { core = to c.show_client.ensures.core c.give_back_room.ensures.same }
+returns g c = record { ends = and_then (and_then (and_then (stays c.args.core.now c.give_back_end.ensures.ends) c.show_client.ensures.ends) (stays c.show_client.new.core c.give_back_end-2.ensures.ends)) (same_core c.give_back_room.ensures.same) }

@@ -1,8 +1,14 @@
-use Rattle.serve_links.proofs.Walked.{then}
+use Rattle.serve_proxy.proofs.Going.{still, and_then}
 use Rattle.serve_proxy.proofs.showing.give_back_clients.Goals as goal
 
+pub loop-id-init : goal.loop-id-init
+loop-id-init g c = still
+
 pub loop-id-preserved : goal.loop-id-preserved
-loop-id-preserved g c = then c.loop-id.invariant c.give_back_client.ensures.core
+loop-id-preserved g c = and_then c.loop-id.invariant c.give_back_client.ensures.ends
 
 pub returns-in_err-give_back_client : goal.returns-in_err-give_back_client
-returns-in_err-give_back_client g c = record { core = then c.loop-id.invariant c.give_back_client.ensures.core }
+returns-in_err-give_back_client g c = record { ends = and_then c.loop-id.invariant c.give_back_client.ensures.ends }
+
+pub returns : goal.returns
+returns g c = record { ends = c.loop-id.invariant }

@@ -1,8 +1,12 @@
 use Rattle.std.proofs.Common.{◌++◌, drop, length, refl}
 use Rattle.serve_proxy.specs.Texts.{texts_of}
+use Rattle.serve_proxy.proofs.Growing.{adds_none, adds_twice}
 use Rattle.serve_proxy.proofs.LinkTexts.{text_added, text_there}
 use Rattle.serve_proxy.proofs.links.Links.add.Goals.{in-Some+in_ok-add_one, in_default}
 use Rattle.serve_proxy.proofs.links.Links.add.Goals as goal
+
+pub loop-at-init : goal.loop-at-init
+loop-at-init c = record { texts = refl; adds = adds_none _ _ refl }
 
 pub loop-at-preserved : goal.loop-at-preserved
 loop-at-preserved c =
@@ -11,6 +15,15 @@ loop-at-preserved c =
     let all = texts_of c.args.self.now.all.items ++ drop (length c.args.self.now.all.items) servers in
     elim c.match-text_at.branch [
       | in-Some+in_ok-add_one w ↦
-          rw w.self-is (text_added servers texts (texts_of w.add_one.new.self.all.items) all c.loop-at.at w.in-Some.text.now w.in-Some.ensures.some w.in_ok-add_one.ensures c.loop-at.invariant)
+          rw w.self-is (record {
+            texts = text_added servers texts (texts_of w.add_one.new.self.all.items) all c.loop-at.at w.in-Some.text.now w.in-Some.ensures.some w.in_ok-add_one.ensures.texts c.loop-at.invariant.texts;
+            adds = adds_twice c.args.self.now.all.items c.loop-at.self.all.items w.add_one.new.self.all.items c.loop-at.invariant.adds w.add_one.ensures.adds;
+          })
       | in_default w ↦ absurd (text_there servers c.loop-at.at (rw c.len-at-end.ensures.len at c.loop-at-test.true) (w.in_default.ensures.none refl))
     ]
+
+pub returns-in_err-add_one : goal.returns-in_err-add_one
+returns-in_err-add_one c = record { adds = adds_twice c.args.self.now.all.items c.loop-at.self.all.items c.add_one.new.self.all.items c.loop-at.invariant.adds c.add_one.ensures.adds }
+
+pub returns-clause-adds : goal.returns-clause-adds
+returns-clause-adds c = c.loop-at.invariant.adds

@@ -1,0 +1,435 @@
+-- How the ends of a proxy go on, by what is done to one of them or by calls of the core alone.
+use Rattle.std.proofs.Common.{◌≡◌, ◌≢◌, ◌⊎◌, inl, inr, ℕ, zero, suc, ◌<◌, Bool, true, false, if◌then◌else◌, List, [], ◌∷◌, ◌++◌, length, get_or, Option, Some, None, Result, Ok, Err, refl, sym, ap, ◌∙◌, subst, append_assoc, append-nil, arith}
+use Rattle.std.proofs.Math.ListN.{set}
+use Rattle.std.proofs.lemmas.Bool.{cases_eq, cases_Bool, eq-eqb, eqb-true}
+use Rattle.std.proofs.lemmas.Option.{slice_get_read}
+use Rattle.std.specs.Prelude.{slice_get, slice_set, nat_eq, IfSome, IfOk, IfErr, OnOk, OnErr, map as each}
+use Rattle.std.specs.Option.{option_map}
+use Rattle.fresh_runs.specs.Overlap as log
+use Rattle.wire_parts.specs.Sending.{bytes_of}
+use Rattle.serve_wire.specs.Events.{Event, role, delivered, taken}
+use Rattle.serve_wire.specs.Agreement.{ClientAgrees, ClientLost, TouchesOnly, IsUntouched}
+use Rattle.serve_wire.specs.Calls.{Closes}
+use Rattle.serve_wire.proofs.Steps.{untouched, only_twice}
+use Rattle.serve_wire.specs.declared.conn.conn.Conn.{Conn}
+use Rattle.core_proxy.specs.declared.fault.CoreFault.{CoreFault}
+use Rattle.core_proxy.specs.declared.note.Poll.{Poll}
+use Rattle.core_proxy.specs.Faults.{CanClose, OpenFault, OutputFault, CloseFault}
+use Rattle.core_proxy.specs.CoreState.{Gives, Closes as ClosesIn, LeavesLine, client_at, output_by}
+use Rattle.core_proxy.specs.Polls.{Polls, PollFault, Then, Perhaps, BeginsOne, IsPolled}
+use Rattle.core_accepted.specs.Logs.{LogsGoBy}
+use Rattle.core_accepted.specs.Results.{PollStops}
+use Rattle.core_accepted.specs.declared.served.ServedCore.{ServedCore}
+use Rattle.serve_clients.specs.declared.clients.Client.{Client}
+use Rattle.serve_clients.specs.declared.clients.Clients.{Clients}
+use Rattle.serve_clients.specs.Marks.{client_of}
+use Rattle.serve_clients.specs.Agrees.{said_of, Breaks, StateAgrees, EndAgrees, GoesOnAgreeing, AllAgree, KeepsEnds}
+use Rattle.serve_clients.specs.Lending.{with_client}
+use Rattle.serve_clients.proofs.Agreeing.{its, state_stays, agree_still}
+use Rattle.serve_links.specs.declared.link.Link.{Link}
+use Rattle.serve_links.specs.CoreSteps.{Step, Opened, NotOpened, Fed, Polled, Stopped, Settled, Gave, Closed, LeftLine, Loaded, Does, Walks, AreOf, GoesBy, IsOfTurn, IsSettlement, IsFailure, GoesOn, Fails}
+use Rattle.serve_links.specs.Pieces.{KeepsAllButHeld, FeedsHeld}
+use Rattle.serve_links.specs.Story.{fed_in, gave_in, AgreesWith, TellsNone, HasOrHad, LineAgrees, LinesAgree, OneGoes, LineGoes, AnEnd, Agrees, AllGo, texts_of}
+use Rattle.serve_links.proofs.Reading.{breaks_now}
+use Rattle.serve_links.proofs.Story.{same_told, had_stays, one_of_all, line_of_all, line_stays, all_still, all_then}
+use Rattle.serve_links.proofs.Walked.{failed, walked, of_both}
+use Rattle.serve_proxy.specs.Ends.{line_of, lines_of, EndsStay, EndsGo, EndGoes, LineStands}
+use Rattle.serve_proxy.proofs.Staying.{line_same}
+use Rattle.serve_proxy.proofs.Lent.{lent_here, lent_others}
+
+-- ---- all ends, one after another
+
+pub still : {Is : Step → Type 0} {a : AnEnd} → AllGo Is a a
+still {Is} {a} = all_still a a refl
+
+pub and_then : {Is : Step → Type 0} {a b c : AnEnd} → AllGo Is a b → AllGo Is b c → AllGo Is a c
+and_then {Is} {a} {b} {c} g k = all_then a b c g k
+
+pub core_of : {Is : Step → Type 0} {a b : AnEnd} → AllGo Is a b → GoesBy Is a.core b.core
+core_of g = record { steps = g.steps; kinds = g.kinds; walks = g.walks }
+
+-- ---- what stays
+
+same_some : {A : Type 0} {x y : A} → Some x ≡ Some y → x ≡ y
+same_some e = cc
+
+none_some : {A : Type 0} {x : A} → None ≡ Some x → ⊥
+none_some e = cc
+
+pub get_line : (links : List Link) (at : ℕ) → option_map line_of (slice_get links at) ≡ slice_get (lines_of links) at
+get_line [] at = refl
+get_line (link ∷ links) zero = refl
+get_line (link ∷ links) (suc at) = get_line links at
+
+pub texts_by_lines : (links : List Link) → each (λ (p : List ℕ × Option ℕ). p.0) (lines_of links) ≡ texts_of links
+texts_by_lines [] = refl
+texts_by_lines (link ∷ links) = ap (λ l. link.text.items ∷ l) (texts_by_lines links)
+
+same_texts : (ls ls' : List Link) → lines_of ls' ≡ lines_of ls → texts_of ls' ≡ texts_of ls
+same_texts ls ls' same = sym (texts_by_lines ls') ∙ ap (each (λ (p : List ℕ × Option ℕ). p.0)) same ∙ texts_by_lines ls
+
+lines_stay : (h h' : List Event) (ls ls' : List Link) → ((d : ℕ) → IsUntouched d h h') → lines_of ls' ≡ lines_of ls → LinesAgree h ls → LinesAgree h' ls'
+lines_stay h h' ls ls' quiet same was at link there = by (slice_get ls at) refl (get_line ls at ∙ ap (λ l. slice_get l at) (sym same) ∙ sym (get_line ls' at) ∙ ap (option_map line_of) there)
+  where
+    by : (o : Option Link) → slice_get ls at ≡ o → option_map line_of o ≡ Some (line_of link) → LineAgrees h' at link
+    by None e l = absurd (none_some l)
+    by (Some x) e l = line_stays h h' at link (λ conn is. quiet conn.number) (line_same h at x link (sym (same_some l)) (was at x e))
+
+clients_quiet : (h h' : List Event) (input output : ℕ → List ℕ) (cs : Clients) → ((d : ℕ) → IsUntouched d h h') → AllAgree h input output cs → AllAgree h' input output cs
+clients_quiet h h' input output cs quiet was id = by (client_of cs id) (was id)
+  where
+    by : (o : Option Client) → IfSome o (EndAgrees h input output id) → IfSome o (EndAgrees h' input output id)
+    by None a = tt
+    by (Some x) a = state_stays h h' input output id x.conn.number x.conn.held.items (bytes_of x.conn.unsent) x.is_broken x.is_ended (quiet x.conn.number) a
+
+-- the numbers of ends that are as they were
+numbers_kept : (o o' : Option Client) → option_map said_of o' ≡ option_map said_of o → option_map (λ (x : Client). x.conn.number) o' ≡ option_map (λ (x : Client). x.conn.number) o
+numbers_kept None None e = refl
+numbers_kept (Some x) None e = absurd (none_some e)
+numbers_kept None (Some y) e = absurd (none_some (sym e))
+numbers_kept (Some x) (Some y) e = ap (λ (s : ℕ × List ℕ × List ℕ × Bool × Bool). Some s.0) (same_some e)
+
+-- what is known of a connection that nothing touched
+pub had_quiet :
+    (past steps : List Step) (h h' : List Event) (cs cs' : Clients) (id conn : ℕ) → IsUntouched conn h h' → option_map (λ (x : Client). x.conn.number) (client_of cs' id) ≡ option_map (λ (x : Client). x.conn.number) (client_of cs id)
+    → role conn h' ≡ Some (0, id) → ((d j : ℕ) → role d h ≡ Some (0, j) → HasOrHad past h cs j d) → HasOrHad (steps ++ past) h' cs' id conn
+had_quiet past steps h h' cs cs' id conn same ends is was = had_stays past steps h h' cs cs' id conn (same_told conn h h' same) ends (was conn id (sym same.same_role ∙ is))
+
+pub stays :
+    {Is : Step → Type 0} {h h' : List Event} {cs cs' : Clients} {ls ls' : List Link} (core : ServedCore) → EndsStay h h' cs cs' ls ls'
+    → AllGo Is (record { core = core; history = h; clients = cs; links = ls }) (record { core = core; history = h'; clients = cs'; links = ls' })
+stays {Is} {h} {h'} {cs} {cs'} {ls} {ls'} core s =
+    record {
+      steps = [];
+      kinds = tt;
+      walks = refl;
+      agree = λ past a. record {
+        clients = clients_quiet h h' (fed_in past) (gave_in past) cs' s.quiet (agree_still h (fed_in past) (gave_in past) cs cs' s.clients a.clients);
+        links = lines_stay h h' ls ls' s.quiet s.links a.links;
+        gone = λ conn id is. had_quiet past [] h h' cs cs' id conn (s.quiet conn) (numbers_kept (client_of cs id) (client_of cs' id) (s.clients id)) is a.gone;
+      };
+      texts = same_texts ls ls' s.links;
+    }
+
+pub stay_go : {h h' : List Event} {cs cs' : Clients} {ls ls' : List Link} → EndsStay h h' cs cs' ls ls' → EndsGo h h' cs cs' ls ls'
+stay_go s = λ core. stays core s
+
+pub go_then : {h h' h'' : List Event} {cs cs' cs'' : Clients} {ls ls' ls'' : List Link} → EndsGo h h' cs cs' ls ls' → EndsGo h' h'' cs' cs'' ls' ls'' → EndsGo h h'' cs cs'' ls ls''
+go_then a b = λ core. and_then (a core) (b core)
+
+pub go_stay : {h h' h'' : List Event} {cs cs' cs'' : Clients} {ls ls' ls'' : List Link} → EndsGo h h' cs cs' ls ls' → EndsStay h' h'' cs' cs'' ls' ls'' → EndsGo h h'' cs cs'' ls ls''
+go_stay a s = λ core. and_then (a core) (stays core s)
+
+-- ---- one link among all
+
+set_here : {A : Type 0} (xs : List A) (i : ℕ) (x : A) → i < length xs → slice_get (set xs i x) i ≡ Some x
+set_here [] i x within = absurd (omega arith)
+set_here (y ∷ xs) zero x within = refl
+set_here (y ∷ xs) (suc i) x within = set_here xs i x (omega arith)
+
+set_others : {A : Type 0} (xs : List A) (i k : ℕ) (x : A) → k ≢ i → slice_get (set xs i x) k ≡ slice_get xs k
+set_others [] i k x other = refl
+set_others (y ∷ xs) zero zero x other = absurd (other refl)
+set_others (y ∷ xs) zero (suc k) x other = refl
+set_others (y ∷ xs) (suc i) zero x other = refl
+set_others (y ∷ xs) (suc i) (suc k) x other = set_others xs i k x (λ e. other (ap suc e))
+
+text_set : (links : List Link) (at : ℕ) (x y : Link) → x ≡ get_or links at x → y.text ≡ x.text → texts_of (set links at y) ≡ texts_of links
+text_set [] at x y was same = refl
+text_set (first ∷ links) zero x y was same = ap (λ t. t ∷ texts_of links) (ap (λ t. t.items) same ∙ ap (λ (z : Link). z.text.items) was)
+text_set (first ∷ links) (suc at) x y was same = ap (λ ts. first.text.items ∷ ts) (text_set links at x y was same)
+
+true_false : true ≡ false → ⊥
+true_false e = cc
+
+pub not_same : (i j : ℕ) → nat_eq i j ≡ false → j ≢ i
+not_same i j other e = true_false (sym (eq-eqb i j (sym e)) ∙ other)
+
+-- calls of a core that tell nothing of clients
+abbrev pub IsSilent : Step → Type 0
+IsSilent (NotOpened fault) = Unit {0}
+IsSilent (Polled client poll) = Unit {0}
+IsSilent (Stopped client fault) = Unit {0}
+IsSilent (Settled number outcome) = Unit {0}
+IsSilent (Closed client) = Unit {0}
+IsSilent (LeftLine client) = Unit {0}
+IsSilent (Opened client) = ⊥
+IsSilent (Fed client piece) = ⊥
+IsSilent (Gave client bytes) = ⊥
+IsSilent (Loaded configuration generation) = ⊥
+
+pub tells_none : (steps : List Step) → AreOf IsSilent steps → (past : List Step) (j : ℕ) → TellsNone j past steps
+tells_none [] kinds past j = (refl, refl)
+tells_none (NotOpened fault ∷ steps) kinds past j = tells_none steps kinds.1 past j
+tells_none (Polled client poll ∷ steps) kinds past j = tells_none steps kinds.1 past j
+tells_none (Stopped client fault ∷ steps) kinds past j = tells_none steps kinds.1 past j
+tells_none (Settled number outcome ∷ steps) kinds past j = tells_none steps kinds.1 past j
+tells_none (Closed client ∷ steps) kinds past j = tells_none steps kinds.1 past j
+tells_none (LeftLine client ∷ steps) kinds past j = tells_none steps kinds.1 past j
+tells_none (Opened client ∷ steps) kinds past j = absurd kinds.0
+tells_none (Fed client piece ∷ steps) kinds past j = absurd kinds.0
+tells_none (Gave client bytes ∷ steps) kinds past j = absurd kinds.0
+tells_none (Loaded configuration generation ∷ steps) kinds past j = absurd kinds.0
+
+pub silent_turn : (steps : List Step) → AreOf IsSilent steps → AreOf IsOfTurn steps
+silent_turn [] kinds = tt
+silent_turn (step ∷ steps) kinds = (of_turn step kinds.0, silent_turn steps kinds.1)
+  where
+    of_turn : (s : Step) → IsSilent s → IsOfTurn s
+    of_turn (NotOpened fault) is = tt
+    of_turn (Polled client poll) is = tt
+    of_turn (Stopped client fault) is = tt
+    of_turn (Settled number outcome) is = tt
+    of_turn (Closed client) is = tt
+    of_turn (LeftLine client) is = tt
+    of_turn (Opened client) is = tt
+    of_turn (Fed client piece) is = tt
+    of_turn (Gave client bytes) is = tt
+    of_turn (Loaded configuration generation) is = is
+
+fails_silent : (steps : List Step) → AreOf IsFailure steps → AreOf IsSilent steps
+fails_silent [] kinds = tt
+fails_silent (step ∷ steps) kinds = (silent step kinds.0, fails_silent steps kinds.1)
+  where
+    silent : (s : Step) → IsFailure s → IsSilent s
+    silent (Settled number outcome) is = tt
+    silent (NotOpened fault) is = tt
+    silent (Polled client poll) is = tt
+    silent (Stopped client fault) is = tt
+    silent (Closed client) is = tt
+    silent (LeftLine client) is = tt
+    silent (Opened client) is = is
+    silent (Fed client piece) is = is
+    silent (Gave client bytes) is = is
+    silent (Loaded configuration generation) is = is
+
+-- what fails goes on
+pub failing : {a b : AnEnd} → AllGo IsFailure a b → AllGo IsOfTurn a b
+failing g = record { steps = g.steps; kinds = silent_turn g.steps (fails_silent g.steps g.kinds); walks = g.walks; agree = g.agree; texts = g.texts }
+
+pub agree_told : (h : List Event) (input output input' output' : ℕ → List ℕ) (cs : Clients) → ((j : ℕ) → (input' j ≡ input j) × (output' j ≡ output j)) → AllAgree h input output cs → AllAgree h input' output' cs
+agree_told h input output input' output' cs told was id = by (client_of cs id) (was id)
+  where
+    by : (o : Option Client) → IfSome o (EndAgrees h input output id) → IfSome o (EndAgrees h input' output' id)
+    by None a = tt
+    by (Some x) a =
+        let t = told id in
+        record {
+          stands = λ is. let w = a.stands is in record { is_its = w.is_its; input_is = w.input_is ∙ ap (λ l. l ++ x.conn.held.items) (sym t.0); output_is = t.1 ∙ w.output_is };
+          lost = λ is. let w = a.lost is in record { is_its = w.is_its; unread = w.unread; input_is = w.input_is ∙ ap (λ l. l ++ w.unread) (sym t.0); unsent = w.unsent; output_is = t.1 ∙ w.output_is };
+          ended = a.ended;
+        }
+
+-- calls of the core alone, of which clients are told nothing
+calls_go :
+    {Is : Step → Type 0} {h : List Event} {cs : Clients} {ls : List Link} (a b : ServedCore) (steps : List Step) → AreOf Is steps → AreOf IsSilent steps → Walks steps a b
+    → AllGo Is (record { core = a; history = h; clients = cs; links = ls }) (record { core = b; history = h; clients = cs; links = ls })
+calls_go {Is} {h} {cs} {ls} a b steps kinds silent walks =
+    record { steps = steps; kinds = kinds; walks = walks; agree = λ past was. record { clients = agree_told h (fed_in past) (gave_in past) (fed_in (steps ++ past)) (gave_in (steps ++ past)) cs (tells_none steps silent past) was.clients; links = was.links; gone = λ conn id is. had_quiet past steps h h cs cs id conn (untouched conn h) refl is was.gone }; texts = refl }
+
+pub fails_go : {h : List Event} {cs : Clients} {ls : List Link} {a b : ServedCore} → Fails a b → AllGo IsFailure (record { core = a; history = h; clients = cs; links = ls }) (record { core = b; history = h; clients = cs; links = ls })
+fails_go {a = a} {b = b} f = calls_go a b f.steps f.kinds (fails_silent f.steps f.kinds) f.walks
+
+pub quietly_go : {h : List Event} {cs : Clients} {ls : List Link} {a b : ServedCore} → GoesBy IsSilent a b → AllGo IsOfTurn (record { core = a; history = h; clients = cs; links = ls }) (record { core = b; history = h; clients = cs; links = ls })
+quietly_go {a = a} {b = b} f = calls_go a b f.steps (silent_turn f.steps f.kinds) f.kinds f.walks
+
+settlements_silent : (steps : List Step) → AreOf IsSettlement steps → AreOf IsSilent steps
+settlements_silent [] kinds = tt
+settlements_silent (step ∷ steps) kinds = (silent step kinds.0, settlements_silent steps kinds.1)
+  where
+    silent : (s : Step) → IsSettlement s → IsSilent s
+    silent (Settled number outcome) is = tt
+    silent (NotOpened fault) is = tt
+    silent (Polled client poll) is = tt
+    silent (Stopped client fault) is = tt
+    silent (Closed client) is = tt
+    silent (LeftLine client) is = tt
+    silent (Opened client) is = is
+    silent (Fed client piece) is = is
+    silent (Gave client bytes) is = is
+    silent (Loaded configuration generation) is = is
+
+pub settles_go : {h : List Event} {cs : Clients} {ls : List Link} {a b : ServedCore} → GoesBy IsSettlement a b → AllGo IsOfTurn (record { core = a; history = h; clients = cs; links = ls }) (record { core = b; history = h; clients = cs; links = ls })
+settles_go f = quietly_go (record { steps = f.steps; kinds = settlements_silent f.steps f.kinds; walks = f.walks })
+
+pub nothing : {a : ServedCore} → GoesBy IsSilent a a
+nothing = record { steps = []; kinds = tt; walks = refl }
+
+-- a core that is the same
+pub same_core : {Is : Step → Type 0} {h : List Event} {cs : Clients} {ls : List Link} {a b : ServedCore} → b ≡ a → AllGo Is (record { core = a; history = h; clients = cs; links = ls }) (record { core = b; history = h; clients = cs; links = ls })
+same_core {a = a} {b = b} same = calls_go a b [] tt tt same
+
+pub go_from :
+    {Is : Step → Type 0} {h : List Event} {cs : Clients} {ls : List Link} {a x : ServedCore} {b : AnEnd} → x ≡ a → AllGo Is (record { core = x; history = h; clients = cs; links = ls }) b
+    → AllGo Is (record { core = a; history = h; clients = cs; links = ls }) b
+go_from {Is} {h} {cs} {ls} {a} {x} {b} same g = subst (λ y. AllGo Is (record { core = y; history = h; clients = cs; links = ls }) b) same g
+
+by_one : (step : Step) (a b : ServedCore) → IsSilent step → Does step a b → GoesBy IsSilent a b
+by_one step a b is does = record { steps = step ∷ []; kinds = (is, tt); walks = (a, refl, does) }
+
+pub by_poll :
+    (client : ℕ) (r : Result Poll CoreFault) (a b : ServedCore) → IfOk r (λ poll. Polls a.core client poll b.core) → IfErr r (λ fault. PollFault a.core client fault b.core)
+    → IfOk r (λ poll. LogsGoBy a (Then (Perhaps (BeginsOne client)) (IsPolled client poll)) b) → IfErr r (λ fault. PollStops a client fault b) → GoesBy IsSilent a b
+by_poll client (Ok poll) a b ok err fresh stops = by_one (Polled client poll) a b tt (ok, fresh)
+by_poll client (Err fault) a b ok err fresh stops = by_one (Stopped client fault) a b tt (err, stops)
+
+pub by_leave : (client : ℕ) (a b : ServedCore) → LeavesLine a.core client b.core → LogsGoBy a (λ entries. entries ≡ []) b → GoesBy IsSilent a b
+by_leave client a b left fresh = by_one (LeftLine client) a b tt (left, fresh)
+
+pub by_close :
+    (client : ℕ) (r : Result (Unit {0}) CoreFault) (a b : ServedCore) → OnOk r (CanClose a.core client × ClosesIn a.core client b.core)
+    → IfErr r (λ fault. CloseFault a.core client fault × (b ≡ a)) → OnOk r (LogsGoBy a (λ entries. entries ≡ log.Resets client ∷ []) b) → GoesBy IsSilent a b
+by_close client (Ok done) a b ok err fresh = by_one (Closed client) a b tt (ok.0, ok.1, fresh)
+by_close client (Err fault) a b ok err fresh = record { steps = []; kinds = tt; walks = err.1 }
+
+pub by_not_opened : (fault : CoreFault) (a b : ServedCore) → OpenFault a.core fault b.core → LogsGoBy a (λ entries. entries ≡ []) b → GoesBy IsSilent a b
+by_not_opened fault a b err fresh = by_one (NotOpened fault) a b tt (err, fresh)
+
+-- one link's end goes on, while calls fail
+pub line_fails :
+    {h h' : List Event} {cs : Clients} {a b : ServedCore} (links : List Link) (at : ℕ) (x y : Link) → at < length links → x ≡ get_or links at x → Fails a b → LineStands at h h' x y
+    → AllGo IsFailure (record { core = a; history = h; clients = cs; links = links }) (record { core = b; history = h'; clients = cs; links = set links at y })
+line_fails {h} {h'} {cs} {a} {b} links at x y within was f s =
+    line_of_all at (record { core = a; history = h; clients = cs; links = links }) (record { core = b; history = h'; clients = cs; links = set links at y })
+    x y (slice_get_read links (length links) at x refl within was) (set_here links at y within) (λ j other. set_others links at j y (not_same at j other)) (text_set links at x y was s.text) (λ j. refl)
+    (record { steps = f.steps; kinds = f.kinds; walks = f.walks; agrees = s.agrees; text = s.text; others = λ past j. tells_none f.steps (fails_silent f.steps f.kinds) past j })
+
+-- or alone
+pub line_goes :
+    {h h' : List Event} {cs : Clients} (links : List Link) (at : ℕ) (x y : Link) → at < length links → x ≡ get_or links at x → LineStands at h h' x y → EndsGo h h' cs cs links (set links at y)
+line_goes links at x y within was s = λ core. line_fails links at x y within was (record { steps = []; kinds = tt; walks = refl }) s
+
+-- ---- one client
+
+abbrev of_said : (h : List Event) (input output : ℕ → List ℕ) (id : ℕ) → ℕ × List ℕ × List ℕ × Bool × Bool → Type 0
+of_said h input output id s = StateAgrees h input output id s.0 s.1 s.2 s.3 s.4
+
+-- an end that has what it had
+pub same_agrees : (h : List Event) (x y : Client) → said_of y ≡ said_of x → GoesOnAgreeing h h x y
+same_agrees h x y same = λ input output id was. subst (of_said h input output id) (sym same) was
+
+-- it goes on without a call of the core
+pub one_touched :
+    {Is : Step → Type 0} {id : ℕ} {a b : ServedCore} {h h' : List Event} {x y : Client} → b ≡ a → GoesOnAgreeing h h' x y → y.conn.number ≡ x.conn.number → TouchesOnly x.conn.number h h' → OneGoes Is id a h x b h' y
+one_touched {Is} {id} {a} {b} {h} {h'} {x} {y} same goes number only =
+    record { steps = []; kinds = tt; walks = same; agrees = λ past was. goes (fed_in past) (gave_in past) id was; number = number; only = only; others = λ past j other. (refl, refl) }
+
+pub number_said : (x y : Client) → said_of y ≡ said_of x → y.conn.number ≡ x.conn.number
+number_said x y same = ap (λ (s : ℕ × List ℕ × List ℕ × Bool × Bool). s.0) same
+
+pub number_broken : (x y : Client) → Breaks x y → y.conn.number ≡ x.conn.number
+number_broken x y breaks = ap (λ (z : Client). z.conn.number) breaks.rest
+
+pub one_same : {Is : Step → Type 0} {id : ℕ} {a : ServedCore} {h : List Event} (x y : Client) → said_of y ≡ said_of x → OneGoes Is id a h x a h y
+one_same {h = h} x y same = one_touched refl (same_agrees h x y same) (number_said x y same) (λ d other. untouched d h)
+
+pub one_breaks : {Is : Step → Type 0} {id : ℕ} {a : ServedCore} {h : List Event} (x y : Client) → Breaks x y → OneGoes Is id a h x a h y
+one_breaks {h = h} x y breaks = one_touched refl (breaks_now h x y breaks) (number_broken x y breaks) (λ d other. untouched d h)
+
+-- one after another
+pub one_then :
+    {Is : Step → Type 0} {id : ℕ} {a b c : ServedCore} {h h' h'' : List Event} {x y z : Client} → OneGoes Is id a h x b h' y → OneGoes Is id b h' y c h'' z → OneGoes Is id a h x c h'' z
+one_then {Is} {id} {a} {b} {c} {h} {h'} {h''} {x} {y} {z} g k =
+    record {
+      steps = k.steps ++ g.steps;
+      kinds = of_both Is k.steps g.steps k.kinds g.kinds;
+      walks = walked k.steps g.steps a b c g.walks k.walks;
+      agrees = λ past was.
+          subst (λ l. AgreesWith l h'' id z) (sym (append_assoc k.steps g.steps past)) (k.agrees (g.steps ++ past) (g.agrees past was));
+      number = k.number ∙ g.number;
+      only = only_twice x.conn.number h h' h'' g.only (subst (λ c. TouchesOnly c h' h'') g.number k.only);
+      others = λ past j other.
+          let p = g.others past j other in
+          let q = k.others (g.steps ++ past) j other in
+          (ap (λ l. fed_in l j) (append_assoc k.steps g.steps past) ∙ q.0 ∙ p.0, ap (λ l. gave_in l j) (append_assoc k.steps g.steps past) ∙ q.1 ∙ p.1);
+    }
+
+-- it is done to one among all
+pub one_goes :
+    {Is : Step → Type 0} {h h' : List Event} {ls : List Link} {a b : ServedCore} (id : ℕ) (s n : Clients) (x y : Client) → client_of s id ≡ Some x → n ≡ with_client s id y → OneGoes Is id a h x b h' y
+    → AllGo Is (record { core = a; history = h; clients = s; links = ls }) (record { core = b; history = h'; clients = n; links = ls })
+one_goes {Is} {h} {h'} {ls} {a} {b} id s n x y was is g =
+    one_of_all id (record { core = a; history = h; clients = s; links = ls }) (record { core = b; history = h'; clients = n; links = ls })
+    x y was (lent_here s n id x y was is) (λ j other. lent_others s n id j y (not_same id j other) is) refl g
+
+-- ---- what is fed and given
+
+pub same_client : (id : ℕ) → nat_eq id id ≡ true
+same_client id = eq-eqb id id refl
+
+-- all that was held was fed
+fed_state :
+    (h : List Event) (input input' output : ℕ → List ℕ) (id c : ℕ) (held unsent : List ℕ) (b e : Bool) → input' id ≡ input id ++ held → StateAgrees h input output id c held unsent b e → StateAgrees h input' output id c [] unsent b e
+fed_state h input input' output id c held unsent b e more was =
+    record {
+      stands = λ is. let w = was.stands is in record { is_its = w.is_its; input_is = w.input_is ∙ sym more ∙ sym (append-nil (input' id)); output_is = w.output_is };
+      lost = λ is. let w = was.lost is in record {
+        is_its = w.is_its;
+        unread = w.unread;
+        input_is = w.input_is ∙ ap (λ l. l ++ w.unread) (sym (append-nil (input id)) ∙ ap (λ l. input id ++ l) (sym (was.ended is).0) ∙ sym more);
+        unsent = w.unsent;
+        output_is = w.output_is;
+      };
+      ended = λ is. (refl, (was.ended is).1);
+    }
+
+-- what the core gave is to be sent, behind the rest
+pub gave_state :
+    (h : List Event) (input output output' : ℕ → List ℕ) (id c : ℕ) (held unsent bytes : List ℕ) (b e : Bool) → output' id ≡ output id ++ bytes → StateAgrees h input output id c held unsent b e
+    → StateAgrees h input output' id c held (unsent ++ bytes) b e
+gave_state h input output output' id c held unsent bytes b e more was =
+    record {
+      stands = λ is. let w = was.stands is in record { is_its = w.is_its; input_is = w.input_is; output_is = more ∙ ap (λ l. l ++ bytes) w.output_is ∙ append_assoc (taken c h) unsent bytes };
+      lost = λ is. let w = was.lost is in record { is_its = w.is_its; unread = w.unread; input_is = w.input_is; unsent = w.unsent ++ bytes; output_is = more ∙ ap (λ l. l ++ bytes) w.output_is ∙ append_assoc (taken c h) w.unsent bytes };
+      ended = was.ended;
+    }
+
+pub one_fed : {id : ℕ} {a b : ServedCore} {h : List Event} (x y : Client) → FeedsHeld id x y a b → OneGoes IsOfTurn id a h x b h y
+one_fed {id} {a} {b} {h} x y (inl fed) =
+    let piece = x.conn.held.items in
+    let said : said_of y ≡ (x.conn.number, [], bytes_of x.conn.unsent, x.is_broken, x.is_ended) = ap said_of fed.2 ∙ ap (λ l. (x.conn.number, l, bytes_of x.conn.unsent, x.is_broken, x.is_ended)) fed.1 in
+    record {
+      steps = Fed id piece ∷ [];
+      kinds = (tt, tt);
+      walks = (a, refl, fed.0);
+      agrees = λ past was.
+          subst (of_said h (fed_in (Fed id piece ∷ past)) (gave_in past) id) (sym said)
+          (fed_state h (fed_in past) (fed_in (Fed id piece ∷ past)) (gave_in past) id x.conn.number piece (bytes_of x.conn.unsent) x.is_broken x.is_ended (ap (λ (t : Bool). if t then fed_in past id ++ piece else fed_in past id) (same_client id)) was);
+      number = ap (λ (s : ℕ × List ℕ × List ℕ × Bool × Bool). s.0) said;
+      only = λ d other. untouched d h;
+      others = λ past j other. (ap (λ (t : Bool). if t then fed_in past j ++ piece else fed_in past j) other, refl);
+    }
+one_fed {id} {a} {b} {h} x y (inr (core, inl same)) = one_touched core (same_agrees h x y (ap said_of same)) (ap (λ (z : Client). z.conn.number) same) (λ d other. untouched d h)
+one_fed {id} {a} {b} {h} x y (inr (core, inr breaks)) = one_touched core (breaks_now h x y breaks) (number_broken x y breaks) (λ d other. untouched d h)
+
+-- the core gave what it had for the client
+pub gave_one :
+    {id : ℕ} {a b : ServedCore} {h : List Event} (x y : Client) (bytes : List ℕ) → Does (Gave id bytes) a b → y.conn.number ≡ x.conn.number
+    → ((past : List Step) → AgreesWith past h id x → AgreesWith (Gave id bytes ∷ past) h id y) → OneGoes IsOfTurn id a h x b h y
+gave_one {id} {a} {b} {h} x y bytes does number goes =
+    record {
+      steps = Gave id bytes ∷ [];
+      kinds = (tt, tt);
+      walks = (a, refl, does);
+      agrees = goes;
+      number = number;
+      only = λ d other. untouched d h;
+      others = λ past j other. (refl, ap (λ (t : Bool). if t then gave_in past j ++ bytes else gave_in past j) other);
+    }
+
+pub more_given : (past : List Step) (id : ℕ) (bytes : List ℕ) → gave_in (Gave id bytes ∷ past) id ≡ gave_in past id ++ bytes
+more_given past id bytes = ap (λ (t : Bool). if t then gave_in past id ++ bytes else gave_in past id) (same_client id)
+
+-- and it is to be sent
+pub one_shown :
+    {id : ℕ} {a b : ServedCore} {h : List Event} (x y : Client) (r : Result ℕ CoreFault) → OnOk r (Does (Gave id (output_by (client_at a.core id))) a b) → OnErr r (b ≡ a)
+    → OnOk r (bytes_of y.conn.unsent ≡ bytes_of x.conn.unsent ++ output_by (client_at a.core id)) → OnErr r (bytes_of y.conn.unsent ≡ bytes_of x.conn.unsent)
+    → y ≡ record x { conn = record x.conn { unsent = y.conn.unsent } } → OneGoes IsOfTurn id a h x b h y
+one_shown {id} {a} {b} {h} x y (Ok shown) gives same more kept rest =
+    let bytes = output_by (client_at a.core id) in
+    let said : said_of y ≡ (x.conn.number, x.conn.held.items, bytes_of x.conn.unsent ++ bytes, x.is_broken, x.is_ended) = ap said_of rest ∙ ap (λ l. (x.conn.number, x.conn.held.items, l, x.is_broken, x.is_ended)) more in
+    gave_one x y bytes gives (ap (λ (s : ℕ × List ℕ × List ℕ × Bool × Bool). s.0) said) (λ past was.
+    subst (of_said h (fed_in past) (gave_in (Gave id bytes ∷ past)) id) (sym said)
+    (gave_state h (fed_in past) (gave_in past) (gave_in (Gave id bytes ∷ past)) id x.conn.number x.conn.held.items (bytes_of x.conn.unsent) bytes x.is_broken x.is_ended (more_given past id bytes) was))
+one_shown {id} {a} {b} {h} x y (Err fault) gives same more kept rest =
+    one_touched same (same_agrees h x y (ap said_of rest ∙ ap (λ l. (x.conn.number, x.conn.held.items, l, x.is_broken, x.is_ended)) kept)) (ap (λ (z : Client). z.conn.number) rest) (λ d other. untouched d h)

@@ -1,0 +1,12 @@
+use Rattle.std.proofs.Common.{refl}
+use Rattle.serve_proxy.proofs.Growing.{adds_none, adds_one}
+use Rattle.serve_proxy.proofs.links.Links.add_one.Goals as goal
+
+pub returns-in_err-link-clause-adds : goal.returns-in_err-link-clause-adds
+returns-in_err-link-clause-adds c = adds_none _ _ refl
+
+pub returns-in_err-push-clause-adds : goal.returns-in_err-push-clause-adds
+returns-in_err-push-clause-adds c = adds_none _ _ c.in_err-push.ensures.items
+
+pub returns-clause-adds : goal.returns-clause-adds
+returns-clause-adds c = adds_one _ _ c.in_ok-link.link c.in_ok-push.ensures.items c.in_ok-link.ensures.down.closed

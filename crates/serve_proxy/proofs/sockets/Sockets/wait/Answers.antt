@@ -1,0 +1,18 @@
+use Rattle.serve_proxy.proofs.Staying.{stay_then}
+use Rattle.serve_proxy.proofs.Told.{stay_same}
+use Rattle.serve_proxy.proofs.sockets.Sockets.wait.Goals as goal
+
+pub returns-in_err-count : goal.returns-in_err-count
+returns-in_err-count g c = record { ends = stay_same _ _ _ _ c.wait-count.ensures }
+
+pub loop-at-init : goal.loop-at-init
+loop-at-init g c = stay_same _ _ _ _ c.wait-count.ensures
+
+pub loop-at-preserved : goal.loop-at-preserved
+loop-at-preserved g c = stay_then c.loop-at.invariant c.note.ensures.ends
+
+pub returns-in_err-note : goal.returns-in_err-note
+returns-in_err-note g c = record { ends = stay_then c.loop-at.invariant c.note.ensures.ends }
+
+pub returns : goal.returns
+returns g c = record { ends = stay_then c.loop-at.invariant c.look.ensures.ends }
