@@ -54,12 +54,12 @@ one : (at : ℕ) (sent : List SentCall) (bytes : List ℕ) (a : ServedCore) (ans
 one at [] bytes a answer sent' rest b s = absurd (none_some s.answers.is_first)
 one at (call ∷ calls) bytes a answer sent' rest b s = record {
   steps = Settled number (Answered answer) ∷ Spelled at number ask answer spelled ∷ [];
-  kinds = (tt, tt, tt);
-  own = (tt, refl, tt);
+  kinds = (tt, (tt, tt));
+  own = (tt, (refl, tt));
   walks = (a, (a, refl, (refl, asks)), s.settles.2);
   spelled = spelled;
   whole = s.whole ∙ ap (λ l. l ++ s.more) (sym (take-append-drop s.used s.front)) ∙ append_assoc spelled (drop s.used s.front) s.more ∙ ap (λ l. spelled ++ l) (sym s.rest);
-  orderly = λ past o out off. ((record { at = at; ask = ask; bytes = spelled; earlier = past; last = refl }, next past out off, o), told past out);
+  orderly = λ past o out off. ((record { at = at; ask = ask; bytes = spelled; earlier = past; last = refl }, (next past out off, o)), told past out);
 }
   where
     number : ℕ
@@ -95,6 +95,32 @@ one at (call ∷ calls) bytes a answer sent' rest b s = record {
         ap (λ t. if t then with_answer spelled (talk_in past at) else talk_in past at) (equal at)
         ∙ ap (λ (l : List SaidAsk). record (talk_in past at) { told = (talk_in past at).told ++ spelled; out = l }) (ap behind out ∙ ap said_asks (sym s.settles.1))
 
+-- one and then others
+both :
+    (at : ℕ) (sent : List SentCall) (bytes : List ℕ) (a : ServedCore) (mid : List SentCall) (left : List ℕ) (m : ServedCore) (sent' : List SentCall) (rest : List ℕ) (b : ServedCore)
+    → Answers at sent bytes a mid left m → Answers at mid left m sent' rest b → Answers at sent bytes a sent' rest b
+both at sent bytes a mid left m sent' rest b f g = record {
+  steps = g.steps ++ f.steps;
+  kinds = of_both IsOfTurn g.steps f.steps g.kinds f.kinds;
+  own = of_both (IsOfServer at) g.steps f.steps g.own f.own;
+  walks = walked g.steps f.steps a m b f.walks g.walks;
+  spelled = f.spelled ++ g.spelled;
+  whole = f.whole ∙ ap (λ l. f.spelled ++ l) g.whole ∙ sym (append_assoc f.spelled g.spelled rest);
+  orderly = orderly;
+}
+  where
+    orderly :
+        (past : List Step) → IsOrderly past → (talk_in past at).out ≡ said_asks sent → (talk_in past at).awaits ≡ false
+        → IsOrderly ((g.steps ++ f.steps) ++ past) × (talk_in ((g.steps ++ f.steps) ++ past) at ≡ record (talk_in past at) { told = (talk_in past at).told ++ f.spelled ++ g.spelled; out = said_asks sent' })
+    orderly past o out off =
+        let first = f.orderly past o out off in
+        let later = g.orderly (f.steps ++ past) first.0 (ap (λ (t : Talk). t.out) first.1) (ap (λ (t : Talk). t.awaits) first.1 ∙ off) in
+        subst (λ l. IsOrderly l × (talk_in l at ≡ record (talk_in past at) { told = (talk_in past at).told ++ f.spelled ++ g.spelled; out = said_asks sent' })) (sym (append_assoc g.steps f.steps past)) (
+          later.0,
+          later.1 ∙ ap (λ (t : Talk). record t { told = t.told ++ g.spelled; out = said_asks sent' }) first.1
+          ∙ ap (λ (l : List ℕ). record (talk_in past at) { told = l; out = said_asks sent' }) (append_assoc (talk_in past at).told f.spelled g.spelled),
+        )
+
 -- one after another
 pub answers_each :
     (at : ℕ) (answers : List Answer) (sent : List SentCall) (bytes : List ℕ) (a : ServedCore) (sent' : List SentCall) (rest : List ℕ) (b : ServedCore) → SettlesEach answers sent bytes a sent' rest b
@@ -113,33 +139,8 @@ answers_each at [] sent bytes a sent' rest b s = record {
     none past out =
         ap (λ (l : List SaidAsk). record (talk_in past at) { out = l }) (out ∙ ap said_asks (sym s.0))
         ∙ ap (λ (l : List ℕ). record (talk_in past at) { told = l; out = said_asks sent' }) (sym (append-nil (talk_in past at).told))
-answers_each at (answer ∷ answers) sent bytes a sent' rest b s = record {
-  steps = g.steps ++ f.steps;
-  kinds = of_both IsOfTurn g.steps f.steps g.kinds f.kinds;
-  own = of_both (IsOfServer at) g.steps f.steps g.own f.own;
-  walks = walked g.steps f.steps a s.2 b f.walks g.walks;
-  spelled = f.spelled ++ g.spelled;
-  whole = f.whole ∙ ap (λ l. f.spelled ++ l) g.whole ∙ sym (append_assoc f.spelled g.spelled rest);
-  orderly = both;
-}
-  where
-    f : Answers at sent bytes a s.0 s.1 s.2
-    f = one at sent bytes a answer s.0 s.1 s.2 s.3
-
-    g : Answers at s.0 s.1 s.2 sent' rest b
-    g = answers_each at answers s.0 s.1 s.2 sent' rest b s.4
-
-    both :
-        (past : List Step) → IsOrderly past → (talk_in past at).out ≡ said_asks sent → (talk_in past at).awaits ≡ false
-        → IsOrderly ((g.steps ++ f.steps) ++ past) × (talk_in ((g.steps ++ f.steps) ++ past) at ≡ record (talk_in past at) { told = (talk_in past at).told ++ f.spelled ++ g.spelled; out = said_asks sent' })
-    both past o out off =
-        let first = f.orderly past o out off in
-        let later = g.orderly (f.steps ++ past) first.0 (ap (λ (t : Talk). t.out) first.1) (ap (λ (t : Talk). t.awaits) first.1 ∙ off) in
-        subst (λ l. IsOrderly l × (talk_in l at ≡ record (talk_in past at) { told = (talk_in past at).told ++ f.spelled ++ g.spelled; out = said_asks sent' })) (sym (append_assoc g.steps f.steps past)) (
-          later.0,
-          later.1 ∙ ap (λ (t : Talk). record t { told = t.told ++ g.spelled; out = said_asks sent' }) first.1
-          ∙ ap (λ (l : List ℕ). record (talk_in past at) { told = l; out = said_asks sent' }) (append_assoc (talk_in past at).told f.spelled g.spelled),
-        )
+answers_each at (answer ∷ answers) sent bytes a sent' rest b s =
+    both at sent bytes a s.0 s.1 s.2 sent' rest b (one at sent bytes a answer s.0 s.1 s.2 s.3) (answers_each at answers s.0 s.1 s.2 sent' rest b s.4)
 
 pub answers_some : (at : ℕ) (sent : List SentCall) (bytes : List ℕ) (a : ServedCore) (sent' : List SentCall) (rest : List ℕ) (b : ServedCore) → SettlesSome sent bytes a sent' rest b → Answers at sent bytes a sent' rest b
 answers_some at sent bytes a sent' rest b s = answers_each at s.answers sent bytes a sent' rest b s.each

@@ -25,7 +25,7 @@ use Rattle.serve_links.specs.Dialects.{asked_in}
 use Rattle.serve_links.specs.Lines.{first_asked_of, awaits_first, SameLine, KeepsLines, IsNewEnd, HasNewEnd, OpensBy, UsesSome, Learns}
 use Rattle.serve_links.specs.Settled.{SettlesSome}
 use Rattle.serve_links.specs.Talks.{SaidAsk, Talk, first_talk, with_ask, greeted, talk_in, IsCalledIn, IsOrderly, IsOfServer}
-use Rattle.serve_links.specs.Story.{said_asks, AreCalled, TalkAgrees, ConnAgrees, LineAgrees, LineLost, LineCalled, line_of, KeepsOthers, LineGoesFrom, LineGoes}
+use Rattle.serve_links.specs.Story.{said_asks, AreCalled, TalkAgrees, ConnAgrees, LineAgrees, LineLost, LineCalled, line_of, KeepsOthers, LineGoesFrom, LineGoes, AnEnd, Agrees, AgreesLosing}
 use Rattle.serve_links.proofs.Talking.{calls_later, one_more, IsPlain, plain_talk, plain_orderly}
 use Rattle.serve_links.proofs.Answering.{Answers, answers_some}
 use Rattle.serve_links.proofs.Story.{line_stays}
@@ -84,6 +84,16 @@ has_none at past h y is waiting = record { conn = λ conn there. absurd (none_so
 
 pub as_lost : (at : ℕ) (past : List Step) (h : List Event) (x : Link) → LineAgrees at past h x → LineLost at past h x
 as_lost at past h x a = record { conn = λ conn is. (conn.held.items, a.conn conn is); waiting = a.waiting }
+
+-- where all agree, all agree but for what one link may hold
+pub losing : (at : ℕ) (past : List Step) (x : AnEnd) → Agrees past x → AgreesLosing past x
+losing at past x a = (at, record {
+  orderly = a.orderly;
+  clients = a.clients;
+  links = λ j link other there. a.links j link there;
+  this = λ link there. as_lost at past x.history link (a.links at link there);
+  gone = a.gone;
+})
 
 -- nothing happened but at the connection, and no step is told of
 pub line_moves :
@@ -146,12 +156,14 @@ pub keeps_line : (x y : Link) → KeepsLines x y → line_of y ≡ line_of x
 keeps_line x y k = of_five (ap (λ t. t.items) k.text) (conns x.conn y.conn k.conn) (ap (λ c. said_asks c.sent.items) k.calls) (ap (λ w. w.items) k.waiting) k.awaits
   where
     ends : (c d : Conn) → d.number ≡ c.number → d.held.items ≡ c.held.items → bytes_of d.unsent ≡ bytes_of c.unsent → ◌≡◌ {A = ℕ × List ℕ × List ℕ} (d.number, d.held.items, bytes_of d.unsent) (c.number, c.held.items, bytes_of c.unsent)
-    ends c d n l u = ap (λ m. (m, d.held.items, bytes_of d.unsent)) n ∙ ap (λ m. (c.number, m, bytes_of d.unsent)) l ∙ ap (λ m. (c.number, c.held.items, m)) u
+    ends c d n l u =
+        ap (λ (m : ℕ). let e : ℕ × List ℕ × List ℕ = (m, d.held.items, bytes_of d.unsent) in e) n ∙ ap (λ (m : List ℕ). let e : ℕ × List ℕ × List ℕ = (c.number, m, bytes_of d.unsent) in e) l
+        ∙ ap (λ (m : List ℕ). let e : ℕ × List ℕ × List ℕ = (c.number, c.held.items, m) in e) u
 
     conns :
         (o p : Option Conn) → SameLine o p
-        → option_map (λ (c : Conn). (c.number, c.held.items, bytes_of c.unsent)) p ≡ option_map (λ (c : Conn). (c.number, c.held.items, bytes_of c.unsent)) o
-    conns None p same = ap (option_map (λ (c : Conn). (c.number, c.held.items, bytes_of c.unsent))) same
+        → option_map {U = ℕ × List ℕ × List ℕ} (λ (c : Conn). (c.number, c.held.items, bytes_of c.unsent)) p ≡ option_map {U = ℕ × List ℕ × List ℕ} (λ (c : Conn). (c.number, c.held.items, bytes_of c.unsent)) o
+    conns None p same = ap (option_map {U = ℕ × List ℕ × List ℕ} (λ (c : Conn). (c.number, c.held.items, bytes_of c.unsent))) same
     conns (Some c) None same = absurd same
     conns (Some c) (Some d) same = ap (λ (e : ℕ × List ℕ × List ℕ). Some e) (ends c d same.number same.held (ap bytes_of same.unsent))
 

@@ -186,6 +186,10 @@ pub record AgreesBut (This : ℕ → List Step → List Event → Link → Type 
 abbrev pub AgreesCalled : ℕ → ℕ → Ask → List Step → AnEnd → Type 0
 AgreesCalled number at ask past x = Agrees past x × IsCalledIn past number at ask
 
+-- all agree, but that what one link holds may be lost
+abbrev pub AgreesLosing : List Step → AnEnd → Type 0
+AgreesLosing past x = (at : ℕ) × AgreesBut LineLost at past x
+
 -- by calls of this kind it goes on: where the one held of it and of all calls before, the other holds of it and of all calls after. The links are to the servers that they were to
 pub record AllGoFrom (Before After : List Step → AnEnd → Type 0) (Is : Step → Type 0) (old new : AnEnd) : Type 0 where
   pub steps : List Step
