@@ -111,11 +111,11 @@ both at sent bytes a mid left m sent' rest b f g = record {
   where
     orderly :
         (past : List Step) → IsOrderly past → (talk_in past at).out ≡ said_asks sent → (talk_in past at).awaits ≡ false
-        → IsOrderly ((g.steps ++ f.steps) ++ past) × (talk_in ((g.steps ++ f.steps) ++ past) at ≡ record (talk_in past at) { told = (talk_in past at).told ++ f.spelled ++ g.spelled; out = said_asks sent' })
+        → IsOrderly ((g.steps ++ f.steps) ++ past) × (talk_in ((g.steps ++ f.steps) ++ past) at ≡ record (talk_in past at) { told = (talk_in past at).told ++ (f.spelled ++ g.spelled); out = said_asks sent' })
     orderly past o out off =
         let first = f.orderly past o out off in
         let later = g.orderly (f.steps ++ past) first.0 (ap (λ (t : Talk). t.out) first.1) (ap (λ (t : Talk). t.awaits) first.1 ∙ off) in
-        subst (λ l. IsOrderly l × (talk_in l at ≡ record (talk_in past at) { told = (talk_in past at).told ++ f.spelled ++ g.spelled; out = said_asks sent' })) (sym (append_assoc g.steps f.steps past)) (
+        subst (λ l. IsOrderly l × (talk_in l at ≡ record (talk_in past at) { told = (talk_in past at).told ++ (f.spelled ++ g.spelled); out = said_asks sent' })) (sym (append_assoc g.steps f.steps past)) (
           later.0,
           later.1 ∙ ap (λ (t : Talk). record t { told = t.told ++ g.spelled; out = said_asks sent' }) first.1
           ∙ ap (λ (l : List ℕ). record (talk_in past at) { told = l; out = said_asks sent' }) (append_assoc (talk_in past at).told f.spelled g.spelled),
