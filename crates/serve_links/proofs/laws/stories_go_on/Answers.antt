@@ -1,6 +1,5 @@
 use Rattle.serve_links.specs.CoreSteps.{IsAnyCall, IsOfTurn, IsFailure, IsSending}
 use Rattle.serve_links.proofs.Story.{stories_go_on}
-use Rattle.serve_links.proofs.LinkGoes.{line_fails}
 use Rattle.serve_links.proofs.laws.stories_go_on.Goals as goal
 
 pub returns : goal.returns
