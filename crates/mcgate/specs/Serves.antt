@@ -1,4 +1,4 @@
--- How the core of a proxy that serves begins, and what is done to it. Source: mcgate's own.
+-- How a proxy that serves begins, and how its core and the ends of clients and servers go on. Source: mcgate's own.
 use Rattle.std.specs.Prelude.{◌≡◌, ℕ, ◌⊎◌, List, Ok}
 use Rattle.serde_json.specs.Read.{read}
 use Rattle.route_json.specs.Servers.{Addresses}
@@ -9,7 +9,12 @@ use Rattle.gate_check.specs.Sound.{IsLast}
 use Rattle.core_accepted.specs.declared.served.ServedCore.{ServedCore}
 use Rattle.core_accepted.specs.Loading.{IsLoaded}
 use Rattle.serve_links.specs.declared.settings.Settings.{Settings}
-use Rattle.serve_links.specs.CoreSteps.{Step, Opened, NotOpened, Fed, Polled, Stopped, Settled, Gave, Closed, LeftLine, Loaded, GoesBy}
+use Rattle.serve_wire.specs.Events.{Event}
+use Rattle.serve_wire.specs.declared.sockets.sockets.Sockets.{Sockets}
+use Rattle.serve_links.specs.CoreSteps.{Step, Opened, NotOpened, Fed, Polled, Stopped, Settled, Gave, Closed, LeftLine, Loaded, Walks, AreOf}
+use Rattle.serve_links.specs.Story.{AnEnd, Agrees}
+use Rattle.serve_proxy.specs.declared.proxy.ProxyEnd.{ProxyEnd}
+use Rattle.serve_proxy.specs.Ends.{end_of, AllGrow}
 use Rattle.serve_proxy.specs.Beginning.{BeginsFresh, BeginsUnchecked}
 use Rattle.core_accepted.specs.Logs.{IsAccepted, EveryLogIsFresh}
 use Rattle.mcgate.specs.Sharing.{sharing_for}
@@ -47,9 +52,17 @@ IsServed (Gave client bytes) = Unit {0}
 IsServed (Closed client) = Unit {0}
 IsServed (LeftLine client) = Unit {0}
 
--- turns and such loads, one after another
-abbrev pub Serves : ServedCore → ServedCore → Type 0
-Serves old new = GoesBy IsServed old new
+-- all that has happened on its sockets, the latest first
+abbrev pub history_of : Sockets → List Event
+history_of wire = wire.log.events
+
+-- a proxy's core, and the ends of clients and servers beside it
+abbrev pub proxy_of : ProxyEnd Sockets → AnEnd
+proxy_of end = end_of history_of end.core.value end.sockets
+
+-- turns and such loads, one after another, and the ends of clients and servers go on with them
+abbrev pub Serves : ProxyEnd Sockets → ProxyEnd Sockets → Type 0
+Serves old new = AllGrow IsServed (proxy_of old) (proxy_of new)
 
 -- nothing is done, or this configuration is loaded
 abbrev pub MayLoad : Configuration → ServedCore → ServedCore → Type 0
@@ -59,11 +72,14 @@ MayLoad configuration old new = (new ≡ old) ⊎ ((generation : ℕ) × IsLoade
 abbrev pub MayLoadText : Addresses → List ℕ → ServedCore → ServedCore → Type 0
 MayLoadText servers text old new = (new ≡ old) ⊎ ((configuration : Configuration) × SaysAfter servers text configuration × MayLoad configuration old new)
 
--- it began so, and turns and loads led to it
-pub record HasServed (servable : Servable) (settings : Settings) (core : ServedCore) : Type 0 where
+-- its core began so, and turns and loads led to what it is, with which the end of each client and of each link agrees
+pub record HasServed (servable : Servable) (settings : Settings) (end : ProxyEnd Sockets) : Type 0 where
   pub began : ServedCore
   pub begins : Begins servable settings began
-  pub serves : Serves began core
+  pub steps : List Step
+  pub kinds : AreOf IsServed steps
+  pub walks : Walks steps began end.core.value
+  pub agrees : Agrees steps (proxy_of end)
 
 -- where the gate accepted what is served, the core is one on accepted trees, and each log that may have led to it is fresh
 abbrev pub StaysFresh : Servable → ServedCore → Type 0

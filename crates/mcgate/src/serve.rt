@@ -1,8 +1,9 @@
 //! `mcgate serve`: the configuration is read and judged, and then served.
 
-ghost use Rattle.std.specs.Prelude.{IfOk, false};
+ghost use Rattle.std.specs.Prelude.{IfOk, false, []};
+ghost use Rattle.serve_links.specs.Story.{Agrees};
 ghost use Rattle.mcgate.specs.Judging.{Judges, JudgesText};
-ghost use Rattle.mcgate.specs.Serves.{Begins, HasServed, StaysFresh};
+ghost use Rattle.mcgate.specs.Serves.{Begins, HasServed, StaysFresh, proxy_of};
 
 use crate::lines::Lines;
 use crate::serving::{Proxy, Serving, resolve, tell_if_unknown};
@@ -107,6 +108,7 @@ fn end_over(
     settings: Settings,
 ) -> Result<Proxy, AllocError>
     ensures core { IfOk result (λ end. Begins servable settings end.core.value) }
+    ensures ends { IfOk result (λ end. Agrees [] (proxy_of end)) }
 {
     let mut settings = settings;
     match servable {
@@ -189,6 +191,7 @@ fn open<R: Net + Clock + AllocGlobal + Eprint>(
     servers: &Servers,
 ) -> io::Result<Proxy>
     ensures core { IfOk result (λ end. Begins servable job.now.settings end.core.value) }
+    ensures ends { IfOk result (λ end. Agrees [] (proxy_of end)) }
 {
     let wire = listen(rt, lines, job.listen, servers)?;
     Ok(end_over(rt.alloc(), wire, servable, servers, job.settings)?)
@@ -202,6 +205,7 @@ fn start<R: Net + Clock + AllocGlobal + Eprint>(
     lines: Lines,
 ) -> io::Result<Serving>
     ensures core { IfOk result (λ serving. Begins servable job.now.settings serving.end.core.value) }
+    ensures ends { IfOk result (λ serving. Agrees [] (proxy_of serving.end)) }
 {
     let servers = servable.servers(rt.alloc())?;
     let mut lines = lines;
@@ -217,7 +221,7 @@ fn serve_to_end<R: Files + Input + Net + Clock + AllocGlobal + Print + Eprint>(
     text: String,
     lines: Lines,
 ) -> io::Result<(Serving, Result<u8, Stop>)>
-    ensures served { IfOk result (λ ended. HasServed servable job.now.settings ended.0.end.core.value) }
+    ensures served { IfOk result (λ ended. HasServed servable job.now.settings ended.0.end) }
     ensures fresh { IfOk result (λ ended. StaysFresh servable ended.0.end.core.value) }
 {
     let mut serving = start(rt, job, servable, text, lines)?;

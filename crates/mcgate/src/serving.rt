@@ -1,9 +1,11 @@
 //! A proxy that runs: its turns, what is told of its servers, and the configurations that are loaded meanwhile.
 
 ghost use Rattle.std.specs.Prelude.{◌≡◌, IfOk, string_bytes};
-ghost use Rattle.serve_links.specs.CoreSteps.{GoesOn};
+ghost use Rattle.serve_links.specs.CoreSteps.{IsOfTurn};
+ghost use Rattle.serve_links.specs.Story.{AllGo};
+ghost use Rattle.serve_proxy.specs.Ends.{Stay, AllGrow, IsLoadOf};
 ghost use Rattle.serve_proxy.specs.LogsGoOn.{LogsAreFresh};
-ghost use Rattle.mcgate.specs.Serves.{SaysAfter, Serves, MayLoad, MayLoadText};
+ghost use Rattle.mcgate.specs.Serves.{SaysAfter, history_of, proxy_of, Serves, MayLoad, MayLoadText};
 
 use crate::lines::Lines;
 use crate::special::is_special;
@@ -168,7 +170,7 @@ impl Serving {
         rt: &R,
         job: &ServeJob<'_>,
     ) -> Result<u8, Stop>
-        ensures core { Serves self.old.end.core.value self.new.end.core.value }
+        ensures ends { Serves self.old.end self.new.end }
     {
         self.tell_start(rt, job)?;
         self.run(rt, job)
@@ -176,7 +178,7 @@ impl Serving {
 
     // Tells that it listens, and with a tree of which no gate was asked what that means.
     fn tell_start<R: Eprint>(&mut self, rt: &R, job: &ServeJob<'_>) -> io::Result<()>
-        ensures core { self.new.end.core ≡ self.old.end.core }
+        ensures { self.new.end ≡ self.old.end }
     {
         let address = self.end.wire().local_addr()?;
         if job.any {
@@ -200,7 +202,7 @@ impl Serving {
         rt: &R,
         job: &ServeJob<'_>,
     ) -> Result<u8, Stop>
-        ensures core { Serves self.old.end.core.value self.new.end.core.value }
+        ensures ends { Serves self.old.end self.new.end }
     {
         for _ in 0..job.turns.map_or(u64::MAX, u64::from) {
             self.turn(rt, job)?;
@@ -218,7 +220,7 @@ impl Serving {
 
     // One turn, which doesn't wait longer than until the file is to be read again.
     fn turn<R: Net + Clock>(&mut self, rt: &R, job: &ServeJob<'_>) -> io::Result<()>
-        ensures core { GoesOn self.old.end.core.value self.new.end.core.value }
+        ensures ends { AllGo IsOfTurn (proxy_of self.old.end) (proxy_of self.new.end) }
     {
         self.turns = self.turns.saturating_add(1);
         let Some(reload_ms) = job.reload_ms else {
@@ -231,6 +233,7 @@ impl Serving {
     // Tells what happened to servers. Where it can't be told nothing else is done.
     fn tell_news<R: Eprint>(&mut self, rt: &R)
         ensures core { self.new.end.core ≡ self.old.end.core }
+        ensures ends { Stay history_of self.old.end.sockets self.new.end.sockets }
     {
         for _ in 0..self.servers.len() {
             let Some((at, news)) = self.end.next_news() else {
@@ -265,7 +268,7 @@ impl Serving {
         rt: &R,
         job: &ServeJob<'_>,
     ) -> Result<(), Stop>
-        ensures core { Serves self.old.end.core.value self.new.end.core.value }
+        ensures ends { Serves self.old.end self.new.end }
     {
         if self.is_due(rt, job)? {
             return self.look(rt, job);
@@ -279,7 +282,7 @@ impl Serving {
         rt: &R,
         job: &ServeJob<'_>,
     ) -> Result<(), Stop>
-        ensures core { Serves self.old.end.core.value self.new.end.core.value }
+        ensures ends { Serves self.old.end self.new.end }
     {
         self.turns = 0;
         self.since = Instant::now(rt)?;
@@ -300,7 +303,7 @@ impl Serving {
 
     // This is what the file has; it says the configuration in use or was refused.
     fn note_text(&mut self, text: String, is_used: bool)
-        ensures core { self.new.end.core ≡ self.old.end.core }
+        ensures { self.new.end ≡ self.old.end }
     {
         if is_used {
             self.text = text;
@@ -317,6 +320,7 @@ impl Serving {
         text: String,
     ) -> Result<(), Stop>
         ensures core { MayLoadText self.old.servers (string_bytes text) self.old.end.core.value self.new.end.core.value }
+        ensures ends { Serves self.old.end self.new.end }
     {
         if self.has_seen(text.as_str()) {
             return Ok(());
@@ -338,6 +342,7 @@ impl Serving {
         out: &mut W,
     ) -> Result<bool, Stop>
         ensures core { MayLoadText self.old.servers text.now self.old.end.core.value self.new.end.core.value }
+        ensures ends { Serves self.old.end self.new.end }
     {
         if says_the_same(rt.alloc(), self.text.as_str(), text) {
             writeln!(out, "reload unchanged generation={}", self.generation)?;
@@ -355,6 +360,7 @@ impl Serving {
         out: &mut W,
     ) -> Result<bool, Stop>
         ensures core { MayLoadText self.old.servers text.now self.old.end.core.value self.new.end.core.value }
+        ensures ends { Serves self.old.end self.new.end }
     {
         match read_after(rt.alloc(), &self.servers, text) {
             Ok((config, servers)) => self.load(rt, any, config, servers, out),
@@ -368,6 +374,7 @@ impl Serving {
     // Looks up those of these servers that weren't in use before.
     fn resolve<R: Net + Eprint>(&mut self, rt: &R, servers: &Servers) -> io::Result<()>
         ensures core { self.new.end.core ≡ self.old.end.core }
+        ensures ends { Stay history_of self.old.end.sockets self.new.end.sockets }
     {
         for at in self.servers.len()..servers.len() {
             if let Some(text) = text_at(servers, at) {
@@ -379,6 +386,7 @@ impl Serving {
 
     fn resolve_one<R: Net + Eprint>(&mut self, rt: &R, text: &str) -> io::Result<()>
         ensures core { self.new.end.core ≡ self.old.end.core }
+        ensures ends { Stay history_of self.old.end.sockets self.new.end.sockets }
     {
         let found = self.end.resolve(rt, text);
         tell_if_unknown(rt, &mut self.lines, text, found)?;
@@ -395,6 +403,7 @@ impl Serving {
         out: &mut W,
     ) -> Result<bool, Stop>
         ensures core { MayLoad config self.old.end.core.value self.new.end.core.value }
+        ensures ends { AllGrow (IsLoadOf config) (proxy_of self.old.end) (proxy_of self.new.end) }
     {
         self.resolve(rt, &servers)?;
         match self.end.load(config, &servers) {
