@@ -24,7 +24,7 @@ use Rattle.core_accepted.specs.Logs.{MayHaveLed, LogsGoBy, fed}
 use Rattle.core_accepted.specs.Results.{PollStops, TakesResult, SettleStops}
 use Rattle.serve_links.specs.CoreSteps.{Step, Opened, NotOpened, Fed, Polled, Stopped, Settled, Gave, Closed, LeftLine, Loaded, Does, Walks}
 use Rattle.core_accepted.proofs.Losses.{servers_may_lose}
-use Rattle.serve_proxy.specs.LogsGoOn.{AreOwn, AreTurns, happened, after_turns, GoesOnSaying, StaysOn, SettlesOnLog, AfterTurns, StepGoes, LogGoes, WalksGoOn}
+use Rattle.serve_proxy.specs.LogsGoOn.{AreOwn, AreTurns, happened, after_turns, GoesOnSaying, StaysOn, SettlesOnLog, StepGoes, LogGoes, WalksGoOn}
 
 -- ---- what a core does by itself
 
