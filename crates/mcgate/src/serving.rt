@@ -21,6 +21,7 @@ use mcgate_check::status::DONE;
 use route_json::addresses::Servers;
 use route_json::{Config, ConfigFault, read_config_after};
 use serde_json::Value;
+use serve_links::LinkNews;
 use serve_proxy::{ProxyEnd, text_at};
 use serve_wire::sockets::Sockets;
 use std::alloc::{AllocError, Global};
@@ -239,13 +240,20 @@ impl Serving {
             let Some((at, news)) = self.end.next_news() else {
                 return;
             };
-            let Ok(number) = u32::try_from(at) else {
-                return;
-            };
-            if let Some(text) = self.servers.get(ServerId::new(number)) {
-                let line = format_args!("mcgate: server {text}: {news}");
-                self.lines.tell(rt, line);
-            }
+            self.tell_of(rt, at, news);
+        }
+    }
+
+    // Tells this of a server.
+    fn tell_of<R: Eprint>(&mut self, rt: &R, at: usize, news: LinkNews)
+        ensures { self.new.end ≡ self.old.end }
+    {
+        let Ok(number) = u32::try_from(at) else {
+            return;
+        };
+        if let Some(text) = self.servers.get(ServerId::new(number)) {
+            let line = format_args!("mcgate: server {text}: {news}");
+            self.lines.tell(rt, line);
         }
     }
 
@@ -377,11 +385,20 @@ impl Serving {
         ensures ends { Stay history_of self.old.end.sockets self.new.end.sockets }
     {
         for at in self.servers.len()..servers.len() {
-            if let Some(text) = text_at(servers, at) {
-                self.resolve_one(rt, text)?;
-            }
+            self.resolve_at(rt, servers, at)?;
         }
         Ok(())
+    }
+
+    // Looks up this one of them.
+    fn resolve_at<R: Net + Eprint>(&mut self, rt: &R, servers: &Servers, at: usize) -> io::Result<()>
+        ensures core { self.new.end.core ≡ self.old.end.core }
+        ensures ends { Stay history_of self.old.end.sockets self.new.end.sockets }
+    {
+        match text_at(servers, at) {
+            Some(text) => self.resolve_one(rt, text),
+            None => Ok(()),
+        }
     }
 
     fn resolve_one<R: Net + Eprint>(&mut self, rt: &R, text: &str) -> io::Result<()>
