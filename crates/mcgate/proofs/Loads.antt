@@ -8,20 +8,21 @@ use Rattle.core_commands.specs.declared.sharing.Sharing.{Sharing}
 use Rattle.core_accepted.specs.declared.served.ServedCore.{ServedCore}
 use Rattle.serve_links.specs.declared.settings.Settings.{Settings}
 use Rattle.serve_wire.specs.declared.sockets.sockets.Sockets.{Sockets}
-use Rattle.serve_links.specs.CoreSteps.{Step, Opened, NotOpened, Fed, Polled, Stopped, Settled, Gave, Closed, LeftLine, Loaded, AreOf, IsOfTurn}
+use Rattle.serve_links.specs.CoreSteps.{Step, Opened, NotOpened, Fed, Polled, Stopped, Settled, Gave, Closed, LeftLine, Loaded, Walks, AreOf, IsOfTurn}
 use Rattle.serve_links.specs.Story.{AnEnd, Agrees, AllGo}
 use Rattle.serve_links.proofs.Walked.{walks_keep}
 use Rattle.serve_proxy.specs.declared.proxy.ProxyEnd.{ProxyEnd}
 use Rattle.serve_proxy.specs.Ends.{Stay, AllGrow, IsLoadOf}
 use Rattle.serve_proxy.proofs.Going.{and_then, stays, same_core}
 use Rattle.serve_proxy.proofs.Growing.{grows}
+use Rattle.serve_proxy.proofs.LogWalks.{walks_are_fresh}
 use Rattle.serve_proxy.proofs.Staying.{stay_still}
 use Rattle.core_accepted.specs.Logs.{IsAccepted}
 use Rattle.serve_proxy.specs.LogsGoOn.{LogsAreFresh}
 use Rattle.mcgate.specs.declared.serve.Servable.{Servable}
 use Rattle.mcgate.specs.declared.serve.Servable.TheVariants as servables
 use Rattle.mcgate.specs.Sharing.{sharing_for}
-use Rattle.mcgate.specs.Serves.{HasTree, BeginsBy, Begins, SaysAfter, IsServed, history_of, proxy_of, Serves, HasServed, StaysFresh}
+use Rattle.mcgate.specs.Serves.{HasTree, BeginsBy, Begins, BeginsServing, SaysAfter, IsServed, history_of, proxy_of, Serves, GoFreshly, HasServed, StaysFresh}
 
 -- an end that began by these settings but for its sharing, which is that of its tree
 pub begins_on :
@@ -69,10 +70,20 @@ loaded servers text configuration says g = record { steps = g.steps; kinds = eac
     each [] kinds = tt
     each (step ∷ steps) kinds = (subst IsServed (sym kinds.0.1) (servers, text, says), each steps kinds.1)
 
--- an end that agreed with nothing at first agrees with all that was done since
-pub has_served : (servable : Servable) (settings : Settings) (first last : ProxyEnd Sockets) → Begins servable settings first.core.value → Agrees [] (proxy_of first) → Serves first last → HasServed servable settings last
-has_served servable settings first last begins agrees g =
-    record { began = first.core.value; begins = begins; steps = g.steps; kinds = g.kinds; walks = g.walks; agrees = subst (λ l. Agrees l (proxy_of last)) (append-nil g.steps) (g.agree [] agrees) }
+-- an end that agreed with nothing at first agrees with all that was done since, and where the gate accepted, each log goes on by that freshly
+has_freshly : (servable : Servable) (settings : Settings) (steps : List Step) (a b : ServedCore) → BeginsBy servable settings a → Walks steps a b → LogsAreFresh b → GoFreshly servable steps a b
+has_freshly (servables.Accepted accepted) settings steps a b begins walks fresh = walks_are_fresh steps a b walks fresh ((walks_keep steps a b walks).0 (accepted, begins.word))
+has_freshly (servables.Unchecked configuration) settings steps a b begins walks fresh = tt
+
+pub has_served :
+    (servable : Servable) (settings : Settings) (first last : ProxyEnd Sockets) → BeginsServing servable settings first → Serves first last → LogsAreFresh last.core.value → HasServed servable settings last
+has_served servable settings first last begins g fresh = record {
+  first = first;
+  begins = begins;
+  serves = g;
+  agrees = subst (λ l. Agrees l (proxy_of last)) (append-nil g.steps) (g.agree [] begins.agrees);
+  fresh = has_freshly servable (record settings { sharing = sharing_for begins.core.0 }) g.steps first.core.value last.core.value begins.core.2 g.walks fresh;
+}
 
 by_kind : (servable : Servable) (settings : Settings) (a b : ServedCore) → BeginsBy servable settings a → (IsAccepted a → IsAccepted b) → LogsAreFresh b → StaysFresh servable b
 by_kind (servables.Accepted accepted) settings a b begins kept fresh = let is = kept (accepted, begins.word) in (is, fresh is)
@@ -80,4 +91,4 @@ by_kind (servables.Unchecked configuration) settings a b begins kept fresh = tt
 
 pub stays_fresh : (servable : Servable) (settings : Settings) (end : ProxyEnd Sockets) → HasServed servable settings end → LogsAreFresh end.core.value → StaysFresh servable end.core.value
 stays_fresh servable settings end served fresh =
-    by_kind servable (record settings { sharing = sharing_for served.begins.0 }) served.began end.core.value served.begins.2 (walks_keep served.steps served.began end.core.value served.walks).0 fresh
+    by_kind servable (record settings { sharing = sharing_for served.begins.core.0 }) served.first.core.value end.core.value served.begins.core.2 (walks_keep served.serves.steps served.first.core.value end.core.value served.serves.walks).0 fresh

@@ -4,8 +4,8 @@
 ghost use Rattle.std.specs.Prelude.{◌≡◌, ◌↔◌, [], ◌∷◌, ◌++◌, drop, length, IsTrue, IfOk, OnOk};
 ghost use Rattle.serve_clients.specs.declared.clients.Clients.{Clients};
 ghost use Rattle.serve_links.specs.Links.{calls_out};
+ghost use Rattle.serve_links.specs.Story.{texts_of};
 ghost use Rattle.serve_proxy.specs.Ends.{line_of, lines_of, LineStands, EndsGo, AddsLines};
-ghost use Rattle.serve_proxy.specs.Texts.{texts_of};
 
 use crate::clock::earlier;
 use crate::texts::text_at;

@@ -3,7 +3,6 @@ use Rattle.mcgate.proofs.serve.serve_to_end.Goals as goal
 
 pub returns : goal.returns
 returns g c =
-    let first = c.in_ok-serving.serving.end in
     let last = c.tell_and_run-ended.new.self.end in
-    let served = has_served c.args.servable c.args.job.now.settings first last c.in_ok-serving.ensures.core c.in_ok-serving.ensures.ends c.tell_and_run-ended.ensures.ends in
+    let served = has_served c.args.servable c.args.job.now.settings c.in_ok-serving.serving.end last c.in_ok-serving.ensures c.tell_and_run-ended.ensures.ends c.logs_are_fresh.ensures in
     record { served = served; fresh = stays_fresh c.args.servable c.args.job.now.settings last served c.logs_are_fresh.ensures }
