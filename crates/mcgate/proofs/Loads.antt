@@ -9,7 +9,7 @@ use Rattle.core_accepted.specs.declared.served.ServedCore.{ServedCore}
 use Rattle.serve_links.specs.declared.settings.Settings.{Settings}
 use Rattle.serve_wire.specs.declared.sockets.sockets.Sockets.{Sockets}
 use Rattle.serve_links.specs.CoreSteps.{Step, Opened, NotOpened, Fed, Polled, Stopped, Settled, Gave, Closed, LeftLine, Loaded, Walks, AreOf, IsOfTurn}
-use Rattle.serve_links.specs.Story.{AnEnd, Agrees, AllGo}
+use Rattle.serve_links.specs.Story.{AnEnd, Agrees, AllGo, texts_of}
 use Rattle.serve_links.proofs.Walked.{walks_keep}
 use Rattle.serve_proxy.specs.declared.proxy.ProxyEnd.{ProxyEnd}
 use Rattle.serve_proxy.specs.Ends.{Stay, AllGrow, IsLoadOf}
@@ -22,7 +22,8 @@ use Rattle.serve_proxy.specs.LogsGoOn.{LogsAreFresh}
 use Rattle.mcgate.specs.declared.serve.Servable.{Servable}
 use Rattle.mcgate.specs.declared.serve.Servable.TheVariants as servables
 use Rattle.mcgate.specs.Sharing.{sharing_for}
-use Rattle.mcgate.specs.Serves.{HasTree, BeginsBy, Begins, BeginsServing, SaysAfter, IsServed, history_of, proxy_of, Serves, GoFreshly, HasServed, StaysFresh}
+use Rattle.mcgate.specs.declared.serving.Serving.{Serving}
+use Rattle.mcgate.specs.Serves.{HasTree, HasServers, BeginsBy, Begins, BeginsServing, SaysAfter, IsServed, history_of, proxy_of, Serves, GoFreshly, HasServed, StaysFresh}
 
 -- an end that began by these settings but for its sharing, which is that of its tree
 pub begins_on :
@@ -47,6 +48,20 @@ of_turn (LeftLine client) is = tt
 each_of_turn : (steps : List Step) → AreOf IsOfTurn steps → AreOf IsServed steps
 each_of_turn [] kinds = tt
 each_of_turn (step ∷ steps) kinds = (of_turn step kinds.0, each_of_turn steps kinds.1)
+
+-- its servers were copied
+pub servers_on :
+    {E : Type 0} (servable known : Servable) (servers : Addresses) (r : Result Addresses E) → servable ≡ known → HasServers known servers → IfOk r (λ copy. copy ≡ servers) → IfOk r (λ copy. HasServers servable copy)
+servers_on servable known servers (Ok copy) is has same = subst (λ x. HasServers x copy) (sym is) (subst (λ (l : Addresses). HasServers known l) (sym same) has)
+servers_on servable known servers (Err fault) is has same = tt
+
+-- what serves is over an end that begins
+pub begins_serving :
+    {E : Type 0} (servable : Servable) (settings : Settings) (servers : Addresses) (end : ProxyEnd Sockets) (r : Result Serving E) → IfOk r (λ serving. serving.end ≡ end)
+    → Begins servable settings end.core.value → Agrees [] (proxy_of end) → texts_of end.sockets.links.all.items ≡ servers → HasServers servable servers → IfOk r (λ serving. BeginsServing servable settings serving.end)
+begins_serving servable settings servers end (Ok serving) is begins agrees texts has =
+    subst (λ x. BeginsServing servable settings x) (sym is) (record { core = begins; agrees = agrees; servers = subst (λ (l : Addresses). HasServers servable l) (sym texts) has })
+begins_serving servable settings servers end (Err fault) is begins agrees texts has = tt
 
 -- a turn
 pub turned : {a b : AnEnd} → AllGo IsOfTurn a b → AllGrow IsServed a b
