@@ -26,7 +26,7 @@ use mcgate_args::input_text::InputFault;
 use mcgate_args::serve_arguments::ServeJob;
 use mcgate_check::status::{BAD_INPUT, DONE, REFUSED};
 use route_json::Config;
-use serve::{Judged, judge_text, look_up_only, serve};
+use serve::{Judged, Servable, judge_text, look_up_only, serve_to_end};
 use special::{is_special, special_line};
 use std::alloc::{AllocError, Global};
 use std::io;
@@ -196,6 +196,24 @@ fn run_loopback<R: Files + Input + AllocGlobal + Net + Clock + Eprint, W: Write>
     let task = Task::Replay { any: false };
     tell_of_task(rt, task, file, &input, status, details);
     Ok(status)
+}
+
+/// Serves a configuration. Where it can't listen there, a line of detail says why.
+fn serve<R: Files + Input + AllocGlobal + Net + Clock + Print + Eprint>(
+    rt: &R,
+    job: ServeJob<'_>,
+    servable: Servable,
+    text: String,
+    lines: Lines,
+    details: &mut Details,
+) -> Result<u8, Stop> {
+    match serve_to_end(rt, &job, servable, text, lines) {
+        Ok((_serving, ended)) => ended,
+        Err(error) => {
+            details.add_listen(rt.alloc(), job.listen, &error);
+            Err(Stop::from(error))
+        }
+    }
 }
 
 /// Serves what a job names, or prints why it isn't served.

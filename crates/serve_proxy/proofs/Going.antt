@@ -1,21 +1,19 @@
 -- How the ends of a proxy go on, by what is done to one of them or by calls of the core alone.
-use Rattle.std.proofs.Common.{◌≡◌, ◌≢◌, ◌⊎◌, inl, inr, ℕ, zero, suc, ◌<◌, Bool, true, false, if◌then◌else◌, List, [], ◌∷◌, ◌++◌, length, get_or, Option, Some, None, Result, Ok, Err, refl, sym, ap, ◌∙◌, subst, append_assoc, append-nil, arith}
+use Rattle.std.proofs.Common.{◌≡◌, ◌≢◌, inl, inr, ℕ, zero, suc, ◌<◌, Bool, true, false, if◌then◌else◌, List, [], ◌∷◌, ◌++◌, length, get_or, Option, Some, None, Result, Ok, Err, refl, sym, ap, ◌∙◌, subst, append_assoc, append-nil, arith}
 use Rattle.std.proofs.Math.ListN.{set}
-use Rattle.std.proofs.lemmas.Bool.{cases_eq, cases_Bool, eq-eqb, eqb-true}
+use Rattle.std.proofs.lemmas.Bool.{eq-eqb}
 use Rattle.std.proofs.lemmas.Option.{slice_get_read}
-use Rattle.std.specs.Prelude.{slice_get, slice_set, nat_eq, IfSome, IfOk, IfErr, OnOk, OnErr, map as each}
+use Rattle.std.specs.Prelude.{slice_get, nat_eq, IfSome, IfOk, IfErr, OnOk, OnErr, map as each}
 use Rattle.std.specs.Option.{option_map}
 use Rattle.fresh_runs.specs.Overlap as log
 use Rattle.wire_parts.specs.Sending.{bytes_of}
-use Rattle.serve_wire.specs.Events.{Event, role, delivered, taken}
-use Rattle.serve_wire.specs.Agreement.{ClientAgrees, ClientLost, TouchesOnly, IsUntouched}
-use Rattle.serve_wire.specs.Calls.{Closes}
+use Rattle.serve_wire.specs.Events.{Event, role, taken}
+use Rattle.serve_wire.specs.Agreement.{TouchesOnly, IsUntouched}
 use Rattle.serve_wire.proofs.Steps.{untouched, only_twice}
-use Rattle.serve_wire.specs.declared.conn.conn.Conn.{Conn}
 use Rattle.core_proxy.specs.declared.fault.CoreFault.{CoreFault}
 use Rattle.core_proxy.specs.declared.note.Poll.{Poll}
-use Rattle.core_proxy.specs.Faults.{CanClose, OpenFault, OutputFault, CloseFault}
-use Rattle.core_proxy.specs.CoreState.{Gives, Closes as ClosesIn, LeavesLine, client_at, output_by}
+use Rattle.core_proxy.specs.Faults.{CanClose, OpenFault, CloseFault}
+use Rattle.core_proxy.specs.CoreState.{Closes as ClosesIn, LeavesLine, client_at, output_by}
 use Rattle.core_proxy.specs.Polls.{Polls, PollFault, Then, Perhaps, BeginsOne, IsPolled}
 use Rattle.core_accepted.specs.Logs.{LogsGoBy}
 use Rattle.core_accepted.specs.Results.{PollStops}
@@ -23,17 +21,17 @@ use Rattle.core_accepted.specs.declared.served.ServedCore.{ServedCore}
 use Rattle.serve_clients.specs.declared.clients.Client.{Client}
 use Rattle.serve_clients.specs.declared.clients.Clients.{Clients}
 use Rattle.serve_clients.specs.Marks.{client_of}
-use Rattle.serve_clients.specs.Agrees.{said_of, Breaks, StateAgrees, EndAgrees, GoesOnAgreeing, AllAgree, KeepsEnds}
+use Rattle.serve_clients.specs.Agrees.{said_of, Breaks, StateAgrees, EndAgrees, GoesOnAgreeing, AllAgree}
 use Rattle.serve_clients.specs.Lending.{with_client}
-use Rattle.serve_clients.proofs.Agreeing.{its, state_stays, agree_still}
+use Rattle.serve_clients.proofs.Agreeing.{state_stays, agree_still}
 use Rattle.serve_links.specs.declared.link.Link.{Link}
-use Rattle.serve_links.specs.CoreSteps.{Step, Opened, NotOpened, Fed, Polled, Stopped, Settled, Gave, Closed, LeftLine, Loaded, Does, Walks, AreOf, GoesBy, IsOfTurn, IsSettlement, IsFailure, GoesOn, Fails}
-use Rattle.serve_links.specs.Pieces.{KeepsAllButHeld, FeedsHeld}
-use Rattle.serve_links.specs.Story.{fed_in, gave_in, AgreesWith, TellsNone, HasOrHad, LineAgrees, LinesAgree, OneGoes, LineGoes, AnEnd, Agrees, AllGo, texts_of}
+use Rattle.serve_links.specs.CoreSteps.{Step, Opened, NotOpened, Fed, Polled, Stopped, Settled, Gave, Closed, LeftLine, Loaded, Does, Walks, AreOf, GoesBy, IsOfTurn, IsSettlement, IsFailure, Fails}
+use Rattle.serve_links.specs.Pieces.{FeedsHeld}
+use Rattle.serve_links.specs.Story.{fed_in, gave_in, AgreesWith, TellsNone, HasOrHad, LineAgrees, LinesAgree, OneGoes, AnEnd, AllGo, texts_of}
 use Rattle.serve_links.proofs.Reading.{breaks_now}
 use Rattle.serve_links.proofs.Story.{same_told, had_stays, one_of_all, line_of_all, line_stays, all_still, all_then}
-use Rattle.serve_links.proofs.Walked.{failed, walked, of_both}
-use Rattle.serve_proxy.specs.Ends.{line_of, lines_of, EndsStay, EndsGo, EndGoes, LineStands}
+use Rattle.serve_links.proofs.Walked.{walked, of_both}
+use Rattle.serve_proxy.specs.Ends.{line_of, lines_of, EndsStay, EndsGo, LineStands}
 use Rattle.serve_proxy.proofs.Staying.{line_same}
 use Rattle.serve_proxy.proofs.Lent.{lent_here, lent_others}
 

@@ -1,13 +1,13 @@
 -- What callers of `Clients::get_mut` know of all clients, once the loan has ended.
-use Rattle.std.proofs.Common.{◌≡◌, ◌≢◌, ◌⊎◌, inl, inr, ℕ, Bool, List, Option, Some, None, refl, sym, ap, ◌∙◌, subst}
+use Rattle.std.proofs.Common.{◌≡◌, ◌≢◌, ◌⊎◌, inl, inr, ℕ, Bool, List, Option, Some, refl, sym, ap, ◌∙◌, subst}
 use Rattle.std.proofs.lemmas.Bool.{cases_eq}
-use Rattle.std.specs.Prelude.{OnSome, slice_set, IfSome}
+use Rattle.std.specs.Prelude.{OnSome, slice_set}
 use Rattle.std.specs.Option.{option_map}
 use Rattle.serve_wire.specs.Events.{Event}
 use Rattle.serve_clients.specs.declared.clients.Client.{Client}
 use Rattle.serve_clients.specs.declared.clients.Clients.{Clients}
 use Rattle.serve_clients.specs.Marks.{client_of}
-use Rattle.serve_clients.specs.Agrees.{said_of, KeepsEnds, EndAgrees, AllAgree}
+use Rattle.serve_clients.specs.Agrees.{said_of, KeepsEnds}
 use Rattle.serve_clients.specs.Lending.{with_client}
 use Rattle.serve_links.specs.declared.link.Link.{Link}
 use Rattle.serve_proxy.specs.Ends.{EndsStay}

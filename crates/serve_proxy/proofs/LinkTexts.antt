@@ -2,7 +2,7 @@
 use Rattle.std.proofs.Common.{◌≡◌, ℕ, zero, suc, ◌+◌, ◌<◌, ◌≤◌, List, [], ◌∷◌, ◌++◌, Some, None, length, drop, refl, sym, ap, ◌∙◌, add-one, append-nil, append_assoc, arith}
 use Rattle.std.specs.Prelude.{slice_get}
 use Rattle.serve_links.specs.declared.link.Link.{Link}
-use Rattle.serve_proxy.specs.Texts.{texts_of}
+use Rattle.serve_links.specs.Story.{texts_of}
 
 texts_more : (links : List Link) (link : Link) → texts_of (links ++ link ∷ []) ≡ texts_of links ++ link.text.items ∷ []
 texts_more [] link = refl

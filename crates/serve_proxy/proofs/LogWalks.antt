@@ -20,11 +20,11 @@ use Rattle.core_proxy.specs.declared.note.Note.{Note}
 use Rattle.core_proxy.specs.declared.note.Poll.{Poll}
 use Rattle.core_proxy.specs.declared.note.Poll.TheVariants as polls
 use Rattle.core_accepted.specs.declared.served.ServedCore.{ServedCore}
-use Rattle.core_accepted.specs.Logs.{MayHaveLed, LogsGoBy, fed}
+use Rattle.core_accepted.specs.Logs.{MayHaveLed, LogsGoBy, IsFreshLog, fed}
 use Rattle.core_accepted.specs.Results.{PollStops, TakesResult, SettleStops}
 use Rattle.serve_links.specs.CoreSteps.{Step, Opened, NotOpened, Fed, Polled, Stopped, Settled, Gave, Closed, LeftLine, Loaded, Linked, Asked, Greeted, Spelled, Does, Walks}
 use Rattle.core_accepted.proofs.Losses.{servers_may_lose}
-use Rattle.serve_proxy.specs.LogsGoOn.{AreOwn, AreTurns, happened, after_turns, GoesOnSaying, StaysOn, SettlesOnLog, AfterTurns, StepGoes, LogGoes, WalksGoOn}
+use Rattle.serve_proxy.specs.LogsGoOn.{AreOwn, AreTurns, happened, after_turns, GoesOnSaying, StaysOn, SettlesOnLog, StepGoes, LogGoes, WalksGoOn, WalksAreFresh}
 
 -- ---- what a core does by itself
 
@@ -211,3 +211,7 @@ module _ (opening : ℕ → List ℕ → Option Item) (past : List (Entry dialec
 
 pub walks_go_on : WalksGoOn
 walks_go_on steps old new walks opening past led = log_goes opening past old led steps new walks (λ later by. Unit {0}) (λ later by. tt)
+
+pub walks_are_fresh : WalksAreFresh
+walks_are_fresh steps old new walks fresh accepted opening past led =
+    log_goes opening past old led steps new walks (λ later by. LosesOnly (run_of later) → IsFreshLog new.core.limits.sharing opening later) (λ later by loses. fresh accepted opening later by loses)

@@ -1,15 +1,14 @@
 -- Clients' ends that begin and end, and what the core gave for one.
 use Rattle.std.proofs.Common.{◌≡◌, ◌≢◌, ◌⊎◌, inl, inr, ℕ, zero, suc, Bool, true, false, if◌then◌else◌, List, [], ◌∷◌, ◌++◌, length, Option, Some, None, Result, Ok, Err, refl, sym, ap, ◌∙◌, subst, append_assoc, append-nil, arith}
-use Rattle.std.proofs.lemmas.Bool.{cases_eq, cases_Bool, eq-eqb, eqb-true}
-use Rattle.std.specs.Prelude.{nat_eq, IfSome, IfErr, OnOk, OnErr, slice_get, slice_set}
+use Rattle.std.proofs.lemmas.Bool.{cases_eq, cases_Bool, eqb-true}
+use Rattle.std.specs.Prelude.{nat_eq, IfSome, IfErr, OnOk, slice_get, slice_set}
 use Rattle.std.specs.Option.{option_map, option_flatten}
 use Rattle.fresh_runs.specs.Overlap as log
 use Rattle.wire_parts.specs.Sending.{bytes_of}
 use Rattle.serve_wire.specs.Events.{Event, admits, ticks, accepts, role, delivered, taken, IsNew}
 use Rattle.serve_wire.specs.Agreement.{TouchesOnly, IsUntouched}
-use Rattle.serve_wire.specs.Calls.{Closes, Accepts}
-use Rattle.serve_wire.specs.declared.outcomes.Accepted.TheVariants as accepted
-use Rattle.serve_wire.proofs.Steps.{equal, unequal, apart, new_apart, untouched, only_closes, only_admits, none_accepts, none_ticks, client_begins, new_accepted}
+use Rattle.serve_wire.specs.Calls.{Closes}
+use Rattle.serve_wire.proofs.Steps.{unequal, apart, new_apart, untouched, only_closes, only_admits, none_accepts, none_ticks, client_begins, new_accepted}
 use Rattle.core_proxy.specs.declared.fault.CoreFault.{CoreFault}
 use Rattle.core_proxy.specs.Faults.{OutputFault}
 use Rattle.core_proxy.specs.CoreState.{Gives, client_at, output_by}
@@ -22,14 +21,14 @@ use Rattle.serve_clients.specs.Agrees.{said_of, Breaks, StateAgrees, EndAgrees, 
 use Rattle.serve_clients.proofs.Agreeing.{its, keeps_none, state_stays, state_breaks}
 use Rattle.serve_clients.proofs.Marked.{kept}
 use Rattle.serve_links.specs.declared.link.Link.{Link}
-use Rattle.serve_links.specs.CoreSteps.{Step, Opened, Gave, Closed, Does, GoesBy, IsOfTurn, IsFailure}
-use Rattle.serve_links.specs.Story.{fed_in, gave_in, AgreesWith, IsGone, IsUnused, HasOrHad, LinesAgree, OneGoes, AnEnd, Agrees, AllGo}
+use Rattle.serve_links.specs.CoreSteps.{Step, Opened, Gave, Closed, Does, GoesBy, IsOfTurn}
+use Rattle.serve_links.specs.Story.{fed_in, gave_in, IsGone, IsUnused, HasOrHad, LinesAgree, OneGoes, Agrees, AllGo}
 use Rattle.serve_links.proofs.Reading.{breaks_now}
 use Rattle.serve_links.proofs.Story.{TellsSame, same_told, gone_stays, end_gone, had_stays, line_stays}
 use Rattle.serve_links.proofs.Walked.{walked, of_both}
-use Rattle.serve_proxy.specs.Ends.{EndsStay, EndsGo, line_of, lines_of}
+use Rattle.serve_proxy.specs.Ends.{EndsStay, EndsGo}
 use Rattle.serve_proxy.proofs.Staying.{quiet}
-use Rattle.serve_proxy.proofs.Going.{IsSilent, tells_none, silent_turn, agree_told, had_quiet, gave_one, gave_state, more_given, one_touched, same_agrees, same_client, not_same}
+use Rattle.serve_proxy.proofs.Going.{IsSilent, tells_none, silent_turn, agree_told, had_quiet, gave_one, gave_state, more_given, one_touched, same_agrees, same_client}
 
 -- ---- what happened on no connection
 

@@ -1,18 +1,17 @@
 -- What a proxy's end has on its wire, and how that stays or goes on. Source: mcgate's own.
-use Rattle.std.specs.Prelude.{◌≡◌, ◌≢◌, ℕ, List, [], ◌++◌, false, Option, Some, None, map as each}
+use Rattle.std.specs.Prelude.{◌≡◌, ℕ, List, ◌++◌, Option, None, map as each}
 use Rattle.std.specs.Option.{option_map}
 use Rattle.serve_wire.specs.Events.{Event, role}
 use Rattle.serve_wire.specs.Agreement.{IsUntouched}
 use Rattle.serve_wire.specs.declared.conn.conn.Conn.{Conn}
 use Rattle.route_json.specs.Configuration.{Configuration}
 use Rattle.core_accepted.specs.declared.served.ServedCore.{ServedCore}
-use Rattle.serve_clients.specs.declared.clients.Client.{Client}
 use Rattle.serve_clients.specs.declared.clients.Clients.{Clients}
-use Rattle.serve_clients.specs.Agrees.{KeepsEnds, said_of}
+use Rattle.serve_clients.specs.Agrees.{KeepsEnds}
 use Rattle.serve_links.specs.declared.link.Link.{Link}
 use Rattle.serve_links.specs.CoreSteps.{Step, Opened, Closed, Loaded, Does, Walks, AreOf, IsOfTurn, IsFailure}
 use Rattle.serve_proxy.specs.declared.sockets.Sockets.{Sockets}
-use Rattle.serve_links.specs.Story.{AnEnd, Agrees, AllGo, OneGoes, LineAgrees, KeepsOthers, texts_of}
+use Rattle.serve_links.specs.Story.{AnEnd, Agrees, AllGo, LineAgrees, KeepsOthers, texts_of}
 
 -- what a link has to do with the wire: the text of its server's address, and the number of its connection
 abbrev pub line_of : Link → List ℕ × Option ℕ
@@ -40,10 +39,6 @@ EndsGo h h' cs cs' ls ls' =
 pub record LineStands (at : ℕ) (h h' : List Event) (old new : Link) : Type 0 where
   pub agrees : LineAgrees h at old → LineAgrees h' at new × KeepsOthers (1, at) h h'
   pub text : new.text ≡ old.text
-
--- a client's end goes on without a call of a core, and so does what its connection tells
-abbrev pub EndGoes : (id : ℕ) (h h' : List Event) (old new : Client) → Type 0
-EndGoes id h h' old new = (core : ServedCore) → OneGoes IsFailure id core h old core h' new
 
 -- of all but a core the ends are as they were
 abbrev pub Stay : {W : Type 0} → (W → List Event) → Sockets W → Sockets W → Type 0

@@ -2,4 +2,3 @@ pub mod Ends
 pub mod LogsGoOn
 pub mod Beginning
 pub mod Stillness
-pub mod Texts

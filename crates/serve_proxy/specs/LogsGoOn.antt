@@ -12,7 +12,7 @@ use Rattle.core_proxy.specs.CoreState.{dialect, client_at, dropped_by}
 use Rattle.core_proxy.specs.Polls.{Then, Perhaps, BeginsOne, IsPolled}
 use Rattle.core_proxy.specs.Settles.{IsCalled}
 use Rattle.core_accepted.specs.declared.served.ServedCore.{ServedCore}
-use Rattle.core_accepted.specs.Logs.{MayHaveLed, IsAccepted, EveryLogIsFresh, fed}
+use Rattle.core_accepted.specs.Logs.{MayHaveLed, IsAccepted, IsFreshLog, EveryLogIsFresh, fed}
 use Rattle.core_accepted.specs.Losses.{IsLoss}
 use Rattle.serve_links.specs.CoreSteps.{Step, Opened, NotOpened, Fed, Polled, Stopped, Settled, Gave, Closed, LeftLine, Loaded, Linked, Asked, Greeted, Spelled, Walks}
 
@@ -93,3 +93,13 @@ WalksGoOn =
 -- where the gate accepted its trees, each log that may have led to the core is fresh, if nobody else writes the servers
 abbrev pub LogsAreFresh : ServedCore → Type 0
 LogsAreFresh served = IsAccepted served → EveryLogIsFresh served
+
+-- each log that may have led to the core before goes on by just these calls, and is fresh then, if nobody else writes the servers
+abbrev pub LogsGoFreshly : List Step → (old new : ServedCore) → Type 0
+LogsGoFreshly steps old new =
+    (opening : ℕ → List ℕ → Option Item) (past : List (Entry dialect)) (led : MayHaveLed opening past old)
+    → LogGoes opening steps past old led new (λ later by. LosesOnly (run_of later) → IsFreshLog new.core.limits.sharing opening later)
+
+-- a law of all walks: where the gate accepted the trees, each log goes on by them so
+abbrev pub WalksAreFresh : Type 0
+WalksAreFresh = (steps : List Step) (old new : ServedCore) → Walks steps old new → LogsAreFresh new → IsAccepted new → LogsGoFreshly steps old new

@@ -1,7 +1,7 @@
 //! Laws of what may happen to the core of a proxy.
 
 ghost use Rattle.serve_links.specs.CoreSteps.{WalksKeep};
-ghost use Rattle.serve_proxy.specs.LogsGoOn.{WalksGoOn};
+ghost use Rattle.serve_proxy.specs.LogsGoOn.{WalksGoOn, WalksAreFresh};
 
 /// A core whose trees the gate accepted stays one, whatever calls of it are made, and so does one on other trees.
 pub fn walks_keep()
@@ -12,4 +12,10 @@ pub fn walks_keep()
 /// `core_accepted` promises of such logs holds after any turns.
 pub fn walks_go_on()
     ensures { WalksGoOn }
+{}
+
+/// On trees that the gate accepted each log that may have led to a core goes on by any calls of it, and is fresh then, if nobody else
+/// writes the servers.
+pub fn walks_are_fresh()
+    ensures { WalksAreFresh }
 {}

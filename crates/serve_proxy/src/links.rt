@@ -4,8 +4,8 @@
 ghost use Rattle.std.specs.Prelude.{◌≡◌, ◌↔◌, [], ◌∷◌, ◌++◌, drop, length, IsTrue, IfOk, OnOk};
 ghost use Rattle.serve_clients.specs.declared.clients.Clients.{Clients};
 ghost use Rattle.serve_links.specs.Links.{calls_out};
+ghost use Rattle.serve_links.specs.Story.{texts_of};
 ghost use Rattle.serve_proxy.specs.Ends.{line_of, lines_of, LineStands, EndsGo, AddsLines};
-ghost use Rattle.serve_proxy.specs.Texts.{texts_of};
 
 use crate::clock::earlier;
 use crate::texts::text_at;
@@ -419,14 +419,19 @@ impl Links {
             return None;
         }
         for at in 0..self.all.len() {
-            if let Some(link) = self.all.get_mut(at) {
-                if let Some(news) = link.take_news(time) {
-                    return Some((at, news));
-                }
+            if let Some(news) = self.take_news(at, time) {
+                return Some((at, news));
             }
         }
         self.has_news = self.news_limit().is_some();
         None
+    }
+
+    // What happened to this link, if that may be told by now.
+    fn take_news(&mut self, at: usize, time: u64) -> Option<LinkNews>
+        ensures lines { lines_of self.new.all.items ≡ lines_of self.old.all.items }
+    {
+        self.all.get_mut(at)?.take_news(time)
     }
 
     /// They give back the room that they don't need now. Whether one has much that it needs.

@@ -5,11 +5,10 @@ ghost use Rattle.std.specs.Prelude.{◌≡◌, ◌↔◌, [], ◌++◌, drop, le
 ghost use Rattle.core_accepted.specs.Loading.{IsLoaded};
 ghost use Rattle.serve_links.specs.CoreSteps.{GoesOn, Fails};
 ghost use Rattle.serve_links.specs.Links.{IsDownAt, IsClosedAt};
-ghost use Rattle.serve_links.specs.Story.{Agrees};
+ghost use Rattle.serve_links.specs.Story.{Agrees, texts_of};
 ghost use Rattle.serve_proxy.specs.Ends.{Stay, end_of, AllGoOn, AllFailOn, AllLoad, HasNoClients};
 ghost use Rattle.serve_proxy.specs.LogsGoOn.{LogsAreFresh};
 ghost use Rattle.serve_proxy.specs.Stillness.{IsStill};
-ghost use Rattle.serve_proxy.specs.Texts.{texts_of};
 ghost use Rattle.serve_proxy.specs.Beginning.{BeginsFresh, BeginsUnchecked, LoadStops};
 
 use crate::accepting::accept_ready;

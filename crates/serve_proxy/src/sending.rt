@@ -1,7 +1,6 @@
 //! What is to be sent goes out: calls to servers, and replies to clients. Each end is written once.
 
 ghost use Rattle.std.specs.Prelude.{ℕ};
-ghost use Rattle.serve_links.specs.CoreSteps.{GoesOn};
 ghost use Rattle.serve_proxy.specs.Ends.{Stay, GoAlone, LineStands, AllGoOn, AllFailOn};
 
 use crate::calls::begin_waiting;

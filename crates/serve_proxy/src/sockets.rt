@@ -136,11 +136,19 @@ impl<W: Wire> Sockets<W> {
     {
         let count = self.wire.wait(limit)?;
         for at in 0..count {
-            if let Some(report) = self.wire.report(at) {
-                self.note(report)?;
-            }
+            self.note_report(at)?;
         }
         self.look(clock)
+    }
+
+    // What was told by this report of the last wait.
+    fn note_report(&mut self, at: usize) -> Result<(), AllocError>
+        ensures ends { Stay W.history self.old self.new }
+    {
+        match self.wire.report(at) {
+            Some(report) => self.note(report),
+            None => Ok(()),
+        }
     }
 
     // What was told.

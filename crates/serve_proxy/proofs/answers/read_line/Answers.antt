@@ -1,4 +1,4 @@
-use Rattle.std.proofs.Common.{◌≡◌, Some, refl, sym, ap, ◌∙◌}
+use Rattle.std.proofs.Common.{Some, refl, sym, ap, ◌∙◌}
 use Rattle.std.specs.Option.{option_map}
 use Rattle.serve_wire.specs.declared.conn.conn.Conn.{Conn}
 use Rattle.serve_links.proofs.Reading.{came}

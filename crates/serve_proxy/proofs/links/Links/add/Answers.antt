@@ -1,5 +1,5 @@
 use Rattle.std.proofs.Common.{◌++◌, drop, length, refl}
-use Rattle.serve_proxy.specs.Texts.{texts_of}
+use Rattle.serve_links.specs.Story.{texts_of}
 use Rattle.serve_proxy.proofs.Growing.{adds_none, adds_twice}
 use Rattle.serve_proxy.proofs.LinkTexts.{text_added, text_there}
 use Rattle.serve_proxy.proofs.links.Links.add.Goals.{in-Some+in_ok-add_one, in_default}

@@ -1,6 +1,6 @@
 use Rattle.std.proofs.Common.{◌≡◌, ◌++◌, drop, length}
 use Rattle.serve_proxy.specs.Ends.{AddsLines}
-use Rattle.serve_proxy.specs.Texts.{texts_of}
+use Rattle.serve_links.specs.Story.{texts_of}
 use Rattle.serve_proxy.proofs.links.Links.add.Given as goal
 
 abbrev pub invariant-loop-at : goal.invariant-loop-at

@@ -1,4 +1,4 @@
-use Rattle.std.proofs.Common.{◌≡◌, ◌∙◌}
+use Rattle.std.proofs.Common.{◌∙◌}
 use Rattle.serve_proxy.proofs.links.Links.give_back.Goals as goal
 
 pub loop-at-preserved : goal.loop-at-preserved

@@ -1,4 +1,4 @@
-use Rattle.std.proofs.Common.{◌≡◌, ◌∙◌}
+use Rattle.std.proofs.Common.{◌∙◌}
 use Rattle.serve_proxy.proofs.Staying.{line_lent}
 use Rattle.serve_proxy.proofs.links.Links.look_again.Goals as goal
 

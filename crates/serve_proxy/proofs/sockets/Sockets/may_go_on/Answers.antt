@@ -1,5 +1,4 @@
-use Rattle.std.proofs.Common.{refl, sym, ap}
-use Rattle.serve_clients.specs.Agrees.{said_of}
+use Rattle.std.proofs.Common.{refl, sym}
 use Rattle.serve_proxy.proofs.Lent.{on_some, stay_lent}
 use Rattle.serve_proxy.proofs.sockets.Sockets.may_go_on.Goals as goal
 

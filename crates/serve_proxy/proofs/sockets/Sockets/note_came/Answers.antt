@@ -1,4 +1,4 @@
-use Rattle.std.proofs.Common.{◌≡◌, ◌∙◌}
+use Rattle.std.proofs.Common.{◌∙◌}
 use Rattle.serve_proxy.proofs.Staying.{line_lent, stay_links}
 use Rattle.serve_proxy.proofs.sockets.Sockets.note_came.Goals as goal
 

@@ -1,4 +1,4 @@
-use Rattle.std.proofs.Common.{refl, sym, ap}
+use Rattle.std.proofs.Common.{sym, ap}
 use Rattle.serve_clients.specs.Agrees.{said_of}
 use Rattle.serve_proxy.proofs.Lent.{on_some, stay_lent}
 use Rattle.serve_proxy.proofs.sockets.Sockets.note_went_on.Goals as goal

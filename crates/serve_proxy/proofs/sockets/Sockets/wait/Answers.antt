@@ -9,10 +9,10 @@ pub loop-at-init : goal.loop-at-init
 loop-at-init g c = stay_same _ _ _ _ c.wait-count.ensures
 
 pub loop-at-preserved : goal.loop-at-preserved
-loop-at-preserved g c = stay_then c.loop-at.invariant c.note.ensures.ends
+loop-at-preserved g c = stay_then c.loop-at.invariant c.note_report.ensures.ends
 
-pub returns-in_err-note : goal.returns-in_err-note
-returns-in_err-note g c = record { ends = stay_then c.loop-at.invariant c.note.ensures.ends }
+pub returns-in_err-note_report : goal.returns-in_err-note_report
+returns-in_err-note_report g c = record { ends = stay_then c.loop-at.invariant c.note_report.ensures.ends }
 
 pub returns : goal.returns
 returns g c = record { ends = stay_then c.loop-at.invariant c.look.ensures.ends }
