@@ -1,5 +1,5 @@
 -- Answers that settle calls, as steps of a walk.
-use Rattle.std.proofs.Common.{◌≡◌, ℕ, ◌≤◌, true, false, if◌then◌else◌, List, [], ◌∷◌, ◌++◌, length, take, drop, Option, Some, None, refl, sym, ap, ◌∙◌, subst, append_assoc, append-nil, length-take, arith}
+use Rattle.std.proofs.Common.{◌≡◌, ℕ, ◌≤◌, false, if◌then◌else◌, List, [], ◌∷◌, ◌++◌, length, take, drop, Option, Some, None, refl, sym, ap, ◌∙◌, subst, append_assoc, append-nil, length-take, arith}
 use Rattle.std.proofs.lemmas.List.{take-append-drop}
 use Rattle.mc_types.specs.declared.ask.Ask.{Ask}
 use Rattle.mc_types.specs.declared.ask.Dialect.{Dialect}
@@ -11,7 +11,6 @@ use Rattle.wire_meta_gets.specs.Form.{in_meta}
 use Rattle.serve_wire.proofs.Steps.{equal}
 use Rattle.core_proxy.specs.Settles as of_calls
 use Rattle.core_accepted.specs.declared.served.ServedCore.{ServedCore}
-use Rattle.core_accepted.specs.Results.{IsSettled}
 use Rattle.serve_links.specs.declared.calls.calls.SentCall.{SentCall}
 use Rattle.serve_links.specs.CoreSteps.{Step, Settled, Spelled, Walks, AreOf, IsOfTurn}
 use Rattle.serve_links.specs.Dialects.{SpellsIn}
@@ -118,7 +117,7 @@ both at sent bytes a mid left m sent' rest b f g = record {
         subst (λ l. IsOrderly l × (talk_in l at ≡ record (talk_in past at) { told = (talk_in past at).told ++ (f.spelled ++ g.spelled); out = said_asks sent' })) (sym (append_assoc g.steps f.steps past)) (
           later.0,
           later.1 ∙ ap (λ (t : Talk). record t { told = t.told ++ g.spelled; out = said_asks sent' }) first.1
-          ∙ ap (λ (l : List ℕ). record (talk_in past at) { told = l; out = said_asks sent' }) (append_assoc (talk_in past at).told f.spelled g.spelled),
+              ∙ ap (λ (l : List ℕ). record (talk_in past at) { told = l; out = said_asks sent' }) (append_assoc (talk_in past at).told f.spelled g.spelled),
         )
 
 -- one after another

@@ -1,11 +1,10 @@
 -- What is done at one link, as steps of a walk with which it goes on to agree.
-use Rattle.std.proofs.Common.{◌≡◌, ◌≢◌, ℕ, ◌≤◌, Bool, true, false, if◌then◌else◌, List, [], ◌∷◌, ◌++◌, length, take, drop, Option, Some, None, ◌⊎◌, inl, inr, refl, sym, ap, ◌∙◌, subst, append_assoc}
+use Rattle.std.proofs.Common.{◌≡◌, ℕ, Bool, true, false, if◌then◌else◌, List, [], ◌∷◌, ◌++◌, Option, Some, None, ◌⊎◌, inl, inr, refl, sym, ap, ◌∙◌, subst, append_assoc}
 use Rattle.std.specs.Prelude.{IfSome, nat_eq}
 use Rattle.std.specs.Option.{option_map}
 use Rattle.std.proofs.lemmas.Bool.{cases_Bool, eqb-true}
 use Rattle.mc_types.specs.declared.ask.Ask.{Ask}
 use Rattle.mc_types.specs.declared.ask.Dialect.{Dialect}
-use Rattle.mc_types.specs.declared.call.Outcome.TheVariants.{Failed}
 use Rattle.wire_stream.specs.Spelling.{spelling_of}
 use Rattle.wire_parts.specs.Sending.{bytes_of}
 use Rattle.serve_wire.specs.Events.{Event, connects, role, address_of, delivered, taken, IsNew}
@@ -13,20 +12,20 @@ use Rattle.serve_wire.specs.Flow.{ReadsOn, SendsOn}
 use Rattle.serve_wire.specs.Calls.{Closes}
 use Rattle.serve_wire.specs.Agreement.{IsUntouched, TouchesOnly}
 use Rattle.serve_wire.specs.declared.conn.conn.Conn.{Conn}
-use Rattle.serve_wire.proofs.Steps.{equal, apart, new_apart, untouched, only_twice, only_connects, only_closes, address_begins}
+use Rattle.serve_wire.proofs.Steps.{equal, new_apart, untouched, only_twice, only_connects, only_closes, address_begins}
 use Rattle.core_accepted.specs.declared.served.ServedCore.{ServedCore}
 use Rattle.serve_links.specs.declared.calls.calls.SentCall.{SentCall}
 use Rattle.serve_links.specs.declared.settings.ServerDialect.{ServerDialect}
 use Rattle.serve_links.specs.declared.link.Opening.{Opening}
 use Rattle.serve_links.specs.declared.link.Opening.TheVariants as opening
 use Rattle.serve_links.specs.declared.link.Link.{Link}
-use Rattle.serve_links.specs.CoreSteps.{Step, Opened, NotOpened, Fed, Polled, Stopped, Settled, Gave, Closed, LeftLine, Loaded, Linked, Asked, Greeted, Spelled, Walks, AreOf, IsOfTurn, IsFailure, IsSending, Fails}
+use Rattle.serve_links.specs.CoreSteps.{Step, Opened, NotOpened, Fed, Polled, Stopped, Settled, Gave, Closed, LeftLine, Loaded, Linked, Asked, Greeted, Spelled, AreOf, IsOfTurn, IsFailure, IsSending, Fails}
 use Rattle.serve_links.specs.Dialects.{asked_in}
 use Rattle.serve_links.specs.Lines.{first_asked_of, awaits_first, SameLine, KeepsLines, IsNewEnd, HasNewEnd, OpensBy, UsesSome, Learns}
 use Rattle.serve_links.specs.Settled.{SettlesSome}
-use Rattle.serve_links.specs.Talks.{SaidAsk, Talk, first_talk, with_ask, greeted, talk_in, IsCalledIn, IsOrderly, IsOfServer}
+use Rattle.serve_links.specs.Talks.{SaidAsk, Talk, first_talk, with_ask, greeted, talk_in, IsOfServer}
 use Rattle.serve_links.specs.Story.{said_asks, AreCalled, TalkAgrees, ConnAgrees, LineAgrees, LineLost, LineCalled, line_of, KeepsOthers, LineGoesFrom, LineGoes, AnEnd, Agrees, AgreesLosing}
-use Rattle.serve_links.proofs.Talking.{calls_later, one_more, IsPlain, plain_talk, plain_orderly}
+use Rattle.serve_links.proofs.Talking.{calls_later, one_more, IsPlain, plain_orderly}
 use Rattle.serve_links.proofs.Answering.{Answers, answers_some}
 use Rattle.serve_links.proofs.Story.{line_stays}
 
@@ -87,13 +86,16 @@ as_lost at past h x a = record { conn = λ conn is. (conn.held.items, a.conn con
 
 -- where all agree, all agree but for what one link may hold
 pub losing : (at : ℕ) (past : List Step) (x : AnEnd) → Agrees past x → AgreesLosing past x
-losing at past x a = (at, record {
-  orderly = a.orderly;
-  clients = a.clients;
-  links = λ j link other there. a.links j link there;
-  this = λ link there. as_lost at past x.history link (a.links at link there);
-  gone = a.gone;
-})
+losing at past x a = (
+  at,
+  record {
+    orderly = a.orderly;
+    clients = a.clients;
+    links = λ j link other there. a.links j link there;
+    this = λ link there. as_lost at past x.history link (a.links at link there);
+    gone = a.gone;
+  },
+)
 
 -- nothing happened but at the connection, and no step is told of
 pub line_moves :

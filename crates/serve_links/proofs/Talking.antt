@@ -1,5 +1,5 @@
 -- What steps leave of what was told before them.
-use Rattle.std.proofs.Common.{◌≡◌, ℕ, ◌==◌, true, false, if◌then◌else◌, List, [], ◌∷◌, ◌++◌, refl, sym, ap, ◌∙◌, subst, append_assoc}
+use Rattle.std.proofs.Common.{◌≡◌, ℕ, false, if◌then◌else◌, List, [], ◌∷◌, ◌++◌, refl, sym, ap, ◌∙◌, subst, append_assoc}
 use Rattle.std.specs.Prelude.{nat_eq}
 use Rattle.mc_types.specs.declared.ask.Ask.{Ask}
 use Rattle.mc_types.specs.declared.call.Outcome.TheVariants.{Failed}
@@ -7,7 +7,7 @@ use Rattle.core_proxy.specs.declared.note.Poll.TheVariants as polls
 use Rattle.serve_links.specs.declared.calls.calls.SentCall.{SentCall}
 use Rattle.serve_links.specs.Lines.{first_asked_of, awaits_first}
 use Rattle.serve_links.specs.CoreSteps.{Step, Opened, NotOpened, Fed, Polled, Stopped, Settled, Gave, Closed, LeftLine, Loaded, Linked, Asked, Greeted, Spelled, AreOf}
-use Rattle.serve_links.specs.Talks.{Talk, first_talk, with_ask, greeted, with_answer, talk_in, IsCalledIn, ComesBy, MayFollow, IsOrderly, IsOfClients, IsOfServer}
+use Rattle.serve_links.specs.Talks.{first_talk, with_ask, greeted, with_answer, talk_in, IsCalledIn, ComesBy, MayFollow, IsOrderly, IsOfClients, IsOfServer}
 use Rattle.serve_links.specs.Story.{TellsNone, AreCalled}
 
 -- ---- calls that the core gave out

@@ -2,7 +2,7 @@ use Rattle.std.proofs.Common.{ℕ, List, drop, sym, ap, ◌∙◌}
 use Rattle.serve_wire.proofs.Anew.{anew_held, anew_twice}
 use Rattle.serve_clients.proofs.Agreeing.{keeps_twice}
 use Rattle.serve_links.proofs.Walked.{then}
-use Rattle.serve_links.proofs.Leaving.{both, between, front_then, front_as}
+use Rattle.serve_links.proofs.Leaving.{both, between, front_then}
 use Rattle.serve_links.proofs.outcomes.settle_some.Goals as goal
 
 pub returns-in_err-others-clause-core : goal.returns-in_err-others-clause-core
