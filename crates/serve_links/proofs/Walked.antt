@@ -124,13 +124,6 @@ pub by_output :
 by_output client (Ok done) a b ok err fresh = one IsOfTurn (Gave client (output_by (client_at a.core client))) a b tt (ok, fresh)
 by_output client (Err fault) a b ok err fresh = still err.1
 
--- what the core had for the client was given, where it was no error
-pub does_give :
-    (client : ℕ) (r : Result (Unit {0}) CoreFault) (a b : ServedCore) → OnOk r (Gives a.core client (output_by (client_at a.core client)) b.core)
-    → OnOk r (LogsGoBy a (λ entries. entries ≡ log.Gives client (output_by (client_at a.core client)) ∷ []) b) → OnOk r (Does (Gave client (output_by (client_at a.core client))) a b)
-does_give client (Ok done) a b ok fresh = (ok, fresh)
-does_give client (Err fault) a b ok fresh = tt
-
 pub by_close :
     (client : ℕ) (r : Result (Unit {0}) CoreFault) (a b : ServedCore) → OnOk r (CanClose a.core client × Closes a.core client b.core)
     → IfErr r (λ fault. CloseFault a.core client fault × (b ≡ a)) → OnOk r (LogsGoBy a (λ entries. entries ≡ log.Resets client ∷ []) b) → GoesOn a b
