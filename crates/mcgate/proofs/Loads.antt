@@ -9,6 +9,8 @@ use Rattle.core_accepted.specs.declared.served.ServedCore.{ServedCore}
 use Rattle.serve_links.specs.declared.settings.Settings.{Settings}
 use Rattle.serve_links.specs.CoreSteps.{Step, Opened, NotOpened, Fed, Polled, Stopped, Settled, Gave, Closed, LeftLine, Loaded, AreOf, IsOfTurn, GoesOn}
 use Rattle.serve_links.proofs.Walked.{still, walks_keep}
+use Rattle.core_accepted.specs.Begun.{any_begun}
+use Rattle.core_accepted.specs.Known.{first_of}
 use Rattle.core_accepted.specs.Logs.{IsAccepted}
 use Rattle.serve_proxy.specs.LogsGoOn.{LogsAreFresh}
 use Rattle.mcgate.specs.declared.serve.Servable.{Servable}
@@ -52,7 +54,7 @@ by_text servers text a b (inl same) = still same
 by_text servers text a b (inr loaded) = by_load servers text loaded.0 a b loaded.1 loaded.2
 
 by_kind : (servable : Servable) (settings : Settings) (a b : ServedCore) → BeginsBy servable settings a → (IsAccepted a → IsAccepted b) → LogsAreFresh b → StaysFresh servable b
-by_kind (servables.Accepted accepted) settings a b begins kept fresh = let is = kept (accepted, begins.word) in (is, fresh is)
+by_kind (servables.Accepted accepted) settings a b begins kept fresh = let is = kept (first_of begins.config any_begun, begins.word, refl) in (is, fresh is)
 by_kind (servables.Unchecked configuration) settings a b begins kept fresh = tt
 
 pub stays_fresh : (servable : Servable) (settings : Settings) (core : ServedCore) → HasServed servable settings core → LogsAreFresh core → StaysFresh servable core
