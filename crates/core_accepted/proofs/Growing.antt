@@ -1,5 +1,5 @@
 -- The ledger of one configuration more.
-use Rattle.std.proofs.Common.{◌≡◌, ℕ, suc, ◌-◌, ◌<◌, ◌≤◌, Bool, true, false, cond, List, [], ◌∷◌, ◌++◌, length, max, nat_lt, slice_get, Option, Some, Result, Ok, Err, refl, sym, ap, ◌∙◌, subst, arith}
+use Rattle.std.proofs.Common.{◌≡◌, ℕ, suc, ◌≤◌, cond, List, [], ◌∷◌, ◌++◌, length, max, Result, Ok, Err, sym, ap, ◌∙◌, subst, arith}
 use Rattle.std.specs.Prelude.{MatchResult, IfOk, IfErr, OnOk, OnErr}
 use Rattle.std.proofs.lemmas.Bool.{lt-ltb, le-ltb}
 use Rattle.std.proofs.lemmas.List.{length_push}
@@ -7,7 +7,6 @@ use Rattle.route_tree.specs.Route.{Route}
 use Rattle.route_json.specs.Configuration.{Configuration}
 use Rattle.gate_check.specs.Sound.{trees_of}
 use Rattle.gate_check.proofs.Following.{trees_more, length_trees}
-use Rattle.gate_growth.specs.declared.ledger.page.Beginning.{Beginning}
 use Rattle.gate_growth.specs.declared.ledger.book.Ledger.{Ledger}
 use Rattle.gate_growth.specs.declared.ledger.unsound.Unsound.{Unsound}
 use Rattle.gate_growth.specs.Pages.{is_any, AreOpened}

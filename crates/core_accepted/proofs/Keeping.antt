@@ -18,7 +18,6 @@ use Rattle.route_tree.specs.Word.{tree_words}
 use Rattle.route_tree.proofs.Copies.{trees_bar}
 use Rattle.route_json.specs.Configuration.{Configuration}
 use Rattle.gate_check.specs.Sound.{AreLoaded, IsLast, trees_of}
-use Rattle.gate_growth.specs.declared.ledger.page.Beginning.{Beginning}
 use Rattle.gate_growth.specs.declared.ledger.page.Beginning.TheVariants.{Any}
 use Rattle.gate_growth.specs.Pages.{is_any}
 use Rattle.gate_growth.specs.Grown.{AreSoundSince, OpensBy}

@@ -53,8 +53,9 @@ impl ServedCore {
     ) -> Result<ServedCore, AllocError>
         ensures { IfOk result (λ served. IsNewFrom accepted begun limits served) }
     {
-        let generations = Generations::first(alloc, accepted.config(), begun)?;
-        let tree = accepted.config().tree().copy()?;
+        let config = accepted.config();
+        let generations = Generations::first(alloc, config, begun)?;
+        let tree = config.tree().copy()?;
         Ok(ServedCore {
             core: Core::unchecked(alloc, tree, limits),
             accepted: Some(generations),

@@ -298,12 +298,7 @@ fn own_begun() -> Beginnings {
 
 fn gated_core(alloc: Global, text: &str, begun: Beginnings) -> Result<ServedCore, Fail> {
     match judge(alloc, config(alloc, text)?) {
-        Ok(accepted) => Ok(ServedCore::new_from(
-            alloc,
-            accepted,
-            begun,
-            Limits::of_scripts(),
-        )?),
+        Ok(accepted) => Ok(ServedCore::new_from(alloc, accepted, begun, Limits::of_scripts())?),
         Err(_) => Err("the gate refuses the configuration")?,
     }
 }

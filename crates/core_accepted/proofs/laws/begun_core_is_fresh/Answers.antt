@@ -1,4 +1,4 @@
-use Rattle.std.proofs.Common.{◌∙◌, sym, subst}
+use Rattle.std.proofs.Common.{subst}
 use Rattle.core_accepted.specs.Known.{Known, is_arbitrary}
 use Rattle.core_accepted.specs.Logs.{EveryLogFromIsFresh}
 use Rattle.core_accepted.proofs.Keeping.{grown_logs_are_fresh, same_known}
