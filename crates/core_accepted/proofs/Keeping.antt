@@ -1,24 +1,29 @@
 -- What the core's steps are for a core that is served.
-use Rattle.std.proofs.Common.{◌≡◌, ℕ, zero, suc, ◌-◌, Bool, true, false, List, [], ◌∷◌, ◌++◌, length, slice_get, Option, Some, None, Result, Ok, Err, refl, sym, ap, ◌∙◌, subst, arith}
+use Rattle.std.proofs.Common.{◌≡◌, ℕ, zero, suc, ◌-◌, Bool, true, false, cond, nat_lt, List, [], ◌∷◌, ◌++◌, length, slice_get, Option, Some, None, Result, Ok, Err, refl, sym, ap, ◌∙◌, subst, arith}
 use Rattle.std.specs.Prelude.{IfOk, IfErr}
 use Rattle.fresh_runs.specs.Overlap as log
 use Rattle.fresh_runs.specs.Overlap.{Entry}
 use Rattle.fresh_runs.specs.OverlapState.{LeadsTo}
-use Rattle.fresh_runs.specs.Cover.{IsCovered}
 use Rattle.mc_types.specs.Items.{Item}
 use Rattle.fresh_runs.specs.Overlap.{run_of}
 use Rattle.fresh_runs.specs.OverlapState.{OverlapState}
-use Rattle.fresh_runs.specs.Sharing.{AreAlone, CopiesBar, IsFreshByNumber}
+use Rattle.fresh_runs.specs.Sharing.{AreAlone, CopiesBar, LosesOnly, IsFreshByNumber}
 use Rattle.fresh_runs.proofs.OverlapRuns.{runs}
-use Rattle.fresh_runs.proofs.SharingFresh as sharing
 use Rattle.fresh_runs.proofs.SharingStale.{counts_stale}
 use Rattle.route_tree.specs.At.{tree_at}
 use Rattle.route_tree.specs.Plan.{Plan}
-use Rattle.route_tree.specs.Route.{Route}
+use Rattle.route_tree.specs.Each.{Each}
+use Rattle.route_tree.specs.Route.{Route, IsTree}
 use Rattle.route_tree.specs.Word.{tree_words}
 use Rattle.route_tree.proofs.Copies.{trees_bar}
 use Rattle.route_json.specs.Configuration.{Configuration}
-use Rattle.gate_check.specs.Sound.{AreGenerations, AreLoaded, GenerationsAreFresh, IsLast, trees_of}
+use Rattle.gate_check.specs.Sound.{AreLoaded, IsLast, trees_of}
+use Rattle.gate_growth.specs.declared.ledger.page.Beginning.TheVariants.{Any}
+use Rattle.gate_growth.specs.Pages.{is_any}
+use Rattle.gate_growth.specs.Grown.{AreSoundSince, OpensBy}
+use Rattle.gate_growth.specs.Untouched.{IsCoveredOrUntouched}
+use Rattle.gate_growth.proofs.Since.{since_is_covered}
+use Rattle.gate_growth.proofs.UntouchedFresh as untouched
 use Rattle.core_proxy.specs.declared.limits.Limits.{Limits}
 use Rattle.core_proxy.specs.declared.proxy.Core.{Core}
 use Rattle.core_proxy.specs.declared.fault.CoreFault.{CoreFault}
@@ -29,11 +34,11 @@ use Rattle.core_proxy.specs.Claims.{is_delete, clears_by, copies_by, bars_by}
 use Rattle.core_proxy.specs.Faults.{CanOpen, OpenFault}
 use Rattle.core_proxy.specs.CoreState as core_state
 use Rattle.core_proxy.specs.CoreState.{dialect, bars_of, nothing_beside, state_of, FeedsOpen, GoesBy}
+use Rattle.core_accepted.specs.declared.beginnings.Beginnings.{Beginnings}
 use Rattle.core_accepted.specs.declared.served.ServedCore.{ServedCore}
-use Rattle.core_accepted.specs.Logs.{MayBeLoaded, MayHaveLed, LogsGoBy, IsNew, IsUnchecked, fed, EveryLogIsFresh}
-
-same_config : (xs : List Configuration) (c d : Configuration) → IsLast xs c → IsLast xs d → c ≡ d
-same_config xs c d e f = cc
+use Rattle.core_accepted.specs.Begun.{any_begun}
+use Rattle.core_accepted.specs.Known.{Known, is_arbitrary, first_of}
+use Rattle.core_accepted.specs.Logs.{MayBeLoaded, MayHaveLed, LogsGoBy, IsNewFrom, IsUnchecked, fed, IsFreshLog, IsAccepted, EveryLogIsFresh, EveryLogFromIsFresh}
 
 tree_at_number : (xs : List Configuration) (i : ℕ) (c : Configuration) → slice_get xs i ≡ Some c → slice_get (trees_of xs) i ≡ Some c.tree
 tree_at_number [] i c e = absurd (cc)
@@ -54,7 +59,7 @@ led_there old x opening at plans log now same limits leads =
 
 -- the empty log led to a new core by its tree
 led_by_none :
-    (word : Option (List Configuration)) (tree : Route) (limits : Limits) (x : Core) → MayBeLoaded word (λ _. tree) → core_state.IsFresh tree limits x
+    (word : Option Known) (tree : Route) (limits : Limits) (x : Core) → MayBeLoaded word (λ _. tree) → core_state.IsFresh tree limits x
     → (opening : ℕ → List ℕ → Option Item) → MayHaveLed opening [] (record { core = x; accepted = word })
 led_by_none word tree limits x loaded new opening =
     let plans : ℕ → List ℕ → Plan = λ n key. tree_at tree key in
@@ -67,13 +72,12 @@ led_by_none word tree limits x loaded new opening =
       leads = subst (λ (l : Limits). LeadsTo (tree_words plans) (bars_by l.sharing plans) opening [] (state_of x (nothing_beside plans opening))) (sym new.limits_are) (new.leads plans opening);
     }
 
-pub new_is_led : (xs : List Configuration) (c : Configuration) (limits : Limits) (x : Core) → IsLast xs c → core_state.IsFresh c.tree limits x → IsNew xs limits (record { core = x; accepted = Some xs })
-new_is_led xs c limits x at new =
-    record {
-      word = refl;
-      core_is = λ d other. subst (λ (k : Configuration). core_state.IsFresh k.tree limits x) (same_config xs c d at other) new;
-      led = led_by_none (Some xs) c.tree limits x (all_by_last xs c at) new;
-    }
+pub new_is_led :
+    (xs : List Configuration) (c : Configuration) (begun : Beginnings) (limits : Limits) (x : Core) (known : Known) → IsLast xs c → known ≡ first_of c begun → core_state.IsFresh c.tree limits x
+    → IsNewFrom xs begun limits (record { core = x; accepted = Some known })
+new_is_led xs c begun limits x known at is new =
+    subst (λ (k : Known). IsNewFrom xs begun limits (record { core = x; accepted = Some k })) (sym is)
+    (record { config = c; last = at; word = refl; core_is = new; led = led_by_none (Some (first_of c begun)) c.tree limits x (all_by_last (c ∷ []) c refl) new })
 
 pub unchecked_is_led : (tree : Route) (limits : Limits) (x : Core) → core_state.IsFresh tree limits x → IsUnchecked tree limits (record { core = x; accepted = None })
 unchecked_is_led tree limits x new = record { word = refl; core_is = new; led = led_by_none None tree limits x tt new }
@@ -118,21 +122,41 @@ copies sharings.Shared at number ask calls reply from word j call i made copied 
 pub alone : (sharing : Sharing) (at : ℕ → List ℕ → Plan) → sharing ≡ sharings.Alone → AreAlone (bars_by sharing at)
 alone sharing at e number other ask client same = (ap (λ s. copies_by s ask.op (at number ask.key)) e, ap (λ s. clears_by s client.op) e)
 
--- each log is fresh
-pub logs_are_fresh : GenerationsAreFresh → (served : ServedCore) (accepted : List Configuration) → served.accepted ≡ Some accepted → AreGenerations (trees_of accepted) → EveryLogIsFresh served
-logs_are_fresh law served accepted word are opening past led lost =
+pub same_known : (word : Option Known) (a b : Known) → word ≡ Some a → word ≡ Some b → a ≡ b
+same_known word a b e f = cc
+
+-- each log is fresh on sound generations, where servers held at first what is said of them
+pub grown_logs_are_fresh :
+    (arbitrary : ℕ → Bool) (known : Known) (served : ServedCore) → served.accepted ≡ Some known → Each IsTree (trees_of known.configs) → AreSoundSince arbitrary (trees_of known.configs)
+    → (opening : ℕ → List ℕ → Option Item) (past : List (Entry dialect)) → MayHaveLed opening past served → OpensBy arbitrary (trees_of known.configs) opening
+    → LosesOnly (run_of past) → IsFreshLog served.core.limits.sharing opening past
+grown_logs_are_fresh arbitrary known served word are since opening past led opens lost =
     let words = tree_words led.beside.at in
-    let loaded : AreLoaded (trees_of accepted) led.tree = subst (λ (w : Option (List Configuration)). MayBeLoaded w led.tree) word led.loaded in
-    let covered : IsCovered words = subst (λ (plans : ℕ → List ℕ → Plan). IsCovered (tree_words plans)) (sym led.plain) ((law (trees_of accepted) are).1 led.tree loaded) in
+    let loaded : AreLoaded (trees_of known.configs) led.tree = subst (λ (w : Option Known). MayBeLoaded w led.tree) word led.loaded in
+    let cover : IsCoveredOrUntouched words opening = subst (λ (plans : ℕ → List ℕ → Plan). IsCoveredOrUntouched (tree_words plans) opening) (sym led.plain) (since_is_covered arbitrary (trees_of known.configs) are since led.tree loaded opening opens) in
     let rule = served.core.limits.sharing in
     let Bars = bars_of served.core led.beside in
     let run = runs dialect words Bars opening past led.leads.follows in
-    let by : rule ≡ sharings.Alone → IsFreshByNumber opening (run_of past) = λ e. sharing.fresh_by_number words Bars covered (alone rule led.beside.at e) opening _ lost run in
+    let by : rule ≡ sharings.Alone → IsFreshByNumber opening (run_of past) = λ e. untouched.fresh_by_number words Bars opening cover (alone rule led.beside.at e) _ lost run in
     record {
-      fresh = sharing.fresh words Bars covered (copies rule led.beside.at) opening _ lost run;
+      fresh = untouched.fresh words Bars opening cover (copies rule led.beside.at) _ lost run;
       by_number = by;
       none_stale = λ e. (counts_stale words Bars opening (alone rule led.beside.at e)).none _ run (by e);
     }
+
+-- where servers may have held anything, nothing is said of them
+either_any : (b : Bool) → is_any (cond b Any Any) ≡ true
+either_any true = refl
+either_any false = refl
+
+any_is_arbitrary : (known : Known) → known.begun ≡ any_begun → (s : ℕ) → is_arbitrary known s ≡ true
+any_is_arbitrary known any s = ap (λ (b : Beginnings). is_any (cond (nat_lt s known.founders) b.opened b.added)) any ∙ either_any (nat_lt s known.founders)
+
+opens_anyhow : (known : Known) → known.begun ≡ any_begun → (opening : ℕ → List ℕ → Option Item) → OpensBy (is_arbitrary known) (trees_of known.configs) opening
+opens_anyhow known any opening server key none = absurd (let all = any_is_arbitrary known any server in cc)
+
+pub any_are_fresh : (served : ServedCore) → ((known : Known) → served.accepted ≡ Some known → EveryLogFromIsFresh known served) → IsAccepted served → EveryLogIsFresh served
+any_are_fresh served fresh is opening past led lost = fresh is.0 is.1 opening past led (opens_anyhow is.0 is.2 opening) lost
 
 -- room for more clients
 grown : (old : ServedCore) (n : ℕ) → LogsGoBy old (λ entries. entries ≡ []) (record old { core = record old.core { clients = record old.core.clients { capacity = n } } })

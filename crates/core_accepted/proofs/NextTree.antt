@@ -11,13 +11,15 @@ use Rattle.route_tree.specs.Plan.{Plan}
 use Rattle.route_json.specs.Configuration.{Configuration}
 use Rattle.gate_check.specs.Sound.{AreLoaded, trees_of}
 use Rattle.gate_check.proofs.Following.{trees_more}
+use Rattle.gate_growth.specs.Grown.{AreSoundSince}
 use Rattle.core_proxy.specs.declared.proxy.Core.{Core}
 use Rattle.core_proxy.specs.CoreState as core_state
 use Rattle.core_proxy.specs.CoreState.{dialect, IsTakenOver}
 use Rattle.core_accepted.specs.declared.served.ServedCore.{ServedCore}
+use Rattle.core_accepted.specs.Known.{Known, is_arbitrary, more}
 use Rattle.core_accepted.specs.Logs.{MayBeLoaded, MayHaveLed}
 use Rattle.core_accepted.specs.declared.loading.LoadFault.{LoadFault}
-use Rattle.core_accepted.specs.Loading.{TakesOver, IsGeneration, IsLoaded}
+use Rattle.core_accepted.specs.Loading.{TakesOver, IsGeneration, AreSoundIfAsked, IsLoaded}
 
 more_at : (xs : List Route) (y : Route) (i : ℕ) (x : Route) → slice_get xs i ≡ Some x → slice_get (xs ++ y ∷ []) i ≡ Some x
 more_at [] y i x e = absurd (cc)
@@ -63,7 +65,7 @@ loaded_more trees tree number new h =
 
 -- the core took one more tree
 over :
-    (old : ServedCore) (x : Core) (word : Option (List Configuration)) (new : Route) → core_state.Reloads old.core new x
+    (old : ServedCore) (x : Core) (word : Option Known) (new : Route) → core_state.Reloads old.core new x
     → ((tree : ℕ → Route) → MayBeLoaded old.accepted tree → MayBeLoaded word (before_or old.core.number tree new))
     → (opening : ℕ → List ℕ → Option Item) (past : List (Entry dialect)) (led : MayHaveLed opening past old) → TakesOver opening past new old (record { core = x; accepted = word }) led
 over old x word new step loads opening past led =
@@ -90,16 +92,17 @@ over old x word new step loads opening past led =
 
 -- of one more configuration that the gate accepted
 loads_accepted :
-    (old : ServedCore) (x : Core) (was now : List Configuration) (config : Configuration) (number : ℕ) → old.accepted ≡ Some was → now ≡ was ++ config ∷ [] → number ≡ length now
-    → core_state.Reloads old.core config.tree x → IsLoaded old config number (record { core = x; accepted = Some now })
-loads_accepted old x was now config number word is count step = record {
-  word = ap Some is ∙ sym (ap (option_map (λ (xs : List Configuration). xs ++ config ∷ [])) word);
+    (old : ServedCore) (x : Core) (was now : Known) (config : Configuration) (number : ℕ) → old.accepted ≡ Some was → now ≡ more config was → number ≡ length now.configs
+    → AreSoundSince (is_arbitrary now) (trees_of now.configs) → core_state.Reloads old.core config.tree x → IsLoaded old config number (record { core = x; accepted = Some now })
+loads_accepted old x was now config number word is count sound step = record {
+  word = ap Some is ∙ sym (ap (option_map (more config)) word);
+  sound = sound;
   number_is = count;
   reloads = step;
   goes = over old x (Some now) config.tree step (λ tree loaded.
-      let before : AreLoaded (trees_of was) tree = subst (λ (w : Option (List Configuration)). MayBeLoaded w tree) word loaded in
-      let trees_are : trees_of now ≡ trees_of was ++ config.tree ∷ [] = ap trees_of is ∙ trees_more was config in
-      subst (λ (ts : List Route). AreLoaded ts (before_or old.core.number tree config.tree)) (sym trees_are) (loaded_more (trees_of was) tree old.core.number config.tree before));
+      let before : AreLoaded (trees_of was.configs) tree = subst (λ (w : Option Known). MayBeLoaded w tree) word loaded in
+      let trees_are : trees_of now.configs ≡ trees_of was.configs ++ config.tree ∷ [] = ap (λ (k : Known). trees_of k.configs) is ∙ trees_more was.configs config in
+      subst (λ (ts : List Route). AreLoaded ts (before_or old.core.number tree config.tree)) (sym trees_are) (loaded_more (trees_of was.configs) tree old.core.number config.tree before));
 }
 
 -- of a configuration of which no gate was asked
@@ -107,18 +110,19 @@ loads_any :
     (old : ServedCore) (x : Core) (config : Configuration) (number : ℕ) → old.accepted ≡ None → number ≡ x.generation → core_state.Reloads old.core config.tree x
     → IsLoaded old config number (record old { core = x })
 loads_any old x config number word count step = record {
-  word = word ∙ sym (ap (option_map (λ (xs : List Configuration). xs ++ config ∷ [])) word);
-  number_is = subst (λ (w : Option (List Configuration)). IsGeneration w x number) (sym word) count;
+  word = word ∙ sym (ap (option_map (more config)) word);
+  sound = subst AreSoundIfAsked (sym word) tt;
+  number_is = subst (λ (w : Option Known). IsGeneration w x number) (sym word) count;
   reloads = step;
-  goes = over old x old.accepted config.tree step (λ tree loaded. subst (λ (w : Option (List Configuration)). MayBeLoaded w (before_or old.core.number tree config.tree)) (sym word) tt);
+  goes = over old x old.accepted config.tree step (λ tree loaded. subst (λ (w : Option Known). MayBeLoaded w (before_or old.core.number tree config.tree)) (sym word) tt);
 }
 
 -- where the core has a gate, a configuration whose load came out well is loaded
 pub next_loaded :
-    (old : ServedCore) (x : Core) (was now : List Configuration) (config : Configuration) (r : Result ℕ LoadFault) → old.accepted ≡ Some was → OnOk r (now ≡ was ++ config ∷ []) → IfOk r (λ number. number ≡ length now)
-    → OnOk r (core_state.Reloads old.core config.tree x) → IfOk r (λ number. IsLoaded old config number (record { core = x; accepted = Some now }))
-next_loaded old x was now config (Ok number) word taken count step = loads_accepted old x was now config number word taken count step
-next_loaded old x was now config (Err fault) word taken count step = tt
+    (old : ServedCore) (x : Core) (was now : Known) (config : Configuration) (r : Result ℕ LoadFault) → old.accepted ≡ Some was → OnOk r (now ≡ more config was) → IfOk r (λ number. number ≡ length now.configs)
+    → OnOk r (AreSoundSince (is_arbitrary now) (trees_of now.configs)) → OnOk r (core_state.Reloads old.core config.tree x) → IfOk r (λ number. IsLoaded old config number (record { core = x; accepted = Some now }))
+next_loaded old x was now config (Ok number) word taken count sound step = loads_accepted old x was now config number word taken count sound step
+next_loaded old x was now config (Err fault) word taken count sound step = tt
 
 pub any_loaded :
     (old : ServedCore) (x : Core) (config : Configuration) (r : Result ℕ LoadFault) → old.accepted ≡ None → IfOk r (λ number. number ≡ x.generation) → OnOk r (core_state.Reloads old.core config.tree x)

@@ -1,3 +1,5 @@
+pub mod Begun
+pub mod Known
 pub mod Logs
 pub mod Results
 pub mod Loading

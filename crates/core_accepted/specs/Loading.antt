@@ -1,12 +1,18 @@
 -- When a core that is served takes one more tree, and when not. Source: mcgate's own.
-use Rattle.std.specs.Prelude.{◌≡◌, ℕ, ◌<◌, ◌≤◌, List, [], ◌∷◌, ◌++◌, length, Option, Some, None, option_map, ◌⊎◌}
+use Rattle.std.specs.Prelude.{◌≡◌, ℕ, ◌+◌, ◌<◌, ◌≤◌, List, [], ◌∷◌, ◌++◌, length, Option, Some, None, option_map, ◌⊎◌}
 use Rattle.mc_types.specs.Items.{Item}
 use Rattle.fresh_runs.specs.Overlap.{Entry}
 use Rattle.route_tree.specs.Route.{Route}
 use Rattle.route_json.specs.Configuration.{Configuration}
 use Rattle.gate_check.specs.Sound.{trees_of}
-use Rattle.gate_check.specs.Reload.{IsReloadFault, KeepsNumbers}
+use Rattle.gate_check.specs.Reload.{KeepsNumbers}
+use Rattle.gate_check.specs.declared.reloading.ReloadFault.{ReloadFault}
 use Rattle.gate_check.specs.declared.reloading.ReloadFault.TheVariants as gate
+use Rattle.gate_growth.specs.declared.ledger.unsound.Unsound.{Unsound}
+use Rattle.gate_growth.specs.declared.ledger.unsound.Unsound.TheVariants as reasons
+use Rattle.gate_growth.specs.Grown.{AreSoundSince}
+use Rattle.gate_growth.specs.PlaceRows.{AreTooManyPlaces}
+use Rattle.gate_growth.specs.Ledgers.{most_generations, IsFirstLeftGap}
 use Rattle.core_proxy.specs.declared.limits.TheConstants.{LAST_GENERATION}
 use Rattle.core_proxy.specs.declared.proxy.Core.{Core}
 use Rattle.core_proxy.specs.CoreState as core_state
@@ -14,6 +20,7 @@ use Rattle.core_proxy.specs.CoreState.{dialect}
 use Rattle.core_accepted.specs.declared.loading.LoadFault.{LoadFault}
 use Rattle.core_accepted.specs.declared.loading.LoadFault.TheVariants.{Refused, OtherServers}
 use Rattle.core_accepted.specs.declared.served.ServedCore.{ServedCore}
+use Rattle.core_accepted.specs.Known.{Known, is_arbitrary, more}
 use Rattle.core_accepted.specs.Logs.{MayHaveLed}
 
 -- the log that led to the old core leads to the new one: commands that have begun keep their trees, those to come run by this one, and nothing else changes
@@ -24,22 +31,42 @@ pub record TakesOver (opening : ℕ → List ℕ → Option Item) (past : List (
   pub others : after.beside ≡ record led.beside { at = after.beside.at }
 
 -- where the gate was asked, the number of configurations that it accepted; else the core's generation
-abbrev pub IsGeneration : Option (List Configuration) → Core → ℕ → Type 0
-IsGeneration (Some accepted) core number = number ≡ length accepted
+abbrev pub IsGeneration : Option Known → Core → ℕ → Type 0
+IsGeneration (Some known) core number = number ≡ length known.configs
 IsGeneration None core number = number ≡ core.generation
+
+-- each tree clears what it and later ones take, or nothing was put there before, if the gate was asked
+abbrev pub AreSoundIfAsked : Option Known → Type 0
+AreSoundIfAsked (Some known) = AreSoundSince (is_arbitrary known) (trees_of known.configs)
+AreSoundIfAsked None = Unit {0}
 
 -- the configuration is the next one that the gate accepted, if it was asked; it has this number, and its tree is the core's
 pub record IsLoaded (old : ServedCore) (config : Configuration) (number : ℕ) (new : ServedCore) : Type 0 where
-  pub word : new.accepted ≡ option_map (λ accepted. accepted ++ config ∷ []) old.accepted
+  pub word : new.accepted ≡ option_map (more config) old.accepted
+  pub sound : AreSoundIfAsked new.accepted
   pub number_is : IsGeneration new.accepted new.core number
   pub reloads : core_state.Reloads old.core config.tree new.core
   pub goes : (opening : ℕ → List ℕ → Option Item) (past : List (Entry dialect)) (led : MayHaveLed opening past old) → TakesOver opening past config.tree old new led
 
+-- the fault of a configuration that would be of this generation
+abbrev pub fault_of : Unsound → ℕ → ReloadFault
+fault_of reasons.TooManyGenerations number = gate.TooManyGenerations
+fault_of reasons.TooManyPlaces number = gate.TooManyPlaces number
+fault_of (reasons.Left generation gap) number = gate.Uncovered generation gap
+fault_of reasons.NoMemory number = gate.NoMemory
+
+-- why the gate doesn't let the tree follow: with it there would be more generations than have a number; all trees together have too many places, which is told of the new one; or its first gap, by which they aren't sound
+abbrev pub IsRefusal : Core → Known → Route → ReloadFault → Type 0
+IsRefusal core known tree gate.TooManyGenerations = most_generations ≤ length (trees_of known.configs)
+IsRefusal core known tree (gate.TooManyPlaces generation) = (generation ≡ core.generation + 1) × AreTooManyPlaces (trees_of known.configs ++ tree ∷ [])
+IsRefusal core known tree (gate.Uncovered generation gap) = IsFirstLeftGap (is_arbitrary known) (trees_of known.configs) tree generation gap
+IsRefusal core known tree gate.NoMemory = Unit {0}
+
 -- why the next configuration is refused: the servers don't keep their numbers; or the gate's fault, or the core has no number for one more tree
-abbrev pub RefusesNext : Core → List Configuration → Configuration → LoadFault → Type 0
-RefusesNext core accepted config OtherServers = KeepsNumbers accepted config → ⊥
-RefusesNext core accepted config (Refused fault) =
-    KeepsNumbers accepted config × (IsReloadFault (trees_of accepted) config.tree fault ⊎ ((core.generation ≡ LAST_GENERATION) × (fault ≡ gate.TooManyGenerations)))
+abbrev pub RefusesNext : Core → Known → Configuration → LoadFault → Type 0
+RefusesNext core known config OtherServers = KeepsNumbers known.configs config → ⊥
+RefusesNext core known config (Refused fault) =
+    KeepsNumbers known.configs config × (IsRefusal core known config.tree fault ⊎ ((core.generation ≡ LAST_GENERATION) × (fault ≡ gate.TooManyGenerations)))
 
 -- why a configuration is refused where no gate was asked: memory was refused, or the core has no number for one more tree
 abbrev pub RefusesAny : Core → LoadFault → Type 0
@@ -47,8 +74,8 @@ RefusesAny core OtherServers = ⊥
 RefusesAny core (Refused fault) = (fault ≡ gate.NoMemory) ⊎ ((core.generation ≡ LAST_GENERATION) × (fault ≡ gate.TooManyGenerations))
 
 -- why a configuration is refused, by the gate's word
-abbrev pub RefusesBy : Option (List Configuration) → Core → Configuration → LoadFault → Type 0
-RefusesBy (Some accepted) core config fault = RefusesNext core accepted config fault
+abbrev pub RefusesBy : Option Known → Core → Configuration → LoadFault → Type 0
+RefusesBy (Some known) core config fault = RefusesNext core known config fault
 RefusesBy None core config fault = RefusesAny core fault
 
 abbrev pub RefusesLoad : ServedCore → Configuration → LoadFault → Type 0

@@ -11,16 +11,20 @@ use Rattle.route_tree.specs.Route.{Route}
 use Rattle.route_tree.specs.Word.{tree_words}
 use Rattle.route_json.specs.Configuration.{Configuration}
 use Rattle.gate_check.specs.Sound.{AreLoaded, IsLast, trees_of}
+use Rattle.gate_growth.specs.Grown.{OpensBy}
 use Rattle.core_proxy.specs.declared.limits.Limits.{Limits}
 use Rattle.core_commands.specs.declared.sharing.Sharing.{Sharing}
 use Rattle.core_commands.specs.declared.sharing.Sharing.TheVariants.{Alone}
 use Rattle.core_proxy.specs.CoreState as core_state
 use Rattle.core_proxy.specs.CoreState.{dialect, bars_of, Beside, Fits, IsBeside, state_of}
+use Rattle.core_accepted.specs.declared.beginnings.Beginnings.{Beginnings}
 use Rattle.core_accepted.specs.declared.served.ServedCore.{ServedCore}
+use Rattle.core_accepted.specs.Begun.{any_begun}
+use Rattle.core_accepted.specs.Known.{Known, is_arbitrary, first_of}
 
 -- the trees by which commands run, by the commands' numbers: where the gate was asked, those that it accepted, one after another; else any
-abbrev pub MayBeLoaded : Option (List Configuration) → (ℕ → Route) → Type 0
-MayBeLoaded (Some accepted) tree = AreLoaded (trees_of accepted) tree
+abbrev pub MayBeLoaded : Option Known → (ℕ → Route) → Type 0
+MayBeLoaded (Some known) tree = AreLoaded (trees_of known.configs) tree
 MayBeLoaded None tree = Unit {0}
 
 -- servers that held these opening items, and this log, may have led to the core: each command runs by the tree that was loaded when it began
@@ -39,11 +43,17 @@ pub record LogsGoBy (old : ServedCore) (IsKind : List (Entry dialect) → Type 0
       (opening : ℕ → List ℕ → Option Item) (past : List (Entry dialect)) (led : MayHaveLed opening past old)
       → (entries : List (Entry dialect)) × IsKind entries × (led' : MayHaveLed opening (entries ++ past) new) × IsBeside led.beside led'.beside
 
--- the gate accepted these configurations, the core is a new one on the tree of the last of them, and the empty log led to it
-pub record IsNew (accepted : List Configuration) (limits : Limits) (served : ServedCore) : Type 0 where
-  pub word : served.accepted ≡ Some accepted
-  pub core_is : (config : Configuration) → IsLast accepted config → core_state.IsFresh config.tree limits served.core
+-- the gate accepted these configurations, the core is a new one on the tree of the last of them, which is its first generation, servers began so, and the empty log led to it
+pub record IsNewFrom (accepted : List Configuration) (begun : Beginnings) (limits : Limits) (served : ServedCore) : Type 0 where
+  pub config : Configuration
+  pub last : IsLast accepted config
+  pub word : served.accepted ≡ Some (first_of config begun)
+  pub core_is : core_state.IsFresh config.tree limits served.core
   pub led : (opening : ℕ → List ℕ → Option Item) → MayHaveLed opening [] served
+
+-- the same where servers may have held anything
+abbrev pub IsNew : List Configuration → Limits → ServedCore → Type 0
+IsNew accepted limits served = IsNewFrom accepted any_begun limits served
 
 -- no gate was asked, the core is a new one on this tree, and the empty log led to it
 pub record IsUnchecked (tree : Route) (limits : Limits) (served : ServedCore) : Type 0 where
@@ -62,10 +72,16 @@ pub record IsFreshLog (sharing : Sharing) (opening : ℕ → List ℕ → Option
   pub by_number : sharing ≡ Alone → IsFreshByNumber opening (run_of past)
   pub none_stale : sharing ≡ Alone → stale_in opening (run_of past) ≡ 0
 
--- the gate accepted the trees of the core
+-- the gate accepted the trees of the core, whatever servers held at first
 abbrev pub IsAccepted : ServedCore → Type 0
-IsAccepted served = (accepted : List Configuration) × (served.accepted ≡ Some accepted)
+IsAccepted served = (known : Known) × (served.accepted ≡ Some known) × (known.begun ≡ any_begun)
 
 -- each log that may have led to the core is fresh, where nobody else writes the servers
 abbrev pub EveryLogIsFresh : ServedCore → Type 0
 EveryLogIsFresh served = (opening : ℕ → List ℕ → Option Item) (past : List (Entry dialect)) → MayHaveLed opening past served → LosesOnly (run_of past) → IsFreshLog served.core.limits.sharing opening past
+
+-- the same where servers held at first what is said of them
+abbrev pub EveryLogFromIsFresh : Known → ServedCore → Type 0
+EveryLogFromIsFresh known served =
+    (opening : ℕ → List ℕ → Option Item) (past : List (Entry dialect)) → MayHaveLed opening past served → OpensBy (is_arbitrary known) (trees_of known.configs) opening
+    → LosesOnly (run_of past) → IsFreshLog served.core.limits.sharing opening past

@@ -1,19 +1,26 @@
 //! Laws of the core that is served.
 
-ghost use Rattle.core_accepted.specs.Logs.{IsAccepted, EveryLogIsFresh};
+ghost use Rattle.std.specs.Prelude.{◌≡◌, Some};
+ghost use Rattle.core_accepted.specs.Known.{Known};
+ghost use Rattle.core_accepted.specs.Logs.{IsAccepted, EveryLogIsFresh, EveryLogFromIsFresh};
 ghost use Rattle.core_accepted.specs.Losses.{ServersMayLose};
 
 use crate::served::ServedCore;
-use gate_check::laws::generations_are_fresh;
 
 /// Where the gate accepted its trees, each log that may have led to the core, and in which nobody else writes the servers, is
 /// fresh; where each command has its key alone, none of its replies is stale.
 pub fn accepted_core_is_fresh(core: &ServedCore)
     ensures { IsAccepted core.now → EveryLogIsFresh core.now }
 {
-    generations_are_fresh();
-    if let Some(accepted) = &core.accepted {
-        let _config = accepted.config();
+    begun_core_is_fresh(core);
+}
+
+/// The same where something is said of what servers held at first, of each log that began so.
+pub fn begun_core_is_fresh(core: &ServedCore)
+    ensures { (known : Known) → core.now.accepted ≡ Some known → EveryLogFromIsFresh known core.now }
+{
+    if let Some(generations) = &core.accepted {
+        let _config = generations.config();
     }
 }
 

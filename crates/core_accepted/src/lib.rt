@@ -2,9 +2,14 @@
 //! do, no reply shows what an acknowledged delete of its key hides.
 #![tactic(auto)]
 
+pub mod beginnings;
+pub mod generations;
 pub mod laws;
 pub mod loading;
+mod numbers;
 pub mod served;
 
+pub use beginnings::Beginnings;
+pub use generations::Generations;
 pub use loading::LoadFault;
 pub use served::ServedCore;

@@ -1,12 +1,17 @@
 //! The next tree of a core.
 
-ghost use Rattle.std.specs.Prelude.{◌≡◌, ◌<◌, [], ◌∷◌, ◌++◌, ◌↔◌, length, IsTrue, IfOk, IfErr, OnOk, OnErr};
+ghost use Rattle.std.specs.Prelude.{◌≡◌, ◌<◌, length, IfOk, IfErr, OnOk, OnErr};
+ghost use Rattle.gate_check.specs.Sound.{trees_of};
+ghost use Rattle.gate_growth.specs.Grown.{AreSoundSince};
 ghost use Rattle.core_proxy.specs.CoreState.{Reloads};
-ghost use Rattle.core_accepted.specs.Loading.{RefusesNext, RefusesAny};
+ghost use Rattle.core_accepted.specs.Known.{is_arbitrary, more};
+ghost use Rattle.core_accepted.specs.Loading.{fault_of, RefusesNext, RefusesAny};
 
+use crate::generations::Generations;
 use core_proxy::Core;
 use core_proxy::limits::LAST_GENERATION;
-use gate_check::{Accepted, ReloadFault};
+use gate_check::ReloadFault;
+use gate_growth::ledger::Unsound;
 use route_json::Config;
 use route_tree::Tree;
 use std::alloc::Global;
@@ -14,8 +19,9 @@ use std::alloc::Global;
 /// Why a configuration was not loaded. All is as it was.
 #[derive(Clone, Copy)]
 pub enum LoadFault {
-    /// The fault of `Accepted::reload`; where no gate was asked, that memory was refused; or `TooManyGenerations`, where the core's
-    /// generation is [`LAST_GENERATION`].
+    /// What the ledger of the generations so far tells: `Uncovered` names the first gap and the generation that leaves it,
+    /// `TooManyPlaces` the generation that the tree would be, where all trees together have too many. Or, where no gate was asked,
+    /// that memory was refused; or `TooManyGenerations`, where the core's generation is [`LAST_GENERATION`].
     Refused(ReloadFault),
     /// The gate accepted the trees in use, and the new list of servers doesn't begin with theirs.
     OtherServers,
@@ -37,24 +43,38 @@ fn take_tree(core: &mut Core, tree: Tree)
     }
 }
 
+// The fault of a configuration that would be of this generation.
+fn fault_of(unsound: Unsound, number: u32) -> ReloadFault
+    ensures { result ≡ fault_of unsound number }
+{
+    match unsound {
+        Unsound::TooManyGenerations => ReloadFault::TooManyGenerations,
+        Unsound::TooManyPlaces => ReloadFault::TooManyPlaces(number),
+        Unsound::Left(generation, gap) => ReloadFault::Uncovered(generation, gap),
+        Unsound::NoMemory => ReloadFault::NoMemory,
+    }
+}
+
 /// The configuration is the next one that the gate accepts, and its tree the core's.
 pub fn load_accepted(
     core: &mut Core,
-    accepted: &mut Accepted,
+    generations: &mut Generations,
     alloc: Global,
     config: Config,
 ) -> Result<u32, LoadFault>
-    ensures taken { OnOk result (accepted.new ≡ accepted.old ++ config ∷ []) }
-    ensures number { IfOk result (λ number. number ≡ length accepted.new) }
+    ensures taken { OnOk result (generations.new ≡ more config generations.old) }
+    ensures number { IfOk result (λ number. number ≡ length generations.new.configs) }
+    ensures sound { OnOk result (AreSoundSince (is_arbitrary generations.new) (trees_of generations.new.configs)) }
     ensures loaded { OnOk result (Reloads core.old config.tree core.new) }
-    ensures refused { IfErr result (λ fault. RefusesNext core.old accepted.old config fault) }
-    ensures same { OnErr result ((core.new ≡ core.old) × (accepted.new ≡ accepted.old)) }
+    ensures refused { IfErr result (λ fault. RefusesNext core.old generations.old config fault) }
+    ensures same { OnErr result ((core.new ≡ core.old) × (generations.new ≡ generations.old)) }
 {
-    if !accepted.keeps_numbers(&config) {
+    if !generations.keeps_numbers(&config) {
         drop_config(config);
         return Err(LoadFault::OtherServers);
     }
-    if core.generation() == LAST_GENERATION {
+    let last = core.generation();
+    if last == LAST_GENERATION {
         drop_config(config);
         return Err(LoadFault::Refused(ReloadFault::TooManyGenerations));
     }
@@ -62,14 +82,14 @@ pub fn load_accepted(
         drop_config(config);
         return Err(LoadFault::Refused(ReloadFault::NoMemory));
     };
-    match accepted.reload(alloc, config) {
+    match generations.follow(alloc, config) {
         Ok(number) => {
             take_tree(core, tree);
             Ok(number)
         }
-        Err(fault) => {
+        Err(unsound) => {
             drop_tree(tree);
-            Err(LoadFault::Refused(fault))
+            Err(LoadFault::Refused(fault_of(unsound, last + 1)))
         }
     }
 }

@@ -8,10 +8,12 @@ ghost use Rattle.core_proxy.specs.CoreState.{IsOut, Opens, Feeds, Gives, Closes,
 ghost use Rattle.core_commands.specs.Lines.{is_standing};
 ghost use Rattle.core_proxy.specs.Polls.{Polls, PollFault, Then, Perhaps, BeginsOne, IsPolled};
 ghost use Rattle.core_proxy.specs.Settles.{FitsCall, asked, SettleFault};
-ghost use Rattle.core_accepted.specs.Logs.{IsNew, IsUnchecked, LogsGoBy, fed};
+ghost use Rattle.core_accepted.specs.Logs.{IsNew, IsNewFrom, IsUnchecked, LogsGoBy, fed};
 ghost use Rattle.core_accepted.specs.Loading.{IsLoaded, RefusesLoad};
 ghost use Rattle.core_accepted.specs.Results.{PollStops, TakesResult, SettleStops, IsSettled};
 
+use crate::beginnings::Beginnings;
+use crate::generations::Generations;
 use crate::loading::{LoadFault, load_accepted, load_any};
 use core_proxy::{Core, CoreFault, Limits, Poll, Ticket};
 use gate_check::Accepted;
@@ -29,19 +31,34 @@ use wire_parts::to_send::SendBuffer;
 #[derive(Drop)]
 pub struct ServedCore {
     pub(crate) core: Core,
-    // The configurations that the gate accepted; `None` where it wasn't asked.
-    pub(crate) accepted: Option<Accepted>,
+    // The configurations that the gate accepted, and the ledger that knows them; `None` where it wasn't asked.
+    pub(crate) accepted: Option<Generations>,
 }
 
 impl ServedCore {
-    /// A core without clients, on the tree of the accepted configuration in use. The only error: memory was refused.
+    /// A core without clients, on the tree of the accepted configuration in use, which is its first generation. The only error:
+    /// memory was refused.
     pub fn new(alloc: Global, accepted: Accepted, limits: Limits) -> Result<ServedCore, AllocError>
         ensures { IfOk result (λ served. IsNew accepted limits served) }
     {
-        let tree = accepted.config().tree().copy()?;
+        ServedCore::new_from(alloc, accepted, Beginnings::any(), limits)
+    }
+
+    /// The same where servers began so. Its logs are fresh where they did ([`crate::laws::begun_core_is_fresh`]).
+    pub fn new_from(
+        alloc: Global,
+        accepted: Accepted,
+        begun: Beginnings,
+        limits: Limits,
+    ) -> Result<ServedCore, AllocError>
+        ensures { IfOk result (λ served. IsNewFrom accepted begun limits served) }
+    {
+        let config = accepted.config();
+        let generations = Generations::first(alloc, config, begun)?;
+        let tree = config.tree().copy()?;
         Ok(ServedCore {
             core: Core::unchecked(alloc, tree, limits),
-            accepted: Some(accepted),
+            accepted: Some(generations),
         })
     }
 
@@ -164,14 +181,14 @@ impl ServedCore {
     /// Commands that begin from now on run by this configuration's tree, and those that are under way end on the trees on which
     /// they began. It gives the number of the generation.
     ///
-    /// Where the gate accepted its trees, each generation's tree and the new one have to cover it, and the list of servers has to
-    /// begin with the one in use. After a fault all is as it was.
+    /// Where the gate accepted its trees, the new one has to clear what it takes, each generation's tree too unless nothing was put
+    /// there before, and the list of servers has to begin with the one in use. After a fault all is as it was.
     pub fn load(&mut self, alloc: Global, config: Config) -> Result<u32, LoadFault>
         ensures loaded { IfOk result (λ number. IsLoaded self.old config number self.new) }
         ensures refused { IfErr result (λ fault. RefusesLoad self.old config fault × (self.new ≡ self.old)) }
     {
         match &mut self.accepted {
-            Some(accepted) => load_accepted(&mut self.core, accepted, alloc, config),
+            Some(generations) => load_accepted(&mut self.core, generations, alloc, config),
             None => load_any(&mut self.core, config),
         }
     }

@@ -5,21 +5,21 @@ use Rattle.fresh_runs.specs.Overlap.{Entry, run_of}
 use Rattle.fresh_runs.specs.Sharing.{LosesOnly}
 use Rattle.route_tree.specs.Each.{Each}
 use Rattle.route_tree.specs.Route.{IsTree}
-use Rattle.route_json.specs.Configuration.{Configuration}
 use Rattle.gate_check.specs.Sound.{trees_of}
 use Rattle.gate_growth.specs.Grown.{AreSoundSince, OpensBy}
 use Rattle.core_proxy.specs.CoreState.{dialect}
 use Rattle.core_accepted.specs.declared.served.ServedCore.{ServedCore}
+use Rattle.core_accepted.specs.Known.{Known}
 use Rattle.core_accepted.specs.Logs.{MayHaveLed, IsFreshLog}
 
 -- each log that may have led to the core is fresh, where what was held at the beginning is what is said of the servers, and nobody else writes the servers
-abbrev pub EveryGrownLogIsFresh : (ℕ → Bool) → List Configuration → ServedCore → Type 0
-EveryGrownLogIsFresh arbitrary accepted served =
-    (opening : ℕ → List ℕ → Option Item) (past : List (Entry dialect)) → MayHaveLed opening past served → OpensBy arbitrary (trees_of accepted) opening
+abbrev pub EveryGrownLogIsFresh : (ℕ → Bool) → Known → ServedCore → Type 0
+EveryGrownLogIsFresh arbitrary known served =
+    (opening : ℕ → List ℕ → Option Item) (past : List (Entry dialect)) → MayHaveLed opening past served → OpensBy arbitrary (trees_of known.configs) opening
     → LosesOnly (run_of past) → IsFreshLog served.core.limits.sharing opening past
 
 -- so it is on sound generations
 abbrev pub GrownLogsAreFresh : Type 0
 GrownLogsAreFresh =
-    (arbitrary : ℕ → Bool) (accepted : List Configuration) (served : ServedCore) → served.accepted ≡ Some accepted
-    → Each IsTree (trees_of accepted) → AreSoundSince arbitrary (trees_of accepted) → EveryGrownLogIsFresh arbitrary accepted served
+    (arbitrary : ℕ → Bool) (known : Known) (served : ServedCore) → served.accepted ≡ Some known
+    → Each IsTree (trees_of known.configs) → AreSoundSince arbitrary (trees_of known.configs) → EveryGrownLogIsFresh arbitrary known served

@@ -5,9 +5,10 @@ ghost use Rattle.core_proxy.specs.Settles.{FitsCall};
 ghost use Rattle.route_tree.specs.Route as route;
 
 use crate::answering::FixedServers;
-use core_accepted::{LoadFault, ServedCore};
+use core_accepted::{Beginnings, LoadFault, ServedCore};
 use core_proxy::{Core, CoreFault, Limits, Poll, ServedOne, Servers, Sharing, Ticket};
 use gate_check::judge;
+use gate_growth::ledger::Beginning;
 use mc_types::{Ask, Dialect, Key, Op, Origin, Outcome, ServerId, SharedAsk, Tokens};
 use route_json::{Config, read_config};
 use route_tree::{Tree, TreeForm};
@@ -287,17 +288,28 @@ fn limits(text: &str) -> Limits {
     }
 }
 
-fn gated_core(alloc: Global, text: &str) -> Result<ServedCore, Fail> {
+// Servers that held nothing before their first call, or those of the first configuration what its tree can have put there.
+fn own_begun() -> Beginnings {
+    Beginnings {
+        opened: Beginning::Own,
+        added: Beginning::Own,
+    }
+}
+
+fn gated_core(alloc: Global, text: &str, begun: Beginnings) -> Result<ServedCore, Fail> {
     match judge(alloc, config(alloc, text)?) {
-        Ok(accepted) => Ok(ServedCore::new(alloc, accepted, Limits::of_scripts())?),
+        Ok(accepted) => Ok(ServedCore::new_from(alloc, accepted, begun, Limits::of_scripts())?),
         Err(_) => Err("the gate refuses the configuration")?,
     }
 }
 
-// A core as the text says: `configuration JSON`, or the name of a tree and the limits.
+// A core as the text says: `configuration: JSON`, `own: JSON` where servers began so, or the name of a tree and the limits.
 fn core(alloc: Global, text: &str) -> Result<Played, Fail> {
     match text.split_once(": ") {
-        Some(("configuration", json)) => Ok(Played::Gated(gated_core(alloc, json)?)),
+        Some(("configuration", json)) => {
+            Ok(Played::Gated(gated_core(alloc, json, Beginnings::any())?))
+        }
+        Some(("own", json)) => Ok(Played::Gated(gated_core(alloc, json, own_begun())?)),
         Some((name, rest)) => Ok(Played::Bare(Core::unchecked(
             alloc,
             tree(alloc, name)?,

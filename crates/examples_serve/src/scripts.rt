@@ -224,6 +224,43 @@ reload refused generation=1 server=127.0.0.1:5002 read=get delete=delete prefix=
 < 0 END\r\n
 done 2 commands 2 calls
 ----
+Sixteen configurations are all that a run has, as in a replay.
+<A>
+reload <A>
+reload <A>
+reload <A>
+reload <A>
+reload <A>
+reload <A>
+reload <A>
+reload <A>
+reload <A>
+reload <A>
+reload <A>
+reload <A>
+reload <A>
+reload <A>
+reload <A>
+reload <A>
+=> 0
+reload accepted generation=2
+reload accepted generation=3
+reload accepted generation=4
+reload accepted generation=5
+reload accepted generation=6
+reload accepted generation=7
+reload accepted generation=8
+reload accepted generation=9
+reload accepted generation=10
+reload accepted generation=11
+reload accepted generation=12
+reload accepted generation=13
+reload accepted generation=14
+reload accepted generation=15
+reload accepted generation=16
+reload refused: too many generations
+done 0 commands 0 calls
+----
 A tree that the gate refuses.
 <leak>
 hold 1 a 7

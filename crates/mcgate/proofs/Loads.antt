@@ -17,6 +17,8 @@ use Rattle.serve_proxy.proofs.Going.{and_then, stays, same_core}
 use Rattle.serve_proxy.proofs.Growing.{grows}
 use Rattle.serve_proxy.proofs.LogWalks.{walks_are_fresh}
 use Rattle.serve_proxy.proofs.Staying.{stay_still}
+use Rattle.core_accepted.specs.Begun.{any_begun}
+use Rattle.core_accepted.specs.Known.{first_of}
 use Rattle.core_accepted.specs.Logs.{IsAccepted}
 use Rattle.serve_proxy.specs.LogsGoOn.{LogsAreFresh}
 use Rattle.mcgate.specs.declared.serve.Servable.{Servable}
@@ -101,7 +103,7 @@ has_served servable settings first last begins g fresh = record {
 }
 
 by_kind : (servable : Servable) (settings : Settings) (a b : ServedCore) → BeginsBy servable settings a → (IsAccepted a → IsAccepted b) → LogsAreFresh b → StaysFresh servable b
-by_kind (servables.Accepted accepted) settings a b begins kept fresh = let is = kept (accepted, begins.word) in (is, fresh is)
+by_kind (servables.Accepted accepted) settings a b begins kept fresh = let is = kept (first_of begins.config any_begun, begins.word, refl) in (is, fresh is)
 by_kind (servables.Unchecked configuration) settings a b begins kept fresh = tt
 
 pub stays_fresh : (servable : Servable) (settings : Settings) (end : ProxyEnd Sockets) → HasServed servable settings end → LogsAreFresh end.core.value → StaysFresh servable end.core.value

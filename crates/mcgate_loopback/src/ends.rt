@@ -5,6 +5,7 @@ use crate::entries::Entry;
 use crate::servers::ServerEnds;
 use core_accepted::LoadFault;
 use core_proxy::Sharing;
+use gate_check::reloading::MOST_GENERATIONS;
 use gate_check::{Accepted, ReloadFault};
 use mc_types::limits::SCRIPT_CLIENTS;
 use route_json::Config;
@@ -45,6 +46,8 @@ pub struct Ends {
     sent: u64,
     // How many came to them.
     received: u64,
+    // The number of the configuration in use, counted from 1.
+    generation: u32,
 }
 
 // 127.0.0.1, at a port that the system picks.
@@ -140,6 +143,7 @@ impl Ends {
             clients,
             sent: 0,
             received: 0,
+            generation: 1,
         })
     }
 
@@ -177,12 +181,23 @@ impl Ends {
         Ok(self.give_all(shown)?)
     }
 
-    /// A configuration is to be in use. The answer is the number of its generation, or why the gate refused it.
+    /// A configuration is to be in use. The answer is the number of its generation, or why it was refused. A run has as many
+    /// configurations as one of `mcgate_replay`, at most [`MOST_GENERATIONS`].
     pub fn load(&mut self, config: &Config) -> io::Result<Result<u32, ReloadFault>> {
+        if self.generation as usize >= MOST_GENERATIONS {
+            return Ok(Err(ReloadFault::TooManyGenerations));
+        }
+        self.load_next(config)
+    }
+
+    fn load_next(&mut self, config: &Config) -> io::Result<Result<u32, ReloadFault>> {
         let addresses = self.servers.addresses()?;
         let config = config.copy(self.alloc)?;
         match self.proxy.load(config, &addresses) {
-            Ok(generation) => Ok(Ok(generation)),
+            Ok(generation) => {
+                self.generation = generation;
+                Ok(Ok(generation))
+            }
             Err(LoadFault::Refused(ReloadFault::NoMemory)) => Err(io::Error::from(
                 ErrorKind::OutOfMemory,
             )),

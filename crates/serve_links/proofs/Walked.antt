@@ -18,6 +18,8 @@ use Rattle.serve_links.specs.declared.calls.calls.SentCall.{SentCall}
 use Rattle.serve_links.specs.declared.calls.calls.Next.{Next}
 use Rattle.serve_links.specs.declared.calls.calls.Next.TheVariants as nexts
 use Rattle.core_accepted.specs.Results.{IsSettled}
+use Rattle.core_accepted.specs.Begun.{any_begun}
+use Rattle.core_accepted.specs.Known.{Known, more}
 use Rattle.core_accepted.specs.Loading.{IsLoaded}
 use Rattle.serve_links.specs.Calls.{SettlesFirst, SettlesNext}
 use Rattle.serve_links.specs.CoreSteps.{Step, Opened, NotOpened, Fed, Polled, Stopped, Settled, Gave, Closed, LeftLine, Loaded, Linked, Asked, Greeted, Spelled, Does, Walks, AreOf, GoesBy, IsOfTurn, IsSettlement, IsFailure, GoesOn, Fails, WalksKeep}
@@ -169,7 +171,7 @@ abbrev IsWordKept : ServedCore → ServedCore → Type 0
 IsWordKept a b = (IsAccepted a → IsAccepted b) × (IsAccepted b → IsAccepted a)
 
 by_word : (a b : ServedCore) → b.accepted ≡ a.accepted → IsWordKept a b
-by_word a b same = (λ is. (is.0, same ∙ is.1), λ is. (is.0, sym same ∙ is.1))
+by_word a b same = (λ is. (is.0, same ∙ is.1, is.2), λ is. (is.0, sym same ∙ is.1, is.2))
 
 as_it_was : (a b : ServedCore) → b ≡ a → IsWordKept a b
 as_it_was a b same = by_word a b (ap (λ (x : ServedCore). x.accepted) same)
@@ -197,13 +199,13 @@ settled_keeps number outcome a b (inl takes) = by_word a b takes.word
 settled_keeps number outcome a b (inr stops) = settle_keeps number outcome stops.0 a b stops.1
 
 -- what was there before one more was taken
-one_fewer : (was now : Option (List Configuration)) (more accepted : List Configuration) → now ≡ option_map (λ (xs : List Configuration). xs ++ more) was → now ≡ Some accepted → (xs : List Configuration) × (was ≡ Some xs)
-one_fewer (Some xs) now more accepted e is = (xs, refl)
-one_fewer None now more accepted e is = absurd (let none = sym e ∙ is in cc none)
+one_fewer : (was now : Option Known) (config : Configuration) (known : Known) → now ≡ option_map (more config) was → now ≡ Some known → known.begun ≡ any_begun → (k : Known) × (was ≡ Some k) × (k.begun ≡ any_begun)
+one_fewer (Some k) now config known e is any = (k, refl, (let same = sym e ∙ is in cc (same, any)))
+one_fewer None now config known e is any = absurd (let none = sym e ∙ is in cc none)
 
 loaded_keeps : (configuration : Configuration) (generation : ℕ) (a b : ServedCore) → IsLoaded a configuration generation b → IsWordKept a b
 loaded_keeps configuration generation a b loaded =
-    (λ is. (is.0 ++ configuration ∷ [], loaded.word ∙ ap (option_map (λ (xs : List Configuration). xs ++ configuration ∷ [])) is.1), λ is. one_fewer a.accepted b.accepted (configuration ∷ []) is.0 loaded.word is.1)
+    (λ is. (more configuration is.0, loaded.word ∙ ap (option_map (more configuration)) is.1, is.2), λ is. one_fewer a.accepted b.accepted configuration is.0 loaded.word is.1 is.2)
 
 does_keep : (step : Step) (a b : ServedCore) → Does step a b → IsWordKept a b
 does_keep (Opened client) a b does = by_word a b does.2.word

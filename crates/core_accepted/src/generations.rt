@@ -1,0 +1,134 @@
+//! The configurations that the gate accepted one after another, and the ledger that knows them.
+
+ghost use Rattle.std.specs.Prelude.{◌≡◌, ℕ, suc, Bool, List, [], ◌∷◌, ◌++◌, ◌↔◌, ◌<◌, length, max, vec_len, vec_capacity, IsTrue, MatchResult, IfOk, IfErr, OnOk, OnErr};
+ghost use Rattle.route_tree.specs.Each.{Each};
+ghost use Rattle.route_tree.specs.Route.{Route, IsTree};
+ghost use Rattle.gate_check.specs.Sound.{IsLast, trees_of};
+ghost use Rattle.gate_check.specs.Reload.{KeepsNumbers};
+ghost use Rattle.gate_growth.specs.Grown.{AreSoundSince};
+ghost use Rattle.gate_growth.specs.Pages.{AreOpened};
+ghost use Rattle.gate_growth.specs.Ledgers.{server_count, IsLedgerOf, IsUnsoundFor};
+ghost use Rattle.core_accepted.specs.Known.{is_arbitrary, first_of, more};
+
+use crate::beginnings::Beginnings;
+use crate::numbers::are_kept;
+use gate_growth::ledger::{Beginning, Ledger, Unsound};
+use route_json::Config;
+use std::alloc::{AllocError, Global};
+use std::marker::Model;
+
+/// Configurations that were accepted one after another, the last one in use: generations, counted from 1. A ledger knows
+/// what they may have left on which server, so that one more is judged in one pass, however many there are.
+#[derive(Drop)]
+pub struct Generations {
+    configs: Vec<Config>,
+    ledger: Ledger,
+    // How many servers the first of them has.
+    founders: usize,
+    begun: Beginnings,
+}
+
+impl Model for Generations {
+    ghost use Rattle.core_accepted.specs.Known.{Known, known_code, IsBookOf};
+
+    ghost Value = { Known };
+
+    ghost coded = { known_code };
+
+    ghost view = { λ g. record { configs = g.configs.items; founders = g.founders; begun = g.begun } };
+
+    ghost invariant = { λ g. IsBookOf (record { configs = g.configs.items; founders = g.founders; begun = g.begun }) g.ledger };
+}
+
+// Drops the configuration.
+fn drop_config(_config: Config) {}
+
+// Adds the configuration where there is room for it.
+fn push_config(configs: &mut Vec<Config>, config: Config)
+    requires { vec_len configs.old < vec_capacity configs.old }
+    ensures { configs.new.items ≡ configs.old.items ++ config ∷ [] }
+{
+    if configs.push(config).is_err() {
+        unreachable!()
+    }
+}
+
+// The configuration is the ledger's next generation, and the last of the list, where it may be. Its new servers began so.
+fn take_next(
+    alloc: Global,
+    ledger: &mut Ledger,
+    configs: &mut Vec<Config>,
+    config: Config,
+    added: Beginning,
+) -> Result<u32, Unsound>
+    ensures taken { OnOk result (configs.new.items ≡ configs.old.items ++ config ∷ []) }
+    ensures followed { (arbitrary : ℕ → Bool) (trees : List Route) → IsLedgerOf arbitrary trees ledger.old → AreOpened arbitrary (server_count ledger.old) (length config.servers) added → MatchResult result (λ n. (n ≡ suc (length trees)) × IsLedgerOf arbitrary (trees ++ config.tree ∷ []) ledger.new) (IsUnsoundFor arbitrary trees config.tree) }
+    ensures servers { OnOk result (server_count ledger.new ≡ max (server_count ledger.old) (length config.servers)) }
+    ensures same { OnErr result ((ledger.new ≡ ledger.old) × (configs.new.items ≡ configs.old.items)) }
+{
+    if configs.reserve(1).is_err() {
+        drop_config(config);
+        return Err(Unsound::NoMemory);
+    }
+    match ledger.follow(alloc, &config, added) {
+        Ok(number) => {
+            push_config(configs, config);
+            Ok(number)
+        }
+        Err(unsound) => {
+            drop_config(config);
+            Err(unsound)
+        }
+    }
+}
+
+impl Generations {
+    /// The configuration, whose tree the gate accepted, as the first generation; its servers, and those that later ones bring,
+    /// began so. The only error: memory was refused.
+    pub fn first(
+        alloc: Global,
+        config: &Config,
+        begun: Beginnings,
+    ) -> Result<Generations, AllocError>
+        ensures { IfOk result (λ generations. generations ≡ first_of config.now begun) }
+    {
+        let Ok(ledger) = Ledger::first(alloc, config, begun.opened) else {
+            return Err(AllocError);
+        };
+        let mut configs = Vec::new(alloc);
+        configs.push(config.copy(alloc)?)?;
+        Ok(Generations {
+            configs,
+            ledger,
+            founders: config.servers().len(),
+            begun,
+        })
+    }
+
+    /// The configuration in use. It takes no memory.
+    pub fn config(&self) -> &Config
+        ensures config { IsLast self.now.configs result.now }
+        ensures trees { Each IsTree (trees_of self.now.configs) }
+        ensures sound { AreSoundSince (is_arbitrary self.now) (trees_of self.now.configs) }
+    {
+        &self.configs[self.configs.len() - 1]
+    }
+
+    /// Whether the configuration's list of servers begins with that of the configuration in use. It takes no memory.
+    pub fn keeps_numbers(&self, config: &Config) -> bool
+        ensures { IsTrue result ↔ KeepsNumbers self.now.configs config.now }
+    {
+        are_kept(self.config().servers(), config.servers())
+    }
+
+    /// Makes the configuration the next generation, and answers its number, where its tree may follow those so far: at each
+    /// place it clears what it takes, and none of them may have left that. After an error all is as it was.
+    pub fn follow(&mut self, alloc: Global, config: Config) -> Result<u32, Unsound>
+        ensures followed { IfOk result (λ number. (self.new ≡ more config self.old) × (number ≡ length self.new.configs)) }
+        ensures sound { OnOk result (AreSoundSince (is_arbitrary self.new) (trees_of self.new.configs)) }
+        ensures refused { IfErr result (λ unsound. (self.new ≡ self.old) × IsUnsoundFor (is_arbitrary self.old) (trees_of self.old.configs) config.tree unsound) }
+    {
+        let added = self.begun.added;
+        take_next(alloc, &mut self.ledger, &mut self.configs, config, added)
+    }
+}
