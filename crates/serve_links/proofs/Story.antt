@@ -1,19 +1,21 @@
 -- How the ends of a proxy go on, one after another.
-use Rattle.std.proofs.Common.{◌≡◌, ◌≢◌, ℕ, true, false, List, [], ◌++◌, Option, Some, None, refl, sym, ap, ◌∙◌, subst, inl, inr, append_assoc}
+use Rattle.std.proofs.Common.{◌≡◌, ◌≢◌, ◌⊎◌, ℕ, Bool, true, false, List, [], ◌∷◌, ◌++◌, Option, Some, None, refl, sym, ap, ◌∙◌, subst, inl, inr, append_assoc}
 use Rattle.std.specs.Prelude.{IfSome, nat_eq, slice_get}
+use Rattle.std.specs.Option.{option_map}
 use Rattle.std.proofs.lemmas.Bool.{cases_Bool, eq-eqb, eqb-true}
 use Rattle.wire_parts.specs.Sending.{bytes_of}
-use Rattle.serve_wire.specs.Events.{Event}
-use Rattle.serve_wire.specs.Agreement.{IsUntouched}
+use Rattle.serve_wire.specs.Events.{Event, role, delivered, taken}
+use Rattle.serve_wire.specs.Agreement.{ClientLost, IsUntouched}
 use Rattle.serve_wire.specs.declared.conn.conn.Conn.{Conn}
+use Rattle.serve_wire.proofs.Steps.{apart}
 use Rattle.serve_clients.specs.declared.clients.Client.{Client}
 use Rattle.serve_clients.specs.declared.clients.Clients.{Clients}
 use Rattle.serve_clients.specs.Agrees.{EndAgrees, AllAgree}
-use Rattle.serve_clients.proofs.Agreeing.{its, state_stays}
+use Rattle.serve_clients.proofs.Agreeing.{its, state_stays, client_lost}
 use Rattle.serve_clients.specs.Marks.{client_of}
 use Rattle.serve_links.specs.declared.link.Link.{Link}
-use Rattle.serve_links.specs.CoreSteps.{Step}
-use Rattle.serve_links.specs.Story.{fed_in, gave_in, AgreesWith, LineAgrees, LinesAgree, texts_of, OneGoes, LineGoes, AnEnd, Agrees, AllGo, StoriesGoOn}
+use Rattle.serve_links.specs.CoreSteps.{Step, Closed, Opened}
+use Rattle.serve_links.specs.Story.{fed_in, gave_in, AgreesWith, IsGone, HasOrHad, LineAgrees, LinesAgree, texts_of, OneGoes, LineGoes, AnEnd, Agrees, AllGo, StoriesGoOn}
 use Rattle.serve_links.proofs.Walked.{walked, of_both}
 
 -- ---- one end
@@ -48,6 +50,64 @@ each_client h input output clients each id = by (client_of clients id) refl
 pub line_stays : (h h' : List Event) (at : ℕ) (link : Link) → ((conn : Conn) → link.conn ≡ Some conn → IsUntouched conn.number h h') → LineAgrees h at link → LineAgrees h' at link
 line_stays h h' at link same was = λ conn is. let s = same conn is in let w = was conn is in (s.same_role ∙ w.0, s.same_address ∙ w.1)
 
+-- ---- connections of clients
+
+-- whose a connection is, and what came over it and went, is the same
+abbrev pub TellsSame : ℕ → List Event → List Event → Type 0
+TellsSame d h h' = (role d h' ≡ role d h) × (delivered d h' ≡ delivered d h) × (taken d h' ≡ taken d h)
+
+pub same_told : (d : ℕ) (h h' : List Event) → IsUntouched d h h' → TellsSame d h h'
+same_told d h h' same = (same.same_role, same.same_came, same.same_went)
+
+lost_told : (h h' : List Event) (input output : ℕ → List ℕ) (id conn : ℕ) → TellsSame conn h h' → ClientLost h input output id conn → ClientLost h' input output id conn
+lost_told h h' input output id conn same was = record {
+  is_its = same.0 ∙ was.is_its;
+  unread = was.unread;
+  input_is = same.1 ∙ was.input_is;
+  unsent = was.unsent;
+  output_is = was.output_is ∙ ap (λ l. l ++ was.unsent) (sym same.2);
+}
+
+-- what is known of one that is gone stays known
+pub gone_stays : (past steps : List Step) (h h' : List Event) (id conn : ℕ) → TellsSame conn h h' → IsGone past h id conn → IsGone (steps ++ past) h' id conn
+gone_stays past steps h h' id conn same gone = record {
+  later = steps ++ gone.later;
+  last = gone.last;
+  ends = gone.ends;
+  earlier = gone.earlier;
+  parts = ap (λ l. steps ++ l) gone.parts ∙ sym (append_assoc steps gone.later (gone.last ∷ gone.earlier));
+  lost = lost_told h h' (fed_in gone.earlier) (gave_in gone.earlier) id conn same gone.lost;
+}
+
+-- what is left of an end that agrees
+end_lost : (h : List Event) (input output : ℕ → List ℕ) (id : ℕ) (x : Client) → EndAgrees h input output id x → ClientLost h input output id x.conn.number
+end_lost h input output id x was = by x.is_broken refl
+  where
+    by : (b : Bool) → x.is_broken ≡ b → ClientLost h input output id x.conn.number
+    by false e = client_lost h input output id x.conn.number x.conn.held.items (bytes_of x.conn.unsent) (was.stands e)
+    by true e = was.lost e
+
+-- the client whose end this was is gone by this call
+pub end_gone :
+    (past steps : List Step) (last : Step) (h h' : List Event) (id conn : ℕ) (x : Client) → (last ≡ Closed id) ⊎ (last ≡ Opened id) → AgreesWith past h id x → x.conn.number ≡ conn → TellsSame conn h h'
+    → IsGone (steps ++ last ∷ past) h' id conn
+end_gone past steps last h h' id conn x ends was is same = record {
+  later = steps;
+  last = last;
+  ends = ends;
+  earlier = past;
+  parts = refl;
+  lost = lost_told h h' (fed_in past) (gave_in past) id conn same (subst (λ c. ClientLost h (fed_in past) (gave_in past) id c) is (end_lost h (fed_in past) (gave_in past) id x was));
+}
+
+-- and of one over which nothing came or went, where the client's end has the number that it had
+pub had_stays :
+    (past steps : List Step) (h h' : List Event) (cs cs' : Clients) (id conn : ℕ) → TellsSame conn h h' → option_map (λ (x : Client). x.conn.number) (client_of cs' id) ≡ option_map (λ (x : Client). x.conn.number) (client_of cs id)
+    → HasOrHad past h cs id conn → HasOrHad (steps ++ past) h' cs' id conn
+had_stays past steps h h' cs cs' id conn same ends (inl now) = inl (ends ∙ now)
+had_stays past steps h h' cs cs' id conn same ends (inr (inl unused)) = inr (inl (same.1 ∙ unused.0, same.2 ∙ unused.1))
+had_stays past steps h h' cs cs' id conn same ends (inr (inr gone)) = inr (inr (gone_stays past steps h h' id conn same gone))
+
 -- ---- whose connections are apart
 
 client_apart : (i j : ℕ) → nat_eq i j ≡ false → ◌≢◌ {A = ℕ × ℕ} (0, j) (0, i)
@@ -70,6 +130,9 @@ links_apart i j other e = bools (sym other ∙ eq-eqb i j (sym (ap (λ (p : ℕ 
 
 same_some : {X : Type 0} (x y : X) → Some x ≡ Some y → x ≡ y
 same_some x y e = cc
+
+same_client : (i j : ℕ) → ◌≡◌ {A = Option (ℕ × ℕ)} (Some (0, i)) (Some (0, j)) → i ≡ j
+same_client i j e = ap (λ (p : ℕ × ℕ). p.1) (same_some (0, i) (0, j) e)
 
 -- ---- one end among all
 
@@ -95,20 +158,43 @@ one_of_all {Is} id old new x y was is others links g = record { steps = g.steps;
         mine : id ≡ j → AgreesWith (g.steps ++ past) h' j z
         mine e =
             let z_is : y ≡ z = same_some y z (sym is ∙ ap (client_of new.clients) e ∙ there) in
-            subst (λ k. AgreesWith (g.steps ++ past) h' k z) e (subst (λ c. AgreesWith (g.steps ++ past) h' id c) z_is (g.agrees past (was_of past a id x was)).0)
+            subst (λ k. AgreesWith (g.steps ++ past) h' k z) e (subst (λ c. AgreesWith (g.steps ++ past) h' id c) z_is (g.agrees past (was_of past a id x was)))
 
         other : nat_eq id j ≡ false → AgreesWith (g.steps ++ past) h' j z
         other e =
             let mine_was = was_of past a id x was in let was_z = was_of past a j z (sym (others j e) ∙ there) in let told = g.others past j e in
-            end_stays h h' (fed_in past) (gave_in past) (fed_in (g.steps ++ past)) (gave_in (g.steps ++ past)) j z ((g.agrees past mine_was).1 z.conn.number (0, j) (its h (fed_in past) (gave_in past) j z was_z) (client_apart id j e)) told.0 told.1 was_z
+            let apart_is = apart x.conn.number z.conn.number h (0, id) (0, j) (its h (fed_in past) (gave_in past) id x mine_was) (its h (fed_in past) (gave_in past) j z was_z) (λ same. client_apart id j e (sym same)) in
+            end_stays h h' (fed_in past) (gave_in past) (fed_in (g.steps ++ past)) (gave_in (g.steps ++ past)) j z (g.only z.conn.number apart_is) told.0 told.1 was_z
 
     lines : (past : List Step) → Agrees past old → LinesAgree h' new.links
     lines past a at link there =
         let was_there = ap (λ (ls : List Link). slice_get ls at) (sym links) ∙ there in let was_l = a.links at link was_there in
-        line_stays h h' at link (λ conn c. (g.agrees past (was_of past a id x was)).1 conn.number (1, at) (was_l conn c).0 (λ e. kinds_apart id at (sym e))) was_l
+        line_stays h h' at link (λ conn c. g.only conn.number (apart x.conn.number conn.number h (0, id) (1, at) (its h (fed_in past) (gave_in past) id x (was_of past a id x was)) (was_l conn c).0 (kinds_apart id at))) was_l
+
+    numbers : (j : ℕ) → option_map (λ (z : Client). z.conn.number) (client_of new.clients j) ≡ option_map (λ (z : Client). z.conn.number) (client_of old.clients j)
+    numbers j = elim (cases_Bool (nat_eq id j)) [ inl e ↦ mine (eqb-true id j e) | inr e ↦ ap (option_map (λ (z : Client). z.conn.number)) (others j e) ]
+      where
+        number_of : Option Client → Option ℕ
+        number_of o = option_map (λ (z : Client). z.conn.number) o
+
+        mine : id ≡ j → option_map (λ (z : Client). z.conn.number) (client_of new.clients j) ≡ option_map (λ (z : Client). z.conn.number) (client_of old.clients j)
+        mine e = subst (λ k. option_map (λ (z : Client). z.conn.number) (client_of new.clients k) ≡ option_map (λ (z : Client). z.conn.number) (client_of old.clients k)) e (ap number_of is ∙ ap (λ n. Some n) g.number ∙ sym (ap number_of was))
+
+    gone : (past : List Step) → Agrees past old → (conn j : ℕ) → role conn h' ≡ Some (0, j) → HasOrHad (g.steps ++ past) h' new.clients j conn
+    gone past a conn j its_now = elim (cases_Bool (nat_eq x.conn.number conn)) [ inl e ↦ mine (eqb-true x.conn.number conn e) | inr e ↦ other e ]
+      where
+        mine : x.conn.number ≡ conn → HasOrHad (g.steps ++ past) h' new.clients j conn
+        mine e =
+            let its_y = its h' (fed_in (g.steps ++ past)) (gave_in (g.steps ++ past)) id y (g.agrees past (was_of past a id x was)) in
+            let here : y.conn.number ≡ conn = g.number ∙ e in
+            let same : id ≡ j = same_client id j (sym its_y ∙ ap (λ d. role d h') here ∙ its_now) in
+            inl (ap (λ k. option_map (λ (z : Client). z.conn.number) (client_of new.clients k)) (sym same) ∙ ap (option_map (λ (z : Client). z.conn.number)) is ∙ ap (λ n. Some n) here)
+
+        other : nat_eq x.conn.number conn ≡ false → HasOrHad (g.steps ++ past) h' new.clients j conn
+        other e = let same = g.only conn e in had_stays past g.steps h h' old.clients new.clients j conn (same_told conn h h' same) (numbers j) (a.gone conn j (sym same.same_role ∙ its_now))
 
     agree : (past : List Step) → Agrees past old → Agrees (g.steps ++ past) new
-    agree past a = record { clients = each_client h' (fed_in (g.steps ++ past)) (gave_in (g.steps ++ past)) new.clients (client past a); links = lines past a }
+    agree past a = record { clients = each_client h' (fed_in (g.steps ++ past)) (gave_in (g.steps ++ past)) new.clients (client past a); links = lines past a; gone = gone past a }
 
 -- one link's end goes on, and the others are as they were
 pub line_of_all :
@@ -126,7 +212,7 @@ line_of_all {Is} at old new x y was is others texts clients_are g = record { ste
     client : (past : List Step) → Agrees past old → (j : ℕ) (z : Client) → client_of new.clients j ≡ Some z → AgreesWith (g.steps ++ past) h' j z
     client past a j z there =
         let was_z = at_client h (fed_in past) (gave_in past) old.clients j z (sym (clients_are j) ∙ there) a.clients in let told = g.others past j in
-        end_stays h h' (fed_in past) (gave_in past) (fed_in (g.steps ++ past)) (gave_in (g.steps ++ past)) j z ((g.agrees (a.links at x was)).1 z.conn.number (0, j) (its h (fed_in past) (gave_in past) j z was_z) (kinds_apart j at)) told.0 told.1 was_z
+        end_stays h h' (fed_in past) (gave_in past) (fed_in (g.steps ++ past)) (gave_in (g.steps ++ past)) j z ((g.agrees (a.links at x was)).1 z.conn.number (0, j) (inl (its h (fed_in past) (gave_in past) j z was_z)) (kinds_apart j at)) told.0 told.1 was_z
 
     lines : (past : List Step) → Agrees past old → LinesAgree h' new.links
     lines past a j z there = elim (cases_Bool (nat_eq at j)) [ inl e ↦ mine (eqb-true at j e) | inr e ↦ other e ]
@@ -139,10 +225,15 @@ line_of_all {Is} at old new x y was is others texts clients_are g = record { ste
         other : nat_eq at j ≡ false → LineAgrees h' j z
         other e =
             let was_z = a.links j z (sym (others j e) ∙ there) in
-            line_stays h h' j z (λ conn c. (g.agrees (a.links at x was)).1 conn.number (1, j) (was_z conn c).0 (links_apart at j e)) was_z
+            line_stays h h' j z (λ conn c. (g.agrees (a.links at x was)).1 conn.number (1, j) (inl (was_z conn c).0) (links_apart at j e)) was_z
+
+    gone : (past : List Step) → Agrees past old → (conn j : ℕ) → role conn h' ≡ Some (0, j) → HasOrHad (g.steps ++ past) h' new.clients j conn
+    gone past a conn j its_now =
+        let same = (g.agrees (a.links at x was)).1 conn (0, j) (inr its_now) (kinds_apart j at) in
+        had_stays past g.steps h h' old.clients new.clients j conn (same_told conn h h' same) (ap (option_map (λ (z : Client). z.conn.number)) (clients_are j)) (a.gone conn j (sym same.same_role ∙ its_now))
 
     agree : (past : List Step) → Agrees past old → Agrees (g.steps ++ past) new
-    agree past a = record { clients = each_client h' (fed_in (g.steps ++ past)) (gave_in (g.steps ++ past)) new.clients (client past a); links = lines past a }
+    agree past a = record { clients = each_client h' (fed_in (g.steps ++ past)) (gave_in (g.steps ++ past)) new.clients (client past a); links = lines past a; gone = gone past a }
 
 -- ---- one after another
 

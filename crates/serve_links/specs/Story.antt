@@ -1,7 +1,8 @@
 -- What a walk of a core tells of its clients, and how their ends on a wire go on with it. Source: mcgate's own.
-use Rattle.std.specs.Prelude.{◌≡◌, ◌≢◌, ℕ, false, List, [], ◌∷◌, ◌++◌, Some, map as each, if◌then◌else◌, nat_eq, slice_get}
-use Rattle.serve_wire.specs.Events.{Event, role}
-use Rattle.serve_wire.specs.Agreement.{AddressAgrees, IsUntouched}
+use Rattle.std.specs.Prelude.{◌≡◌, ◌≢◌, ◌⊎◌, ℕ, false, List, [], ◌∷◌, ◌++◌, Some, map as each, if◌then◌else◌, nat_eq, slice_get}
+use Rattle.std.specs.Option.{option_map}
+use Rattle.serve_wire.specs.Events.{Event, role, delivered, taken}
+use Rattle.serve_wire.specs.Agreement.{ClientLost, AddressAgrees, IsUntouched, TouchesOnly}
 use Rattle.serve_wire.specs.declared.conn.conn.Conn.{Conn}
 use Rattle.core_accepted.specs.declared.served.ServedCore.{ServedCore}
 use Rattle.serve_clients.specs.declared.clients.Client.{Client}
@@ -51,6 +52,23 @@ AgreeWith steps h clients = AllAgree h (fed_in steps) (gave_in steps) clients
 abbrev pub TellsNone : ℕ → List Step → List Step → Type 0
 TellsNone j past steps = (fed_in (steps ++ past) j ≡ fed_in past j) × (gave_in (steps ++ past) j ≡ gave_in past j)
 
+-- the client whose connection this was is gone: the core closed it, or opened it anew, and until then its connection delivered what was fed for it, and more perhaps, and took the first of what was given for it
+pub record IsGone (past : List Step) (h : List Event) (id conn : ℕ) : Type 0 where
+  pub later : List Step
+  pub last : Step
+  pub ends : (last ≡ Closed id) ⊎ (last ≡ Opened id)
+  pub earlier : List Step
+  pub parts : past ≡ later ++ last ∷ earlier
+  pub lost : ClientLost h (fed_in earlier) (gave_in earlier) id conn
+
+-- nothing came over a connection, and it took nothing
+abbrev pub IsUnused : ℕ → List Event → Type 0
+IsUnused conn h = (delivered conn h ≡ []) × (taken conn h ≡ [])
+
+-- a connection of the client of this id is that of its end now, or was never used, or the client is gone
+abbrev pub HasOrHad : List Step → List Event → Clients → ℕ → ℕ → Type 0
+HasOrHad past h clients id conn = (option_map (λ x. x.conn.number) (client_of clients id) ≡ Some conn) ⊎ IsUnused conn h ⊎ IsGone past h id conn
+
 -- each link's connection is to its server, and was begun at the address that the link's text names
 abbrev pub LineAgrees : List Event → ℕ → Link → Type 0
 LineAgrees h at link = (conn : Conn) → link.conn ≡ Some conn → (role conn.number h ≡ Some (1, at)) × AddressAgrees h link.text.items conn.number
@@ -58,16 +76,18 @@ LineAgrees h at link = (conn : Conn) → link.conn ≡ Some conn → (role conn.
 abbrev pub LinesAgree : List Event → List Link → Type 0
 LinesAgree h links = (at : ℕ) (link : Link) → slice_get links at ≡ Some link → LineAgrees h at link
 
--- all connections of others than this one are as they were
+-- all connections that were or are of others than this one are as they were
 abbrev pub KeepsOthers : ℕ × ℕ → List Event → List Event → Type 0
-KeepsOthers its h h' = (d : ℕ) (p : ℕ × ℕ) → role d h ≡ Some p → p ≢ its → IsUntouched d h h'
+KeepsOthers its h h' = (d : ℕ) (p : ℕ × ℕ) → (role d h ≡ Some p) ⊎ (role d h' ≡ Some p) → p ≢ its → IsUntouched d h h'
 
--- by calls of this kind the core goes on, and a client's end on the wire with it: where it agreed with all calls before, it agrees with all calls after, and no other's end is touched
+-- by calls of this kind the core goes on, and a client's end on the wire with it: where it agreed with all calls before, it agrees with all calls after, and no other connection is touched
 pub record OneGoes (Is : Step → Type 0) (id : ℕ) (core : ServedCore) (h : List Event) (client : Client) (core' : ServedCore) (h' : List Event) (client' : Client) : Type 0 where
   pub steps : List Step
   pub kinds : AreOf Is steps
   pub walks : Walks steps core core'
-  pub agrees : (past : List Step) → AgreesWith past h id client → AgreesWith (steps ++ past) h' id client' × KeepsOthers (0, id) h h'
+  pub agrees : (past : List Step) → AgreesWith past h id client → AgreesWith (steps ++ past) h' id client'
+  pub number : client'.conn.number ≡ client.conn.number
+  pub only : TouchesOnly client.conn.number h h'
   pub others : (past : List Step) (j : ℕ) → nat_eq id j ≡ false → TellsNone j past steps
 
 -- by calls of this kind, which tell nothing of clients, the core goes on, and a link's end on the wire with it. No other's connection is touched
@@ -90,10 +110,11 @@ pub record AnEnd : Type 0 where
 abbrev pub texts_of : List Link → List (List ℕ)
 texts_of links = each (λ link. link.text.items) links
 
--- each end agrees with these calls
+-- each end agrees with these calls, and so does each connection that was a client's
 pub record Agrees (past : List Step) (x : AnEnd) : Type 0 where
   pub clients : AgreeWith past x.history x.clients
   pub links : LinesAgree x.history x.links
+  pub gone : (conn id : ℕ) → role conn x.history ≡ Some (0, id) → HasOrHad past x.history x.clients id conn
 
 -- by calls of this kind it goes on, and where its ends agreed with all calls before, they agree with all calls after. The links are to the servers that they were to
 pub record AllGo (Is : Step → Type 0) (old new : AnEnd) : Type 0 where

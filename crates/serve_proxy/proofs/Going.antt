@@ -9,7 +9,7 @@ use Rattle.fresh_runs.specs.Overlap as log
 use Rattle.wire_parts.specs.Sending.{bytes_of}
 use Rattle.serve_wire.specs.Events.{Event, role, taken}
 use Rattle.serve_wire.specs.Agreement.{TouchesOnly, IsUntouched}
-use Rattle.serve_wire.proofs.Steps.{apart, untouched, untouched_twice}
+use Rattle.serve_wire.proofs.Steps.{untouched, only_twice}
 use Rattle.core_proxy.specs.declared.fault.CoreFault.{CoreFault}
 use Rattle.core_proxy.specs.declared.note.Poll.{Poll}
 use Rattle.core_proxy.specs.Faults.{CanClose, OpenFault, CloseFault}
@@ -23,13 +23,13 @@ use Rattle.serve_clients.specs.declared.clients.Clients.{Clients}
 use Rattle.serve_clients.specs.Marks.{client_of}
 use Rattle.serve_clients.specs.Agrees.{said_of, Breaks, StateAgrees, EndAgrees, GoesOnAgreeing, AllAgree}
 use Rattle.serve_clients.specs.Lending.{with_client}
-use Rattle.serve_clients.proofs.Agreeing.{its, state_stays, agree_still}
+use Rattle.serve_clients.proofs.Agreeing.{state_stays, agree_still}
 use Rattle.serve_links.specs.declared.link.Link.{Link}
 use Rattle.serve_links.specs.CoreSteps.{Step, Opened, NotOpened, Fed, Polled, Stopped, Settled, Gave, Closed, LeftLine, Loaded, Does, Walks, AreOf, GoesBy, IsOfTurn, IsSettlement, IsFailure, Fails}
 use Rattle.serve_links.specs.Pieces.{FeedsHeld}
-use Rattle.serve_links.specs.Story.{fed_in, gave_in, AgreesWith, TellsNone, LineAgrees, LinesAgree, KeepsOthers, OneGoes, AnEnd, AllGo, texts_of}
+use Rattle.serve_links.specs.Story.{fed_in, gave_in, AgreesWith, TellsNone, HasOrHad, LineAgrees, LinesAgree, OneGoes, AnEnd, AllGo, texts_of}
 use Rattle.serve_links.proofs.Reading.{breaks_now}
-use Rattle.serve_links.proofs.Story.{one_of_all, line_of_all, line_stays, all_still, all_then}
+use Rattle.serve_links.proofs.Story.{same_told, had_stays, one_of_all, line_of_all, line_stays, all_still, all_then}
 use Rattle.serve_links.proofs.Walked.{walked, of_both}
 use Rattle.serve_proxy.specs.Ends.{line_of, lines_of, EndsStay, EndsGo, LineStands}
 use Rattle.serve_proxy.proofs.Staying.{line_same}
@@ -80,6 +80,19 @@ clients_quiet h h' input output cs quiet was id = by (client_of cs id) (was id)
     by None a = tt
     by (Some x) a = state_stays h h' input output id x.conn.number x.conn.held.items (bytes_of x.conn.unsent) x.is_broken x.is_ended (quiet x.conn.number) a
 
+-- the numbers of ends that are as they were
+numbers_kept : (o o' : Option Client) → option_map said_of o' ≡ option_map said_of o → option_map (λ (x : Client). x.conn.number) o' ≡ option_map (λ (x : Client). x.conn.number) o
+numbers_kept None None e = refl
+numbers_kept (Some x) None e = absurd (none_some e)
+numbers_kept None (Some y) e = absurd (none_some (sym e))
+numbers_kept (Some x) (Some y) e = ap (λ (s : ℕ × List ℕ × List ℕ × Bool × Bool). Some s.0) (same_some e)
+
+-- what is known of a connection that nothing touched
+pub had_quiet :
+    (past steps : List Step) (h h' : List Event) (cs cs' : Clients) (id conn : ℕ) → IsUntouched conn h h' → option_map (λ (x : Client). x.conn.number) (client_of cs' id) ≡ option_map (λ (x : Client). x.conn.number) (client_of cs id)
+    → role conn h' ≡ Some (0, id) → ((d j : ℕ) → role d h ≡ Some (0, j) → HasOrHad past h cs j d) → HasOrHad (steps ++ past) h' cs' id conn
+had_quiet past steps h h' cs cs' id conn same ends is was = had_stays past steps h h' cs cs' id conn (same_told conn h h' same) ends (was conn id (sym same.same_role ∙ is))
+
 pub stays :
     {Is : Step → Type 0} {h h' : List Event} {cs cs' : Clients} {ls ls' : List Link} (core : ServedCore) → EndsStay h h' cs cs' ls ls'
     → AllGo Is (record { core = core; history = h; clients = cs; links = ls }) (record { core = core; history = h'; clients = cs'; links = ls' })
@@ -91,6 +104,7 @@ stays {Is} {h} {h'} {cs} {cs'} {ls} {ls'} core s =
       agree = λ past a. record {
         clients = clients_quiet h h' (fed_in past) (gave_in past) cs' s.quiet (agree_still h (fed_in past) (gave_in past) cs cs' s.clients a.clients);
         links = lines_stay h h' ls ls' s.quiet s.links a.links;
+        gone = λ conn id is. had_quiet past [] h h' cs cs' id conn (s.quiet conn) (numbers_kept (client_of cs id) (client_of cs' id) (s.clients id)) is a.gone;
       };
       texts = same_texts ls ls' s.links;
     }
@@ -209,7 +223,7 @@ calls_go :
     {Is : Step → Type 0} {h : List Event} {cs : Clients} {ls : List Link} (a b : ServedCore) (steps : List Step) → AreOf Is steps → AreOf IsSilent steps → Walks steps a b
     → AllGo Is (record { core = a; history = h; clients = cs; links = ls }) (record { core = b; history = h; clients = cs; links = ls })
 calls_go {Is} {h} {cs} {ls} a b steps kinds silent walks =
-    record { steps = steps; kinds = kinds; walks = walks; agree = λ past was. record { clients = agree_told h (fed_in past) (gave_in past) (fed_in (steps ++ past)) (gave_in (steps ++ past)) cs (tells_none steps silent past) was.clients; links = was.links }; texts = refl }
+    record { steps = steps; kinds = kinds; walks = walks; agree = λ past was. record { clients = agree_told h (fed_in past) (gave_in past) (fed_in (steps ++ past)) (gave_in (steps ++ past)) cs (tells_none steps silent past) was.clients; links = was.links; gone = λ conn id is. had_quiet past steps h h cs cs id conn (untouched conn h) refl is was.gone }; texts = refl }
 
 pub fails_go : {h : List Event} {cs : Clients} {ls : List Link} {a b : ServedCore} → Fails a b → AllGo IsFailure (record { core = a; history = h; clients = cs; links = ls }) (record { core = b; history = h; clients = cs; links = ls })
 fails_go {a = a} {b = b} f = calls_go a b f.steps f.kinds (fails_silent f.steps f.kinds) f.walks
@@ -292,23 +306,23 @@ of_said h input output id s = StateAgrees h input output id s.0 s.1 s.2 s.3 s.4
 pub same_agrees : (h : List Event) (x y : Client) → said_of y ≡ said_of x → GoesOnAgreeing h h x y
 same_agrees h x y same = λ input output id was. subst (of_said h input output id) (sym same) was
 
-kept_by : (its : ℕ × ℕ) (c : ℕ) (h h' : List Event) → role c h ≡ Some its → TouchesOnly c h h' → KeepsOthers its h h'
-kept_by its c h h' of_c only = λ d p of_d other. only d (apart c d h its p of_c of_d (λ e. other (sym e)))
-
-kept_none : (its : ℕ × ℕ) (h : List Event) → KeepsOthers its h h
-kept_none its h = λ d p of_d other. untouched d h
-
 -- it goes on without a call of the core
 pub one_touched :
-    {Is : Step → Type 0} {id : ℕ} {a b : ServedCore} {h h' : List Event} {x y : Client} → b ≡ a → GoesOnAgreeing h h' x y → TouchesOnly x.conn.number h h' → OneGoes Is id a h x b h' y
-one_touched {Is} {id} {a} {b} {h} {h'} {x} {y} same goes only =
-    record { steps = []; kinds = tt; walks = same; agrees = λ past was. (goes (fed_in past) (gave_in past) id was, kept_by (0, id) x.conn.number h h' (its h (fed_in past) (gave_in past) id x was) only); others = λ past j other. (refl, refl) }
+    {Is : Step → Type 0} {id : ℕ} {a b : ServedCore} {h h' : List Event} {x y : Client} → b ≡ a → GoesOnAgreeing h h' x y → y.conn.number ≡ x.conn.number → TouchesOnly x.conn.number h h' → OneGoes Is id a h x b h' y
+one_touched {Is} {id} {a} {b} {h} {h'} {x} {y} same goes number only =
+    record { steps = []; kinds = tt; walks = same; agrees = λ past was. goes (fed_in past) (gave_in past) id was; number = number; only = only; others = λ past j other. (refl, refl) }
+
+pub number_said : (x y : Client) → said_of y ≡ said_of x → y.conn.number ≡ x.conn.number
+number_said x y same = ap (λ (s : ℕ × List ℕ × List ℕ × Bool × Bool). s.0) same
+
+pub number_broken : (x y : Client) → Breaks x y → y.conn.number ≡ x.conn.number
+number_broken x y breaks = ap (λ (z : Client). z.conn.number) breaks.rest
 
 pub one_same : {Is : Step → Type 0} {id : ℕ} {a : ServedCore} {h : List Event} (x y : Client) → said_of y ≡ said_of x → OneGoes Is id a h x a h y
-one_same {h = h} x y same = one_touched refl (same_agrees h x y same) (λ d other. untouched d h)
+one_same {h = h} x y same = one_touched refl (same_agrees h x y same) (number_said x y same) (λ d other. untouched d h)
 
 pub one_breaks : {Is : Step → Type 0} {id : ℕ} {a : ServedCore} {h : List Event} (x y : Client) → Breaks x y → OneGoes Is id a h x a h y
-one_breaks {h = h} x y breaks = one_touched refl (breaks_now h x y breaks) (λ d other. untouched d h)
+one_breaks {h = h} x y breaks = one_touched refl (breaks_now h x y breaks) (number_broken x y breaks) (λ d other. untouched d h)
 
 -- one after another
 pub one_then :
@@ -319,9 +333,9 @@ one_then {Is} {id} {a} {b} {c} {h} {h'} {h''} {x} {y} {z} g k =
       kinds = of_both Is k.steps g.steps k.kinds g.kinds;
       walks = walked k.steps g.steps a b c g.walks k.walks;
       agrees = λ past was.
-          let p = g.agrees past was in
-          let q = k.agrees (g.steps ++ past) p.0 in
-          (subst (λ l. AgreesWith l h'' id z) (sym (append_assoc k.steps g.steps past)) q.0, λ d r of_d other. let s = p.1 d r of_d other in untouched_twice d h h' h'' s (q.1 d r (s.same_role ∙ of_d) other));
+          subst (λ l. AgreesWith l h'' id z) (sym (append_assoc k.steps g.steps past)) (k.agrees (g.steps ++ past) (g.agrees past was));
+      number = k.number ∙ g.number;
+      only = only_twice x.conn.number h h' h'' g.only (subst (λ c. TouchesOnly c h' h'') g.number k.only);
       others = λ past j other.
           let p = g.others past j other in
           let q = k.others (g.steps ++ past) j other in
@@ -376,26 +390,28 @@ one_fed {id} {a} {b} {h} x y (inl fed) =
       steps = Fed id piece ∷ [];
       kinds = (tt, tt);
       walks = (a, refl, fed.0);
-      agrees = λ past was. (
-        subst (of_said h (fed_in (Fed id piece ∷ past)) (gave_in past) id) (sym said)
-            (fed_state h (fed_in past) (fed_in (Fed id piece ∷ past)) (gave_in past) id x.conn.number piece (bytes_of x.conn.unsent) x.is_broken x.is_ended (ap (λ (t : Bool). if t then fed_in past id ++ piece else fed_in past id) (same_client id)) was),
-        kept_none (0, id) h,
-      );
+      agrees = λ past was.
+          subst (of_said h (fed_in (Fed id piece ∷ past)) (gave_in past) id) (sym said)
+          (fed_state h (fed_in past) (fed_in (Fed id piece ∷ past)) (gave_in past) id x.conn.number piece (bytes_of x.conn.unsent) x.is_broken x.is_ended (ap (λ (t : Bool). if t then fed_in past id ++ piece else fed_in past id) (same_client id)) was);
+      number = ap (λ (s : ℕ × List ℕ × List ℕ × Bool × Bool). s.0) said;
+      only = λ d other. untouched d h;
       others = λ past j other. (ap (λ (t : Bool). if t then fed_in past j ++ piece else fed_in past j) other, refl);
     }
-one_fed {id} {a} {b} {h} x y (inr (core, inl same)) = one_touched core (same_agrees h x y (ap said_of same)) (λ d other. untouched d h)
-one_fed {id} {a} {b} {h} x y (inr (core, inr breaks)) = one_touched core (breaks_now h x y breaks) (λ d other. untouched d h)
+one_fed {id} {a} {b} {h} x y (inr (core, inl same)) = one_touched core (same_agrees h x y (ap said_of same)) (ap (λ (z : Client). z.conn.number) same) (λ d other. untouched d h)
+one_fed {id} {a} {b} {h} x y (inr (core, inr breaks)) = one_touched core (breaks_now h x y breaks) (number_broken x y breaks) (λ d other. untouched d h)
 
 -- the core gave what it had for the client
 pub gave_one :
-    {id : ℕ} {a b : ServedCore} {h : List Event} (x y : Client) (bytes : List ℕ) → Does (Gave id bytes) a b
+    {id : ℕ} {a b : ServedCore} {h : List Event} (x y : Client) (bytes : List ℕ) → Does (Gave id bytes) a b → y.conn.number ≡ x.conn.number
     → ((past : List Step) → AgreesWith past h id x → AgreesWith (Gave id bytes ∷ past) h id y) → OneGoes IsOfTurn id a h x b h y
-gave_one {id} {a} {b} {h} x y bytes does goes =
+gave_one {id} {a} {b} {h} x y bytes does number goes =
     record {
       steps = Gave id bytes ∷ [];
       kinds = (tt, tt);
       walks = (a, refl, does);
-      agrees = λ past was. (goes past was, kept_none (0, id) h);
+      agrees = goes;
+      number = number;
+      only = λ d other. untouched d h;
       others = λ past j other. (refl, ap (λ (t : Bool). if t then gave_in past j ++ bytes else gave_in past j) other);
     }
 
@@ -410,8 +426,8 @@ pub one_shown :
 one_shown {id} {a} {b} {h} x y (Ok shown) gives same more kept rest =
     let bytes = output_by (client_at a.core id) in
     let said : said_of y ≡ (x.conn.number, x.conn.held.items, bytes_of x.conn.unsent ++ bytes, x.is_broken, x.is_ended) = ap said_of rest ∙ ap (λ l. (x.conn.number, x.conn.held.items, l, x.is_broken, x.is_ended)) more in
-    gave_one x y bytes gives (λ past was.
+    gave_one x y bytes gives (ap (λ (s : ℕ × List ℕ × List ℕ × Bool × Bool). s.0) said) (λ past was.
     subst (of_said h (fed_in past) (gave_in (Gave id bytes ∷ past)) id) (sym said)
     (gave_state h (fed_in past) (gave_in past) (gave_in (Gave id bytes ∷ past)) id x.conn.number x.conn.held.items (bytes_of x.conn.unsent) bytes x.is_broken x.is_ended (more_given past id bytes) was))
 one_shown {id} {a} {b} {h} x y (Err fault) gives same more kept rest =
-    one_touched same (same_agrees h x y (ap said_of rest ∙ ap (λ l. (x.conn.number, x.conn.held.items, l, x.is_broken, x.is_ended)) kept)) (λ d other. untouched d h)
+    one_touched same (same_agrees h x y (ap said_of rest ∙ ap (λ l. (x.conn.number, x.conn.held.items, l, x.is_broken, x.is_ended)) kept)) (ap (λ (z : Client). z.conn.number) rest) (λ d other. untouched d h)

@@ -6,6 +6,7 @@ use Rattle.route_json.specs.Configuration.{Configuration}
 use Rattle.core_accepted.specs.declared.served.ServedCore.{ServedCore}
 use Rattle.core_accepted.specs.Loading.{IsLoaded}
 use Rattle.serve_wire.specs.Events.{Event}
+use Rattle.serve_wire.proofs.Steps.{untouched}
 use Rattle.serve_wire.specs.declared.conn.conn.Conn.{Conn}
 use Rattle.serve_clients.specs.declared.clients.Client.{Client}
 use Rattle.serve_clients.specs.declared.clients.Clients.{Clients}
@@ -15,8 +16,8 @@ use Rattle.serve_links.specs.declared.link.Link.{Link}
 use Rattle.serve_links.specs.CoreSteps.{Step, Loaded}
 use Rattle.serve_links.specs.Story.{fed_in, gave_in, LineAgrees, LinesAgree, AnEnd, Agrees, AllGo, texts_of}
 use Rattle.serve_links.proofs.Walked.{walked, of_both}
-use Rattle.serve_proxy.specs.Ends.{line_of, lines_of, AddsLines, AllGrow, IsLoadOf}
-use Rattle.serve_proxy.proofs.Going.{agree_told, get_line, texts_by_lines}
+use Rattle.serve_proxy.specs.Ends.{line_of, lines_of, AddsLines, AllGrow, IsLoadOf, HasNoClients}
+use Rattle.serve_proxy.proofs.Going.{agree_told, had_quiet, get_line, texts_by_lines}
 use Rattle.serve_proxy.proofs.Staying.{line_same, closed_agrees}
 
 -- ---- lines that are added
@@ -110,7 +111,7 @@ pub links_grow :
     {Is : Step → Type 0} {h : List Event} {cs : Clients} {ls ls' : List Link} (core : ServedCore) → AddsLines ls ls'
     → AllGrow Is (record { core = core; history = h; clients = cs; links = ls }) (record { core = core; history = h; clients = cs; links = ls' })
 links_grow {h = h} {ls = ls} {ls' = ls'} core adds =
-    record { steps = []; kinds = tt; walks = refl; agree = λ past was. record { clients = was.clients; links = lines_grow h ls ls' adds was.links }; texts = (adds.0, texts_grow ls ls' adds) }
+    record { steps = []; kinds = tt; walks = refl; agree = λ past was. record { clients = was.clients; links = lines_grow h ls ls' adds was.links; gone = was.gone }; texts = (adds.0, texts_grow ls ls' adds) }
 
 -- a configuration was loaded, which tells nothing of clients
 pub load_grows :
@@ -121,20 +122,20 @@ load_grows {h} {cs} {ls} configuration generation a b loaded =
       steps = Loaded configuration generation ∷ [];
       kinds = ((generation, refl), tt);
       walks = (a, refl, loaded);
-      agree = λ past was. record { clients = agree_told h (fed_in past) (gave_in past) (fed_in (Loaded configuration generation ∷ past)) (gave_in (Loaded configuration generation ∷ past)) cs (λ j. (refl, refl)) was.clients; links = was.links };
+      agree = λ past was. record { clients = agree_told h (fed_in past) (gave_in past) (fed_in (Loaded configuration generation ∷ past)) (gave_in (Loaded configuration generation ∷ past)) cs (λ j. (refl, refl)) was.clients; links = was.links; gone = λ conn id is. had_quiet past (Loaded configuration generation ∷ []) h h cs cs id conn (untouched conn h) refl is was.gone };
       texts = ([], sym (append-nil (texts_of ls)));
     }
 
 -- it was, or it is as it was
 pub same_grows :
     {Is : Step → Type 0} {h : List Event} {cs : Clients} {ls : List Link} (a b : ServedCore) → b ≡ a → AllGrow Is (record { core = a; history = h; clients = cs; links = ls }) (record { core = b; history = h; clients = cs; links = ls })
-same_grows {Is} {h} {cs} {ls} a b same = record { steps = []; kinds = tt; walks = same; agree = λ past was. record { clients = was.clients; links = was.links }; texts = ([], sym (append-nil (texts_of ls))) }
+same_grows {Is} {h} {cs} {ls} a b same = record { steps = []; kinds = tt; walks = same; agree = λ past was. record { clients = was.clients; links = was.links; gone = was.gone }; texts = ([], sym (append-nil (texts_of ls))) }
 
 -- ---- an end that begins
 
 -- no client is there, and no link has a connection
-pub new_agrees : (h : List Event) (core : ServedCore) (cs : Clients) (ls : List Link) → cs.all.items ≡ [] → AddsLines [] ls → Agrees [] (record { core = core; history = h; clients = cs; links = ls })
-new_agrees h core cs ls none adds = record { clients = λ id. subst (λ o. IfSome o (EndAgrees h (fed_in []) (gave_in []) id)) (sym (nobody id)) tt; links = lines_grow h [] ls adds (λ at link there. absurd (none_some there)) }
+pub new_agrees : (h : List Event) (core : ServedCore) (cs : Clients) (ls : List Link) → cs.all.items ≡ [] → AddsLines [] ls → HasNoClients h → Agrees [] (record { core = core; history = h; clients = cs; links = ls })
+new_agrees h core cs ls none adds new = record { clients = λ id. subst (λ o. IfSome o (EndAgrees h (fed_in []) (gave_in []) id)) (sym (nobody id)) tt; links = lines_grow h [] ls adds (λ at link there. absurd (none_some there)); gone = λ conn id is. absurd (new conn id is) }
   where
     nobody : (id : ℕ) → client_of cs id ≡ None
     nobody id = ap (λ (xs : List (Option Client)). option_flatten (slice_get xs id)) none

@@ -7,7 +7,7 @@ use Rattle.serve_wire.specs.Events.{Event, role, connects}
 use Rattle.serve_wire.specs.Agreement.{TouchesOnly, AddressAgrees}
 use Rattle.serve_wire.specs.Calls.{Closes}
 use Rattle.serve_wire.specs.Flow.{ReadsOn, SendsOn}
-use Rattle.serve_wire.proofs.Steps.{equal, apart, new_apart, untouched, untouched_twice, only_closes, only_connects, only_twice, address_begins}
+use Rattle.serve_wire.proofs.Steps.{equal, unequal, new_apart, untouched, untouched_twice, only_closes, only_connects, only_twice, address_begins}
 use Rattle.serve_wire.specs.declared.conn.conn.Conn.{Conn}
 use Rattle.serve_clients.specs.declared.clients.Clients.{Clients}
 use Rattle.serve_clients.specs.Agrees.{KeepsEnds}
@@ -70,13 +70,30 @@ line_same h at x y same was = λ conn is. by x.conn refl conn (sym (ap (λ (p : 
 kept_none : (its : ℕ × ℕ) (h h' : List Event) → h' ≡ h → KeepsOthers its h h'
 kept_none its h h' same = subst (KeepsOthers its h) (sym same) (λ d p r o. untouched d h)
 
--- what touches one connection alone touches none of others'
-kept_by : (its : ℕ × ℕ) (c : ℕ) (h h' : List Event) → role c h ≡ Some its → TouchesOnly c h h' → KeepsOthers its h h'
-kept_by its c h h' of_c only = λ d p of_d other. only d (apart c d h its p of_c of_d (λ e. other (sym e)))
+-- what touches one connection alone, which is nobody else's before and after, touches none of others'
+kept_if : (its : ℕ × ℕ) (c : ℕ) (h h' : List Event) → ((p : ℕ × ℕ) → (role c h ≡ Some p) ⊎ (role c h' ≡ Some p) → p ≡ its) → TouchesOnly c h h' → KeepsOthers its h h'
+kept_if its c h h' mine only = λ d p of_d other. only d (unequal c d (λ e. other (mine p (subst (λ k. (role k h ≡ Some p) ⊎ (role k h' ≡ Some p)) (sym e) of_d))))
+
+same_pair : {p q : ℕ × ℕ} → ◌≡◌ {A = Option (ℕ × ℕ)} (Some p) (Some q) → p ≡ q
+same_pair e = cc
+
+none_pair : {p : ℕ × ℕ} → ◌≡◌ {A = Option (ℕ × ℕ)} None (Some p) → ⊥
+none_pair e = cc
+
+kept_by : (its : ℕ × ℕ) (c : ℕ) (h h' : List Event) → role c h ≡ Some its → role c h' ≡ role c h → TouchesOnly c h h' → KeepsOthers its h h'
+kept_by its c h h' of_c same only = kept_if its c h h' mine only
+  where
+    mine : (p : ℕ × ℕ) → (role c h ≡ Some p) ⊎ (role c h' ≡ Some p) → p ≡ its
+    mine p (inl was) = same_pair (sym was ∙ of_c)
+    mine p (inr is) = same_pair (sym is ∙ same ∙ of_c)
 
 -- nor does what touches a new one
-kept_new : (its : ℕ × ℕ) (c : ℕ) (h h' : List Event) → role c h ≡ None → TouchesOnly c h h' → KeepsOthers its h h'
-kept_new its c h h' none only = λ d p of_d other. only d (new_apart c d h p of_d none)
+kept_new : (its : ℕ × ℕ) (c : ℕ) (h h' : List Event) → role c h ≡ None → role c h' ≡ Some its → TouchesOnly c h h' → KeepsOthers its h h'
+kept_new its c h h' none now only = kept_if its c h h' mine only
+  where
+    mine : (p : ℕ × ℕ) → (role c h ≡ Some p) ⊎ (role c h' ≡ Some p) → p ≡ its
+    mine p (inl was) = absurd (none_pair (sym none ∙ was))
+    mine p (inr is) = same_pair (sym is ∙ now)
 
 -- it has the line that it had
 pub line_stands : (at : ℕ) (h : List Event) (x y : Link) → y.text ≡ x.text → line_of y ≡ line_of x → LineStands at h h x y
@@ -90,6 +107,10 @@ only_closed : (c : ℕ) (h h' : List Event) → Closes c h h' → TouchesOnly c 
 only_closed c h h' (inl closed) = subst (TouchesOnly c h) (sym closed) (only_closes c h)
 only_closed c h h' (inr still) = subst (TouchesOnly c h) (sym still) (λ d other. untouched d h)
 
+role_closed : (c d : ℕ) (h h' : List Event) → Closes c h h' → role d h' ≡ role d h
+role_closed c d h h' (inl closed) = ap (role d) closed
+role_closed c d h h' (inr still) = ap (role d) still
+
 pub line_closes :
     (at : ℕ) (h h' : List Event) (x y : Link) (o : Option ℕ) → o ≡ option_map (λ (z : Conn). z.number) x.conn → IfSome o (λ c. Closes c h h') → (o ≡ None → h' ≡ h) → y.conn ≡ None → y.text ≡ x.text
     → LineStands at h h' x y
@@ -97,14 +118,16 @@ line_closes at h h' x y o is some none closed text = record { agrees = λ was. (
   where
     by : (a : Option Conn) → x.conn ≡ a → LineAgrees h at x → KeepsOthers (1, at) h h'
     by None e was = kept_none (1, at) h h' (none (is ∙ ap (option_map (λ (z : Conn). z.number)) e))
-    by (Some c) e was = kept_by (1, at) c.number h h' (was c e).0 (only_closed c.number h h' (subst (λ z. IfSome z (λ n. Closes n h h')) (is ∙ ap (option_map (λ (z : Conn). z.number)) e) some))
+    by (Some c) e was =
+        let closes : Closes c.number h h' = subst (λ z. IfSome z (λ n. Closes n h h')) (is ∙ ap (option_map (λ (z : Conn). z.number)) e) some in
+        kept_by (1, at) c.number h h' (was c e).0 (role_closed c.number c.number h h' closes) (only_closed c.number h h' closes)
 
 -- something came over its connection, or went
 pub line_touched :
     (at : ℕ) (h h' : List Event) (x y : Link) (c : Conn) → x.conn ≡ Some c → y.text ≡ x.text → line_of y ≡ line_of x
     → (role c.number h' ≡ role c.number h) × TouchesOnly c.number h h' → ((t : List ℕ) → AddressAgrees h t c.number → AddressAgrees h' t c.number) → LineStands at h h' x y
 line_touched at h h' x y c is text same told address =
-    record { agrees = λ was. (line_same h' at x y same (λ conn i. moved conn i was), kept_by (1, at) c.number h h' (was c is).0 told.1); text = text }
+    record { agrees = λ was. (line_same h' at x y same (λ conn i. moved conn i was), kept_by (1, at) c.number h h' (was c is).0 told.0 told.1); text = text }
   where
     moved : (conn : Conn) → x.conn ≡ Some conn → LineAgrees h at x → (role conn.number h' ≡ Some (1, at)) × AddressAgrees h' x.text.items conn.number
     moved conn i was = subst (λ (z : Conn). (role z.number h' ≡ Some (1, at)) × AddressAgrees h' x.text.items z.number) (some_is c conn (sym is ∙ i)) (told.0 ∙ (was c is).0, address x.text.items (was c is).1)
@@ -118,9 +141,12 @@ pub line_sent :
 line_sent at h h' x y c unsent unsent' is text same s = line_touched at h h' x y c is text same (s.same_role, s.elsewhere) (λ t was. s.same_address ∙ was)
 
 -- a connection was begun
+connected : (c at : ℕ) (text : List ℕ) (h : List Event) → role c (connects c at text ∷ h) ≡ Some (1, at)
+connected c at text h = ap (λ b. if b then Some (1, at) else role c h) (equal c)
+
 pub line_opens : (at : ℕ) (dialect : ServerDialect) (what : Opening) (h h' : List Event) (x y : Link) → OpensBy at dialect what x y h h' → LineStands at h h' x y
 line_opens at dialect opening.Begun h h' x y o =
-    record { agrees = λ was. (λ conn is. begun conn (subst (IsNewEnd o.0 dialect) is o.3.conn), kept_new (1, at) o.0 h h' o.1.no_role (subst (TouchesOnly o.0 h) (sym o.2) (only_connects o.0 at x.text.items h))); text = o.3.text }
+    record { agrees = λ was. (λ conn is. begun conn (subst (IsNewEnd o.0 dialect) is o.3.conn), kept_new (1, at) o.0 h h' o.1.no_role (ap (role o.0) o.2 ∙ connected o.0 at x.text.items h) (subst (TouchesOnly o.0 h) (sym o.2) (only_connects o.0 at x.text.items h))); text = o.3.text }
   where
     begun : (conn : Conn) → IsNewEnd o.0 dialect (Some conn) → (role conn.number h' ≡ Some (1, at)) × AddressAgrees h' y.text.items conn.number
     begun conn new =
@@ -130,7 +156,7 @@ line_opens at dialect opening.Begun h h' x y o =
 line_opens at dialect opening.NoAddress h h' x y o = subst (λ g. LineStands at h g x y) (sym o.0) (line_stands at h x y o.1.text (kept_line x y o.1))
 line_opens at dialect opening.Failed h h' x y o = subst (λ g. LineStands at h g x y) (sym o.0) (line_stands at h x y o.1.text (kept_line x y o.1))
 line_opens at dialect opening.NoMemory h h' x y o =
-    record { agrees = λ was. (line_same h' at x y (kept_line x y o.3) (λ conn is. moved conn (was conn is)), kept_new (1, at) o.0 h h' o.1.no_role touches); text = o.3.text }
+    record { agrees = λ was. (line_same h' at x y (kept_line x y o.3) (λ conn is. moved conn (was conn is)), kept_new (1, at) o.0 h h' o.1.no_role (role_closed o.0 o.0 (connects o.0 at x.text.items ∷ h) h' o.2 ∙ connected o.0 at x.text.items h) touches); text = o.3.text }
   where
     touches : TouchesOnly o.0 h h'
     touches = only_twice o.0 h (connects o.0 at x.text.items ∷ h) h' (only_connects o.0 at x.text.items h) (only_closed o.0 (connects o.0 at x.text.items ∷ h) h' o.2)
@@ -141,7 +167,11 @@ line_opens at dialect opening.NoMemory h h' x y o =
 -- one after another
 pub line_then : (at : ℕ) (h h' h'' : List Event) (x y z : Link) → LineStands at h h' x y → LineStands at h' h'' y z → LineStands at h h'' x z
 line_then at h h' h'' x y z a b =
-    record { agrees = λ was. let p = a.agrees was in let q = b.agrees p.0 in (q.0, λ d r of_d other. let s = p.1 d r of_d other in untouched_twice d h h' h'' s (q.1 d r (s.same_role ∙ of_d) other)); text = b.text ∙ a.text }
+    record { agrees = λ was. let p = a.agrees was in let q = b.agrees p.0 in (q.0, λ d r of_d other. both p.1 q.1 d r of_d other); text = b.text ∙ a.text }
+  where
+    both : KeepsOthers (1, at) h h' → KeepsOthers (1, at) h' h'' → (d : ℕ) (r : ℕ × ℕ) → (role d h ≡ Some r) ⊎ (role d h'' ≡ Some r) → r ≢ (1, at) → IsUntouched d h h''
+    both first then d r (inl was) other = let s = first d r (inl was) other in untouched_twice d h h' h'' s (then d r (inl (s.same_role ∙ was)) other)
+    both first then d r (inr is) other = let s = then d r (inr is) other in untouched_twice d h h' h'' (first d r (inr (sym s.same_role ∙ is)) other) s
 
 -- where it was closed here too
 pub line_then_closed : (at : ℕ) (h h' : List Event) (x y z : Link) → LineStands at h h' x y → z.conn ≡ None → z.text ≡ y.text → LineStands at h h' x z

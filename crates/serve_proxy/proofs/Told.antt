@@ -1,6 +1,6 @@
 -- Clients' ends that begin and end, and what the core gave for one.
 use Rattle.std.proofs.Common.{◌≡◌, ◌≢◌, ◌⊎◌, inl, inr, ℕ, zero, suc, Bool, true, false, if◌then◌else◌, List, [], ◌∷◌, ◌++◌, length, Option, Some, None, Result, Ok, Err, refl, sym, ap, ◌∙◌, subst, append_assoc, append-nil, arith}
-use Rattle.std.proofs.lemmas.Bool.{cases_eq}
+use Rattle.std.proofs.lemmas.Bool.{cases_eq, cases_Bool, eqb-true}
 use Rattle.std.specs.Prelude.{nat_eq, IfSome, IfErr, OnOk, slice_get, slice_set}
 use Rattle.std.specs.Option.{option_map, option_flatten}
 use Rattle.fresh_runs.specs.Overlap as log
@@ -21,14 +21,14 @@ use Rattle.serve_clients.specs.Agrees.{said_of, Breaks, StateAgrees, EndAgrees, 
 use Rattle.serve_clients.proofs.Agreeing.{its, keeps_none, state_stays, state_breaks}
 use Rattle.serve_clients.proofs.Marked.{kept}
 use Rattle.serve_links.specs.declared.link.Link.{Link}
-use Rattle.serve_links.specs.CoreSteps.{Step, Opened, Gave, Does, GoesBy, IsOfTurn}
-use Rattle.serve_links.specs.Story.{fed_in, gave_in, LinesAgree, OneGoes, Agrees, AllGo}
+use Rattle.serve_links.specs.CoreSteps.{Step, Opened, Gave, Closed, Does, GoesBy, IsOfTurn}
+use Rattle.serve_links.specs.Story.{fed_in, gave_in, IsGone, IsUnused, HasOrHad, LinesAgree, OneGoes, Agrees, AllGo}
 use Rattle.serve_links.proofs.Reading.{breaks_now}
-use Rattle.serve_links.proofs.Story.{line_stays}
+use Rattle.serve_links.proofs.Story.{TellsSame, same_told, gone_stays, end_gone, had_stays, line_stays}
 use Rattle.serve_links.proofs.Walked.{walked, of_both}
 use Rattle.serve_proxy.specs.Ends.{EndsStay, EndsGo}
 use Rattle.serve_proxy.proofs.Staying.{quiet}
-use Rattle.serve_proxy.proofs.Going.{IsSilent, tells_none, silent_turn, agree_told, gave_one, gave_state, more_given, one_touched, same_agrees, same_client}
+use Rattle.serve_proxy.proofs.Going.{IsSilent, tells_none, silent_turn, agree_told, had_quiet, gave_one, gave_state, more_given, one_touched, same_agrees, same_client}
 
 -- ---- what happened on no connection
 
@@ -69,34 +69,67 @@ lines_new : (c : ℕ) (h h' : List Event) (ls : List Link) → role c h ≡ None
 lines_new c h h' ls none only was at link there = line_stays h h' at link (λ conn is. only conn.number (new_apart c conn.number h (1, at) (was at link there conn is).0 none)) (was at link there)
 
 -- and all clients, as one was turned away
-pub new_touched : {h h' : List Event} {cs : Clients} {ls : List Link} (c : ℕ) → role c h ≡ None → TouchesOnly c h h' → EndsGo h h' cs cs ls ls
-new_touched {h} {h'} {cs} {ls} c none only = λ core. record {
+pub new_touched : {h h' : List Event} {cs : Clients} {ls : List Link} (c : ℕ) → role c h ≡ None → role c h' ≡ role c h → TouchesOnly c h h' → EndsGo h h' cs cs ls ls
+new_touched {h} {h'} {cs} {ls} c none same only = λ core. record {
   steps = [];
   kinds = tt;
   walks = refl;
   agree = λ past was. record {
     clients = λ j. if_moved h h' (fed_in past) (gave_in past) (fed_in past) (gave_in past) j (client_of cs j) (λ d of_d. only d (new_apart c d h (0, j) of_d none)) refl refl (was.clients j);
     links = lines_new c h h' ls none only was.links;
+    gone = λ conn id is. had_quiet past [] h h' cs cs id conn (only conn (new_apart c conn h' (0, id) is (same ∙ none))) refl is was.gone;
   };
   texts = refl;
 }
 
+none_is : {n : ℕ} → ◌≡◌ {A = Option ℕ} None (Some n) → ⊥
+none_is e = cc
+
+number_is : {m n : ℕ} → ◌≡◌ {A = Option ℕ} (Some m) (Some n) → m ≡ n
+number_is e = cc
+
 -- a client was opened under this id, and its end has begun, or is not there
 pub opened_go :
-    {h h' : List Event} {cs cs' : Clients} {ls : List Link} (id c : ℕ) (b last : ServedCore) → role c h ≡ None → TouchesOnly c h h' → ((j : ℕ) → j ≢ id → client_of cs' j ≡ client_of cs j)
+    {h h' : List Event} {cs cs' : Clients} {ls : List Link} (id c : ℕ) (b last : ServedCore) → role c h ≡ None → TouchesOnly c h h' → IsUnused c h' → ((j : ℕ) → j ≢ id → client_of cs' j ≡ client_of cs j)
     → IfSome (client_of cs' id) (EndAgrees h' (λ j. []) (λ j. []) id) → GoesBy IsSilent b last → (before : ServedCore) → Does (Opened id) before b
     → AllGo IsOfTurn (record { core = before; history = h; clients = cs; links = ls }) (record { core = last; history = h'; clients = cs'; links = ls })
-opened_go {h} {h'} {cs} {cs'} {ls} id c b last none only others begun q before does = record {
+opened_go {h} {h'} {cs} {cs'} {ls} id c b last none only unused others begun q before does = record {
   steps = q.steps ++ Opened id ∷ [];
   kinds = of_both IsOfTurn q.steps (Opened id ∷ []) (silent_turn q.steps q.kinds) (tt, tt);
   walks = walked q.steps (Opened id ∷ []) before b last (before, refl, does) q.walks;
   agree = λ past was. subst (λ l. Agrees l (record { core = last; history = h'; clients = cs'; links = ls })) (sym (append_assoc q.steps (Opened id ∷ []) past)) (record {
     clients = agree_told h' (fed_in (Opened id ∷ past)) (gave_in (Opened id ∷ past)) (fed_in (q.steps ++ Opened id ∷ past)) (gave_in (q.steps ++ Opened id ∷ past)) cs' (tells_none q.steps q.kinds (Opened id ∷ past)) (mid past was.clients);
     links = lines_new c h h' ls none only was.links;
+    gone = gone past was;
   });
   texts = refl;
 }
   where
+    gone : (past : List Step) → Agrees past (record { core = before; history = h; clients = cs; links = ls }) → (conn j : ℕ) → role conn h' ≡ Some (0, j) → HasOrHad (q.steps ++ Opened id ∷ past) h' cs' j conn
+    gone past was conn j is = elim (cases_Bool (nat_eq c conn)) [ inl e ↦ subst (λ k. HasOrHad (q.steps ++ Opened id ∷ past) h' cs' j k) (eqb-true c conn e) (inr (inl unused)) | inr e ↦ old (only conn e) ]
+      where
+        old : IsUntouched conn h h' → HasOrHad (q.steps ++ Opened id ∷ past) h' cs' j conn
+        old same = by (cases_eq j id)
+          where
+            told : TellsSame conn h h'
+            told = same_told conn h h' same
+
+            was_known : HasOrHad past h cs j conn
+            was_known = was.gone conn j (sym same.same_role ∙ is)
+
+            of_opened : (o : Option Client) → client_of cs j ≡ o → j ≡ id → HasOrHad past h cs j conn → HasOrHad (q.steps ++ Opened id ∷ past) h' cs' j conn
+            of_opened None e here (inl now) = absurd (none_is (sym (ap (option_map (λ (x : Client). x.conn.number)) e) ∙ now))
+            of_opened (Some x) e here (inl now) =
+                inr (inr (end_gone past q.steps (Opened id) h h' j conn x (inr (ap (λ k. Opened k) (sym here))) (subst (λ o. IfSome o (EndAgrees h (fed_in past) (gave_in past) j)) e (was.clients j)) (number_is (sym (ap (option_map (λ (x : Client). x.conn.number)) e) ∙ now)) told))
+            of_opened o e here (inr (inl none)) = inr (inl (told.1 ∙ none.0, told.2 ∙ none.1))
+            of_opened o e here (inr (inr more)) = inr (inr (subst (λ l. IsGone l h' j conn) (append_assoc q.steps (Opened id ∷ []) past) (gone_stays past (q.steps ++ Opened id ∷ []) h h' j conn told more)))
+
+            by : (j ≡ id) ⊎ (j ≢ id) → HasOrHad (q.steps ++ Opened id ∷ past) h' cs' j conn
+            by (inl here) = of_opened (client_of cs j) refl here was_known
+            by (inr other) =
+                subst (λ l. HasOrHad l h' cs' j conn) (append_assoc q.steps (Opened id ∷ []) past)
+                (had_stays past (q.steps ++ Opened id ∷ []) h h' cs cs' j conn told (ap (option_map (λ (x : Client). x.conn.number)) (others j other)) was_known)
+
     mid : (past : List Step) → AllAgree h (fed_in past) (gave_in past) cs → AllAgree h' (fed_in (Opened id ∷ past)) (gave_in (Opened id ∷ past)) cs'
     mid past was j = by (cases_eq j id)
       where
@@ -151,6 +184,16 @@ only_same c h h' same = subst (TouchesOnly c h) (sym same) (λ d other. untouche
 pub only_admitted : (c id : ℕ) (h h' : List Event) → h' ≡ admits c id ∷ h → TouchesOnly c h h'
 only_admitted c id h h' is = subst (TouchesOnly c h) (sym is) (only_admits c id h)
 
+pub unused_admitted : (c id : ℕ) (h h' : List Event) → IsNew c h → h' ≡ admits c id ∷ h → IsUnused c h'
+unused_admitted c id h h' new is = (ap (delivered c) is ∙ new.none_came, ap (taken c) is ∙ new.none_went)
+
+pub unused_same : (c : ℕ) (h h' : List Event) → IsNew c h → h' ≡ h → IsUnused c h'
+unused_same c h h' new is = (ap (delivered c) is ∙ new.none_came, ap (taken c) is ∙ new.none_went)
+
+pub unused_closed : (c : ℕ) (h h' : List Event) → IsUnused c h → Closes c h h' → IsUnused c h'
+unused_closed c h h' was (inl closed) = (ap (delivered c) closed ∙ was.0, ap (taken c) closed ∙ was.1)
+unused_closed c h h' was (inr same) = (ap (delivered c) same ∙ was.0, ap (taken c) same ∙ was.1)
+
 -- nobody stands at a place that was emptied
 emptied : (xs : List (Option Client)) (id : ℕ) → option_flatten (slice_get (slice_set xs id None) id) ≡ None
 emptied [] id = refl
@@ -163,17 +206,24 @@ gone_here cs cs' id gone = ap (λ xs. option_flatten (slice_get xs id)) gone ∙
 pub gone_others : (cs cs' : Clients) (id : ℕ) → cs'.all.items ≡ slice_set cs.all.items id None → (j : ℕ) → j ≢ id → client_of cs' j ≡ client_of cs j
 gone_others cs cs' id gone j other = kept cs.all.items cs'.all.items id j None other gone
 
--- one is gone, and its connection was closed
+-- what is told of a connection doesn't change when one is closed
+closed_tells : (c d : ℕ) (h h' : List Event) → Closes c h h' → TellsSame d h h'
+closed_tells c d h h' (inl closed) = (ap (role d) closed, ap (delivered d) closed, ap (taken d) closed)
+closed_tells c d h h' (inr same) = (ap (role d) same, ap (delivered d) same, ap (taken d) same)
+
+-- one was closed by the core, and is gone, and its connection was closed
 pub gone_go :
     {h h' : List Event} {cs cs' : Clients} {ls : List Link} (id : ℕ) (r : Option ℕ) → r ≡ option_map (λ x. x.conn.number) (client_of cs id) → cs'.all.items ≡ slice_set cs.all.items id None
-    → IfSome r (λ c. Closes c h h') → (r ≡ None → h' ≡ h) → EndsGo h h' cs cs' ls ls
-gone_go {h} {h'} {cs} {cs'} {ls} id r is gone some none = λ core. record {
-  steps = [];
-  kinds = tt;
-  walks = refl;
+    → IfSome r (λ c. Closes c h h') → (r ≡ None → h' ≡ h) → (before core : ServedCore) → Does (Closed id) before core
+    → AllGo IsOfTurn (record { core = before; history = h; clients = cs; links = ls }) (record { core = core; history = h'; clients = cs'; links = ls })
+gone_go {h} {h'} {cs} {cs'} {ls} id r is gone some none before core does = record {
+  steps = Closed id ∷ [];
+  kinds = (tt, tt);
+  walks = (before, refl, does);
   agree = λ past was. record {
     clients = λ j. clients past was.clients j (cases_eq j id);
     links = λ at link there. line_stays h h' at link (λ conn c. touched past was.clients conn.number (1, at) (was.links at link there conn c).0 (λ e. one_zero (ap (λ (p : ℕ × ℕ). p.0) e))) (was.links at link there);
+    gone = gone_of past was;
   };
   texts = refl;
 }
@@ -189,6 +239,30 @@ gone_go {h} {h'} {cs} {cs'} {ls} id r is gone some none = λ core. record {
         by (Some x) e a =
             only_closed x.conn.number h h' (subst (λ o. IfSome o (λ c. Closes c h h')) (is ∙ ap (option_map (λ (x : Client). x.conn.number)) e) some) d
             (apart x.conn.number d h (0, id) p (its h (fed_in past) (gave_in past) id x a) of_d (λ same. other (sym same)))
+
+    told : (d : ℕ) → TellsSame d h h'
+    told d = by r refl
+      where
+        by : (o : Option ℕ) → r ≡ o → TellsSame d h h'
+        by None e = let same = none e in (ap (role d) same, ap (delivered d) same, ap (taken d) same)
+        by (Some c) e = closed_tells c d h h' (subst (λ o. IfSome o (λ c. Closes c h h')) e some)
+
+    gone_of : (past : List Step) → Agrees past (record { core = before; history = h; clients = cs; links = ls }) → (conn j : ℕ) → role conn h' ≡ Some (0, j) → HasOrHad (Closed id ∷ past) h' cs' j conn
+    gone_of past was conn j now = by (cases_eq j id)
+      where
+        was_known : HasOrHad past h cs j conn
+        was_known = was.gone conn j (sym (told conn).0 ∙ now)
+
+        of_closed : (o : Option Client) → client_of cs j ≡ o → j ≡ id → HasOrHad past h cs j conn → HasOrHad (Closed id ∷ past) h' cs' j conn
+        of_closed None e here (inl its_end) = absurd (none_is (sym (ap (option_map (λ (x : Client). x.conn.number)) e) ∙ its_end))
+        of_closed (Some x) e here (inl its_end) =
+            inr (inr (end_gone past [] (Closed id) h h' j conn x (inl (ap (λ k. Closed k) (sym here))) (subst (λ o. IfSome o (EndAgrees h (fed_in past) (gave_in past) j)) e (was.clients j)) (number_is (sym (ap (option_map (λ (x : Client). x.conn.number)) e) ∙ its_end)) (told conn)))
+        of_closed o e here (inr (inl unused)) = inr (inl ((told conn).1 ∙ unused.0, (told conn).2 ∙ unused.1))
+        of_closed o e here (inr (inr more)) = inr (inr (gone_stays past (Closed id ∷ []) h h' j conn (told conn) more))
+
+        by : (j ≡ id) ⊎ (j ≢ id) → HasOrHad (Closed id ∷ past) h' cs' j conn
+        by (inl here) = of_closed (client_of cs j) refl here was_known
+        by (inr other) = had_stays past (Closed id ∷ []) h h' cs cs' j conn (told conn) (ap (option_map (λ (x : Client). x.conn.number)) (gone_others cs cs' id gone j other)) was_known
 
     clients : (past : List Step) → AllAgree h (fed_in past) (gave_in past) cs → (j : ℕ) → (j ≡ id) ⊎ (j ≢ id) → IfSome (client_of cs' j) (EndAgrees h' (fed_in past) (gave_in past) j)
     clients past was j (inl here) = subst (λ o. IfSome o (EndAgrees h' (fed_in past) (gave_in past) j)) (sym (ap (client_of cs') here ∙ gone_here cs cs' id gone)) tt
@@ -210,12 +284,12 @@ pub one_lost :
     → Breaks x y → OneGoes IsOfTurn id a h x b h y
 one_lost {id} {a} {b} {h} x y (Ok done) ok err fresh breaks =
     let bytes = output_by (client_at a.core id) in
-    gave_one x y bytes (ok, fresh) (λ past was.
+    gave_one x y bytes (ok, fresh) (ap (λ (z : Client). z.conn.number) breaks.rest) (λ past was.
     state_breaks h x.conn.number y.conn.number x.conn.held.items (bytes_of x.conn.unsent ++ bytes) y.conn.held.items (bytes_of y.conn.unsent) x.is_broken y.is_broken x.is_ended y.is_ended
     (ap (λ (z : Client). z.conn.number) breaks.rest) breaks.none_held (ap (λ (z : Client). z.is_broken) breaks.rest) (ap (λ (z : Client). z.is_ended) breaks.rest)
     (fed_in past) (gave_in (Gave id bytes ∷ past)) id
     (gave_state h (fed_in past) (gave_in past) (gave_in (Gave id bytes ∷ past)) id x.conn.number x.conn.held.items (bytes_of x.conn.unsent) bytes x.is_broken x.is_ended (more_given past id bytes) was))
-one_lost {id} {a} {b} {h} x y (Err fault) ok err fresh breaks = one_touched err.1 (breaks_now h x y breaks) (λ d other. untouched d h)
+one_lost {id} {a} {b} {h} x y (Err fault) ok err fresh breaks = one_touched err.1 (breaks_now h x y breaks) (ap (λ (z : Client). z.conn.number) breaks.rest) (λ d other. untouched d h)
 
 -- the core gave nothing, as nothing stands where that would
 pub one_empty :
@@ -225,14 +299,14 @@ pub one_empty :
 one_empty {id} {a} {b} {h} x (Ok done) out out' ok err fresh more none =
     let bytes = output_by (client_at a.core id) in
     let nothing : bytes ≡ [] = no_rest out bytes (sym more ∙ none) in
-    gave_one x x bytes (ok, fresh) (λ past was.
+    gave_one x x bytes (ok, fresh) refl (λ past was.
     end_moved h h (fed_in past) (gave_in past) (fed_in (Gave id bytes ∷ past)) (gave_in (Gave id bytes ∷ past)) id x (untouched x.conn.number h) refl
     (more_given past id bytes ∙ ap (λ l. gave_in past id ++ l) nothing ∙ append-nil (gave_in past id)) was)
   where
     no_rest : (l m : List ℕ) → l ++ m ≡ [] → m ≡ []
     no_rest [] m e = e
     no_rest (n ∷ l) m e = absurd cc
-one_empty {id} {a} {b} {h} x (Err fault) out out' ok err fresh more none = one_touched err.1 (same_agrees h x x refl) (λ d other. untouched d h)
+one_empty {id} {a} {b} {h} x (Err fault) out out' ok err fresh more none = one_touched err.1 (same_agrees h x x refl) refl (λ d other. untouched d h)
 
 pub no_length : (l : List ℕ) → length l ≡ 0 → l ≡ []
 no_length [] e = refl

@@ -1,7 +1,7 @@
 -- What a proxy's end has on its wire, and how that stays or goes on. Source: mcgate's own.
 use Rattle.std.specs.Prelude.{◌≡◌, ℕ, List, ◌++◌, Option, None, map as each}
 use Rattle.std.specs.Option.{option_map}
-use Rattle.serve_wire.specs.Events.{Event}
+use Rattle.serve_wire.specs.Events.{Event, role}
 use Rattle.serve_wire.specs.Agreement.{IsUntouched}
 use Rattle.serve_wire.specs.declared.conn.conn.Conn.{Conn}
 use Rattle.route_json.specs.Configuration.{Configuration}
@@ -9,7 +9,7 @@ use Rattle.core_accepted.specs.declared.served.ServedCore.{ServedCore}
 use Rattle.serve_clients.specs.declared.clients.Clients.{Clients}
 use Rattle.serve_clients.specs.Agrees.{KeepsEnds}
 use Rattle.serve_links.specs.declared.link.Link.{Link}
-use Rattle.serve_links.specs.CoreSteps.{Step, Opened, Loaded, Does, Walks, AreOf, IsOfTurn, IsFailure}
+use Rattle.serve_links.specs.CoreSteps.{Step, Opened, Closed, Loaded, Does, Walks, AreOf, IsOfTurn, IsFailure}
 use Rattle.serve_proxy.specs.declared.sockets.Sockets.{Sockets}
 use Rattle.serve_links.specs.Story.{AnEnd, Agrees, AllGo, LineAgrees, KeepsOthers, texts_of}
 
@@ -63,6 +63,14 @@ AllFailOn history core sockets core' sockets' = AllGo IsFailure (end_of history 
 -- a client was opened under this id in a core that is so now, and all go on from before that
 abbrev pub AllGoOpened : {W : Type 0} → (W → List Event) → (id : ℕ) → ServedCore → Sockets W → ServedCore → Sockets W → Type 0
 AllGoOpened history id core sockets core' sockets' = (before : ServedCore) → Does (Opened id) before core → AllGoOn history before sockets core' sockets'
+
+-- whatever core has closed a client of this id, all go on from before that
+abbrev pub AllGoClosed : {W : Type 0} → (W → List Event) → (id : ℕ) → Sockets W → Sockets W → Type 0
+AllGoClosed history id sockets sockets' = (before core : ServedCore) → Does (Closed id) before core → AllGoOn history before sockets core sockets'
+
+-- no connection is a client's
+abbrev pub HasNoClients : List Event → Type 0
+HasNoClients h = (conn id : ℕ) → role conn h ≢ Some (0, id)
 
 -- behind the links that were there, which have the lines that they had, come links to these texts, without a connection
 abbrev pub AddsLines : List Link → List Link → Type 0

@@ -6,6 +6,7 @@ ghost use Rattle.serve_wire.specs.Events.{IsNew, admits};
 ghost use Rattle.serve_wire.specs.Agreement.{TouchesOnly};
 ghost use Rattle.serve_clients.specs.Marks.{client_of};
 ghost use Rattle.serve_clients.specs.Agrees.{said_of};
+ghost use Rattle.serve_links.specs.Story.{IsUnused};
 ghost use Rattle.serve_proxy.specs.Ends.{AllGoOn, AllGoOpened};
 ghost use Rattle.serve_proxy.specs.Stillness.{MayAccept};
 
@@ -125,6 +126,7 @@ impl<W: Wire> Sockets<W> {
         ensures begins { result ≡ true → option_map said_of (client_of self.new.clients id) ≡ Some (conn, [], [], false, false) }
         ensures admitted { result ≡ true → W.history self.new.wire ≡ admits conn id ∷ W.history self.old.wire }
         ensures only { TouchesOnly conn (W.history self.old.wire) (W.history self.new.wire) }
+        ensures unused { IsUnused conn (W.history self.new.wire) }
         ensures others { (other : ℕ) → other ≢ id → client_of self.new.clients other ≡ client_of self.old.clients other }
         ensures links { self.new.links ≡ self.old.links }
     {

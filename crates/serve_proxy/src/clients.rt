@@ -2,7 +2,7 @@
 
 ghost use Rattle.std.specs.Prelude.{◌≡◌, true};
 ghost use Rattle.serve_clients.specs.Agrees.{said_of};
-ghost use Rattle.serve_proxy.specs.Ends.{Stay, GoAlone};
+ghost use Rattle.serve_proxy.specs.Ends.{Stay, GoAlone, AllGoClosed};
 
 use crate::sockets::{Sockets, close_if_any};
 use serve_clients::Client;
@@ -161,7 +161,7 @@ impl<W: Wire> Sockets<W> {
 
     /// It is gone, and its connection is closed.
     pub fn remove_client(&mut self, id: usize)
-        ensures ends { GoAlone W.history self.old self.new }
+        ensures ends { AllGoClosed W.history id self.old self.new }
     {
         let conn = self.clients.remove(id);
         close_if_any(&mut self.wire, conn);

@@ -6,7 +6,7 @@ ghost use Rattle.core_accepted.specs.Loading.{IsLoaded};
 ghost use Rattle.serve_links.specs.CoreSteps.{GoesOn, Fails};
 ghost use Rattle.serve_links.specs.Links.{IsDownAt, IsClosedAt};
 ghost use Rattle.serve_links.specs.Story.{Agrees, texts_of};
-ghost use Rattle.serve_proxy.specs.Ends.{Stay, end_of, AllGoOn, AllFailOn, AllLoad};
+ghost use Rattle.serve_proxy.specs.Ends.{Stay, end_of, AllGoOn, AllFailOn, AllLoad, HasNoClients};
 ghost use Rattle.serve_proxy.specs.LogsGoOn.{LogsAreFresh};
 ghost use Rattle.serve_proxy.specs.Stillness.{IsStill};
 ghost use Rattle.serve_proxy.specs.Beginning.{BeginsFresh, BeginsUnchecked, LoadStops};
@@ -83,7 +83,7 @@ impl<W: Wire + Drop> ProxyEnd<W> {
         settings: Settings,
     ) -> Result<ProxyEnd<W>, AllocError>
         ensures core { IfOk result (λ end. BeginsFresh accepted settings end.core.value) }
-        ensures ends { IfOk result (λ end. Agrees [] (end_of W.history end.core.value end.sockets)) }
+        ensures ends { IfOk result (λ end. HasNoClients (W.history wire) → Agrees [] (end_of W.history end.core.value end.sockets)) }
         ensures texts { IfOk result (λ end. texts_of end.sockets.links.all.items ≡ servers.now) }
     {
         let links = Links::to(alloc, servers, settings)?;
@@ -100,7 +100,7 @@ impl<W: Wire + Drop> ProxyEnd<W> {
         settings: Settings,
     ) -> Result<ProxyEnd<W>, AllocError>
         ensures core { IfOk result (λ end. BeginsUnchecked tree settings end.core.value) }
-        ensures ends { IfOk result (λ end. Agrees [] (end_of W.history end.core.value end.sockets)) }
+        ensures ends { IfOk result (λ end. HasNoClients (W.history wire) → Agrees [] (end_of W.history end.core.value end.sockets)) }
         ensures texts { IfOk result (λ end. texts_of end.sockets.links.all.items ≡ servers.now) }
     {
         let links = Links::to(alloc, servers, settings)?;
@@ -114,6 +114,7 @@ impl<W: Wire> ProxyEnd<W> {
         ensures core { result.core ≡ core }
         ensures links { result.sockets.links ≡ links }
         ensures none { result.sockets.clients.all.items ≡ [] }
+        ensures wire { result.sockets.wire ≡ wire }
     {
         ProxyEnd {
             core,

@@ -157,6 +157,7 @@ fn read_client<W: Wire>(core: &mut ServedCore, sockets: &mut Sockets<W>, id: usi
 fn read_end<W: Wire>(client: &mut Client, wire: &mut W, rooms: &mut Rooms, tally: &mut Tally)
     ensures agrees { GoesOnAgreeing (W.history wire.old) (W.history wire.new) client.old client.new }
     ensures elsewhere { TouchesOnly client.old.conn.number (W.history wire.old) (W.history wire.new) }
+    ensures number { client.new.conn.number ≡ client.old.conn.number }
 {
     if client.can_read() {
         rooms.lend_input(&mut client.conn.held);
@@ -247,9 +248,12 @@ fn close_client<W: Wire>(core: &mut ServedCore, sockets: &mut Sockets<W>, id: us
     if !is_over(core, sockets, id, rest) {
         return;
     }
-    if core.close(id).is_ok() {
-        sockets.remove_client(id);
-        sockets.accepting = Accepting::Now;
+    match core.close(id) {
+        Ok(()) => {
+            sockets.remove_client(id);
+            sockets.accepting = Accepting::Now;
+        }
+        Err(_) => {}
     }
 }
 

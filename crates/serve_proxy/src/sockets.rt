@@ -52,6 +52,7 @@ impl<W: Wire> Sockets<W> {
     pub fn new(alloc: Global, wire: W, links: Links) -> Sockets<W>
         ensures links { result.links ≡ links }
         ensures none { result.clients.all.items ≡ [] }
+        ensures wire { result.wire ≡ wire }
     {
         Sockets {
             alloc,

@@ -1,6 +1,6 @@
 //! The wire of a test.
 
-ghost use Rattle.std.specs.Prelude.{◌≡◌, ◌≤◌, ◌<◌, ℕ, length, IfSome, IfOk};
+ghost use Rattle.std.specs.Prelude.{◌≡◌, ◌≤◌, ◌<◌, ℕ, [], length, IfSome, IfOk};
 ghost use Rattle.std.specs.Io.Slices.{io_slices_bytes};
 ghost use Rattle.serve_wire.specs.Events.{IsNew};
 ghost use Rattle.serve_wire.specs.Calls.{Adds, Fits};
@@ -172,7 +172,9 @@ fn joined(alloc: Global, parts: &[IoSlice<'_>]) -> Result<Vec<u8>, AllocError>
 
 impl Memory {
     /// Nobody is there.
-    pub fn new(alloc: Global) -> Memory {
+    pub fn new(alloc: Global) -> Memory
+        ensures none { result.log.events ≡ [] }
+    {
         Memory {
             alloc,
             now: 0,

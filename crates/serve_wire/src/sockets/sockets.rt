@@ -1,6 +1,6 @@
 //! The wire that a program has.
 
-ghost use Rattle.std.specs.Prelude.{◌≡◌, ◌≤◌, ◌<◌, ◌+◌, ◌*◌, ℕ, IfSome, OnSome};
+ghost use Rattle.std.specs.Prelude.{◌≡◌, ◌≤◌, ◌<◌, ◌+◌, ◌*◌, ℕ, [], IfSome, IfOk, OnSome};
 ghost use Rattle.serve_wire.specs.Events.{IsNew};
 
 use crate::sockets::open::{Address, Open, Owner};
@@ -192,7 +192,9 @@ fn look_up<N: Net>(net: &N, text: &[u8]) -> io::Result<SocketAddr> {
 
 impl Sockets {
     /// It listens, and nothing has happened.
-    pub fn listen<R: Net + Clock + AllocGlobal>(rt: &R, listen: SocketAddr) -> io::Result<Sockets> {
+    pub fn listen<R: Net + Clock + AllocGlobal>(rt: &R, listen: SocketAddr) -> io::Result<Sockets>
+        ensures none { IfOk result (λ sockets. sockets.log.events ≡ []) }
+    {
         let alloc = rt.alloc();
         let start = Instant::now(rt)?;
         let poll = Poll::new(rt)?;

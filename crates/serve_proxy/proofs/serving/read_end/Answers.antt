@@ -1,4 +1,4 @@
-use Rattle.std.proofs.Common.{sym, ap, ◌∙◌}
+use Rattle.std.proofs.Common.{refl, sym, ap, ◌∙◌}
 use Rattle.wire_parts.specs.Sending.{bytes_of}
 use Rattle.serve_wire.proofs.Steps.{untouched}
 use Rattle.serve_proxy.proofs.Going.{same_agrees}
@@ -11,4 +11,4 @@ returns-then-can_read-clause-agrees g c = λ input output id was.
     c.read_once.ensures.agrees input output id (same_agrees (g.W.Wire.history c.args.wire.now) x m (ap (λ l. (x.conn.number, l, bytes_of x.conn.unsent, x.is_broken, x.is_ended)) (c.lend_input.ensures ∙ sym (c.can_read.ensures c.if-can_read.true).0)) input output id was)
 
 pub returns-else-can_read : goal.returns-else-can_read
-returns-else-can_read g c = record { agrees = λ input output id was. was; elsewhere = λ d other. untouched d (g.W.Wire.history c.args.wire.now) }
+returns-else-can_read g c = record { number = refl; agrees = λ input output id was. was; elsewhere = λ d other. untouched d (g.W.Wire.history c.args.wire.now) }

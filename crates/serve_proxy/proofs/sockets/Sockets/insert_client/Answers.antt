@@ -1,5 +1,5 @@
 use Rattle.std.proofs.Common.{ap, ◌∙◌}
-use Rattle.serve_proxy.proofs.Told.{only_same, only_admitted}
+use Rattle.serve_proxy.proofs.Told.{only_same, only_admitted, unused_admitted, unused_same}
 use Rattle.serve_proxy.proofs.sockets.Sockets.insert_client.Goals as goal
 
 pub returns-in-Ok-clause-admitted : goal.returns-in-Ok-clause-admitted
@@ -13,3 +13,9 @@ returns-in-Ok-clause-links g c = ap (λ s. s.links) c.insert_new.ensures.rest
 
 pub returns-in-Err-clause-only : goal.returns-in-Err-clause-only
 returns-in-Err-clause-only g c = only_same c.args.conn _ _ c.in-Err.ensures.err
+
+pub returns-in-Ok-clause-unused : goal.returns-in-Ok-clause-unused
+returns-in-Ok-clause-unused g c = unused_admitted c.args.conn c.args.id _ _ c.requires (ap (λ s. g.W.Wire.history s.wire) c.insert_new.ensures.rest ∙ c.in-Ok.ensures.ok)
+
+pub returns-in-Err-clause-unused : goal.returns-in-Err-clause-unused
+returns-in-Err-clause-unused g c = unused_same c.args.conn _ _ c.requires c.in-Err.ensures.err
