@@ -5,7 +5,7 @@ use Rattle.std.specs.Prelude.{nat_eq, IfSome, IfErr, OnOk, slice_get, slice_set}
 use Rattle.std.specs.Option.{option_map, option_flatten}
 use Rattle.fresh_runs.specs.Overlap as log
 use Rattle.wire_parts.specs.Sending.{bytes_of}
-use Rattle.serve_wire.specs.Events.{Event, admits, ticks, accepts, role, IsNew}
+use Rattle.serve_wire.specs.Events.{Event, admits, ticks, accepts, role, delivered, taken, IsNew}
 use Rattle.serve_wire.specs.Agreement.{TouchesOnly, IsUntouched}
 use Rattle.serve_wire.specs.Calls.{Closes}
 use Rattle.serve_wire.proofs.Steps.{unequal, apart, new_apart, untouched, only_closes, only_admits, none_accepts, none_ticks, client_begins, new_accepted}
