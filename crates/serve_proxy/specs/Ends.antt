@@ -1,5 +1,5 @@
 -- What a proxy's end has on its wire, and how that stays or goes on. Source: mcgate's own.
-use Rattle.std.specs.Prelude.{◌≡◌, ◌≢◌, ℕ, List, ◌++◌, Option, None, map as each}
+use Rattle.std.specs.Prelude.{◌≡◌, ◌≢◌, ℕ, List, ◌++◌, Option, Some, None, map as each}
 use Rattle.std.specs.Option.{option_map}
 use Rattle.serve_wire.specs.Events.{Event, role}
 use Rattle.serve_wire.specs.Agreement.{IsUntouched}
